@@ -1,0 +1,4 @@
+pub mod Calls
+pub mod Members
+pub mod Subscribe
+pub mod Texts

@@ -1,0 +1,54 @@
+//! Events as texts.
+
+ghost use Rattle.std.specs.Prelude.{◌≡◌, IfOk};
+ghost use Rattle.serde_json.specs.View.{view};
+ghost use Rattle.event_json.specs.Events.{event_data, event_text};
+
+use crate::event::Event;
+use names_core::FrameworkId;
+use serde_json::{Value, json};
+use std::alloc::{AllocError, Global};
+
+/// In seconds.
+const HEARTBEAT_INTERVAL: u64 = 15;
+
+#[tactic(auto, unfolding(crate::specs::Events::event_data))]
+fn subscribed(alloc: Global, framework: &FrameworkId) -> Result<Value, AllocError>
+    ensures { IfOk result (λ v. view v ≡ event_data (Event.Subscribed framework.now)) }
+{
+    let Ok(id) = framework.to_text(alloc) else {
+        return Err(AllocError);
+    };
+    let id = id.as_str();
+    json!(in alloc; {
+        "type": "SUBSCRIBED",
+        "subscribed": {
+            "framework_id": {"value": id},
+            "heartbeat_interval_seconds": HEARTBEAT_INTERVAL
+        }
+    })
+}
+
+#[tactic(auto, unfolding(crate::specs::Events::event_data))]
+fn error(alloc: Global, message: &str) -> Result<Value, AllocError>
+    ensures { IfOk result (λ v. view v ≡ event_data (Event.Error message.now)) }
+{
+    json!(in alloc; {"type": "ERROR", "error": {"message": message}})
+}
+
+fn value_of(alloc: Global, event: &Event) -> Result<Value, AllocError>
+    ensures { IfOk result (λ v. view v ≡ event_data event.now) }
+{
+    match event {
+        Event::Subscribed { framework } => subscribed(alloc, framework),
+        Event::Error { message } => error(alloc, message.as_text()),
+    }
+}
+
+/// The text of an event: compact JSON (RFC 8259), in which an object's members stand in byte order of their names.
+pub fn write_event(alloc: Global, event: &Event) -> Result<Vec<u8>, AllocError>
+    ensures { IfOk result (λ text. text.items ≡ event_text event.now) }
+{
+    let value = value_of(alloc, event)?;
+    value.to_vec(alloc)
+}

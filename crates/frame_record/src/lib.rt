@@ -1,0 +1,15 @@
+//! RecordIO: records on a byte stream, each behind its size in decimal digits and a line feed, as the event streams and the
+//! calls of the Mesos scheduler HTTP API are framed.
+#![tactic(auto)]
+
+mod fault;
+mod first;
+mod reader;
+#[cfg(test)]
+mod tests;
+mod writing;
+
+pub use fault::FrameFault;
+pub use first::LIMIT;
+pub use reader::{Fed, Reader, fault_stays, first_records_stay, what_waits_is_short};
+pub use writing::{encode, one_reading, written_is_read};

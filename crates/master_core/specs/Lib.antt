@@ -1,0 +1,4 @@
+pub mod Answers
+pub mod Frameworks
+pub mod Steps
+pub mod Texts

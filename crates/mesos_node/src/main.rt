@@ -1,0 +1,60 @@
+//! The cluster manager's program; `mesos_node --help` says what it can do.
+#![tactic(auto)]
+
+mod calls;
+mod command;
+mod fault;
+mod output;
+mod reply;
+#[cfg(test)]
+mod tests;
+
+use calls::calls;
+use clap::error::ErrorKind;
+use command::{Action, command_of};
+use std::process::ExitCode;
+use std::{env, io};
+
+/// The statuses: refused input, and a fault of memory, of the input or of the output.
+const REFUSED: u8 = 2;
+
+const FAILED: u8 = 3;
+
+/// Answers the calls on standard input.
+fn run_calls(rt: &HostRuntime) -> ExitCode {
+    let mut input = rt.stdin();
+    let mut output = rt.stdout();
+    match calls(rt.alloc(), &mut input, &mut output) {
+        Ok(None) => ExitCode::SUCCESS,
+        Ok(Some(fault)) => {
+            let _ = eprintln!(rt; "{fault}");
+            ExitCode::from(REFUSED)
+        }
+        Err(stop) => {
+            let _ = eprintln!(rt; "{stop}");
+            ExitCode::from(FAILED)
+        }
+    }
+}
+
+fn main(rt: HostRuntime) -> io::Result<ExitCode> {
+    let mut words = Vec::new(rt.alloc());
+    for word in env::args(&rt)? {
+        words.push(word)?;
+    }
+    let mut texts = Vec::new(rt.alloc());
+    for word in &words {
+        texts.push(word.as_str())?;
+    }
+    match command_of(rt.alloc(), &texts) {
+        Ok(Action::Calls) => Ok(run_calls(&rt)),
+        Err(fault) => {
+            fault.print(&rt)?;
+            Ok(match fault.kind() {
+                ErrorKind::DisplayHelp | ErrorKind::DisplayVersion => ExitCode::SUCCESS,
+                ErrorKind::OutOfMemory => ExitCode::from(FAILED),
+                _ => ExitCode::from(REFUSED),
+            })
+        }
+    }
+}

@@ -1,0 +1,2 @@
+pub mod IdTexts
+pub mod UpdateTexts

@@ -1,0 +1,70 @@
+//! The names of agents.
+
+ghost use Rattle.std.specs.Prelude.{◌≡◌, ◌↔◌, ◌⊎◌, true, false, bytes_eq, IfOk, IfErr};
+ghost use Rattle.names_core.specs.Names.{is_name, is_configured};
+
+use crate::fault::NameFault;
+use crate::name::{is_configured_name, is_plain_name};
+use std::alloc::{AllocError, Global};
+use std::marker::Model;
+
+/// The name of an agent, its `agent_id`: 1 to 255 bytes of UTF-8 without control characters, space, slash and backslash.
+#[derive(Debug, Drop)]
+pub struct AgentName {
+    text: String,
+}
+
+impl Model for AgentName {
+    ghost use Rattle.std.specs.Prelude.{List, ℕ, ◌≡◌, true, string_bytes};
+    ghost use Rattle.names_core.specs.Names.{is_name};
+
+    ghost Value = { List ℕ };
+
+    ghost view = { λ name. string_bytes name.text };
+
+    ghost invariant = { λ name. is_name (string_bytes name.text) ≡ true };
+}
+
+impl AgentName {
+    pub fn from_text(alloc: Global, text: &str) -> Result<AgentName, NameFault>
+        ensures ok { IfOk result (λ name. name ≡ text.now) }
+        ensures bad { (result ≡ Err NameFault.BadName) ↔ (is_name text.now ≡ false) }
+        ensures err { IfErr result (λ e. (e ≡ NameFault.BadName) ⊎ (e ≡ NameFault.OutOfMemory)) }
+    {
+        if !is_plain_name(text) {
+            return Err(NameFault::BadName);
+        }
+        Ok(AgentName {
+            text: String::from_str(alloc, text)?,
+        })
+    }
+
+    pub fn as_text(&self) -> &str
+        ensures text { result.now ≡ self.now }
+        ensures valid { is_name self.now ≡ true }
+    {
+        self.text.as_str()
+    }
+
+    /// Whether it is the same name.
+    pub fn is(&self, other: &AgentName) -> bool
+        ensures { result ≡ bytes_eq self.now other.now }
+    {
+        self.text.as_str() == other.text.as_str()
+    }
+
+    pub fn copy(&self, alloc: Global) -> Result<AgentName, AllocError>
+        ensures { IfOk result (λ name. name ≡ self.now) }
+    {
+        Ok(AgentName {
+            text: String::from_str(alloc, self.text.as_str())?,
+        })
+    }
+
+    /// Whether a configuration may have an agent of this name: 1 to 64 ASCII letters, digits, `-`, `_` and `.`.
+    pub fn can_be_configured(&self) -> bool
+        ensures { result ≡ is_configured self.now }
+    {
+        is_configured_name(self.text.as_str())
+    }
+}

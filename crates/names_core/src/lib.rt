@@ -1,0 +1,31 @@
+//! The ids and names that frameworks, agents and the master speak of, and the states of a task.
+#![tactic(auto)]
+
+mod agent;
+mod fault;
+mod framework;
+mod launch;
+mod name;
+mod numbered;
+mod offer;
+mod role;
+mod run;
+mod state;
+mod stream;
+mod task;
+#[cfg(test)]
+mod tests;
+mod update;
+
+pub use agent::AgentName;
+pub use fault::NameFault;
+pub use framework::FrameworkId;
+pub use launch::LaunchKey;
+pub use numbered::one_text;
+pub use offer::OfferId;
+pub use role::RoleName;
+pub use run::Run;
+pub use state::{TaskState, one_state_text};
+pub use stream::StreamId;
+pub use task::TaskName;
+pub use update::{UpdateId, one_update_text};

@@ -1,0 +1,64 @@
+//! The names of tasks.
+
+ghost use Rattle.std.specs.Prelude.{◌≡◌, ◌↔◌, ◌⊎◌, true, false, bytes_eq, IfOk, IfErr};
+ghost use Rattle.names_core.specs.Names.{is_name};
+
+use crate::fault::NameFault;
+use crate::name::is_plain_name;
+use std::alloc::{AllocError, Global};
+use std::marker::Model;
+
+/// The name that a framework gives a task, its `task_id`: 1 to 255 bytes of UTF-8 without control characters, space, slash
+/// and backslash.
+#[derive(Debug, Drop)]
+pub struct TaskName {
+    text: String,
+}
+
+impl Model for TaskName {
+    ghost use Rattle.std.specs.Prelude.{List, ℕ, ◌≡◌, true, string_bytes};
+    ghost use Rattle.names_core.specs.Names.{is_name};
+
+    ghost Value = { List ℕ };
+
+    ghost view = { λ name. string_bytes name.text };
+
+    ghost invariant = { λ name. is_name (string_bytes name.text) ≡ true };
+}
+
+impl TaskName {
+    pub fn from_text(alloc: Global, text: &str) -> Result<TaskName, NameFault>
+        ensures ok { IfOk result (λ name. name ≡ text.now) }
+        ensures bad { (result ≡ Err NameFault.BadName) ↔ (is_name text.now ≡ false) }
+        ensures err { IfErr result (λ e. (e ≡ NameFault.BadName) ⊎ (e ≡ NameFault.OutOfMemory)) }
+    {
+        if !is_plain_name(text) {
+            return Err(NameFault::BadName);
+        }
+        Ok(TaskName {
+            text: String::from_str(alloc, text)?,
+        })
+    }
+
+    pub fn as_text(&self) -> &str
+        ensures text { result.now ≡ self.now }
+        ensures valid { is_name self.now ≡ true }
+    {
+        self.text.as_str()
+    }
+
+    /// Whether it is the same name.
+    pub fn is(&self, other: &TaskName) -> bool
+        ensures { result ≡ bytes_eq self.now other.now }
+    {
+        self.text.as_str() == other.text.as_str()
+    }
+
+    pub fn copy(&self, alloc: Global) -> Result<TaskName, AllocError>
+        ensures { IfOk result (λ name. name ≡ self.now) }
+    {
+        Ok(TaskName {
+            text: String::from_str(alloc, self.text.as_str())?,
+        })
+    }
+}
