@@ -1,4 +1,4 @@
 pub mod Calls
-pub mod Members
+pub mod Offers
 pub mod Subscribe
-pub mod Texts
+pub mod Tasks

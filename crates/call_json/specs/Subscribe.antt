@@ -3,12 +3,14 @@ use Rattle.std.specs.Prelude.{ℕ, List, ◌==◌, ◌&&◌, codes, Option, None
 use Rattle.serde_json.specs.Data.{Data, Items, no_items, item}
 use Rattle.serde_json.specs.Find.{get, as_array, as_str}
 use Rattle.names_core.specs.Ids.{Numbered}
-use Rattle.call_json.specs.Members.{◌>>=◌, member_of, text_of, id_text_of, required, optional, framework_id, role_name}
-use Rattle.call_json.specs.declared.call.Call.{Call}
-use Rattle.call_json.specs.declared.call.Call.TheVariants.{Subscribe}
-use Rattle.call_json.specs.declared.fault.Member.TheVariants as members
-use Rattle.call_json.specs.declared.fault.Refusal.{Refusal}
-use Rattle.call_json.specs.declared.fault.Refusal.TheVariants.{BadId, TooManyRoles}
+use Rattle.call_members.specs.Answers.{◌>>=◌}
+use Rattle.call_members.specs.Members.{member_of, text_of, id_text_of, required}
+use Rattle.call_members.specs.Ids.{optional, framework_id, role_name}
+use Rattle.mails.specs.declared.call.Call.{Call}
+use Rattle.mails.specs.declared.call.Call.TheVariants.{Subscribe}
+use Rattle.call_members.specs.declared.fault.Member.TheVariants as members
+use Rattle.call_members.specs.declared.fault.Refusal.{Refusal}
+use Rattle.call_members.specs.declared.fault.Refusal.TheVariants.{BadId, TooManyRoles}
 
 -- the one role of a list, if it has any
 abbrev pub roles_of : Option Items → Result (Option (List ℕ)) Refusal
@@ -40,4 +42,4 @@ subscribe_of d = do
   one ← roles_of (option_and_then as_array (member_of (codes "roles") (info_of d)))
   framework ← optional framework_id (id_text_of (get (codes "framework_id") d))
   same ← one_id id framework
-  Ok (Subscribe (chosen_role one role) same)
+  Ok (Subscribe same (chosen_role one role))

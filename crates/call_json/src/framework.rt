@@ -1,12 +1,11 @@
 //! The calls that say no more than whose framework they are.
 
 ghost use Rattle.serde_json.specs.View.{view};
-ghost use Rattle.call_json.specs.Members.{Gives};
-ghost use Rattle.call_json.specs.Calls.{teardown_of};
+ghost use Rattle.call_members.specs.Answers.{Gives};
+ghost use Rattle.call_json.specs.Calls.{teardown_of, revive_of, suppress_of};
 
-use crate::call::Call;
-use crate::fault::CallFault;
-use crate::members::framework;
+use call_members::{CallFault, framework};
+use mails::Call;
 use serde_json::Value;
 
 #[tactic(auto, unfolding(crate::specs::Calls::teardown_of))]
@@ -15,4 +14,20 @@ pub fn teardown(call: &Value) -> Result<Call, CallFault>
 {
     let framework = framework(call)?;
     Ok(Call::Teardown { framework })
+}
+
+#[tactic(auto, unfolding(crate::specs::Calls::revive_of))]
+pub fn revive(call: &Value) -> Result<Call, CallFault>
+    ensures { Gives (λ c. c) result (revive_of (view call.now)) }
+{
+    let framework = framework(call)?;
+    Ok(Call::Revive { framework })
+}
+
+#[tactic(auto, unfolding(crate::specs::Calls::suppress_of))]
+pub fn suppress(call: &Value) -> Result<Call, CallFault>
+    ensures { Gives (λ c. c) result (suppress_of (view call.now)) }
+{
+    let framework = framework(call)?;
+    Ok(Call::Suppress { framework })
 }

@@ -1,15 +1,16 @@
 //! The calls of the Mesos scheduler HTTP API, read from JSON.
 #![tactic(auto)]
 
-mod call;
-mod fault;
+mod accept;
 mod framework;
-mod members;
+mod offers;
 mod read;
+mod reconcile;
 mod subscribe;
+mod task;
 #[cfg(test)]
 mod tests;
 
-pub use call::Call;
-pub use fault::{CallFault, Member, Refusal};
+pub use call_members::{CallFault, Member, Refusal};
+pub use mails::{Call, ReconciledTask, TaskInfo};
 pub use read::{call_of, read_call};

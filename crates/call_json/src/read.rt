@@ -2,13 +2,17 @@
 
 ghost use Rattle.std.specs.Prelude.{◌≡◌};
 ghost use Rattle.serde_json.specs.View.{view};
-ghost use Rattle.call_json.specs.Members.{Gives};
-ghost use Rattle.call_json.specs.Calls.{kind_of, call_of, read_call};
+ghost use Rattle.call_members.specs.Answers.{Gives};
+ghost use Rattle.call_json.specs.Calls.{kind_of, by_kind, call_of, read_json, read_call};
 
-use crate::call::Call;
-use crate::fault::{CallFault, Refusal};
-use crate::framework::teardown;
+use crate::accept::{accept, decline};
+use crate::framework::{revive, suppress, teardown};
+use crate::reconcile::reconcile;
 use crate::subscribe::subscribe;
+use crate::task::{acknowledge, kill};
+use call_members::{CallFault, Refusal};
+use mails::Call;
+use number_trim::trim;
 use serde_json::Value;
 use std::alloc::Global;
 
@@ -17,6 +21,13 @@ use std::alloc::Global;
 pub enum Kind {
     Subscribe,
     Teardown,
+    Accept,
+    Decline,
+    Revive,
+    Suppress,
+    Kill,
+    Acknowledge,
+    Reconcile,
 }
 
 #[tactic(auto, unfolding(crate::specs::Calls::kind_of))]
@@ -26,12 +37,35 @@ fn kind_of(text: &str) -> Option<Kind>
     match text {
         "SUBSCRIBE" => Some(Kind::Subscribe),
         "TEARDOWN" => Some(Kind::Teardown),
+        "ACCEPT" => Some(Kind::Accept),
+        "DECLINE" => Some(Kind::Decline),
+        "REVIVE" => Some(Kind::Revive),
+        "SUPPRESS" => Some(Kind::Suppress),
+        "KILL" => Some(Kind::Kill),
+        "ACKNOWLEDGE" => Some(Kind::Acknowledge),
+        "RECONCILE" => Some(Kind::Reconcile),
         _ => None,
     }
 }
 
+fn of_kind(alloc: Global, kind: Kind, value: &Value) -> Result<Call, CallFault>
+    ensures { Gives (λ c. c) result (by_kind kind (view value.now)) }
+{
+    match kind {
+        Kind::Subscribe => subscribe(alloc, value),
+        Kind::Teardown => teardown(value),
+        Kind::Accept => accept(alloc, value),
+        Kind::Decline => decline(alloc, value),
+        Kind::Revive => revive(value),
+        Kind::Suppress => suppress(value),
+        Kind::Kill => kill(alloc, value),
+        Kind::Acknowledge => acknowledge(alloc, value),
+        Kind::Reconcile => reconcile(alloc, value),
+    }
+}
+
 /// The call that a JSON value is. A member of another kind than asked for counts as absent, and members that aren't asked
-/// for may hold anything.
+/// for may hold anything. Of a member that stands twice the last counts.
 #[tactic(auto, unfolding(crate::specs::Calls::call_of))]
 pub fn call_of(alloc: Global, value: &Value) -> Result<Call, CallFault>
     ensures { Gives (λ c. c) result (call_of (view value.now)) }
@@ -43,16 +77,14 @@ pub fn call_of(alloc: Global, value: &Value) -> Result<Call, CallFault>
         return Err(CallFault::Refused(Refusal::NoType));
     };
     match kind_of(text) {
-        Some(Kind::Subscribe) => subscribe(alloc, value),
-        Some(Kind::Teardown) => teardown(value),
+        Some(kind) => of_kind(alloc, kind, value),
         None => Err(CallFault::Refused(Refusal::UnknownType)),
     }
 }
 
-/// The call that a text is, in the JSON of the Mesos scheduler HTTP API.
-#[tactic(auto, unfolding(crate::specs::Calls::read_call))]
-pub fn read_call(alloc: Global, bytes: &[u8]) -> Result<Call, CallFault>
-    ensures { Gives (λ c. c) result (read_call bytes.now) }
+#[tactic(auto, unfolding(crate::specs::Calls::read_json))]
+fn read_json(alloc: Global, bytes: &[u8]) -> Result<Call, CallFault>
+    ensures { Gives (λ c. c) result (read_json bytes.now) }
 {
     match Value::from_slice(alloc, bytes) {
         Ok(value) => call_of(alloc, &value),
@@ -64,4 +96,13 @@ pub fn read_call(alloc: Global, bytes: &[u8]) -> Result<Call, CallFault>
             }
         }
     }
+}
+
+/// The call that a text is, in the JSON of the Mesos scheduler HTTP API. A number that is whole but written with a point and
+/// zeros, as clients write doubles, counts as the whole number.
+pub fn read_call(alloc: Global, bytes: &[u8]) -> Result<Call, CallFault>
+    ensures { Gives (λ c. c) result (read_call bytes.now) }
+{
+    let trimmed = trim(alloc, bytes)?;
+    read_json(alloc, &trimmed)
 }

@@ -3,12 +3,14 @@
 ghost use Rattle.std.specs.Prelude.{◌≡◌, Ok, option_and_then};
 ghost use Rattle.serde_json.specs.Find.{as_array};
 ghost use Rattle.serde_json.specs.View.{view};
-ghost use Rattle.call_json.specs.Members.{Gives, seen};
+ghost use Rattle.call_members.specs.Answers.{Gives};
+ghost use Rattle.call_members.specs.Members.{seen};
 ghost use Rattle.call_json.specs.Subscribe.{roles_of, one_id, chosen_role, subscribe_of};
 
-use crate::call::Call;
-use crate::fault::{CallFault, Member, Refusal};
-use crate::members::{member, optional_framework, optional_role, required_text};
+use call_members::{
+    CallFault, Member, Refusal, member, optional_framework, optional_role, required_text,
+};
+use mails::Call;
 use names_core::{FrameworkId, RoleName};
 use serde_json::Value;
 use std::alloc::Global;

@@ -1,32 +1,37 @@
 -- The text of an event: compact JSON, members in byte order of their names.
-use Rattle.std.specs.Prelude.{ℕ, List, codes}
-use Rattle.serde_json.specs.Data.{Data, string, number, unsigned, object, no_members, member}
+use Rattle.std.specs.Prelude.{ℕ, List, map, codes}
+use Rattle.serde_json.specs.Data.{Data, string, number, unsigned, array, object, no_members, member}
+use Rattle.serde_json.specs.View.{items_of}
 use Rattle.serde_json.specs.Written.{compact_text}
-use Rattle.names_core.specs.Ids.{Numbered, id_text}
+use Rattle.event_json.specs.Ids.{only, id_data, framework_data, offer_id_data}
+use Rattle.event_json.specs.Offers.{offer_data}
+use Rattle.event_json.specs.Statuses.{status_data}
 use Rattle.event_json.specs.declared.event.Event.{Event}
-use Rattle.event_json.specs.declared.event.Event.TheVariants.{Subscribed, Error}
+use Rattle.event_json.specs.declared.event.Event.TheVariants.{Subscribed, Offers, Rescind, Update, Failure, Error, Heartbeat}
 
--- an object of one member
-abbrev pub only : List ℕ → Data → Data
-only name d = object (member name d no_members)
+-- a type
+abbrev pub type_data : List ℕ → Data
+type_data kind = only (codes "type") (string kind)
 
--- an object of one member and its type
-abbrev pub typed : List ℕ → Data → List ℕ → Data
-typed name body kind = object (member name body (member (codes "type") (string kind) no_members))
+-- a member before the type, and one behind it
+abbrev pub before_type : List ℕ → Data → List ℕ → Data
+before_type name body kind = object (member name body (member (codes "type") (string kind) no_members))
 
-abbrev pub id_data : List ℕ → Data
-id_data text = only (codes "value") (string text)
-
-abbrev pub framework_data : Numbered → Data
-framework_data id = id_data (id_text 70 id)
+abbrev pub behind_type : List ℕ → List ℕ → Data → Data
+behind_type kind name body = object (member (codes "type") (string kind) (member name body no_members))
 
 unfoldable pub event_data : Event → Data
 event_data (Subscribed framework) =
-    typed (codes "subscribed") (object
+    before_type (codes "subscribed") (object
     (member (codes "framework_id") (framework_data framework)
     (member (codes "heartbeat_interval_seconds") (number (unsigned 15)) no_members)))
     (codes "SUBSCRIBED")
-event_data (Error message) = typed (codes "error") (only (codes "message") (string message)) (codes "ERROR")
+event_data (Offers offers) = before_type (codes "offers") (only (codes "offers") (array (items_of (map offer_data offers)))) (codes "OFFERS")
+event_data (Rescind offer) = before_type (codes "rescind") (only (codes "offer_id") (offer_id_data offer)) (codes "RESCIND")
+event_data (Update status) = behind_type (codes "UPDATE") (codes "update") (only (codes "status") (status_data status))
+event_data (Failure agent) = before_type (codes "failure") (only (codes "agent_id") (id_data agent)) (codes "FAILURE")
+event_data (Error message) = before_type (codes "error") (only (codes "message") (string message)) (codes "ERROR")
+event_data Heartbeat = type_data (codes "HEARTBEAT")
 
 abbrev pub event_text : Event → List ℕ
 event_text e = compact_text (event_data e)

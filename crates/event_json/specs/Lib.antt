@@ -1,1 +1,4 @@
 pub mod Events
+pub mod Ids
+pub mod Offers
+pub mod Statuses

@@ -3,10 +3,16 @@
 
 mod event;
 mod message;
+mod offer;
+mod offers;
+mod status;
 #[cfg(test)]
 mod tests;
 mod write;
 
 pub use event::Event;
 pub use message::Message;
+pub use offer::Offer;
+pub use offers::Offers;
+pub use status::TaskStatus;
 pub use write::write_event;

@@ -5,7 +5,9 @@ ghost use Rattle.serde_json.specs.View.{view};
 ghost use Rattle.event_json.specs.Events.{event_data, event_text};
 
 use crate::event::Event;
-use names_core::FrameworkId;
+use crate::offers::offers_value;
+use crate::status::status_value;
+use names_core::{FrameworkId, OfferId};
 use serde_json::{Value, json};
 use std::alloc::{AllocError, Global};
 
@@ -21,27 +23,57 @@ fn subscribed(alloc: Global, framework: &FrameworkId) -> Result<Value, AllocErro
     };
     let id = id.as_str();
     json!(in alloc; {
-        "type": "SUBSCRIBED",
         "subscribed": {
             "framework_id": {"value": id},
             "heartbeat_interval_seconds": HEARTBEAT_INTERVAL
-        }
+        },
+        "type": "SUBSCRIBED"
     })
+}
+
+#[tactic(auto, unfolding(crate::specs::Events::event_data))]
+fn rescind(alloc: Global, offer: &OfferId) -> Result<Value, AllocError>
+    ensures { IfOk result (λ v. view v ≡ event_data (Event.Rescind offer.now)) }
+{
+    let Ok(id) = offer.to_text(alloc) else {
+        return Err(AllocError);
+    };
+    let id = id.as_str();
+    json!(in alloc; {"rescind": {"offer_id": {"value": id}}, "type": "RESCIND"})
+}
+
+#[tactic(auto, unfolding(crate::specs::Events::event_data))]
+fn failure(alloc: Global, agent: &str) -> Result<Value, AllocError>
+    ensures { IfOk result (λ v. view v ≡ event_data (Event.Failure agent.now)) }
+{
+    json!(in alloc; {"failure": {"agent_id": {"value": agent}}, "type": "FAILURE"})
 }
 
 #[tactic(auto, unfolding(crate::specs::Events::event_data))]
 fn error(alloc: Global, message: &str) -> Result<Value, AllocError>
     ensures { IfOk result (λ v. view v ≡ event_data (Event.Error message.now)) }
 {
-    json!(in alloc; {"type": "ERROR", "error": {"message": message}})
+    json!(in alloc; {"error": {"message": message}, "type": "ERROR"})
 }
 
+#[tactic(auto, unfolding(crate::specs::Events::event_data))]
 fn value_of(alloc: Global, event: &Event) -> Result<Value, AllocError>
     ensures { IfOk result (λ v. view v ≡ event_data event.now) }
 {
     match event {
         Event::Subscribed { framework } => subscribed(alloc, framework),
+        Event::Offers { offers } => {
+            let offers = offers_value(alloc, offers.as_slice())?;
+            json!(in alloc; {"offers": {"offers": offers}, "type": "OFFERS"})
+        }
+        Event::Rescind { offer } => rescind(alloc, offer),
+        Event::Update { status } => {
+            let status = status_value(alloc, status)?;
+            json!(in alloc; {"type": "UPDATE", "update": {"status": status}})
+        }
+        Event::Failure { agent } => failure(alloc, agent.as_text()),
         Event::Error { message } => error(alloc, message.as_text()),
+        Event::Heartbeat => json!(in alloc; {"type": "HEARTBEAT"}),
     }
 }
 

@@ -2,8 +2,8 @@
 use Rattle.std.specs.Prelude.{◌≡◌, ℕ, ◌+◌, Bool, true, false, ◌&&◌, ◌||◌, ◌==◌, nat_lt, nat_le, if◌then◌else◌, List, [], ◌∷◌, ◌++◌, length, map, codes, Option, None, Some, Result, Ok, Err}
 use Rattle.names_core.specs.Ids.{Numbered, same}
 use Rattle.event_json.specs.declared.event.Event.TheVariants as events
-use Rattle.call_json.specs.declared.call.Call.{Call}
-use Rattle.call_json.specs.declared.call.Call.TheVariants as calls
+use Rattle.mails.specs.declared.call.Call.{Call}
+use Rattle.mails.specs.declared.call.Call.TheVariants as calls
 use Rattle.master_core.specs.declared.fault.MasterRefusal.{MasterRefusal}
 use Rattle.master_core.specs.declared.fault.MasterRefusal.TheVariants.{NotSubscribed, WrongStream, NoSuchFramework, LimitExceeded}
 use Rattle.master_core.specs.declared.fault.MasterFault.{MasterFault}
@@ -88,10 +88,29 @@ torn_down framework stream s = closed stream (record s { frameworks = map (witho
 
 -- ---- any call
 
--- the state after a call that came with a stream, or with none
+-- the calls that the master answers so far
+abbrev pub is_answered : Call → Bool
+is_answered (calls.Subscribe framework role) = true
+is_answered (calls.Teardown framework) = true
+is_answered (calls.Accept framework offers tasks refuse_seconds) = false
+is_answered (calls.Decline framework offers refuse_seconds) = false
+is_answered (calls.Revive framework) = false
+is_answered (calls.Suppress framework) = false
+is_answered (calls.Kill framework task agent) = false
+is_answered (calls.Acknowledge framework agent task update) = false
+is_answered (calls.Reconcile framework tasks) = false
+
+-- the state after a call that came with a stream, or with none; the calls that aren't answered yet are refused
 abbrev pub answered : Option Numbered → Call → State → Result State MasterRefusal
-answered given (calls.Subscribe role framework) s = subscribed role framework s
+answered given (calls.Subscribe framework role) s = subscribed role framework s
 answered given (calls.Teardown framework) s = stream_of_call given framework s >>= λ stream. Ok (torn_down framework stream s)
+answered given (calls.Accept framework offers tasks refuse_seconds) s = Err NoSuchFramework
+answered given (calls.Decline framework offers refuse_seconds) s = Err NoSuchFramework
+answered given (calls.Revive framework) s = Err NoSuchFramework
+answered given (calls.Suppress framework) s = Err NoSuchFramework
+answered given (calls.Kill framework task agent) s = Err NoSuchFramework
+answered given (calls.Acknowledge framework agent task update) s = Err NoSuchFramework
+answered given (calls.Reconcile framework tasks) s = Err NoSuchFramework
 
 abbrev pub parted : Result State MasterRefusal → Result (State × Outs) MasterRefusal
 parted (Ok s) = Ok (cleared s, s.outs)

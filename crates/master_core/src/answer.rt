@@ -1,7 +1,7 @@
 //! The answer to a call, by its type.
 
-ghost use Rattle.std.specs.Prelude.{◌≡◌};
-ghost use Rattle.master_core.specs.Answers.{Steps, answered};
+ghost use Rattle.std.specs.Prelude.{◌≡◌, IsTrue};
+ghost use Rattle.master_core.specs.Answers.{Steps, answered, is_answered};
 
 use crate::fault::MasterFault;
 use crate::state::State;
@@ -16,6 +16,7 @@ impl State {
         given: Option<StreamId>,
         call: Call,
     ) -> Result<(), MasterFault>
+        requires { IsTrue (is_answered call) }
         ensures { Steps result self.old self.new (answered given call self.old) }
     {
         match call {
@@ -25,6 +26,14 @@ impl State {
                 self.tear_down(framework, stream)?;
                 Ok(())
             }
+            _ => unreachable!(),
         }
     }
+}
+
+/// Whether the master answers a call so far.
+pub fn is_answered(call: &Call) -> bool
+    ensures { result ≡ is_answered call.now }
+{
+    matches!(call, Call::Subscribe { .. } | Call::Teardown { .. })
 }

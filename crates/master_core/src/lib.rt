@@ -12,6 +12,7 @@ mod teardown;
 #[cfg(test)]
 mod tests;
 
+pub use answer::is_answered;
 pub use fault::{MasterFault, MasterRefusal};
 pub use frameworks::{Framework, Frameworks};
 pub use master::Master;

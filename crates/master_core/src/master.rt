@@ -1,7 +1,7 @@
 //! The master.
 
-ghost use Rattle.std.specs.Prelude.{◌≡◌, Ok, Err, Some, None, true, false, IfOk, IfErr};
-ghost use Rattle.master_core.specs.Answers.{Condition, IsFault, call_after};
+ghost use Rattle.std.specs.Prelude.{◌≡◌, Ok, Err, Some, None, true, false, IsTrue, IfOk, IfErr};
+ghost use Rattle.master_core.specs.Answers.{Condition, IsFault, call_after, is_answered};
 ghost use Rattle.master_core.specs.Frameworks.{open_stream_of};
 ghost use Rattle.master_core.specs.Steps.{fresh};
 ghost use Rattle.master_core.specs.declared.fault.MasterFault.TheVariants.{OutOfMemory};
@@ -46,7 +46,7 @@ impl Master {
         }
     }
 
-    /// Answers a call that came with this stream, or with none. It is refused with
+    /// Answers a SUBSCRIBE or TEARDOWN that came with this stream, or with none; `is_answered` tells these calls. It is refused with
     ///
     /// - `M1 NotSubscribed` where its framework has no open stream,
     /// - `M2 WrongStream` where it didn't come with its framework's open stream,
@@ -61,6 +61,7 @@ impl Master {
         given: Option<StreamId>,
         call: Call,
     ) -> Result<Outs, MasterFault>
+        requires { IsTrue (is_answered call) }
         ensures ok { IfOk result (λ outs. (call_after self.old.state given call ≡ Ok (self.new.state, outs)) × (self.new.is_down ≡ false)) }
         ensures err { IfErr result (IsFault self.old self.new given call) }
         ensures down { self.old.is_down ≡ true → (result ≡ Err OutOfMemory) × (self.new ≡ self.old) }

@@ -18,7 +18,7 @@ fn told(alloc: Global, outs: &Outs) -> Result<Vec<(StreamId, Option<FrameworkId>
     for line in outs.events.as_slice() {
         let framework = match &line.event {
             Event::Subscribed { framework } => Some(*framework),
-            Event::Error { .. } => None,
+            _ => None,
         };
         lines.push((line.stream, framework))?;
     }

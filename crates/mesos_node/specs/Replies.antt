@@ -1,14 +1,15 @@
 -- What the program writes for the calls that it reads.
-use Rattle.std.specs.Prelude.{◌≡◌, ℕ, List, [], ◌∷◌, ◌++◌, map, flat_map, Option, None, Some, Result, Ok, Err, option_and_then}
+use Rattle.std.specs.Prelude.{◌≡◌, ℕ, List, [], ◌∷◌, ◌++◌, map, flat_map, if◌then◌else◌, Option, None, Some, Result, Ok, Err, option_and_then}
 use Rattle.std.specs.Io.KnownBytes.{Appends}
 use Rattle.frame_record.specs.declared.fault.FrameFault.{FrameFault}
 use Rattle.frame_record.specs.Records.{State as Standing, Reads, record_text, end_of}
 use Rattle.names_core.specs.Ids.{Numbered}
-use Rattle.call_json.specs.declared.call.Call.{Call}
-use Rattle.call_json.specs.declared.call.Call.TheVariants.{Subscribe, Teardown}
-use Rattle.call_json.specs.declared.fault.Refusal.{Refusal}
+use Rattle.mails.specs.declared.call.Call.{Call}
+use Rattle.mails.specs.declared.call.Call.TheVariants.{Subscribe, Teardown, Accept, Decline, Revive, Suppress, Kill, Acknowledge, Reconcile}
+use Rattle.call_members.specs.declared.fault.Refusal.{Refusal}
+use Rattle.call_members.specs.declared.fault.Refusal.TheVariants.{UnknownType}
 use Rattle.call_json.specs.Calls.{read_call}
-use Rattle.call_json.specs.Texts as call_texts
+use Rattle.call_members.specs.Texts as call_texts
 use Rattle.event_json.specs.declared.event.Event.{Event}
 use Rattle.event_json.specs.declared.event.Event.TheVariants.{Error}
 use Rattle.event_json.specs.Events.{event_text}
@@ -19,12 +20,19 @@ use Rattle.master_core.specs.Frameworks.{open_stream_of}
 use Rattle.master_core.specs.declared.state.State.{State}
 use Rattle.master_core.specs.declared.state.Outs.{Outs}
 use Rattle.master_core.specs.Steps.{fresh, cleared}
-use Rattle.master_core.specs.Answers.{call_after}
+use Rattle.master_core.specs.Answers.{call_after, is_answered}
 
 -- the framework that a call is of, where it has an id
 abbrev pub framework_of_call : Call → Option Numbered
-framework_of_call (Subscribe role framework) = framework
+framework_of_call (Subscribe framework role) = framework
 framework_of_call (Teardown framework) = Some framework
+framework_of_call (Accept framework offers tasks refuse_seconds) = Some framework
+framework_of_call (Decline framework offers refuse_seconds) = Some framework
+framework_of_call (Revive framework) = Some framework
+framework_of_call (Suppress framework) = Some framework
+framework_of_call (Kill framework task agent) = Some framework
+framework_of_call (Acknowledge framework agent task update) = Some framework
+framework_of_call (Reconcile framework tasks) = Some framework
 
 -- a call comes on the open stream of its framework, where it has one
 abbrev pub stream_given : State → Call → Option Numbered
@@ -42,10 +50,14 @@ abbrev pub reply_by : State → Result (State × Outs) MasterRefusal → Reply
 reply_by s (Ok x) = record { events = map event_in x.1.events; after = x.0 }
 reply_by s (Err refusal) = record { events = Error (master_texts.refusal_text refusal) ∷ []; after = cleared s }
 
--- a call is answered by its events, and a refused one by an ERROR event with the refusal's text
+abbrev pub refused : State → Refusal → Reply
+refused s refusal = record { events = Error (call_texts.refusal_text refusal) ∷ []; after = s }
+
+-- A call is answered by its events, and a refused one by an ERROR event with the refusal's text. A call that the master doesn't answer
+-- yet is of an unknown type.
 abbrev pub reply : State → Result Call Refusal → Reply
-reply s (Ok call) = reply_by s (call_after s (stream_given s call) call)
-reply s (Err refusal) = record { events = Error (call_texts.refusal_text refusal) ∷ []; after = s }
+reply s (Ok call) = if is_answered call then reply_by s (call_after s (stream_given s call) call) else refused s UnknownType
+reply s (Err refusal) = refused s refusal
 
 abbrev pub frame : Event → List ℕ
 frame e = record_text (event_text e)

@@ -1,20 +1,20 @@
 //! The answers to records.
 
-ghost use Rattle.std.specs.Prelude.{◌≡◌, ◌≤◌, ◌++◌, [], ◌∷◌, length, List, ℕ, Result, Option, None, Some, Ok, Err, map, IfOk, OnOk, OnErr};
+ghost use Rattle.std.specs.Prelude.{◌≡◌, ◌≤◌, ◌++◌, [], ◌∷◌, length, List, ℕ, Result, Option, None, Some, Ok, Err, map, IsTrue, IfOk, OnOk, OnErr};
 ghost use Rattle.std.specs.Io.KnownBytes.{Appends};
 ghost use Rattle.frame_record.specs.Firsts.{bodies};
 ghost use Rattle.call_json.specs.Calls.{read_call};
-ghost use Rattle.call_json.specs.Texts as call_texts;
+ghost use Rattle.call_members.specs.Texts as call_texts;
 ghost use Rattle.event_json.specs.declared.event.Event.TheVariants.{Error};
-ghost use Rattle.master_core.specs.Answers.{call_after};
+ghost use Rattle.master_core.specs.Answers.{call_after, is_answered};
 ghost use Rattle.mesos_node.specs.Replies.{AppendsFront, after_all, event_in, frame, frames, framework_of_call, replies, reply, stream_given};
 
 use crate::fault::Stop;
 use crate::output::put;
-use call_json::{Call, CallFault, read_call};
+use call_json::{Call, CallFault, Refusal, read_call};
 use event_json::{Event, Message, write_event};
 use frame_record::encode;
-use master_core::{Master, MasterFault, StreamEvent};
+use master_core::{Master, MasterFault, StreamEvent, is_answered};
 use names_core::{FrameworkId, StreamId};
 use std::alloc::Global;
 use std::io::Write;
@@ -24,7 +24,14 @@ fn framework_of_call(call: &Call) -> Option<FrameworkId>
 {
     match call {
         Call::Subscribe { framework, .. } => *framework,
-        Call::Teardown { framework } => Some(*framework),
+        Call::Teardown { framework }
+        | Call::Accept { framework, .. }
+        | Call::Decline { framework, .. }
+        | Call::Revive { framework }
+        | Call::Suppress { framework }
+        | Call::Kill { framework, .. }
+        | Call::Acknowledge { framework, .. }
+        | Call::Reconcile { framework, .. } => Some(*framework),
     }
 }
 
@@ -76,6 +83,7 @@ fn error_frame(alloc: Global, message: &str) -> Result<Vec<u8>, Stop>
 
 /// What the master answers to a call.
 fn answer(alloc: Global, master: &mut Master, call: Call) -> Result<Vec<u8>, Stop>
+    requires { IsTrue (is_answered call) }
     ensures { IfOk result (λ text. (text.items ≡ frames (reply master.old.state (Ok call)).events) × (master.new.state ≡ (reply master.old.state (Ok call)).after)) }
 {
     let given = stream_given(master, &call);
@@ -91,7 +99,13 @@ fn reply(alloc: Global, master: &mut Master, body: &[u8]) -> Result<Vec<u8>, Sto
     ensures { IfOk result (λ text. (text.items ≡ frames (reply master.old.state (read_call body.now)).events) × (master.new.state ≡ (reply master.old.state (read_call body.now)).after)) }
 {
     match read_call(alloc, body) {
-        Ok(call) => answer(alloc, master, call),
+        Ok(call) => {
+            if is_answered(&call) {
+                answer(alloc, master, call)
+            } else {
+                error_frame(alloc, Refusal::UnknownType.as_text())
+            }
+        }
         Err(CallFault::Refused(refusal)) => error_frame(alloc, refusal.as_text()),
         Err(CallFault::OutOfMemory) => Err(Stop::CallMemory),
     }

@@ -3,8 +3,8 @@ use Rattle.std.specs.Option.{option_and_then}
 use Rattle.serde_json.specs.Find.{as_array}
 use Rattle.serde_json.specs.declared.value.Value.{Value}
 use Rattle.serde_json.specs.View.{items_view}
-use Rattle.call_json.specs.declared.fault.Refusal.TheVariants.{TooManyRoles}
-use Rattle.call_json.specs.Members.{seen}
+use Rattle.call_members.specs.declared.fault.Refusal.TheVariants.{TooManyRoles}
+use Rattle.call_members.specs.Members.{seen}
 use Rattle.call_json.specs.Subscribe.{roles_of}
 use Rattle.call_json.proofs.subscribe.roles.Goals as goal
 

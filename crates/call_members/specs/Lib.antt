@@ -1,0 +1,5 @@
+pub mod Answers
+pub mod Ids
+pub mod Lists
+pub mod Members
+pub mod Texts

@@ -1,0 +1,2 @@
+pub mod Resources
+pub mod Tasks

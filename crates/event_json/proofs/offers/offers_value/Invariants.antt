@@ -1,0 +1,7 @@
+use Rattle.std.proofs.Common.{◌≡◌, map, take}
+use Rattle.serde_json.specs.View.{view}
+use Rattle.event_json.specs.Offers.{offer_data}
+use Rattle.event_json.proofs.offers.offers_value.Given as goal
+
+abbrev pub invariant-loop-offer : goal.invariant-loop-offer
+invariant-loop-offer l = map view l.values.items ≡ map offer_data (take l.offer-index l.offers)

@@ -1,0 +1,60 @@
+//! The offers of one event.
+
+ghost use Rattle.std.specs.Prelude.{◌≡◌, ◌≤◌, length, map, IfOk};
+ghost use Rattle.serde_json.specs.Data.{array};
+ghost use Rattle.serde_json.specs.View.{view, items_of};
+ghost use Rattle.event_json.specs.Offers.{offer_data};
+
+use crate::offer::{Offer, offer_value};
+use serde_json::Value;
+use std::alloc::{AllocError, Global};
+use std::marker::Model;
+
+/// At most 256 offers.
+#[derive(Debug, Drop)]
+pub struct Offers {
+    offers: Vec<Offer>,
+}
+
+impl Model for Offers {
+    ghost use Rattle.std.specs.Prelude.{List, ◌≤◌, length};
+    ghost use Rattle.event_json.specs.declared.offer.Offer.{Offer};
+
+    ghost Value = { List Offer };
+
+    ghost view = { λ o. o.offers.items };
+
+    ghost invariant = { λ o. length o.offers.items ≤ 256 };
+}
+
+impl Offers {
+    pub fn from_vec(offers: Vec<Offer>) -> Offers
+        requires { length offers.items ≤ 256 }
+        ensures { result ≡ offers.items }
+    {
+        Offers { offers }
+    }
+
+    pub fn into_vec(self) -> Vec<Offer>
+        ensures { result.items ≡ self }
+    {
+        self.offers
+    }
+
+    pub fn as_slice(&self) -> &[Offer]
+        ensures offers { result.now ≡ self.now }
+        ensures few { length self.now ≤ 256 }
+    {
+        self.offers.as_slice()
+    }
+}
+
+pub fn offers_value(alloc: Global, offers: &[Offer]) -> Result<Value, AllocError>
+    ensures { IfOk result (λ v. view v ≡ array (items_of (map offer_data offers.now))) }
+{
+    let mut values = Vec::with_capacity(alloc, offers.len())?;
+    for offer in offers {
+        values.push(offer_value(alloc, offer)?)?;
+    }
+    Ok(Value::Array(values))
+}

@@ -1,0 +1,77 @@
+//! What became of a task.
+
+ghost use Rattle.std.specs.Prelude.{◌≡◌, Some, None, IfOk};
+ghost use Rattle.serde_json.specs.View.{view};
+ghost use Rattle.event_json.specs.Statuses.{status_object, status_data};
+
+use names_core::{AgentName, TaskName, TaskState, UpdateId};
+use serde_json::{Value, json};
+use std::alloc::{AllocError, Global};
+
+/// The state of a task. An update that has to be acknowledged has an id.
+#[derive(Debug, Drop)]
+pub struct TaskStatus {
+    pub task: TaskName,
+    pub state: TaskState,
+    pub agent: Option<AgentName>,
+    pub update: Option<UpdateId>,
+}
+
+#[tactic(auto, unfolding(crate::specs::Statuses::status_object))]
+fn bare(alloc: Global, state: &str, task: &str) -> Result<Value, AllocError>
+    ensures { IfOk result (λ v. view v ≡ status_object None state.now task.now None) }
+{
+    json!(in alloc; {"state": state, "task_id": {"value": task}})
+}
+
+#[tactic(auto, unfolding(crate::specs::Statuses::status_object))]
+fn with_agent(alloc: Global, agent: &str, state: &str, task: &str) -> Result<Value, AllocError>
+    ensures { IfOk result (λ v. view v ≡ status_object (Some agent.now) state.now task.now None) }
+{
+    json!(in alloc; {"agent_id": {"value": agent}, "state": state, "task_id": {"value": task}})
+}
+
+#[tactic(auto, unfolding(crate::specs::Statuses::status_object))]
+fn with_uuid(alloc: Global, state: &str, task: &str, uuid: &str) -> Result<Value, AllocError>
+    ensures { IfOk result (λ v. view v ≡ status_object None state.now task.now (Some uuid.now)) }
+{
+    json!(in alloc; {"state": state, "task_id": {"value": task}, "uuid": uuid})
+}
+
+#[tactic(auto, unfolding(crate::specs::Statuses::status_object))]
+fn with_both(
+    alloc: Global,
+    agent: &str,
+    state: &str,
+    task: &str,
+    uuid: &str,
+) -> Result<Value, AllocError>
+    ensures { IfOk result (λ v. view v ≡ status_object (Some agent.now) state.now task.now (Some uuid.now)) }
+{
+    json!(in alloc; {
+        "agent_id": {"value": agent},
+        "state": state,
+        "task_id": {"value": task},
+        "uuid": uuid
+    })
+}
+
+pub fn status_value(alloc: Global, status: &TaskStatus) -> Result<Value, AllocError>
+    ensures { IfOk result (λ v. view v ≡ status_data status.now) }
+{
+    let task = status.task.as_text();
+    let state = status.state.as_text();
+    let Some(update) = &status.update else {
+        return match &status.agent {
+            Some(agent) => with_agent(alloc, agent.as_text(), state, task),
+            None => bare(alloc, state, task),
+        };
+    };
+    let Ok(uuid) = update.to_text(alloc) else {
+        return Err(AllocError);
+    };
+    match &status.agent {
+        Some(agent) => with_both(alloc, agent.as_text(), state, task, uuid.as_str()),
+        None => with_uuid(alloc, state, task, uuid.as_str()),
+    }
+}

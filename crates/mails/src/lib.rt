@@ -1,0 +1,16 @@
+//! What travels between frameworks, master and agents, and what an agent keeps: plain data.
+#![tactic(auto)]
+
+mod call;
+mod cause;
+mod mail;
+mod record;
+mod refusal;
+mod task;
+
+pub use call::{Call, ReconciledTask, TaskInfo};
+pub use cause::Cause;
+pub use mail::{AgentMail, Command, MasterMail, ToAgent, ToMaster};
+pub use record::{Durable, RecordedTask};
+pub use refusal::{AgentRefusal, MasterRefusal};
+pub use task::{Booked, Job, Offer};

@@ -1,0 +1,5 @@
+pub mod Faults
+pub mod Names
+pub mod Rows
+pub mod Merging
+pub mod Laws

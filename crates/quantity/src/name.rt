@@ -1,0 +1,71 @@
+//! Names of resources.
+
+ghost use Rattle.std.specs.Prelude.{◌≡◌, nat_eq, IfOk, IfErr};
+ghost use Rattle.std.specs.List.{list_all};
+ghost use Rattle.std.specs.Cmp.Lexicographic.{pointwise};
+ghost use Rattle.quantity.specs.Faults.{IsRefusal};
+ghost use Rattle.quantity.specs.Names.{is_name_byte, is_resource_name, name_of};
+
+use crate::fault::QuantityFault;
+use std::alloc::{AllocError, Global};
+use std::marker::Model;
+
+/// The name of a resource: 1 to 64 bytes of UTF-8 without control characters, spaces, `/` and `\`.
+#[derive(Debug, Drop)]
+pub struct ResourceName {
+    text: String,
+}
+
+impl Model for ResourceName {
+    ghost use Rattle.std.specs.Prelude.{List, ℕ, IsTrue, string_bytes};
+    ghost use Rattle.quantity.specs.Names.{is_resource_name};
+
+    ghost Value = { List ℕ };
+
+    ghost view = { λ name. string_bytes name.text };
+
+    ghost invariant = { λ name. IsTrue (is_resource_name (string_bytes name.text)) };
+}
+
+fn are_name_bytes(text: &[u8]) -> bool
+    ensures { result ≡ list_all is_name_byte text.now }
+{
+    text.iter()
+        .all(|b| *b > 32 && *b != 127 && *b != b'/' && *b != b'\\')
+}
+
+/// Whether a text names a resource.
+pub(crate) fn is_resource_name(text: &str) -> bool
+    ensures { result ≡ is_resource_name text.now }
+{
+    !text.is_empty() && text.len() <= 64 && are_name_bytes(text.as_bytes())
+}
+
+impl ResourceName {
+    /// The name that a text is; `Q5 BadName` where it is none.
+    pub fn from_text(alloc: Global, text: &str) -> Result<ResourceName, QuantityFault>
+        ensures ok { IfOk result (λ name. name_of text.now ≡ Ok name) }
+        ensures refused { IfErr result (λ fault. IsRefusal fault (name_of text.now)) }
+    {
+        if !is_resource_name(text) {
+            return Err(QuantityFault::BadName);
+        }
+        Ok(ResourceName {
+            text: String::from_str(alloc, text)?,
+        })
+    }
+
+    pub fn as_str(&self) -> &str
+        ensures { result.now ≡ self.now }
+    {
+        self.text.as_str()
+    }
+
+    pub fn copy(&self, alloc: Global) -> Result<ResourceName, AllocError>
+        ensures { IfOk result (λ name. name ≡ self.now) }
+    {
+        Ok(ResourceName {
+            text: String::from_str(alloc, self.text.as_str())?,
+        })
+    }
+}

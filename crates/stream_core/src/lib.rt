@@ -1,0 +1,12 @@
+//! Numbered commands from a master to an agent, and the status updates of a task.
+#![tactic(auto)]
+
+mod fault;
+mod link;
+#[cfg(test)]
+mod tests;
+mod updates;
+
+pub use fault::StreamFault;
+pub use link::{LinkIn, LinkOut};
+pub use updates::Updates;

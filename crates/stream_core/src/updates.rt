@@ -1,0 +1,158 @@
+//! The status updates of one task.
+
+ghost use Rattle.std.specs.Prelude.{◌≡◌, ◌⊎◌, ◌+◌, [], length, true, false, Err, Some, None, IfOk, IfErr, IfSome, IfNone, OnOk, OnErr, MatchOption};
+ghost use Rattle.std.specs.List.{list_any};
+ghost use Rattle.names_core.specs.States.{is_terminal};
+ghost use Rattle.stream_core.specs.Updates.{acknowledged_one, are_updates, front, ends_last, has_ended, is_done, is_front, is_full, pushed};
+
+use crate::fault::StreamFault;
+use names_core::TaskState;
+use std::alloc::{AllocError, Global};
+use std::marker::Model;
+
+/// The states of a task in the order in which they came, and how many of the first are acknowledged.
+/// A terminal state stands last; there are at most 4,096 states, the last of these a terminal one.
+#[derive(Debug, Drop)]
+pub struct Updates {
+    states: Vec<TaskState>,
+    acknowledged: u32,
+}
+
+impl Model for Updates {
+    ghost use Rattle.std.specs.Prelude.{◌≡◌, true};
+    ghost use Rattle.stream_core.specs.Updates as specs;
+
+    ghost Value = { specs.Updates };
+
+    ghost view = { λ u. record { states = u.states.items; acknowledged = u.acknowledged } };
+
+    ghost invariant = { λ u. specs.are_updates u.states.items u.acknowledged ≡ true };
+}
+
+fn has_terminal(states: &[TaskState]) -> bool
+    ensures { result ≡ list_any is_terminal states.now }
+{
+    states.iter().any(|state| state.is_terminal())
+}
+
+/// Whether a terminal state stands at most last.
+fn ends_last(states: &[TaskState]) -> bool
+    ensures { result ≡ ends_last states.now }
+{
+    if states.is_empty() {
+        return true;
+    }
+    !has_terminal(&states[..states.len() - 1])
+}
+
+impl Updates {
+    /// Of a task that was launched and has told nothing yet.
+    pub fn new(alloc: Global) -> Updates
+        ensures { result ≡ record { states = []; acknowledged = 0 } }
+    {
+        Updates {
+            states: Vec::new(alloc),
+            acknowledged: 0,
+        }
+    }
+
+    /// The states, in the order in which they came.
+    pub fn states(&self) -> &[TaskState]
+        ensures { result.now ≡ self.now.states }
+    {
+        self.states.as_slice()
+    }
+
+    /// How many of the first states are acknowledged.
+    pub fn acknowledged(&self) -> u32
+        ensures { result ≡ self.now.acknowledged }
+    {
+        self.acknowledged
+    }
+}
+
+impl Updates {
+    /// Whether a terminal state stands.
+    pub fn has_ended(&self) -> bool
+        ensures { result ≡ has_ended self.now }
+    {
+        has_terminal(self.states.as_slice())
+    }
+
+    /// The first update that isn't acknowledged, with its number.
+    pub fn front(&self) -> Option<(u32, TaskState)>
+        ensures { result ≡ front self.now }
+    {
+        let state = self.states.get(self.acknowledged as usize)?;
+        Some((self.acknowledged, *state))
+    }
+
+    /// Whether the task has ended and all its updates are acknowledged.
+    pub fn done(&self) -> bool
+        ensures { result ≡ is_done self.now }
+    {
+        self.has_ended() && self.states.len() <= self.acknowledged as usize
+    }
+
+    /// Adds the next state. U2 where a terminal state stands; U3 where the state isn't terminal and 4,095 states stand; U4 where memory ran out.
+    pub fn push(&mut self, state: TaskState) -> Result<(), StreamFault>
+        ensures ok { OnOk result (self.new ≡ pushed state self.old) }
+        ensures open { OnOk result (has_ended self.old ≡ false) }
+        ensures closed { result ≡ Err StreamFault.Closed → has_ended self.old ≡ true }
+        ensures full { result ≡ Err StreamFault.Full → (is_terminal state ≡ false) × (is_full self.old ≡ true) }
+        ensures err { IfErr result (λ e. (self.new ≡ self.old) × ((e ≡ StreamFault.Closed) ⊎ (e ≡ StreamFault.Full) ⊎ (e ≡ StreamFault.OutOfMemory))) }
+    {
+        if self.has_ended() {
+            return Err(StreamFault::Closed);
+        }
+        if !state.is_terminal() && self.states.len() >= 4095 {
+            return Err(StreamFault::Full);
+        }
+        self.states.push(state)?;
+        Ok(())
+    }
+
+    /// Acknowledges the first update that isn't acknowledged, if it has this number, else U1.
+    pub fn acknowledge(&mut self, k: u32) -> Result<(), StreamFault>
+        ensures ok { OnOk result ((is_front k self.old ≡ true) × (self.new ≡ acknowledged_one self.old)) }
+        ensures err { IfErr result (λ e. (e ≡ StreamFault.NotFront) × (is_front k self.old ≡ false) × (self.new ≡ self.old)) }
+    {
+        if self.acknowledged != k || self.states.len() <= k as usize {
+            return Err(StreamFault::NotFront);
+        }
+        self.acknowledged += 1;
+        Ok(())
+    }
+
+    /// Another value with the same states and the same count.
+    pub fn copy(&self, alloc: Global) -> Result<Updates, AllocError>
+        ensures { IfOk result (λ updates. updates ≡ self.now) }
+    {
+        Ok(Updates {
+            states: Vec::from_slice(alloc, self.states.as_slice())?,
+            acknowledged: self.acknowledged,
+        })
+    }
+
+    /// The value with these states and this count, where there is one.
+    pub fn from_parts(states: Vec<TaskState>, acknowledged: u32) -> Option<Updates>
+        ensures some { IfSome result (λ updates. (updates ≡ record { states = states.items; acknowledged = acknowledged }) × (are_updates states.items acknowledged ≡ true)) }
+        ensures none { IfNone result (are_updates states.items acknowledged ≡ false) }
+    {
+        let limit = if has_terminal(states.as_slice()) {
+            4096
+        } else {
+            4095
+        };
+        if !ends_last(states.as_slice())
+            || acknowledged as usize > states.len()
+            || states.len() > limit
+        {
+            return None;
+        }
+        Some(Updates {
+            states,
+            acknowledged,
+        })
+    }
+}
