@@ -1,0 +1,12 @@
+pub mod Ids
+pub mod Agents
+pub mod Sides
+pub mod Channels
+pub mod Events
+pub mod Masters
+pub mod Calls
+pub mod Mails
+pub mod Rounds
+pub mod Clusters
+pub mod Steps
+pub mod Openings

@@ -1,0 +1,150 @@
+-- What the master does at an agent's mail, at a Tick, when it loses an agent, and at a hang-up.
+use Rattle.std.specs.Prelude.{ℕ, suc, ◌+◌, Bool, not, ◌&&◌, ◌==◌, nat_lt, nat_le, if◌then◌else◌, List, [], ◌∷◌, ◌++◌, map, filter, flat_map, Option, Some, None, bytes_eq}
+use Rattle.std.specs.List.{list_any, find}
+use Rattle.names_core.specs.Ids.{Numbered}
+use Rattle.names_core.specs.declared.state.TaskState.{TaskState}
+use Rattle.names_core.specs.declared.state.TaskState.TheVariants.{Lost}
+use Rattle.mails.specs.declared.task.Offer.{Offer}
+use Rattle.mails.specs.declared.task.Booked.{Booked}
+use Rattle.mails.specs.declared.mail.AgentMail.{AgentMail}
+use Rattle.mails.specs.declared.mail.AgentMail.TheVariants.{Report, Applied, Update}
+use Rattle.mails.specs.declared.refusal.MasterRefusal.{MasterRefusal}
+use Rattle.mails.specs.declared.refusal.MasterRefusal.TheVariants.{OtherRun, OldSession, Closed, NotOpen}
+use Rattle.cluster_model.specs.Ids.{same}
+use Rattle.cluster_model.specs.Sides.{Run, Side, SendEnd, SendHello, SendAgain, Lose, opens, heard}
+use Rattle.cluster_model.specs.Events.{Told, UPDATE, RESCIND, FAILURE, HEARTBEAT}
+use Rattle.cluster_model.specs.Masters.{Master, Framework, Doing, Move, AtSide, nothing, refused, saying, tells, tells_all, on_stream, is_torn, is_of, withdraws, with_framework, without_filters_on}
+use Rattle.cluster_model.specs.Calls.{is_stream}
+
+-- an agent's mail
+
+-- a session that isn't above the last one
+abbrev pub judged_session : Side → ℕ → Option MasterRefusal → Option MasterRefusal
+judged_session s session otherwise =
+    if s.is_open && nat_lt session s.session then Some OldSession
+    else (if not s.is_open && nat_le session s.closed then Some Closed else otherwise)
+
+abbrev pub in_session : Side → ℕ → Option MasterRefusal
+in_session s session = if s.is_open && session == s.session then None else judged_session s session (Some NotOpen)
+
+-- why a mail is refused, if it is
+abbrev pub judged : Run → Side → AgentMail → Option MasterRefusal
+judged run s (Report session number tasks) = if number == run.number then judged_session s session None else Some OtherRun
+judged run s (Applied session count) = in_session s session
+judged run s (Update session key k state ended) = in_session s session
+
+-- RESCIND of offers
+abbrev pub rescinds : Master → List Offer → List Told
+rescinds m os = flat_map (λ o. tells m o.framework (RESCIND o.id)) os
+
+-- TASK_LOST of booked tasks that haven't ended
+abbrev pub loses : Master → List ℕ → List Booked → List Told
+loses m agent bs = flat_map (λ b. if b.ended then [] else tells m b.job.framework (UPDATE b.job.name Lost (Some agent) None)) bs
+
+abbrev pub is_reported : List Booked → Booked → Bool
+is_reported tasks b = list_any (λ t. same t.job.key b.job.key) tasks
+
+-- a framework that was torn down in this run and still has reported tasks
+abbrev pub is_to_end : Master → List Booked → Framework → Bool
+is_to_end m tasks f = is_torn m f.id && list_any (λ t. same t.job.framework f.id) tasks
+
+-- what goes with a Report that opens a session
+abbrev pub session_opens : Master → Side → List Booked → Doing
+session_opens m s tasks = record {
+  refusal = None;
+  moves = map (λ f. AtSide s.name (SendEnd f.id)) (filter (is_to_end m tasks) m.registers.frameworks);
+  events = rescinds m s.offers ++ loses m s.name (filter (λ b. not (is_reported tasks b)) s.booked);
+  opens = [];
+  closes = [];
+  registers = without_filters_on s.name m.registers;
+}
+
+-- an update of a booked task that isn't older than what was heard goes to its framework
+abbrev pub news_of : Master → List ℕ → Numbered → ℕ → TaskState → Booked → List Told
+news_of m agent key k state b = if same b.job.key key && nat_le b.heard (suc k) then tells m b.job.framework (UPDATE b.job.name state (Some agent) (Some (record { key = key; k = k }))) else []
+
+abbrev pub goes_with : Master → Side → AgentMail → Doing
+goes_with m s (Report session number tasks) = if opens m.run s session number then session_opens m s tasks else nothing m
+goes_with m s (Applied session count) = nothing m
+goes_with m s (Update session key k state ended) = saying m (flat_map (news_of m s.name key k state) s.booked)
+
+-- a Hello goes with every refusal but that of another run
+abbrev pub mailed_as : Master → Side → AgentMail → Option MasterRefusal → Doing
+mailed_as m s mail None = goes_with m s mail
+mailed_as m s mail (Some OtherRun) = refused m OtherRun
+mailed_as m s mail (Some refusal) = record (refused m refusal) { moves = AtSide s.name SendHello ∷ [] }
+
+-- what goes with a mail of this side's agent, beside what the side hears
+abbrev pub mailed : Master → Side → AgentMail → Doing
+mailed m s mail = mailed_as m s mail (judged m.run s mail)
+
+-- the master, once the side of an agent has heard a mail
+abbrev pub hear_at : List ℕ → Run → AgentMail → List Side → List Side
+hear_at agent run mail [] = []
+hear_at agent run mail (s ∷ ss) = if bytes_eq s.name agent then heard run s mail ∷ ss else s ∷ hear_at agent run mail ss
+
+abbrev pub having_heard : Master → List ℕ → AgentMail → Master
+having_heard m agent mail = record { run = m.run; sides = hear_at agent m.run mail m.sides; registers = m.registers }
+
+-- Tick
+
+abbrev pub heartbeat_seconds : ℕ
+heartbeat_seconds = 15
+
+abbrev pub is_due : ℕ → Framework → Bool
+is_due now f = nat_le (f.last_beat + heartbeat_seconds) now
+
+abbrev pub beats : ℕ → Framework → List Told
+beats now f = if is_due now f then on_stream f.stream HEARTBEAT else []
+
+abbrev pub beaten_on : ℕ → Framework → Option Numbered → Framework
+beaten_on now f None = f
+beaten_on now f (Some stream) = if is_due now f then record f { last_beat = now } else f
+
+abbrev pub beaten : ℕ → Framework → Framework
+beaten now f = beaten_on now f f.stream
+
+-- a Hello where no session is open, else the oldest waiting command again
+abbrev pub ticks : Side → Move
+ticks s = AtSide s.name (if s.is_open then SendAgain else SendHello)
+
+abbrev pub ticked : Master → ℕ → Doing
+ticked m now = record {
+  refusal = None;
+  moves = map ticks m.sides;
+  events = flat_map (beats now) m.registers.frameworks;
+  opens = [];
+  closes = [];
+  registers = record m.registers { now = now; frameworks = map (beaten now) m.registers.frameworks };
+}
+
+-- LoseAgent
+
+abbrev pub agent_lost : Master → Side → Doing
+agent_lost m s =
+    if s.is_open
+    then record {
+      refusal = None;
+      moves = AtSide s.name Lose ∷ AtSide s.name SendHello ∷ [];
+      events = rescinds m s.offers ++ loses m s.name s.booked ++ tells_all m.registers.frameworks (FAILURE s.name);
+      opens = [];
+      closes = [];
+      registers = without_filters_on s.name m.registers;
+    }
+    else nothing m
+
+-- HangUp
+
+abbrev pub hung_up_by : Master → Numbered → Option Framework → Doing
+hung_up_by m stream None = nothing m
+hung_up_by m stream (Some f) = record {
+  refusal = None;
+  moves = withdraws (is_of f.id) m;
+  events = [];
+  opens = [];
+  closes = stream ∷ [];
+  registers = with_framework m.registers (record f { stream = None });
+}
+
+abbrev pub hung_up : Master → Numbered → Doing
+hung_up m stream = hung_up_by m stream (find (λ f. is_stream stream f.stream) m.registers.frameworks)

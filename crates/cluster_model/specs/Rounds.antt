@@ -1,0 +1,146 @@
+-- Rounds of offers by dominant shares (DRF paper, section 4; Mesos paper, section 3.1).
+use Rattle.std.specs.Prelude.{ℕ, ◌*◌, ◌+◌, Bool, true, false, not, ◌&&◌, ◌||◌, nat_lt, nat_le, if◌then◌else◌, List, [], ◌∷◌, ◌++◌, length, map, filter, flat_map, fold, drop, Option, Some, None, bytes_eq}
+use Rattle.std.specs.List.{list_any, list_all}
+use Rattle.names_core.specs.Ids.{Numbered}
+use Rattle.quantity.specs.declared.rows.Row.{Row}
+use Rattle.quantity.specs.Rows.{amount, covers, rest_of}
+use Rattle.cluster_model.specs.Ids.{same, before, following, bytes_before, last_number}
+use Rattle.cluster_model.specs.Sides.{Side, MakeOffer, taken, offer_rows, job_rows, unended}
+use Rattle.cluster_model.specs.Events.{MadeOffer, Told, OFFERS}
+use Rattle.cluster_model.specs.Masters.{Master, Framework, Filter, Doing, Move, AtSide, moved, on_stream}
+
+-- Stands at most at: for each name i of the totals there is a name j at which the second's share is no less than the first's share of i
+abbrev pub is_at_most_at : List Row → List Row → List Row → Row → Row → Bool
+is_at_most_at totals a b i j = nat_le (amount i.name a * amount j.name totals) (amount j.name b * amount i.name totals)
+
+abbrev pub stands_at_most_at : List Row → List Row → List Row → Bool
+stands_at_most_at totals a b = list_all (λ i. list_any (λ j. is_at_most_at totals a b i j) totals) totals
+
+-- allocations
+
+-- a framework's allocation on one agent: current offers, and booked tasks that haven't ended
+abbrev pub allocated_on : Numbered → Side → List Row
+allocated_on framework s =
+    offer_rows (filter (λ o. same o.framework framework) s.offers) ++ job_rows (filter (λ j. same j.framework framework) (unended s.booked))
+
+abbrev pub allocation_of : Master → Numbered → List Row
+allocation_of m framework = flat_map (allocated_on framework) m.sides
+
+-- what the offers of this round give a framework
+abbrev pub given_to : Numbered → List MadeOffer → List Row
+given_to framework made = flat_map (λ g. if same g.offer.framework framework then g.offer.resources else []) made
+
+-- what agents with an open session own
+abbrev pub totals_of : Master → List Row
+totals_of m = flat_map (λ s. if s.is_open then s.total else []) m.sides
+
+-- a framework with its allocation before the round
+pub record Client : Type 0 where
+  pub framework : Framework
+  pub allocation : List Row
+
+abbrev pub clients_of : Master → List Client
+clients_of m = map (λ f. record { framework = f; allocation = allocation_of m f.id }) m.registers.frameworks
+
+-- with the offers of the round so far
+abbrev pub share_of : List MadeOffer → Client → List Row
+share_of made c = c.allocation ++ given_to c.framework.id made
+
+abbrev pub role_share : List Client → List MadeOffer → List ℕ → List Row
+role_share cs made role = flat_map (λ c. if bytes_eq c.framework.role role then share_of made c else []) cs
+
+-- the least client
+
+-- by two shares, and by the tie where they stand alike
+abbrev pub stands_first : List Row → List Row → List Row → Bool → Bool
+stands_first totals a b tie = stands_at_most_at totals a b && (tie || not (stands_at_most_at totals b a))
+
+-- the first is served rather than the second: by their roles, and within a role by themselves
+abbrev pub comes_before : List Row → List Client → List MadeOffer → Client → Client → Bool
+comes_before totals cs made c d =
+    if bytes_eq c.framework.role d.framework.role
+    then stands_first totals (share_of made c) (share_of made d) (before c.framework.id d.framework.id)
+    else stands_first totals (role_share cs made c.framework.role) (role_share cs made d.framework.role) (bytes_before c.framework.role d.framework.role)
+
+abbrev pub first_client : (Client → Client → Bool) → Option Client → Client → Option Client
+first_client comes None c = Some c
+first_client comes (Some d) c = if comes c d then Some c else Some d
+
+-- eligible clients
+
+abbrev pub is_subscribed : Option Numbered → Bool
+is_subscribed None = false
+is_subscribed (Some stream) = true
+
+-- a filter that runs on this agent and whose refused part covers the free part
+abbrev pub refuses : ℕ → List ℕ → List Row → Filter → Bool
+refuses now agent free x = bytes_eq x.agent agent && nat_lt now (x.made + x.seconds) && covers x.refused free
+
+abbrev pub is_eligible : ℕ → List ℕ → List Row → Client → Bool
+is_eligible now agent free c =
+    is_subscribed c.framework.stream && not c.framework.suppressed && not (list_any (refuses now agent free) c.framework.filters)
+
+abbrev pub pick : ℕ → List Row → List Client → List MadeOffer → List ℕ → List Row → Option Client
+pick now totals cs made agent free = fold (first_client (comes_before totals cs made)) None (filter (is_eligible now agent free) cs)
+
+-- the round
+
+-- the offers so far, and the next offer's id
+pub record Round : Type 0 where
+  pub made : List MadeOffer
+  pub next : Numbered
+
+abbrev pub offers_to : Round → List ℕ → List Row → Option Client → Round
+offers_to r agent free None = r
+offers_to r agent free (Some c) = record {
+  made = r.made ++ record { agent = agent; offer = record { id = r.next; framework = c.framework.id; resources = free } } ∷ [];
+  next = following r.next;
+}
+
+-- a free part that isn't empty goes whole to the least eligible client, while ids are left
+abbrev pub offers_free : ℕ → List Row → List Client → Round → List ℕ → List Row → Round
+offers_free now totals cs r agent [] = r
+offers_free now totals cs r agent (row ∷ rows) =
+    if nat_lt last_number r.next.n then r
+    else offers_to r agent (row ∷ rows) (pick now totals cs r.made agent (row ∷ rows))
+
+abbrev pub free : Side → List Row
+free s = rest_of s.total (taken s)
+
+abbrev pub visits : ℕ → List Row → List Client → Round → Side → Round
+visits now totals cs r s = if s.is_open then offers_free now totals cs r s.name (free s) else r
+
+abbrev pub round : Master → List MadeOffer
+round m = (fold (visits m.registers.now (totals_of m) (clients_of m)) (record { made = []; next = m.run.next_offer }) m.sides).made
+
+-- the offers that entered the current ones
+
+abbrev pub entered_on : Side → Side → List MadeOffer
+entered_on old new = map (λ o. record { agent = new.name; offer = o }) (drop (length old.offers) new.offers)
+
+abbrev pub entered : List Side → List Side → List MadeOffer
+entered [] news = []
+entered (old ∷ olds) [] = []
+entered (old ∷ olds) (new ∷ news) = entered_on old new ++ entered olds news
+
+-- one OFFERS event for each framework with new offers
+abbrev pub tells_offers : Framework → List MadeOffer → List Told
+tells_offers f [] = []
+tells_offers f (made ∷ more) = on_stream f.stream (OFFERS (made ∷ more))
+
+abbrev pub offers_of : List MadeOffer → Framework → List Told
+offers_of made f = tells_offers f (filter (λ g. same g.offer.framework f.id) made)
+
+abbrev pub making : Master → List Move
+making m = map (λ g. AtSide g.agent (MakeOffer g.offer)) (round m)
+
+-- the events tell the offers that are then current and weren't before
+abbrev pub allocated : Master → Doing
+allocated m = record {
+  refusal = None;
+  moves = making m;
+  events = flat_map (offers_of (entered m.sides (moved m (making m)).sides)) m.registers.frameworks;
+  opens = [];
+  closes = [];
+  registers = m.registers;
+}

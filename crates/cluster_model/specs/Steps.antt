@@ -1,0 +1,367 @@
+-- Legal histories: a state and a step to the entry and the next state.
+use Rattle.std.specs.Prelude.{ℕ, suc, zero, Bool, false, not, nat_lt, nat_le, if◌then◌else◌, List, [], ◌∷◌, ◌++◌, length, map, filter, flat_map, drop, slice_get, Option, Some, None, Result, Ok, Err, bytes_eq}
+use Rattle.std.specs.List.{list_any, find}
+use Rattle.names_core.specs.Ids.{Numbered}
+use Rattle.mails.specs.declared.call.Call.{Call}
+use Rattle.mails.specs.declared.mail.MasterMail.{MasterMail}
+use Rattle.mails.specs.declared.mail.AgentMail.{AgentMail}
+use Rattle.mails.specs.declared.record.Durable.{Durable}
+use Rattle.mails.specs.declared.cause.Cause.{Cause}
+use Rattle.mails.specs.declared.cause.Cause.TheVariants as causes
+use Rattle.mails.specs.declared.refusal.AgentRefusal.{AgentRefusal}
+use Rattle.mails.specs.declared.refusal.AgentRefusal.TheVariants.{NotForMe}
+use Rattle.mails.specs.declared.refusal.MasterRefusal.{MasterRefusal}
+use Rattle.cluster_model.specs.Ids.{same, last_number, last_run}
+use Rattle.cluster_model.specs.Agents.{Draft, next_of, hears_mail}
+use Rattle.cluster_model.specs.Sides.{SendHello}
+use Rattle.cluster_model.specs.Channels.{Channel, World, Happening, At, TearDown, Restart, Halt, ByMaster, Hear, ByAgent, AgentStep, Draw, DrawMail, Adopt, StopWithout, StopWith, after, after_all, open_world}
+use Rattle.cluster_model.specs.Events.{Event, Told}
+use Rattle.cluster_model.specs.Masters.{Registers, Doing, Move, AtSide, TearDownAll, RestartAll, HaltAll, new_registers}
+use Rattle.cluster_model.specs.Calls.{called}
+use Rattle.cluster_model.specs.Mails.{mailed, ticked, agent_lost, hung_up}
+use Rattle.cluster_model.specs.Rounds.{allocated}
+use Rattle.cluster_model.specs.Clusters.{Stream, Post, Called, Down, Up, Cluster, master_of, StepCause, ByStart, ByAgain, ByExecutor, ByMail, Step, Send, Deliver, Allocate, Tick, LoseAgent, HangUp, Prepare, Commit, StopBefore, StopAfter, StopMaster, Take, StepRefusal, NoSuchMail, MasterDown, AgentDown, DraftOpen, NoDraft, HistoryFull, TimeBack, NoSuchAgent, Verdict, Fine, MasterRefused, AgentRefused, Fell, Sent, CallSent, MailToAgent, MailToMaster, Entry, no_outs}
+
+-- what was sent
+
+-- the places from one on, one for each mail
+abbrev pub places : {A : Type 0} → ℕ → List A → List ℕ
+places i [] = []
+places i (x ∷ xs) = i ∷ places (suc i) xs
+
+-- the mails behind those that a channel had before
+abbrev pub new_to_agent : Channel → Channel → List MasterMail
+new_to_agent old new = drop (length old.to_agent) new.to_agent
+
+abbrev pub new_to_master : Channel → Channel → List AgentMail
+new_to_master old new = drop (length old.to_master) new.to_master
+
+abbrev pub sent_in : Channel → Channel → List Sent
+sent_in old new =
+    map (λ mail. MailToAgent (record { agent = new.side.name; mail = mail })) (new_to_agent old new) ++
+    map (λ mail. MailToMaster (record { agent = new.side.name; mail = mail })) (new_to_master old new)
+
+abbrev pub posts_in : Channel → Channel → List Post
+posts_in old new =
+    map (Down new.side.name) (places (length old.to_agent) (new_to_agent old new)) ++
+    map (Up new.side.name) (places (length old.to_master) (new_to_master old new))
+
+abbrev pub sent_between : List Channel → List Channel → List Sent
+sent_between [] news = []
+sent_between (old ∷ olds) [] = []
+sent_between (old ∷ olds) (new ∷ news) = sent_in old new ++ sent_between olds news
+
+abbrev pub posts_between : List Channel → List Channel → List Post
+posts_between [] news = []
+posts_between (old ∷ olds) [] = []
+posts_between (old ∷ olds) (new ∷ news) = posts_in old new ++ posts_between olds news
+
+-- the mails that happenings send, in the order made
+abbrev pub sent_by : List Happening → World → List Sent
+sent_by [] w = []
+sent_by (h ∷ hs) w = let next = after w h in sent_between w.channels next.channels ++ sent_by hs next
+
+abbrev pub posts_by : List Happening → World → List Post
+posts_by [] w = []
+posts_by (h ∷ hs) w = let next = after w h in posts_between w.channels next.channels ++ posts_by hs next
+
+-- streams
+
+abbrev pub told_on : Numbered → List Told → List Event
+told_on stream told = flat_map (λ t. if same t.stream stream then t.event ∷ [] else []) told
+
+abbrev pub new_stream : Numbered → Stream
+new_stream id = record { id = id; events = []; taken = 0 }
+
+abbrev pub hears : List Told → Stream → Stream
+hears told s = record { id = s.id; events = s.events ++ told_on s.id told; taken = s.taken }
+
+abbrev pub streams_after : List Stream → List Numbered → List Told → List Stream
+streams_after streams opens told = map (hears told) (streams ++ map new_stream opens)
+
+-- what a step does
+
+-- its verdict, what happens in the channels, its events, the streams that it opens and closes, and the registers after it
+pub record Effect : Type 0 where
+  pub verdict : Verdict
+  pub happenings : List Happening
+  pub events : List Told
+  pub opens : List Numbered
+  pub closes : List Numbered
+  pub registers : Registers
+
+-- an entry, what happened in the channels, and the state after it
+pub record Done : Type 0 where
+  pub entry : Entry
+  pub happenings : List Happening
+  pub after : Cluster
+
+abbrev pub done : Cluster → Effect → Done
+done c e = record {
+  entry = record { verdict = e.verdict; outs = record { events = e.events; closed = e.closes; sent = sent_by e.happenings c.world; taken = [] } };
+  happenings = e.happenings;
+  after = record {
+    world = after_all e.happenings c.world;
+    registers = e.registers;
+    fallen = c.fallen;
+    posts = c.posts ++ posts_by e.happenings c.world;
+    streams = streams_after c.streams e.opens e.events;
+    last_tick = c.last_tick;
+    entries = suc c.entries;
+  };
+}
+
+abbrev pub does : Cluster → Effect → Result Done StepRefusal
+does c e = Ok (done c e)
+
+-- what happens in channels alone
+abbrev pub happening : Cluster → Verdict → List Happening → Effect
+happening c verdict hs = record { verdict = verdict; happenings = hs; events = []; opens = []; closes = []; registers = c.registers }
+
+-- the master's steps
+
+abbrev pub happening_of : Move → Happening
+happening_of (AtSide agent step) = At agent (ByMaster step)
+happening_of (TearDownAll framework) = TearDown framework
+happening_of RestartAll = Restart
+happening_of HaltAll = Halt
+
+abbrev pub verdict_of : Option MasterRefusal → Verdict
+verdict_of None = Fine
+verdict_of (Some refusal) = MasterRefused refusal
+
+abbrev pub effect_of : List Happening → Doing → Effect
+effect_of first d = record { verdict = verdict_of d.refusal; happenings = first ++ map happening_of d.moves; events = d.events; opens = d.opens; closes = d.closes; registers = d.registers }
+
+-- what the master does
+abbrev pub master_does : Cluster → Doing → Result Done StepRefusal
+master_does c d = does c (effect_of [] d)
+
+-- what the master does at a mail, which its side hears first
+abbrev pub master_hears : Cluster → Channel → ℕ → Option AgentMail → Result Done StepRefusal
+master_hears c x place None = Err NoSuchMail
+master_hears c x place (Some mail) = does c (effect_of (At x.side.name (Hear place) ∷ []) (mailed (master_of c) x.side mail))
+
+abbrev pub channel_of : Cluster → List ℕ → Option Channel
+channel_of c agent = find (λ x. bytes_eq x.side.name agent) c.world.channels
+
+abbrev pub delivers_up : Cluster → ℕ → Option Channel → Result Done StepRefusal
+delivers_up c place None = Err NoSuchMail
+delivers_up c place (Some x) = master_hears c x place (slice_get x.to_master place)
+
+abbrev pub delivers : Cluster → Option Post → Result Done StepRefusal
+delivers c None = Err NoSuchMail
+delivers c (Some (Called stream call)) = master_does c (called (master_of c) stream call)
+delivers c (Some (Down agent place)) = Err NoSuchMail
+delivers c (Some (Up agent place)) = delivers_up c place (channel_of c agent)
+
+-- what has this number, from 1
+abbrev pub post_at : Cluster → ℕ → Option Post
+post_at c zero = None
+post_at c (suc n) = slice_get c.posts n
+
+abbrev pub with_tick : Cluster → ℕ → Cluster
+with_tick c now = record c { last_tick = now }
+
+abbrev pub ticks_at : Cluster → ℕ → Result Done StepRefusal
+ticks_at c now = if nat_lt now c.last_tick then Err TimeBack else master_does (with_tick c now) (ticked (master_of c) now)
+
+abbrev pub stream_at : Cluster → Numbered → Option Stream
+stream_at c id = find (λ s. same s.id id) c.streams
+
+abbrev pub hangs_up : Cluster → Numbered → Option Stream → Result Done StepRefusal
+hangs_up c id None = Err NoSuchMail
+hangs_up c id (Some s) = master_does c (hung_up (master_of c) id)
+
+abbrev pub loses_agent : Cluster → Channel → Result Done StepRefusal
+loses_agent c x = master_does c (agent_lost (master_of c) x.side)
+
+abbrev pub hello_to : Channel → Happening
+hello_to x = At x.side.name (ByMaster SendHello)
+
+-- a master that stops: all streams close, and a new one of the next run greets every agent; behind the last run none comes
+abbrev pub master_stops : Cluster → Effect
+master_stops c =
+    if nat_lt c.world.run.number last_run
+    then record (happening c Fine (Restart ∷ map hello_to c.world.channels)) { registers = new_registers }
+    else record (happening c Fine (Halt ∷ [])) { registers = new_registers }
+
+-- the agents' steps
+
+abbrev pub drafts : Cluster → Channel → AgentStep → Result Draft AgentRefusal → Result Done StepRefusal
+drafts c x step (Ok draft) = does c (happening c Fine (At x.side.name (ByAgent step) ∷ []))
+drafts c x step (Err refusal) = does c (happening c (AgentRefused refusal) [])
+
+abbrev pub draws : Cluster → Channel → Cause → Result Done StepRefusal
+draws c x cause = drafts c x (Draw cause) (next_of x.agent cause)
+
+abbrev pub draws_mail_at : Cluster → Channel → ℕ → Option MasterMail → Result Done StepRefusal
+draws_mail_at c x place None = Err NoSuchMail
+draws_mail_at c x place (Some mail) = drafts c x (DrawMail place) (hears_mail x.agent mail)
+
+abbrev pub draws_mail : Cluster → Channel → Option Post → Result Done StepRefusal
+draws_mail c x None = Err NoSuchMail
+draws_mail c x (Some (Called stream call)) = Err NoSuchMail
+draws_mail c x (Some (Up agent place)) = Err NoSuchMail
+draws_mail c x (Some (Down agent place)) =
+    if bytes_eq agent x.side.name then draws_mail_at c x place (slice_get x.to_agent place)
+    else does c (happening c (AgentRefused NotForMe) [])
+
+abbrev pub prepares : Cluster → StepCause → Channel → Result Done StepRefusal
+prepares c ByStart x = draws c x causes.Start
+prepares c ByAgain x = draws c x causes.Again
+prepares c (ByExecutor key state) x = draws c x (causes.Executor key state)
+prepares c (ByMail number) x = draws_mail c x (post_at c number)
+
+abbrev pub commits : Cluster → Channel → Result Done StepRefusal
+commits c x = does c (happening c Fine (At x.side.name (ByAgent Adopt) ∷ []))
+
+-- the agent is up again after a stop
+abbrev pub up_again : Cluster → List ℕ → Cluster
+up_again c agent = record c { fallen = filter (λ a. not (bytes_eq a agent)) c.fallen }
+
+abbrev pub stops : Cluster → AgentStep → Channel → Result Done StepRefusal
+stops c stop x = does (up_again c x.side.name) (happening c Fine (At x.side.name (ByAgent stop) ∷ []))
+
+-- what a step asks first
+
+abbrev pub with_master : Cluster → Result Done StepRefusal → Result Done StepRefusal
+with_master c answer = if c.world.run.serves then answer else Err MasterDown
+
+abbrev pub at_channel : Option Channel → (Channel → Result Done StepRefusal) → Result Done StepRefusal
+at_channel None step = Err NoSuchAgent
+at_channel (Some x) step = step x
+
+abbrev pub is_fallen : Cluster → Channel → Bool
+is_fallen c x = list_any (bytes_eq x.side.name) c.fallen
+
+abbrev pub if_up : Cluster → (Channel → Result Done StepRefusal) → Channel → Result Done StepRefusal
+if_up c step x = if is_fallen c x then Err AgentDown else step x
+
+abbrev pub by_draft : Option Draft → Result Done StepRefusal → Result Done StepRefusal → Result Done StepRefusal
+by_draft None without with_one = without
+by_draft (Some draft) without with_one = with_one
+
+abbrev pub without_draft : (Channel → Result Done StepRefusal) → Channel → Result Done StepRefusal
+without_draft step x = by_draft x.draft (step x) (Err DraftOpen)
+
+abbrev pub with_draft : (Channel → Result Done StepRefusal) → Channel → Result Done StepRefusal
+with_draft step x = by_draft x.draft (Err NoDraft) (step x)
+
+-- Send, Take
+
+abbrev pub sends : Cluster → Option Numbered → Call → Done
+sends c stream call = record {
+  entry = record { verdict = Fine; outs = record no_outs { sent = CallSent ∷ [] } };
+  happenings = [];
+  after = record c { posts = c.posts ++ Called stream call ∷ []; entries = suc c.entries };
+}
+
+abbrev pub takes_one : Numbered → Stream → Stream
+takes_one id s = if same s.id id then record { id = s.id; events = s.events; taken = suc s.taken } else s
+
+abbrev pub takes_event : Cluster → Numbered → Option Event → Result Done StepRefusal
+takes_event c id None = Err NoSuchMail
+takes_event c id (Some event) = Ok (record {
+  entry = record { verdict = Fine; outs = record no_outs { taken = record { stream = id; event = event } ∷ [] } };
+  happenings = [];
+  after = record c { streams = map (takes_one id) c.streams; entries = suc c.entries };
+})
+
+abbrev pub takes : Cluster → Numbered → Option Stream → Result Done StepRefusal
+takes c id None = Err NoSuchMail
+takes c id (Some s) = takes_event c id (slice_get s.events s.taken)
+
+-- the answer to a step, but for a full history
+abbrev pub answer : Cluster → Step → Result Done StepRefusal
+answer c (Send stream call) = Ok (sends c stream call)
+answer c (Deliver number) = with_master c (delivers c (post_at c number))
+answer c Allocate = with_master c (master_does c (allocated (master_of c)))
+answer c (Tick now) = with_master c (ticks_at c now)
+answer c (LoseAgent agent) = at_channel (channel_of c agent) (λ x. with_master c (loses_agent c x))
+answer c (HangUp stream) = with_master c (hangs_up c stream (stream_at c stream))
+answer c (Prepare agent cause) = at_channel (channel_of c agent) (if_up c (without_draft (prepares c cause)))
+answer c (Commit agent) = at_channel (channel_of c agent) (if_up c (with_draft (commits c)))
+answer c (StopBefore agent) = at_channel (channel_of c agent) (stops c StopWithout)
+answer c (StopAfter agent) = at_channel (channel_of c agent) (with_draft (stops c StopWith))
+answer c StopMaster = does c (master_stops c)
+answer c (Take stream) = takes c stream (stream_at c stream)
+
+-- where a part runs out of memory: it is down, the entry has no outputs, and a StopAgent has chosen its record
+
+abbrev pub master_falls : Cluster → Done
+master_falls c = done c (record (happening c Fell (Halt ∷ [])) { registers = new_registers })
+
+-- the new master of a StopMaster
+abbrev pub new_master_falls : Cluster → Done
+new_master_falls c = done c (record (happening c Fell (Restart ∷ Halt ∷ [])) { registers = new_registers })
+
+abbrev pub fallen_too : Cluster → List ℕ → Cluster
+fallen_too c agent = record c { fallen = agent ∷ filter (λ a. not (bytes_eq a agent)) c.fallen }
+
+abbrev pub agent_falls : Cluster → List ℕ → AgentStep → Done
+agent_falls c agent stop = done (fallen_too c agent) (happening c Fell (At agent (ByAgent stop) ∷ []))
+
+abbrev pub instead : Result Done StepRefusal → Done → Result Done StepRefusal
+instead (Ok done) fell = Ok fell
+instead (Err refusal) fell = Err refusal
+
+-- the answer where the part of the step runs out of memory; none can in a Send, a Commit or a Take
+abbrev pub fallen_answer : Cluster → Step → Result Done StepRefusal
+fallen_answer c (Send stream call) = answer c (Send stream call)
+fallen_answer c (Deliver number) = instead (answer c (Deliver number)) (master_falls c)
+fallen_answer c Allocate = instead (answer c Allocate) (master_falls c)
+fallen_answer c (Tick now) = instead (answer c (Tick now)) (master_falls (with_tick c now))
+fallen_answer c (LoseAgent agent) = instead (answer c (LoseAgent agent)) (master_falls c)
+fallen_answer c (HangUp stream) = instead (answer c (HangUp stream)) (master_falls c)
+fallen_answer c (Prepare agent cause) = instead (answer c (Prepare agent cause)) (agent_falls c agent StopWithout)
+fallen_answer c (Commit agent) = answer c (Commit agent)
+fallen_answer c (StopBefore agent) = instead (answer c (StopBefore agent)) (agent_falls c agent StopWithout)
+fallen_answer c (StopAfter agent) = instead (answer c (StopAfter agent)) (agent_falls c agent StopWith)
+fallen_answer c StopMaster = if nat_lt c.world.run.number last_run then Ok (new_master_falls c) else answer c StopMaster
+fallen_answer c (Take stream) = answer c (Take stream)
+
+-- a step, with the mark of its entry: whether the part that it moves ran out of memory
+pub record Marked : Type 0 where
+  pub fell : Bool
+  pub step : Step
+
+abbrev pub step_marked : Cluster → Marked → Result Done StepRefusal
+step_marked c s = if nat_le last_number c.entries then Err HistoryFull else (if s.fell then fallen_answer c s.step else answer c s.step)
+
+abbrev pub unmarked : Step → Marked
+unmarked s = record { fell = false; step = s }
+
+-- histories
+
+-- the opening: a Hello to every agent
+abbrev pub opened_over : ℕ → List Durable → Cluster
+opened_over run records = record { world = open_world run records; registers = new_registers; fallen = []; posts = []; streams = []; last_tick = 0; entries = 0 }
+
+abbrev pub greets_all : Cluster → Effect
+greets_all c = happening c Fine (map hello_to c.world.channels)
+
+abbrev pub open_cluster : ℕ → List Durable → Done
+open_cluster run records = let c = opened_over run records in done c (greets_all c)
+
+-- entries, the oldest first; all that happened in the channels; and the state after them
+pub record History : Type 0 where
+  pub entries : List Entry
+  pub happenings : List Happening
+  pub state : Cluster
+
+abbrev pub opening : ℕ → List Durable → History
+opening run records = let d = open_cluster run records in record { entries = d.entry ∷ []; happenings = d.happenings; state = d.after }
+
+-- a step that is refused adds no entry
+abbrev pub extended : History → Result Done StepRefusal → History
+extended h (Ok d) = record { entries = h.entries ++ d.entry ∷ []; happenings = h.happenings ++ d.happenings; state = d.after }
+extended h (Err refusal) = h
+
+abbrev pub extend_all : History → List Marked → History
+extend_all h [] = h
+extend_all h (s ∷ ss) = extend_all (extended h (step_marked h.state s)) ss
+
+-- the history of a list of steps, from an opening
+abbrev pub history : ℕ → List Durable → List Marked → History
+history run records steps = extend_all (opening run records) steps

@@ -1,0 +1,461 @@
+-- What every step of a history does: happenings in the channels, and no refusal for want of room.
+use Rattle.std.proofs.Common.{zero, inl, inr, append_assoc, append-nil, flat_map, ◌<◌, ◌≡◌, ◌≢◌, ℕ, suc, Bool, true, false, not, ◌&&◌, List, [], ◌∷◌, ◌++◌, map, Option, Some, None, Result, Ok, Err, refl, sym, ap, ◌∙◌, subst, bytes_eq, nat_lt, nat_le, slice_get}
+use Rattle.std.specs.Prelude.{⊤, if◌then◌else◌, ◌==◌, ◌⊎◌}
+use Rattle.std.specs.List.{AllByRecursion as Each, find, list_any}
+use Rattle.std.proofs.lemmas.Bool.{cond_both}
+use Rattle.mails.specs.declared.call.Call.TheVariants.{Subscribe, Teardown, Accept, Decline, Revive, Suppress, Acknowledge, Reconcile}
+use Rattle.mails.specs.declared.call.Call.TheVariants as calls
+use Rattle.names_core.specs.Ids.{Numbered}
+use Rattle.names_core.specs.declared.state.TaskState.{TaskState}
+use Rattle.mails.specs.declared.task.Job.{Job}
+use Rattle.mails.specs.declared.task.Booked.{Booked}
+use Rattle.mails.specs.declared.mail.MasterMail.{MasterMail}
+use Rattle.mails.specs.declared.mail.AgentMail.{AgentMail}
+use Rattle.mails.specs.declared.record.Durable.{Durable}
+use Rattle.mails.specs.declared.record.RecordedTask.{RecordedTask}
+use Rattle.mails.specs.declared.refusal.AgentRefusal.{AgentRefusal}
+use Rattle.mails.specs.declared.refusal.MasterRefusal.{MasterRefusal}
+use Rattle.mails.specs.declared.call.Call.{Call}
+use Rattle.mails.specs.declared.cause.Cause.TheVariants.{Start, Executor, Again}
+use Rattle.mails.specs.declared.refusal.AgentRefusal.TheVariants.{NotForMe, OldSession, NoSuchTask, Ended, NoRoom, UpdatesFull, SessionsSpent}
+use Rattle.stream_core.specs.Updates.{is_full}
+use Rattle.cluster_model.specs.Ids.{same, last_number, last_run}
+use Rattle.cluster_model.specs.Agents.{Agent, Draft, has_ended, is_task, front_at, reopened, reports, opens_next, stated, with_tasks, hears_mail, is_running, executes, next_of}
+use Rattle.cluster_model.specs.Sides.{Run, Side}
+use Rattle.cluster_model.specs.Channels.{Channel, AgentStep, Draw, DrawMail, Adopt, StopWithout, StopWith, Hear, ByAgent, World, Happening, At, Restart, Halt, after, after_all, open_channel, open_world, AllFit}
+use Rattle.cluster_model.specs.Openings.{recorded_jobs, KeysOnce, GoodOpening}
+use Rattle.cluster_model.specs.Events.{Event}
+use Rattle.cluster_model.specs.Masters.{Framework, Master, new_registers, Doing, framework_of, Placed, placed_on, all_booked, is_task_of}
+use Rattle.cluster_model.specs.Calls.{is_last_heard, called}
+use Rattle.cluster_model.specs.Mails.{mailed, ticked, agent_lost, hung_up}
+use Rattle.cluster_model.specs.Rounds.{allocated}
+use Rattle.cluster_model.specs.Clusters.{Stream, Post, Called, Down, Up, Cluster, sides_of, master_of, StepCause, ByStart, ByAgain, ByExecutor, ByMail, Step, Send, Deliver, Allocate, Tick, LoseAgent, HangUp, Prepare, Commit, StopBefore, StopAfter, StopMaster, Take, StepRefusal, MasterDown, AgentDown, DraftOpen, NoDraft, HistoryFull, TimeBack, Verdict, Fine, MasterRefused, AgentRefused, Fell, Entry}
+use Rattle.cluster_model.specs.Steps.{posts_by, Effect, Done, done, does, happening, verdict_of, effect_of, master_does, master_hears, channel_of, delivers_up, delivers, post_at, with_tick, ticks_at, stream_at, hangs_up, loses_agent, hello_to, drafts, draws_mail_at, draws_mail, prepares, commits, up_again, stops, with_master, at_channel, is_fallen, if_up, by_draft, without_draft, with_draft, takes_event, takes, answer, master_falls, new_master_falls, fallen_too, agent_falls, instead, fallen_answer, Marked, step_marked, History, opening, extended, extend_all, history}
+use Rattle.cluster_safe.specs.Facts.{HasRoom, RoomForAll}
+use Rattle.cluster_safe.specs.Acknowledged.{Names, WasSent, WasCounted, recorded_tasks, AcknowledgedByOwner}
+use Rattle.cluster_safe.specs.Saved.{IsFound}
+use Rattle.cluster_safe.specs.Origin.{Mark, Made, Used, marks_by, trail, IsOneOf, jobs_of, From, HasOrigin}
+use Rattle.cluster_safe.proofs.Ids.{same_is}
+use Rattle.cluster_safe.proofs.Orders.{each_append, each_map, each_both}
+use Rattle.cluster_safe.proofs.Drafts.{both_true}
+use Rattle.cluster_safe.proofs.Worlds.{WorldOk, world_after_all, world_opened, all_fit, all_room}
+use Rattle.cluster_safe.proofs.Told.{TaskTold, Carried, told_wider}
+use Rattle.cluster_safe.proofs.Origins.{Any, in_behind, in_front_of}
+use Rattle.cluster_safe.proofs.OriginWorlds.{ChannelOk, OriginOk, origin_all, has_origin}
+use Rattle.cluster_safe.proofs.Openings.{opening_good, origin_opened}
+use Rattle.cluster_safe.proofs.Stopped.{apart_one, on_of, rec_of, found_good}
+use Rattle.cluster_safe.proofs.Acks.{Always, AllAcked, HappeningOk, MoveOk, worlds_acked, happenings_ok, CallOk, called_ok, mailed_ok, ticked_ok, lost_ok, hung_ok, allocated_ok}
+use Rattle.names_core.specs.Updates.{Update}
+
+-- a found one has what each has
+found : {A : Type 0} (P : A → Type 0) (test : A → Bool) (Q : Option A → Type 0) → Q None → ((x : A) → P x → Q (Some x)) → (xs : List A) → Each P xs → Q (find test xs)
+found P test Q none some [] h = none
+found P test Q none some (x ∷ xs) h = cond_both (test x) (Some x) (find test xs) Q (λ e. some x h.0) (λ e. found P test Q none some xs h.1)
+
+-- a verdict that is no refusal for want of room
+abbrev pub NotNoRoom : Verdict → Type 0
+NotNoRoom Fine = ⊤
+NotNoRoom (MasterRefused refusal) = ⊤
+NotNoRoom (AgentRefused refusal) = HasRoom (Err refusal)
+NotNoRoom Fell = ⊤
+
+-- what a step that isn't refused does
+abbrev pub Legal : (Numbered → ℕ → Type 0) → Cluster → Result Done StepRefusal → Type 0
+Legal A c (Ok d) = (d.after.world ≡ after_all d.happenings c.world) × NotNoRoom d.entry.verdict × Each (HappeningOk A) d.happenings × ((more : List Post) × (d.after.posts ≡ c.posts ++ more))
+Legal A c (Err refusal) = ⊤
+
+legal_effect : (A : Numbered → ℕ → Type 0) (c : Cluster) (e : Effect) → NotNoRoom e.verdict → Each (HappeningOk A) e.happenings → Legal A c (does c e)
+legal_effect A c e v h = (refl, v, h, (posts_by e.happenings c.world, refl))
+
+hellos_ok : (A : Numbered → ℕ → Type 0) (cs : List Channel) → Each (HappeningOk A) (map hello_to cs)
+hellos_ok A [] = tt
+hellos_ok A (c ∷ cs) = (tt, hellos_ok A cs)
+
+by_test : (A : Numbered → ℕ → Type 0) (c : Cluster) (b : Bool) (x y : Result Done StepRefusal) → Legal A c x → Legal A c y → Legal A c (if b then x else y)
+by_test A c true x y p q = p
+by_test A c false x y p q = q
+
+verdict_has_room : (o : Option MasterRefusal) → NotNoRoom (verdict_of o)
+verdict_has_room None = tt
+verdict_has_room (Some refusal) = tt
+
+master_legal : (A : Numbered → ℕ → Type 0) (c : Cluster) (d : Doing) → Each (MoveOk A) d.moves → Legal A c (master_does c d)
+master_legal A c d h = legal_effect A c (effect_of [] d) (verdict_has_room d.refusal) (happenings_ok A d.moves h)
+
+takes_event_legal : (A : Numbered → ℕ → Type 0) (c : Cluster) (id : Numbered) (e : Option Event) → Legal A c (takes_event c id e)
+takes_event_legal A c id None = tt
+takes_event_legal A c id (Some e) = (refl, tt, tt, ([], sym (append-nil c.posts)))
+
+takes_legal : (A : Numbered → ℕ → Type 0) (c : Cluster) (id : Numbered) (s : Option Stream) → Legal A c (takes c id s)
+takes_legal A c id None = tt
+takes_legal A c id (Some s) = takes_event_legal A c id (slice_get s.events s.taken)
+
+hears_legal : (A : Numbered → ℕ → Type 0) (c : Cluster) (x : Channel) (place : ℕ) (mail : Option AgentMail) → Legal A c (master_hears c x place mail)
+hears_legal A c x place None = tt
+hears_legal A c x place (Some mail) = legal_effect A c (effect_of (At x.side.name (Hear place) ∷ []) (mailed (master_of c) x.side mail)) (verdict_has_room (mailed (master_of c) x.side mail).refusal) (tt, happenings_ok A (mailed (master_of c) x.side mail).moves (mailed_ok A (master_of c) x.side mail))
+
+delivers_up_legal : (A : Numbered → ℕ → Type 0) (c : Cluster) (place : ℕ) (x : Option Channel) → Legal A c (delivers_up c place x)
+delivers_up_legal A c place None = tt
+delivers_up_legal A c place (Some x) = hears_legal A c x place (slice_get x.to_master place)
+
+-- a call that acknowledges tells a true thing
+abbrev pub PostOk : (Numbered → ℕ → Type 0) → Master → Option Post → Type 0
+PostOk A m None = ⊤
+PostOk A m (Some (Called stream call)) = CallOk A m call
+PostOk A m (Some (Down agent place)) = ⊤
+PostOk A m (Some (Up agent place)) = ⊤
+
+delivers_legal : (A : Numbered → ℕ → Type 0) (c : Cluster) (p : Option Post) → PostOk A (master_of c) p → Legal A c (delivers c p)
+delivers_legal A c None h = tt
+delivers_legal A c (Some (Called stream call)) h = master_legal A c (called (master_of c) stream call) (called_ok A (master_of c) stream call h)
+delivers_legal A c (Some (Down agent place)) h = tt
+delivers_legal A c (Some (Up agent place)) h = delivers_up_legal A c place (channel_of c agent)
+
+hangs_up_legal : (A : Numbered → ℕ → Type 0) (c : Cluster) (id : Numbered) (s : Option Stream) → Legal A c (hangs_up c id s)
+hangs_up_legal A c id None = tt
+hangs_up_legal A c id (Some s) = master_legal A c (hung_up (master_of c) id) (hung_ok A (master_of c) id)
+
+with_master_legal : (A : Numbered → ℕ → Type 0) (c : Cluster) (r : Result Done StepRefusal) → Legal A c r → Legal A c (with_master c r)
+with_master_legal A c r p = by_test A c c.world.run.serves r (Err MasterDown) p tt
+
+-- agents
+
+abbrev Roomy : Channel → Type 0
+Roomy x = RoomForAll x
+
+drafts_legal : (A : Numbered → ℕ → Type 0) (c : Cluster) (x : Channel) (step : AgentStep) (r : Result Draft AgentRefusal) → HasRoom r → Legal A c (drafts c x step r)
+drafts_legal A c x step (Ok draft) h = legal_effect A c (happening c Fine (At x.side.name (ByAgent step) ∷ [])) tt (tt, tt)
+drafts_legal A c x step (Err refusal) h = legal_effect A c (happening c (AgentRefused refusal) []) h tt
+
+room_if : (b : Bool) (x y : Result Draft AgentRefusal) → HasRoom x → HasRoom y → HasRoom (if b then x else y)
+room_if true x y p q = p
+room_if false x y p q = q
+
+opens_room : (a : Agent) (last run : ℕ) → HasRoom (opens_next a last run)
+opens_room a last run = room_if (nat_le last_number last) (Err SessionsSpent) (Ok (reports (reopened a (suc last) run))) tt tt
+
+executes_room : (a : Agent) (key : Numbered) (state : TaskState) → HasRoom (executes a key state)
+executes_room a key state = room_if (not (list_any (is_task key) a.tasks)) (Err NoSuchTask) third tt (room_if (list_any (λ t. is_task key t && has_ended t) a.tasks) (Err Ended) second tt (room_if (is_running state && list_any (λ t. is_task key t && is_full t.updates) a.tasks) (Err UpdatesFull) first tt tt))
+  where
+    first : Result Draft AgentRefusal
+    first = Ok (record { after = with_tasks a (map (stated key state) a.tasks) a.applied; mails = if a.in_session then front_at key (with_tasks a (map (stated key state) a.tasks) a.applied) else [] })
+
+    second : Result Draft AgentRefusal
+    second = if is_running state && list_any (λ t. is_task key t && is_full t.updates) a.tasks then Err UpdatesFull else first
+
+    third : Result Draft AgentRefusal
+    third = if list_any (λ t. is_task key t && has_ended t) a.tasks then Err Ended else second
+
+draws_mail_at_legal : (A : Numbered → ℕ → Type 0) (c : Cluster) (x : Channel) (place : ℕ) (o : Option MasterMail) → ((m : MasterMail) → o ≡ Some m → HasRoom (hears_mail x.agent m)) → Legal A c (draws_mail_at c x place o)
+draws_mail_at_legal A c x place None h = tt
+draws_mail_at_legal A c x place (Some mail) h = drafts_legal A c x (DrawMail place) (hears_mail x.agent mail) (h mail refl)
+
+draws_mail_legal : (A : Numbered → ℕ → Type 0) (c : Cluster) (x : Channel) (p : Option Post) → Roomy x → Legal A c (draws_mail c x p)
+draws_mail_legal A c x None h = tt
+draws_mail_legal A c x (Some (Called stream call)) h = tt
+draws_mail_legal A c x (Some (Up agent place)) h = tt
+draws_mail_legal A c x (Some (Down agent place)) h = by_test A c (bytes_eq agent x.side.name) (draws_mail_at c x place (slice_get x.to_agent place)) (does c (happening c (AgentRefused NotForMe) []))
+    (draws_mail_at_legal A c x place (slice_get x.to_agent place) (λ m e. h place m e)) (legal_effect A c (happening c (AgentRefused NotForMe) []) tt tt)
+
+prepares_legal : (A : Numbered → ℕ → Type 0) (c : Cluster) (cause : StepCause) (x : Channel) → Roomy x → Legal A c (prepares c cause x)
+prepares_legal A c ByStart x h = drafts_legal A c x (Draw Start) (next_of x.agent Start) (room_if (x.agent.run == 0) (Err OldSession) (opens_next x.agent x.agent.session x.agent.run) tt (opens_room x.agent x.agent.session x.agent.run))
+prepares_legal A c ByAgain x h = drafts_legal A c x (Draw Again) (next_of x.agent Again) tt
+prepares_legal A c (ByExecutor key state) x h = drafts_legal A c x (Draw (Executor key state)) (next_of x.agent (Executor key state)) (executes_room x.agent key state)
+prepares_legal A c (ByMail number) x h = draws_mail_legal A c x (post_at c number) h
+
+by_draft_legal : (A : Numbered → ℕ → Type 0) (c : Cluster) (d : Option Draft) (without with_one : Result Done StepRefusal) → Legal A c without → Legal A c with_one → Legal A c (by_draft d without with_one)
+by_draft_legal A c None without with_one p q = p
+by_draft_legal A c (Some d) without with_one p q = q
+
+if_up_legal : (A : Numbered → ℕ → Type 0) (c : Cluster) (step : Channel → Result Done StepRefusal) (x : Channel) → Legal A c (step x) → Legal A c (if_up c step x)
+if_up_legal A c step x p = by_test A c (is_fallen c x) (Err AgentDown) (step x) tt p
+
+at_channel_legal : (A : Numbered → ℕ → Type 0) (c : Cluster) (agent : List ℕ) (step : Channel → Result Done StepRefusal) → Each Roomy c.world.channels → ((x : Channel) → Roomy x → Legal A c (step x)) → Legal A c (at_channel (channel_of c agent) step)
+at_channel_legal A c agent step rooms p = found Roomy (λ x. bytes_eq x.side.name agent) (λ o. Legal A c (at_channel o step)) tt p c.world.channels rooms
+
+-- all steps
+
+answer_legal : (A : Numbered → ℕ → Type 0) (c : Cluster) → Each Roomy c.world.channels → ((number : ℕ) → PostOk A (master_of c) (post_at c number)) → (s : Step) → Legal A c (answer c s)
+answer_legal A c rooms acks (Send stream call) = (refl, tt, tt, (Called stream call ∷ [], refl))
+answer_legal A c rooms acks (Deliver number) = with_master_legal A c (delivers c (post_at c number)) (delivers_legal A c (post_at c number) (acks number))
+answer_legal A c rooms acks Allocate = with_master_legal A c (master_does c (allocated (master_of c))) (master_legal A c (allocated (master_of c)) (allocated_ok A (master_of c)))
+answer_legal A c rooms acks (Tick now) = with_master_legal A c (ticks_at c now) (by_test A c (nat_lt now c.last_tick) (Err TimeBack) (master_does (with_tick c now) (ticked (master_of c) now)) tt (legal_effect A (with_tick c now) (effect_of [] (ticked (master_of c) now)) tt (happenings_ok A (ticked (master_of c) now).moves (ticked_ok A (master_of c) now))))
+answer_legal A c rooms acks (LoseAgent agent) = at_channel_legal A c agent (λ x. with_master c (loses_agent c x)) rooms (λ x h. with_master_legal A c (loses_agent c x) (master_legal A c (agent_lost (master_of c) x.side) (lost_ok A (master_of c) x.side)))
+answer_legal A c rooms acks (HangUp stream) = with_master_legal A c (hangs_up c stream (stream_at c stream)) (hangs_up_legal A c stream (stream_at c stream))
+answer_legal A c rooms acks (Prepare agent cause) = at_channel_legal A c agent (if_up c (without_draft (prepares c cause))) rooms (λ x h. if_up_legal A c (without_draft (prepares c cause)) x (by_draft_legal A c x.draft (prepares c cause x) (Err DraftOpen) (prepares_legal A c cause x h) tt))
+answer_legal A c rooms acks (Commit agent) = at_channel_legal A c agent (if_up c (with_draft (commits c))) rooms (λ x h. if_up_legal A c (with_draft (commits c)) x (by_draft_legal A c x.draft (Err NoDraft) (commits c x) tt (legal_effect A c (happening c Fine (At x.side.name (ByAgent Adopt) ∷ [])) tt (tt, tt))))
+answer_legal A c rooms acks (StopBefore agent) = at_channel_legal A c agent (stops c StopWithout) rooms (λ x h. legal_effect A (up_again c x.side.name) (happening c Fine (At x.side.name (ByAgent StopWithout) ∷ [])) tt (tt, tt))
+answer_legal A c rooms acks (StopAfter agent) = at_channel_legal A c agent (with_draft (stops c StopWith)) rooms (λ x h. by_draft_legal A c x.draft (Err NoDraft) (stops c StopWith x) tt (legal_effect A (up_again c x.side.name) (happening c Fine (At x.side.name (ByAgent StopWith) ∷ [])) tt (tt, tt)))
+answer_legal A c rooms acks StopMaster = stops_legal (nat_lt c.world.run.number last_run)
+  where
+    stops_legal : (b : Bool) → Legal A c (does c (if b then record (happening c Fine (Restart ∷ map hello_to c.world.channels)) { registers = new_registers } else record (happening c Fine (Halt ∷ [])) { registers = new_registers }))
+    stops_legal true = legal_effect A c (record (happening c Fine (Restart ∷ map hello_to c.world.channels)) { registers = new_registers }) tt (tt, hellos_ok A c.world.channels)
+    stops_legal false = legal_effect A c (record (happening c Fine (Halt ∷ [])) { registers = new_registers }) tt (tt, tt)
+answer_legal A c rooms acks (Take stream) = takes_legal A c stream (stream_at c stream)
+
+instead_legal : (A : Numbered → ℕ → Type 0) (c : Cluster) (r : Result Done StepRefusal) (d : Done) → Legal A c (Ok d) → Legal A c (instead r d)
+instead_legal A c (Ok done) d m = m
+instead_legal A c (Err e) d m = tt
+
+fallen_legal : (A : Numbered → ℕ → Type 0) (c : Cluster) → Each Roomy c.world.channels → ((number : ℕ) → PostOk A (master_of c) (post_at c number)) → (s : Step) → Legal A c (fallen_answer c s)
+fallen_legal A c rooms acks (Send stream call) = answer_legal A c rooms acks (Send stream call)
+fallen_legal A c rooms acks (Deliver number) = instead_legal A c (answer c (Deliver number)) (master_falls c) (legal_effect A c (record (happening c Fell (Halt ∷ [])) { registers = new_registers }) tt (tt, tt))
+fallen_legal A c rooms acks Allocate = instead_legal A c (answer c Allocate) (master_falls c) (legal_effect A c (record (happening c Fell (Halt ∷ [])) { registers = new_registers }) tt (tt, tt))
+fallen_legal A c rooms acks (Tick now) = instead_legal A c (answer c (Tick now)) (master_falls (with_tick c now)) (legal_effect A (with_tick c now) (record (happening (with_tick c now) Fell (Halt ∷ [])) { registers = new_registers }) tt (tt, tt))
+fallen_legal A c rooms acks (LoseAgent agent) = instead_legal A c (answer c (LoseAgent agent)) (master_falls c) (legal_effect A c (record (happening c Fell (Halt ∷ [])) { registers = new_registers }) tt (tt, tt))
+fallen_legal A c rooms acks (HangUp stream) = instead_legal A c (answer c (HangUp stream)) (master_falls c) (legal_effect A c (record (happening c Fell (Halt ∷ [])) { registers = new_registers }) tt (tt, tt))
+fallen_legal A c rooms acks (Prepare agent cause) = instead_legal A c (answer c (Prepare agent cause)) (agent_falls c agent StopWithout) (legal_effect A (fallen_too c agent) (happening (fallen_too c agent) Fell (At agent (ByAgent StopWithout) ∷ [])) tt (tt, tt))
+fallen_legal A c rooms acks (Commit agent) = answer_legal A c rooms acks (Commit agent)
+fallen_legal A c rooms acks (StopBefore agent) = instead_legal A c (answer c (StopBefore agent)) (agent_falls c agent StopWithout) (legal_effect A (fallen_too c agent) (happening (fallen_too c agent) Fell (At agent (ByAgent StopWithout) ∷ [])) tt (tt, tt))
+fallen_legal A c rooms acks (StopAfter agent) = instead_legal A c (answer c (StopAfter agent)) (agent_falls c agent StopWith) (legal_effect A (fallen_too c agent) (happening (fallen_too c agent) Fell (At agent (ByAgent StopWith) ∷ [])) tt (tt, tt))
+fallen_legal A c rooms acks StopMaster = by_test A c (nat_lt c.world.run.number last_run) (Ok (new_master_falls c)) (answer c StopMaster) (legal_effect A c (record (happening c Fell (Restart ∷ Halt ∷ [])) { registers = new_registers }) tt (tt, (tt, tt))) (answer_legal A c rooms acks StopMaster)
+fallen_legal A c rooms acks (Take stream) = answer_legal A c rooms acks (Take stream)
+
+step_legal : (A : Numbered → ℕ → Type 0) (c : Cluster) → Each Roomy c.world.channels → ((number : ℕ) → PostOk A (master_of c) (post_at c number)) → (s : Marked) → Legal A c (step_marked c s)
+step_legal A c rooms acks s = by_test A c (nat_le last_number c.entries) (Err HistoryFull) (if s.fell then fallen_answer c s.step else answer c s.step) tt
+    (by_test A c s.fell (fallen_answer c s.step) (answer c s.step) (fallen_legal A c rooms acks s.step) (answer_legal A c rooms acks s.step))
+
+-- histories
+
+after_append : (hs more : List Happening) (w : World) → after_all (hs ++ more) w ≡ after_all more (after_all hs w)
+after_append [] more w = refl
+after_append (h ∷ hs) more w = after_append hs more (after w h)
+
+trail_append : (hs more : List Happening) (w : World) (marks : List Mark) → trail (hs ++ more) w marks ≡ trail more (after_all hs w) (trail hs w marks)
+trail_append [] more w marks = refl
+trail_append (h ∷ hs) more w marks = trail_append hs more (after w h) (marks_by w h ++ marks)
+
+-- an update that a call of its task's framework acknowledged, or that the opening counted
+abbrev pub AckedBy : List Durable → List Mark → List Post → Numbered → ℕ → Type 0
+AckedBy records marks posts key k = (j : Job) × IsOneOf j (jobs_of marks ++ recorded_jobs records) × (j.key ≡ key) × (WasSent j.framework key k posts ⊎ WasCounted key k (recorded_tasks records))
+
+sent_more : (framework key : Numbered) (k : ℕ) (posts more : List Post) → WasSent framework key k posts → WasSent framework key k (posts ++ more)
+sent_more framework key k [] more h = absurd h
+sent_more framework key k (p ∷ posts) more (inl n) = inl n
+sent_more framework key k (p ∷ posts) more (inr h) = inr (sent_more framework key k posts more h)
+
+jobs_more : (ms marks : List Mark) (old : List Job) (j : Job) → IsOneOf j (jobs_of marks ++ old) → IsOneOf j (jobs_of (ms ++ marks) ++ old)
+jobs_more [] marks old j h = h
+jobs_more (Made m ∷ ms) marks old j h = jobs_more ms marks old j h
+jobs_more (Used u ∷ ms) marks old j h = subst (IsOneOf j) (sym (append_assoc u.jobs (jobs_of (ms ++ marks)) old)) (in_behind u.jobs (jobs_of (ms ++ marks) ++ old) j (jobs_more ms marks old j h))
+
+jobs_grow : (hs : List Happening) (w : World) (marks : List Mark) (old : List Job) (j : Job) → IsOneOf j (jobs_of marks ++ old) → IsOneOf j (jobs_of (trail hs w marks) ++ old)
+jobs_grow [] w marks old j h = h
+jobs_grow (x ∷ hs) w marks old j h = jobs_grow hs (after w x) (marks_by w x ++ marks) old j (jobs_more (marks_by w x) marks old j h)
+
+acked_more : (records : List Durable) (hs : List Happening) (w : World) (marks : List Mark) (posts more : List Post) (key : Numbered) (k : ℕ) → AckedBy records marks posts key k → AckedBy records (trail hs w marks) (posts ++ more) key k
+acked_more records hs w marks posts more key k h = (h.0, jobs_grow hs w marks (recorded_jobs records) h.0 h.1, h.2, by h.3)
+  where
+    by : WasSent h.0.framework key k posts ⊎ WasCounted key k (recorded_tasks records) → WasSent h.0.framework key k (posts ++ more) ⊎ WasCounted key k (recorded_tasks records)
+    by (inl s) = inl (sent_more h.0.framework key k posts more s)
+    by (inr c) = inr c
+
+-- delivering an ACKNOWLEDGE
+
+find_is : (id : Numbered) (fs : List Framework) (f : Framework) → find (λ (g : Framework). same g.id id) fs ≡ Some f → f.id ≡ id
+find_is id [] f e = absurd cc
+find_is id (g ∷ fs) f e = by (same g.id id) refl e (find_is id fs f)
+  where
+    by : (t : Bool) → same g.id id ≡ t → find (λ (g : Framework). same g.id id) (g ∷ fs) ≡ Some f → (find (λ (g : Framework). same g.id id) fs ≡ Some f → f.id ≡ id) → f.id ≡ id
+    by true d k rest = (let found_it : Some g ≡ Some f = rw d at k in let is : g ≡ f = cc in subst (λ (x : Framework). x.id ≡ id) is (same_is g.id id d))
+    by false d k rest = rest (rw d at k)
+
+sent_at : (posts : List Post) (n : ℕ) (stream : Option Numbered) (framework : Numbered) (agent task : List ℕ) (uuid : Update) → slice_get posts n ≡ Some (Called stream (Acknowledge framework agent task uuid)) → WasSent framework uuid.key uuid.k posts
+sent_at [] n stream framework agent task uuid e = absurd cc
+sent_at (p ∷ posts) zero stream framework agent task uuid e = (let is : p ≡ Called stream (Acknowledge framework agent task uuid) = cc in inl (subst (Names framework uuid.key uuid.k) (sym is) (refl, refl, refl)))
+sent_at (p ∷ posts) (suc n) stream framework agent task uuid e = inr (sent_at posts n stream framework agent task uuid e)
+
+any_placed : (P : Placed → Type 0) (test : Placed → Bool) (ps : List Placed) → Each P ps → list_any test ps ≡ true → (p : Placed) × P p × (test p ≡ true)
+any_placed P test [] h e = absurd cc
+any_placed P test (p ∷ ps) h e = by (test p) refl e (any_placed P test ps h.1)
+  where
+    by : (t : Bool) → test p ≡ t → list_any test (p ∷ ps) ≡ true → (list_any test ps ≡ true → (q : Placed) × P q × (test q ≡ true)) → (q : Placed) × P q × (test q ≡ true)
+    by true d k rest = (p, h.0, d)
+    by false d k rest = rest (rw d at k)
+
+all_from : (rs : List Durable) (marks : List Mark) (a : List ℕ) (j : Job) → From rs a marks j → IsOneOf j (jobs_of marks ++ recorded_jobs rs)
+all_from rs marks a j (inl h) = in_front_of (jobs_of marks) (recorded_jobs rs) j (on_of a marks j h)
+all_from rs marks a j (inr h) = in_behind (jobs_of marks) (recorded_jobs rs) j (rec_of a rs j h)
+
+booked_placed : (P : Job → Type 0) (s : Side) → Each (λ b. P b.job) s.booked → Each (λ (p : Placed). P p.booked.job) (placed_on s)
+booked_placed P s h = each_of_map s.booked h
+  where
+    each_of_map : (bs : List Booked) → Each (λ b. P b.job) bs → Each (λ (p : Placed). P p.booked.job) (map (λ b. record { agent = s.name; booked = b }) bs)
+    each_of_map [] h = tt
+    each_of_map (b ∷ bs) h = (h.0, each_of_map bs h.1)
+
+placed_from : (rs : List Durable) (run : Run) (marks : List Mark) (cs : List Channel) → Each (ChannelOk rs run marks) cs → Each (λ p. IsOneOf p.booked.job (jobs_of marks ++ recorded_jobs rs)) (flat_map placed_on (sides_of cs))
+placed_from rs run marks [] h = tt
+placed_from rs run marks (c ∷ cs) h =
+    each_append (λ p. IsOneOf p.booked.job (jobs_of marks ++ recorded_jobs rs)) (placed_on c.side) (flat_map placed_on (sides_of cs))
+    (booked_placed (λ j. IsOneOf j (jobs_of marks ++ recorded_jobs rs)) c.side (each_map (λ b. From rs c.side.name marks b.job) (λ b. IsOneOf b.job (jobs_of marks ++ recorded_jobs rs)) (λ b k. all_from rs marks c.side.name b.job k) c.side.booked h.0.1.booked))
+    (placed_from rs run marks cs h.1)
+
+ack_tells : (rs : List Durable) (c : Cluster) (marks : List Mark) → OriginOk rs c.world marks → (n : ℕ) (stream : Option Numbered) (framework : Numbered) (agent task : List ℕ) (uuid : Update) → slice_get c.posts n ≡ Some (Called stream (Acknowledge framework agent task uuid)) →
+    (f : Framework) → framework_of (master_of c) framework ≡ Some f → list_any (is_last_heard f agent task uuid.key uuid.k) (all_booked (master_of c)) ≡ true → AckedBy rs marks c.posts uuid.key uuid.k
+ack_tells rs c marks ok n stream framework agent task uuid at f is any =
+    (p.0.booked.job, p.1, key, inl (subst (λ g. WasSent g uuid.key uuid.k c.posts) (sym (own ∙ find_is framework c.registers.frameworks f is)) (sent_at c.posts n stream framework agent task uuid at)))
+  where
+    p : (q : Placed) × IsOneOf q.booked.job (jobs_of marks ++ recorded_jobs rs) × (is_last_heard f agent task uuid.key uuid.k q ≡ true)
+    p = any_placed (λ q. IsOneOf q.booked.job (jobs_of marks ++ recorded_jobs rs)) (is_last_heard f agent task uuid.key uuid.k) (all_booked (master_of c)) (placed_from rs c.world.run marks c.world.channels ok.channels) any
+
+    first : ((same p.0.booked.job.key uuid.key && is_task_of f.id task p.0 && bytes_eq p.0.agent agent) ≡ true) × ((p.0.booked.heard == suc uuid.k) ≡ true)
+    first = both_true (same p.0.booked.job.key uuid.key && is_task_of f.id task p.0 && bytes_eq p.0.agent agent) (p.0.booked.heard == suc uuid.k) p.2
+
+    second : ((same p.0.booked.job.key uuid.key && is_task_of f.id task p.0) ≡ true) × (bytes_eq p.0.agent agent ≡ true)
+    second = both_true (same p.0.booked.job.key uuid.key && is_task_of f.id task p.0) (bytes_eq p.0.agent agent) first.0
+
+    third : (same p.0.booked.job.key uuid.key ≡ true) × (is_task_of f.id task p.0 ≡ true)
+    third = both_true (same p.0.booked.job.key uuid.key) (is_task_of f.id task p.0) second.0
+
+    key : p.0.booked.job.key ≡ uuid.key
+    key = same_is p.0.booked.job.key uuid.key third.0
+
+    own : p.0.booked.job.framework ≡ f.id
+    own = same_is p.0.booked.job.framework f.id (both_true (same p.0.booked.job.framework f.id) (bytes_eq p.0.booked.job.name task) third.1).0
+
+call_tells : (rs : List Durable) (c : Cluster) (marks : List Mark) → OriginOk rs c.world marks → (n : ℕ) (stream : Option Numbered) (call : Call) → slice_get c.posts n ≡ Some (Called stream call) → CallOk (AckedBy rs marks c.posts) (master_of c) call
+call_tells rs c marks ok n stream (Subscribe id role) e = tt
+call_tells rs c marks ok n stream (Teardown framework) e = tt
+call_tells rs c marks ok n stream (Accept framework offers tasks seconds) e = tt
+call_tells rs c marks ok n stream (Decline framework offers seconds) e = tt
+call_tells rs c marks ok n stream (Revive framework) e = tt
+call_tells rs c marks ok n stream (Suppress framework) e = tt
+call_tells rs c marks ok n stream (calls.Kill framework task agent) e = tt
+call_tells rs c marks ok n stream (Acknowledge framework agent task uuid) e = λ f is any. ack_tells rs c marks ok n stream framework agent task uuid e f is any
+call_tells rs c marks ok n stream (Reconcile framework tasks) e = tt
+
+post_tells : (rs : List Durable) (c : Cluster) (marks : List Mark) → OriginOk rs c.world marks → (n : ℕ) (o : Option Post) → slice_get c.posts n ≡ o → PostOk (AckedBy rs marks c.posts) (master_of c) o
+post_tells rs c marks ok n None e = tt
+post_tells rs c marks ok n (Some (Called stream call)) e = call_tells rs c marks ok n stream call e
+post_tells rs c marks ok n (Some (Down agent place)) e = tt
+post_tells rs c marks ok n (Some (Up agent place)) e = tt
+
+number_tells : (rs : List Durable) (c : Cluster) (marks : List Mark) → OriginOk rs c.world marks → (number : ℕ) → PostOk (AckedBy rs marks c.posts) (master_of c) (post_at c number)
+number_tells rs c marks ok zero = tt
+number_tells rs c marks ok (suc n) = post_tells rs c marks ok n (slice_get c.posts n) refl
+
+-- all histories
+
+pub record HistoryOk (records : List Durable) (start : World) (h : History) : Type 0 where
+  pub path : h.state.world ≡ after_all h.happenings start
+  pub world : WorldOk h.state.world
+  pub verdicts : Each (λ (e : Entry). NotNoRoom e.verdict) h.entries
+  pub origin : OriginOk records h.state.world (trail h.happenings start [])
+  pub acked : AllAcked (AckedBy records (trail h.happenings start []) h.state.posts) h.state.world
+
+extended_ok : (records : List Durable) (start : World) (h : History) (r : Result Done StepRefusal) → Legal (AckedBy records (trail h.happenings start []) h.state.posts) h.state r → HistoryOk records start h → HistoryOk records start (extended h r)
+extended_ok records start h (Ok d) l ok = record {
+  path = l.0 ∙ (ap (after_all d.happenings) ok.path ∙ sym (after_append h.happenings d.happenings start));
+  world = subst WorldOk (sym l.0) (world_after_all d.happenings h.state.world ok.world);
+  verdicts = each_append (λ (e : Entry). NotNoRoom e.verdict) h.entries (d.entry ∷ []) ok.verdicts (l.1, tt);
+  origin = subst (OriginOk records d.after.world) trails (subst (λ w. OriginOk records w (trail d.happenings h.state.world marks)) (sym l.0) (origin_all records d.happenings h.state.world marks ok.origin));
+  acked = subst (λ ms. AllAcked (AckedBy records ms d.after.posts) d.after.world) trails (subst (λ ps. AllAcked (AckedBy records (trail d.happenings h.state.world marks) ps) d.after.world) (sym l.3.1)
+      (subst (AllAcked (AckedBy records (trail d.happenings h.state.world marks) (h.state.posts ++ l.3.0))) (sym l.0) wider));
+}
+  where
+    marks : List Mark
+    marks = trail h.happenings start []
+
+    trails : trail d.happenings h.state.world (trail h.happenings start []) ≡ trail (h.happenings ++ d.happenings) start []
+    trails = subst (λ w. trail d.happenings w (trail h.happenings start []) ≡ trail (h.happenings ++ d.happenings) start []) (sym ok.path) (sym (trail_append h.happenings d.happenings start []))
+
+    wider : AllAcked (AckedBy records (trail d.happenings h.state.world (trail h.happenings start [])) (h.state.posts ++ l.3.0)) (after_all d.happenings h.state.world)
+    wider = each_map (Carried Always (AckedBy records marks h.state.posts)) (Carried Always (AckedBy records (trail d.happenings h.state.world marks) (h.state.posts ++ l.3.0)))
+        (λ c k. told_wider Always Always (AckedBy records marks h.state.posts) (AckedBy records (trail d.happenings h.state.world marks) (h.state.posts ++ l.3.0)) (λ j x. x) (λ key i x. acked_more records d.happenings h.state.world marks h.state.posts l.3.0 key i x) c k)
+        (after_all d.happenings h.state.world).channels (worlds_acked (AckedBy records marks h.state.posts) d.happenings h.state.world l.2 ok.acked)
+extended_ok records start h (Err refusal) l ok = ok
+
+extend_ok : (records : List Durable) (start : World) (ss : List Marked) (h : History) → HistoryOk records start h → HistoryOk records start (extend_all h ss)
+extend_ok records start [] h ok = ok
+extend_ok records start (s ∷ ss) h ok = extend_ok records start ss (extended h (step_marked h.state s))
+    (extended_ok records start h (step_marked h.state s) (step_legal (AckedBy records (trail h.happenings start []) h.state.posts) h.state (all_room h.state.world ok.world) (number_tells records h.state (trail h.happenings start []) ok.origin) s) ok)
+
+-- the opening
+
+counted_left : (key : Numbered) (k : ℕ) (ts us : List RecordedTask) → WasCounted key k ts → WasCounted key k (ts ++ us)
+counted_left key k [] us h = absurd h
+counted_left key k (t ∷ ts) us (inl h) = inl h
+counted_left key k (t ∷ ts) us (inr h) = inr (counted_left key k ts us h)
+
+counted_right : (key : Numbered) (k : ℕ) (ts us : List RecordedTask) → WasCounted key k us → WasCounted key k (ts ++ us)
+counted_right key k [] us h = h
+counted_right key k (t ∷ ts) us h = inr (counted_right key k ts us h)
+
+tasks_acked : (records : List Durable) (posts : List Post) (ts : List RecordedTask) → ((j : Job) → IsOneOf j (map (λ t. t.job) ts) → IsOneOf j (recorded_jobs records)) → ((key : Numbered) (k : ℕ) → WasCounted key k ts → WasCounted key k (recorded_tasks records)) → Each (TaskTold Always (AckedBy records [] posts)) ts
+tasks_acked records posts [] f g = tt
+tasks_acked records posts (t ∷ ts) f g = ((tt, λ k lt. (t.job, f t.job (inl refl), refl, inr (g t.job.key k (inl (refl, lt))))), tasks_acked records posts ts (λ j h. f j (inr h)) (λ key k h. g key k (inr h)))
+
+channels_acked : (records : List Durable) (posts : List Post) (ds : List Durable) → ((j : Job) → IsOneOf j (recorded_jobs ds) → IsOneOf j (recorded_jobs records)) → ((key : Numbered) (k : ℕ) → WasCounted key k (recorded_tasks ds) → WasCounted key k (recorded_tasks records)) → Each (Carried Always (AckedBy records [] posts)) (map open_channel ds)
+channels_acked records posts [] f g = tt
+channels_acked records posts (d ∷ ds) f g = (
+  record { booked = tt; waiting = tt; states = (tasks_acked records posts d.tasks (λ j h. f j (in_front_of (map (λ t. t.job) d.tasks) (recorded_jobs ds) j h)) (λ key k h. g key k (counted_left key k d.tasks (recorded_tasks ds) h)), tt); downs = tt; ups = tt; pending = tt },
+  channels_acked records posts ds (λ j h. f j (in_behind (map (λ t. t.job) d.tasks) (recorded_jobs ds) j h)) (λ key k h. g key k (counted_right key k d.tasks (recorded_tasks ds) h)),
+)
+
+opening_acked : (run : ℕ) (records : List Durable) → AllAcked (AckedBy records (trail (opening run records).happenings (open_world run records) []) (opening run records).state.posts) (opening run records).state.world
+opening_acked run records = each_map (Carried Always (AckedBy records [] [])) (Carried Always (AckedBy records (trail hs (open_world run records) []) (opening run records).state.posts))
+    (λ c k. told_wider Always Always (AckedBy records [] []) (AckedBy records (trail hs (open_world run records) []) (opening run records).state.posts) (λ j x. x) (λ key i x. acked_more records hs (open_world run records) [] [] (opening run records).state.posts key i x) c k)
+    (opening run records).state.world.channels (worlds_acked (AckedBy records [] []) hs (open_world run records) (hellos_ok (AckedBy records [] []) (open_world run records).channels) (channels_acked records [] records (λ j h. h) (λ key k h. h)))
+  where
+    hs : List Happening
+    hs = map hello_to (open_world run records).channels
+
+pub history_ok : (run : ℕ) (records : List Durable) (steps : List Marked) → GoodOpening run records → HistoryOk records (open_world run records) (history run records steps)
+history_ok run records steps good = extend_ok records (open_world run records) steps (opening run records) (record {
+  path = refl;
+  world = world_after_all (map hello_to (open_world run records).channels) (open_world run records) (world_opened run records (opening_good run records good));
+  verdicts = (tt, tt);
+  origin = origin_all records (map hello_to (open_world run records).channels) (open_world run records) [] (origin_opened run records good);
+  acked = opening_acked run records;
+})
+
+-- the laws
+
+no_lack : (v : Verdict) → NotNoRoom v → v ≢ AgentRefused NoRoom
+no_lack v h e = subst NotNoRoom e h
+
+pub history_fits : (run : ℕ) (records : List Durable) (steps : List Marked) → GoodOpening run records → AllFit (history run records steps).state.world
+history_fits run records steps good = all_fit (history run records steps).state.world (history_ok run records steps good).world
+
+pub history_has_room : (run : ℕ) (records : List Durable) (steps : List Marked) → GoodOpening run records → Each (λ (e : Entry). e.verdict ≢ AgentRefused NoRoom) (history run records steps).entries
+history_has_room run records steps good = each_map (λ (e : Entry). NotNoRoom e.verdict) (λ (e : Entry). e.verdict ≢ AgentRefused NoRoom) (λ e h. no_lack e.verdict h) (history run records steps).entries (history_ok run records steps good).verdicts
+
+pub history_origin : (run : ℕ) (records : List Durable) (steps : List Marked) → GoodOpening run records → HasOrigin records (history run records steps).state.world (trail (history run records steps).happenings (open_world run records) [])
+history_origin run records steps good = has_origin records (history run records steps).state.world (trail (history run records steps).happenings (open_world run records) []) (history_ok run records steps good).origin
+
+pub history_found : (run : ℕ) (records : List Durable) (steps : List Marked) (later : ℕ) (found : List Durable) → GoodOpening run records → (history run records steps).state.world.run.number < later → IsFound (history run records steps).state.world.channels found → GoodOpening later found
+history_found run records steps later found good lt is =
+    found_good records (trail (history run records steps).happenings (open_world run records) []) (history run records steps).state.world later found
+    (history_ok run records steps good).world (history_ok run records steps good).origin lt is
+
+-- jobs with one key are one job
+once_same : (js : List Job) (i j : Job) → KeysOnce js → IsOneOf i js → IsOneOf j js → i.key ≡ j.key → i ≡ j
+once_same [] i j h k l e = absurd k
+once_same (x ∷ js) i j h (inl a) (inl b) e = sym a ∙ b
+once_same (x ∷ js) i j h (inl a) (inr l) e = absurd (apart_one x.key js j h.0 l (sym e ∙ ap (λ (y : Job). y.key) (sym a)))
+once_same (x ∷ js) i j h (inr k) (inl b) e = absurd (apart_one x.key js i h.0 k (e ∙ ap (λ (y : Job). y.key) (sym b)))
+once_same (x ∷ js) i j h (inr k) (inr l) e = once_same js i j h.1 k l e
+
+task_acked : (records : List Durable) (marks : List Mark) (posts : List Post) (name : List ℕ) (t : RecordedTask) → KeysOnce (jobs_of marks ++ recorded_jobs records) → From records name marks t.job → TaskTold Always (AckedBy records marks posts) t → (k : ℕ) → k < t.updates.acknowledged → WasSent t.job.framework t.job.key k posts ⊎ WasCounted t.job.key k (recorded_tasks records)
+task_acked records marks posts name t once from told k lt =
+    let a = told.1 k lt in
+    let is : a.0 ≡ t.job = once_same (jobs_of marks ++ recorded_jobs records) a.0 t.job once a.1 (all_from records marks name t.job from) a.2 in
+    subst (λ (j : Job). WasSent j.framework t.job.key k posts ⊎ WasCounted t.job.key k (recorded_tasks records)) is a.3
+
+channel_owned : (records : List Durable) (run : Run) (marks : List Mark) (posts : List Post) (c : Channel) → KeysOnce (jobs_of marks ++ recorded_jobs records) → ChannelOk records run marks c → Carried Always (AckedBy records marks posts) c → Each (λ t. (k : ℕ) → k < t.updates.acknowledged → WasSent t.job.framework t.job.key k posts ⊎ WasCounted t.job.key k (recorded_tasks records)) c.agent.durable.tasks
+channel_owned records run marks posts c once ok acked = each_both (TaskTold (From records c.side.name marks) Any) (TaskTold Always (AckedBy records marks posts)) (λ t. (k : ℕ) → k < t.updates.acknowledged → WasSent t.job.framework t.job.key k posts ⊎ WasCounted t.job.key k (recorded_tasks records))
+    (λ t f a. task_acked records marks posts c.side.name t once f.0 a) c.agent.durable.tasks ok.1.states.0 acked.states.0
+
+pub history_acknowledged : (run : ℕ) (records : List Durable) (steps : List Marked) → GoodOpening run records → AcknowledgedByOwner records (history run records steps).state.world (history run records steps).state.posts
+history_acknowledged run records steps good = each_both (ChannelOk records h.state.world.run marks) (Carried Always (AckedBy records marks h.state.posts)) (λ c. Each (λ t. (k : ℕ) → k < t.updates.acknowledged → WasSent t.job.framework t.job.key k h.state.posts ⊎ WasCounted t.job.key k (recorded_tasks records)) c.agent.durable.tasks)
+    (λ c ok acked. channel_owned records h.state.world.run marks h.state.posts c all.origin.keys.once ok acked) h.state.world.channels all.origin.channels all.acked
+  where
+    h : History
+    h = history run records steps
+
+    marks : List Mark
+    marks = trail (history run records steps).happenings (open_world run records) []
+
+    all : HistoryOk records (open_world run records) (history run records steps)
+    all = history_ok run records steps good

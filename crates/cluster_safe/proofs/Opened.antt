@@ -1,0 +1,39 @@
+-- A good opening has the facts.
+use Rattle.std.proofs.Common.{◌≡◌, ℕ, zero-le, le_refl, true, false, List, [], ◌++◌, map, refl, sym, subst, inr, append-nil, le_of_lt}
+use Rattle.std.specs.List.{AllByRecursion as Each}
+use Rattle.mails.specs.declared.record.Durable.{Durable}
+use Rattle.cluster_model.specs.Ids.{first_of_run}
+use Rattle.cluster_model.specs.Sides.{new_run, job_rows}
+use Rattle.cluster_model.specs.Channels.{open_channel}
+use Rattle.cluster_safe.specs.Facts.{Less, Stake, live, task_stake, Distinct, AtMost, Kept, IsGood}
+
+pub kept_opening : (d : Durable) (run : ℕ) → IsGood run d → Kept (record { run = new_run run; channel = open_channel d })
+kept_opening o run g = (
+  record { ever = λ s. []; peak = 0; told = λ s. o.run; latest = run },
+  record {
+    past = record { none = λ s lt. refl; ordered = λ s. tt; rises = λ s u le. le_refl o.run; runs = λ s. le_of_lt g.later };
+    run = le_refl run;
+    when_open = λ (e : false ≡ true). absurd cc;
+    when_shut = λ e. record { offers = refl; booked = refl; closed = inr g.later };
+    states = (
+      record {
+        owns = refl;
+        told = refl;
+        peak = zero-le;
+        applied = λ (e : false ≡ true). absurd cc;
+        distinct = at Distinct g.once;
+        below = at (Each (λ s. Less s.job.key (first_of_run run))) g.below;
+        room = at (λ ss. AtMost (job_rows (live ss)) o.total) g.fits;
+        ends = λ (e : false ≡ true). absurd cc;
+      },
+      tt,
+    );
+    downs = tt;
+    ups = tt;
+    pending = tt;
+  },
+  λ name. zero-le,
+)
+  where
+    at : (P : List Stake → Type 0) → P (map task_stake o.tasks) → P (map task_stake o.tasks ++ [])
+    at P h = subst P (sym (append-nil (map task_stake o.tasks))) h

@@ -1,0 +1,159 @@
+-- Every channel of a world keeps its facts.
+use Rattle.std.proofs.Common.{◌≡◌, ℕ, suc, ◌+◌, true, not, ◌&&◌, List, [], ◌∷◌, ◌++◌, length, map, refl, sym, ◌∙◌, subst, bytes_eq, arith}
+use Rattle.std.specs.List.{AllByRecursion as Each}
+use Rattle.std.proofs.lemmas.Bool.{cond_both}
+use Rattle.std.proofs.lemmas.Bool.Decides.{nat_tests}
+use Rattle.names_core.specs.Ids.{Numbered}
+use Rattle.quantity.specs.declared.rows.Row.{Row}
+use Rattle.quantity.specs.Rows.{covers}
+use Rattle.mails.specs.declared.task.Job.{Job}
+use Rattle.mails.specs.declared.mail.Command.{Command}
+use Rattle.mails.specs.declared.mail.Command.TheVariants.{Launch, Kill, Ack, EndFramework}
+use Rattle.mails.specs.declared.mail.MasterMail.TheVariants.{Issued}
+use Rattle.mails.specs.declared.record.Durable.{Durable}
+use Rattle.cluster_model.specs.Ids.{same, first_of_run, following, is_among}
+use Rattle.cluster_model.specs.Sides.{Run, Side, new_run, torn_down, offer_rows, taken, Sending, sends_nothing, issue, may_launch, books, Launching, launch_one, launch_all, is_good, used_offers, without_used, may_offer, halted, restarted, SideStep, MakeOffer, Withdraw, LaunchFrom, SendKill, SendAck, SendEnd, SendHello, SendAgain, Lose, side_step}
+use Rattle.cluster_model.specs.Channels.{Channel, InRun, ChannelStep, ByMaster, Hear, ByAgent, happens, World, Happening, At, TearDown, Restart, Halt, behind, in_front, at_agent, with_side, halted_run, after, after_all, open_world, Fits, AllFit}
+use Rattle.cluster_safe.specs.Facts.{UpTo, StateOk, UpOk, drafted, mails_of, states_of, Kept, RoomForAll, AllGood}
+use Rattle.cluster_safe.proofs.Ids.{same_is, upto_trans, upto_refl, upto_after}
+use Rattle.cluster_safe.proofs.Orders.{each_map}
+use Rattle.cluster_safe.proofs.Drafts.{both_true}
+use Rattle.cluster_safe.proofs.Master.{up_later, state_later}
+use Rattle.cluster_safe.proofs.Kept.{kept_torn, kept, kept_halted, kept_restarted, fits_from_kept}
+use Rattle.cluster_safe.proofs.Room.{always_room}
+use Rattle.cluster_safe.proofs.Opened.{kept_opening}
+
+-- a run in which more ids were given out
+pub record Later (run next : Run) : Type 0 where
+  pub number : next.number ≡ run.number
+  pub torn : next.torn ≡ run.torn
+  pub key : UpTo run.next_key next.next_key
+  pub of_run : next.next_key.run ≡ run.next_key.run
+  pub offer : UpTo run.next_offer next.next_offer
+  pub offer_of_run : next.next_offer.run ≡ run.next_offer.run
+
+pub later_refl : (run : Run) → Later run run
+later_refl run = record { number = refl; torn = refl; key = upto_refl run.next_key; of_run = refl; offer = upto_refl run.next_offer; offer_of_run = refl }
+
+later_trans : (a b c : Run) → Later a b → Later b c → Later a c
+later_trans a b c h k = record { number = k.number ∙ h.number; torn = k.torn ∙ h.torn; key = upto_trans a.next_key b.next_key c.next_key h.key k.key; of_run = k.of_run ∙ h.of_run; offer = upto_trans a.next_offer b.next_offer c.next_offer h.offer k.offer; offer_of_run = k.offer_of_run ∙ h.offer_of_run }
+
+kept_later : (run next : Run) (c : Channel) → Later run next → Kept (record { run = run; channel = c }) → Kept (record { run = next; channel = c })
+kept_later run next c later k = subst (λ n. Kept (at n next.torn)) (sym later.number) (subst (λ torn. Kept (at run.number torn)) (sym later.torn) moved)
+  where
+    at : ℕ → List Numbered → InRun
+    at number torn = record { run = record { number = number; serves = next.serves; torn = torn; next_key = next.next_key; next_offer = next.next_offer }; channel = c }
+
+    l : InRun
+    l = record { run = run; channel = c }
+
+    moved : Kept (at run.number run.torn)
+    moved = (
+      k.0,
+      record {
+        past = k.1.past;
+        run = k.1.run;
+        when_open = λ e. let o = k.1.when_open e in record { session = o.session; told = o.told; issued = o.issued; known = o.known; torn = o.torn; covered = o.covered };
+        when_shut = λ e. let o = k.1.when_shut e in record { offers = o.offers; booked = o.booked; closed = o.closed };
+        states = each_map (StateOk k.0 l.next_key l.total) (StateOk k.0 next.next_key l.total) (state_later k.0 l.next_key next.next_key l.total later.key) (states_of l) k.1.states;
+        downs = k.1.downs;
+        ups = each_map (UpOk k.0 l.next_key l.total (states_of l)) (UpOk k.0 next.next_key l.total (states_of l)) (up_later k.0 l.next_key next.next_key l.total (states_of l) later.key) l.to_master k.1.ups;
+        pending = each_map (UpOk k.0 l.next_key l.total (drafted l.draft)) (UpOk k.0 next.next_key l.total (drafted l.draft)) (up_later k.0 l.next_key next.next_key l.total (drafted l.draft) later.key) (mails_of l.draft) k.1.pending;
+      },
+      k.2,
+    )
+
+-- a step gives out ids alone
+
+same_run : (run next : Run) → next ≡ run → Later run next
+same_run run next e = subst (Later run) (sym e) (later_refl run)
+
+pub issued_run : (x : Sending) (w : Command) → (issue x w).run ≡ x.run
+issued_run x w = cond_both x.side.is_open (record { run = x.run; side = record x.side { waiting = x.side.waiting ++ w ∷ [] }; sent = x.sent ++ Issued x.side.session (suc (x.side.known + length x.side.waiting)) w ∷ [] }) x (λ y. y.run ≡ x.run) (λ e. refl) (λ e. refl)
+
+later_key : (run : Run) (key : Numbered) → same key run.next_key ≡ true → Later run (record run { next_key = following key })
+later_key run key e = subst (λ k. Later run (record run { next_key = following k })) (sym (same_is key run.next_key e)) (record { number = refl; torn = refl; key = upto_after run.next_key run.next_key (upto_refl run.next_key); of_run = refl; offer = upto_refl run.next_offer; offer_of_run = refl })
+
+later_offer : (run : Run) (id : Numbered) → same id run.next_offer ≡ true → Later run (record run { next_offer = following id })
+later_offer run id e = subst (λ k. Later run (record run { next_offer = following k })) (sym (same_is id run.next_offer e)) (record { number = refl; torn = refl; key = upto_refl run.next_key; of_run = refl; offer = upto_after run.next_offer run.next_offer (upto_refl run.next_offer); offer_of_run = refl })
+
+later_one : (framework : Numbered) (ids : List Numbered) (budget : List Row) (x : Launching) (job : Job) → Later x.sending.run (launch_one framework ids budget x job).sending.run
+later_one framework ids budget x job =
+    cond_both (may_launch x.sending.run framework budget x.used job) (record { used = job.resources ++ x.used; sending = issue (books x.sending job) (Launch job ids) }) x (λ y. Later x.sending.run y.sending.run)
+    (λ e. subst (Later x.sending.run) (sym (issued_run (books x.sending job) (Launch job ids))) (later_key x.sending.run job.key (both_true (same job.key x.sending.run.next_key) (same job.framework framework) (both_true (same job.key x.sending.run.next_key && same job.framework framework) (covers budget (job.resources ++ x.used)) e).0).0))
+    (λ e. later_refl x.sending.run)
+
+later_all : (framework : Numbered) (ids : List Numbered) (budget : List Row) (jobs : List Job) (x : Launching) → Later x.sending.run (launch_all framework ids budget jobs x).run
+later_all framework ids budget [] x = later_refl x.sending.run
+later_all framework ids budget (job ∷ jobs) x =
+    later_trans x.sending.run (launch_one framework ids budget x job).sending.run (launch_all framework ids budget (job ∷ jobs) x).run (later_one framework ids budget x job) (later_all framework ids budget jobs (launch_one framework ids budget x job))
+
+pub later_side : (run : Run) (s : Side) (step : SideStep) → Later run (side_step run s step).run
+later_side run s (MakeOffer offer) = cond_both (may_offer run s offer) (sends_nothing (record run { next_offer = following offer.id }) (record s { offers = s.offers ++ offer ∷ [] })) (sends_nothing run s) (λ x. Later run x.run)
+    (λ e. later_offer run offer.id (both_true s.is_open (same offer.id run.next_offer) (both_true (s.is_open && same offer.id run.next_offer) (covers s.total (offer.resources ++ taken s)) e).0).1) (λ e. later_refl run)
+later_side run s (Withdraw ids) = later_refl run
+later_side run s (LaunchFrom framework ids jobs) = cond_both (is_good s framework ids && not (is_among run.torn framework))
+    (launch_all framework ids (offer_rows (used_offers s framework ids)) jobs (record { used = []; sending = sends_nothing run (without_used s framework ids) })) (sends_nothing run s) (λ x. Later run x.run)
+    (λ e. later_all framework ids (offer_rows (used_offers s framework ids)) jobs (record { used = []; sending = sends_nothing run (without_used s framework ids) })) (λ e. later_refl run)
+later_side run s (SendKill key) = same_run run (issue (sends_nothing run s) (Kill key)).run (issued_run (sends_nothing run s) (Kill key))
+later_side run s (SendAck key k) = same_run run (issue (sends_nothing run s) (Ack key k)).run (issued_run (sends_nothing run s) (Ack key k))
+later_side run s (SendEnd framework) = cond_both (is_among run.torn framework) (issue (sends_nothing run s) (EndFramework framework)) (sends_nothing run s) (λ x. Later run x.run)
+    (λ e. same_run run (issue (sends_nothing run s) (EndFramework framework)).run (issued_run (sends_nothing run s) (EndFramework framework))) (λ e. later_refl run)
+later_side run s SendHello = later_refl run
+later_side run s SendAgain = later_refl run
+later_side run s Lose = later_refl run
+
+pub later_step : (run : Run) (c : Channel) (step : ChannelStep) → Later run (happens run c step).run
+later_step run c (ByMaster step) = later_side run c.side step
+later_step run c (Hear place) = later_refl run
+later_step run c (ByAgent step) = later_refl run
+
+-- worlds
+
+abbrev pub AllKept : World → Type 0
+AllKept w = Each (λ c. Kept (record { run = w.run; channel = c })) w.channels
+
+pub step_kept : (agent : List ℕ) (step : ChannelStep) (run : Run) (cs : List Channel) → AllKept (record { run = run; channels = cs }) → AllKept (at_agent agent step run cs) × Later run (at_agent agent step run cs).run
+step_kept agent step run [] k = (tt, later_refl run)
+step_kept agent step run (c ∷ cs) k =
+    let rest = step_kept agent step run cs k.1 in
+    cond_both (bytes_eq c.side.name agent) (in_front (happens run c step) cs) (behind c (at_agent agent step run cs)) (λ w. AllKept w × Later run w.run)
+    (λ e. ((kept (record { run = run; channel = c }) step k.0, each_map (λ d. Kept (record { run = run; channel = d })) (λ d. Kept (record { run = (happens run c step).run; channel = d })) (λ d. kept_later run (happens run c step).run d (later_step run c step)) cs k.1), later_step run c step))
+    (λ e. ((kept_later run (at_agent agent step run cs).run c rest.1 k.0, rest.0), rest.1))
+
+pub record WorldOk (w : World) : Type 0 where
+  pub of_run : w.run.next_key.run ≡ w.run.number
+  pub offer_of_run : w.run.next_offer.run ≡ w.run.number
+  pub kept : AllKept w
+
+mapped : (run next : Run) (f : Channel → Channel) → ((c : Channel) → Kept (record { run = run; channel = c }) → Kept (record { run = next; channel = f c })) → (cs : List Channel) → AllKept (record { run = run; channels = cs }) → AllKept (record { run = next; channels = map f cs })
+mapped run next f g [] h = tt
+mapped run next f g (c ∷ cs) h = (g c h.0, mapped run next f g cs h.1)
+
+pub below_next_run : (key : Numbered) (number : ℕ) → key.run ≡ number → UpTo key (first_of_run (1 + number))
+below_next_run key number e = grind (arith, nat_tests)
+
+pub world_after : (w : World) (h : Happening) → WorldOk w → WorldOk (after w h)
+world_after w (At agent step) ok =
+    let k = step_kept agent step w.run w.channels ok.kept in
+    record { of_run = k.1.of_run ∙ (ok.of_run ∙ sym k.1.number); offer_of_run = k.1.offer_of_run ∙ (ok.offer_of_run ∙ sym k.1.number); kept = k.0 }
+world_after w (TearDown framework) ok = record { of_run = ok.of_run; offer_of_run = ok.offer_of_run; kept = each_map (λ c. Kept (record { run = w.run; channel = c })) (λ c. Kept (record { run = torn_down framework w.run; channel = c })) (λ c. kept_torn (record { run = w.run; channel = c }) framework) w.channels ok.kept }
+world_after w Restart ok = record { of_run = refl; offer_of_run = refl; kept = mapped w.run (new_run (1 + w.run.number)) (with_side restarted) (λ c. kept_restarted (record { run = w.run; channel = c }) (below_next_run w.run.next_key w.run.number ok.of_run)) w.channels ok.kept }
+world_after w Halt ok = record { of_run = ok.of_run; offer_of_run = ok.offer_of_run; kept = mapped w.run (halted_run w.run) (with_side halted) (λ c. kept_halted (record { run = w.run; channel = c })) w.channels ok.kept }
+
+pub world_after_all : (hs : List Happening) (w : World) → WorldOk w → WorldOk (after_all hs w)
+world_after_all [] w ok = ok
+world_after_all (h ∷ hs) w ok = world_after_all hs (after w h) (world_after w h ok)
+
+pub world_opened : (run : ℕ) (ds : List Durable) → AllGood run ds → WorldOk (open_world run ds)
+world_opened run ds good = record { of_run = refl; offer_of_run = refl; kept = each ds good }
+  where
+    each : (ds : List Durable) → AllGood run ds → AllKept (open_world run ds)
+    each [] g = tt
+    each (d ∷ ds) g = (kept_opening d run g.0, each ds g.1)
+
+pub all_fit : (w : World) → WorldOk w → AllFit w
+all_fit w ok = each_map (λ c. Kept (record { run = w.run; channel = c })) Fits (λ c. fits_from_kept (record { run = w.run; channel = c })) w.channels ok.kept
+
+pub all_room : (w : World) → WorldOk w → Each RoomForAll w.channels
+all_room w ok = each_map (λ c. Kept (record { run = w.run; channel = c })) RoomForAll (λ c. always_room (record { run = w.run; channel = c })) w.channels ok.kept

@@ -1,0 +1,6 @@
+pub mod Facts
+pub mod Safe
+pub mod Origin
+pub mod Saved
+pub mod Acknowledged
+pub mod Listed

@@ -1,0 +1,81 @@
+//! The safety law of the cluster: what holds after every list of steps, over every good opening.
+#![tactic(auto)]
+
+ghost use Rattle.cluster_model.specs.Channels.{AllFit};
+ghost use Rattle.cluster_model.specs.Channels.{At, Channel, Hear, open_world};
+ghost use Rattle.cluster_model.specs.Clusters.{Cluster, MailToAgent, master_of};
+ghost use Rattle.cluster_model.specs.Calls.{Given, accepts_all, called};
+ghost use Rattle.cluster_model.specs.Mails.{agent_lost, having_heard, hung_up, mailed, ticked};
+ghost use Rattle.cluster_model.specs.Rounds.{allocated};
+ghost use Rattle.cluster_model.specs.Sides.{Side, sends_nothing};
+ghost use Rattle.cluster_model.specs.Masters.{Doing, Framework, Master, after_doing, moved};
+ghost use Rattle.cluster_model.specs.Openings.{GoodOpening};
+ghost use Rattle.cluster_model.specs.Steps.{Marked, channel_of, done, effect_of, history};
+ghost use Rattle.cluster_safe.specs.Acknowledged.{AcknowledgedByOwner};
+ghost use Rattle.cluster_safe.specs.Listed.{MoveFrom, MoveWithout};
+ghost use Rattle.cluster_safe.specs.Origin.{HasOrigin, launched, trail};
+ghost use Rattle.cluster_safe.specs.Saved.{IsFound};
+ghost use Rattle.cluster_safe.specs.Safe.{NeverLacksRoom};
+ghost use Rattle.mails.specs.declared.call.Call.{Call};
+ghost use Rattle.mails.specs.declared.call.TaskInfo.{TaskInfo};
+ghost use Rattle.mails.specs.declared.mail.AgentMail.{AgentMail};
+ghost use Rattle.names_core.specs.Ids.{Numbered};
+ghost use Rattle.std.specs.List.{AllByRecursion as Each};
+ghost use Rattle.mails.specs.declared.record.Durable.{Durable};
+ghost use Rattle.std.specs.Prelude.{◌≡◌, ◌<◌, List, [], ◌∷◌, map, slice_get, Option, Some, ℕ};
+
+/// On every agent, current offers and live tasks together never exceed what it owns.
+pub fn offers_and_tasks_fit()
+    ensures { (run : ℕ) (records : List Durable) (steps : List Marked) → GoodOpening run records → AllFit (history run records steps).state.world }
+{}
+
+/// No agent is ever without room for a task that the master launches.
+pub fn agents_have_room()
+    ensures { (run : ℕ) (records : List Durable) (steps : List Marked) → GoodOpening run records → NeverLacksRoom (history run records steps) }
+{}
+
+/// Each task was launched by exactly one ACCEPT of its framework, out of offers of its agent that were made before and that no other ACCEPT uses,
+/// or it stood in a record at the opening.
+pub fn tasks_have_their_origin()
+    ensures { (run : ℕ) (records : List Durable) (steps : List Marked) → GoodOpening run records →
+        HasOrigin records (history run records steps).state.world (trail (history run records steps).happenings (open_world run records) []) }
+{}
+
+/// Each update that an agent's record counts as acknowledged was named by an ACKNOWLEDGE that the task's own framework sent before,
+/// or was counted in a record at the opening.
+pub fn acknowledged_by_the_owner()
+    ensures { (run : ℕ) (records : List Durable) (steps : List Marked) → GoodOpening run records →
+        AcknowledgedByOwner records (history run records steps).state.world (history run records steps).state.posts }
+{}
+
+/// Whatever is found of the agents' records after a stop, each the record before or the record of an open draft, is a good opening for any later run.
+pub fn found_records_open_again()
+    ensures { (run : ℕ) (records : List Durable) (steps : List Marked) (later : ℕ) (found : List Durable) → GoodOpening run records →
+        (history run records steps).state.world.run.number < later → IsFound (history run records steps).state.world.channels found → GoodOpening later found }
+{}
+
+/// The master of a cluster after a step, and the mails of the entry, are those that the master's own moves make, without the agents' parts.
+pub fn masters_step_alone()
+    ensures master { (c : Cluster) (d : Doing) → master_of (done c (effect_of [] d)).after ≡ after_doing (master_of c) d }
+    ensures mails { (c : Cluster) (d : Doing) → (done c (effect_of [] d)).entry.outs.sent ≡ map MailToAgent (moved (master_of c) d.moves).sent }
+    // At an agent's mail its side hears it first.
+    ensures hears { (c : Cluster) (agent : List ℕ) (place : ℕ) (x : Channel) (mail : AgentMail) (d : Doing) → channel_of c agent ≡ Some x → slice_get x.to_master place ≡ Some mail →
+        (master_of (done c (effect_of (At agent (Hear place) ∷ []) d)).after ≡ after_doing (having_heard (master_of c) agent mail) d) ×
+        ((done c (effect_of (At agent (Hear place) ∷ []) d)).entry.outs.sent ≡ map MailToAgent (moved (having_heard (master_of c) agent mail) d.moves).sent) }
+{}
+
+/// A launch comes from an ACCEPT alone: of its framework, with the offers that it names, and of tasks that it lists on that agent.
+pub fn launches_come_from_accepts()
+    ensures calls { (m : Master) (stream : Option Numbered) (call : Call) → Each (MoveFrom call) (called m stream call).moves }
+    ensures mails { (m : Master) (s : Side) (mail : AgentMail) → Each MoveWithout (mailed m s mail).moves }
+    ensures ticks { (m : Master) (now : ℕ) → Each MoveWithout (ticked m now).moves }
+    ensures losses { (m : Master) (s : Side) → Each MoveWithout (agent_lost m s).moves }
+    ensures hang_ups { (m : Master) (stream : Numbered) → Each MoveWithout (hung_up m stream).moves }
+    ensures rounds { (m : Master) → Each MoveWithout (allocated m).moves }
+{}
+
+/// An ACCEPT of good offers launches each task for which it answers nothing: no launch is passed over unseen.
+pub fn accepts_launch_what_they_do_not_answer()
+    ensures { (m : Master) (f : Framework) (g : Given) (ids : List Numbered) (tasks : List TaskInfo) (s : Side) →
+        launched f.id ids g.budget (accepts_all m f (Some g) tasks).jobs (record { used = []; sending = sends_nothing m.run s }) ≡ (accepts_all m f (Some g) tasks).jobs }
+{}

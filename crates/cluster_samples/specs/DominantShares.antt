@@ -1,0 +1,94 @@
+-- Two frameworks are served by their dominant shares: A, B, A, B, A, and the rest by the tie rule.
+use Rattle.std.specs.Prelude.{ℕ, List, [], ◌∷◌, Some, None}
+use Rattle.mails.specs.declared.mail.Command.TheVariants.{Launch}
+use Rattle.mails.specs.declared.mail.MasterMail.TheVariants.{Hello, Issued}
+use Rattle.mails.specs.declared.mail.AgentMail.TheVariants.{Report}
+use Rattle.mails.specs.declared.record.Durable.{Durable}
+use Rattle.cluster_model.specs.Events.{SUBSCRIBED, OFFERS}
+use Rattle.cluster_model.specs.Clusters.{Step, Send, Deliver, Allocate, Prepare, Commit, ByMail, Fine, CallSent}
+use Rattle.cluster_samples.specs.Short.{id, row, job, made, wanted, told, to_agent, from_agent, durable, line, ending, Expected}
+use Rattle.mails.specs.declared.call.Call.TheVariants as calls
+
+abbrev pub n_a1 : List ℕ
+n_a1 = 97 ∷ 49 ∷ []
+
+abbrev pub n_cpus : List ℕ
+n_cpus = 99 ∷ 112 ∷ 117 ∷ 115 ∷ []
+
+abbrev pub n_mem : List ℕ
+n_mem = 109 ∷ 101 ∷ 109 ∷ []
+
+abbrev pub n_t1 : List ℕ
+n_t1 = 116 ∷ 49 ∷ []
+
+abbrev pub n_t2 : List ℕ
+n_t2 = 116 ∷ 50 ∷ []
+
+abbrev pub n_t3 : List ℕ
+n_t3 = 116 ∷ 51 ∷ []
+
+abbrev pub n_t4 : List ℕ
+n_t4 = 116 ∷ 52 ∷ []
+
+abbrev pub n_t5 : List ℕ
+n_t5 = 116 ∷ 53 ∷ []
+
+abbrev pub n_u42 : List ℕ
+n_u42 = 42 ∷ []
+
+abbrev pub records : List Durable
+records = durable n_a1 (row n_cpus 9 ∷ row n_mem 18 ∷ []) 0 0 [] ∷ []
+
+abbrev pub steps : List Step
+steps = Prepare n_a1 (ByMail 1) ∷
+    Commit n_a1 ∷
+    Deliver 2 ∷
+    Send None (calls.Subscribe None n_u42) ∷
+    Deliver 3 ∷
+    Send None (calls.Subscribe None n_u42) ∷
+    Deliver 4 ∷
+    Allocate ∷
+    Send (Some (id 1 1)) (calls.Accept (id 1 1) ((id 1 1) ∷ []) (wanted n_t1 n_a1 (row n_cpus 1 ∷ row n_mem 4 ∷ []) ∷ []) 0) ∷
+    Deliver 5 ∷
+    Allocate ∷
+    Send (Some (id 1 2)) (calls.Accept (id 1 2) ((id 1 2) ∷ []) (wanted n_t2 n_a1 (row n_cpus 3 ∷ row n_mem 1 ∷ []) ∷ []) 0) ∷
+    Deliver 7 ∷
+    Allocate ∷
+    Send (Some (id 1 1)) (calls.Accept (id 1 1) ((id 1 3) ∷ []) (wanted n_t3 n_a1 (row n_cpus 1 ∷ row n_mem 4 ∷ []) ∷ []) 0) ∷
+    Deliver 9 ∷
+    Allocate ∷
+    Send (Some (id 1 2)) (calls.Accept (id 1 2) ((id 1 4) ∷ []) (wanted n_t4 n_a1 (row n_cpus 3 ∷ row n_mem 1 ∷ []) ∷ []) 0) ∷
+    Deliver 11 ∷
+    Allocate ∷
+    Send (Some (id 1 1)) (calls.Accept (id 1 1) ((id 1 5) ∷ []) (wanted n_t5 n_a1 (row n_cpus 1 ∷ row n_mem 4 ∷ []) ∷ []) 0) ∷
+    Deliver 13 ∷
+    Allocate ∷ []
+
+abbrev pub expected : Expected
+expected = record {
+  lines = line Fine [] [] (to_agent n_a1 (Hello 1 0) ∷ []) [] ∷
+      line Fine [] [] [] [] ∷
+      line Fine [] [] (from_agent n_a1 (Report 1 1 []) ∷ []) [] ∷
+      line Fine [] [] [] [] ∷
+      line Fine [] [] (CallSent ∷ []) [] ∷
+      line Fine (told (id 1 1) (SUBSCRIBED (id 1 1)) ∷ []) [] [] [] ∷
+      line Fine [] [] (CallSent ∷ []) [] ∷
+      line Fine (told (id 1 2) (SUBSCRIBED (id 1 2)) ∷ []) [] [] [] ∷
+      line Fine (told (id 1 1) (OFFERS (made n_a1 (id 1 1) (id 1 1) (row n_cpus 9 ∷ row n_mem 18 ∷ []) ∷ [])) ∷ []) [] [] [] ∷
+      line Fine [] [] (CallSent ∷ []) [] ∷
+      line Fine [] [] (to_agent n_a1 (Issued 1 1 (Launch (job (id 1 1) (id 1 1) n_t1 (row n_cpus 1 ∷ row n_mem 4 ∷ [])) ((id 1 1) ∷ []))) ∷ []) [] ∷
+      line Fine (told (id 1 2) (OFFERS (made n_a1 (id 1 2) (id 1 2) (row n_cpus 8 ∷ row n_mem 14 ∷ []) ∷ [])) ∷ []) [] [] [] ∷
+      line Fine [] [] (CallSent ∷ []) [] ∷
+      line Fine [] [] (to_agent n_a1 (Issued 1 2 (Launch (job (id 1 2) (id 1 2) n_t2 (row n_cpus 3 ∷ row n_mem 1 ∷ [])) ((id 1 2) ∷ []))) ∷ []) [] ∷
+      line Fine (told (id 1 1) (OFFERS (made n_a1 (id 1 3) (id 1 1) (row n_cpus 5 ∷ row n_mem 13 ∷ []) ∷ [])) ∷ []) [] [] [] ∷
+      line Fine [] [] (CallSent ∷ []) [] ∷
+      line Fine [] [] (to_agent n_a1 (Issued 1 3 (Launch (job (id 1 3) (id 1 1) n_t3 (row n_cpus 1 ∷ row n_mem 4 ∷ [])) ((id 1 3) ∷ []))) ∷ []) [] ∷
+      line Fine (told (id 1 2) (OFFERS (made n_a1 (id 1 4) (id 1 2) (row n_cpus 4 ∷ row n_mem 9 ∷ []) ∷ [])) ∷ []) [] [] [] ∷
+      line Fine [] [] (CallSent ∷ []) [] ∷
+      line Fine [] [] (to_agent n_a1 (Issued 1 4 (Launch (job (id 1 4) (id 1 2) n_t4 (row n_cpus 3 ∷ row n_mem 1 ∷ [])) ((id 1 4) ∷ []))) ∷ []) [] ∷
+      line Fine (told (id 1 1) (OFFERS (made n_a1 (id 1 5) (id 1 1) (row n_cpus 1 ∷ row n_mem 8 ∷ []) ∷ [])) ∷ []) [] [] [] ∷
+      line Fine [] [] (CallSent ∷ []) [] ∷
+      line Fine [] [] (to_agent n_a1 (Issued 1 5 (Launch (job (id 1 5) (id 1 1) n_t5 (row n_cpus 1 ∷ row n_mem 4 ∷ [])) ((id 1 5) ∷ []))) ∷ []) [] ∷
+      line Fine (told (id 1 1) (OFFERS (made n_a1 (id 1 6) (id 1 1) (row n_mem 4 ∷ []) ∷ [])) ∷ []) [] [] [] ∷ [];
+  ends = ending n_a1 (row n_mem 4 ∷ []) [] ∷ [];
+}

@@ -1,0 +1,50 @@
+-- A HEARTBEAT goes out fifteen seconds after the last one; time does not run back.
+use Rattle.std.specs.Prelude.{ℕ, List, [], ◌∷◌, None}
+use Rattle.mails.specs.declared.mail.MasterMail.TheVariants.{Hello}
+use Rattle.mails.specs.declared.mail.AgentMail.TheVariants.{Report}
+use Rattle.mails.specs.declared.record.Durable.{Durable}
+use Rattle.cluster_model.specs.Events.{SUBSCRIBED, HEARTBEAT}
+use Rattle.cluster_model.specs.Clusters.{Step, Send, Deliver, Tick, Prepare, Commit, ByMail, TimeBack, Fine, CallSent}
+use Rattle.cluster_samples.specs.Short.{id, row, told, to_agent, from_agent, durable, line, Refused, ending, Expected}
+use Rattle.mails.specs.declared.call.Call.TheVariants as calls
+
+abbrev pub n_a1 : List ℕ
+n_a1 = 97 ∷ 49 ∷ []
+
+abbrev pub n_cpus : List ℕ
+n_cpus = 99 ∷ 112 ∷ 117 ∷ 115 ∷ []
+
+abbrev pub n_mem : List ℕ
+n_mem = 109 ∷ 101 ∷ 109 ∷ []
+
+abbrev pub n_u42 : List ℕ
+n_u42 = 42 ∷ []
+
+abbrev pub records : List Durable
+records = durable n_a1 (row n_cpus 4 ∷ row n_mem 4096 ∷ []) 0 0 [] ∷ []
+
+abbrev pub steps : List Step
+steps = Prepare n_a1 (ByMail 1) ∷
+    Commit n_a1 ∷
+    Deliver 2 ∷
+    Send None (calls.Subscribe None n_u42) ∷
+    Deliver 3 ∷
+    Tick 14 ∷
+    Tick 15 ∷
+    Tick 20 ∷
+    Tick 19 ∷ []
+
+abbrev pub expected : Expected
+expected = record {
+  lines = line Fine [] [] (to_agent n_a1 (Hello 1 0) ∷ []) [] ∷
+      line Fine [] [] [] [] ∷
+      line Fine [] [] (from_agent n_a1 (Report 1 1 []) ∷ []) [] ∷
+      line Fine [] [] [] [] ∷
+      line Fine [] [] (CallSent ∷ []) [] ∷
+      line Fine (told (id 1 1) (SUBSCRIBED (id 1 1)) ∷ []) [] [] [] ∷
+      line Fine [] [] [] [] ∷
+      line Fine (told (id 1 1) HEARTBEAT ∷ []) [] [] [] ∷
+      line Fine [] [] [] [] ∷
+      Refused TimeBack ∷ [];
+  ends = ending n_a1 [] [] ∷ [];
+}

@@ -1,0 +1,36 @@
+-- Behind the last run no master comes.
+use Rattle.std.specs.Prelude.{ℕ, List, [], ◌∷◌}
+use Rattle.mails.specs.declared.mail.MasterMail.TheVariants.{Hello}
+use Rattle.mails.specs.declared.record.Durable.{Durable}
+use Rattle.cluster_model.specs.Clusters.{Step, Deliver, Allocate, StopMaster, MasterDown, Fine}
+use Rattle.cluster_samples.specs.Short.{row, to_agent, durable, line, Refused, ending, Expected}
+
+abbrev pub n_a1 : List ℕ
+n_a1 = 97 ∷ 49 ∷ []
+
+abbrev pub n_cpus : List ℕ
+n_cpus = 99 ∷ 112 ∷ 117 ∷ 115 ∷ []
+
+abbrev pub n_mem : List ℕ
+n_mem = 109 ∷ 101 ∷ 109 ∷ []
+
+abbrev pub records : List Durable
+records = durable n_a1 (row n_cpus 4 ∷ row n_mem 4096 ∷ []) 0 0 [] ∷ []
+
+abbrev pub steps : List Step
+steps = StopMaster ∷
+    Allocate ∷
+    Deliver 99 ∷
+    StopMaster ∷
+    Allocate ∷ []
+
+abbrev pub expected : Expected
+expected = record {
+  lines = line Fine [] [] (to_agent n_a1 (Hello 65535 0) ∷ []) [] ∷
+      line Fine [] [] [] [] ∷
+      Refused MasterDown ∷
+      Refused MasterDown ∷
+      line Fine [] [] [] [] ∷
+      Refused MasterDown ∷ [];
+  ends = ending n_a1 [] [] ∷ [];
+}

@@ -1,0 +1,48 @@
+-- A cluster that is opened over a record with a task offers the rest.
+use Rattle.std.specs.Prelude.{ℕ, List, [], ◌∷◌, None, false}
+use Rattle.names_core.specs.declared.state.TaskState.TheVariants.{Staging}
+use Rattle.mails.specs.declared.mail.MasterMail.TheVariants.{Hello}
+use Rattle.mails.specs.declared.mail.AgentMail.TheVariants.{Report}
+use Rattle.mails.specs.declared.record.Durable.{Durable}
+use Rattle.cluster_model.specs.Events.{SUBSCRIBED, OFFERS}
+use Rattle.cluster_model.specs.Clusters.{Step, Send, Deliver, Allocate, Prepare, Commit, ByMail, Fine, CallSent}
+use Rattle.cluster_samples.specs.Short.{id, row, job, booked, made, told, to_agent, from_agent, task, durable, line, ending, Expected}
+use Rattle.mails.specs.declared.call.Call.TheVariants as calls
+
+abbrev pub n_a1 : List ℕ
+n_a1 = 97 ∷ 49 ∷ []
+
+abbrev pub n_cpus : List ℕ
+n_cpus = 99 ∷ 112 ∷ 117 ∷ 115 ∷ []
+
+abbrev pub n_mem : List ℕ
+n_mem = 109 ∷ 101 ∷ 109 ∷ []
+
+abbrev pub n_t1 : List ℕ
+n_t1 = 116 ∷ 49 ∷ []
+
+abbrev pub n_u42 : List ℕ
+n_u42 = 42 ∷ []
+
+abbrev pub records : List Durable
+records = durable n_a1 (row n_cpus 4 ∷ row n_mem 4096 ∷ []) 1 1 (task (job (id 1 1) (id 1 1) n_t1 (row n_cpus 2 ∷ row n_mem 1024 ∷ [])) ((id 1 1) ∷ []) [] 0 ∷ []) ∷ []
+
+abbrev pub steps : List Step
+steps = Prepare n_a1 (ByMail 1) ∷
+    Commit n_a1 ∷
+    Deliver 2 ∷
+    Send None (calls.Subscribe None n_u42) ∷
+    Deliver 3 ∷
+    Allocate ∷ []
+
+abbrev pub expected : Expected
+expected = record {
+  lines = line Fine [] [] (to_agent n_a1 (Hello 2 0) ∷ []) [] ∷
+      line Fine [] [] [] [] ∷
+      line Fine [] [] (from_agent n_a1 (Report 2 2 (booked (job (id 1 1) (id 1 1) n_t1 (row n_cpus 2 ∷ row n_mem 1024 ∷ [])) false 0 Staging ∷ [])) ∷ []) [] ∷
+      line Fine [] [] [] [] ∷
+      line Fine [] [] (CallSent ∷ []) [] ∷
+      line Fine (told (id 2 1) (SUBSCRIBED (id 2 1)) ∷ []) [] [] [] ∷
+      line Fine (told (id 2 1) (OFFERS (made n_a1 (id 2 1) (id 2 1) (row n_cpus 2 ∷ row n_mem 3072 ∷ []) ∷ [])) ∷ []) [] [] [] ∷ [];
+  ends = ending n_a1 (row n_cpus 2 ∷ row n_mem 3072 ∷ []) (task (job (id 1 1) (id 1 1) n_t1 (row n_cpus 2 ∷ row n_mem 1024 ∷ [])) ((id 1 1) ∷ []) [] 0 ∷ []) ∷ [];
+}

@@ -1,0 +1,87 @@
+-- RECONCILE answers for tasks that are held, says nothing of agents that have not returned, and TASK_LOST of the rest.
+use Rattle.std.specs.Prelude.{ℕ, List, [], ◌∷◌, Some, None, false}
+use Rattle.names_core.specs.declared.state.TaskState.TheVariants.{Running, Lost}
+use Rattle.mails.specs.declared.mail.Command.TheVariants.{Launch}
+use Rattle.mails.specs.declared.mail.MasterMail.TheVariants.{Hello, Issued}
+use Rattle.mails.specs.declared.mail.AgentMail.TheVariants.{Report, Applied, Update}
+use Rattle.mails.specs.declared.record.Durable.{Durable}
+use Rattle.cluster_model.specs.Events.{SUBSCRIBED, OFFERS, UPDATE}
+use Rattle.cluster_model.specs.Clusters.{Step, Send, Deliver, Allocate, Prepare, Commit, ByExecutor, ByMail, Fine, CallSent}
+use Rattle.cluster_samples.specs.Short.{id, row, job, made, wanted, asked, uuid, told, to_agent, from_agent, task, durable, line, ending, Expected}
+use Rattle.mails.specs.declared.call.Call.TheVariants as calls
+
+abbrev pub n_a1 : List ℕ
+n_a1 = 97 ∷ 49 ∷ []
+
+abbrev pub n_a2 : List ℕ
+n_a2 = 97 ∷ 50 ∷ []
+
+abbrev pub n_cpus : List ℕ
+n_cpus = 99 ∷ 112 ∷ 117 ∷ 115 ∷ []
+
+abbrev pub n_mem : List ℕ
+n_mem = 109 ∷ 101 ∷ 109 ∷ []
+
+abbrev pub n_t1 : List ℕ
+n_t1 = 116 ∷ 49 ∷ []
+
+abbrev pub n_u42 : List ℕ
+n_u42 = 42 ∷ []
+
+abbrev pub n_x : List ℕ
+n_x = 120 ∷ []
+
+abbrev pub n_y : List ℕ
+n_y = 121 ∷ []
+
+abbrev pub n_zz : List ℕ
+n_zz = 122 ∷ 122 ∷ []
+
+abbrev pub records : List Durable
+records = durable n_a1 (row n_cpus 4 ∷ row n_mem 4096 ∷ []) 0 0 [] ∷
+    durable n_a2 (row n_cpus 4 ∷ row n_mem 4096 ∷ []) 0 0 [] ∷ []
+
+abbrev pub steps : List Step
+steps = Prepare n_a1 (ByMail 1) ∷
+    Commit n_a1 ∷
+    Deliver 3 ∷
+    Send None (calls.Subscribe None n_u42) ∷
+    Deliver 4 ∷
+    Allocate ∷
+    Send (Some (id 1 1)) (calls.Accept (id 1 1) ((id 1 1) ∷ []) (wanted n_t1 n_a1 (row n_cpus 1 ∷ row n_mem 1 ∷ []) ∷ []) 5) ∷
+    Deliver 5 ∷
+    Prepare n_a1 (ByMail 6) ∷
+    Commit n_a1 ∷
+    Deliver 7 ∷
+    Prepare n_a1 (ByExecutor (id 1 1) Running) ∷
+    Commit n_a1 ∷
+    Deliver 8 ∷
+    Send (Some (id 1 1)) (calls.Reconcile (id 1 1) (asked n_t1 (Some n_a1) ∷ asked n_x (Some n_a2) ∷ asked n_y (Some n_zz) ∷ [])) ∷
+    Deliver 9 ∷
+    Send (Some (id 1 1)) (calls.Reconcile (id 1 1) []) ∷
+    Deliver 10 ∷ []
+
+abbrev pub expected : Expected
+expected = record {
+  lines = line Fine [] [] (to_agent n_a1 (Hello 1 0) ∷ to_agent n_a2 (Hello 1 0) ∷ []) [] ∷
+      line Fine [] [] [] [] ∷
+      line Fine [] [] (from_agent n_a1 (Report 1 1 []) ∷ []) [] ∷
+      line Fine [] [] [] [] ∷
+      line Fine [] [] (CallSent ∷ []) [] ∷
+      line Fine (told (id 1 1) (SUBSCRIBED (id 1 1)) ∷ []) [] [] [] ∷
+      line Fine (told (id 1 1) (OFFERS (made n_a1 (id 1 1) (id 1 1) (row n_cpus 4 ∷ row n_mem 4096 ∷ []) ∷ [])) ∷ []) [] [] [] ∷
+      line Fine [] [] (CallSent ∷ []) [] ∷
+      line Fine [] [] (to_agent n_a1 (Issued 1 1 (Launch (job (id 1 1) (id 1 1) n_t1 (row n_cpus 1 ∷ row n_mem 1 ∷ [])) ((id 1 1) ∷ []))) ∷ []) [] ∷
+      line Fine [] [] [] [] ∷
+      line Fine [] [] (from_agent n_a1 (Applied 1 1) ∷ []) [] ∷
+      line Fine [] [] [] [] ∷
+      line Fine [] [] [] [] ∷
+      line Fine [] [] (from_agent n_a1 (Update 1 (id 1 1) 0 Running false) ∷ []) [] ∷
+      line Fine (told (id 1 1) (UPDATE n_t1 Running (Some n_a1) (Some (uuid (id 1 1) 0))) ∷ []) [] [] [] ∷
+      line Fine [] [] (CallSent ∷ []) [] ∷
+      line Fine (told (id 1 1) (UPDATE n_t1 Running (Some n_a1) None) ∷ told (id 1 1) (UPDATE n_y Lost (Some n_zz) None) ∷ []) [] [] [] ∷
+      line Fine [] [] (CallSent ∷ []) [] ∷
+      line Fine (told (id 1 1) (UPDATE n_t1 Running (Some n_a1) None) ∷ []) [] [] [] ∷ [];
+  ends = ending n_a1 [] (task (job (id 1 1) (id 1 1) n_t1 (row n_cpus 1 ∷ row n_mem 1 ∷ [])) ((id 1 1) ∷ []) (Running ∷ []) 0 ∷ []) ∷
+      ending n_a2 [] [] ∷ [];
+}

@@ -1,0 +1,91 @@
+-- Reports and updates that come out of turn are refused, most of them with a Hello.
+use Rattle.std.specs.Prelude.{ℕ, List, [], ◌∷◌, Some, None, false}
+use Rattle.names_core.specs.declared.state.TaskState.TheVariants.{Staging, Running}
+use Rattle.mails.specs.declared.mail.Command.TheVariants.{Launch}
+use Rattle.mails.specs.declared.mail.MasterMail.TheVariants.{Hello, Issued}
+use Rattle.mails.specs.declared.mail.AgentMail.TheVariants.{Report, Applied, Update}
+use Rattle.mails.specs.declared.record.Durable.{Durable}
+use Rattle.cluster_model.specs.Events.{SUBSCRIBED, OFFERS}
+use Rattle.cluster_model.specs.Clusters.{Step, Send, Deliver, Allocate, Prepare, Commit, StopMaster, ByStart, ByExecutor, ByMail, Fine, MasterRefused, CallSent}
+use Rattle.cluster_samples.specs.Short.{id, row, job, booked, made, wanted, told, to_agent, from_agent, task, durable, line, ending, Expected}
+use Rattle.mails.specs.declared.call.Call.TheVariants as calls
+use Rattle.mails.specs.declared.refusal.MasterRefusal.TheVariants as masters
+
+abbrev pub n_a1 : List ℕ
+n_a1 = 97 ∷ 49 ∷ []
+
+abbrev pub n_a2 : List ℕ
+n_a2 = 97 ∷ 50 ∷ []
+
+abbrev pub n_cpus : List ℕ
+n_cpus = 99 ∷ 112 ∷ 117 ∷ 115 ∷ []
+
+abbrev pub n_mem : List ℕ
+n_mem = 109 ∷ 101 ∷ 109 ∷ []
+
+abbrev pub n_t1 : List ℕ
+n_t1 = 116 ∷ 49 ∷ []
+
+abbrev pub n_u42 : List ℕ
+n_u42 = 42 ∷ []
+
+abbrev pub records : List Durable
+records = durable n_a1 (row n_cpus 4 ∷ row n_mem 4096 ∷ []) 0 0 [] ∷
+    durable n_a2 (row n_cpus 4 ∷ row n_mem 4096 ∷ []) 0 0 [] ∷ []
+
+abbrev pub steps : List Step
+steps = Prepare n_a1 (ByMail 1) ∷
+    Commit n_a1 ∷
+    Prepare n_a1 ByStart ∷
+    Commit n_a1 ∷
+    Prepare n_a1 ByStart ∷
+    Commit n_a1 ∷
+    Deliver 3 ∷
+    Deliver 5 ∷
+    Deliver 4 ∷
+    Send None (calls.Subscribe None n_u42) ∷
+    Deliver 7 ∷
+    Allocate ∷
+    Send (Some (id 1 1)) (calls.Accept (id 1 1) ((id 1 1) ∷ []) (wanted n_t1 n_a1 (row n_cpus 1 ∷ []) ∷ []) 5) ∷
+    Deliver 8 ∷
+    Prepare n_a1 (ByMail 9) ∷
+    Commit n_a1 ∷
+    Prepare n_a1 ByStart ∷
+    Commit n_a1 ∷
+    Prepare n_a1 (ByExecutor (id 1 1) Running) ∷
+    Commit n_a1 ∷
+    Deliver 12 ∷
+    Deliver 11 ∷
+    StopMaster ∷
+    Deliver 11 ∷ []
+
+abbrev pub expected : Expected
+expected = record {
+  lines = line Fine [] [] (to_agent n_a1 (Hello 1 0) ∷ to_agent n_a2 (Hello 1 0) ∷ []) [] ∷
+      line Fine [] [] [] [] ∷
+      line Fine [] [] (from_agent n_a1 (Report 1 1 []) ∷ []) [] ∷
+      line Fine [] [] [] [] ∷
+      line Fine [] [] (from_agent n_a1 (Report 2 1 []) ∷ []) [] ∷
+      line Fine [] [] [] [] ∷
+      line Fine [] [] (from_agent n_a1 (Report 3 1 []) ∷ []) [] ∷
+      line Fine [] [] [] [] ∷
+      line Fine [] [] [] [] ∷
+      line (MasterRefused masters.OldSession) [] [] (to_agent n_a1 (Hello 1 1) ∷ []) [] ∷
+      line Fine [] [] (CallSent ∷ []) [] ∷
+      line Fine (told (id 1 1) (SUBSCRIBED (id 1 1)) ∷ []) [] [] [] ∷
+      line Fine (told (id 1 1) (OFFERS (made n_a1 (id 1 1) (id 1 1) (row n_cpus 4 ∷ row n_mem 4096 ∷ []) ∷ [])) ∷ []) [] [] [] ∷
+      line Fine [] [] (CallSent ∷ []) [] ∷
+      line Fine [] [] (to_agent n_a1 (Issued 3 1 (Launch (job (id 1 1) (id 1 1) n_t1 (row n_cpus 1 ∷ [])) ((id 1 1) ∷ []))) ∷ []) [] ∷
+      line Fine [] [] [] [] ∷
+      line Fine [] [] (from_agent n_a1 (Applied 3 1) ∷ []) [] ∷
+      line Fine [] [] [] [] ∷
+      line Fine [] [] (from_agent n_a1 (Report 4 1 (booked (job (id 1 1) (id 1 1) n_t1 (row n_cpus 1 ∷ [])) false 0 Staging ∷ [])) ∷ []) [] ∷
+      line Fine [] [] [] [] ∷
+      line Fine [] [] (from_agent n_a1 (Update 4 (id 1 1) 0 Running false) ∷ []) [] ∷
+      line (MasterRefused masters.NotOpen) [] [] (to_agent n_a1 (Hello 1 1) ∷ []) [] ∷
+      line Fine [] [] [] [] ∷
+      line Fine [] [] (to_agent n_a1 (Hello 2 0) ∷ to_agent n_a2 (Hello 2 0) ∷ []) [] ∷
+      line (MasterRefused masters.OtherRun) [] [] [] [] ∷ [];
+  ends = ending n_a1 [] (task (job (id 1 1) (id 1 1) n_t1 (row n_cpus 1 ∷ [])) ((id 1 1) ∷ []) (Running ∷ []) 0 ∷ []) ∷
+      ending n_a2 [] [] ∷ [];
+}

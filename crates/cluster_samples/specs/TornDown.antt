@@ -1,0 +1,83 @@
+-- After TEARDOWN a framework's resources are free only once its agent has applied the end of its tasks.
+use Rattle.std.specs.Prelude.{ℕ, List, [], ◌∷◌, Some, None, false}
+use Rattle.names_core.specs.declared.state.TaskState.TheVariants.{Running}
+use Rattle.mails.specs.declared.mail.Command.TheVariants.{Launch, EndFramework}
+use Rattle.mails.specs.declared.mail.MasterMail.TheVariants.{Hello, Issued}
+use Rattle.mails.specs.declared.mail.AgentMail.TheVariants.{Report, Applied, Update}
+use Rattle.mails.specs.declared.record.Durable.{Durable}
+use Rattle.cluster_model.specs.Events.{SUBSCRIBED, OFFERS, UPDATE}
+use Rattle.cluster_model.specs.Clusters.{Step, Send, Deliver, Allocate, Prepare, Commit, ByExecutor, ByMail, Fine, CallSent}
+use Rattle.cluster_samples.specs.Short.{id, row, job, made, wanted, uuid, told, to_agent, from_agent, durable, line, ending, Expected}
+use Rattle.mails.specs.declared.call.Call.TheVariants as calls
+
+abbrev pub n_a1 : List ℕ
+n_a1 = 97 ∷ 49 ∷ []
+
+abbrev pub n_cpus : List ℕ
+n_cpus = 99 ∷ 112 ∷ 117 ∷ 115 ∷ []
+
+abbrev pub n_mem : List ℕ
+n_mem = 109 ∷ 101 ∷ 109 ∷ []
+
+abbrev pub n_t1 : List ℕ
+n_t1 = 116 ∷ 49 ∷ []
+
+abbrev pub n_u42 : List ℕ
+n_u42 = 42 ∷ []
+
+abbrev pub records : List Durable
+records = durable n_a1 (row n_cpus 4 ∷ row n_mem 4096 ∷ []) 0 0 [] ∷ []
+
+abbrev pub steps : List Step
+steps = Prepare n_a1 (ByMail 1) ∷
+    Commit n_a1 ∷
+    Deliver 2 ∷
+    Send None (calls.Subscribe None n_u42) ∷
+    Deliver 3 ∷
+    Send None (calls.Subscribe None n_u42) ∷
+    Deliver 4 ∷
+    Allocate ∷
+    Send (Some (id 1 1)) (calls.Accept (id 1 1) ((id 1 1) ∷ []) (wanted n_t1 n_a1 (row n_cpus 2 ∷ row n_mem 1024 ∷ []) ∷ []) 0) ∷
+    Deliver 5 ∷
+    Prepare n_a1 (ByMail 6) ∷
+    Commit n_a1 ∷
+    Deliver 7 ∷
+    Prepare n_a1 (ByExecutor (id 1 1) Running) ∷
+    Commit n_a1 ∷
+    Deliver 8 ∷
+    Send (Some (id 1 1)) (calls.Teardown (id 1 1)) ∷
+    Deliver 9 ∷
+    Allocate ∷
+    Prepare n_a1 (ByMail 10) ∷
+    Commit n_a1 ∷
+    Deliver 11 ∷
+    Allocate ∷ []
+
+abbrev pub expected : Expected
+expected = record {
+  lines = line Fine [] [] (to_agent n_a1 (Hello 1 0) ∷ []) [] ∷
+      line Fine [] [] [] [] ∷
+      line Fine [] [] (from_agent n_a1 (Report 1 1 []) ∷ []) [] ∷
+      line Fine [] [] [] [] ∷
+      line Fine [] [] (CallSent ∷ []) [] ∷
+      line Fine (told (id 1 1) (SUBSCRIBED (id 1 1)) ∷ []) [] [] [] ∷
+      line Fine [] [] (CallSent ∷ []) [] ∷
+      line Fine (told (id 1 2) (SUBSCRIBED (id 1 2)) ∷ []) [] [] [] ∷
+      line Fine (told (id 1 1) (OFFERS (made n_a1 (id 1 1) (id 1 1) (row n_cpus 4 ∷ row n_mem 4096 ∷ []) ∷ [])) ∷ []) [] [] [] ∷
+      line Fine [] [] (CallSent ∷ []) [] ∷
+      line Fine [] [] (to_agent n_a1 (Issued 1 1 (Launch (job (id 1 1) (id 1 1) n_t1 (row n_cpus 2 ∷ row n_mem 1024 ∷ [])) ((id 1 1) ∷ []))) ∷ []) [] ∷
+      line Fine [] [] [] [] ∷
+      line Fine [] [] (from_agent n_a1 (Applied 1 1) ∷ []) [] ∷
+      line Fine [] [] [] [] ∷
+      line Fine [] [] [] [] ∷
+      line Fine [] [] (from_agent n_a1 (Update 1 (id 1 1) 0 Running false) ∷ []) [] ∷
+      line Fine (told (id 1 1) (UPDATE n_t1 Running (Some n_a1) (Some (uuid (id 1 1) 0))) ∷ []) [] [] [] ∷
+      line Fine [] [] (CallSent ∷ []) [] ∷
+      line Fine [] ((id 1 1) ∷ []) (to_agent n_a1 (Issued 1 2 (EndFramework (id 1 1))) ∷ []) [] ∷
+      line Fine (told (id 1 2) (OFFERS (made n_a1 (id 1 2) (id 1 2) (row n_cpus 2 ∷ row n_mem 3072 ∷ []) ∷ [])) ∷ []) [] [] [] ∷
+      line Fine [] [] [] [] ∷
+      line Fine [] [] (from_agent n_a1 (Applied 1 2) ∷ []) [] ∷
+      line Fine [] [] [] [] ∷
+      line Fine (told (id 1 2) (OFFERS (made n_a1 (id 1 3) (id 1 2) (row n_cpus 2 ∷ row n_mem 1024 ∷ []) ∷ [])) ∷ []) [] [] [] ∷ [];
+  ends = ending n_a1 (row n_cpus 4 ∷ row n_mem 4096 ∷ []) [] ∷ [];
+}
