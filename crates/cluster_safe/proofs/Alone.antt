@@ -63,7 +63,7 @@ none_sides : (f : Side → Side) (cs : List Channel) → sent_between cs (map (w
 none_sides f [] = refl
 none_sides f (c ∷ cs) = rw (drop_itself c.to_agent, drop_itself c.to_master) (none_sides f cs)
 
-side_name : (run : Run) (s : Side) (step : SideStep) → (side_step run s step).side.name ≡ s.name
+pub side_name : (run : Run) (s : Side) (step : SideStep) → (side_step run s step).side.name ≡ s.name
 side_name run s (MakeOffer offer) = cond_both (may_offer run s offer) (sends_nothing (record run { next_offer = following offer.id }) (record s { offers = s.offers ++ offer ∷ [] })) (sends_nothing run s) (λ x. x.side.name ≡ s.name) (λ e. refl) (λ e. refl)
 side_name run s (Withdraw ids) = refl
 side_name run s (LaunchFrom framework ids jobs) = cond_both (is_good s framework ids && not (is_among run.torn framework)) (launch_all framework ids (offer_rows (used_offers s framework ids)) jobs (record { used = []; sending = sends_nothing run (without_used s framework ids) })) (sends_nothing run s) (λ x. x.side.name ≡ s.name)

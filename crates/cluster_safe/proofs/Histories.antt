@@ -1,5 +1,5 @@
 -- What every step of a history does: happenings in the channels, and no refusal for want of room.
-use Rattle.std.proofs.Common.{zero, inl, inr, append_assoc, append-nil, flat_map, ◌<◌, ◌≡◌, ◌≢◌, ℕ, suc, Bool, true, false, not, ◌&&◌, List, [], ◌∷◌, ◌++◌, map, Option, Some, None, Result, Ok, Err, refl, sym, ap, ◌∙◌, subst, bytes_eq, nat_lt, nat_le, slice_get}
+use Rattle.std.proofs.Common.{length, zero, inl, inr, append_assoc, append-nil, flat_map, ◌<◌, ◌≡◌, ◌≢◌, ℕ, suc, Bool, true, false, not, ◌&&◌, List, [], ◌∷◌, ◌++◌, map, Option, Some, None, Result, Ok, Err, refl, sym, ap, ◌∙◌, subst, bytes_eq, nat_lt, nat_le, slice_get}
 use Rattle.std.specs.Prelude.{⊤, if◌then◌else◌, ◌==◌, ◌⊎◌}
 use Rattle.std.specs.List.{AllByRecursion as Each, find, list_any}
 use Rattle.std.proofs.lemmas.Bool.{cond_both}
@@ -46,6 +46,14 @@ use Rattle.cluster_safe.proofs.Openings.{opening_good, origin_opened}
 use Rattle.cluster_safe.proofs.Stopped.{apart_one, on_of, rec_of, found_good}
 use Rattle.cluster_safe.proofs.Acks.{Always, AllAcked, HappeningOk, MoveOk, worlds_acked, happenings_ok, CallOk, called_ok, mailed_ok, ticked_ok, lost_ok, hung_ok, allocated_ok}
 use Rattle.names_core.specs.Updates.{Update}
+use Rattle.cluster_safe.proofs.Names.{AllNamed, open_named, worlds_named}
+use Rattle.cluster_safe.specs.Premises.{NextLaunchIsNew, ReportFits}
+use Rattle.cluster_safe.proofs.Premises.{all_premises}
+use Rattle.cluster_model.specs.Events.{Told}
+use Rattle.cluster_model.specs.Steps.{Effect, new_to_agent, new_to_master, places, posts_between, posts_by, posts_in}
+use Rattle.cluster_safe.proofs.Events.{EventOk, allocated_events, called_events, event_wider, hung_events, lost_events, mailed_events, ticked_events}
+use Rattle.cluster_safe.proofs.Told.{UpTold}
+use Rattle.cluster_safe.proofs.Orders.{each_at}
 
 -- a found one has what each has
 found : {A : Type 0} (P : A → Type 0) (test : A → Bool) (Q : Option A → Type 0) → Q None → ((x : A) → P x → Q (Some x)) → (xs : List A) → Each P xs → Q (find test xs)
@@ -60,43 +68,75 @@ NotNoRoom (AgentRefused refusal) = HasRoom (Err refusal)
 NotNoRoom Fell = ⊤
 
 -- what a step that isn't refused does
-abbrev pub Legal : (Numbered → ℕ → Type 0) → Cluster → Result Done StepRefusal → Type 0
-Legal A c (Ok d) = (d.after.world ≡ after_all d.happenings c.world) × NotNoRoom d.entry.verdict × Each (HappeningOk A) d.happenings × ((more : List Post) × (d.after.posts ≡ c.posts ++ more))
-Legal A c (Err refusal) = ⊤
+abbrev pub NotCall : Post → Type 0
+NotCall (Called stream call) = ⊥
+NotCall (Down agent place) = ⊤
+NotCall (Up agent place) = ⊤
 
-legal_effect : (A : Numbered → ℕ → Type 0) (c : Cluster) (e : Effect) → NotNoRoom e.verdict → Each (HappeningOk A) e.happenings → Legal A c (does c e)
-legal_effect A c e v h = (refl, v, h, (posts_by e.happenings c.world, refl))
+abbrev pub Sends : (Option Numbered → Call → Type 0) → List Post → Type 0
+Sends S [] = ⊥
+Sends S (Down agent place ∷ more) = ⊥
+Sends S (Up agent place ∷ more) = ⊥
+Sends S (Called stream call ∷ []) = S stream call
+Sends S (Called stream call ∷ post ∷ more) = ⊥
+
+-- what a step that isn't refused does: what happens, what it answers, what it tells and what it sends; S holds of a call that it sends
+abbrev pub Legal : (Numbered → ℕ → Type 0) → (Option Numbered → Call → Type 0) → Cluster → Result Done StepRefusal → Type 0
+Legal A S c (Ok d) = (d.after.world ≡ after_all d.happenings c.world) × NotNoRoom d.entry.verdict × Each (HappeningOk A) d.happenings × Each (EventOk A) d.entry.outs.events × ((more : List Post) × (d.after.posts ≡ c.posts ++ more) × (Each NotCall more ⊎ Sends S more))
+Legal A S c (Err refusal) = ⊤
+
+downs_no_calls : (agent : List ℕ) (ns : List ℕ) → Each NotCall (map (Down agent) ns)
+downs_no_calls agent [] = tt
+downs_no_calls agent (n ∷ ns) = (tt, downs_no_calls agent ns)
+
+ups_no_calls : (agent : List ℕ) (ns : List ℕ) → Each NotCall (map (Up agent) ns)
+ups_no_calls agent [] = tt
+ups_no_calls agent (n ∷ ns) = (tt, ups_no_calls agent ns)
+
+between_no_calls : (olds news : List Channel) → Each NotCall (posts_between olds news)
+between_no_calls [] news = tt
+between_no_calls (old ∷ olds) [] = tt
+between_no_calls (old ∷ olds) (new ∷ news) = each_append NotCall (posts_in old new) (posts_between olds news)
+    (each_append NotCall (map (Down new.side.name) (places (length old.to_agent) (new_to_agent old new))) (map (Up new.side.name) (places (length old.to_master) (new_to_master old new))) (downs_no_calls new.side.name (places (length old.to_agent) (new_to_agent old new))) (ups_no_calls new.side.name (places (length old.to_master) (new_to_master old new))))
+    (between_no_calls olds news)
+
+no_calls : (hs : List Happening) (w : World) → Each NotCall (posts_by hs w)
+no_calls [] w = tt
+no_calls (h ∷ hs) w = each_append NotCall (posts_between w.channels (after w h).channels) (posts_by hs (after w h)) (between_no_calls w.channels (after w h).channels) (no_calls hs (after w h))
+
+legal_effect : (A : Numbered → ℕ → Type 0) (S : Option Numbered → Call → Type 0) (c : Cluster) (e : Effect) → Each (EventOk A) e.events → NotNoRoom e.verdict → Each (HappeningOk A) e.happenings → Legal A S c (does c e)
+legal_effect A S c e ev v h = (refl, v, h, ev, (posts_by e.happenings c.world, refl, inl (no_calls e.happenings c.world)))
 
 hellos_ok : (A : Numbered → ℕ → Type 0) (cs : List Channel) → Each (HappeningOk A) (map hello_to cs)
 hellos_ok A [] = tt
 hellos_ok A (c ∷ cs) = (tt, hellos_ok A cs)
 
-by_test : (A : Numbered → ℕ → Type 0) (c : Cluster) (b : Bool) (x y : Result Done StepRefusal) → Legal A c x → Legal A c y → Legal A c (if b then x else y)
-by_test A c true x y p q = p
-by_test A c false x y p q = q
+by_test : (A : Numbered → ℕ → Type 0) (S : Option Numbered → Call → Type 0) (c : Cluster) (b : Bool) (x y : Result Done StepRefusal) → Legal A S c x → Legal A S c y → Legal A S c (if b then x else y)
+by_test A S c true x y p q = p
+by_test A S c false x y p q = q
 
 verdict_has_room : (o : Option MasterRefusal) → NotNoRoom (verdict_of o)
 verdict_has_room None = tt
 verdict_has_room (Some refusal) = tt
 
-master_legal : (A : Numbered → ℕ → Type 0) (c : Cluster) (d : Doing) → Each (MoveOk A) d.moves → Legal A c (master_does c d)
-master_legal A c d h = legal_effect A c (effect_of [] d) (verdict_has_room d.refusal) (happenings_ok A d.moves h)
+master_legal : (A : Numbered → ℕ → Type 0) (S : Option Numbered → Call → Type 0) (c : Cluster) (d : Doing) → Each (MoveOk A) d.moves → Each (EventOk A) d.events → Legal A S c (master_does c d)
+master_legal A S c d h events = legal_effect A S c (effect_of [] d) events (verdict_has_room d.refusal) (happenings_ok A d.moves h)
 
-takes_event_legal : (A : Numbered → ℕ → Type 0) (c : Cluster) (id : Numbered) (e : Option Event) → Legal A c (takes_event c id e)
-takes_event_legal A c id None = tt
-takes_event_legal A c id (Some e) = (refl, tt, tt, ([], sym (append-nil c.posts)))
+takes_event_legal : (A : Numbered → ℕ → Type 0) (S : Option Numbered → Call → Type 0) (c : Cluster) (id : Numbered) (e : Option Event) → Legal A S c (takes_event c id e)
+takes_event_legal A S c id None = tt
+takes_event_legal A S c id (Some e) = (refl, tt, tt, tt, ([], sym (append-nil c.posts), inl tt))
 
-takes_legal : (A : Numbered → ℕ → Type 0) (c : Cluster) (id : Numbered) (s : Option Stream) → Legal A c (takes c id s)
-takes_legal A c id None = tt
-takes_legal A c id (Some s) = takes_event_legal A c id (slice_get s.events s.taken)
+takes_legal : (A : Numbered → ℕ → Type 0) (S : Option Numbered → Call → Type 0) (c : Cluster) (id : Numbered) (s : Option Stream) → Legal A S c (takes c id s)
+takes_legal A S c id None = tt
+takes_legal A S c id (Some s) = takes_event_legal A S c id (slice_get s.events s.taken)
 
-hears_legal : (A : Numbered → ℕ → Type 0) (c : Cluster) (x : Channel) (place : ℕ) (mail : Option AgentMail) → Legal A c (master_hears c x place mail)
-hears_legal A c x place None = tt
-hears_legal A c x place (Some mail) = legal_effect A c (effect_of (At x.side.name (Hear place) ∷ []) (mailed (master_of c) x.side mail)) (verdict_has_room (mailed (master_of c) x.side mail).refusal) (tt, happenings_ok A (mailed (master_of c) x.side mail).moves (mailed_ok A (master_of c) x.side mail))
+hears_legal : (A : Numbered → ℕ → Type 0) (S : Option Numbered → Call → Type 0) (c : Cluster) (x : Channel) (place : ℕ) (mail : Option AgentMail) → ((m : AgentMail) → mail ≡ Some m → UpTold Always A m) → Legal A S c (master_hears c x place mail)
+hears_legal A S c x place None up = tt
+hears_legal A S c x place (Some mail) up = legal_effect A S c (effect_of (At x.side.name (Hear place) ∷ []) (mailed (master_of c) x.side mail)) (mailed_events A (master_of c) x.side mail (up mail refl)) (verdict_has_room (mailed (master_of c) x.side mail).refusal) (tt, happenings_ok A (mailed (master_of c) x.side mail).moves (mailed_ok A (master_of c) x.side mail))
 
-delivers_up_legal : (A : Numbered → ℕ → Type 0) (c : Cluster) (place : ℕ) (x : Option Channel) → Legal A c (delivers_up c place x)
-delivers_up_legal A c place None = tt
-delivers_up_legal A c place (Some x) = hears_legal A c x place (slice_get x.to_master place)
+delivers_up_legal : (A : Numbered → ℕ → Type 0) (S : Option Numbered → Call → Type 0) (c : Cluster) (place : ℕ) (agent : List ℕ) → AllAcked A c.world → Legal A S c (delivers_up c place (channel_of c agent))
+delivers_up_legal A S c place agent acked = found (Carried Always A) (λ (x : Channel). bytes_eq x.side.name agent) (λ o. Legal A S c (delivers_up c place o)) tt
+    (λ x h. hears_legal A S c x place (slice_get x.to_master place) (λ m e. each_at (UpTold Always A) x.to_master place m h.ups e)) c.world.channels acked
 
 -- a call that acknowledges tells a true thing
 abbrev pub PostOk : (Numbered → ℕ → Type 0) → Master → Option Post → Type 0
@@ -105,27 +145,27 @@ PostOk A m (Some (Called stream call)) = CallOk A m call
 PostOk A m (Some (Down agent place)) = ⊤
 PostOk A m (Some (Up agent place)) = ⊤
 
-delivers_legal : (A : Numbered → ℕ → Type 0) (c : Cluster) (p : Option Post) → PostOk A (master_of c) p → Legal A c (delivers c p)
-delivers_legal A c None h = tt
-delivers_legal A c (Some (Called stream call)) h = master_legal A c (called (master_of c) stream call) (called_ok A (master_of c) stream call h)
-delivers_legal A c (Some (Down agent place)) h = tt
-delivers_legal A c (Some (Up agent place)) h = delivers_up_legal A c place (channel_of c agent)
+delivers_legal : (A : Numbered → ℕ → Type 0) (S : Option Numbered → Call → Type 0) (c : Cluster) (p : Option Post) → PostOk A (master_of c) p → AllAcked A c.world → Legal A S c (delivers c p)
+delivers_legal A S c None h acked = tt
+delivers_legal A S c (Some (Called stream call)) h acked = master_legal A S c (called (master_of c) stream call) (called_ok A (master_of c) stream call h) (called_events A (master_of c) stream call)
+delivers_legal A S c (Some (Down agent place)) h acked = tt
+delivers_legal A S c (Some (Up agent place)) h acked = delivers_up_legal A S c place agent acked
 
-hangs_up_legal : (A : Numbered → ℕ → Type 0) (c : Cluster) (id : Numbered) (s : Option Stream) → Legal A c (hangs_up c id s)
-hangs_up_legal A c id None = tt
-hangs_up_legal A c id (Some s) = master_legal A c (hung_up (master_of c) id) (hung_ok A (master_of c) id)
+hangs_up_legal : (A : Numbered → ℕ → Type 0) (S : Option Numbered → Call → Type 0) (c : Cluster) (id : Numbered) (s : Option Stream) → Legal A S c (hangs_up c id s)
+hangs_up_legal A S c id None = tt
+hangs_up_legal A S c id (Some s) = master_legal A S c (hung_up (master_of c) id) (hung_ok A (master_of c) id) (hung_events A (master_of c) id)
 
-with_master_legal : (A : Numbered → ℕ → Type 0) (c : Cluster) (r : Result Done StepRefusal) → Legal A c r → Legal A c (with_master c r)
-with_master_legal A c r p = by_test A c c.world.run.serves r (Err MasterDown) p tt
+with_master_legal : (A : Numbered → ℕ → Type 0) (S : Option Numbered → Call → Type 0) (c : Cluster) (r : Result Done StepRefusal) → Legal A S c r → Legal A S c (with_master c r)
+with_master_legal A S c r p = by_test A S c c.world.run.serves r (Err MasterDown) p tt
 
 -- agents
 
 abbrev Roomy : Channel → Type 0
 Roomy x = RoomForAll x
 
-drafts_legal : (A : Numbered → ℕ → Type 0) (c : Cluster) (x : Channel) (step : AgentStep) (r : Result Draft AgentRefusal) → HasRoom r → Legal A c (drafts c x step r)
-drafts_legal A c x step (Ok draft) h = legal_effect A c (happening c Fine (At x.side.name (ByAgent step) ∷ [])) tt (tt, tt)
-drafts_legal A c x step (Err refusal) h = legal_effect A c (happening c (AgentRefused refusal) []) h tt
+drafts_legal : (A : Numbered → ℕ → Type 0) (S : Option Numbered → Call → Type 0) (c : Cluster) (x : Channel) (step : AgentStep) (r : Result Draft AgentRefusal) → HasRoom r → Legal A S c (drafts c x step r)
+drafts_legal A S c x step (Ok draft) h = legal_effect A S c (happening c Fine (At x.side.name (ByAgent step) ∷ [])) tt tt (tt, tt)
+drafts_legal A S c x step (Err refusal) h = legal_effect A S c (happening c (AgentRefused refusal) []) tt h tt
 
 room_if : (b : Bool) (x y : Result Draft AgentRefusal) → HasRoom x → HasRoom y → HasRoom (if b then x else y)
 room_if true x y p q = p
@@ -146,74 +186,74 @@ executes_room a key state = room_if (not (list_any (is_task key) a.tasks)) (Err 
     third : Result Draft AgentRefusal
     third = if list_any (λ t. is_task key t && has_ended t) a.tasks then Err Ended else second
 
-draws_mail_at_legal : (A : Numbered → ℕ → Type 0) (c : Cluster) (x : Channel) (place : ℕ) (o : Option MasterMail) → ((m : MasterMail) → o ≡ Some m → HasRoom (hears_mail x.agent m)) → Legal A c (draws_mail_at c x place o)
-draws_mail_at_legal A c x place None h = tt
-draws_mail_at_legal A c x place (Some mail) h = drafts_legal A c x (DrawMail place) (hears_mail x.agent mail) (h mail refl)
+draws_mail_at_legal : (A : Numbered → ℕ → Type 0) (S : Option Numbered → Call → Type 0) (c : Cluster) (x : Channel) (place : ℕ) (o : Option MasterMail) → ((m : MasterMail) → o ≡ Some m → HasRoom (hears_mail x.agent m)) → Legal A S c (draws_mail_at c x place o)
+draws_mail_at_legal A S c x place None h = tt
+draws_mail_at_legal A S c x place (Some mail) h = drafts_legal A S c x (DrawMail place) (hears_mail x.agent mail) (h mail refl)
 
-draws_mail_legal : (A : Numbered → ℕ → Type 0) (c : Cluster) (x : Channel) (p : Option Post) → Roomy x → Legal A c (draws_mail c x p)
-draws_mail_legal A c x None h = tt
-draws_mail_legal A c x (Some (Called stream call)) h = tt
-draws_mail_legal A c x (Some (Up agent place)) h = tt
-draws_mail_legal A c x (Some (Down agent place)) h = by_test A c (bytes_eq agent x.side.name) (draws_mail_at c x place (slice_get x.to_agent place)) (does c (happening c (AgentRefused NotForMe) []))
-    (draws_mail_at_legal A c x place (slice_get x.to_agent place) (λ m e. h place m e)) (legal_effect A c (happening c (AgentRefused NotForMe) []) tt tt)
+draws_mail_legal : (A : Numbered → ℕ → Type 0) (S : Option Numbered → Call → Type 0) (c : Cluster) (x : Channel) (p : Option Post) → Roomy x → Legal A S c (draws_mail c x p)
+draws_mail_legal A S c x None h = tt
+draws_mail_legal A S c x (Some (Called stream call)) h = tt
+draws_mail_legal A S c x (Some (Up agent place)) h = tt
+draws_mail_legal A S c x (Some (Down agent place)) h = by_test A S c (bytes_eq agent x.side.name) (draws_mail_at c x place (slice_get x.to_agent place)) (does c (happening c (AgentRefused NotForMe) []))
+    (draws_mail_at_legal A S c x place (slice_get x.to_agent place) (λ m e. h place m e)) (legal_effect A S c (happening c (AgentRefused NotForMe) []) tt tt tt)
 
-prepares_legal : (A : Numbered → ℕ → Type 0) (c : Cluster) (cause : StepCause) (x : Channel) → Roomy x → Legal A c (prepares c cause x)
-prepares_legal A c ByStart x h = drafts_legal A c x (Draw Start) (next_of x.agent Start) (room_if (x.agent.run == 0) (Err OldSession) (opens_next x.agent x.agent.session x.agent.run) tt (opens_room x.agent x.agent.session x.agent.run))
-prepares_legal A c ByAgain x h = drafts_legal A c x (Draw Again) (next_of x.agent Again) tt
-prepares_legal A c (ByExecutor key state) x h = drafts_legal A c x (Draw (Executor key state)) (next_of x.agent (Executor key state)) (executes_room x.agent key state)
-prepares_legal A c (ByMail number) x h = draws_mail_legal A c x (post_at c number) h
+prepares_legal : (A : Numbered → ℕ → Type 0) (S : Option Numbered → Call → Type 0) (c : Cluster) (cause : StepCause) (x : Channel) → Roomy x → Legal A S c (prepares c cause x)
+prepares_legal A S c ByStart x h = drafts_legal A S c x (Draw Start) (next_of x.agent Start) (room_if (x.agent.run == 0) (Err OldSession) (opens_next x.agent x.agent.session x.agent.run) tt (opens_room x.agent x.agent.session x.agent.run))
+prepares_legal A S c ByAgain x h = drafts_legal A S c x (Draw Again) (next_of x.agent Again) tt
+prepares_legal A S c (ByExecutor key state) x h = drafts_legal A S c x (Draw (Executor key state)) (next_of x.agent (Executor key state)) (executes_room x.agent key state)
+prepares_legal A S c (ByMail number) x h = draws_mail_legal A S c x (post_at c number) h
 
-by_draft_legal : (A : Numbered → ℕ → Type 0) (c : Cluster) (d : Option Draft) (without with_one : Result Done StepRefusal) → Legal A c without → Legal A c with_one → Legal A c (by_draft d without with_one)
-by_draft_legal A c None without with_one p q = p
-by_draft_legal A c (Some d) without with_one p q = q
+by_draft_legal : (A : Numbered → ℕ → Type 0) (S : Option Numbered → Call → Type 0) (c : Cluster) (d : Option Draft) (without with_one : Result Done StepRefusal) → Legal A S c without → Legal A S c with_one → Legal A S c (by_draft d without with_one)
+by_draft_legal A S c None without with_one p q = p
+by_draft_legal A S c (Some d) without with_one p q = q
 
-if_up_legal : (A : Numbered → ℕ → Type 0) (c : Cluster) (step : Channel → Result Done StepRefusal) (x : Channel) → Legal A c (step x) → Legal A c (if_up c step x)
-if_up_legal A c step x p = by_test A c (is_fallen c x) (Err AgentDown) (step x) tt p
+if_up_legal : (A : Numbered → ℕ → Type 0) (S : Option Numbered → Call → Type 0) (c : Cluster) (step : Channel → Result Done StepRefusal) (x : Channel) → Legal A S c (step x) → Legal A S c (if_up c step x)
+if_up_legal A S c step x p = by_test A S c (is_fallen c x) (Err AgentDown) (step x) tt p
 
-at_channel_legal : (A : Numbered → ℕ → Type 0) (c : Cluster) (agent : List ℕ) (step : Channel → Result Done StepRefusal) → Each Roomy c.world.channels → ((x : Channel) → Roomy x → Legal A c (step x)) → Legal A c (at_channel (channel_of c agent) step)
-at_channel_legal A c agent step rooms p = found Roomy (λ x. bytes_eq x.side.name agent) (λ o. Legal A c (at_channel o step)) tt p c.world.channels rooms
+at_channel_legal : (A : Numbered → ℕ → Type 0) (S : Option Numbered → Call → Type 0) (c : Cluster) (agent : List ℕ) (step : Channel → Result Done StepRefusal) → Each Roomy c.world.channels → ((x : Channel) → Roomy x → Legal A S c (step x)) → Legal A S c (at_channel (channel_of c agent) step)
+at_channel_legal A S c agent step rooms p = found Roomy (λ x. bytes_eq x.side.name agent) (λ o. Legal A S c (at_channel o step)) tt p c.world.channels rooms
 
 -- all steps
 
-answer_legal : (A : Numbered → ℕ → Type 0) (c : Cluster) → Each Roomy c.world.channels → ((number : ℕ) → PostOk A (master_of c) (post_at c number)) → (s : Step) → Legal A c (answer c s)
-answer_legal A c rooms acks (Send stream call) = (refl, tt, tt, (Called stream call ∷ [], refl))
-answer_legal A c rooms acks (Deliver number) = with_master_legal A c (delivers c (post_at c number)) (delivers_legal A c (post_at c number) (acks number))
-answer_legal A c rooms acks Allocate = with_master_legal A c (master_does c (allocated (master_of c))) (master_legal A c (allocated (master_of c)) (allocated_ok A (master_of c)))
-answer_legal A c rooms acks (Tick now) = with_master_legal A c (ticks_at c now) (by_test A c (nat_lt now c.last_tick) (Err TimeBack) (master_does (with_tick c now) (ticked (master_of c) now)) tt (legal_effect A (with_tick c now) (effect_of [] (ticked (master_of c) now)) tt (happenings_ok A (ticked (master_of c) now).moves (ticked_ok A (master_of c) now))))
-answer_legal A c rooms acks (LoseAgent agent) = at_channel_legal A c agent (λ x. with_master c (loses_agent c x)) rooms (λ x h. with_master_legal A c (loses_agent c x) (master_legal A c (agent_lost (master_of c) x.side) (lost_ok A (master_of c) x.side)))
-answer_legal A c rooms acks (HangUp stream) = with_master_legal A c (hangs_up c stream (stream_at c stream)) (hangs_up_legal A c stream (stream_at c stream))
-answer_legal A c rooms acks (Prepare agent cause) = at_channel_legal A c agent (if_up c (without_draft (prepares c cause))) rooms (λ x h. if_up_legal A c (without_draft (prepares c cause)) x (by_draft_legal A c x.draft (prepares c cause x) (Err DraftOpen) (prepares_legal A c cause x h) tt))
-answer_legal A c rooms acks (Commit agent) = at_channel_legal A c agent (if_up c (with_draft (commits c))) rooms (λ x h. if_up_legal A c (with_draft (commits c)) x (by_draft_legal A c x.draft (Err NoDraft) (commits c x) tt (legal_effect A c (happening c Fine (At x.side.name (ByAgent Adopt) ∷ [])) tt (tt, tt))))
-answer_legal A c rooms acks (StopBefore agent) = at_channel_legal A c agent (stops c StopWithout) rooms (λ x h. legal_effect A (up_again c x.side.name) (happening c Fine (At x.side.name (ByAgent StopWithout) ∷ [])) tt (tt, tt))
-answer_legal A c rooms acks (StopAfter agent) = at_channel_legal A c agent (with_draft (stops c StopWith)) rooms (λ x h. by_draft_legal A c x.draft (Err NoDraft) (stops c StopWith x) tt (legal_effect A (up_again c x.side.name) (happening c Fine (At x.side.name (ByAgent StopWith) ∷ [])) tt (tt, tt)))
-answer_legal A c rooms acks StopMaster = stops_legal (nat_lt c.world.run.number last_run)
+answer_legal : (A : Numbered → ℕ → Type 0) (S : Option Numbered → Call → Type 0) (c : Cluster) → Each Roomy c.world.channels → ((number : ℕ) → PostOk A (master_of c) (post_at c number)) → AllAcked A c.world → (s : Step) → ((stream : Option Numbered) (call : Call) → s ≡ Send stream call → S stream call) → Legal A S c (answer c s)
+answer_legal A S c rooms acks acked (Send stream call) sends = (refl, tt, tt, tt, (Called stream call ∷ [], refl, inr (sends stream call refl)))
+answer_legal A S c rooms acks acked (Deliver number) sends = with_master_legal A S c (delivers c (post_at c number)) (delivers_legal A S c (post_at c number) (acks number) acked)
+answer_legal A S c rooms acks acked Allocate sends = with_master_legal A S c (master_does c (allocated (master_of c))) (master_legal A S c (allocated (master_of c)) (allocated_ok A (master_of c)) (allocated_events A (master_of c)))
+answer_legal A S c rooms acks acked (Tick now) sends = with_master_legal A S c (ticks_at c now) (by_test A S c (nat_lt now c.last_tick) (Err TimeBack) (master_does (with_tick c now) (ticked (master_of c) now)) tt (legal_effect A S (with_tick c now) (effect_of [] (ticked (master_of c) now)) (ticked_events A (master_of c) now) tt (happenings_ok A (ticked (master_of c) now).moves (ticked_ok A (master_of c) now))))
+answer_legal A S c rooms acks acked (LoseAgent agent) sends = at_channel_legal A S c agent (λ x. with_master c (loses_agent c x)) rooms (λ x h. with_master_legal A S c (loses_agent c x) (master_legal A S c (agent_lost (master_of c) x.side) (lost_ok A (master_of c) x.side) (lost_events A (master_of c) x.side)))
+answer_legal A S c rooms acks acked (HangUp stream) sends = with_master_legal A S c (hangs_up c stream (stream_at c stream)) (hangs_up_legal A S c stream (stream_at c stream))
+answer_legal A S c rooms acks acked (Prepare agent cause) sends = at_channel_legal A S c agent (if_up c (without_draft (prepares c cause))) rooms (λ x h. if_up_legal A S c (without_draft (prepares c cause)) x (by_draft_legal A S c x.draft (prepares c cause x) (Err DraftOpen) (prepares_legal A S c cause x h) tt))
+answer_legal A S c rooms acks acked (Commit agent) sends = at_channel_legal A S c agent (if_up c (with_draft (commits c))) rooms (λ x h. if_up_legal A S c (with_draft (commits c)) x (by_draft_legal A S c x.draft (Err NoDraft) (commits c x) tt (legal_effect A S c (happening c Fine (At x.side.name (ByAgent Adopt) ∷ [])) tt tt (tt, tt))))
+answer_legal A S c rooms acks acked (StopBefore agent) sends = at_channel_legal A S c agent (stops c StopWithout) rooms (λ x h. legal_effect A S (up_again c x.side.name) (happening c Fine (At x.side.name (ByAgent StopWithout) ∷ [])) tt tt (tt, tt))
+answer_legal A S c rooms acks acked (StopAfter agent) sends = at_channel_legal A S c agent (with_draft (stops c StopWith)) rooms (λ x h. by_draft_legal A S c x.draft (Err NoDraft) (stops c StopWith x) tt (legal_effect A S (up_again c x.side.name) (happening c Fine (At x.side.name (ByAgent StopWith) ∷ [])) tt tt (tt, tt)))
+answer_legal A S c rooms acks acked StopMaster sends = stops_legal (nat_lt c.world.run.number last_run)
   where
-    stops_legal : (b : Bool) → Legal A c (does c (if b then record (happening c Fine (Restart ∷ map hello_to c.world.channels)) { registers = new_registers } else record (happening c Fine (Halt ∷ [])) { registers = new_registers }))
-    stops_legal true = legal_effect A c (record (happening c Fine (Restart ∷ map hello_to c.world.channels)) { registers = new_registers }) tt (tt, hellos_ok A c.world.channels)
-    stops_legal false = legal_effect A c (record (happening c Fine (Halt ∷ [])) { registers = new_registers }) tt (tt, tt)
-answer_legal A c rooms acks (Take stream) = takes_legal A c stream (stream_at c stream)
+    stops_legal : (b : Bool) → Legal A S c (does c (if b then record (happening c Fine (Restart ∷ map hello_to c.world.channels)) { registers = new_registers } else record (happening c Fine (Halt ∷ [])) { registers = new_registers }))
+    stops_legal true = legal_effect A S c (record (happening c Fine (Restart ∷ map hello_to c.world.channels)) { registers = new_registers }) tt tt (tt, hellos_ok A c.world.channels)
+    stops_legal false = legal_effect A S c (record (happening c Fine (Halt ∷ [])) { registers = new_registers }) tt tt (tt, tt)
+answer_legal A S c rooms acks acked (Take stream) sends = takes_legal A S c stream (stream_at c stream)
 
-instead_legal : (A : Numbered → ℕ → Type 0) (c : Cluster) (r : Result Done StepRefusal) (d : Done) → Legal A c (Ok d) → Legal A c (instead r d)
-instead_legal A c (Ok done) d m = m
-instead_legal A c (Err e) d m = tt
+instead_legal : (A : Numbered → ℕ → Type 0) (S : Option Numbered → Call → Type 0) (c : Cluster) (r : Result Done StepRefusal) (d : Done) → Legal A S c (Ok d) → Legal A S c (instead r d)
+instead_legal A S c (Ok done) d m = m
+instead_legal A S c (Err e) d m = tt
 
-fallen_legal : (A : Numbered → ℕ → Type 0) (c : Cluster) → Each Roomy c.world.channels → ((number : ℕ) → PostOk A (master_of c) (post_at c number)) → (s : Step) → Legal A c (fallen_answer c s)
-fallen_legal A c rooms acks (Send stream call) = answer_legal A c rooms acks (Send stream call)
-fallen_legal A c rooms acks (Deliver number) = instead_legal A c (answer c (Deliver number)) (master_falls c) (legal_effect A c (record (happening c Fell (Halt ∷ [])) { registers = new_registers }) tt (tt, tt))
-fallen_legal A c rooms acks Allocate = instead_legal A c (answer c Allocate) (master_falls c) (legal_effect A c (record (happening c Fell (Halt ∷ [])) { registers = new_registers }) tt (tt, tt))
-fallen_legal A c rooms acks (Tick now) = instead_legal A c (answer c (Tick now)) (master_falls (with_tick c now)) (legal_effect A (with_tick c now) (record (happening (with_tick c now) Fell (Halt ∷ [])) { registers = new_registers }) tt (tt, tt))
-fallen_legal A c rooms acks (LoseAgent agent) = instead_legal A c (answer c (LoseAgent agent)) (master_falls c) (legal_effect A c (record (happening c Fell (Halt ∷ [])) { registers = new_registers }) tt (tt, tt))
-fallen_legal A c rooms acks (HangUp stream) = instead_legal A c (answer c (HangUp stream)) (master_falls c) (legal_effect A c (record (happening c Fell (Halt ∷ [])) { registers = new_registers }) tt (tt, tt))
-fallen_legal A c rooms acks (Prepare agent cause) = instead_legal A c (answer c (Prepare agent cause)) (agent_falls c agent StopWithout) (legal_effect A (fallen_too c agent) (happening (fallen_too c agent) Fell (At agent (ByAgent StopWithout) ∷ [])) tt (tt, tt))
-fallen_legal A c rooms acks (Commit agent) = answer_legal A c rooms acks (Commit agent)
-fallen_legal A c rooms acks (StopBefore agent) = instead_legal A c (answer c (StopBefore agent)) (agent_falls c agent StopWithout) (legal_effect A (fallen_too c agent) (happening (fallen_too c agent) Fell (At agent (ByAgent StopWithout) ∷ [])) tt (tt, tt))
-fallen_legal A c rooms acks (StopAfter agent) = instead_legal A c (answer c (StopAfter agent)) (agent_falls c agent StopWith) (legal_effect A (fallen_too c agent) (happening (fallen_too c agent) Fell (At agent (ByAgent StopWith) ∷ [])) tt (tt, tt))
-fallen_legal A c rooms acks StopMaster = by_test A c (nat_lt c.world.run.number last_run) (Ok (new_master_falls c)) (answer c StopMaster) (legal_effect A c (record (happening c Fell (Restart ∷ Halt ∷ [])) { registers = new_registers }) tt (tt, (tt, tt))) (answer_legal A c rooms acks StopMaster)
-fallen_legal A c rooms acks (Take stream) = answer_legal A c rooms acks (Take stream)
+fallen_legal : (A : Numbered → ℕ → Type 0) (S : Option Numbered → Call → Type 0) (c : Cluster) → Each Roomy c.world.channels → ((number : ℕ) → PostOk A (master_of c) (post_at c number)) → AllAcked A c.world → (s : Step) → ((stream : Option Numbered) (call : Call) → s ≡ Send stream call → S stream call) → Legal A S c (fallen_answer c s)
+fallen_legal A S c rooms acks acked (Send stream call) sends = answer_legal A S c rooms acks acked (Send stream call) sends
+fallen_legal A S c rooms acks acked (Deliver number) sends = instead_legal A S c (answer c (Deliver number)) (master_falls c) (legal_effect A S c (record (happening c Fell (Halt ∷ [])) { registers = new_registers }) tt tt (tt, tt))
+fallen_legal A S c rooms acks acked Allocate sends = instead_legal A S c (answer c Allocate) (master_falls c) (legal_effect A S c (record (happening c Fell (Halt ∷ [])) { registers = new_registers }) tt tt (tt, tt))
+fallen_legal A S c rooms acks acked (Tick now) sends = instead_legal A S c (answer c (Tick now)) (master_falls (with_tick c now)) (legal_effect A S (with_tick c now) (record (happening (with_tick c now) Fell (Halt ∷ [])) { registers = new_registers }) tt tt (tt, tt))
+fallen_legal A S c rooms acks acked (LoseAgent agent) sends = instead_legal A S c (answer c (LoseAgent agent)) (master_falls c) (legal_effect A S c (record (happening c Fell (Halt ∷ [])) { registers = new_registers }) tt tt (tt, tt))
+fallen_legal A S c rooms acks acked (HangUp stream) sends = instead_legal A S c (answer c (HangUp stream)) (master_falls c) (legal_effect A S c (record (happening c Fell (Halt ∷ [])) { registers = new_registers }) tt tt (tt, tt))
+fallen_legal A S c rooms acks acked (Prepare agent cause) sends = instead_legal A S c (answer c (Prepare agent cause)) (agent_falls c agent StopWithout) (legal_effect A S (fallen_too c agent) (happening (fallen_too c agent) Fell (At agent (ByAgent StopWithout) ∷ [])) tt tt (tt, tt))
+fallen_legal A S c rooms acks acked (Commit agent) sends = answer_legal A S c rooms acks acked (Commit agent) sends
+fallen_legal A S c rooms acks acked (StopBefore agent) sends = instead_legal A S c (answer c (StopBefore agent)) (agent_falls c agent StopWithout) (legal_effect A S (fallen_too c agent) (happening (fallen_too c agent) Fell (At agent (ByAgent StopWithout) ∷ [])) tt tt (tt, tt))
+fallen_legal A S c rooms acks acked (StopAfter agent) sends = instead_legal A S c (answer c (StopAfter agent)) (agent_falls c agent StopWith) (legal_effect A S (fallen_too c agent) (happening (fallen_too c agent) Fell (At agent (ByAgent StopWith) ∷ [])) tt tt (tt, tt))
+fallen_legal A S c rooms acks acked StopMaster sends = by_test A S c (nat_lt c.world.run.number last_run) (Ok (new_master_falls c)) (answer c StopMaster) (legal_effect A S c (record (happening c Fell (Restart ∷ Halt ∷ [])) { registers = new_registers }) tt tt (tt, (tt, tt))) (answer_legal A S c rooms acks acked StopMaster sends)
+fallen_legal A S c rooms acks acked (Take stream) sends = answer_legal A S c rooms acks acked (Take stream) sends
 
-step_legal : (A : Numbered → ℕ → Type 0) (c : Cluster) → Each Roomy c.world.channels → ((number : ℕ) → PostOk A (master_of c) (post_at c number)) → (s : Marked) → Legal A c (step_marked c s)
-step_legal A c rooms acks s = by_test A c (nat_le last_number c.entries) (Err HistoryFull) (if s.fell then fallen_answer c s.step else answer c s.step) tt
-    (by_test A c s.fell (fallen_answer c s.step) (answer c s.step) (fallen_legal A c rooms acks s.step) (answer_legal A c rooms acks s.step))
+step_legal : (A : Numbered → ℕ → Type 0) (S : Option Numbered → Call → Type 0) (c : Cluster) → Each Roomy c.world.channels → ((number : ℕ) → PostOk A (master_of c) (post_at c number)) → AllAcked A c.world → (s : Marked) → ((stream : Option Numbered) (call : Call) → s.step ≡ Send stream call → S stream call) → Legal A S c (step_marked c s)
+step_legal A S c rooms acks acked s sends = by_test A S c (nat_le last_number c.entries) (Err HistoryFull) (if s.fell then fallen_answer c s.step else answer c s.step) tt
+    (by_test A S c s.fell (fallen_answer c s.step) (answer c s.step) (fallen_legal A S c rooms acks acked s.step sends) (answer_legal A S c rooms acks acked s.step sends))
 
 -- histories
 
@@ -337,39 +377,56 @@ number_tells rs c marks ok (suc n) = post_tells rs c marks ok n (slice_get c.pos
 
 -- all histories
 
+abbrev pub EntryOk : (Numbered → ℕ → Type 0) → Entry → Type 0
+EntryOk A e = Each (EventOk A) e.outs.events
+
 pub record HistoryOk (records : List Durable) (start : World) (h : History) : Type 0 where
   pub path : h.state.world ≡ after_all h.happenings start
   pub world : WorldOk h.state.world
   pub verdicts : Each (λ (e : Entry). NotNoRoom e.verdict) h.entries
   pub origin : OriginOk records h.state.world (trail h.happenings start [])
   pub acked : AllAcked (AckedBy records (trail h.happenings start []) h.state.posts) h.state.world
+  pub told : Each (EntryOk (AckedBy records (trail h.happenings start []) h.state.posts)) h.entries
 
-extended_ok : (records : List Durable) (start : World) (h : History) (r : Result Done StepRefusal) → Legal (AckedBy records (trail h.happenings start []) h.state.posts) h.state r → HistoryOk records start h → HistoryOk records start (extended h r)
-extended_ok records start h (Ok d) l ok = record {
+events_wider : (A B : Numbered → ℕ → Type 0) → ((key : Numbered) (k : ℕ) → A key k → B key k) → (ts : List Told) → Each (EventOk A) ts → Each (EventOk B) ts
+events_wider A B f ts h = each_map (EventOk A) (EventOk B) (λ t k. event_wider A B f t.event k) ts h
+
+extended_ok : (records : List Durable) (start : World) (S : Option Numbered → Call → Type 0) (h : History) (r : Result Done StepRefusal) → Legal (AckedBy records (trail h.happenings start []) h.state.posts) S h.state r → HistoryOk records start h → HistoryOk records start (extended h r)
+extended_ok records start S h (Ok d) l ok = record {
   path = l.0 ∙ (ap (after_all d.happenings) ok.path ∙ sym (after_append h.happenings d.happenings start));
   world = subst WorldOk (sym l.0) (world_after_all d.happenings h.state.world ok.world);
   verdicts = each_append (λ (e : Entry). NotNoRoom e.verdict) h.entries (d.entry ∷ []) ok.verdicts (l.1, tt);
   origin = subst (OriginOk records d.after.world) trails (subst (λ w. OriginOk records w (trail d.happenings h.state.world marks)) (sym l.0) (origin_all records d.happenings h.state.world marks ok.origin));
-  acked = subst (λ ms. AllAcked (AckedBy records ms d.after.posts) d.after.world) trails (subst (λ ps. AllAcked (AckedBy records (trail d.happenings h.state.world marks) ps) d.after.world) (sym l.3.1)
-      (subst (AllAcked (AckedBy records (trail d.happenings h.state.world marks) (h.state.posts ++ l.3.0))) (sym l.0) wider));
+  acked = subst (λ ms. AllAcked (AckedBy records ms d.after.posts) d.after.world) trails (subst (λ ps. AllAcked (AckedBy records (trail d.happenings h.state.world marks) ps) d.after.world) (sym l.4.1)
+      (subst (AllAcked (AckedBy records (trail d.happenings h.state.world marks) (h.state.posts ++ l.4.0))) (sym l.0) wider));
+  told = each_append (EntryOk later) h.entries (d.entry ∷ []) (each_map (EntryOk now) (EntryOk later) (λ e k. events_wider now later grown e.outs.events k) h.entries ok.told) (events_wider now later grown d.entry.outs.events l.3, tt);
 }
   where
     marks : List Mark
     marks = trail h.happenings start []
 
+    now : Numbered → ℕ → Type 0
+    now = AckedBy records (trail h.happenings start []) h.state.posts
+
+    later : Numbered → ℕ → Type 0
+    later = AckedBy records (trail (h.happenings ++ d.happenings) start []) d.after.posts
+
     trails : trail d.happenings h.state.world (trail h.happenings start []) ≡ trail (h.happenings ++ d.happenings) start []
     trails = subst (λ w. trail d.happenings w (trail h.happenings start []) ≡ trail (h.happenings ++ d.happenings) start []) (sym ok.path) (sym (trail_append h.happenings d.happenings start []))
 
-    wider : AllAcked (AckedBy records (trail d.happenings h.state.world (trail h.happenings start [])) (h.state.posts ++ l.3.0)) (after_all d.happenings h.state.world)
-    wider = each_map (Carried Always (AckedBy records marks h.state.posts)) (Carried Always (AckedBy records (trail d.happenings h.state.world marks) (h.state.posts ++ l.3.0)))
-        (λ c k. told_wider Always Always (AckedBy records marks h.state.posts) (AckedBy records (trail d.happenings h.state.world marks) (h.state.posts ++ l.3.0)) (λ j x. x) (λ key i x. acked_more records d.happenings h.state.world marks h.state.posts l.3.0 key i x) c k)
+    grown : (key : Numbered) (k : ℕ) → AckedBy records (trail h.happenings start []) h.state.posts key k → AckedBy records (trail (h.happenings ++ d.happenings) start []) d.after.posts key k
+    grown key k x = subst (λ ms. AckedBy records ms d.after.posts key k) trails (subst (λ ps. AckedBy records (trail d.happenings h.state.world marks) ps key k) (sym l.4.1) (acked_more records d.happenings h.state.world marks h.state.posts l.4.0 key k x))
+
+    wider : AllAcked (AckedBy records (trail d.happenings h.state.world (trail h.happenings start [])) (h.state.posts ++ l.4.0)) (after_all d.happenings h.state.world)
+    wider = each_map (Carried Always (AckedBy records marks h.state.posts)) (Carried Always (AckedBy records (trail d.happenings h.state.world marks) (h.state.posts ++ l.4.0)))
+        (λ c k. told_wider Always Always (AckedBy records marks h.state.posts) (AckedBy records (trail d.happenings h.state.world marks) (h.state.posts ++ l.4.0)) (λ j x. x) (λ key i x. acked_more records d.happenings h.state.world marks h.state.posts l.4.0 key i x) c k)
         (after_all d.happenings h.state.world).channels (worlds_acked (AckedBy records marks h.state.posts) d.happenings h.state.world l.2 ok.acked)
-extended_ok records start h (Err refusal) l ok = ok
+extended_ok records start S h (Err refusal) l ok = ok
 
 extend_ok : (records : List Durable) (start : World) (ss : List Marked) (h : History) → HistoryOk records start h → HistoryOk records start (extend_all h ss)
 extend_ok records start [] h ok = ok
 extend_ok records start (s ∷ ss) h ok = extend_ok records start ss (extended h (step_marked h.state s))
-    (extended_ok records start h (step_marked h.state s) (step_legal (AckedBy records (trail h.happenings start []) h.state.posts) h.state (all_room h.state.world ok.world) (number_tells records h.state (trail h.happenings start []) ok.origin) s) ok)
+    (extended_ok records start (λ stream call. ⊤) h (step_marked h.state s) (step_legal (AckedBy records (trail h.happenings start []) h.state.posts) (λ stream call. ⊤) h.state (all_room h.state.world ok.world) (number_tells records h.state (trail h.happenings start []) ok.origin) ok.acked s (λ stream call e. tt)) ok)
 
 -- the opening
 
@@ -408,6 +465,7 @@ history_ok run records steps good = extend_ok records (open_world run records) s
   verdicts = (tt, tt);
   origin = origin_all records (map hello_to (open_world run records).channels) (open_world run records) [] (origin_opened run records good);
   acked = opening_acked run records;
+  told = (tt, tt);
 })
 
 -- the laws
@@ -427,7 +485,8 @@ history_origin run records steps good = has_origin records (history run records 
 pub history_found : (run : ℕ) (records : List Durable) (steps : List Marked) (later : ℕ) (found : List Durable) → GoodOpening run records → (history run records steps).state.world.run.number < later → IsFound (history run records steps).state.world.channels found → GoodOpening later found
 history_found run records steps later found good lt is =
     found_good records (trail (history run records steps).happenings (open_world run records) []) (history run records steps).state.world later found
-    (history_ok run records steps good).world (history_ok run records steps good).origin lt is
+    (history_ok run records steps good).world (history_ok run records steps good).origin
+    (subst (λ w. AllNamed w.channels) (sym (history_ok run records steps good).path) (worlds_named (history run records steps).happenings (open_world run records) (open_named records))) lt is
 
 -- jobs with one key are one job
 once_same : (js : List Job) (i j : Job) → KeysOnce js → IsOneOf i js → IsOneOf j js → i.key ≡ j.key → i ≡ j
@@ -459,3 +518,6 @@ history_acknowledged run records steps good = each_both (ChannelOk records h.sta
 
     all : HistoryOk records (open_world run records) (history run records steps)
     all = history_ok run records steps good
+
+pub history_premises : (run : ℕ) (records : List Durable) (steps : List Marked) → GoodOpening run records → Each (λ c. NextLaunchIsNew c × ReportFits c) (history run records steps).state.world.channels
+history_premises run records steps good = all_premises (history run records steps).state.world (history_ok run records steps good).world

@@ -11,6 +11,7 @@ pub mod Room
 pub mod Opened
 pub mod Worlds
 pub mod Openings
+pub mod Names
 pub mod Stopped
 pub mod Alone
 pub mod Acks
@@ -22,3 +23,5 @@ pub mod Origins
 pub mod Trails
 pub mod SideTrails
 pub mod OriginWorlds
+pub mod Premises
+pub mod Events

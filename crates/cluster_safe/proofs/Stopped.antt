@@ -25,6 +25,7 @@ use Rattle.cluster_safe.proofs.Told.{drafts_of, TaskTold, AgentTold, past}
 use Rattle.cluster_safe.proofs.Origins.{Any, in_behind, in_front_of}
 use Rattle.cluster_safe.proofs.OriginWorlds.{ChannelOk, names_of, OriginOk}
 use Rattle.cluster_safe.proofs.Openings.{once_left, once_right}
+use Rattle.cluster_safe.proofs.Names.{NamedAs, AllNamed}
 
 -- jobs with one key are one job, on one agent
 
@@ -154,11 +155,19 @@ AllFound rs run marks [] (d ∷ ds) = ⊥
 AllFound rs run marks (c ∷ cs) [] = ⊥
 AllFound rs run marks (c ∷ cs) (d ∷ ds) = FoundOk rs run marks c d × (d.name ≡ c.side.name) × AllFound rs run marks cs ds
 
-all_found : (rs : List Durable) (marks : List Mark) (run : Run) (cs : List Channel) (ds : List Durable) → Each (λ c. Kept (record { run = run; channel = c })) cs → Each (ChannelOk rs run marks) cs → IsFound cs ds → AllFound rs run marks cs ds
-all_found rs marks run [] [] k ok f = tt
-all_found rs marks run [] (d ∷ ds) k ok f = absurd f
-all_found rs marks run (c ∷ cs) [] k ok f = absurd f
-all_found rs marks run (c ∷ cs) (d ∷ ds) k ok f = (channel_found rs marks (record { run = run; channel = c }) d k.0 ok.0 f.1, f.0, all_found rs marks run cs ds k.1 ok.1 f.2)
+draft_named : (name : List ℕ) (o : Option Draft) (d : Durable) → Each (λ (a : Agent). a.durable.name ≡ name) (drafts_of o) → IsDraftOf o d → d.name ≡ name
+draft_named name None d n e = absurd e
+draft_named name (Some draft) d n e = ap (λ (x : Durable). x.name) e ∙ n.0
+
+found_named : (c : Channel) (d : Durable) → NamedAs c.side.name c → (d ≡ c.agent.durable) ⊎ IsDraftOf c.draft d → d.name ≡ c.side.name
+found_named c d n (inl e) = ap (λ (x : Durable). x.name) e ∙ n.0
+found_named c d n (inr e) = draft_named c.side.name c.draft d n.1 e
+
+all_found : (rs : List Durable) (marks : List Mark) (run : Run) (cs : List Channel) (ds : List Durable) → Each (λ c. Kept (record { run = run; channel = c })) cs → Each (ChannelOk rs run marks) cs → AllNamed cs → IsFound cs ds → AllFound rs run marks cs ds
+all_found rs marks run [] [] k ok n f = tt
+all_found rs marks run [] (d ∷ ds) k ok n f = absurd f
+all_found rs marks run (c ∷ cs) [] k ok n f = absurd f
+all_found rs marks run (c ∷ cs) (d ∷ ds) k ok n f = (channel_found rs marks (record { run = run; channel = c }) d k.0 ok.0 f.0, found_named c d n.0 f.0, all_found rs marks run cs ds k.1 ok.1 n.1 f.1)
 
 found_apart : (rs : List Durable) (marks : List Mark) (run : Run) (name : List ℕ) (i : Job) (cs : List Channel) (ds : List Durable) → KeysOnce (jobs_of marks ++ recorded_jobs rs) → From rs name marks i → Each (λ m. m ≢ name) (names_of cs) → AllFound rs run marks cs ds → Each (λ j. j.key ≢ i.key) (recorded_jobs ds)
 found_apart rs marks run name i [] [] once h d f = tt
@@ -198,8 +207,8 @@ each_found rs marks run later (c ∷ cs) (d ∷ ds) e lt f =
       each_append (λ j. j.key.run < later) (map (λ t. t.job) d.tasks) (recorded_jobs ds) (stake_keys (λ key. key.run < later) d.tasks (each_map (λ s. Less s.job.key run.next_key) (λ s. s.job.key.run < later) (λ s k. key_of_run s.job.key run.next_key run.number later k e lt) (map task_stake d.tasks) f.0.below)) rest.2,
     )
 
-pub found_good : (rs : List Durable) (marks : List Mark) (w : World) (later : ℕ) (ds : List Durable) → WorldOk w → OriginOk rs w marks → w.run.number < later → IsFound w.channels ds → GoodOpening later ds
-found_good rs marks w later ds ok origin lt f =
-    let all = all_found rs marks w.run w.channels ds ok.kept origin.channels f in
+pub found_good : (rs : List Durable) (marks : List Mark) (w : World) (later : ℕ) (ds : List Durable) → WorldOk w → OriginOk rs w marks → AllNamed w.channels → w.run.number < later → IsFound w.channels ds → GoodOpening later ds
+found_good rs marks w later ds ok origin named lt f =
+    let all = all_found rs marks w.run w.channels ds ok.kept origin.channels named f in
     let each = each_found rs marks w.run later w.channels ds ok.of_run lt all in
     record { fits = each.0; older = each.1; keys_older = each.2; keys_once = found_once rs marks w.run w.channels ds origin.keys.once origin.once all; names_once = subst NamesOnce (sym (found_names rs marks w.run w.channels ds all)) origin.once }

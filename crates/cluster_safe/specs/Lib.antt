@@ -4,3 +4,5 @@ pub mod Origin
 pub mod Saved
 pub mod Acknowledged
 pub mod Listed
+pub mod Premises
+pub mod Honest

@@ -9,9 +9,9 @@ abbrev pub IsDraftOf : Option Draft → Durable → Type 0
 IsDraftOf None d = ⊥
 IsDraftOf (Some draft) d = d ≡ draft.after.durable
 
--- for each agent, under its name, its record or that of its open draft
+-- for each agent its record or that of its open draft
 abbrev pub IsFound : List Channel → List Durable → Type 0
 IsFound [] [] = ⊤
 IsFound [] (d ∷ ds) = ⊥
 IsFound (c ∷ cs) [] = ⊥
-IsFound (c ∷ cs) (d ∷ ds) = (d.name ≡ c.side.name) × ((d ≡ c.agent.durable) ⊎ IsDraftOf c.draft d) × IsFound cs ds
+IsFound (c ∷ cs) (d ∷ ds) = ((d ≡ c.agent.durable) ⊎ IsDraftOf c.draft d) × IsFound cs ds

@@ -14,6 +14,7 @@ ghost use Rattle.cluster_model.specs.Steps.{Marked, channel_of, done, effect_of,
 ghost use Rattle.cluster_safe.specs.Acknowledged.{AcknowledgedByOwner};
 ghost use Rattle.cluster_safe.specs.Listed.{MoveFrom, MoveWithout};
 ghost use Rattle.cluster_safe.specs.Origin.{HasOrigin, launched, trail};
+ghost use Rattle.cluster_safe.specs.Premises.{NextLaunchIsNew, ReportFits};
 ghost use Rattle.cluster_safe.specs.Saved.{IsFound};
 ghost use Rattle.cluster_safe.specs.Safe.{NeverLacksRoom};
 ghost use Rattle.mails.specs.declared.call.Call.{Call};
@@ -52,6 +53,12 @@ pub fn acknowledged_by_the_owner()
 pub fn found_records_open_again()
     ensures { (run : ℕ) (records : List Durable) (steps : List Marked) (later : ℕ) (found : List Durable) → GoodOpening run records →
         (history run records steps).state.world.run.number < later → IsFound (history run records steps).state.world.channels found → GoodOpening later found }
+{}
+
+/// Of every mail ever sent: a Launch that is next has a key that isn't in its agent's record, and the tasks of a Report fit the agent's total.
+pub fn mails_meet_their_premises()
+    ensures { (run : ℕ) (records : List Durable) (steps : List Marked) → GoodOpening run records →
+        Each (λ c. NextLaunchIsNew c × ReportFits c) (history run records steps).state.world.channels }
 {}
 
 /// The master of a cluster after a step, and the mails of the entry, are those that the master's own moves make, without the agents' parts.

@@ -1,3 +1,6 @@
+ghost use Rattle.std.specs.Prelude.{IfOk, IsTrue};
+ghost use Rattle.master_core.specs.Answers.{is_answered};
+
 use crate::{Master, MasterFault, MasterRefusal, Outs};
 use call_json::Call;
 use event_json::Event;
@@ -5,7 +8,9 @@ use names_core::{FrameworkId, RoleName, Run, StreamId};
 use std::alloc::Global;
 use std::test::Fail;
 
-fn subscribe(alloc: Global, framework: Option<FrameworkId>) -> Result<Call, Fail> {
+fn subscribe(alloc: Global, framework: Option<FrameworkId>) -> Result<Call, Fail>
+    ensures { IfOk result (λ call. IsTrue (is_answered call)) }
+{
     Ok(Call::Subscribe {
         role: RoleName::from_text(alloc, "*")?,
         framework,

@@ -1,0 +1,55 @@
+-- Honest frameworks, and what they have acknowledged.
+use Rattle.std.specs.Prelude.{◌≡◌, ◌⊎◌, ℕ, suc, zero, ◌<◌, Bool, not, ◌&&◌, ◌==◌, if◌then◌else◌, List, [], ◌∷◌, ◌++◌, fold, flat_map, Option, Some, None, ⊤}
+use Rattle.std.specs.List.{AllByRecursion as Each, list_any}
+use Rattle.names_core.specs.Ids.{Numbered}
+use Rattle.mails.specs.declared.task.Job.{Job}
+use Rattle.mails.specs.declared.call.Call.{Call}
+use Rattle.mails.specs.declared.call.Call.TheVariants.{Acknowledge}
+use Rattle.cluster_model.specs.Ids.{same}
+use Rattle.cluster_model.specs.Events.{Event, Told, UPDATE}
+use Rattle.cluster_model.specs.Clusters.{Post, Called, Step, Send, Entry}
+use Rattle.cluster_model.specs.Steps.{History, Marked, extended, step_marked}
+
+-- an event tells update k of a launch key
+abbrev pub Tells : Numbered → ℕ → Event → Type 0
+Tells key k (UPDATE task state agent (Some uuid)) = (uuid.key ≡ key) × (uuid.k ≡ k)
+Tells key k event = ⊥
+
+abbrev pub WasTold : Numbered → ℕ → List Told → Type 0
+WasTold key k [] = ⊥
+WasTold key k (t ∷ ts) = Tells key k t.event ⊎ WasTold key k ts
+
+-- the events of all entries
+abbrev pub told_in : List Entry → List Told
+told_in entries = flat_map (λ e. e.outs.events) entries
+
+-- a call that acknowledges as this framework names an update that was told before
+abbrev pub IsHonestCall : Numbered → List Entry → Call → Type 0
+IsHonestCall framework entries (Acknowledge f agent task uuid) = f ≡ framework → WasTold uuid.key uuid.k (told_in entries)
+IsHonestCall framework entries call = ⊤
+
+abbrev pub IsHonestStep : Numbered → List Entry → Step → Type 0
+IsHonestStep framework entries (Send stream call) = IsHonestCall framework entries call
+IsHonestStep framework entries step = ⊤
+
+-- from this history on, the framework acknowledges only updates that were told before
+abbrev pub Honest : Numbered → History → List Marked → Type 0
+Honest framework h [] = ⊤
+Honest framework h (s ∷ ss) = IsHonestStep framework h.entries s.step × Honest framework (extended h (step_marked h.state s)) ss
+
+-- the numbers that a framework has acknowledged of a key, in order of first sending
+
+abbrev pub has_number : List ℕ → ℕ → Bool
+has_number ks k = list_any (λ other. other == k) ks
+
+abbrev pub noted : Numbered → Numbered → List ℕ → Post → List ℕ
+noted framework key ks (Called stream (Acknowledge f agent task uuid)) = if same f framework && same uuid.key key && not (has_number ks uuid.k) then ks ++ uuid.k ∷ [] else ks
+noted framework key ks post = ks
+
+abbrev pub acknowledged_by : Numbered → Numbered → List Post → List ℕ
+acknowledged_by framework key posts = fold (noted framework key) [] posts
+
+-- 0, 1, 2 and so on, n of them
+abbrev pub up_to : ℕ → List ℕ
+up_to zero = []
+up_to (suc n) = up_to n ++ n ∷ []
