@@ -3,7 +3,8 @@ use Rattle.std.specs.Prelude.{ℕ, suc, zero, max, Bool, true, false, not, ◌&&
 use Rattle.std.specs.List.{list_any}
 use Rattle.names_core.specs.Ids.{Numbered}
 use Rattle.names_core.specs.declared.state.TaskState.{TaskState}
-use Rattle.names_core.specs.declared.state.TaskState.TheVariants.{Staging, Running, Finished, Failed, Killed, Lost, Error}
+use Rattle.names_core.specs.declared.state.TaskState.TheVariants.{Staging, Killed}
+use Rattle.names_core.specs.States.{is_terminal}
 use Rattle.quantity.specs.declared.rows.Row.{Row}
 use Rattle.quantity.specs.Rows.{covers}
 use Rattle.stream_core.specs.Updates as updates
@@ -177,21 +178,16 @@ abbrev pub hears_mail : Agent → MasterMail → Result Draft AgentRefusal
 hears_mail a (Hello run dead) = hears_hello a run dead
 hears_mail a (Issued session number command) = hears_command a session number command
 
-abbrev pub is_running : TaskState → Bool
-is_running Staging = false
-is_running Running = true
-is_running Finished = false
-is_running Failed = false
-is_running Killed = false
-is_running Lost = false
-is_running Error = false
+-- a state that isn't terminal needs a place beside the last one
+abbrev pub needs_place : TaskState → Bool
+needs_place state = not (is_terminal state)
 
--- a state told by an executor: of a task of the record that hasn't ended; TASK_RUNNING only where a place is left
+-- a state told by an executor: of a task of the record that hasn't ended; one that isn't terminal only where a place is left
 abbrev pub executes : Agent → Numbered → TaskState → Result Draft AgentRefusal
 executes a key state =
     if not (list_any (is_task key) a.durable.tasks) then Err NoSuchTask
     else (if list_any (λ t. is_task key t && has_ended t) a.durable.tasks then Err Ended
-    else (if is_running state && list_any (λ t. is_task key t && updates.is_full t.updates) a.durable.tasks then Err UpdatesFull
+    else (if needs_place state && list_any (λ t. is_task key t && updates.is_full t.updates) a.durable.tasks then Err UpdatesFull
     else (let after = with_tasks a (map (stated key state) a.durable.tasks) a.applied in
     Ok (record { after = after; mails = if a.in_session then front_at key after else [] }))))
 

@@ -7,27 +7,13 @@ use Rattle.mails.specs.declared.task.Offer.{Offer}
 use Rattle.mails.specs.declared.task.Booked.{Booked}
 use Rattle.mails.specs.declared.mail.ToAgent.{ToAgent}
 use Rattle.mails.specs.declared.refusal.MasterRefusal.{MasterRefusal}
+pub use Rattle.mails.specs.declared.framework.Filter.{Filter}
+pub use Rattle.mails.specs.declared.framework.Framework.{Framework}
 use Rattle.cluster_model.specs.Ids.{same, before, is_among, last_number}
 use Rattle.cluster_model.specs.Sides.{Run, Side, Sending, SideStep, Withdraw, new_run, side_step, torn_down, halted, restarted}
 use Rattle.cluster_model.specs.Events.{Event, Told}
 
 -- frameworks
-
--- resources of an agent that a framework refused, for some seconds (scheduler HTTP API, ACCEPT and DECLINE: `refuse_seconds`)
-pub record Filter : Type 0 where
-  pub agent : List ℕ
-  pub made : ℕ  -- the moment
-  pub seconds : ℕ
-  pub refused : List Row
-
--- a framework that is known in this run
-pub record Framework : Type 0 where
-  pub id : Numbered
-  pub role : List ℕ
-  pub stream : Option Numbered  -- the open one
-  pub suppressed : Bool
-  pub last_beat : ℕ  -- the moment of its SUBSCRIBED or of its last HEARTBEAT on it
-  pub filters : List Filter  -- the oldest first
 
 -- what the master has beside its sides
 pub record Registers : Type 0 where

@@ -76,9 +76,12 @@ is_subscribed (Some stream) = true
 abbrev pub refuses : ℕ → List ℕ → List Row → Filter → Bool
 refuses now agent free x = bytes_eq x.agent agent && nat_lt now (x.made + x.seconds) && covers x.refused free
 
+-- what is free on an agent may be offered to a framework
+abbrev pub may_be_offered : ℕ → List ℕ → List Row → Framework → Bool
+may_be_offered now agent free f = is_subscribed f.stream && not f.suppressed && not (list_any (refuses now agent free) f.filters)
+
 abbrev pub is_eligible : ℕ → List ℕ → List Row → Client → Bool
-is_eligible now agent free c =
-    is_subscribed c.framework.stream && not c.framework.suppressed && not (list_any (refuses now agent free) c.framework.filters)
+is_eligible now agent free c = may_be_offered now agent free c.framework
 
 abbrev pub pick : ℕ → List Row → List Client → List MadeOffer → List ℕ → List Row → Option Client
 pick now totals cs made agent free = fold (first_client (comes_before totals cs made)) None (filter (is_eligible now agent free) cs)

@@ -22,7 +22,7 @@ use Rattle.mails.specs.declared.refusal.AgentRefusal.TheVariants.{OldSession, No
 use Rattle.names_core.specs.declared.state.TaskState.TheVariants.{Killed}
 use Rattle.stream_core.specs.Updates.{is_full, is_done}
 use Rattle.cluster_model.specs.Ids.{same, last_number}
-use Rattle.cluster_model.specs.Agents.{Agent, Draft, has_ended, is_task, fronts, front_at, reopened, reports, opens_next, stated, acknowledged, launched_task, tasks_after, fronts_after, with_tasks, after_command, applies, has_room, hears_mail, is_running, next_of}
+use Rattle.cluster_model.specs.Agents.{Agent, Draft, has_ended, is_task, fronts, front_at, reopened, reports, opens_next, stated, acknowledged, launched_task, tasks_after, fronts_after, with_tasks, after_command, applies, has_room, hears_mail, needs_place, next_of}
 use Rattle.cluster_model.specs.Channels.{InRun}
 use Rattle.cluster_safe.specs.Facts.{Stake, Past, Fades, task_stake, launches, coming, stakes, NotOf, EndsKept, Ordered, StateOk, DownOk, UpOk, drafted, mails_of, states_of, PastOk, Facts}
 use Rattle.cluster_safe.proofs.Ids.{same_refl}
@@ -217,14 +217,14 @@ next_ok p l Again f none h = draft_same p l (fronts l.agent) f (fronts_ok p l.ne
 next_ok p l (Executor key state) f none h =
     all_if (not (list_any (is_task key) l.agent.tasks)) (Err NoSuchTask) third (Draftable l) (λ e. tt)
     (λ e. all_if (list_any (λ t. is_task key t && has_ended t) l.agent.tasks) (Err Ended) second (Draftable l) (λ d. tt)
-    (λ d. all_if (is_running state && list_any (λ t. is_task key t && is_full t.updates) l.agent.tasks) (Err UpdatesFull) first (Draftable l) (λ c. tt)
+    (λ d. all_if (needs_place state && list_any (λ t. is_task key t && is_full t.updates) l.agent.tasks) (Err UpdatesFull) first (Draftable l) (λ c. tt)
     (λ c. draft_executor p l key state f)))
   where
     first : Result Draft AgentRefusal
     first = Ok (record { after = with_tasks l.agent (map (stated key state) l.agent.tasks) l.agent.applied; mails = if l.agent.in_session then front_at key (with_tasks l.agent (map (stated key state) l.agent.tasks) l.agent.applied) else [] })
 
     second : Result Draft AgentRefusal
-    second = if is_running state && list_any (λ t. is_task key t && is_full t.updates) l.agent.tasks then Err UpdatesFull else first
+    second = if needs_place state && list_any (λ t. is_task key t && is_full t.updates) l.agent.tasks then Err UpdatesFull else first
 
     third : Result Draft AgentRefusal
     third = if list_any (λ t. is_task key t && has_ended t) l.agent.tasks then Err Ended else second

@@ -20,7 +20,7 @@ use Rattle.mails.specs.declared.cause.Cause.TheVariants.{Start, Executor, Again}
 use Rattle.mails.specs.declared.refusal.AgentRefusal.TheVariants.{NotForMe, OldSession, NoSuchTask, Ended, NoRoom, UpdatesFull, SessionsSpent}
 use Rattle.stream_core.specs.Updates.{is_full}
 use Rattle.cluster_model.specs.Ids.{same, last_number, last_run}
-use Rattle.cluster_model.specs.Agents.{Agent, Draft, has_ended, is_task, front_at, reopened, reports, opens_next, stated, with_tasks, hears_mail, is_running, executes, next_of}
+use Rattle.cluster_model.specs.Agents.{Agent, Draft, has_ended, is_task, front_at, reopened, reports, opens_next, stated, with_tasks, hears_mail, needs_place, executes, next_of}
 use Rattle.cluster_model.specs.Sides.{Run, Side}
 use Rattle.cluster_model.specs.Channels.{Channel, AgentStep, Draw, DrawMail, Adopt, StopWithout, StopWith, Hear, ByAgent, World, Happening, At, Restart, Halt, after, after_all, open_channel, open_world, AllFit}
 use Rattle.cluster_model.specs.Openings.{recorded_jobs, KeysOnce, GoodOpening}
@@ -100,7 +100,7 @@ between_no_calls (old ∷ olds) (new ∷ news) = each_append NotCall (posts_in o
     (each_append NotCall (map (Down new.side.name) (places (length old.to_agent) (new_to_agent old new))) (map (Up new.side.name) (places (length old.to_master) (new_to_master old new))) (downs_no_calls new.side.name (places (length old.to_agent) (new_to_agent old new))) (ups_no_calls new.side.name (places (length old.to_master) (new_to_master old new))))
     (between_no_calls olds news)
 
-no_calls : (hs : List Happening) (w : World) → Each NotCall (posts_by hs w)
+pub no_calls : (hs : List Happening) (w : World) → Each NotCall (posts_by hs w)
 no_calls [] w = tt
 no_calls (h ∷ hs) w = each_append NotCall (posts_between w.channels (after w h).channels) (posts_by hs (after w h)) (between_no_calls w.channels (after w h).channels) (no_calls hs (after w h))
 
@@ -175,13 +175,13 @@ opens_room : (a : Agent) (last run : ℕ) → HasRoom (opens_next a last run)
 opens_room a last run = room_if (nat_le last_number last) (Err SessionsSpent) (Ok (reports (reopened a (suc last) run))) tt tt
 
 executes_room : (a : Agent) (key : Numbered) (state : TaskState) → HasRoom (executes a key state)
-executes_room a key state = room_if (not (list_any (is_task key) a.tasks)) (Err NoSuchTask) third tt (room_if (list_any (λ t. is_task key t && has_ended t) a.tasks) (Err Ended) second tt (room_if (is_running state && list_any (λ t. is_task key t && is_full t.updates) a.tasks) (Err UpdatesFull) first tt tt))
+executes_room a key state = room_if (not (list_any (is_task key) a.tasks)) (Err NoSuchTask) third tt (room_if (list_any (λ t. is_task key t && has_ended t) a.tasks) (Err Ended) second tt (room_if (needs_place state && list_any (λ t. is_task key t && is_full t.updates) a.tasks) (Err UpdatesFull) first tt tt))
   where
     first : Result Draft AgentRefusal
     first = Ok (record { after = with_tasks a (map (stated key state) a.tasks) a.applied; mails = if a.in_session then front_at key (with_tasks a (map (stated key state) a.tasks) a.applied) else [] })
 
     second : Result Draft AgentRefusal
-    second = if is_running state && list_any (λ t. is_task key t && is_full t.updates) a.tasks then Err UpdatesFull else first
+    second = if needs_place state && list_any (λ t. is_task key t && is_full t.updates) a.tasks then Err UpdatesFull else first
 
     third : Result Draft AgentRefusal
     third = if list_any (λ t. is_task key t && has_ended t) a.tasks then Err Ended else second
@@ -251,7 +251,7 @@ fallen_legal A S c rooms acks acked (StopAfter agent) sends = instead_legal A S 
 fallen_legal A S c rooms acks acked StopMaster sends = by_test A S c (nat_lt c.world.run.number last_run) (Ok (new_master_falls c)) (answer c StopMaster) (legal_effect A S c (record (happening c Fell (Restart ∷ Halt ∷ [])) { registers = new_registers }) tt tt (tt, (tt, tt))) (answer_legal A S c rooms acks acked StopMaster sends)
 fallen_legal A S c rooms acks acked (Take stream) sends = answer_legal A S c rooms acks acked (Take stream) sends
 
-step_legal : (A : Numbered → ℕ → Type 0) (S : Option Numbered → Call → Type 0) (c : Cluster) → Each Roomy c.world.channels → ((number : ℕ) → PostOk A (master_of c) (post_at c number)) → AllAcked A c.world → (s : Marked) → ((stream : Option Numbered) (call : Call) → s.step ≡ Send stream call → S stream call) → Legal A S c (step_marked c s)
+pub step_legal : (A : Numbered → ℕ → Type 0) (S : Option Numbered → Call → Type 0) (c : Cluster) → Each Roomy c.world.channels → ((number : ℕ) → PostOk A (master_of c) (post_at c number)) → AllAcked A c.world → (s : Marked) → ((stream : Option Numbered) (call : Call) → s.step ≡ Send stream call → S stream call) → Legal A S c (step_marked c s)
 step_legal A S c rooms acks acked s sends = by_test A S c (nat_le last_number c.entries) (Err HistoryFull) (if s.fell then fallen_answer c s.step else answer c s.step) tt
     (by_test A S c s.fell (fallen_answer c s.step) (answer c s.step) (fallen_legal A S c rooms acks acked s.step sends) (answer_legal A S c rooms acks acked s.step sends))
 
@@ -261,7 +261,7 @@ after_append : (hs more : List Happening) (w : World) → after_all (hs ++ more)
 after_append [] more w = refl
 after_append (h ∷ hs) more w = after_append hs more (after w h)
 
-trail_append : (hs more : List Happening) (w : World) (marks : List Mark) → trail (hs ++ more) w marks ≡ trail more (after_all hs w) (trail hs w marks)
+pub trail_append : (hs more : List Happening) (w : World) (marks : List Mark) → trail (hs ++ more) w marks ≡ trail more (after_all hs w) (trail hs w marks)
 trail_append [] more w marks = refl
 trail_append (h ∷ hs) more w marks = trail_append hs more (after w h) (marks_by w h ++ marks)
 
@@ -279,7 +279,7 @@ jobs_more [] marks old j h = h
 jobs_more (Made m ∷ ms) marks old j h = jobs_more ms marks old j h
 jobs_more (Used u ∷ ms) marks old j h = subst (IsOneOf j) (sym (append_assoc u.jobs (jobs_of (ms ++ marks)) old)) (in_behind u.jobs (jobs_of (ms ++ marks) ++ old) j (jobs_more ms marks old j h))
 
-jobs_grow : (hs : List Happening) (w : World) (marks : List Mark) (old : List Job) (j : Job) → IsOneOf j (jobs_of marks ++ old) → IsOneOf j (jobs_of (trail hs w marks) ++ old)
+pub jobs_grow : (hs : List Happening) (w : World) (marks : List Mark) (old : List Job) (j : Job) → IsOneOf j (jobs_of marks ++ old) → IsOneOf j (jobs_of (trail hs w marks) ++ old)
 jobs_grow [] w marks old j h = h
 jobs_grow (x ∷ hs) w marks old j h = jobs_grow hs (after w x) (marks_by w x ++ marks) old j (jobs_more (marks_by w x) marks old j h)
 
@@ -371,7 +371,7 @@ post_tells rs c marks ok n (Some (Called stream call)) e = call_tells rs c marks
 post_tells rs c marks ok n (Some (Down agent place)) e = tt
 post_tells rs c marks ok n (Some (Up agent place)) e = tt
 
-number_tells : (rs : List Durable) (c : Cluster) (marks : List Mark) → OriginOk rs c.world marks → (number : ℕ) → PostOk (AckedBy rs marks c.posts) (master_of c) (post_at c number)
+pub number_tells : (rs : List Durable) (c : Cluster) (marks : List Mark) → OriginOk rs c.world marks → (number : ℕ) → PostOk (AckedBy rs marks c.posts) (master_of c) (post_at c number)
 number_tells rs c marks ok zero = tt
 number_tells rs c marks ok (suc n) = post_tells rs c marks ok n (slice_get c.posts n) refl
 
@@ -423,7 +423,7 @@ extended_ok records start S h (Ok d) l ok = record {
         (after_all d.happenings h.state.world).channels (worlds_acked (AckedBy records marks h.state.posts) d.happenings h.state.world l.2 ok.acked)
 extended_ok records start S h (Err refusal) l ok = ok
 
-extend_ok : (records : List Durable) (start : World) (ss : List Marked) (h : History) → HistoryOk records start h → HistoryOk records start (extend_all h ss)
+pub extend_ok : (records : List Durable) (start : World) (ss : List Marked) (h : History) → HistoryOk records start h → HistoryOk records start (extend_all h ss)
 extend_ok records start [] h ok = ok
 extend_ok records start (s ∷ ss) h ok = extend_ok records start ss (extended h (step_marked h.state s))
     (extended_ok records start (λ stream call. ⊤) h (step_marked h.state s) (step_legal (AckedBy records (trail h.happenings start []) h.state.posts) (λ stream call. ⊤) h.state (all_room h.state.world ok.world) (number_tells records h.state (trail h.happenings start []) ok.origin) ok.acked s (λ stream call e. tt)) ok)
@@ -458,15 +458,18 @@ opening_acked run records = each_map (Carried Always (AckedBy records [] [])) (C
     hs : List Happening
     hs = map hello_to (open_world run records).channels
 
-pub history_ok : (run : ℕ) (records : List Durable) (steps : List Marked) → GoodOpening run records → HistoryOk records (open_world run records) (history run records steps)
-history_ok run records steps good = extend_ok records (open_world run records) steps (opening run records) (record {
+pub opening_ok : (run : ℕ) (records : List Durable) → GoodOpening run records → HistoryOk records (open_world run records) (opening run records)
+opening_ok run records good = record {
   path = refl;
   world = world_after_all (map hello_to (open_world run records).channels) (open_world run records) (world_opened run records (opening_good run records good));
   verdicts = (tt, tt);
   origin = origin_all records (map hello_to (open_world run records).channels) (open_world run records) [] (origin_opened run records good);
   acked = opening_acked run records;
   told = (tt, tt);
-})
+}
+
+pub history_ok : (run : ℕ) (records : List Durable) (steps : List Marked) → GoodOpening run records → HistoryOk records (open_world run records) (history run records steps)
+history_ok run records steps good = extend_ok records (open_world run records) steps (opening run records) (opening_ok run records good)
 
 -- the laws
 
@@ -489,7 +492,7 @@ history_found run records steps later found good lt is =
     (subst (λ w. AllNamed w.channels) (sym (history_ok run records steps good).path) (worlds_named (history run records steps).happenings (open_world run records) (open_named records))) lt is
 
 -- jobs with one key are one job
-once_same : (js : List Job) (i j : Job) → KeysOnce js → IsOneOf i js → IsOneOf j js → i.key ≡ j.key → i ≡ j
+pub once_same : (js : List Job) (i j : Job) → KeysOnce js → IsOneOf i js → IsOneOf j js → i.key ≡ j.key → i ≡ j
 once_same [] i j h k l e = absurd k
 once_same (x ∷ js) i j h (inl a) (inl b) e = sym a ∙ b
 once_same (x ∷ js) i j h (inl a) (inr l) e = absurd (apart_one x.key js j h.0 l (sym e ∙ ap (λ (y : Job). y.key) (sym a)))

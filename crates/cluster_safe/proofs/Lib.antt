@@ -25,3 +25,4 @@ pub mod SideTrails
 pub mod OriginWorlds
 pub mod Premises
 pub mod Events
+pub mod Gapless

@@ -16,7 +16,7 @@ use Rattle.mails.specs.declared.cause.Cause.TheVariants.{Start, Mail, Executor, 
 use Rattle.mails.specs.declared.refusal.AgentRefusal.TheVariants.{OldSession, NotNext, NoSuchTask, Ended, NoRoom, UpdatesFull, SessionsSpent}
 use Rattle.stream_core.specs.Updates.{is_full}
 use Rattle.cluster_model.specs.Ids.{last_number}
-use Rattle.cluster_model.specs.Agents.{Agent, Draft, has_ended, is_task, front_at, reopened, reports, opens_next, stated, with_tasks, applies, has_room, hears_mail, is_running, executes, next_of}
+use Rattle.cluster_model.specs.Agents.{Agent, Draft, has_ended, is_task, front_at, reopened, reports, opens_next, stated, with_tasks, applies, has_room, hears_mail, needs_place, executes, next_of}
 use Rattle.cluster_model.specs.Sides.{Run, Side, heard_update, forget_all, last_session, opens, opened, counts, shut}
 use Rattle.cluster_model.specs.Channels.{Channel, AgentStep, Draw, DrawMail, Adopt, StopWithout, StopWith, drawn, drawn_mail, adopted, stopped_with, agent_step, ChannelStep, ByMaster, Hear, ByAgent, heard_mail, happens, World, Happening, At, TearDown, Restart, Halt, behind, in_front, at_agent, with_side, after, after_all, open_channel}
 use Rattle.cluster_safe.proofs.Drafts.{AllOk, all_if}
@@ -53,13 +53,13 @@ executes_name : (a : Agent) (key : Numbered) (state : TaskState) → AllOk (Keep
 executes_name a key state =
     all_if (not (list_any (is_task key) a.tasks)) (Err NoSuchTask) third (KeepsName a) (λ e. tt)
     (λ e. all_if (list_any (λ t. is_task key t && has_ended t) a.tasks) (Err Ended) second (KeepsName a) (λ d. tt)
-    (λ d. all_if (is_running state && list_any (λ t. is_task key t && is_full t.updates) a.tasks) (Err UpdatesFull) first (KeepsName a) (λ c. tt) (λ c. refl)))
+    (λ d. all_if (needs_place state && list_any (λ t. is_task key t && is_full t.updates) a.tasks) (Err UpdatesFull) first (KeepsName a) (λ c. tt) (λ c. refl)))
   where
     first : Result Draft AgentRefusal
     first = Ok (record { after = with_tasks a (map (stated key state) a.tasks) a.applied; mails = if a.in_session then front_at key (with_tasks a (map (stated key state) a.tasks) a.applied) else [] })
 
     second : Result Draft AgentRefusal
-    second = if is_running state && list_any (λ t. is_task key t && is_full t.updates) a.tasks then Err UpdatesFull else first
+    second = if needs_place state && list_any (λ t. is_task key t && is_full t.updates) a.tasks then Err UpdatesFull else first
 
     third : Result Draft AgentRefusal
     third = if list_any (λ t. is_task key t && has_ended t) a.tasks then Err Ended else second

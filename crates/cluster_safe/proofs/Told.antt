@@ -23,7 +23,7 @@ use Rattle.mails.specs.declared.refusal.AgentRefusal.TheVariants.{OldSession, No
 use Rattle.names_core.specs.declared.state.TaskState.TheVariants.{Killed}
 use Rattle.stream_core.specs.Updates.{pushed, acknowledged_one, is_front, is_full, is_done}
 use Rattle.cluster_model.specs.Ids.{same, following, is_among, last_number}
-use Rattle.cluster_model.specs.Agents.{Agent, Draft, has_ended, is_task, state_at, reported, front_of, fronts, front_at, report_of, reopened, reports, opens_next, stated, acknowledged, launched_task, tasks_after, fronts_after, with_tasks, applies, has_room, hears_mail, is_running, executes, next_of}
+use Rattle.cluster_model.specs.Agents.{Agent, Draft, has_ended, is_task, state_at, reported, front_of, fronts, front_at, report_of, reopened, reports, opens_next, stated, acknowledged, launched_task, tasks_after, fronts_after, with_tasks, applies, has_room, hears_mail, needs_place, executes, next_of}
 use Rattle.cluster_model.specs.Sides.{Run, Side, Sending, sends_nothing, issue, oldest_again, accepted, may_offer, heard_update, forget, forget_all, opens, opened, counts, shut, SideStep, MakeOffer, Withdraw, LaunchFrom, SendKill, SendAck, SendEnd, SendHello, SendAgain, Lose, side_step}
 use Rattle.cluster_model.specs.Channels.{Channel, AgentStep, Draw, DrawMail, Adopt, StopWithout, StopWith, drawn, drawn_mail, adopted, stopped_with, agent_step, ChannelStep, ByMaster, Hear, ByAgent, heard_mail, happens}
 use Rattle.cluster_safe.proofs.Ids.{same_is}
@@ -197,7 +197,7 @@ executes_told : (J : Job → Type 0) (A : Numbered → ℕ → Type 0) (a : Agen
 executes_told J A a key state h =
     all_if (not (list_any (is_task key) a.tasks)) (Err NoSuchTask) third (DraftTold J A) (λ e. tt)
     (λ e. all_if (list_any (λ t. is_task key t && has_ended t) a.tasks) (Err Ended) second (DraftTold J A) (λ d. tt)
-    (λ d. all_if (is_running state && list_any (λ t. is_task key t && is_full t.updates) a.tasks) (Err UpdatesFull) first (DraftTold J A) (λ c. tt)
+    (λ d. all_if (needs_place state && list_any (λ t. is_task key t && is_full t.updates) a.tasks) (Err UpdatesFull) first (DraftTold J A) (λ c. tt)
     (λ c. (after, cond_both a.in_session (front_at key told) [] (Each (UpTold J A)) (λ d. front_at_told J A told key after) (λ d. tt)))))
   where
     told : Agent
@@ -210,7 +210,7 @@ executes_told J A a key state h =
     first = Ok (record { after = with_tasks a (map (stated key state) a.tasks) a.applied; mails = if a.in_session then front_at key (with_tasks a (map (stated key state) a.tasks) a.applied) else [] })
 
     second : Result Draft AgentRefusal
-    second = if is_running state && list_any (λ t. is_task key t && is_full t.updates) a.tasks then Err UpdatesFull else first
+    second = if needs_place state && list_any (λ t. is_task key t && is_full t.updates) a.tasks then Err UpdatesFull else first
 
     third : Result Draft AgentRefusal
     third = if list_any (λ t. is_task key t && has_ended t) a.tasks then Err Ended else second

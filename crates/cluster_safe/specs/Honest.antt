@@ -1,14 +1,18 @@
 -- Honest frameworks, and what they have acknowledged.
-use Rattle.std.specs.Prelude.{◌≡◌, ◌⊎◌, ℕ, suc, zero, ◌<◌, Bool, not, ◌&&◌, ◌==◌, if◌then◌else◌, List, [], ◌∷◌, ◌++◌, fold, flat_map, Option, Some, None, ⊤}
+use Rattle.std.specs.Prelude.{◌≡◌, ◌⊎◌, ℕ, suc, zero, ◌<◌, Bool, not, ◌&&◌, ◌==◌, if◌then◌else◌, List, [], ◌∷◌, ◌++◌, fold, flat_map, max, Option, Some, None, ⊤}
 use Rattle.std.specs.List.{AllByRecursion as Each, list_any}
 use Rattle.names_core.specs.Ids.{Numbered}
 use Rattle.mails.specs.declared.task.Job.{Job}
 use Rattle.mails.specs.declared.call.Call.{Call}
 use Rattle.mails.specs.declared.call.Call.TheVariants.{Acknowledge}
+use Rattle.mails.specs.declared.record.Durable.{Durable}
+use Rattle.mails.specs.declared.record.RecordedTask.{RecordedTask}
 use Rattle.cluster_model.specs.Ids.{same}
 use Rattle.cluster_model.specs.Events.{Event, Told, UPDATE}
 use Rattle.cluster_model.specs.Clusters.{Post, Called, Step, Send, Entry}
 use Rattle.cluster_model.specs.Steps.{History, Marked, extended, step_marked}
+use Rattle.cluster_safe.specs.Acknowledged.{recorded_tasks}
+use Rattle.cluster_safe.specs.Origin.{IsOneOf}
 
 -- an event tells update k of a launch key
 abbrev pub Tells : Numbered → ℕ → Event → Type 0
@@ -46,10 +50,24 @@ abbrev pub noted : Numbered → Numbered → List ℕ → Post → List ℕ
 noted framework key ks (Called stream (Acknowledge f agent task uuid)) = if same f framework && same uuid.key key && not (has_number ks uuid.k) then ks ++ uuid.k ∷ [] else ks
 noted framework key ks post = ks
 
-abbrev pub acknowledged_by : Numbered → Numbered → List Post → List ℕ
-acknowledged_by framework key posts = fold (noted framework key) [] posts
-
 -- 0, 1, 2 and so on, n of them
 abbrev pub up_to : ℕ → List ℕ
 up_to zero = []
 up_to (suc n) = up_to n ++ n ∷ []
+
+-- how many updates of a key the records of the opening count as acknowledged
+abbrev pub counted : Numbered → List RecordedTask → ℕ
+counted key [] = 0
+counted key (t ∷ ts) = if same t.job.key key then max t.updates.acknowledged (counted key ts) else counted key ts
+
+-- what a framework has acknowledged of a key: what the records of the opening count, and then each further number, where a call of it first names it
+abbrev pub acknowledged_by : List Durable → Numbered → Numbered → List Post → List ℕ
+acknowledged_by records framework key posts = fold (noted framework key) (up_to (counted key (recorded_tasks records))) posts
+
+-- a task of the framework was launched under the key, or stood under it in a record of the opening
+abbrev pub IsKeyOf : Numbered → Numbered → List Job → Type 0
+IsKeyOf framework key jobs = (j : Job) × IsOneOf j jobs × (j.key ≡ key) × (j.framework ≡ framework)
+
+-- 0, 1, 2 and so on
+abbrev pub WithoutGap : List ℕ → Type 0
+WithoutGap ks = (n : ℕ) × (ks ≡ up_to n)

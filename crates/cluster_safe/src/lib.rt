@@ -9,11 +9,12 @@ ghost use Rattle.cluster_model.specs.Mails.{agent_lost, having_heard, hung_up, m
 ghost use Rattle.cluster_model.specs.Rounds.{allocated};
 ghost use Rattle.cluster_model.specs.Sides.{Side, sends_nothing};
 ghost use Rattle.cluster_model.specs.Masters.{Doing, Framework, Master, after_doing, moved};
-ghost use Rattle.cluster_model.specs.Openings.{GoodOpening};
-ghost use Rattle.cluster_model.specs.Steps.{Marked, channel_of, done, effect_of, history};
+ghost use Rattle.cluster_model.specs.Openings.{GoodOpening, recorded_jobs};
+ghost use Rattle.cluster_model.specs.Steps.{Marked, channel_of, done, effect_of, history, opening};
 ghost use Rattle.cluster_safe.specs.Acknowledged.{AcknowledgedByOwner};
+ghost use Rattle.cluster_safe.specs.Honest.{Honest, IsKeyOf, WithoutGap, acknowledged_by};
 ghost use Rattle.cluster_safe.specs.Listed.{MoveFrom, MoveWithout};
-ghost use Rattle.cluster_safe.specs.Origin.{HasOrigin, launched, trail};
+ghost use Rattle.cluster_safe.specs.Origin.{HasOrigin, jobs_of, launched, trail};
 ghost use Rattle.cluster_safe.specs.Premises.{NextLaunchIsNew, ReportFits};
 ghost use Rattle.cluster_safe.specs.Saved.{IsFound};
 ghost use Rattle.cluster_safe.specs.Safe.{NeverLacksRoom};
@@ -23,7 +24,7 @@ ghost use Rattle.mails.specs.declared.mail.AgentMail.{AgentMail};
 ghost use Rattle.names_core.specs.Ids.{Numbered};
 ghost use Rattle.std.specs.List.{AllByRecursion as Each};
 ghost use Rattle.mails.specs.declared.record.Durable.{Durable};
-ghost use Rattle.std.specs.Prelude.{◌≡◌, ◌<◌, List, [], ◌∷◌, map, slice_get, Option, Some, ℕ};
+ghost use Rattle.std.specs.Prelude.{◌≡◌, ◌<◌, List, [], ◌∷◌, ◌++◌, map, slice_get, Option, Some, ℕ};
 
 /// On every agent, current offers and live tasks together never exceed what it owns.
 pub fn offers_and_tasks_fit()
@@ -47,6 +48,13 @@ pub fn tasks_have_their_origin()
 pub fn acknowledged_by_the_owner()
     ensures { (run : ℕ) (records : List Durable) (steps : List Marked) → GoodOpening run records →
         AcknowledgedByOwner records (history run records steps).state.world (history run records steps).state.posts }
+{}
+
+/// What a framework has acknowledged of a task of its own, if it acknowledges only updates that were told before, is 0, 1, 2 and so on without gap.
+pub fn honest_acknowledgements_have_no_gap()
+    ensures { (run : ℕ) (records : List Durable) (steps : List Marked) (framework key : Numbered) → GoodOpening run records → Honest framework (opening run records) steps →
+        IsKeyOf framework key (jobs_of (trail (history run records steps).happenings (open_world run records) []) ++ recorded_jobs records) →
+        WithoutGap (acknowledged_by records framework key (history run records steps).state.posts) }
 {}
 
 /// Whatever is found of the agents' records after a stop, each the record before or the record of an open draft, is a good opening for any later run.

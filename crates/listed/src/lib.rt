@@ -1,7 +1,8 @@
 //! A list whose contracts see its items alone, and neither its capacity nor its allocator.
 #![tactic(auto)]
 
-ghost use Rattle.std.specs.Prelude.{◌≡◌, ◌↔◌, ◌++◌, ◌∷◌, [], OnOk, OnErr, IsTrue, length};
+ghost use Rattle.std.specs.Prelude.{◌≡◌, ◌<◌, ◌↔◌, ◌++◌, ◌∷◌, [], OnOk, OnErr, IsTrue, length, slice_index_or};
+ghost use Rattle.std.specs.List.{remove};
 
 use std::alloc::{AllocError, Global};
 use std::marker::Model;
@@ -69,5 +70,14 @@ impl<T: Drop> Listed<T> {
     {
         self.items.push(item)?;
         Ok(())
+    }
+
+    /// Takes the item at an index out; the later ones move up. It takes no memory.
+    pub fn remove(&mut self, index: usize) -> T
+        requires { index < length self.old }
+        ensures item { result ≡ slice_index_or self.old index result }
+        ensures rest { self.new ≡ remove self.old index }
+    {
+        self.items.remove(index)
     }
 }

@@ -3,6 +3,7 @@
 
 mod call;
 mod cause;
+mod framework;
 mod mail;
 mod record;
 mod refusal;
@@ -10,6 +11,7 @@ mod task;
 
 pub use call::{Call, ReconciledTask, TaskInfo};
 pub use cause::Cause;
+pub use framework::{Filter, Framework};
 pub use mail::{AgentMail, Command, MasterMail, ToAgent, ToMaster};
 pub use record::{Durable, RecordedTask};
 pub use refusal::{AgentRefusal, MasterRefusal};

@@ -58,7 +58,8 @@ impl Updates {
 
     /// The states, in the order in which they came.
     pub fn states(&self) -> &[TaskState]
-        ensures { result.now ≡ self.now.states }
+        ensures states { result.now ≡ self.now.states }
+        ensures valid { are_updates self.now.states self.now.acknowledged ≡ true }
     {
         self.states.as_slice()
     }

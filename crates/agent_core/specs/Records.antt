@@ -1,0 +1,38 @@
+-- Which records an agent can have.
+use Rattle.std.specs.Prelude.{Bool, true, not, ◌&&◌, ◌||◌, ◌==◌, if◌then◌else◌, List, [], ◌∷◌, length, Option, Some, None}
+use Rattle.std.specs.List.{list_all}
+use Rattle.names_core.specs.Ids.{Numbered}
+use Rattle.quantity.specs.Rows.{covers}
+use Rattle.stream_core.specs.Updates.{is_done}
+use Rattle.mails.specs.declared.record.Durable.{Durable}
+use Rattle.mails.specs.declared.record.RecordedTask.{RecordedTask}
+use Rattle.cluster_model.specs.Agents.{live_tasks, task_rows}
+use Rattle.cluster_model.specs.Ids.{before}
+
+-- each launch key is behind the one before it
+abbrev pub is_behind : Option Numbered → Numbered → Bool
+is_behind None key = true
+is_behind (Some last) key = before last key
+
+abbrev pub rise_behind : Option Numbered → List RecordedTask → Bool
+rise_behind last [] = true
+rise_behind last (t ∷ ts) = is_behind last t.job.key && rise_behind (Some t.job.key) ts
+
+abbrev pub keys_rise : List RecordedTask → Bool
+keys_rise tasks = rise_behind None tasks
+
+-- no task is done
+abbrev pub none_is_done : List RecordedTask → Bool
+none_is_done ts = list_all (λ t. not (is_done t.updates)) ts
+
+-- run 0 stands only before the first session, with no tasks
+abbrev pub has_begun : Durable → Bool
+has_begun d = not (d.run == 0) || (d.session == 0 && length d.tasks == 0)
+
+-- the live tasks have together at most what the agent owns
+abbrev pub is_record : Durable → Bool
+is_record d = keys_rise d.tasks && none_is_done d.tasks && has_begun d && covers d.total (task_rows (live_tasks d.tasks))
+
+-- the record, if it can be one
+abbrev pub rebuilt : Durable → Option Durable
+rebuilt d = if is_record d then Some d else None

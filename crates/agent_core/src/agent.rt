@@ -1,0 +1,107 @@
+//! Agents.
+
+ghost use Rattle.std.specs.Prelude.{◌≡◌, ◌≢◌, false, Ok, IfOk, IfErr};
+ghost use Rattle.cluster_model.specs.Agents.{next_of, recovered_from};
+ghost use Rattle.agent_core.specs.Drafts.{IsRefusal, repeats_launch};
+ghost use Rattle.agent_core.specs.declared.fault.AgentFault.TheVariants.{StaleDraft};
+
+use crate::draft::Draft;
+use crate::fault::AgentFault;
+use crate::state::State;
+use mails::{AgentMail, Cause, Durable};
+use std::alloc::Global;
+use std::marker::Model;
+
+/// An agent that runs over its record. It changes by a commit alone.
+#[derive(Drop)]
+pub struct Agent {
+    state: State,
+}
+
+impl Model for Agent {
+    ghost use Rattle.cluster_model.specs.Agents as specs;
+    ghost use Rattle.agent_core.specs.Drafts.{agent_of};
+
+    ghost Value = { specs.Agent };
+
+    ghost view = { λ a. agent_of a.state };
+}
+
+impl Agent {
+    /// The agent that comes up over a record, with no open session. It takes no memory.
+    pub fn recover(durable: Durable) -> Agent
+        ensures { result ≡ recovered_from durable }
+    {
+        Agent {
+            state: State {
+                durable,
+                in_session: false,
+                applied: 0,
+            },
+        }
+    }
+
+    /// The agent's record. It takes no memory.
+    pub fn durable(&self) -> &Durable
+        ensures { result.now ≡ self.now.durable }
+    {
+        &self.state.durable
+    }
+
+    /// The record of an agent that stops. It takes no memory.
+    pub fn into_durable(self) -> Durable
+        ensures { result ≡ self.durable }
+    {
+        self.state.durable
+    }
+
+    /// Whether a cause is the next command of the open session and launches a task under a launch key of the record.
+    pub fn repeats_launch(&self, cause: &Cause) -> bool
+        ensures { result ≡ repeats_launch self.now cause.now }
+    {
+        match cause {
+            Cause::Mail(to) => to.agent.is(&self.state.durable.name)
+                && self.state.hears_again(&to.mail),
+            _ => false,
+        }
+    }
+
+    /// Prepares what a cause makes of the agent, which stays as it is. It is refused with
+    ///
+    /// - `A1 NotForMe` at a mail for another agent,
+    /// - `A2 OldSession` at a Hello of an older run, a command of another session, or a start before the first session,
+    /// - `A3 NotNext` at a command behind the next one,
+    /// - `A4 NoSuchTask` and `A5 Ended` at a state of a task that isn't in the record or has ended,
+    /// - `A6 NoRoom` at a Launch of more than the agent's total less its live tasks,
+    /// - `A9 UpdatesFull` at a state that isn't terminal, of a task with 4,095 updates,
+    /// - `A10 SessionsSpent` where the next session would be the 4,294,967,296th,
+    /// - `A8 OutOfMemory`, which may come before any other.
+    pub fn next(&self, alloc: Global, cause: Cause) -> Result<Draft, AgentFault>
+        requires { repeats_launch self.now cause ≡ false }
+        ensures draft { IfOk result (λ d. next_of self.now cause ≡ Ok d.draft) }
+        ensures before { IfOk result (λ d. d.before ≡ self.now) }
+        ensures refused { IfErr result (IsRefusal (next_of self.now cause)) }
+    {
+        let next = self.state.next(alloc, cause)?;
+        Ok(Draft::of(alloc, &self.state, next)?)
+    }
+
+    /// Makes a draft's record the agent's, and gives the draft's mails, which are to be sent. It takes no memory.
+    ///
+    /// `A7 StaleDraft` where the agent isn't what the draft was prepared for: then nothing changes, and the draft is handed back.
+    pub fn commit(&mut self, draft: Draft) -> Result<Vec<AgentMail>, (Draft, AgentFault)>
+        ensures current { IfOk result (λ mails. draft.before ≡ self.old) }
+        ensures changed { IfOk result (λ mails. self.new ≡ draft.draft.after) }
+        ensures mails { IfOk result (λ mails. mails.items ≡ draft.draft.mails) }
+        ensures stale { IfErr result (λ e. (draft.before ≢ self.old) × (e.1 ≡ StaleDraft)) }
+        ensures handed_back { IfErr result (λ e. e.0 ≡ draft) }
+        ensures unchanged { IfErr result (λ e. self.new ≡ self.old) }
+    {
+        if !draft.is_current(&self.state) {
+            return Err((draft, AgentFault::StaleDraft));
+        }
+        let next = draft.into_next();
+        self.state = next.after;
+        Ok(next.mails)
+    }
+}

@@ -1,0 +1,160 @@
+//! What an agent prepares at a cause.
+
+ghost use Rattle.std.specs.Prelude.{◌≡◌, Ok, IfOk};
+ghost use Rattle.cluster_model.specs.Agents.{reports, opens_next, hears_hello, hears_mail, executes, next_of};
+ghost use Rattle.agent_core.specs.Drafts.{agent_of, next_draft, after_state, launches_again, hears_again, Prepares};
+
+use crate::commands::Next;
+use crate::edits::{has_ended_task, has_task, lacks_place, stated_all};
+use crate::fault::AgentFault;
+use crate::mails_out::push_fronts_at;
+use crate::state::State;
+use mails::{AgentRefusal, Cause, Command, MasterMail};
+use names_core::{LaunchKey, TaskState};
+use std::alloc::{AllocError, Global};
+
+impl State {
+    /// The state as it is, with its Report and its fronts.
+    fn reporting(self, alloc: Global) -> Result<Next, AllocError>
+        ensures { IfOk result (λ n. next_draft n ≡ reports (agent_of self)) }
+    {
+        let mut mails = Vec::new(alloc);
+        mails.push(self.report(alloc)?)?;
+        self.push_all_fronts(&mut mails)?;
+        Ok(Next { after: self, mails })
+    }
+
+    /// The session behind the last one is opened with the master of a run.
+    fn open_next(&self, alloc: Global, last: u32, run: u32) -> Result<Next, AgentFault>
+        ensures { Prepares result (opens_next (agent_of self.now) last run) }
+    {
+        if last == u32::MAX {
+            return Err(AgentFault::Refused(AgentRefusal::SessionsSpent));
+        }
+        let after = self.reopened(alloc, last + 1, run)?;
+        Ok(after.reporting(alloc)?)
+    }
+
+    fn hear_hello(&self, alloc: Global, run: u32, dead: u32) -> Result<Next, AgentFault>
+        ensures { Prepares result (hears_hello (agent_of self.now) run dead) }
+    {
+        let session = self.durable.session;
+        if run < self.durable.run {
+            return Err(AgentFault::Refused(AgentRefusal::OldSession));
+        }
+        if self.durable.run < run || session <= dead || !self.in_session {
+            return self.open_next(alloc, session.max(dead), run);
+        }
+        let after = self.copy(alloc)?;
+        Ok(after.reporting(alloc)?)
+    }
+
+    fn hear_mail(&self, alloc: Global, mail: MasterMail) -> Result<Next, AgentFault>
+        ensures { Prepares result (hears_mail (agent_of self.now) mail) }
+    {
+        match mail {
+            MasterMail::Hello { run, dead } => self.hear_hello(alloc, run, dead),
+            MasterMail::Issued {
+                session,
+                number,
+                command,
+            } => self.hear_command(alloc, session, number, command),
+        }
+    }
+
+    fn start(&self, alloc: Global) -> Result<Next, AgentFault>
+        ensures { Prepares result (next_of (agent_of self.now) Cause.Start) }
+    {
+        if self.durable.run == 0 {
+            return Err(AgentFault::Refused(AgentRefusal::OldSession));
+        }
+        self.open_next(alloc, self.durable.session, self.durable.run)
+    }
+
+    fn send_again(&self, alloc: Global) -> Result<Next, AllocError>
+        ensures { IfOk result (λ n. next_of (agent_of self.now) Cause.Again ≡ Ok (next_draft n)) }
+    {
+        let mut mails = Vec::new(alloc);
+        self.push_all_fronts(&mut mails)?;
+        let after = self.copy(alloc)?;
+        Ok(Next { after, mails })
+    }
+
+    /// A state that has a place comes to the task of a key.
+    fn told_state(
+        &self,
+        alloc: Global,
+        key: LaunchKey,
+        state: TaskState,
+    ) -> Result<Next, AllocError>
+        ensures { IfOk result (λ n. next_draft n ≡ after_state (agent_of self.now) key state) }
+    {
+        let tasks = stated_all(alloc, key, state, self.tasks())?;
+        let after = self.with_tasks(alloc, tasks, self.applied)?;
+        let mut mails = Vec::new(alloc);
+        if self.in_session {
+            push_fronts_at(&mut mails, self.durable.session, key, after.tasks())?;
+        }
+        Ok(Next { after, mails })
+    }
+
+    fn execute(&self, alloc: Global, key: LaunchKey, state: TaskState) -> Result<Next, AgentFault>
+        ensures { Prepares result (executes (agent_of self.now) key state) }
+    {
+        if !has_task(key, self.tasks()) {
+            return Err(AgentFault::Refused(AgentRefusal::NoSuchTask));
+        }
+        if has_ended_task(key, self.tasks()) {
+            return Err(AgentFault::Refused(AgentRefusal::Ended));
+        }
+        if lacks_place(key, state, self.tasks()) {
+            return Err(AgentFault::Refused(AgentRefusal::UpdatesFull));
+        }
+        Ok(self.told_state(alloc, key, state)?)
+    }
+
+    fn launches_again(&self, command: &Command) -> bool
+        ensures { result ≡ launches_again (agent_of self.now) command.now }
+    {
+        match command {
+            Command::Launch(job, _) => has_task(job.key, self.tasks()),
+            _ => false,
+        }
+    }
+
+    /// Whether a mail is the next command of the open session, and launches a task under a key of the record.
+    pub fn hears_again(&self, mail: &MasterMail) -> bool
+        ensures { result ≡ hears_again (agent_of self.now) mail.now }
+    {
+        match mail {
+            MasterMail::Hello { .. } => false,
+            MasterMail::Issued {
+                session,
+                number,
+                command,
+            } => {
+                self.in_session
+                    && *session == self.durable.session
+                    && *number > 0
+                    && *number - 1 == self.applied
+                    && self.launches_again(command)
+            }
+        }
+    }
+
+    pub fn next(&self, alloc: Global, cause: Cause) -> Result<Next, AgentFault>
+        ensures { Prepares result (next_of (agent_of self.now) cause) }
+    {
+        match cause {
+            Cause::Start => self.start(alloc),
+            Cause::Again => Ok(self.send_again(alloc)?),
+            Cause::Executor(key, state) => self.execute(alloc, key, state),
+            Cause::Mail(to) => {
+                if !to.agent.is(&self.durable.name) {
+                    return Err(AgentFault::Refused(AgentRefusal::NotForMe));
+                }
+                self.hear_mail(alloc, to.mail)
+            }
+        }
+    }
+}

@@ -1,0 +1,139 @@
+//! What an agent prepares at a command.
+
+ghost use Rattle.std.specs.Prelude.{◌≡◌, ◌<◌, ◌^◌, ◌-◌, Ok, IfOk};
+ghost use Rattle.cluster_model.specs.Agents.{has_room, hears_command, applies, tasks_after};
+ghost use Rattle.mails.specs.declared.mail.Command.TheVariants.{Launch};
+ghost use Rattle.agent_core.specs.Drafts.{agent_of, applied_with, next_draft, Prepares, told_again};
+
+use crate::edits::{acknowledged_all, stated_all, without_framework};
+use crate::fault::AgentFault;
+use crate::mails_out::push_fronts_at;
+use crate::room;
+use crate::state::{State, push_copies};
+use listed::Listed;
+use mails::{AgentMail, AgentRefusal, Command, Job, RecordedTask};
+use names_core::{LaunchKey, OfferId, TaskState};
+use std::alloc::{AllocError, Global};
+use stream_core::Updates;
+
+/// What an agent would be, and the mails that it would send.
+#[derive(Drop)]
+pub struct Next {
+    pub after: State,
+    pub mails: Vec<AgentMail>,
+}
+
+fn launched(
+    alloc: Global,
+    tasks: &[RecordedTask],
+    job: Job,
+    offers: Listed<OfferId>,
+) -> Result<Vec<RecordedTask>, AllocError>
+    ensures { IfOk result (λ v. v.items ≡ tasks_after (Launch job offers) tasks.now) }
+{
+    let mut all = Vec::new(alloc);
+    push_copies(alloc, &mut all, tasks)?;
+    all.push(RecordedTask {
+        job,
+        offers,
+        updates: Updates::new(alloc),
+    })?;
+    Ok(all)
+}
+
+impl State {
+    /// The next command is applied, and leaves these tasks; the front of one task goes out with it.
+    fn applied_with(
+        &self,
+        alloc: Global,
+        tasks: Vec<RecordedTask>,
+        told: Option<LaunchKey>,
+    ) -> Result<Next, AllocError>
+        requires { self.now.applied < 2 ^ 32 - 1 }
+        ensures { IfOk result (λ n. next_draft n ≡ applied_with (agent_of self.now) tasks.items told) }
+    {
+        let after = self.with_tasks(alloc, tasks, self.applied + 1)?;
+        let mut mails = Vec::new(alloc);
+        mails.push(AgentMail::Applied {
+            session: self.durable.session,
+            count: self.applied + 1,
+        })?;
+        if let Some(key) = told {
+            push_fronts_at(&mut mails, self.durable.session, key, after.tasks())?;
+        }
+        Ok(Next { after, mails })
+    }
+
+    fn apply(&self, alloc: Global, command: Command) -> Result<Next, AllocError>
+        requires { self.now.applied < 2 ^ 32 - 1 }
+        ensures { IfOk result (λ n. next_draft n ≡ applies (agent_of self.now) command) }
+    {
+        match command {
+            Command::Launch(job, offers) => {
+                let tasks = launched(alloc, self.tasks(), job, offers)?;
+                self.applied_with(alloc, tasks, None)
+            }
+            Command::Kill(key) => {
+                let tasks = stated_all(alloc, key, TaskState::Killed, self.tasks())?;
+                self.applied_with(alloc, tasks, Some(key))
+            }
+            Command::Ack(key, k) => {
+                let tasks = acknowledged_all(alloc, key, k, self.tasks())?;
+                self.applied_with(alloc, tasks, Some(key))
+            }
+            Command::EndFramework(framework) => {
+                let tasks = without_framework(alloc, framework, self.tasks())?;
+                self.applied_with(alloc, tasks, None)
+            }
+        }
+    }
+
+    fn has_room(&self, alloc: Global, command: &Command) -> Result<bool, AllocError>
+        ensures { IfOk result (λ has. has ≡ has_room (agent_of self.now) command.now) }
+    {
+        match command {
+            Command::Launch(job, _) => {
+                room::has_room(alloc, &self.durable.total, &job.resources, self.tasks())
+            }
+            _ => Ok(true),
+        }
+    }
+
+    /// Nothing changes, and the count of applied commands is told again.
+    fn tell_again(&self, alloc: Global) -> Result<Next, AllocError>
+        ensures { IfOk result (λ n. next_draft n ≡ told_again (agent_of self.now)) }
+    {
+        let after = self.copy(alloc)?;
+        let mut mails = Vec::new(alloc);
+        mails.push(AgentMail::Applied {
+            session: self.durable.session,
+            count: self.applied,
+        })?;
+        Ok(Next { after, mails })
+    }
+
+    /// At the command with this number of a session.
+    pub fn hear_command(
+        &self,
+        alloc: Global,
+        session: u32,
+        number: u32,
+        command: Command,
+    ) -> Result<Next, AgentFault>
+        ensures { Prepares result (hears_command (agent_of self.now) session number command) }
+    {
+        if !(self.in_session && session == self.durable.session) {
+            return Err(AgentFault::Refused(AgentRefusal::OldSession));
+        }
+        if number <= self.applied {
+            return Ok(self.tell_again(alloc)?);
+        }
+        if number - 1 != self.applied {
+            return Err(AgentFault::Refused(AgentRefusal::NotNext));
+        }
+        if !self.has_room(alloc, &command)? {
+            return Err(AgentFault::Refused(AgentRefusal::NoRoom));
+        }
+        Ok(self.apply(alloc, command)?)
+    }
+}

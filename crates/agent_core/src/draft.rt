@@ -1,0 +1,98 @@
+//! Drafts: what an agent would be and would send.
+
+ghost use Rattle.std.specs.Prelude.{◌≡◌, ◌↔◌, IsTrue, IfOk};
+ghost use Rattle.agent_core.specs.Drafts.{agent_of, next_draft};
+
+use crate::commands::Next;
+use crate::differences::{difference_of, is_spliced};
+use crate::state::{State, copies_of};
+use mails::{AgentMail, Durable};
+use std::alloc::{AllocError, Global};
+use std::marker::Model;
+
+/// A change of an agent, prepared and not yet made: its record is to be saved before it is committed.
+#[derive(Drop)]
+pub struct Draft {
+    /// What the agent is, with those tasks alone that the draft doesn't keep as they are.
+    before: State,
+    /// Where these tasks stand: before and behind that the draft's tasks are the agent's.
+    from: usize,
+    to: usize,
+    after: State,
+    mails: Vec<AgentMail>,
+}
+
+impl Model for Draft {
+    ghost use Rattle.std.specs.Prelude.{◌≤◌, length};
+    ghost use Rattle.cluster_model.specs.Agents.{with_tasks};
+    ghost use Rattle.agent_core.specs.Drafts.{agent_of};
+    ghost use Rattle.agent_core.specs.Prepared.{Prepared, spliced};
+
+    ghost Value = { Prepared };
+
+    ghost view = { λ d. record { before = with_tasks (agent_of d.before) (spliced d.from d.to d.after.durable.tasks d.before.durable.tasks) d.before.applied; draft = record { after = agent_of d.after; mails = d.mails.items } } };
+
+    ghost invariant = { λ d. (d.from ≤ d.to) × (d.to ≤ length d.after.durable.tasks) };
+}
+
+impl Draft {
+    pub(crate) fn of(alloc: Global, state: &State, next: Next) -> Result<Draft, AllocError>
+        ensures { IfOk result (λ d. d ≡ record { before = agent_of state.now; draft = next_draft next }) }
+    {
+        let tasks = state.tasks();
+        let difference = difference_of(tasks, next.after.tasks());
+        let part = copies_of(alloc, &tasks[difference.from..difference.end])?;
+        Ok(Draft {
+            before: state.with_tasks(alloc, part, state.applied)?,
+            from: difference.from,
+            to: difference.to,
+            after: next.after,
+            mails: next.mails,
+        })
+    }
+
+    /// Whether it was prepared for an agent that is as this one.
+    pub(crate) fn is_current(&self, state: &State) -> bool
+        ensures { IsTrue result ↔ (self.now.before ≡ agent_of state.now) }
+    {
+        self.before.is_same_but_for_tasks(state)
+            && is_spliced(
+                state.tasks(),
+                self.from,
+                self.to,
+                self.after.tasks(),
+                self.before.tasks(),
+            )
+    }
+
+    /// What the agent becomes, and the mails that it sends.
+    pub(crate) fn into_next(self) -> Next
+        ensures { next_draft result ≡ self.draft }
+    {
+        Next {
+            after: self.after,
+            mails: self.mails,
+        }
+    }
+
+    /// The record that is to be saved. It takes no memory.
+    pub fn durable(&self) -> &Durable
+        ensures { result.now ≡ self.now.draft.after.durable }
+    {
+        &self.after.durable
+    }
+
+    /// The mails that the commit will give. It takes no memory.
+    pub fn mails(&self) -> &[AgentMail]
+        ensures { result.now ≡ self.now.draft.mails }
+    {
+        self.mails.as_slice()
+    }
+
+    /// The draft's record, for an agent that stopped once it was saved. It takes no memory.
+    pub fn into_durable(self) -> Durable
+        ensures { result ≡ self.draft.after.durable }
+    {
+        self.after.durable
+    }
+}

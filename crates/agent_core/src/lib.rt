@@ -1,0 +1,23 @@
+//! An agent that never loses what it promised: each change is first a draft to be saved, and then a commit.
+#![tactic(auto)]
+
+mod agent;
+mod causes;
+mod commands;
+mod differences;
+mod draft;
+mod edits;
+mod fault;
+mod mails_out;
+mod record;
+mod room;
+mod same;
+mod state;
+#[cfg(test)]
+mod tests;
+
+pub use agent::Agent;
+pub use draft::Draft;
+pub use fault::AgentFault;
+pub use mails::Durable;
+pub use record::{fresh, rebuild};

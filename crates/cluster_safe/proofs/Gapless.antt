@@ -1,0 +1,256 @@
+-- What an honest framework has acknowledged of a task has no gap.
+use Rattle.std.proofs.Common.{◌≡◌, ℕ, suc, zero, ◌<◌, ◌≤◌, Bool, true, false, not, ◌&&◌, ◌||◌, List, [], ◌∷◌, ◌++◌, map, fold, Option, Some, None, Result, Ok, Err, refl, sym, ap, ◌∙◌, subst, inl, inr, arith}
+use Rattle.std.specs.Prelude.{⊤, ◌⊎◌, ◌==◌, if◌then◌else◌, max, flat_map}
+use Rattle.std.specs.List.{AllByRecursion as Each, list_any}
+use Rattle.std.proofs.lemmas.Bool.{cond_both, cases_Bool, cases_lt}
+use Rattle.std.proofs.lemmas.Bool.Decides.{nat_tests}
+use Rattle.std.proofs.lemmas.List.Folds.{list_any-append}
+use Rattle.std.proofs.lemmas.List.Sums.{fold-append}
+use Rattle.names_core.specs.Ids.{Numbered}
+use Rattle.mails.specs.declared.task.Job.{Job}
+use Rattle.mails.specs.declared.record.Durable.{Durable}
+use Rattle.mails.specs.declared.record.RecordedTask.{RecordedTask}
+use Rattle.mails.specs.declared.call.Call.{Call}
+use Rattle.mails.specs.declared.call.Call.TheVariants.{Subscribe, Teardown, Accept, Decline, Revive, Suppress, Acknowledge, Reconcile}
+use Rattle.mails.specs.declared.call.Call.TheVariants as calls
+use Rattle.cluster_model.specs.Ids.{same}
+use Rattle.cluster_model.specs.Channels.{World, Happening, after_all, open_world}
+use Rattle.cluster_model.specs.Clusters.{Post, Called, Down, Up, Step, Send, Entry, StepRefusal}
+use Rattle.cluster_model.specs.Events.{Event, SUBSCRIBED, OFFERS, RESCIND, UPDATE, FAILURE, FAILED_OVER, REMOVED, HEARTBEAT, Told}
+use Rattle.cluster_model.specs.Openings.{GoodOpening, recorded_jobs}
+use Rattle.cluster_model.specs.Steps.{Done, History, Marked, step_marked, extended, extend_all, history, opening, hello_to}
+use Rattle.cluster_safe.specs.Acknowledged.{Names, WasSent, WasCounted, recorded_tasks}
+use Rattle.cluster_safe.specs.Honest.{Tells, WasTold, told_in, IsHonestCall, IsHonestStep, Honest, has_number, noted, up_to, counted, acknowledged_by, IsKeyOf, WithoutGap}
+use Rattle.cluster_safe.specs.Origin.{IsOneOf, jobs_of, trail}
+use Rattle.cluster_safe.proofs.Ids.{same_refl, same_is}
+use Rattle.cluster_safe.proofs.Orders.{each_append}
+use Rattle.cluster_safe.proofs.Drafts.{both_true}
+use Rattle.cluster_safe.proofs.Worlds.{all_room}
+use Rattle.cluster_safe.proofs.Events.{TellOk, EventOk}
+use Rattle.cluster_safe.proofs.Histories.{Legal, NotCall, Sends, AckedBy, EntryOk, HistoryOk, step_legal, extend_ok, jobs_grow, trail_append, number_tells, no_calls, once_same, history_ok, opening_ok}
+
+-- numbers in a list
+
+has_front : (xs ys : List ℕ) (k : ℕ) → has_number xs k ≡ true → has_number (xs ++ ys) k ≡ true
+has_front xs ys k h = rw (list_any-append (λ other. other == k) xs ys, h) refl
+
+or_true : (b : Bool) → (b || true) ≡ true
+or_true true = refl
+or_true false = refl
+
+not_true : (b : Bool) → not b ≡ true → b ≡ false
+not_true true h = absurd cc
+not_true false h = refl
+
+not_false : (b : Bool) → not b ≡ false → b ≡ true
+not_false true h = refl
+not_false false h = absurd cc
+
+has_one : (k : ℕ) → has_number (k ∷ []) k ≡ true
+has_one k = grind (arith, nat_tests)
+
+is_one : (n k : ℕ) → has_number (n ∷ []) k ≡ true → n ≡ k
+is_one n k h = grind (arith, nat_tests)
+
+has_last : (xs : List ℕ) (k : ℕ) → has_number (xs ++ k ∷ []) k ≡ true
+has_last xs k = rw (list_any-append (λ other. other == k) xs (k ∷ []), has_one k) (or_true (has_number xs k))
+
+has_split : (xs : List ℕ) (n k : ℕ) → has_number (xs ++ n ∷ []) k ≡ true → (has_number xs k ≡ true) ⊎ (n ≡ k)
+has_split xs n k h = elim (cases_Bool (has_number xs k)) [ inl e ↦ inl e | inr e ↦ inr (is_one n k (rw (list_any-append (λ other. other == k) xs (n ∷ []), e) at h)) ]
+
+below : (n k : ℕ) → has_number (up_to n) k ≡ true → k < n
+below zero k h = absurd cc
+below (suc n) k h = elim (has_split (up_to n) n k h) [ inl e ↦ (let lt = below n k e in omega arith) | inr e ↦ omega arith ]
+
+reached : (n k : ℕ) → k < n → has_number (up_to n) k ≡ true
+reached zero k h = absurd (omega arith)
+reached (suc n) k h = elim (cases_lt k n) [ inl lt ↦ has_front (up_to n) (n ∷ []) k (reached n k lt) | inr ge ↦ (let e : n ≡ k = omega arith in subst (λ x. has_number (up_to n ++ n ∷ []) x ≡ true) e (has_last (up_to n) n)) ]
+
+-- a number that isn't there, with each before it there, is the next one
+next_number : (n k : ℕ) → ((j : ℕ) → j < k → has_number (up_to n) j ≡ true) → has_number (up_to n) k ≡ false → k ≡ n
+next_number n k all none = elim (cases_lt k n) [ inl lt ↦ absurd (let h = reached n k lt in cc) | inr ge ↦ elim (cases_lt n k) [ inl lt ↦ absurd (let l = below n n (all n lt) in omega arith) | inr le ↦ omega arith ] ]
+
+-- calls
+
+noted_keeps : (framework key : Numbered) (ks : List ℕ) (post : Post) (j : ℕ) → has_number ks j ≡ true → has_number (noted framework key ks post) j ≡ true
+noted_keeps framework key ks (Called stream (Acknowledge f agent task uuid)) j h = cond_both (same f framework && same uuid.key key && not (has_number ks uuid.k)) (ks ++ uuid.k ∷ []) ks (λ xs. has_number xs j ≡ true) (λ e. has_front ks (uuid.k ∷ []) j h) (λ e. h)
+noted_keeps framework key ks (Called stream (Subscribe f role)) j h = h
+noted_keeps framework key ks (Called stream (Teardown f)) j h = h
+noted_keeps framework key ks (Called stream (Accept f offers tasks seconds)) j h = h
+noted_keeps framework key ks (Called stream (Decline f offers seconds)) j h = h
+noted_keeps framework key ks (Called stream (Revive f)) j h = h
+noted_keeps framework key ks (Called stream (Suppress f)) j h = h
+noted_keeps framework key ks (Called stream (calls.Kill f task agent)) j h = h
+noted_keeps framework key ks (Called stream (Reconcile f tasks)) j h = h
+noted_keeps framework key ks (Down agent place) j h = h
+noted_keeps framework key ks (Up agent place) j h = h
+
+fold_keeps : (framework key : Numbered) (posts : List Post) (ks : List ℕ) (j : ℕ) → has_number ks j ≡ true → has_number (fold (noted framework key) ks posts) j ≡ true
+fold_keeps framework key [] ks j h = h
+fold_keeps framework key (p ∷ posts) ks j h = fold_keeps framework key posts (noted framework key ks p) j (noted_keeps framework key ks p j h)
+
+noted_named : (framework key : Numbered) (ks : List ℕ) (post : Post) (k : ℕ) → Names framework key k post → has_number (noted framework key ks post) k ≡ true
+noted_named framework key ks (Called stream (Acknowledge f agent task uuid)) k h =
+    cond_both (same f framework && same uuid.key key && not (has_number ks uuid.k)) (ks ++ uuid.k ∷ []) ks (λ xs. has_number xs k ≡ true) (λ e. subst (λ x. has_number (ks ++ uuid.k ∷ []) x ≡ true) h.2 (has_last ks uuid.k))
+    (λ e. subst (λ x. has_number ks x ≡ true) h.2 (not_false (has_number ks uuid.k) (rw (own, of_key) at e)))
+  where
+    own : same f framework ≡ true
+    own = subst (λ x. same f x ≡ true) h.0 (same_refl f)
+
+    of_key : same uuid.key key ≡ true
+    of_key = subst (λ x. same uuid.key x ≡ true) h.1 (same_refl uuid.key)
+noted_named framework key ks (Called stream (Subscribe f role)) k h = absurd h
+noted_named framework key ks (Called stream (Teardown f)) k h = absurd h
+noted_named framework key ks (Called stream (Accept f offers tasks seconds)) k h = absurd h
+noted_named framework key ks (Called stream (Decline f offers seconds)) k h = absurd h
+noted_named framework key ks (Called stream (Revive f)) k h = absurd h
+noted_named framework key ks (Called stream (Suppress f)) k h = absurd h
+noted_named framework key ks (Called stream (calls.Kill f task agent)) k h = absurd h
+noted_named framework key ks (Called stream (Reconcile f tasks)) k h = absurd h
+noted_named framework key ks (Down agent place) k h = absurd h
+noted_named framework key ks (Up agent place) k h = absurd h
+
+fold_sent : (framework key : Numbered) (posts : List Post) (ks : List ℕ) (k : ℕ) → WasSent framework key k posts → has_number (fold (noted framework key) ks posts) k ≡ true
+fold_sent framework key [] ks k h = absurd h
+fold_sent framework key (p ∷ posts) ks k (inl n) = fold_keeps framework key posts (noted framework key ks p) k (noted_named framework key ks p k n)
+fold_sent framework key (p ∷ posts) ks k (inr h) = fold_sent framework key posts (noted framework key ks p) k h
+
+-- what stays without calls
+fold_quiet : (framework key : Numbered) (more : List Post) (ks : List ℕ) → Each NotCall more → fold (noted framework key) ks more ≡ ks
+fold_quiet framework key [] ks h = refl
+fold_quiet framework key (Called stream call ∷ more) ks h = absurd h.0
+fold_quiet framework key (Down agent place ∷ more) ks h = fold_quiet framework key more ks h.1
+fold_quiet framework key (Up agent place ∷ more) ks h = fold_quiet framework key more ks h.1
+
+-- each number before one that a call names is there
+abbrev pub Ready : Numbered → Numbered → List ℕ → Post → Type 0
+Ready framework key ks post = (k : ℕ) → Names framework key k post → (j : ℕ) → j < k → has_number ks j ≡ true
+
+noted_gapless : (framework key : Numbered) (ks : List ℕ) (post : Post) → WithoutGap ks → Ready framework key ks post → WithoutGap (noted framework key ks post)
+noted_gapless framework key ks (Called stream (Acknowledge f agent task uuid)) g ready =
+    cond_both (same f framework && same uuid.key key && not (has_number ks uuid.k)) (ks ++ uuid.k ∷ []) ks WithoutGap (λ e. added (both_true (same f framework && same uuid.key key) (not (has_number ks uuid.k)) e)) (λ e. g)
+  where
+    added : ((same f framework && same uuid.key key) ≡ true) × (not (has_number ks uuid.k) ≡ true) → WithoutGap (ks ++ uuid.k ∷ [])
+    added e =
+        let both = both_true (same f framework) (same uuid.key key) e.0 in
+        let all : (j : ℕ) → j < uuid.k → has_number ks j ≡ true = ready uuid.k (same_is f framework both.0, same_is uuid.key key both.1, refl) in
+        let none : has_number ks uuid.k ≡ false = not_true (has_number ks uuid.k) e.1 in
+        let is : uuid.k ≡ g.0 = next_number g.0 uuid.k (λ j lt. subst (λ xs. has_number xs j ≡ true) g.1 (all j lt)) (subst (λ xs. has_number xs uuid.k ≡ false) g.1 none) in
+        (suc g.0, ap (λ xs. xs ++ uuid.k ∷ []) g.1 ∙ ap (λ n. up_to g.0 ++ n ∷ []) is)
+noted_gapless framework key ks (Called stream (Subscribe f role)) g ready = g
+noted_gapless framework key ks (Called stream (Teardown f)) g ready = g
+noted_gapless framework key ks (Called stream (Accept f offers tasks seconds)) g ready = g
+noted_gapless framework key ks (Called stream (Decline f offers seconds)) g ready = g
+noted_gapless framework key ks (Called stream (Revive f)) g ready = g
+noted_gapless framework key ks (Called stream (Suppress f)) g ready = g
+noted_gapless framework key ks (Called stream (calls.Kill f task agent)) g ready = g
+noted_gapless framework key ks (Called stream (Reconcile f tasks)) g ready = g
+noted_gapless framework key ks (Down agent place) g ready = g
+noted_gapless framework key ks (Up agent place) g ready = g
+
+posts_gapless : (S : Option Numbered → Call → Type 0) (framework key : Numbered) (ks : List ℕ) (more : List Post) → WithoutGap ks → ((stream : Option Numbered) (call : Call) → S stream call → Ready framework key ks (Called stream call)) → Each NotCall more ⊎ Sends S more → WithoutGap (fold (noted framework key) ks more)
+posts_gapless S framework key ks more g ready (inl quiet) = subst WithoutGap (sym (fold_quiet framework key more ks quiet)) g
+posts_gapless S framework key ks [] g ready (inr sends) = absurd sends
+posts_gapless S framework key ks (Down agent place ∷ more) g ready (inr sends) = absurd sends
+posts_gapless S framework key ks (Up agent place ∷ more) g ready (inr sends) = absurd sends
+posts_gapless S framework key ks (Called stream call ∷ []) g ready (inr sends) = noted_gapless framework key ks (Called stream call) g (ready stream call sends)
+posts_gapless S framework key ks (Called stream call ∷ post ∷ more) g ready (inr sends) = absurd sends
+
+-- what the opening counted
+
+counted_above : (key : Numbered) (k : ℕ) (ts : List RecordedTask) → WasCounted key k ts → k < counted key ts
+counted_above key k [] h = absurd h
+counted_above key k (t ∷ ts) (inl h) = cond_both (same t.job.key key) (max t.updates.acknowledged (counted key ts)) (counted key ts) (λ n. k < n) (λ e. (let lt = h.1 in omega arith)) (λ e. absurd (let s : same t.job.key key ≡ true = subst (λ x. same t.job.key x ≡ true) h.0 (same_refl t.job.key) in cc))
+counted_above key k (t ∷ ts) (inr h) = (let lt = counted_above key k ts h in cond_both (same t.job.key key) (max t.updates.acknowledged (counted key ts)) (counted key ts) (λ n. k < n) (λ e. omega arith) (λ e. lt))
+
+-- what was told
+
+event_ready : (A : Numbered → ℕ → Type 0) (key : Numbered) (k : ℕ) (e : Event) → TellOk A e → Tells key k e → (j : ℕ) → j < k → A key j
+event_ready A key k (UPDATE task state agent (Some uuid)) ok h j lt = subst (λ x. A x j) h.0 (ok j (subst (λ n. j < n) (sym h.1) lt))
+event_ready A key k (UPDATE task state agent None) ok h j lt = absurd h
+event_ready A key k (SUBSCRIBED framework) ok h j lt = absurd h
+event_ready A key k (OFFERS offers) ok h j lt = absurd h
+event_ready A key k (RESCIND offer) ok h j lt = absurd h
+event_ready A key k (FAILURE agent) ok h j lt = absurd h
+event_ready A key k FAILED_OVER ok h j lt = absurd h
+event_ready A key k REMOVED ok h j lt = absurd h
+event_ready A key k HEARTBEAT ok h j lt = absurd h
+
+told_ready : (A : Numbered → ℕ → Type 0) (key : Numbered) (k : ℕ) (ts : List Told) → Each (EventOk A) ts → WasTold key k ts → (j : ℕ) → j < k → A key j
+told_ready A key k [] ok h j lt = absurd h
+told_ready A key k (t ∷ ts) ok (inl h) j lt = event_ready A key k t.event ok.0 h j lt
+told_ready A key k (t ∷ ts) ok (inr h) j lt = told_ready A key k ts ok.1 h j lt
+
+each_told : (A : Numbered → ℕ → Type 0) (es : List Entry) → Each (EntryOk A) es → Each (EventOk A) (told_in es)
+each_told A [] h = tt
+each_told A (e ∷ es) h = each_append (EventOk A) e.outs.events (told_in es) h.0 (each_told A es h.1)
+
+-- the framework of all jobs under a key
+abbrev pub Owns : Numbered → Numbered → List Job → Type 0
+Owns framework key jobs = (j : Job) → IsOneOf j jobs → j.key ≡ key → j.framework ≡ framework
+
+abbrev pub all_jobs : List Durable → World → List Happening → List Job
+all_jobs records start hs = jobs_of (trail hs start []) ++ recorded_jobs records
+
+acked_has : (records : List Durable) (start : World) (h : History) (framework key : Numbered) → Owns framework key (all_jobs records start h.happenings) → (j : ℕ) → AckedBy records (trail h.happenings start []) h.state.posts key j → has_number (acknowledged_by records framework key h.state.posts) j ≡ true
+acked_has records start h framework key owns j a = by a.3
+  where
+    by : WasSent a.0.framework key j h.state.posts ⊎ WasCounted key j (recorded_tasks records) → has_number (acknowledged_by records framework key h.state.posts) j ≡ true
+    by (inl sent) = fold_sent framework key h.state.posts (up_to (counted key (recorded_tasks records))) j (subst (λ f. WasSent f key j h.state.posts) (owns a.0 a.1 a.2) sent)
+    by (inr once) = fold_keeps framework key h.state.posts (up_to (counted key (recorded_tasks records))) j (reached (counted key (recorded_tasks records)) j (counted_above key j (recorded_tasks records) once))
+
+call_ready : (records : List Durable) (start : World) (h : History) (framework key : Numbered) → HistoryOk records start h → Owns framework key (all_jobs records start h.happenings) → (stream : Option Numbered) (call : Call) → IsHonestCall framework h.entries call → Ready framework key (acknowledged_by records framework key h.state.posts) (Called stream call)
+call_ready records start h framework key ok owns stream (Acknowledge f agent task uuid) honest k names j lt =
+    acked_has records start h framework key owns j (told_ready A key k (told_in h.entries) (each_told A h.entries ok.told) (subst (λ x. WasTold x k (told_in h.entries)) names.1 (subst (λ n. WasTold uuid.key n (told_in h.entries)) names.2 (honest names.0))) j lt)
+  where
+    A : Numbered → ℕ → Type 0
+    A = AckedBy records (trail h.happenings start []) h.state.posts
+call_ready records start h framework key ok owns stream (Subscribe f role) honest k names j lt = absurd names
+call_ready records start h framework key ok owns stream (Teardown f) honest k names j lt = absurd names
+call_ready records start h framework key ok owns stream (Accept f offers tasks seconds) honest k names j lt = absurd names
+call_ready records start h framework key ok owns stream (Decline f offers seconds) honest k names j lt = absurd names
+call_ready records start h framework key ok owns stream (Revive f) honest k names j lt = absurd names
+call_ready records start h framework key ok owns stream (Suppress f) honest k names j lt = absurd names
+call_ready records start h framework key ok owns stream (calls.Kill f task agent) honest k names j lt = absurd names
+call_ready records start h framework key ok owns stream (Reconcile f tasks) honest k names j lt = absurd names
+
+-- one step, and all
+
+extended_gapless : (records : List Durable) (start : World) (h : History) (framework key : Numbered) (r : Result Done StepRefusal) → HistoryOk records start h → Owns framework key (all_jobs records start h.happenings) → Legal (AckedBy records (trail h.happenings start []) h.state.posts) (λ stream call. IsHonestCall framework h.entries call) h.state r →
+    WithoutGap (acknowledged_by records framework key h.state.posts) → WithoutGap (acknowledged_by records framework key (extended h r).state.posts)
+extended_gapless records start h framework key (Ok d) ok owns l g =
+    subst (λ ps. WithoutGap (acknowledged_by records framework key ps)) (sym l.4.1)
+    (subst WithoutGap (sym (fold-append (noted framework key) (up_to (counted key (recorded_tasks records))) h.state.posts l.4.0))
+    (posts_gapless (λ stream call. IsHonestCall framework h.entries call) framework key (acknowledged_by records framework key h.state.posts) l.4.0 g (call_ready records start h framework key ok owns) l.4.2))
+extended_gapless records start h framework key (Err refusal) ok owns l g = g
+
+jobs_step : (records : List Durable) (start : World) (h : History) (r : Result Done StepRefusal) (j : Job) → IsOneOf j (all_jobs records start h.happenings) → IsOneOf j (all_jobs records start (extended h r).happenings)
+jobs_step records start h (Ok d) j x = subst (λ ms. IsOneOf j (jobs_of ms ++ recorded_jobs records)) (sym (trail_append h.happenings d.happenings start [])) (jobs_grow d.happenings (after_all h.happenings start) (trail h.happenings start []) (recorded_jobs records) j x)
+jobs_step records start h (Err refusal) j x = x
+
+jobs_kept : (records : List Durable) (start : World) (ss : List Marked) (h : History) (j : Job) → IsOneOf j (all_jobs records start h.happenings) → IsOneOf j (all_jobs records start (extend_all h ss).happenings)
+jobs_kept records start [] h j x = x
+jobs_kept records start (s ∷ ss) h j x = jobs_kept records start ss (extended h (step_marked h.state s)) j (jobs_step records start h (step_marked h.state s) j x)
+
+honest_send : (framework : Numbered) (entries : List Entry) (s : Step) → IsHonestStep framework entries s → (stream : Option Numbered) (call : Call) → s ≡ Send stream call → IsHonestCall framework entries call
+honest_send framework entries s h stream call e = subst (IsHonestStep framework entries) e h
+
+all_gapless : (records : List Durable) (start : World) (framework key : Numbered) (ss : List Marked) (h : History) → HistoryOk records start h → Honest framework h ss → Owns framework key (all_jobs records start (extend_all h ss).happenings) →
+    WithoutGap (acknowledged_by records framework key h.state.posts) → WithoutGap (acknowledged_by records framework key (extend_all h ss).state.posts)
+all_gapless records start framework key [] h ok honest owns g = g
+all_gapless records start framework key (s ∷ ss) h ok honest owns g =
+    all_gapless records start framework key ss (extended h (step_marked h.state s)) (extend_ok records start (s ∷ []) h ok) honest.1 owns
+    (extended_gapless records start h framework key (step_marked h.state s) ok (λ j x e. owns j (jobs_kept records start (s ∷ ss) h j x) e)
+    (step_legal (AckedBy records (trail h.happenings start []) h.state.posts) (λ stream call. IsHonestCall framework h.entries call) h.state (all_room h.state.world ok.world) (number_tells records h.state (trail h.happenings start []) ok.origin) ok.acked s (honest_send framework h.entries s.step honest.0)) g)
+
+opening_gapless : (run : ℕ) (records : List Durable) (framework key : Numbered) → WithoutGap (acknowledged_by records framework key (opening run records).state.posts)
+opening_gapless run records framework key =
+    (counted key (recorded_tasks records), fold_quiet framework key (opening run records).state.posts (up_to (counted key (recorded_tasks records))) (no_calls (map hello_to (open_world run records).channels) (open_world run records)))
+
+pub history_gapless : (run : ℕ) (records : List Durable) (steps : List Marked) (framework key : Numbered) → GoodOpening run records → Honest framework (opening run records) steps → IsKeyOf framework key (jobs_of (trail (history run records steps).happenings (open_world run records) []) ++ recorded_jobs records) →
+    WithoutGap (acknowledged_by records framework key (history run records steps).state.posts)
+history_gapless run records steps framework key good honest of =
+    all_gapless records (open_world run records) framework key steps (opening run records) (opening_ok run records good) honest owns (opening_gapless run records framework key)
+  where
+    owns : Owns framework key (all_jobs records (open_world run records) (history run records steps).happenings)
+    owns j x e = ap (λ (i : Job). i.framework) (once_same (all_jobs records (open_world run records) (history run records steps).happenings) j of.0 (history_ok run records steps good).origin.keys.once x of.1 (e ∙ sym of.2)) ∙ of.3

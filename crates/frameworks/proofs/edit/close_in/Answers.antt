@@ -1,0 +1,7 @@
+use Rattle.std.proofs.Common.{rules, arith}
+use Rattle.std.proofs.lemmas.List.Edits.{map_over_more}
+use Rattle.frameworks.specs.Frameworks.{changed, without_stream}
+use Rattle.frameworks.proofs.edit.close_in.Goals as goal
+
+pub loop-i-preserved : goal.loop-i-preserved
+loop-i-preserved c = rw c.close_one.ensures (map_over_more (changed without_stream c.args.id) c.args.frameworks.now.items c.loop-i.frameworks.items c.loop-i.i c.index_mut.result.now (omega (arith, c.len-i-end.ensures)) c.loop-i.invariant (search rules))

@@ -1,0 +1,148 @@
+//! Changes in place.
+
+ghost use Rattle.std.specs.Prelude.{◌≡◌, true, map, OnOk};
+ghost use Rattle.cluster_model.specs.Masters.{clear_on, put_framework};
+ghost use Rattle.cluster_model.specs.Mails.{beaten, is_due};
+ghost use Rattle.frameworks.specs.Frameworks.{are_ordered, changed, ids_of, revived, suppressed, with_filter, without_stream};
+
+use crate::filters;
+use crate::look::{is_at, place_in};
+use listed::Listed;
+use mails::Framework;
+use names_core::{AgentName, FrameworkId};
+use quantity::Resources;
+use std::alloc::{AllocError, Global};
+
+/// Seconds between two heartbeats on a stream.
+const HEARTBEAT_SECONDS: u64 = 15;
+
+/// Puts a framework in its place by id, in place of what was there.
+pub fn put(frameworks: &mut Vec<Framework>, framework: Framework) -> Result<(), AllocError>
+    requires { are_ordered frameworks.old.items ≡ true }
+    ensures ok { OnOk result (frameworks.new.items ≡ put_framework framework frameworks.old.items) }
+    ensures ordered { are_ordered frameworks.new.items ≡ true }
+{
+    let place = place_in(frameworks, framework.id);
+    if is_at(frameworks, place, &framework) {
+        frameworks[place] = framework;
+    } else {
+        frameworks.insert(place, framework)?;
+    }
+    Ok(())
+}
+
+fn close_one(framework: &mut Framework, id: FrameworkId)
+    ensures { framework.new ≡ changed without_stream id framework.old }
+{
+    if framework.id == id {
+        framework.stream = None;
+    }
+}
+
+pub fn close_in(frameworks: &mut Vec<Framework>, id: FrameworkId)
+    ensures { frameworks.new.items ≡ map (changed without_stream id) frameworks.old.items }
+{
+    for i in 0..frameworks.len() {
+        close_one(&mut frameworks[i], id);
+    }
+}
+
+fn revive_one(framework: &mut Framework, alloc: Global, id: FrameworkId)
+    ensures { framework.new ≡ changed revived id framework.old }
+{
+    if framework.id == id {
+        framework.suppressed = false;
+        framework.filters = Listed::new(alloc);
+    }
+}
+
+pub fn revive_in(frameworks: &mut Vec<Framework>, alloc: Global, id: FrameworkId)
+    ensures { frameworks.new.items ≡ map (changed revived id) frameworks.old.items }
+{
+    for i in 0..frameworks.len() {
+        revive_one(&mut frameworks[i], alloc, id);
+    }
+}
+
+fn suppress_one(framework: &mut Framework, id: FrameworkId)
+    ensures { framework.new ≡ changed suppressed id framework.old }
+{
+    if framework.id == id {
+        framework.suppressed = true;
+    }
+}
+
+pub fn suppress_in(frameworks: &mut Vec<Framework>, id: FrameworkId)
+    ensures { frameworks.new.items ≡ map (changed suppressed id) frameworks.old.items }
+{
+    for i in 0..frameworks.len() {
+        suppress_one(&mut frameworks[i], id);
+    }
+}
+
+fn refuse_one(
+    framework: &mut Framework,
+    alloc: Global,
+    id: FrameworkId,
+    now: u32,
+    seconds: u32,
+    agent: &AgentName,
+    refused: &Resources,
+) -> Result<(), AllocError>
+    ensures ok { OnOk result (framework.new ≡ changed (with_filter now seconds agent.now refused.now) id framework.old) }
+    ensures id { framework.new.id ≡ framework.old.id }
+{
+    if framework.id == id {
+        let refused = refused.copy(alloc)?;
+        filters::add_filter(&mut framework.filters, alloc, now, seconds, agent, refused)?;
+    }
+    Ok(())
+}
+
+pub fn refuse_in(
+    frameworks: &mut Vec<Framework>,
+    alloc: Global,
+    id: FrameworkId,
+    now: u32,
+    seconds: u32,
+    agent: &AgentName,
+    refused: &Resources,
+) -> Result<(), AllocError>
+    ensures ok { OnOk result (frameworks.new.items ≡ map (changed (with_filter now seconds agent.now refused.now) id) frameworks.old.items) }
+    ensures ids { ids_of frameworks.new.items ≡ ids_of frameworks.old.items }
+{
+    for i in 0..frameworks.len() {
+        refuse_one(&mut frameworks[i], alloc, id, now, seconds, agent, refused)?;
+    }
+    Ok(())
+}
+
+pub fn clear_in(frameworks: &mut Vec<Framework>, agent: &AgentName)
+    ensures { frameworks.new.items ≡ map (clear_on agent.now) frameworks.old.items }
+{
+    for i in 0..frameworks.len() {
+        filters::clear_on(&mut frameworks[i], agent);
+    }
+}
+
+fn is_due(framework: &Framework, now: u32) -> bool
+    ensures { result ≡ is_due now framework.now }
+{
+    u64::from(framework.last_beat) + HEARTBEAT_SECONDS <= u64::from(now)
+}
+
+fn beat_one(framework: &mut Framework, now: u32)
+    ensures { framework.new ≡ beaten now framework.old }
+{
+    if framework.stream.is_some() && is_due(framework, now) {
+        framework.last_beat = now;
+    }
+}
+
+pub fn beat_in(frameworks: &mut Vec<Framework>, now: u32)
+    ensures { frameworks.new.items ≡ map (beaten now) frameworks.old.items }
+{
+    for i in 0..frameworks.len() {
+        beat_one(&mut frameworks[i], now);
+    }
+}

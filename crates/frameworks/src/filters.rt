@@ -1,0 +1,114 @@
+//! Filters: resources of an agent that a framework refused for some seconds.
+
+ghost use Rattle.std.specs.Prelude.{◌≡◌, ◌++◌, filter, not, bytes_eq, drop, take, OnOk};
+ghost use Rattle.std.specs.List.{list_any};
+ghost use Rattle.cluster_model.specs.Masters.{add_filter, clear_on, count_on, drop_oldest};
+ghost use Rattle.cluster_model.specs.Rounds.{refuses, may_be_offered};
+
+use listed::Listed;
+use mails::{Filter, Framework};
+use names_core::AgentName;
+use quantity::Resources;
+use std::alloc::{AllocError, Global};
+
+/// As many filters as one framework has on an agent.
+const MOST_FILTERS: usize = 64;
+
+fn count_on(filters: &[Filter], agent: &AgentName) -> usize
+    ensures { result ≡ count_on agent.now filters.now }
+{
+    let mut count = 0;
+    for filter in filters {
+        if filter.agent.is(agent) {
+            count += 1;
+        }
+    }
+    count
+}
+
+fn drop_oldest(filters: &mut Listed<Filter>, agent: &AgentName)
+    ensures { filters.new ≡ drop_oldest agent.now filters.old }
+{
+    for i in 0..filters.len() {
+        if filters.as_slice()[i].agent.is(agent) {
+            let _oldest = filters.remove(i);
+            return;
+        }
+    }
+}
+
+/// A filter of what was refused, where there is something and the seconds aren't 0. The 65th on an agent takes the place
+/// of the oldest.
+pub fn add_filter(
+    filters: &mut Listed<Filter>,
+    alloc: Global,
+    now: u32,
+    seconds: u32,
+    agent: &AgentName,
+    refused: Resources,
+) -> Result<(), AllocError>
+    ensures { OnOk result (filters.new ≡ add_filter now seconds filters.old agent.now refused) }
+{
+    if refused.is_empty() || seconds == 0 {
+        return Ok(());
+    }
+    let agent_name = agent.copy(alloc)?;
+    if count_on(filters.as_slice(), agent) >= MOST_FILTERS {
+        drop_oldest(filters, agent);
+    }
+    filters.push(Filter {
+        agent: agent_name,
+        made: now,
+        seconds,
+        refused,
+    })
+}
+
+fn clear_in(filters: &mut Listed<Filter>, agent: &AgentName)
+    ensures { filters.new ≡ filter (λ x. not (bytes_eq x.agent agent.now)) filters.old }
+{
+    let mut i = 0;
+    while i < filters.len() {
+        if filters.as_slice()[i].agent.is(agent) {
+            let _cleared = filters.remove(i);
+        } else {
+            i += 1;
+        }
+    }
+}
+
+/// Without its filters on this agent.
+pub fn clear_on(framework: &mut Framework, agent: &AgentName)
+    ensures { framework.new ≡ clear_on agent.now framework.old }
+{
+    clear_in(&mut framework.filters, agent);
+}
+
+fn refuses(filter: &Filter, now: u32, agent: &AgentName, free: &Resources) -> bool
+    ensures { result ≡ refuses now agent.now free.now filter.now }
+{
+    filter.agent.is(agent)
+        && u64::from(now) < u64::from(filter.made) + u64::from(filter.seconds)
+        && filter.refused.covers(free)
+}
+
+fn any_refuses(filters: &[Filter], now: u32, agent: &AgentName, free: &Resources) -> bool
+    ensures { result ≡ list_any (refuses now agent.now free.now) filters.now }
+{
+    for filter in filters {
+        if refuses(filter, now, agent, free) {
+            return true;
+        }
+    }
+    false
+}
+
+/// Whether what is free on an agent may be offered to the framework: it is subscribed, hasn't suppressed offers, and no
+/// filter of it that runs at this moment refuses it. It takes no memory.
+pub fn is_eligible(framework: &Framework, now: u32, agent: &AgentName, free: &Resources) -> bool
+    ensures { result ≡ may_be_offered now agent.now free.now framework.now }
+{
+    framework.stream.is_some()
+        && !framework.suppressed
+        && !any_refuses(framework.filters.as_slice(), now, agent, free)
+}

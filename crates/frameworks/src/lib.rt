@@ -1,0 +1,16 @@
+//! What the master knows of frameworks in its run: their streams and roles, what they suppressed, and which resources they
+//! refused for some seconds (Mesos scheduler HTTP API: SUBSCRIBE, SUPPRESS, REVIVE, DECLINE).
+#![tactic(auto)]
+
+mod edit;
+mod filters;
+mod laws;
+mod look;
+mod table;
+#[cfg(test)]
+mod tests;
+
+pub use filters::is_eligible;
+pub use laws::puts_are_changes;
+pub use look::{is_before, is_subscriber};
+pub use table::Frameworks;

@@ -1,0 +1,144 @@
+//! The table of frameworks.
+
+ghost use Rattle.std.specs.Prelude.{◌≡◌, [], true, map, length, option_map, OnOk};
+ghost use Rattle.std.specs.List.{find};
+ghost use Rattle.cluster_model.specs.Calls.{is_stream};
+ghost use Rattle.cluster_model.specs.Masters.{clear_on, put_framework};
+ghost use Rattle.cluster_model.specs.Mails.{beaten};
+ghost use Rattle.frameworks.specs.Frameworks.{are_ordered, changed, revived, subscriber, suppressed, with_filter, with_id, without_stream};
+
+use crate::{edit, look};
+use listed::Listed;
+use mails::Framework;
+use names_core::{AgentName, FrameworkId, RoleName, StreamId};
+use quantity::Resources;
+use std::alloc::{AllocError, Global};
+use std::marker::Model;
+
+/// The frameworks that are known in a run, in the order of their ids.
+#[derive(Debug, Drop)]
+pub struct Frameworks {
+    items: Vec<Framework>,
+}
+
+impl Model for Frameworks {
+    ghost use Rattle.std.specs.Prelude.{◌≡◌, List, true};
+    ghost use Rattle.mails.specs.declared.framework.Framework.{Framework};
+    ghost use Rattle.frameworks.specs.Frameworks.{are_ordered};
+
+    ghost Value = { List Framework };
+
+    ghost view = { λ frameworks. frameworks.items.items };
+
+    ghost invariant = { λ frameworks. are_ordered frameworks.items.items ≡ true };
+}
+
+impl Frameworks {
+    pub fn new(alloc: Global) -> Frameworks
+        ensures { result ≡ [] }
+    {
+        Frameworks {
+            items: Vec::new(alloc),
+        }
+    }
+
+    pub fn as_slice(&self) -> &[Framework]
+        ensures items { result.now ≡ self.now }
+        ensures ordered { are_ordered self.now ≡ true }
+    {
+        self.items.as_slice()
+    }
+
+    pub fn len(&self) -> usize
+        ensures { result ≡ length self.now }
+    {
+        self.items.len()
+    }
+
+    /// The open stream of a framework, if it has one; nothing where the framework isn't known.
+    pub fn stream_of(&self, id: FrameworkId) -> Option<Option<StreamId>>
+        ensures { result ≡ option_map (λ f. f.stream) (with_id id self.now) }
+    {
+        look::stream_in(&self.items, id)
+    }
+
+    /// The framework whose open stream this is, if it is one.
+    pub fn subscriber_on(&self, stream: StreamId) -> Option<FrameworkId>
+        ensures { result ≡ option_map (λ f. f.id) (find (λ f. is_stream stream f.stream) self.now) }
+    {
+        look::subscriber_in(&self.items, stream)
+    }
+
+    /// The framework is subscribed on a stream, with a role, and without filters. It is known from now on.
+    pub fn subscribe(
+        &mut self,
+        alloc: Global,
+        id: FrameworkId,
+        role: RoleName,
+        stream: StreamId,
+        now: u32,
+    ) -> Result<(), AllocError>
+        ensures { OnOk result (self.new ≡ put_framework (subscriber id role stream now) self.old) }
+    {
+        let framework = Framework {
+            id,
+            role,
+            stream: Some(stream),
+            suppressed: false,
+            last_beat: now,
+            filters: Listed::new(alloc),
+        };
+        edit::put(&mut self.items, framework)
+    }
+
+    /// The framework's stream is open no more.
+    pub fn close_stream(&mut self, id: FrameworkId)
+        ensures { self.new ≡ map (changed without_stream id) self.old }
+    {
+        edit::close_in(&mut self.items, id);
+    }
+
+    /// The framework is offered resources again, and what it refused too.
+    pub fn revive(&mut self, alloc: Global, id: FrameworkId)
+        ensures { self.new ≡ map (changed revived id) self.old }
+    {
+        edit::revive_in(&mut self.items, alloc, id);
+    }
+
+    /// The framework asked for no more offers.
+    pub fn suppress(&mut self, id: FrameworkId)
+        ensures { self.new ≡ map (changed suppressed id) self.old }
+    {
+        edit::suppress_in(&mut self.items, id);
+    }
+
+    /// The framework refused resources of an agent for some seconds, from this moment on. It has at most 64 such filters
+    /// on an agent: another one takes the place of the oldest.
+    pub fn refuse(
+        &mut self,
+        alloc: Global,
+        id: FrameworkId,
+        now: u32,
+        seconds: u32,
+        agent: &AgentName,
+        refused: &Resources,
+    ) -> Result<(), AllocError>
+        ensures { OnOk result (self.new ≡ map (changed (with_filter now seconds agent.now refused.now) id) self.old) }
+    {
+        edit::refuse_in(&mut self.items, alloc, id, now, seconds, agent, refused)
+    }
+
+    /// All filters on an agent end.
+    pub fn clear_filters_on(&mut self, agent: &AgentName)
+        ensures { self.new ≡ map (clear_on agent.now) self.old }
+    {
+        edit::clear_in(&mut self.items, agent);
+    }
+
+    /// Each open stream whose last heartbeat is 15 seconds ago, or more, has one at this moment.
+    pub fn beat(&mut self, now: u32)
+        ensures { self.new ≡ map (beaten now) self.old }
+    {
+        edit::beat_in(&mut self.items, now);
+    }
+}

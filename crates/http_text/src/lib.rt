@@ -1,0 +1,12 @@
+//! What the scheduler's HTTP endpoint writes: responses, and the chunks of an event stream (RFC 9112).
+#![tactic(auto)]
+
+mod chunk;
+mod response;
+mod status;
+#[cfg(test)]
+mod tests;
+
+pub use chunk::{chunk_front, event_chunk, last_chunk, one_chunk};
+pub use response::{accepted_response, continue_response, refusal_response, subscribed_response};
+pub use status::Status;
