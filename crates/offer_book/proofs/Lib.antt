@@ -1,0 +1,5 @@
+pub mod Taking
+pub mod Places
+pub mod Summing
+pub mod Naming
+pub mod Holding

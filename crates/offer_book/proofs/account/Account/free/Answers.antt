@@ -1,0 +1,14 @@
+use Rattle.std.proofs.Common.{◌≡◌, ◌∙◌, ap}
+use Rattle.quantity.specs.Rows.{amount}
+use Rattle.quantity.proofs.Rests.{rests_join, amount-rest}
+use Rattle.cluster_model.specs.Sides.{offer_rows, job_rows, unended}
+use Rattle.offer_book.specs.Accounts.{free, taken}
+use Rattle.offer_book.proofs.account.Account.free.Goals as goal
+
+pub returns : goal.returns
+returns c =
+    let a = c.args.self.now in
+    let rest : c.take_tasks.new.rest ≡ free a =
+    c.take_tasks.ensures.rest
+    ∙ rw (c.take_offers.ensures.rest, c.as_slice.ensures, c.as_slice-2.ensures, c.in_ok-rest.ensures.copy) (rests_join a.total (offer_rows a.offers) (job_rows (unended a.booked))) in
+    record { rest = rest; less = λ name. ap (amount name) rest ∙ amount-rest a.total (taken a) c.in_ok-rest.ensures.ordered.ordered name }

@@ -1,0 +1,7 @@
+use Rattle.std.proofs.Common.{rules, arith}
+use Rattle.std.proofs.lemmas.List.Edits.{map_over_more}
+use Rattle.offer_book.specs.Accounts.{without_key}
+use Rattle.offer_book.proofs.book.forget_in.Goals as goal
+
+pub loop-i-preserved : goal.loop-i-preserved
+loop-i-preserved c = rw c.forget.ensures (map_over_more (without_key c.args.key) c.args.accounts.now.items c.loop-i.accounts.items c.loop-i.i c.index_mut.result.now (omega (arith, c.len-i-end.ensures)) c.loop-i.invariant (search rules))

@@ -1,0 +1,31 @@
+use Rattle.std.proofs.Common.{◌≡◌, true, false, sym, ◌∙◌, refl}
+use Rattle.quantity.specs.Rows.{covers}
+use Rattle.offer_book.specs.Accounts.{free}
+use Rattle.offer_book.specs.Books.{is_agent, is_offered}
+use Rattle.offer_book.proofs.Places.{first_at, none_at, some_at}
+use Rattle.offer_book.proofs.book.offer_in.Goals as goal
+
+pub returns-in_default-clause-refused : goal.returns-in_default-clause-refused
+returns-in_default-clause-refused c =
+    rw (none_at (is_agent c.args.name.now) c.args.accounts.now.items (sym (rw c.deref.ensures.value at c.place_of.ensures) ∙ c.in_default.is)) refl
+
+pub returns-then-is_offered-clause-refused : goal.returns-then-is_offered-clause-refused
+returns-then-is_offered-clause-refused c =
+    let some = some_at (is_agent c.args.name.now) c.args.accounts.now.items c.in-Some.place (sym (rw c.deref.ensures.value at c.place_of.ensures) ∙ c.in-Some.is) in
+    let twice : is_offered c.args.offer.id c.args.accounts.now.items ≡ true = sym (rw c.deref-2.ensures.value at c.is_offered.ensures) ∙ c.if-is_offered.true in
+    rw (some.1, twice) refl
+
+pub returns-then-not-branch-clause-refused : goal.returns-then-not-branch-clause-refused
+returns-then-not-branch-clause-refused c =
+    let first = first_at (is_agent c.args.name.now) c.args.accounts.now.items c.in-Some.place c.index.result.now (sym (rw c.deref.ensures.value at c.place_of.ensures) ∙ c.in-Some.is) c.index.ensures in
+    let once : is_offered c.args.offer.id c.args.accounts.now.items ≡ false = sym (rw c.deref-2.ensures.value at c.is_offered.ensures) ∙ c.if-is_offered.false in
+    let room : covers (free c.index.result.now) c.args.offer.resources ≡ false = sym c.in_ok-has_room.ensures ∙ c.if-not-branch.true in
+    rw (first.found, once, room) refl
+
+pub returns-clause-ok : goal.returns-clause-ok
+returns-clause-ok c =
+    let first = first_at (is_agent c.args.name.now) c.args.accounts.now.items c.in-Some.place c.index_mut.result.now (sym (rw c.deref.ensures.value at c.place_of.ensures) ∙ c.in-Some.is) c.index_mut.ensures.value in
+    let before = first_at (is_agent c.args.name.now) c.args.accounts.now.items c.in-Some.place c.index.result.now (sym (rw c.deref.ensures.value at c.place_of.ensures) ∙ c.in-Some.is) c.index.ensures in
+    let once : is_offered c.args.offer.id c.args.accounts.now.items ≡ false = sym (rw c.deref-2.ensures.value at c.is_offered.ensures) ∙ c.if-is_offered.false in
+    let room : covers (free c.index.result.now) c.args.offer.resources ≡ true = sym c.in_ok-has_room.ensures ∙ c.if-not-branch.false in
+    rw (before.found, once, room, first.changed, c.in_ok-push.ensures.ok) refl

@@ -1,0 +1,117 @@
+-- What a book has of one agent (Mesos paper, section 3.1: offers).
+use Rattle.std.specs.Prelude.{ℕ, suc, Bool, false, true, not, ◌&&◌, ◌==◌, if◌then◌else◌, List, [], ◌∷◌, ◌++◌, map, filter}
+use Rattle.std.specs.List.{list_any, list_all}
+use Rattle.names_core.specs.Ids.{Numbered}
+use Rattle.names_core.specs.declared.state.TaskState.{TaskState}
+use Rattle.names_core.specs.States.{is_terminal}
+use Rattle.quantity.specs.declared.rows.Row.{Row}
+use Rattle.quantity.specs.Rows.{covers, rest_of}
+use Rattle.mails.specs.declared.task.Offer.{Offer}
+use Rattle.mails.specs.declared.task.Booked.{Booked}
+use Rattle.mails.specs.declared.mail.Command.{Command}
+use Rattle.cluster_model.specs.Ids.{same, is_among, is_repeated, is_empty}
+use Rattle.cluster_model.specs.Sides.{unended, job_rows, offer_rows, heard_update, forget_all, is_named}
+use Rattle.cluster_model.specs.Masters.{is_of}
+pub use Rattle.offer_book.specs.declared.account.Account.{Account}
+
+-- an agent that has entered
+abbrev pub new_account : List ℕ → List Row → Account
+new_account name total = record { name = name; is_in = true; total = total; offers = []; booked = [] }
+
+-- an agent that was dropped
+abbrev pub dropped : Account → Account
+dropped a = record { name = a.name; is_in = false; total = []; offers = []; booked = [] }
+
+-- current offers and booked tasks that haven't ended
+abbrev pub taken : Account → List Row
+taken a = offer_rows a.offers ++ job_rows (unended a.booked)
+
+abbrev pub free : Account → List Row
+free a = rest_of a.total (taken a)
+
+-- beside what is taken the total has room for these rows too
+abbrev pub fits : Account → List Row → Bool
+fits a rows = covers a.total (rows ++ taken a)
+
+-- offers
+
+-- a current offer of the framework has this id
+abbrev pub has_offer : List Offer → Numbered → Numbered → Bool
+has_offer os framework id = list_any (λ o. same o.framework framework && same o.id id) os
+
+-- the ids are some, none twice, and each is that of a current offer of the framework
+abbrev pub are_good : List Offer → Numbered → List Numbered → Bool
+are_good os framework ids = not (is_empty ids) && not (is_repeated ids) && list_all (has_offer os framework) ids
+
+-- what an offer has, if it is one of the framework's of these ids
+abbrev pub named_rows : Numbered → List Numbered → Offer → List Row
+named_rows framework ids o = if is_named framework ids o then o.resources else []
+
+-- what a booked task uses, if it hasn't ended
+abbrev pub unended_rows : Booked → List Row
+unended_rows b = if b.ended then [] else b.job.resources
+
+abbrev pub named_offers : Account → Numbered → List Numbered → List Offer
+named_offers a framework ids = filter (is_named framework ids) a.offers
+
+-- the part of the total that a framework's offers of these ids take
+abbrev pub named_part : Account → Numbered → List Numbered → List Row
+named_part a framework ids = rest_of a.total (rest_of a.total (offer_rows (named_offers a framework ids)))
+
+abbrev pub with_offer : Offer → Account → Account
+with_offer o a = record a { offers = a.offers ++ o ∷ [] }
+
+-- with one more offer, where it fits
+abbrev pub offering : Offer → Account → Account
+offering o a = if fits a o.resources then with_offer o a else a
+
+abbrev pub is_offered_as : Numbered → Offer → Bool
+is_offered_as id o = same o.id id
+
+abbrev pub without_offer : Numbered → Account → Account
+without_offer id a = record a { offers = filter (λ o. not (is_offered_as id o)) a.offers }
+
+abbrev pub without_ids : List Numbered → Account → Account
+without_ids ids a = record a { offers = filter (λ o. not (is_among ids o.id)) a.offers }
+
+abbrev pub without_offers_of : Numbered → Account → Account
+without_offers_of framework a = record a { offers = filter (λ o. not (is_of framework o)) a.offers }
+
+abbrev pub without_named : Numbered → List Numbered → Account → Account
+without_named framework ids a = record a { offers = filter (λ o. not (is_named framework ids o)) a.offers }
+
+-- booked tasks
+
+abbrev pub has_tasks_of : Numbered → List Booked → Bool
+has_tasks_of framework bs = list_any (λ b. same b.job.framework framework) bs
+
+abbrev pub has_key : Numbered → Booked → Bool
+has_key key b = same b.job.key key
+
+-- its end is acknowledged by this: it has ended, and the last update that was heard of is this one and terminal
+abbrev pub is_acknowledged : Numbered → ℕ → Booked → Bool
+is_acknowledged key k b = b.ended && same b.job.key key && b.heard == suc k && is_terminal b.state
+
+abbrev pub with_task : Booked → Account → Account
+with_task b a = record a { booked = a.booked ++ b ∷ [] }
+
+-- a task with this key has ended
+abbrev pub ended : Numbered → Booked → Booked
+ended key b = if has_key key b then record { job = b.job; ended = true; heard = b.heard; state = b.state } else b
+
+abbrev pub with_ended : Numbered → Account → Account
+with_ended key a = record a { booked = map (ended key) a.booked }
+
+abbrev pub without_key : Numbered → Account → Account
+without_key key a = record a { booked = filter (λ b. not (has_key key b)) a.booked }
+
+-- a session opens: no offers, and the tasks that are reported
+abbrev pub reopened : List Booked → Account → Account
+reopened tasks a = record a { offers = []; booked = tasks }
+
+abbrev pub hearing : Numbered → ℕ → TaskState → Bool → Account → Account
+hearing key k state has_ended a = record a { booked = map (heard_update key k state has_ended) a.booked }
+
+-- the agent has applied these commands
+abbrev pub after_commands : List Command → Account → Account
+after_commands commands a = record a { booked = forget_all commands a.booked }

@@ -1,0 +1,98 @@
+-- What a book has of all agents, and what its calls do.
+use Rattle.std.specs.Prelude.{ℕ, zero, suc, Bool, ◌&&◌, if◌then◌else◌, List, [], ◌∷◌, ◌++◌, map, flat_map, length, Option, Some, None, Result, Ok, Err, bytes_eq}
+use Rattle.std.specs.List.{list_any, find}
+use Rattle.names_core.specs.Ids.{Numbered}
+use Rattle.quantity.specs.declared.rows.Row.{Row}
+use Rattle.quantity.specs.Rows.{covers}
+use Rattle.mails.specs.declared.task.Offer.{Offer}
+use Rattle.mails.specs.declared.task.Booked.{Booked}
+use Rattle.offer_book.specs.Accounts.{Account, new_account, dropped, free, with_offer, without_offer, with_task, is_offered_as, has_key, with_ended, without_key}
+use Rattle.offer_book.specs.declared.fault.BookFault.{BookFault}
+use Rattle.offer_book.specs.declared.fault.BookFault.TheVariants.{Unknown, NoRoom, Twice}
+
+-- the account is of the agent of this name, and the agent is in
+abbrev pub is_agent : List ℕ → Account → Bool
+is_agent name a = a.is_in && bytes_eq a.name name
+
+abbrev pub is_named_so : List ℕ → Account → Bool
+is_named_so name a = bytes_eq a.name name
+
+-- an offer of this id is current, on any agent
+abbrev pub is_offered : Numbered → List Account → Bool
+is_offered id as_ = list_any (λ a. list_any (is_offered_as id) a.offers) as_
+
+-- a task of this key is booked, on any agent
+abbrev pub is_booked : Numbered → List Account → Bool
+is_booked key as_ = list_any (λ a. list_any (has_key key) a.booked) as_
+
+-- the first account that passes a test is changed
+abbrev pub at_first : (Account → Bool) → (Account → Account) → List Account → List Account
+at_first test change [] = []
+at_first test change (a ∷ as_) = if test a then change a ∷ as_ else a ∷ at_first test change as_
+
+-- the account at a place is changed; there is none past the end
+abbrev pub at_place : ℕ → (Account → Account) → List Account → List Account
+at_place i change [] = []
+at_place zero change (a ∷ as_) = change a ∷ as_
+at_place (suc i) change (a ∷ as_) = a ∷ at_place i change as_
+
+-- all booked tasks
+abbrev pub booked_count : List Account → ℕ
+booked_count as_ = length (flat_map (λ a. a.booked) as_)
+
+-- calls that may be refused
+
+-- an agent enters: at its place, where it was in before
+abbrev pub entered_at : List ℕ → List Row → List Account → Option Account → Result (List Account) BookFault
+entered_at name total as_ None = Ok (as_ ++ new_account name total ∷ [])
+entered_at name total as_ (Some a) = if a.is_in then Err Twice else Ok (at_first (is_named_so name) (λ b. new_account name total) as_)
+
+abbrev pub entered : List ℕ → List Row → List Account → Result (List Account) BookFault
+entered name total as_ = entered_at name total as_ (find (is_named_so name) as_)
+
+abbrev pub agent_of : List ℕ → List Account → Option Account
+agent_of name as_ = find (is_agent name) as_
+
+abbrev pub dropped_at : List ℕ → List Account → Option Account → Result (List Account) BookFault
+dropped_at name as_ None = Err Unknown
+dropped_at name as_ (Some a) = Ok (at_first (is_agent name) dropped as_)
+
+abbrev pub dropped_from : List ℕ → List Account → Result (List Account) BookFault
+dropped_from name as_ = dropped_at name as_ (agent_of name as_)
+
+abbrev pub free_at : Option Account → Result (List Row) BookFault
+free_at None = Err Unknown
+free_at (Some a) = Ok (free a)
+
+-- what is free at an agent
+abbrev pub free_of : List ℕ → List Account → Result (List Row) BookFault
+free_of name as_ = free_at (agent_of name as_)
+
+abbrev pub offered_at : List ℕ → Offer → List Account → Option Account → Result (List Account) BookFault
+offered_at name o as_ None = Err Unknown
+offered_at name o as_ (Some a) =
+    if is_offered o.id as_ then Err Twice
+    else (if covers (free a) o.resources then Ok (at_first (is_agent name) (with_offer o) as_) else Err NoRoom)
+
+-- an offer is made out of what is free
+abbrev pub offered : List ℕ → Offer → List Account → Result (List Account) BookFault
+offered name o as_ = offered_at name o as_ (agent_of name as_)
+
+abbrev pub booked_at : List ℕ → Booked → List Account → Option Account → Result (List Account) BookFault
+booked_at name b as_ None = Err Unknown
+booked_at name b as_ (Some a) =
+    if is_booked b.job.key as_ then Err Twice
+    else (if covers (free a) b.job.resources then Ok (at_first (is_agent name) (with_task b) as_) else Err NoRoom)
+
+-- a task is booked out of what is free
+abbrev pub booked : List ℕ → Booked → List Account → Result (List Account) BookFault
+booked name b as_ = booked_at name b as_ (agent_of name as_)
+
+abbrev pub withdrawn : Numbered → List Account → Result (List Account) BookFault
+withdrawn id as_ = if is_offered id as_ then Ok (map (without_offer id) as_) else Err Unknown
+
+abbrev pub task_ended : Numbered → List Account → Result (List Account) BookFault
+task_ended key as_ = if is_booked key as_ then Ok (map (with_ended key) as_) else Err Unknown
+
+abbrev pub forgotten : Numbered → List Account → Result (List Account) BookFault
+forgotten key as_ = if is_booked key as_ then Ok (map (without_key key) as_) else Err Unknown

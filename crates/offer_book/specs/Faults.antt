@@ -1,0 +1,11 @@
+-- What a refusal tells.
+use Rattle.std.specs.Prelude.{◌≡◌, Result, Err}
+use Rattle.offer_book.specs.declared.fault.BookFault.{BookFault}
+use Rattle.offer_book.specs.declared.fault.BookFault.TheVariants.{Unknown, NoRoom, Twice, OutOfMemory}
+
+-- the refusal is the one of the answer that was due, or memory was refused
+abbrev pub IsRefusal : {T : Type 0} → BookFault → Result T BookFault → Type 0
+IsRefusal Unknown due = due ≡ Err Unknown
+IsRefusal NoRoom due = due ≡ Err NoRoom
+IsRefusal Twice due = due ≡ Err Twice
+IsRefusal OutOfMemory due = Unit {0}

@@ -1,0 +1,6 @@
+pub mod Accounts
+pub mod Books
+pub mod Held
+pub mod Found
+pub mod Faults
+pub mod Laws

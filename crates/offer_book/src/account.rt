@@ -1,0 +1,114 @@
+//! What a book has of one agent.
+
+ghost use Rattle.std.specs.Prelude.{◌≡◌, ◌-◌, List, ℕ, IfOk, OnOk, OnErr};
+ghost use Rattle.quantity.specs.Rows.{amount};
+ghost use Rattle.offer_book.specs.Accounts.{new_account, dropped, taken, free, fits, named_part, offering, reopened};
+ghost use Rattle.offer_book.specs.Books.{is_agent};
+
+use crate::offers::Offers;
+use crate::rest;
+use crate::tasks::Tasks;
+use listed::Listed;
+use mails::{Booked, Offer};
+use names_core::{AgentName, FrameworkId, OfferId};
+use quantity::Resources;
+use std::alloc::{AllocError, Global};
+
+/// An agent, what it owns, and what of it is offered and booked. One that was dropped has nothing until it enters again.
+#[derive(Drop)]
+pub struct Account {
+    pub name: AgentName,
+    /// Whether the agent is in.
+    pub is_in: bool,
+    pub total: Resources,
+    pub offers: Offers,
+    pub booked: Tasks,
+}
+
+impl Account {
+    pub(crate) fn new(alloc: Global, name: AgentName, total: Resources) -> Account
+        ensures { result ≡ new_account name total }
+    {
+        Account {
+            name,
+            is_in: true,
+            total,
+            offers: Offers::new(alloc),
+            booked: Tasks::new(alloc),
+        }
+    }
+
+    pub(crate) fn is_agent(&self, name: &AgentName) -> bool
+        ensures { result ≡ is_agent name.now self.now }
+    {
+        self.is_in && self.name.is(name)
+    }
+
+    pub(crate) fn drop_all(&mut self, alloc: Global)
+        ensures { self.new ≡ dropped self.old }
+    {
+        self.is_in = false;
+        self.total = Resources::new(alloc);
+        self.offers = Offers::new(alloc);
+        self.booked = Tasks::new(alloc);
+    }
+
+    /// The total less current offers and booked tasks that haven't ended.
+    pub fn free(&self, alloc: Global) -> Result<Resources, AllocError>
+        ensures rest { IfOk result (λ rest. rest ≡ free self.now) }
+        ensures less { IfOk result (λ rest. (name : List ℕ) → amount name rest ≡ amount name self.now.total - amount name (taken self.now)) }
+    {
+        let mut rest = self.total.copy(alloc)?;
+        rest::take_offers(&mut rest, self.offers.as_slice());
+        rest::take_tasks(&mut rest, self.booked.as_slice());
+        Ok(rest)
+    }
+
+    /// Whether the total has room for more resources beside what is taken of it.
+    pub fn fits(&self, alloc: Global, more: &Resources) -> Result<bool, AllocError>
+        ensures { IfOk result (λ is_within. is_within ≡ fits self.now more.now) }
+    {
+        let mut rest = self.total.copy(alloc)?;
+        if !rest::cover_part(&mut rest, more) {
+            return Ok(false);
+        }
+        if !rest::cover_offers(&mut rest, self.offers.as_slice()) {
+            return Ok(false);
+        }
+        Ok(rest::cover_tasks(&mut rest, self.booked.as_slice()))
+    }
+
+    /// The part of the total that a framework's offers of these ids take together.
+    pub fn named_part(
+        &self,
+        alloc: Global,
+        framework: FrameworkId,
+        ids: &[OfferId],
+    ) -> Result<Resources, AllocError>
+        ensures { IfOk result (λ part. part ≡ named_part self.now framework ids.now) }
+    {
+        let mut others = self.total.copy(alloc)?;
+        rest::take_named(&mut others, self.offers.as_slice(), framework, ids);
+        let mut part = self.total.copy(alloc)?;
+        part.reduce_by(&others);
+        Ok(part)
+    }
+
+    /// Makes an offer, if with it all that is taken still fits the total.
+    pub(crate) fn offer(&mut self, alloc: Global, offer: Offer) -> Result<(), AllocError>
+        ensures ok { OnOk result (self.new ≡ offering offer self.old) }
+        ensures err { OnErr result (self.new ≡ self.old) }
+    {
+        if self.fits(alloc, &offer.resources)? {
+            self.offers.push(offer)?;
+        }
+        Ok(())
+    }
+
+    pub(crate) fn reopen(&mut self, alloc: Global, tasks: Listed<Booked>)
+        ensures { self.new ≡ reopened tasks self.old }
+    {
+        self.offers = Offers::new(alloc);
+        self.booked = Tasks::from_list(tasks);
+    }
+}

@@ -1,0 +1,110 @@
+//! Looking for offers and booked tasks.
+
+ghost use Rattle.std.specs.Prelude.{◌≡◌, option_map};
+ghost use Rattle.cluster_model.specs.Ids.{before};
+ghost use Rattle.cluster_model.specs.Masters.{stands_before, first_placed};
+ghost use Rattle.offer_book.specs.Held.{place, is_of_name, first_in, first_of};
+ghost use Rattle.offer_book.specs.Found.{made, offer_of, task_of};
+
+use crate::account::Account;
+use crate::ids::is_same_framework;
+use mails::{Booked, Offer};
+use names_core::{AgentName, FrameworkId, LaunchKey, OfferId, TaskName};
+
+fn is_before(key: LaunchKey, other: LaunchKey) -> bool
+    ensures { result ≡ before key other }
+{
+    key.run() < other.run() || (key.run() == other.run() && key.number() < other.number())
+}
+
+/// Of two tasks, the one that hasn't ended, then the one with the least key.
+fn stands_before(agent: &AgentName, task: &Booked, other_agent: &AgentName, other: &Booked) -> bool
+    ensures { result ≡ stands_before (place agent.now task.now) (place other_agent.now other.now) }
+{
+    if task.ended {
+        other.ended && is_before(task.job.key, other.job.key)
+    } else {
+        other.ended || is_before(task.job.key, other.job.key)
+    }
+}
+
+fn is_task_of(task: &Booked, framework: FrameworkId, name: &TaskName) -> bool
+    ensures { result ≡ is_of_name framework name.now task.now }
+{
+    is_same_framework(task.job.framework, framework) && task.job.name.is(name)
+}
+
+fn better<'a>(
+    best: Option<(&'a AgentName, &'a Booked)>,
+    agent: &'a AgentName,
+    task: &'a Booked,
+) -> Option<(&'a AgentName, &'a Booked)>
+    ensures { option_map (λ h. place h.0.now h.1.now) result ≡ first_placed (option_map (λ h. place h.0.now h.1.now) best.entry) (place agent.entry.now task.entry.now) }
+{
+    match best {
+        None => Some((agent, task)),
+        Some((other_agent, other)) => {
+            if stands_before(agent, task, other_agent, other) {
+                Some((agent, task))
+            } else {
+                best
+            }
+        }
+    }
+}
+
+fn first_in<'a>(
+    before: Option<(&'a AgentName, &'a Booked)>,
+    account: &'a Account,
+    framework: FrameworkId,
+    name: &TaskName,
+) -> Option<(&'a AgentName, &'a Booked)>
+    ensures { option_map (λ h. place h.0.now h.1.now) result ≡ first_in framework name.now (option_map (λ h. place h.0.now h.1.now) before.entry) account.entry.now }
+{
+    let mut best = before;
+    for task in account.booked.as_slice() {
+        if is_task_of(task, framework, name) {
+            best = better(best, &account.name, task);
+        }
+    }
+    best
+}
+
+/// The booked task of a framework with this name, if any, and its agent.
+pub(crate) fn first_of<'a>(
+    accounts: &'a [Account],
+    framework: FrameworkId,
+    name: &TaskName,
+) -> Option<(&'a AgentName, &'a Booked)>
+    ensures { option_map (λ h. place h.0.now h.1.now) result ≡ first_of framework name.now accounts.entry.now }
+{
+    let mut best = None;
+    for account in accounts {
+        best = first_in(best, account, framework, name);
+    }
+    best
+}
+
+/// The offer of this id, if it is current, and its agent.
+pub(crate) fn offer_of(accounts: &[Account], id: OfferId) -> Option<(&AgentName, &Offer)>
+    ensures { option_map (λ o. made o.0.now o.1.now) result ≡ offer_of id accounts.now }
+{
+    for account in accounts {
+        if let Some(offer) = account.offers.find(id) {
+            return Some((&account.name, offer));
+        }
+    }
+    None
+}
+
+/// The booked task of this key, if any, and its agent.
+pub(crate) fn task_of(accounts: &[Account], key: LaunchKey) -> Option<(&AgentName, &Booked)>
+    ensures { option_map (λ t. place t.0.now t.1.now) result ≡ task_of key accounts.now }
+{
+    for account in accounts {
+        if let Some(task) = account.booked.find(key) {
+            return Some((&account.name, task));
+        }
+    }
+    None
+}

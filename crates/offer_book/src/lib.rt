@@ -1,0 +1,22 @@
+//! The master's book: agents' totals, current offers and booked tasks (Mesos paper, section 3.1).
+#![tactic(auto)]
+
+mod account;
+mod book;
+mod fault;
+mod held;
+mod ids;
+mod laws;
+mod offers;
+mod rest;
+mod tasks;
+
+pub use account::Account;
+pub use book::OfferBook;
+pub use fault::BookFault;
+pub use laws::{ids_name_offers, rest_of_rest_is_sum};
+pub use offers::Offers;
+pub use tasks::{Heard, Tasks};
+
+#[cfg(test)]
+mod tests;

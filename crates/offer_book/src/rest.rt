@@ -1,0 +1,124 @@
+//! What offers and tasks leave of a total.
+
+ghost use Rattle.std.specs.Prelude.{◌≡◌, filter};
+ghost use Rattle.std.specs.Bool.{OnTrue};
+ghost use Rattle.quantity.specs.Rows.{covers, rest_of, AreRows};
+ghost use Rattle.cluster_model.specs.Sides.{offer_rows, job_rows, unended, is_named};
+ghost use Rattle.offer_book.specs.Accounts.{named_rows, unended_rows};
+
+use crate::offers::is_named;
+use mails::{Booked, Offer};
+use names_core::{FrameworkId, OfferId};
+use quantity::Resources;
+
+/// Takes away what offers have.
+pub(crate) fn take_offers(rest: &mut Resources, offers: &[Offer])
+    requires { AreRows rest.old }
+    ensures rest { rest.new ≡ rest_of rest.old (offer_rows offers.now) }
+    ensures rows { AreRows rest.new }
+{
+    for offer in offers {
+        rest.reduce_by(&offer.resources);
+    }
+}
+
+fn take_if_named(rest: &mut Resources, offer: &Offer, framework: FrameworkId, ids: &[OfferId])
+    requires { AreRows rest.old }
+    ensures rest { rest.new ≡ rest_of rest.old (named_rows framework ids.now offer.now) }
+    ensures rows { AreRows rest.new }
+{
+    if is_named(offer, framework, ids) {
+        rest.reduce_by(&offer.resources);
+    }
+}
+
+/// Takes away what a framework's offers of these ids have.
+pub(crate) fn take_named(
+    rest: &mut Resources,
+    offers: &[Offer],
+    framework: FrameworkId,
+    ids: &[OfferId],
+)
+    requires { AreRows rest.old }
+    ensures rest { rest.new ≡ rest_of rest.old (offer_rows (filter (is_named framework ids.now) offers.now)) }
+    ensures rows { AreRows rest.new }
+{
+    for offer in offers {
+        take_if_named(rest, offer, framework, ids);
+    }
+}
+
+fn take_task(rest: &mut Resources, task: &Booked)
+    requires { AreRows rest.old }
+    ensures rest { rest.new ≡ rest_of rest.old (unended_rows task.now) }
+    ensures rows { AreRows rest.new }
+{
+    if !task.ended {
+        rest.reduce_by(&task.job.resources);
+    }
+}
+
+/// Takes away what tasks use that haven't ended.
+pub(crate) fn take_tasks(rest: &mut Resources, tasks: &[Booked])
+    requires { AreRows rest.old }
+    ensures rest { rest.new ≡ rest_of rest.old (job_rows (unended tasks.now)) }
+    ensures rows { AreRows rest.new }
+{
+    for task in tasks {
+        take_task(rest, task);
+    }
+}
+
+/// Takes away a part, or tells that there is less.
+pub(crate) fn cover_part(rest: &mut Resources, part: &Resources) -> bool
+    requires { AreRows rest.old }
+    ensures covered { result ≡ covers rest.old part.now }
+    ensures rest { OnTrue result (rest.new ≡ rest_of rest.old part.now) }
+    ensures rows { AreRows rest.new }
+{
+    if !rest.covers(part) {
+        return false;
+    }
+    rest.reduce_by(part);
+    true
+}
+
+/// Takes away what offers have, or tells that there is less.
+pub(crate) fn cover_offers(rest: &mut Resources, offers: &[Offer]) -> bool
+    requires { AreRows rest.old }
+    ensures covered { result ≡ covers rest.old (offer_rows offers.now) }
+    ensures rest { OnTrue result (rest.new ≡ rest_of rest.old (offer_rows offers.now)) }
+    ensures rows { AreRows rest.new }
+{
+    for offer in offers {
+        if !cover_part(rest, &offer.resources) {
+            return false;
+        }
+    }
+    true
+}
+
+fn cover_task(rest: &mut Resources, task: &Booked) -> bool
+    requires { AreRows rest.old }
+    ensures covered { result ≡ covers rest.old (unended_rows task.now) }
+    ensures rest { OnTrue result (rest.new ≡ rest_of rest.old (unended_rows task.now)) }
+    ensures rows { AreRows rest.new }
+{
+    if task.ended {
+        return true;
+    }
+    cover_part(rest, &task.job.resources)
+}
+
+/// Takes away what tasks use that haven't ended, or tells that there is less.
+pub(crate) fn cover_tasks(rest: &mut Resources, tasks: &[Booked]) -> bool
+    requires { AreRows rest.old }
+    ensures { result ≡ covers rest.old (job_rows (unended tasks.now)) }
+{
+    for task in tasks {
+        if !cover_task(rest, task) {
+            return false;
+        }
+    }
+    true
+}
