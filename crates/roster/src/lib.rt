@@ -1,0 +1,12 @@
+//! The master's sessions with the configured agents, and the commands that it issued in each.
+#![tactic(auto)]
+
+mod entry;
+mod fault;
+mod roster;
+#[cfg(test)]
+mod tests;
+
+pub use entry::RosterEntry;
+pub use fault::RosterFault;
+pub use roster::Roster;
