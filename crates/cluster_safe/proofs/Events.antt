@@ -1,6 +1,6 @@
--- An update is told only after each one before it was acknowledged: the events of each step.
-use Rattle.std.proofs.Common.{◌≡◌, ◌≢◌, ◌⊎◌, ℕ, suc, zero, ◌+◌, ◌<◌, Bool, true, false, not, ◌&&◌, ◌||◌, List, [], ◌∷◌, ◌++◌, length, map, filter, flat_map, fold, refl, sym, ap, ◌∙◌, subst, inl, inr, bytes_eq, Option, Some, None, slice_get, nat_lt, nat_le}
-use Rattle.std.specs.Prelude.{⊤, if◌then◌else◌, ◌==◌}
+-- What is known of each update that a mail tells is known of it where the master tells it: the events of each step.
+use Rattle.std.proofs.Common.{ℕ, suc, Bool, true, false, not, ◌&&◌, ◌||◌, List, [], ◌∷◌, ◌++◌, length, map, filter, flat_map, fold, Option, Some, None, nat_le}
+use Rattle.std.specs.Prelude.{⊤, if◌then◌else◌}
 use Rattle.std.specs.List.{AllByRecursion as Each, find, list_any}
 use Rattle.std.proofs.lemmas.Bool.{cond_both}
 use Rattle.names_core.specs.Ids.{Numbered}
@@ -21,17 +21,21 @@ use Rattle.cluster_model.specs.Calls.{frameworks_limit, new_stream, to_list, sub
 use Rattle.cluster_model.specs.Mails.{judged, rescinds, loses, is_reported, session_opens, news_of, goes_with, mailed_as, mailed, is_due, beats, ticked, agent_lost, hung_up_by, hung_up}
 use Rattle.cluster_model.specs.Rounds.{entered, tells_offers, offers_of, making, allocated}
 use Rattle.cluster_safe.proofs.Orders.{each_append}
-use Rattle.cluster_safe.proofs.Told.{UpTold}
-use Rattle.cluster_safe.proofs.Acks.{Always}
 use Rattle.mails.specs.declared.call.Call.TheVariants.{Subscribe, Teardown, Accept, Decline, Revive, Suppress, Acknowledge, Reconcile}
 use Rattle.mails.specs.declared.call.Call.TheVariants as calls
 use Rattle.mails.specs.declared.mail.AgentMail.TheVariants.{Report, Applied, Update}
 use Rattle.mails.specs.declared.refusal.MasterRefusal.TheVariants.{OtherRun, OldSession, Closed, NotOpen, NotSubscribed, WrongStream, NoSuchFramework, LimitExceeded}
 
--- an update is told with each number before it true
+-- P holds of the key and the number of each update that is told
 abbrev pub TellOk : (Numbered → ℕ → Type 0) → Event → Type 0
-TellOk A (UPDATE task state agent (Some uuid)) = (j : ℕ) → j < uuid.k → A uuid.key j
+TellOk A (UPDATE task state agent (Some uuid)) = A uuid.key uuid.k
 TellOk A event = ⊤
+
+-- P holds of the key and the number of an update that a mail tells
+abbrev pub MailOk : (Numbered → ℕ → Type 0) → AgentMail → Type 0
+MailOk P (Report session run tasks) = ⊤
+MailOk P (Applied session count) = ⊤
+MailOk P (Update session key k state ended) = P key k
 
 abbrev pub EventOk : (Numbered → ℕ → Type 0) → Told → Type 0
 EventOk A t = TellOk A t.event
@@ -129,14 +133,14 @@ rescinds_ok A m os = flat_ok A (λ (o : Offer). tells m o.framework (RESCIND o.i
 loses_ok : (A : Numbered → ℕ → Type 0) (m : Master) (agent : List ℕ) (bs : List Booked) → Each (EventOk A) (loses m agent bs)
 loses_ok A m agent bs = flat_ok A (λ (b : Booked). if b.ended then [] else tells m b.job.framework (UPDATE b.job.name Lost (Some agent) None)) (λ b. told_if A b.ended [] (tells m b.job.framework (UPDATE b.job.name Lost (Some agent) None)) tt (tells_ok A m b.job.framework (UPDATE b.job.name Lost (Some agent) None) tt)) bs
 
-goes_events : (A : Numbered → ℕ → Type 0) (m : Master) (s : Side) (mail : AgentMail) → UpTold Always A mail → Each (EventOk A) (goes_with m s mail).events
+goes_events : (A : Numbered → ℕ → Type 0) (m : Master) (s : Side) (mail : AgentMail) → MailOk A mail → Each (EventOk A) (goes_with m s mail).events
 goes_events A m s (Report session number tasks) h = if_events A (opens m.run s session number) (session_opens m s tasks) (nothing m)
     (each_append (EventOk A) (rescinds m s.offers) (loses m s.name (filter (λ b. not (is_reported tasks b)) s.booked)) (rescinds_ok A m s.offers) (loses_ok A m s.name (filter (λ b. not (is_reported tasks b)) s.booked))) tt
 goes_events A m s (Applied session count) h = tt
 goes_events A m s (Update session key k state ended) h = flat_ok A (news_of m s.name key k state)
     (λ b. told_if A (same b.job.key key && nat_le b.heard (suc k)) (tells m b.job.framework (UPDATE b.job.name state (Some s.name) (Some (record { key = key; k = k })))) [] (tells_ok A m b.job.framework (UPDATE b.job.name state (Some s.name) (Some (record { key = key; k = k }))) h) tt) s.booked
 
-mailed_as_events : (A : Numbered → ℕ → Type 0) (m : Master) (s : Side) (mail : AgentMail) (o : Option MasterRefusal) → UpTold Always A mail → Each (EventOk A) (mailed_as m s mail o).events
+mailed_as_events : (A : Numbered → ℕ → Type 0) (m : Master) (s : Side) (mail : AgentMail) (o : Option MasterRefusal) → MailOk A mail → Each (EventOk A) (mailed_as m s mail o).events
 mailed_as_events A m s mail None h = goes_events A m s mail h
 mailed_as_events A m s mail (Some OtherRun) h = tt
 mailed_as_events A m s mail (Some OldSession) h = tt
@@ -147,7 +151,7 @@ mailed_as_events A m s mail (Some WrongStream) h = tt
 mailed_as_events A m s mail (Some NoSuchFramework) h = tt
 mailed_as_events A m s mail (Some LimitExceeded) h = tt
 
-pub mailed_events : (A : Numbered → ℕ → Type 0) (m : Master) (s : Side) (mail : AgentMail) → UpTold Always A mail → Each (EventOk A) (mailed m s mail).events
+pub mailed_events : (A : Numbered → ℕ → Type 0) (m : Master) (s : Side) (mail : AgentMail) → MailOk A mail → Each (EventOk A) (mailed m s mail).events
 mailed_events A m s mail h = mailed_as_events A m s mail (judged m.run s mail) h
 
 pub ticked_events : (A : Numbered → ℕ → Type 0) (m : Master) (now : ℕ) → Each (EventOk A) (ticked m now).events
@@ -178,7 +182,7 @@ event_wider A B f (SUBSCRIBED framework) h = tt
 event_wider A B f (OFFERS offers) h = tt
 event_wider A B f (RESCIND offer) h = tt
 event_wider A B f (UPDATE task state agent None) h = tt
-event_wider A B f (UPDATE task state agent (Some uuid)) h = λ j lt. f uuid.key j (h j lt)
+event_wider A B f (UPDATE task state agent (Some uuid)) h = f uuid.key uuid.k h
 event_wider A B f (FAILURE agent) h = tt
 event_wider A B f FAILED_OVER h = tt
 event_wider A B f REMOVED h = tt

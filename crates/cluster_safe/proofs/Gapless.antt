@@ -1,7 +1,7 @@
--- What an honest framework has acknowledged of a task has no gap.
-use Rattle.std.proofs.Common.{◌≡◌, ℕ, suc, zero, ◌<◌, ◌≤◌, Bool, true, false, not, ◌&&◌, ◌||◌, List, [], ◌∷◌, ◌++◌, map, fold, Option, Some, None, Result, Ok, Err, refl, sym, ap, ◌∙◌, subst, inl, inr, arith}
-use Rattle.std.specs.Prelude.{⊤, ◌⊎◌, ◌==◌, if◌then◌else◌, max, flat_map}
-use Rattle.std.specs.List.{AllByRecursion as Each, list_any}
+-- What an honest framework has acknowledged of a task is a beginning of its updates.
+use Rattle.std.proofs.Common.{◌≡◌, ℕ, suc, zero, ◌<◌, ◌≤◌, Bool, true, false, not, ◌&&◌, ◌||◌, List, [], ◌∷◌, ◌++◌, length, map, fold, Option, Some, None, Result, Ok, Err, refl, sym, ap, ◌∙◌, subst, inl, inr, le_trans, arith}
+use Rattle.std.specs.Prelude.{◌⊎◌, ◌==◌, if◌then◌else◌, max, flat_map}
+use Rattle.std.specs.List.{AllByRecursion as Each}
 use Rattle.std.proofs.lemmas.Bool.{cond_both, cases_Bool, cases_lt}
 use Rattle.std.proofs.lemmas.Bool.Decides.{nat_tests}
 use Rattle.std.proofs.lemmas.List.Folds.{list_any-append}
@@ -14,20 +14,22 @@ use Rattle.mails.specs.declared.call.Call.{Call}
 use Rattle.mails.specs.declared.call.Call.TheVariants.{Subscribe, Teardown, Accept, Decline, Revive, Suppress, Acknowledge, Reconcile}
 use Rattle.mails.specs.declared.call.Call.TheVariants as calls
 use Rattle.cluster_model.specs.Ids.{same}
-use Rattle.cluster_model.specs.Channels.{World, Happening, after_all, open_world}
+use Rattle.cluster_model.specs.Channels.{Channel, World, Happening, after_all, open_channel, open_world}
 use Rattle.cluster_model.specs.Clusters.{Post, Called, Down, Up, Step, Send, Entry, StepRefusal}
 use Rattle.cluster_model.specs.Events.{Event, SUBSCRIBED, OFFERS, RESCIND, UPDATE, FAILURE, FAILED_OVER, REMOVED, HEARTBEAT, Told}
 use Rattle.cluster_model.specs.Openings.{GoodOpening, recorded_jobs}
 use Rattle.cluster_model.specs.Steps.{Done, History, Marked, step_marked, extended, extend_all, history, opening, hello_to}
 use Rattle.cluster_safe.specs.Acknowledged.{Names, WasSent, WasCounted, recorded_tasks}
-use Rattle.cluster_safe.specs.Honest.{Tells, WasTold, told_in, IsHonestCall, IsHonestStep, Honest, has_number, noted, up_to, counted, acknowledged_by, IsKeyOf, WithoutGap}
+use Rattle.cluster_safe.specs.Honest.{Tells, WasTold, handed_in, IsHonestCall, IsHonestStep, Honest, has_number, noted, up_to, counted, acknowledged_by, IsKeyOf, IsBeginningOf}
+use Rattle.cluster_safe.specs.Updates.{longer, states_under, recorded_states, updates_of, AcknowledgeTheirs}
 use Rattle.cluster_safe.specs.Origin.{IsOneOf, jobs_of, trail}
 use Rattle.cluster_safe.proofs.Ids.{same_refl, same_is}
 use Rattle.cluster_safe.proofs.Orders.{each_append}
 use Rattle.cluster_safe.proofs.Drafts.{both_true}
 use Rattle.cluster_safe.proofs.Worlds.{all_room}
 use Rattle.cluster_safe.proofs.Events.{TellOk, EventOk}
-use Rattle.cluster_safe.proofs.Histories.{Legal, NotCall, Sends, AckedBy, EntryOk, HistoryOk, step_legal, extend_ok, jobs_grow, trail_append, number_tells, no_calls, once_same, history_ok, opening_ok}
+use Rattle.cluster_safe.proofs.Below.{longer_left, longer_right, count, over_more, over_append}
+use Rattle.cluster_safe.proofs.Histories.{Legal, NotCall, Sends, AckedBy, Tellable, told_count, HandedOk, HistoryOk, all_tell, step_legal, extend_ok, jobs_grow, trail_append, number_tells, no_calls, once_same, history_ok, opening_ok}
 
 -- numbers in a list
 
@@ -122,39 +124,43 @@ fold_quiet framework key (Called stream call ∷ more) ks h = absurd h.0
 fold_quiet framework key (Down agent place ∷ more) ks h = fold_quiet framework key more ks h.1
 fold_quiet framework key (Up agent place ∷ more) ks h = fold_quiet framework key more ks h.1
 
--- each number before one that a call names is there
-abbrev pub Ready : Numbered → Numbered → List ℕ → Post → Type 0
-Ready framework key ks post = (k : ℕ) → Names framework key k post → (j : ℕ) → j < k → has_number ks j ≡ true
+-- 0, 1, 2 and so on, at most so many
+abbrev pub Gapless : ℕ → List ℕ → Type 0
+Gapless most ks = (n : ℕ) × (ks ≡ up_to n) × (n ≤ most)
 
-noted_gapless : (framework key : Numbered) (ks : List ℕ) (post : Post) → WithoutGap ks → Ready framework key ks post → WithoutGap (noted framework key ks post)
-noted_gapless framework key ks (Called stream (Acknowledge f agent task uuid)) g ready =
-    cond_both (same f framework && same uuid.key key && not (has_number ks uuid.k)) (ks ++ uuid.k ∷ []) ks WithoutGap (λ e. added (both_true (same f framework && same uuid.key key) (not (has_number ks uuid.k)) e)) (λ e. g)
+-- each number before one that a call names is there, and it is itself one of so many
+abbrev pub Ready : Numbered → Numbered → ℕ → List ℕ → Post → Type 0
+Ready framework key most ks post = (k : ℕ) → Names framework key k post → ((j : ℕ) → j < k → has_number ks j ≡ true) × (k < most)
+
+noted_gapless : (framework key : Numbered) (most : ℕ) (ks : List ℕ) (post : Post) → Gapless most ks → Ready framework key most ks post → Gapless most (noted framework key ks post)
+noted_gapless framework key most ks (Called stream (Acknowledge f agent task uuid)) g ready =
+    cond_both (same f framework && same uuid.key key && not (has_number ks uuid.k)) (ks ++ uuid.k ∷ []) ks (Gapless most) (λ e. added (both_true (same f framework && same uuid.key key) (not (has_number ks uuid.k)) e)) (λ e. g)
   where
-    added : ((same f framework && same uuid.key key) ≡ true) × (not (has_number ks uuid.k) ≡ true) → WithoutGap (ks ++ uuid.k ∷ [])
+    added : ((same f framework && same uuid.key key) ≡ true) × (not (has_number ks uuid.k) ≡ true) → Gapless most (ks ++ uuid.k ∷ [])
     added e =
         let both = both_true (same f framework) (same uuid.key key) e.0 in
-        let all : (j : ℕ) → j < uuid.k → has_number ks j ≡ true = ready uuid.k (same_is f framework both.0, same_is uuid.key key both.1, refl) in
+        let told : ((j : ℕ) → j < uuid.k → has_number ks j ≡ true) × (uuid.k < most) = ready uuid.k (same_is f framework both.0, same_is uuid.key key both.1, refl) in
         let none : has_number ks uuid.k ≡ false = not_true (has_number ks uuid.k) e.1 in
-        let is : uuid.k ≡ g.0 = next_number g.0 uuid.k (λ j lt. subst (λ xs. has_number xs j ≡ true) g.1 (all j lt)) (subst (λ xs. has_number xs uuid.k ≡ false) g.1 none) in
-        (suc g.0, ap (λ xs. xs ++ uuid.k ∷ []) g.1 ∙ ap (λ n. up_to g.0 ++ n ∷ []) is)
-noted_gapless framework key ks (Called stream (Subscribe f role)) g ready = g
-noted_gapless framework key ks (Called stream (Teardown f)) g ready = g
-noted_gapless framework key ks (Called stream (Accept f offers tasks seconds)) g ready = g
-noted_gapless framework key ks (Called stream (Decline f offers seconds)) g ready = g
-noted_gapless framework key ks (Called stream (Revive f)) g ready = g
-noted_gapless framework key ks (Called stream (Suppress f)) g ready = g
-noted_gapless framework key ks (Called stream (calls.Kill f task agent)) g ready = g
-noted_gapless framework key ks (Called stream (Reconcile f tasks)) g ready = g
-noted_gapless framework key ks (Down agent place) g ready = g
-noted_gapless framework key ks (Up agent place) g ready = g
+        let is : uuid.k ≡ g.0 = next_number g.0 uuid.k (λ j lt. subst (λ xs. has_number xs j ≡ true) g.1 (told.0 j lt)) (subst (λ xs. has_number xs uuid.k ≡ false) g.1 none) in
+        (suc g.0, ap (λ xs. xs ++ uuid.k ∷ []) g.1 ∙ ap (λ n. up_to g.0 ++ n ∷ []) is, omega (arith, is, told.1))
+noted_gapless framework key most ks (Called stream (Subscribe f role)) g ready = g
+noted_gapless framework key most ks (Called stream (Teardown f)) g ready = g
+noted_gapless framework key most ks (Called stream (Accept f offers tasks seconds)) g ready = g
+noted_gapless framework key most ks (Called stream (Decline f offers seconds)) g ready = g
+noted_gapless framework key most ks (Called stream (Revive f)) g ready = g
+noted_gapless framework key most ks (Called stream (Suppress f)) g ready = g
+noted_gapless framework key most ks (Called stream (calls.Kill f task agent)) g ready = g
+noted_gapless framework key most ks (Called stream (Reconcile f tasks)) g ready = g
+noted_gapless framework key most ks (Down agent place) g ready = g
+noted_gapless framework key most ks (Up agent place) g ready = g
 
-posts_gapless : (S : Option Numbered → Call → Type 0) (framework key : Numbered) (ks : List ℕ) (more : List Post) → WithoutGap ks → ((stream : Option Numbered) (call : Call) → S stream call → Ready framework key ks (Called stream call)) → Each NotCall more ⊎ Sends S more → WithoutGap (fold (noted framework key) ks more)
-posts_gapless S framework key ks more g ready (inl quiet) = subst WithoutGap (sym (fold_quiet framework key more ks quiet)) g
-posts_gapless S framework key ks [] g ready (inr sends) = absurd sends
-posts_gapless S framework key ks (Down agent place ∷ more) g ready (inr sends) = absurd sends
-posts_gapless S framework key ks (Up agent place ∷ more) g ready (inr sends) = absurd sends
-posts_gapless S framework key ks (Called stream call ∷ []) g ready (inr sends) = noted_gapless framework key ks (Called stream call) g (ready stream call sends)
-posts_gapless S framework key ks (Called stream call ∷ post ∷ more) g ready (inr sends) = absurd sends
+posts_gapless : (S : Option Numbered → Call → Type 0) (framework key : Numbered) (most : ℕ) (ks : List ℕ) (more : List Post) → Gapless most ks → ((stream : Option Numbered) (call : Call) → S stream call → Ready framework key most ks (Called stream call)) → Each NotCall more ⊎ Sends S more → Gapless most (fold (noted framework key) ks more)
+posts_gapless S framework key most ks more g ready (inl quiet) = subst (Gapless most) (sym (fold_quiet framework key more ks quiet)) g
+posts_gapless S framework key most ks [] g ready (inr sends) = absurd sends
+posts_gapless S framework key most ks (Down agent place ∷ more) g ready (inr sends) = absurd sends
+posts_gapless S framework key most ks (Up agent place ∷ more) g ready (inr sends) = absurd sends
+posts_gapless S framework key most ks (Called stream call ∷ []) g ready (inr sends) = noted_gapless framework key most ks (Called stream call) g (ready stream call sends)
+posts_gapless S framework key most ks (Called stream call ∷ post ∷ more) g ready (inr sends) = absurd sends
 
 -- what the opening counted
 
@@ -163,27 +169,39 @@ counted_above key k [] h = absurd h
 counted_above key k (t ∷ ts) (inl h) = cond_both (same t.job.key key) (max t.updates.acknowledged (counted key ts)) (counted key ts) (λ n. k < n) (λ e. (let lt = h.1 in omega arith)) (λ e. absurd (let s : same t.job.key key ≡ true = subst (λ x. same t.job.key x ≡ true) h.0 (same_refl t.job.key) in cc))
 counted_above key k (t ∷ ts) (inr h) = (let lt = counted_above key k ts h in cond_both (same t.job.key key) (max t.updates.acknowledged (counted key ts)) (counted key ts) (λ n. k < n) (λ e. omega arith) (λ e. lt))
 
+counted_within : (key : Numbered) (ts : List RecordedTask) → Each (λ t. t.updates.acknowledged ≤ length t.updates.states) ts → counted key ts ≤ count ts key
+counted_within key [] h = omega arith
+counted_within key (t ∷ ts) h = (let rest = counted_within key ts h.1 in by (same t.job.key key) rest)
+  where
+    by : (b : Bool) → counted key ts ≤ count ts key → (if b then max t.updates.acknowledged (counted key ts) else counted key ts) ≤ length (if b then longer t.updates.states (states_under key ts) else states_under key ts)
+    by true rest = (let left = longer_left t.updates.states (states_under key ts) in let right = longer_right t.updates.states (states_under key ts) in let own = h.0 in omega (arith, left, right, own, rest))
+    by false rest = rest
+
+opened_tasks : (ds : List Durable) → flat_map (λ (c : Channel). c.agent.durable.tasks) (map open_channel ds) ≡ recorded_tasks ds
+opened_tasks [] = refl
+opened_tasks (d ∷ ds) = ap (λ ts. d.tasks ++ ts) (opened_tasks ds)
+
 -- what was told
 
-event_ready : (A : Numbered → ℕ → Type 0) (key : Numbered) (k : ℕ) (e : Event) → TellOk A e → Tells key k e → (j : ℕ) → j < k → A key j
-event_ready A key k (UPDATE task state agent (Some uuid)) ok h j lt = subst (λ x. A x j) h.0 (ok j (subst (λ n. j < n) (sym h.1) lt))
-event_ready A key k (UPDATE task state agent None) ok h j lt = absurd h
-event_ready A key k (SUBSCRIBED framework) ok h j lt = absurd h
-event_ready A key k (OFFERS offers) ok h j lt = absurd h
-event_ready A key k (RESCIND offer) ok h j lt = absurd h
-event_ready A key k (FAILURE agent) ok h j lt = absurd h
-event_ready A key k FAILED_OVER ok h j lt = absurd h
-event_ready A key k REMOVED ok h j lt = absurd h
-event_ready A key k HEARTBEAT ok h j lt = absurd h
+event_told : (A : Numbered → ℕ → Type 0) (key : Numbered) (k : ℕ) (e : Event) → TellOk A e → Tells key k e → A key k
+event_told A key k (UPDATE task state agent (Some uuid)) ok h = subst (λ x. A x k) h.0 (subst (A uuid.key) h.1 ok)
+event_told A key k (UPDATE task state agent None) ok h = absurd h
+event_told A key k (SUBSCRIBED framework) ok h = absurd h
+event_told A key k (OFFERS offers) ok h = absurd h
+event_told A key k (RESCIND offer) ok h = absurd h
+event_told A key k (FAILURE agent) ok h = absurd h
+event_told A key k FAILED_OVER ok h = absurd h
+event_told A key k REMOVED ok h = absurd h
+event_told A key k HEARTBEAT ok h = absurd h
 
-told_ready : (A : Numbered → ℕ → Type 0) (key : Numbered) (k : ℕ) (ts : List Told) → Each (EventOk A) ts → WasTold key k ts → (j : ℕ) → j < k → A key j
-told_ready A key k [] ok h j lt = absurd h
-told_ready A key k (t ∷ ts) ok (inl h) j lt = event_ready A key k t.event ok.0 h j lt
-told_ready A key k (t ∷ ts) ok (inr h) j lt = told_ready A key k ts ok.1 h j lt
+was_told : (A : Numbered → ℕ → Type 0) (key : Numbered) (k : ℕ) (ts : List Told) → Each (EventOk A) ts → WasTold key k ts → A key k
+was_told A key k [] ok h = absurd h
+was_told A key k (t ∷ ts) ok (inl h) = event_told A key k t.event ok.0 h
+was_told A key k (t ∷ ts) ok (inr h) = was_told A key k ts ok.1 h
 
-each_told : (A : Numbered → ℕ → Type 0) (es : List Entry) → Each (EntryOk A) es → Each (EventOk A) (told_in es)
-each_told A [] h = tt
-each_told A (e ∷ es) h = each_append (EventOk A) e.outs.events (told_in es) h.0 (each_told A es h.1)
+each_handed : (A : Numbered → ℕ → Type 0) (es : List Entry) → Each (HandedOk A) es → Each (EventOk A) (handed_in es)
+each_handed A [] h = tt
+each_handed A (e ∷ es) h = each_append (EventOk A) e.outs.taken (handed_in es) h.0 (each_handed A es h.1)
 
 -- the framework of all jobs under a key
 abbrev pub Owns : Numbered → Numbered → List Job → Type 0
@@ -199,29 +217,43 @@ acked_has records start h framework key owns j a = by a.3
     by (inl sent) = fold_sent framework key h.state.posts (up_to (counted key (recorded_tasks records))) j (subst (λ f. WasSent f key j h.state.posts) (owns a.0 a.1 a.2) sent)
     by (inr once) = fold_keeps framework key h.state.posts (up_to (counted key (recorded_tasks records))) j (reached (counted key (recorded_tasks records)) j (counted_above key j (recorded_tasks records) once))
 
-call_ready : (records : List Durable) (start : World) (h : History) (framework key : Numbered) → HistoryOk records start h → Owns framework key (all_jobs records start h.happenings) → (stream : Option Numbered) (call : Call) → IsHonestCall framework h.entries call → Ready framework key (acknowledged_by records framework key h.state.posts) (Called stream call)
-call_ready records start h framework key ok owns stream (Acknowledge f agent task uuid) honest k names j lt =
-    acked_has records start h framework key owns j (told_ready A key k (told_in h.entries) (each_told A h.entries ok.told) (subst (λ x. WasTold x k (told_in h.entries)) names.1 (subst (λ n. WasTold uuid.key n (told_in h.entries)) names.2 (honest names.0))) j lt)
+call_ready : (records : List Durable) (start : World) (h : History) (framework key : Numbered) → HistoryOk records start h → Owns framework key (all_jobs records start h.happenings) → (stream : Option Numbered) (call : Call) → IsHonestCall framework h.entries call → Ready framework key (told_count start h.happenings key) (acknowledged_by records framework key h.state.posts) (Called stream call)
+call_ready records start h framework key ok owns stream (Acknowledge f agent task uuid) honest k names = (λ j lt. acked_has records start h framework key owns j (told.0 j lt), told.1)
   where
-    A : Numbered → ℕ → Type 0
-    A = AckedBy records (trail h.happenings start []) h.state.posts
-call_ready records start h framework key ok owns stream (Subscribe f role) honest k names j lt = absurd names
-call_ready records start h framework key ok owns stream (Teardown f) honest k names j lt = absurd names
-call_ready records start h framework key ok owns stream (Accept f offers tasks seconds) honest k names j lt = absurd names
-call_ready records start h framework key ok owns stream (Decline f offers seconds) honest k names j lt = absurd names
-call_ready records start h framework key ok owns stream (Revive f) honest k names j lt = absurd names
-call_ready records start h framework key ok owns stream (Suppress f) honest k names j lt = absurd names
-call_ready records start h framework key ok owns stream (calls.Kill f task agent) honest k names j lt = absurd names
-call_ready records start h framework key ok owns stream (Reconcile f tasks) honest k names j lt = absurd names
+    T : Numbered → ℕ → Type 0
+    T = Tellable records start h.happenings h.state.posts
+
+    told : Tellable records start h.happenings h.state.posts key k
+    told = was_told T key k (handed_in h.entries) (each_handed T h.entries ok.handed) (subst (λ x. WasTold x k (handed_in h.entries)) names.1 (subst (λ n. WasTold uuid.key n (handed_in h.entries)) names.2 (honest names.0)))
+call_ready records start h framework key ok owns stream (Subscribe f role) honest k names = absurd names
+call_ready records start h framework key ok owns stream (Teardown f) honest k names = absurd names
+call_ready records start h framework key ok owns stream (Accept f offers tasks seconds) honest k names = absurd names
+call_ready records start h framework key ok owns stream (Decline f offers seconds) honest k names = absurd names
+call_ready records start h framework key ok owns stream (Revive f) honest k names = absurd names
+call_ready records start h framework key ok owns stream (Suppress f) honest k names = absurd names
+call_ready records start h framework key ok owns stream (calls.Kill f task agent) honest k names = absurd names
+call_ready records start h framework key ok owns stream (Reconcile f tasks) honest k names = absurd names
 
 -- one step, and all
 
-extended_gapless : (records : List Durable) (start : World) (h : History) (framework key : Numbered) (r : Result Done StepRefusal) → HistoryOk records start h → Owns framework key (all_jobs records start h.happenings) → Legal (AckedBy records (trail h.happenings start []) h.state.posts) (λ stream call. IsHonestCall framework h.entries call) h.state r →
-    WithoutGap (acknowledged_by records framework key h.state.posts) → WithoutGap (acknowledged_by records framework key (extended h r).state.posts)
+wider : (most later : ℕ) (ks : List ℕ) → most ≤ later → Gapless most ks → Gapless later ks
+wider most later ks le g = (g.0, g.1, le_trans g.2 le)
+
+extended_gapless : (records : List Durable) (start : World) (h : History) (framework key : Numbered) (r : Result Done StepRefusal) → HistoryOk records start h → Owns framework key (all_jobs records start h.happenings) → Legal (AckedBy records (trail h.happenings start []) h.state.posts) (Tellable records start h.happenings h.state.posts) (λ stream call. IsHonestCall framework h.entries call) h.state r →
+    Gapless (told_count start h.happenings key) (acknowledged_by records framework key h.state.posts) → Gapless (told_count start (extended h r).happenings key) (acknowledged_by records framework key (extended h r).state.posts)
 extended_gapless records start h framework key (Ok d) ok owns l g =
-    subst (λ ps. WithoutGap (acknowledged_by records framework key ps)) (sym l.4.1)
-    (subst WithoutGap (sym (fold-append (noted framework key) (up_to (counted key (recorded_tasks records))) h.state.posts l.4.0))
-    (posts_gapless (λ stream call. IsHonestCall framework h.entries call) framework key (acknowledged_by records framework key h.state.posts) l.4.0 g (call_ready records start h framework key ok owns) l.4.2))
+    wider most later (acknowledged_by records framework key d.after.posts) grown (subst (λ ps. Gapless most (acknowledged_by records framework key ps)) (sym l.4.1)
+    (subst (Gapless most) (sym (fold-append (noted framework key) (up_to (counted key (recorded_tasks records))) h.state.posts l.4.0))
+    (posts_gapless (λ stream call. IsHonestCall framework h.entries call) framework key most (acknowledged_by records framework key h.state.posts) l.4.0 g (call_ready records start h framework key ok owns) l.4.2)))
+  where
+    most : ℕ
+    most = told_count start h.happenings key
+
+    later : ℕ
+    later = told_count start (h.happenings ++ d.happenings) key
+
+    grown : told_count start h.happenings key ≤ told_count start (h.happenings ++ d.happenings) key
+    grown = subst (λ xs. told_count start h.happenings key ≤ length xs) (sym (over_append key h.happenings d.happenings start (recorded_states key start))) (over_more key d.happenings (after_all h.happenings start) (updates_of key h.happenings start))
 extended_gapless records start h framework key (Err refusal) ok owns l g = g
 
 jobs_step : (records : List Durable) (start : World) (h : History) (r : Result Done StepRefusal) (j : Job) → IsOneOf j (all_jobs records start h.happenings) → IsOneOf j (all_jobs records start (extended h r).happenings)
@@ -236,21 +268,24 @@ honest_send : (framework : Numbered) (entries : List Entry) (s : Step) → IsHon
 honest_send framework entries s h stream call e = subst (IsHonestStep framework entries) e h
 
 all_gapless : (records : List Durable) (start : World) (framework key : Numbered) (ss : List Marked) (h : History) → HistoryOk records start h → Honest framework h ss → Owns framework key (all_jobs records start (extend_all h ss).happenings) →
-    WithoutGap (acknowledged_by records framework key h.state.posts) → WithoutGap (acknowledged_by records framework key (extend_all h ss).state.posts)
+    Gapless (told_count start h.happenings key) (acknowledged_by records framework key h.state.posts) → Gapless (told_count start (extend_all h ss).happenings key) (acknowledged_by records framework key (extend_all h ss).state.posts)
 all_gapless records start framework key [] h ok honest owns g = g
 all_gapless records start framework key (s ∷ ss) h ok honest owns g =
     all_gapless records start framework key ss (extended h (step_marked h.state s)) (extend_ok records start (s ∷ []) h ok) honest.1 owns
     (extended_gapless records start h framework key (step_marked h.state s) ok (λ j x e. owns j (jobs_kept records start (s ∷ ss) h j x) e)
-    (step_legal (AckedBy records (trail h.happenings start []) h.state.posts) (λ stream call. IsHonestCall framework h.entries call) h.state (all_room h.state.world ok.world) (number_tells records h.state (trail h.happenings start []) ok.origin) ok.acked s (honest_send framework h.entries s.step honest.0)) g)
+    (step_legal (AckedBy records (trail h.happenings start []) h.state.posts) (Tellable records start h.happenings h.state.posts) (λ stream call. IsHonestCall framework h.entries call) h.state (all_room h.state.world ok.world) (number_tells records h.state (trail h.happenings start []) ok.origin) (all_tell records start h ok) s (honest_send framework h.entries s.step honest.0)) g)
 
-opening_gapless : (run : ℕ) (records : List Durable) (framework key : Numbered) → WithoutGap (acknowledged_by records framework key (opening run records).state.posts)
-opening_gapless run records framework key =
-    (counted key (recorded_tasks records), fold_quiet framework key (opening run records).state.posts (up_to (counted key (recorded_tasks records))) (no_calls (map hello_to (open_world run records).channels) (open_world run records)))
+opening_gapless : (run : ℕ) (records : List Durable) (framework key : Numbered) → AcknowledgeTheirs records → Gapless (told_count (open_world run records) (opening run records).happenings key) (acknowledged_by records framework key (opening run records).state.posts)
+opening_gapless run records framework key theirs = (
+  counted key (recorded_tasks records),
+  fold_quiet framework key (opening run records).state.posts (up_to (counted key (recorded_tasks records))) (no_calls (map hello_to (open_world run records).channels) (open_world run records)),
+  le_trans (subst (λ ts. counted key (recorded_tasks records) ≤ count ts key) (sym (opened_tasks records)) (counted_within key (recorded_tasks records) theirs)) (over_more key (map hello_to (open_world run records).channels) (open_world run records) (recorded_states key (open_world run records))),
+)
 
-pub history_gapless : (run : ℕ) (records : List Durable) (steps : List Marked) (framework key : Numbered) → GoodOpening run records → Honest framework (opening run records) steps → IsKeyOf framework key (jobs_of (trail (history run records steps).happenings (open_world run records) []) ++ recorded_jobs records) →
-    WithoutGap (acknowledged_by records framework key (history run records steps).state.posts)
-history_gapless run records steps framework key good honest of =
-    all_gapless records (open_world run records) framework key steps (opening run records) (opening_ok run records good) honest owns (opening_gapless run records framework key)
+pub history_acknowledges : (run : ℕ) (records : List Durable) (steps : List Marked) (framework key : Numbered) → GoodOpening run records → AcknowledgeTheirs records → Honest framework (opening run records) steps → IsKeyOf framework key (jobs_of (trail (history run records steps).happenings (open_world run records) []) ++ recorded_jobs records) →
+    IsBeginningOf (updates_of key (history run records steps).happenings (open_world run records)) (acknowledged_by records framework key (history run records steps).state.posts)
+history_acknowledges run records steps framework key good theirs honest of =
+    all_gapless records (open_world run records) framework key steps (opening run records) (opening_ok run records good) honest owns (opening_gapless run records framework key theirs)
   where
     owns : Owns framework key (all_jobs records (open_world run records) (history run records steps).happenings)
     owns j x e = ap (λ (i : Job). i.framework) (once_same (all_jobs records (open_world run records) (history run records steps).happenings) j of.0 (history_ok run records steps good).origin.keys.once x of.1 (e ∙ sym of.2)) ∙ of.3

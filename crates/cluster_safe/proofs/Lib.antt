@@ -25,4 +25,7 @@ pub mod SideTrails
 pub mod OriginWorlds
 pub mod Premises
 pub mod Events
+pub mod Below
 pub mod Gapless
+pub mod Offered
+pub mod Growth

@@ -1,6 +1,6 @@
 -- An agent keeps its name.
-use Rattle.std.proofs.Common.{◌≡◌, ℕ, suc, max, Bool, true, false, not, ◌&&◌, ◌||◌, List, [], ◌∷◌, length, map, refl, sym, ap, ◌∙◌, subst, bytes_eq, nat_lt, nat_le, eqb, Option, Some, None, Result, Ok, Err, slice_get, take, drop, ◌-◌, ◌+◌}
-use Rattle.std.specs.Prelude.{⊤, if◌then◌else◌, ◌==◌}
+use Rattle.std.proofs.Common.{◌≡◌, ℕ, suc, max, not, ◌&&◌, ◌||◌, List, [], ◌∷◌, map, refl, sym, ◌∙◌, subst, bytes_eq, nat_lt, nat_le, eqb, Option, Some, None, Result, Ok, Err, slice_get, take, drop, ◌-◌}
+use Rattle.std.specs.Prelude.{if◌then◌else◌, ◌==◌}
 use Rattle.std.specs.List.{AllByRecursion as Each, list_any}
 use Rattle.std.proofs.lemmas.Bool.{cond_both}
 use Rattle.names_core.specs.Ids.{Numbered}

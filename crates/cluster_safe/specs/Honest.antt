@@ -1,7 +1,8 @@
 -- Honest frameworks, and what they have acknowledged.
-use Rattle.std.specs.Prelude.{◌≡◌, ◌⊎◌, ℕ, suc, zero, ◌<◌, Bool, not, ◌&&◌, ◌==◌, if◌then◌else◌, List, [], ◌∷◌, ◌++◌, fold, flat_map, max, Option, Some, None, ⊤}
-use Rattle.std.specs.List.{AllByRecursion as Each, list_any}
+use Rattle.std.specs.Prelude.{◌≡◌, ◌⊎◌, ℕ, suc, zero, ◌≤◌, Bool, not, ◌&&◌, ◌==◌, if◌then◌else◌, List, [], ◌∷◌, ◌++◌, fold, flat_map, length, max, Some, ⊤}
+use Rattle.std.specs.List.{list_any}
 use Rattle.names_core.specs.Ids.{Numbered}
+use Rattle.names_core.specs.declared.state.TaskState.{TaskState}
 use Rattle.mails.specs.declared.task.Job.{Job}
 use Rattle.mails.specs.declared.call.Call.{Call}
 use Rattle.mails.specs.declared.call.Call.TheVariants.{Acknowledge}
@@ -23,20 +24,20 @@ abbrev pub WasTold : Numbered → ℕ → List Told → Type 0
 WasTold key k [] = ⊥
 WasTold key k (t ∷ ts) = Tells key k t.event ⊎ WasTold key k ts
 
--- the events of all entries
-abbrev pub told_in : List Entry → List Told
-told_in entries = flat_map (λ e. e.outs.events) entries
+-- the events that were handed out by the Takes of all entries
+abbrev pub handed_in : List Entry → List Told
+handed_in entries = flat_map (λ e. e.outs.taken) entries
 
--- a call that acknowledges as this framework names an update that was told before
+-- a call that acknowledges as this framework names an update that was handed out before
 abbrev pub IsHonestCall : Numbered → List Entry → Call → Type 0
-IsHonestCall framework entries (Acknowledge f agent task uuid) = f ≡ framework → WasTold uuid.key uuid.k (told_in entries)
+IsHonestCall framework entries (Acknowledge f agent task uuid) = f ≡ framework → WasTold uuid.key uuid.k (handed_in entries)
 IsHonestCall framework entries call = ⊤
 
 abbrev pub IsHonestStep : Numbered → List Entry → Step → Type 0
 IsHonestStep framework entries (Send stream call) = IsHonestCall framework entries call
 IsHonestStep framework entries step = ⊤
 
--- from this history on, the framework acknowledges only updates that were told before
+-- from this history on, the framework acknowledges only updates that were handed out before, on whatever stream
 abbrev pub Honest : Numbered → History → List Marked → Type 0
 Honest framework h [] = ⊤
 Honest framework h (s ∷ ss) = IsHonestStep framework h.entries s.step × Honest framework (extended h (step_marked h.state s)) ss
@@ -68,6 +69,6 @@ acknowledged_by records framework key posts = fold (noted framework key) (up_to 
 abbrev pub IsKeyOf : Numbered → Numbered → List Job → Type 0
 IsKeyOf framework key jobs = (j : Job) × IsOneOf j jobs × (j.key ≡ key) × (j.framework ≡ framework)
 
--- 0, 1, 2 and so on
-abbrev pub WithoutGap : List ℕ → Type 0
-WithoutGap ks = (n : ℕ) × (ks ≡ up_to n)
+-- numbers that are a beginning of those of updates: 0, 1, 2 and so on without gap, and no more than there are updates
+abbrev pub IsBeginningOf : List TaskState → List ℕ → Type 0
+IsBeginningOf updates ks = (n : ℕ) × (ks ≡ up_to n) × (n ≤ length updates)

@@ -6,3 +6,6 @@ pub mod Acknowledged
 pub mod Listed
 pub mod Premises
 pub mod Honest
+pub mod Updates
+pub mod Offered
+pub mod Growth

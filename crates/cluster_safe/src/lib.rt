@@ -1,30 +1,35 @@
 //! The safety law of the cluster: what holds after every list of steps, over every good opening.
 #![tactic(auto)]
 
+ghost use Rattle.cluster_model.specs.Agents.{Agent, Draft, next_of};
 ghost use Rattle.cluster_model.specs.Channels.{AllFit};
 ghost use Rattle.cluster_model.specs.Channels.{At, Channel, Hear, open_world};
 ghost use Rattle.cluster_model.specs.Clusters.{Cluster, MailToAgent, master_of};
 ghost use Rattle.cluster_model.specs.Calls.{Given, accepts_all, called};
 ghost use Rattle.cluster_model.specs.Mails.{agent_lost, having_heard, hung_up, mailed, ticked};
-ghost use Rattle.cluster_model.specs.Rounds.{allocated};
+ghost use Rattle.cluster_model.specs.Rounds.{allocated, entered};
 ghost use Rattle.cluster_model.specs.Sides.{Side, sends_nothing};
 ghost use Rattle.cluster_model.specs.Masters.{Doing, Framework, Master, after_doing, moved};
 ghost use Rattle.cluster_model.specs.Openings.{GoodOpening, recorded_jobs};
 ghost use Rattle.cluster_model.specs.Steps.{Marked, channel_of, done, effect_of, history, opening};
 ghost use Rattle.cluster_safe.specs.Acknowledged.{AcknowledgedByOwner};
-ghost use Rattle.cluster_safe.specs.Honest.{Honest, IsKeyOf, WithoutGap, acknowledged_by};
+ghost use Rattle.cluster_safe.specs.Growth.{OnlyGrow};
+ghost use Rattle.cluster_safe.specs.Honest.{Honest, IsBeginningOf, IsKeyOf, acknowledged_by};
 ghost use Rattle.cluster_safe.specs.Listed.{MoveFrom, MoveWithout};
+ghost use Rattle.cluster_safe.specs.Offered.{IsTold};
 ghost use Rattle.cluster_safe.specs.Origin.{HasOrigin, jobs_of, launched, trail};
 ghost use Rattle.cluster_safe.specs.Premises.{NextLaunchIsNew, ReportFits};
 ghost use Rattle.cluster_safe.specs.Saved.{IsFound};
+ghost use Rattle.cluster_safe.specs.Updates.{AcknowledgeTheirs, updates_of};
 ghost use Rattle.cluster_safe.specs.Safe.{NeverLacksRoom};
 ghost use Rattle.mails.specs.declared.call.Call.{Call};
 ghost use Rattle.mails.specs.declared.call.TaskInfo.{TaskInfo};
+ghost use Rattle.mails.specs.declared.cause.Cause.{Cause};
 ghost use Rattle.mails.specs.declared.mail.AgentMail.{AgentMail};
 ghost use Rattle.names_core.specs.Ids.{Numbered};
 ghost use Rattle.std.specs.List.{AllByRecursion as Each};
 ghost use Rattle.mails.specs.declared.record.Durable.{Durable};
-ghost use Rattle.std.specs.Prelude.{◌≡◌, ◌<◌, List, [], ◌∷◌, ◌++◌, map, slice_get, Option, Some, ℕ};
+ghost use Rattle.std.specs.Prelude.{◌≡◌, ◌<◌, List, [], ◌∷◌, ◌++◌, map, slice_get, Option, Some, Ok, ℕ};
 
 /// On every agent, current offers and live tasks together never exceed what it owns.
 pub fn offers_and_tasks_fit()
@@ -50,11 +55,17 @@ pub fn acknowledged_by_the_owner()
         AcknowledgedByOwner records (history run records steps).state.world (history run records steps).state.posts }
 {}
 
-/// What a framework has acknowledged of a task of its own, if it acknowledges only updates that were told before, is 0, 1, 2 and so on without gap.
-pub fn honest_acknowledgements_have_no_gap()
-    ensures { (run : ℕ) (records : List Durable) (steps : List Marked) (framework key : Numbered) → GoodOpening run records → Honest framework (opening run records) steps →
+/// What a framework has acknowledged of a task of its own, if it acknowledges only updates that were handed out before, is a beginning of the
+/// task's updates over the whole history: 0, 1, 2 and so on without gap.
+pub fn acknowledgements_are_prefixes()
+    ensures { (run : ℕ) (records : List Durable) (steps : List Marked) (framework key : Numbered) → GoodOpening run records → AcknowledgeTheirs records → Honest framework (opening run records) steps →
         IsKeyOf framework key (jobs_of (trail (history run records steps).happenings (open_world run records) []) ++ recorded_jobs records) →
-        WithoutGap (acknowledged_by records framework key (history run records steps).state.posts) }
+        IsBeginningOf (updates_of key (history run records steps).happenings (open_world run records)) (acknowledged_by records framework key (history run records steps).state.posts) }
+{}
+
+/// The updates of a task only grow at their end, as long as it stays in its agent's record; a new task has none.
+pub fn updates_only_grow()
+    ensures { (a : Agent) (cause : Cause) (d : Draft) → next_of a cause ≡ Ok d → OnlyGrow a.durable.tasks d.after.durable.tasks }
 {}
 
 /// Whatever is found of the agents' records after a stop, each the record before or the record of an open draft, is a good opening for any later run.
@@ -77,6 +88,11 @@ pub fn masters_step_alone()
     ensures hears { (c : Cluster) (agent : List ℕ) (place : ℕ) (x : Channel) (mail : AgentMail) (d : Doing) → channel_of c agent ≡ Some x → slice_get x.to_master place ≡ Some mail →
         (master_of (done c (effect_of (At agent (Hear place) ∷ []) d)).after ≡ after_doing (having_heard (master_of c) agent mail) d) ×
         ((done c (effect_of (At agent (Hear place) ∷ []) d)).entry.outs.sent ≡ map MailToAgent (moved (having_heard (master_of c) agent mail) d.moves).sent) }
+{}
+
+/// Each offer that enters the current ones in a round is told in an OFFERS event, on the stream of its framework, which is subscribed.
+pub fn entered_offers_are_told()
+    ensures { (m : Master) → Each (IsTold m.registers.frameworks (allocated m).events) (entered m.sides (moved m (allocated m).moves).sides) }
 {}
 
 /// A launch comes from an ACCEPT alone: of its framework, with the offers that it names, and of tasks that it lists on that agent.

@@ -1,0 +1,7 @@
+pub mod Lists
+pub mod Orders
+pub mod Standing
+pub mod Summing
+pub mod Names
+pub mod Places
+pub mod Picks

@@ -1,0 +1,45 @@
+-- Items at their places.
+use Rattle.std.proofs.Common.{◌≡◌, ℕ, zero, suc, ◌<◌, Bool, true, false, cond, nat_lt, List, [], ◌∷◌, length, set, get_or, Some, None, refl, sym, ap, ◌∙◌, arith}
+use Rattle.std.specs.List.{position, position_or_len, find}
+use Rattle.std.proofs.lemmas.Option.{slice_get_past}
+use Rattle.std.proofs.lemmas.List.Folds.{find_at}
+use Rattle.std.proofs.lemmas.List.Quantifiers.{position-Some}
+use Rattle.std.proofs.lemmas.Bool.{ltb-false}
+use Rattle.drf_pick.specs.Shares.{at_first}
+
+-- the first place at which a test passes
+pub record IsFirst {X : Type 0} (test : X → Bool) (xs : List X) (i : ℕ) (x : X) : Type 0 where
+  pub found : find test xs ≡ Some x
+  pub changed : (change : X → X) → at_first test change xs ≡ set xs i (change x)
+
+is_first : {X : Type 0} (test : X → Bool) (xs : List X) (i : ℕ) (x : X) → i < length xs → x ≡ get_or xs i x → test x ≡ true
+    → ((k : ℕ) → k < i → test (get_or xs k x) ≡ false) → IsFirst test xs i x
+is_first test [] i x within is passes fails = absurd (omega arith)
+is_first {X} test (y ∷ ys) zero x within is passes fails =
+    let here : test y ≡ true = ap test (sym is) ∙ passes in
+    record { found = rw here (ap (λ (z : X). Some z) (sym is)); changed = λ change. rw here (ap (λ (z : X). change z ∷ ys) (sym is)) }
+is_first {X} test (y ∷ ys) (suc i) x within is passes fails =
+    let here : test y ≡ false = fails 0 (omega arith) in
+    let rest = is_first test ys i x (omega arith) is passes (λ k below. fails (suc k) (omega arith)) in
+    record { found = rw here rest.found; changed = λ change. rw here (ap (λ (zs : List X). y ∷ zs) (rest.changed change)) }
+
+pub first_at : {X : Type 0} (test : X → Bool) (xs : List X) (i : ℕ) (x : X) → position test xs ≡ Some i → x ≡ get_or xs i x → IsFirst test xs i x
+first_at test xs i x at is =
+    let p = position-Some test xs i x at in
+    is_first test xs i x p.0 is (ap test is ∙ p.1) p.2
+
+pub none_at : {X : Type 0} (test : X → Bool) (xs : List X) → position test xs ≡ None → find test xs ≡ None
+none_at test xs h = by_case (nat_lt (position_or_len test xs) (length xs)) refl h
+  where
+    by_case : (b : Bool) → nat_lt (position_or_len test xs) (length xs) ≡ b → cond b (Some (position_or_len test xs)) None ≡ None → find test xs ≡ None
+    by_case true e k = absurd (cc)
+    by_case false e k = find_at test xs ∙ slice_get_past xs (position_or_len test xs) (ltb-false _ _ e)
+
+-- where none passes none is changed
+pub unchanged : {X : Type 0} (test : X → Bool) (change : X → X) (xs : List X) → find test xs ≡ None → xs ≡ at_first test change xs
+unchanged test change [] h = refl
+unchanged {X} test change (x ∷ xs) h = by_case (test x) (λ g. unchanged test change xs g) h
+  where
+    by_case : (b : Bool) → (find test xs ≡ None → xs ≡ at_first test change xs) → cond b (Some x) (find test xs) ≡ None → x ∷ xs ≡ cond b (change x ∷ xs) (x ∷ at_first test change xs)
+    by_case true more k = absurd (cc)
+    by_case false more k = ap (λ (zs : List X). x ∷ zs) (more k)

@@ -1,0 +1,5 @@
+use Rattle.drf_pick.proofs.Summing.{sums_add as law}
+use Rattle.drf_pick.proofs.laws.sums_add.Goals as goal
+
+pub returns : goal.returns
+returns c = law

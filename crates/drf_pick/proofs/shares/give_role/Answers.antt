@@ -1,0 +1,21 @@
+use Rattle.std.proofs.Common.{◌≡◌, ap, sym, ◌∙◌}
+use Rattle.drf_pick.specs.Sums.{summed}
+use Rattle.drf_pick.specs.Shares.{RoleSum, is_role, role_holding}
+use Rattle.drf_pick.proofs.Places.{first_at, none_at, unchanged}
+use Rattle.drf_pick.proofs.shares.give_role.Goals as goal
+
+pub returns-in_default-clause-ok : goal.returns-in_default-clause-ok
+returns-in_default-clause-ok c =
+    let test = is_role c.args.role.now in
+    unchanged test (role_holding c.args.resources.now) c.args.roles.now.items (none_at test c.args.roles.now.items (sym (rw c.deref.ensures.value at c.role_place.ensures) ∙ c.in_default.is))
+
+pub returns-clause-ok : goal.returns-clause-ok
+returns-clause-ok c =
+    let test = is_role c.args.role.now in
+    let xs = c.args.roles.now.items in
+    let read = first_at test xs c.in-Some.place c.index.result.now (sym (rw c.deref.ensures.value at c.role_place.ensures) ∙ c.in-Some.is) c.index.ensures in
+    let first = first_at test xs c.in-Some.place c.index_mut.result.now (sym (rw c.deref.ensures.value at c.role_place.ensures) ∙ c.in-Some.is) c.index_mut.ensures.value in
+    let same : c.index.result.now ≡ c.index_mut.result.now = cc (read.found, first.found) in
+    let held : c.in_ok-held.held ≡ summed c.index_mut.result.now.held c.args.resources.now =
+    c.in_ok-held.ensures ∙ ap (λ (r : RoleSum). summed r.held c.args.resources.now) same in
+    rw held (sym (first.changed (role_holding c.args.resources.now)))

@@ -1,0 +1,5 @@
+pub mod Sums
+pub mod Shares
+pub mod Least
+pub mod Orders
+pub mod Laws

@@ -1,0 +1,11 @@
+-- Orders.
+use Rattle.std.specs.Prelude.{◌≡◌, Bool, true, false, List, [], ◌∷◌, ◌⊎◌}
+
+abbrev pub Among : {X : Type 0} → X → List X → Type 0
+Among x [] = ⊥
+Among x (y ∷ ys) = (x ≡ y) ⊎ Among x ys
+
+-- a test that compares any two, and goes on from one to the next
+pub record IsPreorder {X : Type 0} (le : X → X → Bool) : Type 0 where
+  pub total : (x y : X) → le x y ≡ false → le y x ≡ true
+  pub trans : (x y z : X) → le x y ≡ true → le y z ≡ true → le x z ≡ true

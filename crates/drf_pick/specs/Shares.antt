@@ -1,0 +1,110 @@
+-- What frameworks and roles hold, and what all agents own.
+use Rattle.std.specs.Prelude.{ℕ, Bool, false, ◌&&◌, if◌then◌else◌, List, [], ◌∷◌, ◌++◌, Option, Some, None, bytes_eq}
+use Rattle.std.specs.List.{find}
+use Rattle.names_core.specs.Ids.{Numbered}
+use Rattle.quantity.specs.declared.rows.Row.{Row}
+use Rattle.quantity.specs.Rows.{covers, rest_of}
+use Rattle.cluster_model.specs.Ids.{same}
+use Rattle.drf_pick.specs.Sums.{summed}
+pub use Rattle.drf_pick.specs.declared.holder.Holder.{Holder}
+pub use Rattle.drf_pick.specs.declared.holder.RoleSum.{RoleSum}
+
+pub record Tally : Type 0 where
+  pub totals : List Row  -- what all agents own
+  pub holders : List Holder  -- the frameworks that a role was told of, with what they hold
+  pub roles : List RoleSum  -- with what their frameworks hold
+
+abbrev pub is_holder : Numbered → Holder → Bool
+is_holder framework h = same h.framework framework
+
+abbrev pub is_role : List ℕ → RoleSum → Bool
+is_role role r = bytes_eq r.role role
+
+-- the first that passes a test is changed
+abbrev pub at_first : {A : Type 0} → (A → Bool) → (A → A) → List A → List A
+at_first test change [] = []
+at_first test change (x ∷ xs) = if test x then change x ∷ xs else x ∷ at_first test change xs
+
+abbrev pub holding : List Row → Holder → Holder
+holding rows h = record h { held = summed h.held rows }
+
+abbrev pub role_holding : List Row → RoleSum → RoleSum
+role_holding rows r = record r { held = summed r.held rows }
+
+abbrev pub entered : List Row → Tally → Tally
+entered total t = record t { totals = summed t.totals total }
+
+abbrev pub given_holders : Numbered → List Row → List Holder → List Holder
+given_holders framework rows hs = at_first (is_holder framework) (holding rows) hs
+
+abbrev pub given_roles : List Row → Option Holder → List RoleSum → List RoleSum
+given_roles rows None rs = rs
+given_roles rows (Some h) rs = at_first (is_role h.role) (role_holding rows) rs
+
+-- a framework holds more, and so does its role; one that no role was told of counts for nobody
+abbrev pub given : Numbered → List Row → Tally → Tally
+given framework rows t = record t {
+  holders = given_holders framework rows t.holders;
+  roles = given_roles rows (find (is_holder framework) t.holders) t.roles;
+}
+
+abbrev pub holder_of : Numbered → List ℕ → Holder
+holder_of framework role = record { framework = framework; role = role; held = [] }
+
+abbrev pub role_sum_of : List ℕ → RoleSum
+role_sum_of role = record { role = role; held = [] }
+
+abbrev pub roles_with : List ℕ → List RoleSum → Option RoleSum → List RoleSum
+roles_with role rs None = rs ++ role_sum_of role ∷ []
+roles_with role rs (Some r) = rs
+
+abbrev pub with_holder : Numbered → List ℕ → Tally → Option Holder → Tally
+with_holder framework role t (Some h) = t
+with_holder framework role t None = record t {
+  holders = t.holders ++ holder_of framework role ∷ [];
+  roles = roles_with role t.roles (find (is_role role) t.roles);
+}
+
+-- a framework of this role is known, and holds nothing yet; the first role that is told of a framework counts
+abbrev pub with_role : Numbered → List ℕ → Tally → Tally
+with_role framework role t = with_holder framework role t (find (is_holder framework) t.holders)
+
+-- what is taken away again
+
+-- so much is there to be taken away of what agents own
+abbrev pub can_leave : List Row → Tally → Bool
+can_leave total t = covers t.totals total
+
+abbrev pub departed : List Row → Tally → Tally
+departed total t = record t { totals = rest_of t.totals total }
+
+abbrev pub role_has : List Row → Option RoleSum → Bool
+role_has rows None = false
+role_has rows (Some r) = covers r.held rows
+
+abbrev pub holder_has : List Row → List RoleSum → Option Holder → Bool
+holder_has rows rs None = false
+holder_has rows rs (Some h) = covers h.held rows && role_has rows (find (is_role h.role) rs)
+
+-- so much is there to be taken away of what a framework and its role hold
+abbrev pub can_back : Numbered → List Row → Tally → Bool
+can_back framework rows t = holder_has rows t.roles (find (is_holder framework) t.holders)
+
+abbrev pub returning : List Row → Holder → Holder
+returning rows h = record h { held = rest_of h.held rows }
+
+abbrev pub role_returning : List Row → RoleSum → RoleSum
+role_returning rows r = record r { held = rest_of r.held rows }
+
+abbrev pub returned_holders : Numbered → List Row → List Holder → List Holder
+returned_holders framework rows hs = at_first (is_holder framework) (returning rows) hs
+
+abbrev pub returned_roles : List Row → Option Holder → List RoleSum → List RoleSum
+returned_roles rows None rs = rs
+returned_roles rows (Some h) rs = at_first (is_role h.role) (role_returning rows) rs
+
+abbrev pub returned : Numbered → List Row → Tally → Tally
+returned framework rows t = record t {
+  holders = returned_holders framework rows t.holders;
+  roles = returned_roles rows (find (is_holder framework) t.holders) t.roles;
+}

@@ -1,0 +1,64 @@
+//! Frameworks and roles, with what they hold.
+
+ghost use Rattle.std.specs.Prelude.{◌≡◌};
+ghost use Rattle.drf_pick.specs.Shares.{is_holder, is_role, holder_of, role_sum_of};
+
+use crate::sum::Sum;
+use names_core::{FrameworkId, RoleName};
+use std::alloc::Global;
+
+/// A framework that may be picked.
+#[derive(Clone, Copy, Drop)]
+pub struct Client {
+    pub framework: FrameworkId,
+}
+
+/// A framework, its role, and the sum of what it holds.
+#[derive(Drop)]
+pub struct Holder {
+    pub framework: FrameworkId,
+    pub role: RoleName,
+    pub held: Sum,
+}
+
+/// A role, and the sum of what its frameworks hold.
+#[derive(Drop)]
+pub struct RoleSum {
+    pub role: RoleName,
+    pub held: Sum,
+}
+
+impl Holder {
+    pub(crate) fn new(alloc: Global, framework: FrameworkId, role: RoleName) -> Holder
+        ensures { result ≡ holder_of framework role }
+    {
+        Holder {
+            framework,
+            role,
+            held: Sum::new(alloc),
+        }
+    }
+
+    pub(crate) fn is_of(&self, framework: FrameworkId) -> bool
+        ensures { result ≡ is_holder framework self.now }
+    {
+        self.framework.number() == framework.number() && self.framework.run() == framework.run()
+    }
+}
+
+impl RoleSum {
+    pub(crate) fn new(alloc: Global, role: RoleName) -> RoleSum
+        ensures { result ≡ role_sum_of role }
+    {
+        RoleSum {
+            role,
+            held: Sum::new(alloc),
+        }
+    }
+
+    pub(crate) fn is_of(&self, role: &RoleName) -> bool
+        ensures { result ≡ is_role role.now self.now }
+    {
+        self.role.is(role)
+    }
+}

@@ -1,0 +1,29 @@
+//! What holds of shares: each function's contract is a law, and its call brings the law into a proof.
+
+ghost use Rattle.drf_pick.specs.Laws.{TestIsRelation, AmountsDecide, StandingIsOrder, SumsAdd, PicksLeast};
+
+/// The test over rows is the order of shares over all names: at each name that agents own, the first's share is at most the
+/// second's share of some name.
+pub fn test_is_relation()
+    ensures { TestIsRelation }
+{}
+
+/// How two stand depends on the amounts of each name alone.
+pub fn amounts_decide()
+    ensures { AmountsDecide }
+{}
+
+/// The order compares any two and is transitive.
+pub fn standing_is_order()
+    ensures { StandingIsOrder }
+{}
+
+/// Sums that stay below 2^64 - 1 have the sums of the amounts.
+pub fn sums_add()
+    ensures { SumsAdd }
+{}
+
+/// What is picked is one of the frameworks, and none comes before it.
+pub fn picks_least()
+    ensures { PicksLeast }
+{}

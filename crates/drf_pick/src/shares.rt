@@ -1,0 +1,278 @@
+//! What frameworks and roles hold, and what all agents own.
+
+ghost use Rattle.std.specs.Prelude.{◌≡◌, ◌++◌, ◌∷◌, [], true, false, Err, OnOk, OnErr};
+ghost use Rattle.std.specs.List.{find, position};
+ghost use Rattle.std.specs.Option.{option_copied};
+ghost use Rattle.drf_pick.specs.Shares.{is_holder, is_role, at_first, role_holding, given_holders, given_roles, entered, given, holder_of, roles_with, with_role, can_leave, departed, role_has, holder_has, can_back, role_returning, returned_holders, returned_roles, returned};
+
+use crate::fault::SharesFault;
+use crate::holder::{Holder, RoleSum};
+use crate::sum::Sum;
+use names_core::{FrameworkId, RoleName};
+use quantity::Resources;
+use std::alloc::{AllocError, Global};
+use std::marker::Model;
+
+/// The sum of what agents own, and the sums of what frameworks and roles hold of it.
+#[derive(Drop)]
+pub struct Shares {
+    pub(crate) totals: Sum,
+    pub(crate) holders: Vec<Holder>,
+    pub(crate) roles: Vec<RoleSum>,
+    pub(crate) nothing: Sum,
+}
+
+impl Model for Shares {
+    ghost use Rattle.std.specs.Prelude.{◌≡◌, []};
+    ghost use Rattle.drf_pick.specs.Shares.{Tally};
+
+    ghost Value = { Tally };
+
+    ghost view = { λ s. record { totals = s.totals; holders = s.holders.items; roles = s.roles.items } };
+
+    ghost invariant = { λ s. s.nothing ≡ [] };
+}
+
+fn holder_place(holders: &[Holder], framework: FrameworkId) -> Option<usize>
+    ensures { result ≡ position (is_holder framework) holders.now }
+{
+    holders.iter().position(|holder| holder.is_of(framework))
+}
+
+fn role_place(roles: &[RoleSum], role: &RoleName) -> Option<usize>
+    ensures { result ≡ position (is_role role.now) roles.now }
+{
+    roles.iter().position(|sum| sum.is_of(role))
+}
+
+pub(crate) fn find_holder(holders: &[Holder], framework: FrameworkId) -> Option<&Holder>
+    ensures { option_copied result ≡ find (is_holder framework) holders.now }
+{
+    holders.iter().find(|holder| holder.is_of(framework))
+}
+
+pub(crate) fn find_role<'a>(roles: &'a [RoleSum], role: &RoleName) -> Option<&'a RoleSum>
+    ensures { option_copied result ≡ find (is_role role.now) roles.entry.now }
+{
+    roles.iter().find(|sum| sum.is_of(role))
+}
+
+fn give_role(
+    roles: &mut Vec<RoleSum>,
+    alloc: Global,
+    role: &RoleName,
+    resources: &Resources,
+) -> Result<(), AllocError>
+    ensures ok { OnOk result (roles.new.items ≡ at_first (is_role role.now) (role_holding resources.now) roles.old.items) }
+    ensures err { OnErr result (roles.new.items ≡ roles.old.items) }
+{
+    let Some(place) = role_place(roles, role) else {
+        return Ok(());
+    };
+    let held = roles[place].held.plus(alloc, resources)?;
+    roles[place].held = held;
+    Ok(())
+}
+
+fn give_in(
+    holders: &mut Vec<Holder>,
+    roles: &mut Vec<RoleSum>,
+    alloc: Global,
+    framework: FrameworkId,
+    resources: &Resources,
+) -> Result<(), AllocError>
+    ensures holders { OnOk result (holders.new.items ≡ given_holders framework resources.now holders.old.items) }
+    ensures roles { OnOk result (roles.new.items ≡ given_roles resources.now (find (is_holder framework) holders.old.items) roles.old.items) }
+    ensures err { OnErr result ((holders.new.items ≡ holders.old.items) × (roles.new.items ≡ roles.old.items)) }
+{
+    let Some(place) = holder_place(holders, framework) else {
+        return Ok(());
+    };
+    let held = holders[place].held.plus(alloc, resources)?;
+    give_role(roles, alloc, &holders[place].role, resources)?;
+    holders[place].held = held;
+    Ok(())
+}
+
+fn back_role(
+    roles: &mut Vec<RoleSum>,
+    alloc: Global,
+    role: &RoleName,
+    resources: &Resources,
+) -> Result<(), SharesFault>
+    ensures ok { OnOk result (roles.new.items ≡ at_first (is_role role.now) (role_returning resources.now) roles.old.items) }
+    ensures covered { OnOk result (role_has resources.now (find (is_role role.now) roles.old.items) ≡ true) }
+    ensures refused { result ≡ Err SharesFault.NotHeld → role_has resources.now (find (is_role role.now) roles.old.items) ≡ false }
+    ensures err { OnErr result (roles.new.items ≡ roles.old.items) }
+{
+    let Some(place) = role_place(roles, role) else {
+        return Err(SharesFault::NotHeld);
+    };
+    match roles[place].held.minus(alloc, resources) {
+        Ok(held) => {
+            roles[place].held = held;
+            Ok(())
+        }
+        Err(fault) => Err(fault),
+    }
+}
+
+fn back_in(
+    holders: &mut Vec<Holder>,
+    roles: &mut Vec<RoleSum>,
+    alloc: Global,
+    framework: FrameworkId,
+    resources: &Resources,
+) -> Result<(), SharesFault>
+    ensures holders { OnOk result (holders.new.items ≡ returned_holders framework resources.now holders.old.items) }
+    ensures roles { OnOk result (roles.new.items ≡ returned_roles resources.now (find (is_holder framework) holders.old.items) roles.old.items) }
+    ensures covered { OnOk result (holder_has resources.now roles.old.items (find (is_holder framework) holders.old.items) ≡ true) }
+    ensures refused { result ≡ Err SharesFault.NotHeld → holder_has resources.now roles.old.items (find (is_holder framework) holders.old.items) ≡ false }
+    ensures err { OnErr result ((holders.new.items ≡ holders.old.items) × (roles.new.items ≡ roles.old.items)) }
+{
+    let Some(place) = holder_place(holders, framework) else {
+        return Err(SharesFault::NotHeld);
+    };
+    match holders[place].held.minus(alloc, resources) {
+        Ok(held) => match back_role(roles, alloc, &holders[place].role, resources) {
+            Ok(()) => {
+                holders[place].held = held;
+                Ok(())
+            }
+            Err(fault) => Err(fault),
+        },
+        Err(fault) => Err(fault),
+    }
+}
+
+fn add_role(roles: &mut Vec<RoleSum>, alloc: Global, role: &RoleName) -> Result<(), AllocError>
+    ensures ok { OnOk result (roles.new.items ≡ roles_with role.now roles.old.items (find (is_role role.now) roles.old.items)) }
+    ensures err { OnErr result (roles.new.items ≡ roles.old.items) }
+{
+    if find_role(roles, role).is_none() {
+        roles.push(RoleSum::new(alloc, role.copy(alloc)?))?;
+    }
+    Ok(())
+}
+
+fn add_holder(
+    holders: &mut Vec<Holder>,
+    roles: &mut Vec<RoleSum>,
+    alloc: Global,
+    framework: FrameworkId,
+    role: &RoleName,
+) -> Result<(), AllocError>
+    ensures holders { OnOk result (holders.new.items ≡ holders.old.items ++ holder_of framework role.now ∷ []) }
+    ensures roles { OnOk result (roles.new.items ≡ roles_with role.now roles.old.items (find (is_role role.now) roles.old.items)) }
+    ensures err { OnErr result ((holders.new.items ≡ holders.old.items) × (roles.new.items ≡ roles.old.items)) }
+{
+    let count = holders.len();
+    holders.push(Holder::new(alloc, framework, role.copy(alloc)?))?;
+    match add_role(roles, alloc, role) {
+        Ok(()) => Ok(()),
+        Err(fault) => {
+            holders.truncate(count);
+            Err(fault)
+        }
+    }
+}
+
+impl Shares {
+    /// Nothing is owned, and nobody holds anything. It takes no memory.
+    pub fn new(alloc: Global) -> Shares
+        ensures { result ≡ record { totals = []; holders = []; roles = [] } }
+    {
+        Shares {
+            totals: Sum::new(alloc),
+            holders: Vec::new(alloc),
+            roles: Vec::new(alloc),
+            nothing: Sum::new(alloc),
+        }
+    }
+
+    /// An agent owns this. `P2 OutOfMemory` changes nothing.
+    pub fn enter(&mut self, alloc: Global, total: &Resources) -> Result<(), SharesFault>
+        ensures ok { OnOk result (self.new ≡ entered total.now self.old) }
+        ensures err { OnErr result (self.new ≡ self.old) }
+    {
+        self.totals = self.totals.plus(alloc, total)?;
+        Ok(())
+    }
+
+    /// A framework has this role; it holds nothing yet. Of several roles that are told of a framework the first counts.
+    /// `P2 OutOfMemory` changes nothing.
+    pub fn role(
+        &mut self,
+        alloc: Global,
+        framework: FrameworkId,
+        role: &RoleName,
+    ) -> Result<(), SharesFault>
+        ensures ok { OnOk result (self.new ≡ with_role framework role.now self.old) }
+        ensures err { OnErr result (self.new ≡ self.old) }
+    {
+        if find_holder(&self.holders, framework).is_some() {
+            return Ok(());
+        }
+        add_holder(&mut self.holders, &mut self.roles, alloc, framework, role)?;
+        Ok(())
+    }
+
+    /// A framework holds more, and so does its role; what a framework holds that no role was told of counts for nobody.
+    /// `P2 OutOfMemory` changes nothing.
+    pub fn give(
+        &mut self,
+        alloc: Global,
+        framework: FrameworkId,
+        resources: &Resources,
+    ) -> Result<(), SharesFault>
+        ensures ok { OnOk result (self.new ≡ given framework resources.now self.old) }
+        ensures err { OnErr result (self.new ≡ self.old) }
+    {
+        give_in(
+            &mut self.holders,
+            &mut self.roles,
+            alloc,
+            framework,
+            resources,
+        )?;
+        Ok(())
+    }
+
+    /// An agent no longer owns this. `P1 NotHeld` where all agents own less of some name; a refusal changes nothing.
+    pub fn leave(&mut self, alloc: Global, total: &Resources) -> Result<(), SharesFault>
+        ensures ok { OnOk result (self.new ≡ departed total.now self.old) }
+        ensures covered { OnOk result (can_leave total.now self.old ≡ true) }
+        ensures refused { result ≡ Err SharesFault.NotHeld → can_leave total.now self.old ≡ false }
+        ensures err { OnErr result (self.new ≡ self.old) }
+    {
+        match self.totals.minus(alloc, total) {
+            Ok(rest) => {
+                self.totals = rest;
+                Ok(())
+            }
+            Err(fault) => Err(fault),
+        }
+    }
+
+    /// A framework and its role hold less. `P1 NotHeld` where no role was told of the framework, or where it or its role holds
+    /// less of some name; a refusal changes nothing.
+    pub fn back(
+        &mut self,
+        alloc: Global,
+        framework: FrameworkId,
+        resources: &Resources,
+    ) -> Result<(), SharesFault>
+        ensures ok { OnOk result (self.new ≡ returned framework resources.now self.old) }
+        ensures covered { OnOk result (can_back framework resources.now self.old ≡ true) }
+        ensures refused { result ≡ Err SharesFault.NotHeld → can_back framework resources.now self.old ≡ false }
+        ensures err { OnErr result (self.new ≡ self.old) }
+    {
+        back_in(
+            &mut self.holders,
+            &mut self.roles,
+            alloc,
+            framework,
+            resources,
+        )
+    }
+}

@@ -1,0 +1,6 @@
+mod Deeds
+mod Events
+mod Requests
+mod Responses
+mod Sent
+mod Turns

@@ -1,0 +1,5 @@
+pub mod Refusals
+pub mod Deeds
+pub mod Exchange
+pub mod Turns
+pub mod Memory

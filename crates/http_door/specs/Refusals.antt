@@ -1,0 +1,73 @@
+-- How a request is answered that is refused.
+use Rattle.std.specs.Prelude.{ℕ, List, codes}
+use Rattle.mails.specs.declared.refusal.MasterRefusal.{MasterRefusal}
+use Rattle.mails.specs.declared.refusal.MasterRefusal.TheVariants as master
+use Rattle.call_members.specs.declared.fault.CallFault.{CallFault}
+use Rattle.call_members.specs.declared.fault.CallFault.TheVariants as calls
+use Rattle.call_members.specs.Texts.{fault_text}
+use Rattle.http_text.specs.declared.status.Status.{Status}
+use Rattle.http_text.specs.declared.status.Status.TheVariants.{BadRequest, Forbidden, ServiceUnavailable}
+use Rattle.http_text.specs.Responses.{refusal_response}
+use Rattle.http_head.specs.Faults as heads
+use Rattle.http_door.specs.declared.refusal.BenchFault.{BenchFault}
+use Rattle.http_door.specs.declared.refusal.BenchFault.TheVariants as faults
+use Rattle.http_door.specs.declared.refusal.Refusal.{Refusal}
+use Rattle.http_door.specs.declared.refusal.Refusal.TheVariants.{Request, Call, Bench}
+
+unfoldable pub master_text : MasterRefusal → List ℕ
+master_text master.OtherRun = codes "G1 OtherRun"
+master_text master.OldSession = codes "G2 OldSession"
+master_text master.Closed = codes "G3 Closed"
+master_text master.NotOpen = codes "G4 NotOpen"
+master_text master.NotSubscribed = codes "M1 NotSubscribed"
+master_text master.WrongStream = codes "M2 WrongStream"
+master_text master.NoSuchFramework = codes "M3 NoSuchFramework"
+master_text master.LimitExceeded = codes "M4 LimitExceeded"
+
+abbrev pub master_status : MasterRefusal → Status
+master_status master.OtherRun = ServiceUnavailable
+master_status master.OldSession = ServiceUnavailable
+master_status master.Closed = ServiceUnavailable
+master_status master.NotOpen = ServiceUnavailable
+master_status master.NotSubscribed = Forbidden
+master_status master.WrongStream = BadRequest
+master_status master.NoSuchFramework = BadRequest
+master_status master.LimitExceeded = ServiceUnavailable
+
+unfoldable pub bench_text : BenchFault → List ℕ
+bench_text (faults.Master refusal) = master_text refusal
+bench_text faults.MasterOutOfMemory = codes "M5 OutOfMemory"
+bench_text faults.MasterDown = codes "C2 MasterDown"
+bench_text faults.HistoryFull = codes "C6 HistoryFull"
+bench_text faults.OutOfMemory = codes "H8 OutOfMemory"
+bench_text faults.NoSuchMail = codes "C1 NoSuchMail"
+bench_text faults.ForeignPass = codes "O1 ForeignPass"
+bench_text faults.SeatsSpent = codes "O5 SeatsSpent"
+
+abbrev pub bench_status : BenchFault → Status
+bench_status (faults.Master refusal) = master_status refusal
+bench_status faults.MasterOutOfMemory = ServiceUnavailable
+bench_status faults.MasterDown = ServiceUnavailable
+bench_status faults.HistoryFull = ServiceUnavailable
+bench_status faults.OutOfMemory = ServiceUnavailable
+bench_status faults.NoSuchMail = ServiceUnavailable
+bench_status faults.ForeignPass = ServiceUnavailable
+bench_status faults.SeatsSpent = ServiceUnavailable
+
+abbrev pub refusal_text : Refusal → List ℕ
+refusal_text (Request fault) = heads.fault_text fault
+refusal_text (Call fault) = fault_text fault
+refusal_text (Bench fault) = bench_text fault
+
+abbrev pub call_status : CallFault → Status
+call_status calls.OutOfMemory = ServiceUnavailable
+call_status (calls.Refused refusal) = BadRequest
+
+abbrev pub refusal_status : Refusal → Status
+refusal_status (Request fault) = heads.fault_status fault
+refusal_status (Call fault) = call_status fault
+refusal_status (Bench fault) = bench_status fault
+
+-- the whole response to a request that is refused
+abbrev pub refused : Refusal → List ℕ
+refused refusal = refusal_response (refusal_status refusal) (refusal_text refusal)

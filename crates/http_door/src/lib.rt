@@ -1,0 +1,22 @@
+//! The scheduler's HTTP endpoint, one connection at a time: calls are read from any inlet and put to any bench, and its answers
+//! go to any outlet (RFC 9112; Mesos scheduler HTTP API).
+#![tactic(auto)]
+
+mod bench;
+mod conn;
+mod gate;
+mod memory;
+mod outlet;
+mod refusal;
+mod send;
+mod stream;
+#[cfg(test)]
+mod tests;
+
+pub use bench::{Answer, Bench};
+pub use conn::serve_conn;
+pub use gate::{Gate, NoGate};
+pub use http_request::{Inlet, LinkFault};
+pub use memory::{Sink, Source};
+pub use outlet::Outlet;
+pub use refusal::{BenchFault, Refusal};

@@ -1,0 +1,98 @@
+//! Sending.
+
+ghost use Rattle.std.specs.Prelude.{◌≡◌, ◌<◌, ℕ, List, [], ◌∷◌, ◌++◌, OnOk, IsErrOf};
+ghost use Rattle.event_json.specs.Events.{event_text};
+ghost use Rattle.http_text.specs.Responses.{event_chunk};
+ghost use Rattle.http_request.specs.declared.fault.LinkFault.TheVariants.{Failed};
+ghost use Rattle.http_door.specs.Refusals.{refused};
+ghost use Rattle.http_door.specs.Turns.{Sends};
+
+use crate::outlet::Outlet;
+use crate::refusal::Refusal;
+use event_json::{Event, write_event};
+use http_request::LinkFault;
+use http_text::{chunk_front, event_chunk, refusal_response};
+use std::alloc::Global;
+
+/// The most bytes of an event's text that are copied behind their front, so that the chunk goes out in one write.
+const SMALL: usize = 4000;
+
+/// Writes a text whole.
+pub fn send<O: Outlet>(outlet: &mut O, text: &[u8]) -> Result<(), LinkFault>
+    requires { O.faults outlet.old < u64.MAX }
+    ensures sent { (sent : List ℕ) × O.writes outlet.old sent outlet.new × Sends result text.now sent }
+    ensures sound { OnOk result (O.faults outlet.new ≡ O.faults outlet.old) }
+    ensures link { IsErrOf result Failed → O.faults outlet.old < O.faults outlet.new }
+{
+    let mut at: usize = 0;
+    while at < text.len() {
+        match outlet.write(&text[at..]) {
+            Some(count) => at += count,
+            None => return Err(LinkFault::Failed),
+        }
+    }
+    Ok(())
+}
+
+/// Writes the response to a request that is refused.
+pub fn refuse<O: Outlet>(alloc: Global, outlet: &mut O, refusal: Refusal) -> Result<(), LinkFault>
+    requires { O.faults outlet.old < u64.MAX }
+    ensures sent { (sent : List ℕ) × O.writes outlet.old sent outlet.new × Sends result (refused refusal) sent }
+    ensures sound { OnOk result (O.faults outlet.new ≡ O.faults outlet.old) }
+    ensures link { IsErrOf result Failed → O.faults outlet.old < O.faults outlet.new }
+{
+    match refusal_response(alloc, refusal.status(), refusal.as_text()) {
+        Ok(text) => send(outlet, &text),
+        Err(_) => Err(LinkFault::OutOfMemory),
+    }
+}
+
+/// Writes a chunk that is too long to be copied, in three parts.
+fn send_parts<O: Outlet>(outlet: &mut O, front: &[u8], text: &[u8]) -> Result<(), LinkFault>
+    requires { O.faults outlet.old < u64.MAX }
+    ensures sent { (sent : List ℕ) × O.writes outlet.old sent outlet.new × Sends result (front.now ++ (text.now ++ 13 ∷ 10 ∷ [])) sent }
+    ensures sound { OnOk result (O.faults outlet.new ≡ O.faults outlet.old) }
+    ensures link { IsErrOf result Failed → O.faults outlet.old < O.faults outlet.new }
+{
+    match send(outlet, front) {
+        Ok(()) => {}
+        Err(fault) => return Err(fault),
+    }
+    match send(outlet, text) {
+        Ok(()) => {}
+        Err(fault) => return Err(fault),
+    }
+    send(outlet, b"\r\n")
+}
+
+/// Writes the chunk of an event with this text.
+fn send_chunk<O: Outlet>(alloc: Global, outlet: &mut O, text: &[u8]) -> Result<(), LinkFault>
+    requires { O.faults outlet.old < u64.MAX }
+    ensures sent { (sent : List ℕ) × O.writes outlet.old sent outlet.new × Sends result (event_chunk text.now) sent }
+    ensures sound { OnOk result (O.faults outlet.new ≡ O.faults outlet.old) }
+    ensures link { IsErrOf result Failed → O.faults outlet.old < O.faults outlet.new }
+{
+    if text.len() <= SMALL {
+        return match event_chunk(alloc, text) {
+            Ok(chunk) => send(outlet, &chunk),
+            Err(_) => Err(LinkFault::OutOfMemory),
+        };
+    }
+    match chunk_front(alloc, text.len()) {
+        Ok(front) => send_parts(outlet, &front, text),
+        Err(_) => Err(LinkFault::OutOfMemory),
+    }
+}
+
+/// Writes the chunk of an event.
+pub fn send_event<O: Outlet>(alloc: Global, outlet: &mut O, event: &Event) -> Result<(), LinkFault>
+    requires { O.faults outlet.old < u64.MAX }
+    ensures sent { (sent : List ℕ) × O.writes outlet.old sent outlet.new × Sends result (event_chunk (event_text event.now)) sent }
+    ensures sound { OnOk result (O.faults outlet.new ≡ O.faults outlet.old) }
+    ensures link { IsErrOf result Failed → O.faults outlet.old < O.faults outlet.new }
+{
+    match write_event(alloc, event) {
+        Ok(text) => send_chunk(alloc, outlet, &text),
+        Err(_) => Err(LinkFault::OutOfMemory),
+    }
+}

@@ -1,0 +1,3 @@
+pub mod Cuts
+mod CommaWords
+pub mod Judged

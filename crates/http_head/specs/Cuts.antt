@@ -1,0 +1,57 @@
+-- Where a part of a request ends: a head, a chunk's line, trailers. A line ends with a line feed, with or without a CR before it.
+use Rattle.std.specs.Prelude.{◌≡◌, ℕ, ◌+◌, ◌≤◌, Bool, false, List, [], ◌∷◌, length, take, Option, Some, None, if◌then◌else◌, ◌==◌}
+use Rattle.http_head.specs.declared.cut.Place.{Place}
+use Rattle.http_head.specs.declared.cut.Place.TheVariants.{Front, FrontCr, Inside, Start, StartCr, Line}
+use Rattle.http_head.specs.declared.cut.Scan.{Scan}
+
+-- a head, a chunk's line and trailers have at most so many bytes each, line ends and empty lines counted
+abbrev pub max_part : ℕ
+max_part = 16384
+
+-- the byte ends the part: it is the line feed of an empty line behind a line, or of the one line
+abbrev pub is_last : Place → ℕ → Bool
+is_last Front b = false
+is_last FrontCr b = false
+is_last Inside b = false
+is_last Start b = b == 10
+is_last StartCr b = b == 10
+is_last Line b = b == 10
+
+-- the place behind one more byte
+abbrev pub place_after : Place → ℕ → Place
+place_after Front b = if b == 10 then Front else (if b == 13 then FrontCr else Inside)
+place_after FrontCr b = if b == 10 then Front else Inside
+place_after Inside b = if b == 10 then Start else Inside
+place_after Start b = if b == 10 then Start else (if b == 13 then StartCr else Inside)
+place_after StartCr b = if b == 10 then Start else Inside
+place_after Line b = Line
+
+-- the place behind a text that begins at a place
+unfoldable pub place_behind : Place → List ℕ → Place
+place_behind place [] = place
+place_behind place (b ∷ bs) = place_behind (place_after place b) bs
+
+-- after n bytes, at this place: how many bytes lead to the part's end
+unfoldable pub cut_after : ℕ → Place → List ℕ → Option ℕ
+cut_after n place [] = None
+cut_after n place (b ∷ bs) = if is_last place b then Some (n + 1) else cut_after (n + 1) (place_after place b) bs
+
+-- how many bytes the part has that begins at this place: from `Front` a head, which is empty lines, lines and an empty line; from
+-- `Start` trailers, which are lines and an empty line; from `Line` one line
+abbrev pub cut_len : Place → List ℕ → Option ℕ
+cut_len place bytes = cut_after 0 place bytes
+
+-- the text is one part that was cut
+pub record IsCut (place : Place) (text : List ℕ) : Type 0 where
+  pub whole : cut_len place text ≡ Some (length text)
+  pub fits : length text ≤ max_part
+
+-- the text is nothing, or whole empty lines
+abbrev pub IsBlank : List ℕ → Type 0
+IsBlank text = place_behind Front text ≡ Front
+
+-- so many bytes of a text were looked through, and the part doesn't end in them
+pub record HasSeen (scan : Scan) (bytes : List ℕ) : Type 0 where
+  pub within : scan.seen ≤ length bytes
+  pub none : cut_len scan.start (take scan.seen bytes) ≡ None
+  pub place : scan.place ≡ place_behind scan.start (take scan.seen bytes)

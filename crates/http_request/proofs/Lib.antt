@@ -1,0 +1,4 @@
+pub mod Chunked
+pub mod Heads
+pub mod Parts
+pub mod Pieces
