@@ -1,0 +1,148 @@
+-- Which changes of an account or of a session are which changes of a side.
+use Rattle.std.proofs.Common.{◌≡◌, ℕ, Bool, true, false, List, ◌++◌, ◌∷◌, [], Option, Some, None, Result, Ok, Err, cond, map, refl, ap, ◌∙◌, arith}
+use Rattle.std.specs.Prelude.{◌==◌, nat_lt, nat_le}
+use Rattle.std.proofs.lemmas.Bool.Decides.{nat_tests}
+use Rattle.quantity.specs.Rows.{covers}
+use Rattle.mails.specs.declared.task.Offer.{Offer}
+use Rattle.mails.specs.declared.mail.Command.{Command}
+use Rattle.mails.specs.declared.task.Booked.{Booked}
+use Rattle.mails.specs.declared.refusal.MasterRefusal.{MasterRefusal}
+use Rattle.mails.specs.declared.refusal.MasterRefusal.TheVariants.{OldSession, Closed}
+use Rattle.cluster_model.specs.Sides.{Side, last_session, lost}
+use Rattle.cluster_model.specs.Mails.{judged_session}
+use Rattle.roster.specs.Sessions.{after_report, answered, judged_report, report_opens, reported, with_command}
+use Rattle.offer_book.specs.declared.account.Account.{Account}
+use Rattle.offer_book.specs.Accounts as accounts
+use Rattle.agent_sides.specs.Changes.{account_of, offering, reporting, side_of}
+use Rattle.agent_sides.specs.declared.sides.ConfiguredAgent.{ConfiguredAgent}
+use Rattle.agent_sides.specs.Joined.{AreOfOne, join, joined}
+use Rattle.agent_sides.proofs.Joining.{KeepsAccount, KeepsSide}
+
+pub offering_joins : (o : Offer) (s : Side) (a : Account) → s.total ≡ a.total → join s (accounts.offering o a) ≡ offering o (join s a)
+offering_joins o s a e = by (accounts.fits a o.resources) refl
+  where
+    same : covers s.total (o.resources ++ accounts.taken a) ≡ accounts.fits a o.resources
+    same = ap (λ total. covers total (o.resources ++ accounts.taken a)) e
+
+    by : (b : Bool) → accounts.fits a o.resources ≡ b → join s (accounts.offering o a) ≡ offering o (join s a)
+    by true h = rw (h, same ∙ h) refl
+    by false h = rw (h, same ∙ h) refl
+
+pub offering_keeps : (o : Offer) → KeepsAccount (accounts.offering o)
+offering_keeps o = record { name = λ a. name a (accounts.fits a o.resources) refl; total = λ a. total a (accounts.fits a o.resources) refl }
+  where
+    name : (a : Account) (b : Bool) → accounts.fits a o.resources ≡ b → (accounts.offering o a).name ≡ a.name
+    name a true h = rw h refl
+    name a false h = rw h refl
+
+    total : (a : Account) (b : Bool) → accounts.fits a o.resources ≡ b → (accounts.offering o a).total ≡ a.total
+    total a true h = rw h refl
+    total a false h = rw h refl
+
+pub command_joins : (command : Command) (s : Side) (a : Account) → join (with_command command s) a ≡ with_command command (join s a)
+command_joins command s a = by s.is_open refl
+  where
+    by : (b : Bool) → s.is_open ≡ b → join (with_command command s) a ≡ with_command command (join s a)
+    by true h = rw h refl
+    by false h = rw h refl
+
+pub command_keeps : (command : Command) → KeepsSide (with_command command)
+command_keeps command = record { name = λ s. name s s.is_open refl; total = λ s. total s s.is_open refl }
+  where
+    name : (s : Side) (b : Bool) → s.is_open ≡ b → (with_command command s).name ≡ s.name
+    name s true h = rw h refl
+    name s false h = rw h refl
+
+    total : (s : Side) (b : Bool) → s.is_open ≡ b → (with_command command s).total ≡ s.total
+    total s true h = rw h refl
+    total s false h = rw h refl
+
+-- sessions
+
+pub lost_joins : (s : Side) (a : Account) → s.is_open ≡ true → join (lost s) (accounts.reopened [] a) ≡ lost (join s a)
+lost_joins s a h = rw h refl
+
+pub lost_stays : (s : Side) (a : Account) → s.is_open ≡ false → join s a ≡ lost (join s a)
+lost_stays s a h = rw h refl
+
+pub lost_keeps : KeepsSide lost
+lost_keeps = record { name = λ s. name s s.is_open refl; total = λ s. total s s.is_open refl }
+  where
+    name : (s : Side) (b : Bool) → s.is_open ≡ b → (lost s).name ≡ s.name
+    name s true h = rw h refl
+    name s false h = rw h refl
+
+    total : (s : Side) (b : Bool) → s.is_open ≡ b → (lost s).total ≡ s.total
+    total s true h = rw h refl
+    total s false h = rw h refl
+
+pub report_keeps : (run session number : ℕ) → KeepsSide (after_report run session number)
+report_keeps run session number = record { name = λ s. name s (report_opens run s session number) refl; total = λ s. total s (report_opens run s session number) refl }
+  where
+    name : (s : Side) (b : Bool) → report_opens run s session number ≡ b → (after_report run session number s).name ≡ s.name
+    name s true h = rw h refl
+    name s false h = rw h refl
+
+    total : (s : Side) (b : Bool) → report_opens run s session number ≡ b → (after_report run session number s).total ≡ s.total
+    total s true h = rw h refl
+    total s false h = rw h refl
+
+-- a Report that is refused opens nothing
+
+below_open : (s : Side) (session : ℕ) (refusal : MasterRefusal) (c : Bool) → nat_lt session s.session ≡ c → s.is_open ≡ true → cond c (Some OldSession) None ≡ Some refusal → nat_lt (last_session s) session ≡ false
+below_open s session refusal true l h m = rw h (grind (arith, nat_tests))
+below_open s session refusal false l h m = absurd cc
+
+at_closed : (s : Side) (session : ℕ) (refusal : MasterRefusal) (c : Bool) → nat_le session s.closed ≡ c → s.is_open ≡ false → cond c (Some Closed) None ≡ Some refusal → nat_lt (last_session s) session ≡ false
+at_closed s session refusal true l h m = rw h (grind (arith, nat_tests))
+at_closed s session refusal false l h m = absurd cc
+
+refused_opens_not : (s : Side) (session : ℕ) (refusal : MasterRefusal) (b : Bool) → s.is_open ≡ b → judged_session s session None ≡ Some refusal → nat_lt (last_session s) session ≡ false
+refused_opens_not s session refusal true h e = below_open s session refusal (nat_lt session s.session) refl h (rw h at e)
+refused_opens_not s session refusal false h e = at_closed s session refusal (nat_le session s.closed) refl h (rw h at e)
+
+-- what a Report is answered tells whether it opens
+opens_by : (run : ℕ) (s : Side) (session number : ℕ) (judged : Option MasterRefusal) (b : Bool) → judged_report run s session number ≡ judged → answered judged (report_opens run s session number) ≡ Ok b → report_opens run s session number ≡ b
+opens_by run s session number None b j e = cc
+opens_by run s session number (Some refusal) b j e = absurd cc
+
+opens_if : (run : ℕ) (s : Side) (session number : ℕ) (b : Bool) → reported run s session number ≡ Ok b → report_opens run s session number ≡ b
+opens_if run s session number b e = opens_by run s session number (judged_report run s session number) b refl e
+
+same_run_opens_not : (run : ℕ) (s : Side) (session number : ℕ) (refusal : MasterRefusal) (b : Bool) → (number == run) ≡ b → judged_report run s session number ≡ Some refusal → report_opens run s session number ≡ false
+same_run_opens_not run s session number refusal true h e = rw h (refused_opens_not s session refusal s.is_open refl (rw h at e))
+same_run_opens_not run s session number refusal false h e = rw h refl
+
+closed_by : (run : ℕ) (s : Side) (session number : ℕ) (refusal : MasterRefusal) (judged : Option MasterRefusal) → judged_report run s session number ≡ judged → ◌≡◌ {A = Result Bool MasterRefusal} (answered judged (report_opens run s session number)) (Err refusal) → report_opens run s session number ≡ false
+closed_by run s session number refusal None j e = absurd cc
+closed_by run s session number refusal (Some other) j e = same_run_opens_not run s session number other (number == run) refl j
+
+closed_if : (run : ℕ) (s : Side) (session number : ℕ) (refusal : MasterRefusal) → reported run s session number ≡ Err refusal → report_opens run s session number ≡ false
+closed_if run s session number refusal e = closed_by run s session number refusal (judged_report run s session number) refl e
+
+-- a Report that opens, and one that doesn't
+
+pub report_opens_joins : (run session number : ℕ) (tasks : List Booked) (s : Side) (a : Account) → reported run s session number ≡ Ok true → join (after_report run session number s) (accounts.reopened tasks a) ≡ reporting run session number tasks (join s a)
+report_opens_joins run session number tasks s a e = let opens = opens_if run s session number true e in rw opens refl
+
+stays_closed : (run session number : ℕ) (tasks : List Booked) (s : Side) (a : Account) → report_opens run s session number ≡ false → join (after_report run session number s) a ≡ reporting run session number tasks (join s a)
+stays_closed run session number tasks s a e = rw e refl
+
+pub report_again_joins : (run session number : ℕ) (tasks : List Booked) (s : Side) (a : Account) → reported run s session number ≡ Ok false → join (after_report run session number s) a ≡ reporting run session number tasks (join s a)
+report_again_joins run session number tasks s a e = stays_closed run session number tasks s a (opens_if run s session number false e)
+
+pub report_refused_joins : (run session number : ℕ) (tasks : List Booked) (refusal : MasterRefusal) (s : Side) (a : Account) → reported run s session number ≡ Err refusal → join (after_report run session number s) a ≡ reporting run session number tasks (join s a)
+report_refused_joins run session number tasks refusal s a e = stays_closed run session number tasks s a (closed_if run s session number refusal e)
+
+pub reopened_keeps : (tasks : List Booked) → KeepsAccount (accounts.reopened tasks)
+reopened_keeps tasks = record { name = λ a. refl; total = λ a. refl }
+
+-- agents that just entered
+
+pub entered_joins : (agents : List ConfiguredAgent) → joined (map side_of agents) (map account_of agents) ≡ map side_of agents
+entered_joins [] = refl
+entered_joins (a ∷ agents) = ap (λ ss. side_of a ∷ ss) (entered_joins agents)
+
+pub entered_are_one : (agents : List ConfiguredAgent) → AreOfOne (map side_of agents) (map account_of agents)
+entered_are_one [] = tt
+entered_are_one (a ∷ agents) = (refl, refl, entered_are_one agents)

@@ -1,0 +1,134 @@
+-- Changes of the roster and of the book are changes of the sides.
+use Rattle.std.proofs.Common.{◌≡◌, ℕ, zero, suc, ◌<◌, ◌≤◌, length, get_or, arith, List, [], ◌∷◌, map, refl, sym, ap, subst, ◌∙◌, Result, Ok, Err, OnOk, OnErr, IfOk, IfErr}
+use Rattle.cluster_model.specs.Sides.{Side}
+use Rattle.roster.specs.Places.{at_place, told_at}
+use Rattle.offer_book.specs.declared.account.Account.{Account}
+use Rattle.offer_book.specs.Books as books
+use Rattle.agent_sides.specs.Joined.{AreOfOne, join, joined}
+
+-- a change of an account keeps its agent
+pub record KeepsAccount (g : Account → Account) : Type 0 where
+  pub name : (a : Account) → (g a).name ≡ a.name
+  pub total : (a : Account) → (g a).total ≡ a.total
+
+pub record KeepsSide (f : Side → Side) : Type 0 where
+  pub name : (s : Side) → (f s).name ≡ s.name
+  pub total : (s : Side) → (f s).total ≡ s.total
+
+-- all accounts change
+
+pub joined_map : (g : Account → Account) (h : Side → Side) → ((s : Side) (a : Account) → s.total ≡ a.total → join s (g a) ≡ h (join s a)) → (ss : List Side) (as_ : List Account) → AreOfOne ss as_ → joined ss (map g as_) ≡ map h (joined ss as_)
+joined_map g h same [] [] one = refl
+joined_map g h same [] (a ∷ as_) one = absurd one
+joined_map g h same (s ∷ ss) [] one = absurd one
+joined_map g h same (s ∷ ss) (a ∷ as_) one = rw (same s a one.1, joined_map g h same ss as_ one.2) refl
+
+pub one_map : (g : Account → Account) → KeepsAccount g → (ss : List Side) (as_ : List Account) → AreOfOne ss as_ → AreOfOne ss (map g as_)
+one_map g keeps [] [] one = one
+one_map g keeps [] (a ∷ as_) one = absurd one
+one_map g keeps (s ∷ ss) [] one = absurd one
+one_map g keeps (s ∷ ss) (a ∷ as_) one = (one.0 ∙ sym (keeps.name a), one.1 ∙ sym (keeps.total a), one_map g keeps ss as_ one.2)
+
+-- one account changes
+
+pub joined_book : (i : ℕ) (g : Account → Account) (h : Side → Side) → ((s : Side) (a : Account) → s.total ≡ a.total → join s (g a) ≡ h (join s a)) → (ss : List Side) (as_ : List Account) → AreOfOne ss as_ → joined ss (books.at_place i g as_) ≡ at_place i h (joined ss as_)
+joined_book i g h same [] [] one = refl
+joined_book i g h same [] (a ∷ as_) one = absurd one
+joined_book i g h same (s ∷ ss) [] one = absurd one
+joined_book zero g h same (s ∷ ss) (a ∷ as_) one = rw (same s a one.1) refl
+joined_book (suc i) g h same (s ∷ ss) (a ∷ as_) one = rw (joined_book i g h same ss as_ one.2) refl
+
+pub one_book : (i : ℕ) (g : Account → Account) → KeepsAccount g → (ss : List Side) (as_ : List Account) → AreOfOne ss as_ → AreOfOne ss (books.at_place i g as_)
+one_book i g keeps [] [] one = one
+one_book i g keeps [] (a ∷ as_) one = absurd one
+one_book i g keeps (s ∷ ss) [] one = absurd one
+one_book zero g keeps (s ∷ ss) (a ∷ as_) one = (one.0 ∙ sym (keeps.name a), one.1 ∙ sym (keeps.total a), one.2)
+one_book (suc i) g keeps (s ∷ ss) (a ∷ as_) one = (one.0, one.1, one_book i g keeps ss as_ one.2)
+
+-- one entry of the roster changes
+
+pub joined_roster : (i : ℕ) (f h : Side → Side) → ((s : Side) (a : Account) → join (f s) a ≡ h (join s a)) → (ss : List Side) (as_ : List Account) → AreOfOne ss as_ → joined (at_place i f ss) as_ ≡ at_place i h (joined ss as_)
+joined_roster i f h same [] [] one = refl
+joined_roster i f h same [] (a ∷ as_) one = absurd one
+joined_roster i f h same (s ∷ ss) [] one = absurd one
+joined_roster zero f h same (s ∷ ss) (a ∷ as_) one = rw (same s a) refl
+joined_roster (suc i) f h same (s ∷ ss) (a ∷ as_) one = rw (joined_roster i f h same ss as_ one.2) refl
+
+pub one_roster : (i : ℕ) (f : Side → Side) → KeepsSide f → (ss : List Side) (as_ : List Account) → AreOfOne ss as_ → AreOfOne (at_place i f ss) as_
+one_roster i f keeps [] [] one = one
+one_roster i f keeps [] (a ∷ as_) one = absurd one
+one_roster i f keeps (s ∷ ss) [] one = absurd one
+one_roster zero f keeps (s ∷ ss) (a ∷ as_) one = (keeps.name s ∙ one.0, keeps.total s ∙ one.1, one.2)
+one_roster (suc i) f keeps (s ∷ ss) (a ∷ as_) one = (one.0, one.1, one_roster i f keeps ss as_ one.2)
+
+-- what is told of a side's session
+
+pub joined_told : {X : Type 0} (i : ℕ) (tell : Side → X) (none : X) → ((s : Side) (a : Account) → tell s ≡ tell (join s a)) → (ss : List Side) (as_ : List Account) → AreOfOne ss as_ → told_at i tell none ss ≡ told_at i tell none (joined ss as_)
+joined_told i tell none same [] [] one = refl
+joined_told i tell none same [] (a ∷ as_) one = absurd one
+joined_told i tell none same (s ∷ ss) [] one = absurd one
+joined_told zero tell none same (s ∷ ss) (a ∷ as_) one = same s a
+joined_told (suc i) tell none same (s ∷ ss) (a ∷ as_) one = joined_told i tell none same ss as_ one.2
+
+-- what is so of the one is so of the other
+
+pub on_ok : {T E : Type 0} {P Q : Type 0} (r : Result T E) → (P → Q) → OnOk r P → OnOk r Q
+on_ok (Ok x) f p = f p
+on_ok (Err e) f p = tt
+
+pub on_err : {T E : Type 0} {P Q : Type 0} (r : Result T E) → (P → Q) → OnErr r P → OnErr r Q
+on_err (Ok x) f p = tt
+on_err (Err e) f p = f p
+
+pub if_ok : {T E : Type 0} {P Q : T → Type 0} (r : Result T E) → ((x : T) → P x → Q x) → IfOk r P → IfOk r Q
+if_ok (Ok x) f p = f x p
+if_ok (Err e) f p = tt
+
+pub if_err : {T E : Type 0} {P Q : E → Type 0} (r : Result T E) → ((e : E) → P e → Q e) → IfErr r P → IfErr r Q
+if_err (Ok x) f p = tt
+if_err (Err e) f p = f e p
+
+-- a thing is changed or it stays: what holds of both holds
+pub either_way : {T E X : Type 0} (P : X → Type 0) (r : Result T E) (now changed before : X) → OnOk r (now ≡ changed) → OnErr r (now ≡ before) → P changed → P before → P now
+either_way P (Ok x) now changed before ok err c b = subst P (sym ok) c
+either_way P (Err e) now changed before ok err c b = subst P (sym err) b
+
+-- a place in the roster
+
+pub told_here : {X : Type 0} (i : ℕ) (tell : Side → X) (none : X) (ss : List Side) (s : Side) → i < length ss → s ≡ get_or ss i s → tell s ≡ told_at i tell none ss
+told_here i tell none [] s within is = absurd (omega arith)
+told_here zero tell none (t ∷ ts) s within is = ap tell is
+told_here (suc i) tell none (t ∷ ts) s within is = told_here i tell none ts s (omega arith) is
+
+pub told_past : {X : Type 0} (i : ℕ) (tell : Side → X) (none : X) (ss : List Side) → length ss ≤ i → none ≡ told_at i tell none ss
+told_past i tell none [] past = refl
+told_past zero tell none (t ∷ ts) past = absurd (omega arith)
+told_past (suc i) tell none (t ∷ ts) past = told_past i tell none ts (omega arith)
+
+-- an entry and an account change together, where something is told of the entry
+
+pub joined_when : {X : Type 0} (i : ℕ) (f h : Side → Side) (g : Account → Account) (tell : Side → X) (none told : X) → ((s : Side) (a : Account) → tell s ≡ told → join (f s) (g a) ≡ h (join s a))
+    → (ss : List Side) (as_ : List Account) → AreOfOne ss as_ → told_at i tell none ss ≡ told → joined (at_place i f ss) (books.at_place i g as_) ≡ at_place i h (joined ss as_)
+joined_when i f h g tell none told same [] [] one is = refl
+joined_when i f h g tell none told same [] (a ∷ as_) one is = absurd one
+joined_when i f h g tell none told same (s ∷ ss) [] one is = absurd one
+joined_when zero f h g tell none told same (s ∷ ss) (a ∷ as_) one is = rw (same s a is) refl
+joined_when (suc i) f h g tell none told same (s ∷ ss) (a ∷ as_) one is = rw (joined_when i f h g tell none told same ss as_ one.2 is) refl
+
+-- an entry changes alone, where something is told of it
+pub joined_if : {X : Type 0} (i : ℕ) (f h : Side → Side) (tell : Side → X) (none told : X) → ((s : Side) (a : Account) → tell s ≡ told → join (f s) a ≡ h (join s a))
+    → (ss : List Side) (as_ : List Account) → AreOfOne ss as_ → told_at i tell none ss ≡ told → joined (at_place i f ss) as_ ≡ at_place i h (joined ss as_)
+joined_if i f h tell none told same [] [] one is = refl
+joined_if i f h tell none told same [] (a ∷ as_) one is = absurd one
+joined_if i f h tell none told same (s ∷ ss) [] one is = absurd one
+joined_if zero f h tell none told same (s ∷ ss) (a ∷ as_) one is = rw (same s a is) refl
+joined_if (suc i) f h tell none told same (s ∷ ss) (a ∷ as_) one is = rw (joined_if i f h tell none told same ss as_ one.2 is) refl
+
+-- nothing changes, where something is told of the entry
+pub joined_same : {X : Type 0} (i : ℕ) (h : Side → Side) (tell : Side → X) (none told : X) → ((s : Side) (a : Account) → tell s ≡ told → join s a ≡ h (join s a))
+    → (ss : List Side) (as_ : List Account) → AreOfOne ss as_ → told_at i tell none ss ≡ told → joined ss as_ ≡ at_place i h (joined ss as_)
+joined_same i h tell none told same [] [] one is = refl
+joined_same i h tell none told same [] (a ∷ as_) one is = absurd one
+joined_same i h tell none told same (s ∷ ss) [] one is = absurd one
+joined_same zero h tell none told same (s ∷ ss) (a ∷ as_) one is = ap (λ t. t ∷ joined ss as_) (same s a is)
+joined_same (suc i) h tell none told same (s ∷ ss) (a ∷ as_) one is = ap (λ ts. join s a ∷ ts) (joined_same i h tell none told same ss as_ one.2 is)

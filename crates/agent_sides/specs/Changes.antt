@@ -1,0 +1,34 @@
+-- What steps change of a side.
+use Rattle.std.specs.Prelude.{ℕ, not, if◌then◌else◌, List, [], ◌∷◌, ◌++◌, filter}
+use Rattle.names_core.specs.Ids.{Numbered}
+use Rattle.mails.specs.declared.task.Offer.{Offer}
+use Rattle.mails.specs.declared.task.Booked.{Booked}
+use Rattle.quantity.specs.Rows.{covers}
+use Rattle.cluster_model.specs.Sides.{Side, new_side, opened, taken}
+use Rattle.cluster_model.specs.Masters.{is_of}
+use Rattle.roster.specs.Sessions.{report_opens}
+use Rattle.offer_book.specs.declared.account.Account.{Account}
+use Rattle.offer_book.specs.Accounts.{new_account}
+use Rattle.agent_sides.specs.declared.sides.ConfiguredAgent.{ConfiguredAgent}
+
+abbrev pub without_offers_of : Numbered → Side → Side
+without_offers_of framework s = record s { offers = filter (λ o. not (is_of framework o)) s.offers }
+
+-- with one more offer, where it fits the total
+abbrev pub offering : Offer → Side → Side
+offering o s = if covers s.total (o.resources ++ taken s) then record s { offers = s.offers ++ o ∷ [] } else s
+
+abbrev pub with_task : Booked → Side → Side
+with_task b s = record s { booked = s.booked ++ b ∷ [] }
+
+-- a Report is heard with these tasks: where it opens a session, the session is open and the tasks are booked
+abbrev pub reporting : ℕ → ℕ → ℕ → List Booked → Side → Side
+reporting run session number tasks s = if report_opens run s session number then opened s session tasks else s
+
+-- a configured agent that has not yet opened a session
+
+abbrev pub side_of : ConfiguredAgent → Side
+side_of a = new_side a.name a.total
+
+abbrev pub account_of : ConfiguredAgent → Account
+account_of a = new_account a.name a.total

@@ -1,0 +1,73 @@
+//! An agent's session, offers and tasks go together.
+
+use super::*;
+use listed::Listed;
+use mails::{Booked, Command, Job, Offer};
+use names_core::{AgentName, FrameworkId, LaunchKey, OfferId, Run, TaskName, TaskState};
+use quantity::Resources;
+use std::alloc::Global;
+use std::test::Fail;
+
+fn cpus(alloc: Global, amount: u64) -> Result<Resources, Fail> {
+    let mut resources = Resources::new(alloc);
+    resources.add(alloc, "cpus", amount)?;
+    Ok(resources)
+}
+
+fn one_agent(alloc: Global) -> Result<Sides, Fail> {
+    let mut agents = Vec::new(alloc);
+    agents.push(ConfiguredAgent {
+        name: AgentName::from_text(alloc, "a1")?,
+        total: cpus(alloc, 4)?,
+    })?;
+    Ok(Sides::of(alloc, &agents)?)
+}
+
+#[test]
+fn commands_are_numbered_in_the_open_session(rt: HostRuntime) -> Result<(), Fail> {
+    let alloc = rt.alloc();
+    let mut sides = one_agent(alloc)?;
+    let key = LaunchKey::new(1, 1);
+    assert!(rt; sides.issue(0, Command::Kill(key)) == Ok(None));
+    let opens = sides.report(alloc, 0, Run::new(1), 1, 1, Listed::new(alloc));
+    assert!(rt; opens == Ok(true));
+    let again = sides.report(alloc, 0, Run::new(1), 1, 1, Listed::new(alloc));
+    assert!(rt; again == Ok(false));
+    assert!(rt; sides.issue(0, Command::Kill(key)) == Ok(Some(1)));
+    assert!(rt; sides.issue(0, Command::Kill(key)) == Ok(Some(2)));
+    sides.lose(alloc, 0);
+    assert!(rt; sides.issue(0, Command::Kill(key)) == Ok(None));
+    assert!(rt; sides.issue(1, Command::Kill(key)) == Ok(None));
+    Ok(())
+}
+
+#[test]
+fn each_step_is_made(rt: HostRuntime) -> Result<(), Fail> {
+    let alloc = rt.alloc();
+    let mut sides = one_agent(alloc)?;
+    let framework = FrameworkId::new(1, 1);
+    let id = OfferId::new(1, 1);
+    let offer = Offer {
+        id,
+        framework,
+        resources: cpus(alloc, 3)?,
+    };
+    sides.offer_at(alloc, 0, offer)?;
+    let job = Job {
+        key: LaunchKey::new(1, 1),
+        framework,
+        name: TaskName::from_text(alloc, "t1")?,
+        resources: cpus(alloc, 1)?,
+    };
+    let task = Booked {
+        job,
+        ended: false,
+        heard: 0,
+        state: TaskState::Staging,
+    };
+    sides.book_at(0, task)?;
+    sides.withdraw_named(framework, &[id]);
+    sides.withdraw_at(0, &[id]);
+    sides.withdraw_of(framework);
+    Ok(())
+}
