@@ -1,6 +1,7 @@
 -- Good openings: records over which a cluster may be opened.
 use Rattle.std.specs.Prelude.{◌≢◌, ℕ, ◌≤◌, ◌<◌, List, [], ◌∷◌, map, flat_map, sum_by, ⊤}
 use Rattle.std.specs.List.{AllByRecursion as Each}
+use Rattle.names_core.specs.Ids.{Numbered}
 use Rattle.quantity.specs.Rows.{amount}
 use Rattle.mails.specs.declared.task.Job.{Job}
 use Rattle.mails.specs.declared.record.Durable.{Durable}
@@ -13,6 +14,10 @@ RecordFits d = (name : List ℕ) → sum_by (λ t. amount name t.job.resources) 
 -- the tasks of all records
 abbrev pub recorded_jobs : List Durable → List Job
 recorded_jobs records = flat_map (λ d. map (λ t. t.job) d.tasks) records
+
+-- the offers that the tasks of all records came from
+abbrev pub recorded_offers : List Durable → List Numbered
+recorded_offers records = flat_map (λ d. flat_map (λ t. t.offers) d.tasks) records
 
 -- no launch key stands twice
 abbrev pub KeysOnce : List Job → Type 0
@@ -28,5 +33,7 @@ pub record GoodOpening (run : ℕ) (records : List Durable) : Type 0 where
   pub fits : Each RecordFits records
   pub older : Each (λ d. d.run < run) records
   pub keys_older : Each (λ j. j.key.run < run) (recorded_jobs records)
+  pub frameworks_older : Each (λ j. j.framework.run < run) (recorded_jobs records)
+  pub offers_older : Each (λ id. id.run < run) (recorded_offers records)
   pub keys_once : KeysOnce (recorded_jobs records)
   pub names_once : NamesOnce (map (λ d. d.name) records)

@@ -63,12 +63,13 @@ down_retold p session run (Hello r dead) h = h
 down_retold p session run (Issued s number what) h = h
 
 state_retold : (p : Past) (next : Numbered) (total : List Row) (a : Agent) (run : ℕ) → StateOk p next total a → StateOk (retold_past p a.session run) next total a
-state_retold p next total a run s = record { owns = s.owns; told = told_before p a.session run a.session (le_refl a.session) ∙ s.told; peak = s.peak; applied = s.applied; distinct = s.distinct; below = s.below; room = s.room; ends = s.ends }
+state_retold p next total a run s = record { owns = s.owns; told = told_before p a.session run a.session (le_refl a.session) ∙ s.told; peak = s.peak; applied = s.applied; distinct = s.distinct; below = s.below; room = s.room; ends = s.ends; grown = s.grown }
 
 facts_retold : (p : Past) (l : InRun) (run : ℕ) → Facts p l → l.draft ≡ None → l.agent.run ≤ run → run ≤ p.latest → Facts (retold_past p l.agent.session run) l
 facts_retold p l run f none le most = record {
   past = past_retold p l.agent.session run f.past (rw s.told le) most;
   run = f.run;
+  unsent = f.unsent;
   when_open = λ e. let o = f.when_open e in record { session = o.session; told = peak_same ∙ o.told; issued = o.issued; known = o.known; torn = o.torn; covered = o.covered };
   when_shut = λ e. let o = f.when_shut e in record { offers = o.offers; booked = o.booked; closed = rw peak_same o.closed };
   states = (state_retold p l.next_key l.total l.agent run s, subst (λ d. Each (StateOk (retold_past p l.agent.session run) l.next_key l.total) (drafted d)) (sym none) tt);
@@ -84,12 +85,12 @@ facts_retold p l run f none le most = record {
     peak_same = told_before p l.agent.session run p.peak s.peak
 
 -- a draft that may stand, with what is then told of the past
-abbrev pub Draftable : InRun → Draft → Type 0
-Draftable l d = (p : Past) × Facts p l × DraftOk p l.next_key l.total l.agent d
+abbrev pub Draftable : (Numbered → List TaskState) → InRun → Draft → Type 0
+Draftable sent l d = (p : Past) × Facts p l × DraftOk p l.next_key l.total l.agent d × (p.sent ≡ sent)
 
-draft_reopened : (p : Past) (l : InRun) (session run : ℕ) → Facts p l → l.draft ≡ None → l.agent.session < session → l.agent.run ≤ run → run ≤ p.latest → Draftable l (reports (reopened l.agent session run))
+draft_reopened : (p : Past) (l : InRun) (session run : ℕ) → Facts p l → l.draft ≡ None → l.agent.session < session → l.agent.run ≤ run → run ≤ p.latest → Draftable p.sent l (reports (reopened l.agent session run))
 draft_reopened p l session run f none lt le most =
-    (q, g, record { follows = fol; ok = ok; mails = (report_ok q l.next_key l.total (reopened l.agent session run) g.past ok, fronts_ok q l.next_key l.total (reopened l.agent session run) ok) })
+    (q, g, record { follows = fol; ok = ok; mails = (report_ok q l.next_key l.total (reopened l.agent session run) g.past ok, fronts_ok q l.next_key l.total (reopened l.agent session run) ok) }, refl)
   where
     q : Past
     q = retold_past p l.agent.session run
@@ -103,13 +104,13 @@ draft_reopened p l session run f none lt le most =
     ok : StateOk q l.next_key l.total (reopened l.agent session run)
     ok = ok_followed q l.next_key l.total (reopened l.agent session run) l.agent fol g.states.0 refl (told_after p l.agent.session run session lt) (λ e. zero-le) (λ e. tt)
 
-draft_same : (p : Past) (l : InRun) (mails : List AgentMail) → Facts p l → Each (UpOk p l.next_key l.total (l.agent ∷ [])) mails → Draftable l (record { after = l.agent; mails = mails })
-draft_same p l mails f h = (p, f, record { follows = follows_refl p l.agent; ok = f.states.0; mails = h })
+draft_same : (p : Past) (l : InRun) (mails : List AgentMail) → Facts p l → Each (UpOk p l.next_key l.total (l.agent ∷ [])) mails → Draftable p.sent l (record { after = l.agent; mails = mails })
+draft_same p l mails f h = (p, f, record { follows = follows_refl p l.agent; ok = f.states.0; mails = h }, refl)
 
 draft_executor : (p : Past) (l : InRun) (key : Numbered) (state : TaskState) → Facts p l →
-    Draftable l (record { after = with_tasks l.agent (map (stated key state) l.agent.tasks) l.agent.applied; mails = if l.agent.in_session then front_at key (with_tasks l.agent (map (stated key state) l.agent.tasks) l.agent.applied) else [] })
+    Draftable p.sent l (record { after = with_tasks l.agent (map (stated key state) l.agent.tasks) l.agent.applied; mails = if l.agent.in_session then front_at key (with_tasks l.agent (map (stated key state) l.agent.tasks) l.agent.applied) else [] })
 draft_executor p l key state f =
-    (p, f, record { follows = fol; ok = ok; mails = cond_both l.agent.in_session (front_at key after) [] (Each (UpOk p l.next_key l.total (after ∷ []))) (λ e. front_at_ok p l.next_key l.total after key ok) (λ e. tt) })
+    (p, f, record { follows = fol; ok = ok; mails = cond_both l.agent.in_session (front_at key after) [] (Each (UpOk p l.next_key l.total (after ∷ []))) (λ e. front_at_ok p l.next_key l.total after key ok) (λ e. tt) }, refl)
   where
     after : Agent
     after = with_tasks l.agent (map (stated key state) l.agent.tasks) l.agent.applied
@@ -138,10 +139,10 @@ fades_command p a w up at_place = rw (coming_next p a w up at_place) (rw up (by_
     before = map task_stake a.tasks
 
     by_kind : (v : Command) → Fades (map task_stake (tasks_after v a.tasks) ++ launches rest) (before ++ launches (v ∷ rest))
-    by_kind (Launch job offers) = subst (λ ss. Fades ss (before ++ record { job = job; ended = false } ∷ launches rest)) (sym moved) (fades_refl (before ++ record { job = job; ended = false } ∷ launches rest))
+    by_kind (Launch job offers) = subst (λ ss. Fades ss (before ++ record { job = job; ended = false; states = [] } ∷ launches rest)) (sym moved) (fades_refl (before ++ record { job = job; ended = false; states = [] } ∷ launches rest))
       where
         one : Stake
-        one = record { job = job; ended = false }
+        one = record { job = job; ended = false; states = [] }
 
         moved : map task_stake (a.tasks ++ launched_task job offers ∷ []) ++ launches rest ≡ before ++ one ∷ launches rest
         moved = ap (λ ss. ss ++ launches rest) (map-append task_stake a.tasks (launched_task job offers ∷ [])) ∙ append_assoc before (one ∷ []) (launches rest)
@@ -170,9 +171,9 @@ ends_command p a (EndFramework framework) past up at_place = (
     behind : Ordered (EndFramework framework ∷ drop (suc a.applied) (p.ever a.session))
     behind = subst Ordered (drop_get (p.ever a.session) a.applied (EndFramework framework) at_place) (ordered_drop a.applied (p.ever a.session) (past.ordered a.session))
 
-draft_command : (p : Past) (l : InRun) (w : Command) → Facts p l → l.agent.in_session ≡ true → l.agent.session ≤ p.peak → slice_get (p.ever l.agent.session) l.agent.applied ≡ Some w → Draftable l (applies l.agent w)
+draft_command : (p : Past) (l : InRun) (w : Command) → Facts p l → l.agent.in_session ≡ true → l.agent.session ≤ p.peak → slice_get (p.ever l.agent.session) l.agent.applied ≡ Some w → Draftable p.sent l (applies l.agent w)
 draft_command p l w f up peak at_place =
-    (p, f, record { follows = fol; ok = ok; mails = (applied_ok p l.next_key l.total after peak up ok, by_kind w after ok) })
+    (p, f, record { follows = fol; ok = ok; mails = (applied_ok p l.next_key l.total after peak up ok, by_kind w after ok) }, refl)
   where
     after : Agent
     after = after_command l.agent w
@@ -206,18 +207,18 @@ CauseOk p Again = ⊤
 CauseOk p (Mail to) = ⊥
 CauseOk p (Executor key state) = ⊤
 
-reopen_ok : (p : Past) (l : InRun) (last run : ℕ) → Facts p l → l.draft ≡ None → l.agent.session ≤ last → l.agent.run ≤ run → run ≤ p.latest → AllOk (Draftable l) (opens_next l.agent last run)
-reopen_ok p l last run f none le higher most = all_if (nat_le last_number last) (Err SessionsSpent) (Ok (reports (reopened l.agent (suc last) run))) (Draftable l)
+reopen_ok : (p : Past) (l : InRun) (last run : ℕ) → Facts p l → l.draft ≡ None → l.agent.session ≤ last → l.agent.run ≤ run → run ≤ p.latest → AllOk (Draftable p.sent l) (opens_next l.agent last run)
+reopen_ok p l last run f none le higher most = all_if (nat_le last_number last) (Err SessionsSpent) (Ok (reports (reopened l.agent (suc last) run))) (Draftable p.sent l)
     (λ e. tt) (λ e. draft_reopened p l (suc last) run f none (omega arith) higher most)
 
-pub next_ok : (p : Past) (l : InRun) (c : Cause) → Facts p l → l.draft ≡ None → CauseOk p c → AllOk (Draftable l) (next_of l.agent c)
-next_ok p l Start f none h = all_if (eqb l.agent.run 0) (Err OldSession) (opens_next l.agent l.agent.session l.agent.run) (Draftable l)
+pub next_ok : (p : Past) (l : InRun) (c : Cause) → Facts p l → l.draft ≡ None → CauseOk p c → AllOk (Draftable p.sent l) (next_of l.agent c)
+next_ok p l Start f none h = all_if (eqb l.agent.run 0) (Err OldSession) (opens_next l.agent l.agent.session l.agent.run) (Draftable p.sent l)
     (λ e. tt) (λ e. reopen_ok p l l.agent.session l.agent.run f none (le_refl l.agent.session) (le_refl l.agent.run) (subst (λ n. n ≤ p.latest) f.states.0.told (f.past.runs l.agent.session)))
 next_ok p l Again f none h = draft_same p l (fronts l.agent) f (fronts_ok p l.next_key l.total l.agent f.states.0)
 next_ok p l (Executor key state) f none h =
-    all_if (not (list_any (is_task key) l.agent.tasks)) (Err NoSuchTask) third (Draftable l) (λ e. tt)
-    (λ e. all_if (list_any (λ t. is_task key t && has_ended t) l.agent.tasks) (Err Ended) second (Draftable l) (λ d. tt)
-    (λ d. all_if (needs_place state && list_any (λ t. is_task key t && is_full t.updates) l.agent.tasks) (Err UpdatesFull) first (Draftable l) (λ c. tt)
+    all_if (not (list_any (is_task key) l.agent.tasks)) (Err NoSuchTask) third (Draftable p.sent l) (λ e. tt)
+    (λ e. all_if (list_any (λ t. is_task key t && has_ended t) l.agent.tasks) (Err Ended) second (Draftable p.sent l) (λ d. tt)
+    (λ d. all_if (needs_place state && list_any (λ t. is_task key t && is_full t.updates) l.agent.tasks) (Err UpdatesFull) first (Draftable p.sent l) (λ c. tt)
     (λ c. draft_executor p l key state f)))
   where
     first : Result Draft AgentRefusal
@@ -231,24 +232,24 @@ next_ok p l (Executor key state) f none h =
 next_ok p l (Mail to) f none h = absurd h
 
 -- a mail that was sent to the agent
-pub mail_ok : (p : Past) (l : InRun) (m : MasterMail) → Facts p l → l.draft ≡ None → DownOk p m → AllOk (Draftable l) (hears_mail l.agent m)
+pub mail_ok : (p : Past) (l : InRun) (m : MasterMail) → Facts p l → l.draft ≡ None → DownOk p m → AllOk (Draftable p.sent l) (hears_mail l.agent m)
 mail_ok p l (Hello run dead) f none h =
-    all_if (nat_lt run l.agent.run) (Err OldSession) later (Draftable l) (λ e. tt)
-    (λ e. all_if ((nat_lt l.agent.run run || nat_le l.agent.session dead) || not l.agent.in_session) (opens_next l.agent (max l.agent.session dead) run) (Ok (reports l.agent)) (Draftable l)
+    all_if (nat_lt run l.agent.run) (Err OldSession) later (Draftable p.sent l) (λ e. tt)
+    (λ e. all_if ((nat_lt l.agent.run run || nat_le l.agent.session dead) || not l.agent.in_session) (opens_next l.agent (max l.agent.session dead) run) (Ok (reports l.agent)) (Draftable p.sent l)
     (λ d. reopen_ok p l (max l.agent.session dead) run f none (omega arith) (let k : l.agent.run ≤ run = grind (arith, nat_tests) in k) h)
-    (λ d. (p, f, draft_retold p l.next_key l.total l.agent f.past f.states.0)))
+    (λ d. (p, f, draft_retold p l.next_key l.total l.agent f.past f.states.0, refl)))
   where
     later : Result Draft AgentRefusal
     later = if (nat_lt l.agent.run run || nat_le l.agent.session dead) || not l.agent.in_session then opens_next l.agent (max l.agent.session dead) run else Ok (reports l.agent)
 mail_ok p l (Issued session number what) f none h =
-    all_if (not (l.agent.in_session && session == l.agent.session)) (Err OldSession) third (Draftable l) (λ e. tt)
+    all_if (not (l.agent.in_session && session == l.agent.session)) (Err OldSession) third (Draftable p.sent l) (λ e. tt)
     (λ e. let both = both_true l.agent.in_session (eqb session l.agent.session) (not_false (l.agent.in_session && session == l.agent.session) e) in
     let same : session ≡ l.agent.session = (Decides-eqb session l.agent.session).0 both.1 in
     let peak : l.agent.session ≤ p.peak = subst (λ s. s ≤ p.peak) same h.0 in
-    all_if (nat_le number l.agent.applied) (Ok (record { after = l.agent; mails = Applied l.agent.session l.agent.applied ∷ [] })) second (Draftable l)
+    all_if (nat_le number l.agent.applied) (Ok (record { after = l.agent; mails = Applied l.agent.session l.agent.applied ∷ [] })) second (Draftable p.sent l)
     (λ d. draft_same p l (Applied l.agent.session l.agent.applied ∷ []) f (applied_ok p l.next_key l.total l.agent peak both.0 f.states.0, tt))
-    (λ d. all_if (not (number == suc l.agent.applied)) (Err NotNext) first (Draftable l) (λ c. tt)
-    (λ c. all_if (has_room l.agent what) (Ok (applies l.agent what)) (Err NoRoom) (Draftable l)
+    (λ d. all_if (not (number == suc l.agent.applied)) (Err NotNext) first (Draftable p.sent l) (λ c. tt)
+    (λ c. all_if (has_room l.agent what) (Ok (applies l.agent what)) (Err NoRoom) (Draftable p.sent l)
     (λ b. draft_command p l what f both.0 peak (at_place same ((Decides-eqb number (suc l.agent.applied)).0 (not_false (eqb number (suc l.agent.applied)) c))))
     (λ b. tt))))
   where

@@ -1,5 +1,5 @@
 -- What an honest framework has acknowledged of a task is a beginning of its updates.
-use Rattle.std.proofs.Common.{◌≡◌, ℕ, suc, zero, ◌<◌, ◌≤◌, Bool, true, false, not, ◌&&◌, ◌||◌, List, [], ◌∷◌, ◌++◌, length, map, fold, Option, Some, None, Result, Ok, Err, refl, sym, ap, ◌∙◌, subst, inl, inr, le_trans, arith}
+use Rattle.std.proofs.Common.{◌≡◌, ℕ, suc, zero, ◌<◌, ◌≤◌, Bool, true, false, not, ◌&&◌, ◌||◌, List, [], ◌∷◌, ◌++◌, length, map, fold, Option, Some, None, Result, Ok, Err, refl, sym, ap, ◌∙◌, subst, inl, inr, le_trans, slice_get, arith}
 use Rattle.std.specs.Prelude.{◌⊎◌, ◌==◌, if◌then◌else◌, max, flat_map}
 use Rattle.std.specs.List.{AllByRecursion as Each}
 use Rattle.std.proofs.lemmas.Bool.{cond_both, cases_Bool, cases_lt}
@@ -7,6 +7,7 @@ use Rattle.std.proofs.lemmas.Bool.Decides.{nat_tests}
 use Rattle.std.proofs.lemmas.List.Folds.{list_any-append}
 use Rattle.std.proofs.lemmas.List.Sums.{fold-append}
 use Rattle.names_core.specs.Ids.{Numbered}
+use Rattle.names_core.specs.declared.state.TaskState.{TaskState}
 use Rattle.mails.specs.declared.task.Job.{Job}
 use Rattle.mails.specs.declared.record.Durable.{Durable}
 use Rattle.mails.specs.declared.record.RecordedTask.{RecordedTask}
@@ -28,8 +29,11 @@ use Rattle.cluster_safe.proofs.Orders.{each_append}
 use Rattle.cluster_safe.proofs.Drafts.{both_true}
 use Rattle.cluster_safe.proofs.Worlds.{all_room}
 use Rattle.cluster_safe.proofs.Events.{TellOk, EventOk}
-use Rattle.cluster_safe.proofs.Below.{longer_left, longer_right, count, over_more, over_append}
-use Rattle.cluster_safe.proofs.Histories.{Legal, NotCall, Sends, AckedBy, Tellable, told_count, HandedOk, HistoryOk, all_tell, step_legal, extend_ok, jobs_grow, trail_append, number_tells, no_calls, once_same, history_ok, opening_ok}
+use Rattle.cluster_safe.proofs.Counts.{longer_left, longer_right, count, over_more, over_append}
+use Rattle.cluster_safe.proofs.OriginWorlds.{OriginOk}
+use Rattle.cluster_safe.proofs.Openings.{origin_opened}
+use Rattle.cluster_safe.proofs.Owners.{update_there}
+use Rattle.cluster_safe.proofs.Histories.{Legal, NotCall, Sends, AckedBy, Before, Tellable, updates_in, HandedOk, HistoryOk, all_tell, step_legal, extend_ok, jobs_grow, trail_append, number_tells, no_calls, once_same, history_ok, opening_ok}
 
 -- numbers in a list
 
@@ -183,25 +187,30 @@ opened_tasks (d ∷ ds) = ap (λ ts. d.tasks ++ ts) (opened_tasks ds)
 
 -- what was told
 
-event_told : (A : Numbered → ℕ → Type 0) (key : Numbered) (k : ℕ) (e : Event) → TellOk A e → Tells key k e → A key k
-event_told A key k (UPDATE task state agent (Some uuid)) ok h = subst (λ x. A x k) h.0 (subst (A uuid.key) h.1 ok)
-event_told A key k (UPDATE task state agent None) ok h = absurd h
-event_told A key k (SUBSCRIBED framework) ok h = absurd h
-event_told A key k (OFFERS offers) ok h = absurd h
-event_told A key k (RESCIND offer) ok h = absurd h
-event_told A key k (FAILURE agent) ok h = absurd h
-event_told A key k FAILED_OVER ok h = absurd h
-event_told A key k REMOVED ok h = absurd h
-event_told A key k HEARTBEAT ok h = absurd h
+event_told : (A : List ℕ → Numbered → ℕ → TaskState → Type 0) (B : Numbered → ℕ → Type 0) → ((agent : List ℕ) (key : Numbered) (k : ℕ) (state : TaskState) → A agent key k state → B key k) → (key : Numbered) (k : ℕ) (e : Event) → TellOk A e → Tells key k e → B key k
+event_told A B f key k (UPDATE task state None (Some uuid)) ok h = absurd ok
+event_told A B f key k (UPDATE task state (Some agent) (Some uuid)) ok h = subst (λ x. B x k) h.0 (subst (B uuid.key) h.1 (f agent uuid.key uuid.k state ok))
+event_told A B f key k (UPDATE task state agent None) ok h = absurd h
+event_told A B f key k (SUBSCRIBED framework) ok h = absurd h
+event_told A B f key k (OFFERS offers) ok h = absurd h
+event_told A B f key k (RESCIND offer) ok h = absurd h
+event_told A B f key k (FAILURE agent) ok h = absurd h
+event_told A B f key k FAILED_OVER ok h = absurd h
+event_told A B f key k REMOVED ok h = absurd h
+event_told A B f key k HEARTBEAT ok h = absurd h
 
-was_told : (A : Numbered → ℕ → Type 0) (key : Numbered) (k : ℕ) (ts : List Told) → Each (EventOk A) ts → WasTold key k ts → A key k
-was_told A key k [] ok h = absurd h
-was_told A key k (t ∷ ts) ok (inl h) = event_told A key k t.event ok.0 h
-was_told A key k (t ∷ ts) ok (inr h) = was_told A key k ts ok.1 h
+was_told : (A : List ℕ → Numbered → ℕ → TaskState → Type 0) (B : Numbered → ℕ → Type 0) → ((agent : List ℕ) (key : Numbered) (k : ℕ) (state : TaskState) → A agent key k state → B key k) → (key : Numbered) (k : ℕ) (ts : List Told) → Each (EventOk A) ts → WasTold key k ts → B key k
+was_told A B f key k [] ok h = absurd h
+was_told A B f key k (t ∷ ts) ok (inl h) = event_told A B f key k t.event ok.0 h
+was_told A B f key k (t ∷ ts) ok (inr h) = was_told A B f key k ts ok.1 h
 
-each_handed : (A : Numbered → ℕ → Type 0) (es : List Entry) → Each (HandedOk A) es → Each (EventOk A) (handed_in es)
+each_handed : (A : List ℕ → Numbered → ℕ → TaskState → Type 0) (es : List Entry) → Each (HandedOk A) es → Each (EventOk A) (handed_in es)
 each_handed A [] h = tt
 each_handed A (e ∷ es) h = each_append (EventOk A) e.outs.taken (handed_in es) h.0 (each_handed A es h.1)
+
+-- how many updates of a key there were
+abbrev pub told_count : World → List Happening → Numbered → ℕ
+told_count start hs key = length (updates_of key hs start)
 
 -- the framework of all jobs under a key
 abbrev pub Owns : Numbered → Numbered → List Job → Type 0
@@ -217,34 +226,39 @@ acked_has records start h framework key owns j a = by a.3
     by (inl sent) = fold_sent framework key h.state.posts (up_to (counted key (recorded_tasks records))) j (subst (λ f. WasSent f key j h.state.posts) (owns a.0 a.1 a.2) sent)
     by (inr once) = fold_keeps framework key h.state.posts (up_to (counted key (recorded_tasks records))) j (reached (counted key (recorded_tasks records)) j (counted_above key j (recorded_tasks records) once))
 
-call_ready : (records : List Durable) (start : World) (h : History) (framework key : Numbered) → HistoryOk records start h → Owns framework key (all_jobs records start h.happenings) → (stream : Option Numbered) (call : Call) → IsHonestCall framework h.entries call → Ready framework key (told_count start h.happenings key) (acknowledged_by records framework key h.state.posts) (Called stream call)
-call_ready records start h framework key ok owns stream (Acknowledge f agent task uuid) honest k names = (λ j lt. acked_has records start h framework key owns j (told.0 j lt), told.1)
+within : (xs : List TaskState) (k : ℕ) (state : TaskState) → slice_get xs k ≡ Some state → k < length xs
+within [] k state h = absurd cc
+within (x ∷ xs) zero state h = omega arith
+within (x ∷ xs) (suc k) state h = (let lt = within xs k state h in omega arith)
+
+call_ready : (records : List Durable) (start : World) (h : History) (framework key : Numbered) → HistoryOk records start h → OriginOk records start [] → Owns framework key (all_jobs records start h.happenings) → (stream : Option Numbered) (call : Call) → IsHonestCall framework h.entries call → Ready framework key (told_count start h.happenings key) (acknowledged_by records framework key h.state.posts) (Called stream call)
+call_ready records start h framework key ok origin owns stream (Acknowledge f agent task uuid) honest k names = (λ j lt. acked_has records start h framework key owns j (told.0 j lt), told.1)
   where
-    T : Numbered → ℕ → Type 0
+    T : List ℕ → Numbered → ℕ → TaskState → Type 0
     T = Tellable records start h.happenings h.state.posts
 
-    told : Tellable records start h.happenings h.state.posts key k
-    told = was_told T key k (handed_in h.entries) (each_handed T h.entries ok.handed) (subst (λ x. WasTold x k (handed_in h.entries)) names.1 (subst (λ n. WasTold uuid.key n (handed_in h.entries)) names.2 (honest names.0)))
-call_ready records start h framework key ok owns stream (Subscribe f role) honest k names = absurd names
-call_ready records start h framework key ok owns stream (Teardown f) honest k names = absurd names
-call_ready records start h framework key ok owns stream (Accept f offers tasks seconds) honest k names = absurd names
-call_ready records start h framework key ok owns stream (Decline f offers seconds) honest k names = absurd names
-call_ready records start h framework key ok owns stream (Revive f) honest k names = absurd names
-call_ready records start h framework key ok owns stream (Suppress f) honest k names = absurd names
-call_ready records start h framework key ok owns stream (calls.Kill f task agent) honest k names = absurd names
-call_ready records start h framework key ok owns stream (Reconcile f tasks) honest k names = absurd names
+    told : Before (AckedBy records (trail h.happenings start []) h.state.posts) key k × (k < told_count start h.happenings key)
+    told = was_told T (λ i n. Before (AckedBy records (trail h.happenings start []) h.state.posts) i n × (n < told_count start h.happenings i)) (λ a i n s x. (x.0, within (updates_of i h.happenings start) n s (update_there records h.happenings start a i n s origin x.1))) key k (handed_in h.entries) (each_handed T h.entries ok.handed) (subst (λ x. WasTold x k (handed_in h.entries)) names.1 (subst (λ n. WasTold uuid.key n (handed_in h.entries)) names.2 (honest names.0)))
+call_ready records start h framework key ok origin owns stream (Subscribe f role) honest k names = absurd names
+call_ready records start h framework key ok origin owns stream (Teardown f) honest k names = absurd names
+call_ready records start h framework key ok origin owns stream (Accept f offers tasks seconds) honest k names = absurd names
+call_ready records start h framework key ok origin owns stream (Decline f offers seconds) honest k names = absurd names
+call_ready records start h framework key ok origin owns stream (Revive f) honest k names = absurd names
+call_ready records start h framework key ok origin owns stream (Suppress f) honest k names = absurd names
+call_ready records start h framework key ok origin owns stream (calls.Kill f task agent) honest k names = absurd names
+call_ready records start h framework key ok origin owns stream (Reconcile f tasks) honest k names = absurd names
 
 -- one step, and all
 
 wider : (most later : ℕ) (ks : List ℕ) → most ≤ later → Gapless most ks → Gapless later ks
 wider most later ks le g = (g.0, g.1, le_trans g.2 le)
 
-extended_gapless : (records : List Durable) (start : World) (h : History) (framework key : Numbered) (r : Result Done StepRefusal) → HistoryOk records start h → Owns framework key (all_jobs records start h.happenings) → Legal (AckedBy records (trail h.happenings start []) h.state.posts) (Tellable records start h.happenings h.state.posts) (λ stream call. IsHonestCall framework h.entries call) h.state r →
+extended_gapless : (records : List Durable) (start : World) (h : History) (framework key : Numbered) (r : Result Done StepRefusal) → HistoryOk records start h → OriginOk records start [] → Owns framework key (all_jobs records start h.happenings) → Legal (AckedBy records (trail h.happenings start []) h.state.posts) (Tellable records start h.happenings h.state.posts) (λ stream call. IsHonestCall framework h.entries call) h.state r →
     Gapless (told_count start h.happenings key) (acknowledged_by records framework key h.state.posts) → Gapless (told_count start (extended h r).happenings key) (acknowledged_by records framework key (extended h r).state.posts)
-extended_gapless records start h framework key (Ok d) ok owns l g =
+extended_gapless records start h framework key (Ok d) ok origin owns l g =
     wider most later (acknowledged_by records framework key d.after.posts) grown (subst (λ ps. Gapless most (acknowledged_by records framework key ps)) (sym l.4.1)
     (subst (Gapless most) (sym (fold-append (noted framework key) (up_to (counted key (recorded_tasks records))) h.state.posts l.4.0))
-    (posts_gapless (λ stream call. IsHonestCall framework h.entries call) framework key most (acknowledged_by records framework key h.state.posts) l.4.0 g (call_ready records start h framework key ok owns) l.4.2)))
+    (posts_gapless (λ stream call. IsHonestCall framework h.entries call) framework key most (acknowledged_by records framework key h.state.posts) l.4.0 g (call_ready records start h framework key ok origin owns) l.4.2)))
   where
     most : ℕ
     most = told_count start h.happenings key
@@ -254,7 +268,7 @@ extended_gapless records start h framework key (Ok d) ok owns l g =
 
     grown : told_count start h.happenings key ≤ told_count start (h.happenings ++ d.happenings) key
     grown = subst (λ xs. told_count start h.happenings key ≤ length xs) (sym (over_append key h.happenings d.happenings start (recorded_states key start))) (over_more key d.happenings (after_all h.happenings start) (updates_of key h.happenings start))
-extended_gapless records start h framework key (Err refusal) ok owns l g = g
+extended_gapless records start h framework key (Err refusal) ok origin owns l g = g
 
 jobs_step : (records : List Durable) (start : World) (h : History) (r : Result Done StepRefusal) (j : Job) → IsOneOf j (all_jobs records start h.happenings) → IsOneOf j (all_jobs records start (extended h r).happenings)
 jobs_step records start h (Ok d) j x = subst (λ ms. IsOneOf j (jobs_of ms ++ recorded_jobs records)) (sym (trail_append h.happenings d.happenings start [])) (jobs_grow d.happenings (after_all h.happenings start) (trail h.happenings start []) (recorded_jobs records) j x)
@@ -267,13 +281,13 @@ jobs_kept records start (s ∷ ss) h j x = jobs_kept records start ss (extended 
 honest_send : (framework : Numbered) (entries : List Entry) (s : Step) → IsHonestStep framework entries s → (stream : Option Numbered) (call : Call) → s ≡ Send stream call → IsHonestCall framework entries call
 honest_send framework entries s h stream call e = subst (IsHonestStep framework entries) e h
 
-all_gapless : (records : List Durable) (start : World) (framework key : Numbered) (ss : List Marked) (h : History) → HistoryOk records start h → Honest framework h ss → Owns framework key (all_jobs records start (extend_all h ss).happenings) →
+all_gapless : (records : List Durable) (start : World) (framework key : Numbered) (ss : List Marked) (h : History) → HistoryOk records start h → OriginOk records start [] → Honest framework h ss → Owns framework key (all_jobs records start (extend_all h ss).happenings) →
     Gapless (told_count start h.happenings key) (acknowledged_by records framework key h.state.posts) → Gapless (told_count start (extend_all h ss).happenings key) (acknowledged_by records framework key (extend_all h ss).state.posts)
-all_gapless records start framework key [] h ok honest owns g = g
-all_gapless records start framework key (s ∷ ss) h ok honest owns g =
-    all_gapless records start framework key ss (extended h (step_marked h.state s)) (extend_ok records start (s ∷ []) h ok) honest.1 owns
-    (extended_gapless records start h framework key (step_marked h.state s) ok (λ j x e. owns j (jobs_kept records start (s ∷ ss) h j x) e)
-    (step_legal (AckedBy records (trail h.happenings start []) h.state.posts) (Tellable records start h.happenings h.state.posts) (λ stream call. IsHonestCall framework h.entries call) h.state (all_room h.state.world ok.world) (number_tells records h.state (trail h.happenings start []) ok.origin) (all_tell records start h ok) s (honest_send framework h.entries s.step honest.0)) g)
+all_gapless records start framework key [] h ok origin honest owns g = g
+all_gapless records start framework key (s ∷ ss) h ok origin honest owns g =
+    all_gapless records start framework key ss (extended h (step_marked h.state s)) (extend_ok records start (s ∷ []) h ok) origin honest.1 owns
+    (extended_gapless records start h framework key (step_marked h.state s) ok origin (λ j x e. owns j (jobs_kept records start (s ∷ ss) h j x) e)
+    (step_legal (AckedBy records (trail h.happenings start []) h.state.posts) (Tellable records start h.happenings h.state.posts) (λ stream call. IsHonestCall framework h.entries call) h.state (all_room (updates_in start h.happenings) h.state.world ok.sent.world) (number_tells records h.state (trail h.happenings start []) ok.origin ok.known) (all_tell records start h ok) s (honest_send framework h.entries s.step honest.0)) g)
 
 opening_gapless : (run : ℕ) (records : List Durable) (framework key : Numbered) → AcknowledgeTheirs records → Gapless (told_count (open_world run records) (opening run records).happenings key) (acknowledged_by records framework key (opening run records).state.posts)
 opening_gapless run records framework key theirs = (
@@ -285,7 +299,7 @@ opening_gapless run records framework key theirs = (
 pub history_acknowledges : (run : ℕ) (records : List Durable) (steps : List Marked) (framework key : Numbered) → GoodOpening run records → AcknowledgeTheirs records → Honest framework (opening run records) steps → IsKeyOf framework key (jobs_of (trail (history run records steps).happenings (open_world run records) []) ++ recorded_jobs records) →
     IsBeginningOf (updates_of key (history run records steps).happenings (open_world run records)) (acknowledged_by records framework key (history run records steps).state.posts)
 history_acknowledges run records steps framework key good theirs honest of =
-    all_gapless records (open_world run records) framework key steps (opening run records) (opening_ok run records good) honest owns (opening_gapless run records framework key theirs)
+    all_gapless records (open_world run records) framework key steps (opening run records) (opening_ok run records good) (origin_opened run records good) honest owns (opening_gapless run records framework key theirs)
   where
     owns : Owns framework key (all_jobs records (open_world run records) (history run records steps).happenings)
     owns j x e = ap (λ (i : Job). i.framework) (once_same (all_jobs records (open_world run records) (history run records steps).happenings) j of.0 (history_ok run records steps good).origin.keys.once x of.1 (e ∙ sym of.2)) ∙ of.3

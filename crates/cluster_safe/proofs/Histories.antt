@@ -24,7 +24,7 @@ use Rattle.cluster_model.specs.Agents.{Agent, Draft, has_ended, is_task, front_a
 use Rattle.cluster_model.specs.Sides.{Run, Side}
 use Rattle.cluster_model.specs.Channels.{Channel, AgentStep, Draw, DrawMail, Adopt, StopWithout, StopWith, Hear, ByAgent, World, Happening, At, Restart, Halt, after, after_all, open_channel, open_world, AllFit}
 use Rattle.cluster_model.specs.Openings.{recorded_jobs, KeysOnce, GoodOpening}
-use Rattle.cluster_model.specs.Events.{Event}
+use Rattle.cluster_model.specs.Events.{Event, SUBSCRIBED, OFFERS, RESCIND, UPDATE, FAILURE, FAILED_OVER, REMOVED, HEARTBEAT}
 use Rattle.cluster_model.specs.Masters.{Framework, Master, new_registers, Doing, framework_of, Placed, placed_on, all_booked, is_task_of}
 use Rattle.cluster_model.specs.Calls.{is_last_heard, called}
 use Rattle.cluster_model.specs.Mails.{mailed, ticked, agent_lost, hung_up}
@@ -38,12 +38,16 @@ use Rattle.cluster_safe.specs.Origin.{Mark, Made, Used, marks_by, trail, IsOneOf
 use Rattle.cluster_safe.proofs.Ids.{same_is}
 use Rattle.cluster_safe.proofs.Orders.{each_append, each_map, each_both}
 use Rattle.cluster_safe.proofs.Drafts.{both_true}
-use Rattle.cluster_safe.proofs.Worlds.{WorldOk, world_after_all, world_opened, all_fit, all_room}
+use Rattle.cluster_safe.proofs.Worlds.{Sents, world_opened, all_fit, all_room}
+use Rattle.cluster_safe.proofs.Sent.{Begins, MailAt, MailsIn, SentOk, get_begins, all_over, all_begin, sent_append, sent_alike, worlds_sent, opened_sent, IsExact, all_exact}
 use Rattle.cluster_safe.proofs.Told.{TaskTold, Carried, told_wider}
 use Rattle.cluster_safe.proofs.Origins.{Any, in_behind, in_front_of}
-use Rattle.cluster_safe.proofs.OriginWorlds.{ChannelOk, OriginOk, origin_all, has_origin}
-use Rattle.cluster_safe.proofs.Openings.{opening_good, origin_opened}
+use Rattle.cluster_safe.proofs.OriginWorlds.{ChannelOk, OriginOk, origin_all, has_origin, tasks_from}
+use Rattle.cluster_safe.proofs.Openings.{opening_good, opening_from, origin_opened}
+use Rattle.cluster_safe.proofs.Launches.{AllFrom, number_rises, worlds_from, opened_from}
+use Rattle.cluster_safe.proofs.Registers.{IsUpTo, AllUpTo, StaysUpTo, found_up_to, called_up_to, mailed_up_to, ticked_up_to, lost_up_to, hung_up_to}
 use Rattle.cluster_safe.proofs.Stopped.{apart_one, on_of, rec_of, found_good}
+use Rattle.cluster_safe.proofs.Owners.{updates_there, update_there}
 use Rattle.cluster_safe.proofs.Acks.{Always, AllAcked, HappeningOk, MoveOk, worlds_acked, happenings_ok, CallOk, called_ok, mailed_ok, ticked_ok, lost_ok, hung_ok, allocated_ok}
 use Rattle.names_core.specs.Updates.{Update}
 use Rattle.cluster_safe.proofs.Names.{AllNamed, open_named, worlds_named}
@@ -53,12 +57,11 @@ use Rattle.cluster_model.specs.Events.{Told}
 use Rattle.cluster_model.specs.Steps.{Effect, new_to_agent, new_to_master, places, posts_between, posts_by, posts_in, told_on, hears, new_stream, streams_after, takes_one}
 use Rattle.cluster_safe.proofs.Events.{TellOk, EventOk, MailOk, allocated_events, called_events, event_wider, hung_events, lost_events, mailed_events, ticked_events}
 use Rattle.cluster_safe.proofs.Orders.{each_at}
-use Rattle.std.proofs.Common.{◌≤◌, le_trans, arith}
+use Rattle.std.proofs.Common.{le_trans, le_refl}
 use Rattle.mails.specs.declared.mail.AgentMail.TheVariants.{Report, Applied}
 use Rattle.mails.specs.declared.mail.AgentMail.TheVariants as mails
-use Rattle.cluster_safe.specs.Updates.{recorded_states, updates_over, updates_of}
+use Rattle.cluster_safe.specs.Updates.{updates_of, states_on, sent_over, updates_on, TellsUpdate, TellsUpdates, HandsUpdates, HaveAllUpdates}
 use Rattle.cluster_safe.proofs.Told.{UpTold}
-use Rattle.cluster_safe.proofs.Below.{MailBelow, Below, below_within, count_over, worlds_below, over_more, over_append, opened_below}
 
 -- a found one has what each has
 found : {A : Type 0} (P : A → Type 0) (test : A → Bool) (Q : Option A → Type 0) → Q None → ((x : A) → P x → Q (Some x)) → (xs : List A) → Each P xs → Q (find test xs)
@@ -86,20 +89,20 @@ Sends S (Called stream call ∷ []) = S stream call
 Sends S (Called stream call ∷ post ∷ more) = ⊥
 
 -- T holds of each update on a stream
-abbrev pub StreamOk : (Numbered → ℕ → Type 0) → Stream → Type 0
+abbrev pub StreamOk : (List ℕ → Numbered → ℕ → TaskState → Type 0) → Stream → Type 0
 StreamOk T s = Each (TellOk T) s.events
 
 -- T holds of each update that an entry hands out
-abbrev pub HandedOk : (Numbered → ℕ → Type 0) → Entry → Type 0
+abbrev pub HandedOk : (List ℕ → Numbered → ℕ → TaskState → Type 0) → Entry → Type 0
 HandedOk T e = Each (EventOk T) e.outs.taken
 
 -- T holds of each update that was sent to the master
-abbrev pub AllTell : (Numbered → ℕ → Type 0) → World → Type 0
-AllTell T w = Each (λ (c : Channel). Each (MailOk T) c.to_master) w.channels
+abbrev pub AllTell : (List ℕ → Numbered → ℕ → TaskState → Type 0) → World → Type 0
+AllTell T w = Each (λ (c : Channel). Each (MailOk (T c.side.name)) c.to_master) w.channels
 
--- what a step that isn't refused does: what happens, what it answers, what it tells and what it sends; T holds of each update that it tells, and S of a call that it sends
-abbrev pub Legal : (Numbered → ℕ → Type 0) → (Numbered → ℕ → Type 0) → (Option Numbered → Call → Type 0) → Cluster → Result Done StepRefusal → Type 0
-Legal A T S c (Ok d) = (d.after.world ≡ after_all d.happenings c.world) × NotNoRoom d.entry.verdict × Each (HappeningOk A) d.happenings × Each (EventOk T) d.entry.outs.events × ((more : List Post) × (d.after.posts ≡ c.posts ++ more) × (Each NotCall more ⊎ Sends S more)) × (Each (StreamOk T) c.streams → Each (StreamOk T) d.after.streams × HandedOk T d.entry)
+-- what a step that isn't refused does: what happens, what it answers, what it tells and what it sends, and the frameworks that are then known; T holds of each update that it tells, and S of a call that it sends
+abbrev pub Legal : (Numbered → ℕ → Type 0) → (List ℕ → Numbered → ℕ → TaskState → Type 0) → (Option Numbered → Call → Type 0) → Cluster → Result Done StepRefusal → Type 0
+Legal A T S c (Ok d) = (d.after.world ≡ after_all d.happenings c.world) × NotNoRoom d.entry.verdict × Each (HappeningOk A c.world.run.number) d.happenings × Each (EventOk T) d.entry.outs.events × ((more : List Post) × (d.after.posts ≡ c.posts ++ more) × (Each NotCall more ⊎ Sends S more)) × (Each (StreamOk T) c.streams → Each (StreamOk T) d.after.streams × HandedOk T d.entry) × (AllUpTo c.world.run.number c.registers.frameworks → AllUpTo c.world.run.number d.after.registers.frameworks)
 Legal A T S c (Err refusal) = ⊤
 
 downs_no_calls : (agent : List ℕ) (ns : List ℕ) → Each NotCall (map (Down agent) ns)
@@ -121,33 +124,33 @@ pub no_calls : (hs : List Happening) (w : World) → Each NotCall (posts_by hs w
 no_calls [] w = tt
 no_calls (h ∷ hs) w = each_append NotCall (posts_between w.channels (after w h).channels) (posts_by hs (after w h)) (between_no_calls w.channels (after w h).channels) (no_calls hs (after w h))
 
-told_on_ok : (T : Numbered → ℕ → Type 0) (id : Numbered) (ts : List Told) → Each (EventOk T) ts → Each (TellOk T) (told_on id ts)
+told_on_ok : (T : List ℕ → Numbered → ℕ → TaskState → Type 0) (id : Numbered) (ts : List Told) → Each (EventOk T) ts → Each (TellOk T) (told_on id ts)
 told_on_ok T id [] h = tt
 told_on_ok T id (t ∷ ts) h = each_append (TellOk T) (if same t.stream id then t.event ∷ [] else []) (told_on id ts) (cond_both (same t.stream id) (t.event ∷ []) [] (Each (TellOk T)) (λ e. (h.0, tt)) (λ e. tt)) (told_on_ok T id ts h.1)
 
-heard_ok : (T : Numbered → ℕ → Type 0) (ts : List Told) (ss : List Stream) → Each (EventOk T) ts → Each (StreamOk T) ss → Each (StreamOk T) (map (hears ts) ss)
+heard_ok : (T : List ℕ → Numbered → ℕ → TaskState → Type 0) (ts : List Told) (ss : List Stream) → Each (EventOk T) ts → Each (StreamOk T) ss → Each (StreamOk T) (map (hears ts) ss)
 heard_ok T ts [] h k = tt
 heard_ok T ts (s ∷ ss) h k = (each_append (TellOk T) s.events (told_on s.id ts) k.0 (told_on_ok T s.id ts h), heard_ok T ts ss h k.1)
 
-new_ok : (T : Numbered → ℕ → Type 0) (ids : List Numbered) → Each (StreamOk T) (map new_stream ids)
+new_ok : (T : List ℕ → Numbered → ℕ → TaskState → Type 0) (ids : List Numbered) → Each (StreamOk T) (map new_stream ids)
 new_ok T [] = tt
 new_ok T (id ∷ ids) = (tt, new_ok T ids)
 
-streams_ok : (T : Numbered → ℕ → Type 0) (ss : List Stream) (opens : List Numbered) (ts : List Told) → Each (EventOk T) ts → Each (StreamOk T) ss → Each (StreamOk T) (streams_after ss opens ts)
+streams_ok : (T : List ℕ → Numbered → ℕ → TaskState → Type 0) (ss : List Stream) (opens : List Numbered) (ts : List Told) → Each (EventOk T) ts → Each (StreamOk T) ss → Each (StreamOk T) (streams_after ss opens ts)
 streams_ok T ss opens ts h k = heard_ok T ts (ss ++ map new_stream opens) h (each_append (StreamOk T) ss (map new_stream opens) k (new_ok T opens))
 
-taken_ok : (T : Numbered → ℕ → Type 0) (id : Numbered) (ss : List Stream) → Each (StreamOk T) ss → Each (StreamOk T) (map (takes_one id) ss)
+taken_ok : (T : List ℕ → Numbered → ℕ → TaskState → Type 0) (id : Numbered) (ss : List Stream) → Each (StreamOk T) ss → Each (StreamOk T) (map (takes_one id) ss)
 taken_ok T id [] h = tt
 taken_ok T id (s ∷ ss) h = (cond_both (same s.id id) (record { id = s.id; events = s.events; taken = suc s.taken }) s (StreamOk T) (λ e. h.0) (λ e. h.0), taken_ok T id ss h.1)
 
-legal_effect : (A T : Numbered → ℕ → Type 0) (S : Option Numbered → Call → Type 0) (c : Cluster) (e : Effect) → Each (EventOk T) e.events → NotNoRoom e.verdict → Each (HappeningOk A) e.happenings → Legal A T S c (does c e)
-legal_effect A T S c e ev v h = (refl, v, h, ev, (posts_by e.happenings c.world, refl, inl (no_calls e.happenings c.world)), λ k. (streams_ok T c.streams e.opens e.events ev k, tt))
+legal_effect : (A : Numbered → ℕ → Type 0) (T : List ℕ → Numbered → ℕ → TaskState → Type 0) (S : Option Numbered → Call → Type 0) (c : Cluster) (e : Effect) → Each (EventOk T) e.events → NotNoRoom e.verdict → Each (HappeningOk A c.world.run.number) e.happenings → (AllUpTo c.world.run.number c.registers.frameworks → AllUpTo c.world.run.number e.registers.frameworks) → Legal A T S c (does c e)
+legal_effect A T S c e ev v h known = (refl, v, h, ev, (posts_by e.happenings c.world, refl, inl (no_calls e.happenings c.world)), (λ k. (streams_ok T c.streams e.opens e.events ev k, tt)), known)
 
-hellos_ok : (A : Numbered → ℕ → Type 0) (cs : List Channel) → Each (HappeningOk A) (map hello_to cs)
-hellos_ok A [] = tt
-hellos_ok A (c ∷ cs) = (tt, hellos_ok A cs)
+hellos_ok : (A : Numbered → ℕ → Type 0) (n : ℕ) (cs : List Channel) → Each (HappeningOk A n) (map hello_to cs)
+hellos_ok A n [] = tt
+hellos_ok A n (c ∷ cs) = (tt, hellos_ok A n cs)
 
-by_test : (A T : Numbered → ℕ → Type 0) (S : Option Numbered → Call → Type 0) (c : Cluster) (b : Bool) (x y : Result Done StepRefusal) → Legal A T S c x → Legal A T S c y → Legal A T S c (if b then x else y)
+by_test : (A : Numbered → ℕ → Type 0) (T : List ℕ → Numbered → ℕ → TaskState → Type 0) (S : Option Numbered → Call → Type 0) (c : Cluster) (b : Bool) (x y : Result Done StepRefusal) → Legal A T S c x → Legal A T S c y → Legal A T S c (if b then x else y)
 by_test A T S c true x y p q = p
 by_test A T S c false x y p q = q
 
@@ -155,46 +158,46 @@ verdict_has_room : (o : Option MasterRefusal) → NotNoRoom (verdict_of o)
 verdict_has_room None = tt
 verdict_has_room (Some refusal) = tt
 
-master_legal : (A T : Numbered → ℕ → Type 0) (S : Option Numbered → Call → Type 0) (c : Cluster) (d : Doing) → Each (MoveOk A) d.moves → Each (EventOk T) d.events → Legal A T S c (master_does c d)
-master_legal A T S c d h events = legal_effect A T S c (effect_of [] d) events (verdict_has_room d.refusal) (happenings_ok A d.moves h)
+master_legal : (A : Numbered → ℕ → Type 0) (T : List ℕ → Numbered → ℕ → TaskState → Type 0) (S : Option Numbered → Call → Type 0) (c : Cluster) (d : Doing) → Each (MoveOk A c.world.run.number) d.moves → Each (EventOk T) d.events → (AllUpTo c.world.run.number c.registers.frameworks → StaysUpTo c.world.run.number d) → Legal A T S c (master_does c d)
+master_legal A T S c d h events known = legal_effect A T S c (effect_of [] d) events (verdict_has_room d.refusal) (happenings_ok A c.world.run.number d.moves h) known
 
-takes_event_legal : (A T : Numbered → ℕ → Type 0) (S : Option Numbered → Call → Type 0) (c : Cluster) (id : Numbered) (e : Option Event) → (Each (StreamOk T) c.streams → (event : Event) → e ≡ Some event → TellOk T event) → Legal A T S c (takes_event c id e)
+takes_event_legal : (A : Numbered → ℕ → Type 0) (T : List ℕ → Numbered → ℕ → TaskState → Type 0) (S : Option Numbered → Call → Type 0) (c : Cluster) (id : Numbered) (e : Option Event) → (Each (StreamOk T) c.streams → (event : Event) → e ≡ Some event → TellOk T event) → Legal A T S c (takes_event c id e)
 takes_event_legal A T S c id None h = tt
-takes_event_legal A T S c id (Some e) h = (refl, tt, tt, tt, ([], sym (append-nil c.posts), inl tt), λ k. (taken_ok T id c.streams k, (h k e refl, tt)))
+takes_event_legal A T S c id (Some e) h = (refl, tt, tt, tt, ([], sym (append-nil c.posts), inl tt), (λ k. (taken_ok T id c.streams k, (h k e refl, tt))), λ k. k)
 
-takes_legal : (A T : Numbered → ℕ → Type 0) (S : Option Numbered → Call → Type 0) (c : Cluster) (id : Numbered) (s : Option Stream) → (Each (StreamOk T) c.streams → (stream : Stream) → s ≡ Some stream → StreamOk T stream) → Legal A T S c (takes c id s)
+takes_legal : (A : Numbered → ℕ → Type 0) (T : List ℕ → Numbered → ℕ → TaskState → Type 0) (S : Option Numbered → Call → Type 0) (c : Cluster) (id : Numbered) (s : Option Stream) → (Each (StreamOk T) c.streams → (stream : Stream) → s ≡ Some stream → StreamOk T stream) → Legal A T S c (takes c id s)
 takes_legal A T S c id None h = tt
 takes_legal A T S c id (Some s) h = takes_event_legal A T S c id (slice_get s.events s.taken) (λ k event e. each_at (TellOk T) s.events s.taken event (h k s refl) e)
 
-found_stream : (T : Numbered → ℕ → Type 0) (c : Cluster) (id : Numbered) → Each (StreamOk T) c.streams → (stream : Stream) → stream_at c id ≡ Some stream → StreamOk T stream
+found_stream : (T : List ℕ → Numbered → ℕ → TaskState → Type 0) (c : Cluster) (id : Numbered) → Each (StreamOk T) c.streams → (stream : Stream) → stream_at c id ≡ Some stream → StreamOk T stream
 found_stream T c id k stream e = found (StreamOk T) (λ (s : Stream). same s.id id) (λ o. (x : Stream) → o ≡ Some x → StreamOk T x) (λ x n. absurd cc) (λ x h y n. (let is : x ≡ y = cc in subst (StreamOk T) is h)) c.streams k stream e
 
-hears_legal : (A T : Numbered → ℕ → Type 0) (S : Option Numbered → Call → Type 0) (c : Cluster) (x : Channel) (place : ℕ) (mail : Option AgentMail) → ((m : AgentMail) → mail ≡ Some m → MailOk T m) → Legal A T S c (master_hears c x place mail)
+hears_legal : (A : Numbered → ℕ → Type 0) (T : List ℕ → Numbered → ℕ → TaskState → Type 0) (S : Option Numbered → Call → Type 0) (c : Cluster) (x : Channel) (place : ℕ) (mail : Option AgentMail) → ((m : AgentMail) → mail ≡ Some m → MailOk (T x.side.name) m) → Legal A T S c (master_hears c x place mail)
 hears_legal A T S c x place None up = tt
-hears_legal A T S c x place (Some mail) up = legal_effect A T S c (effect_of (At x.side.name (Hear place) ∷ []) (mailed (master_of c) x.side mail)) (mailed_events T (master_of c) x.side mail (up mail refl)) (verdict_has_room (mailed (master_of c) x.side mail).refusal) (tt, happenings_ok A (mailed (master_of c) x.side mail).moves (mailed_ok A (master_of c) x.side mail))
+hears_legal A T S c x place (Some mail) up = legal_effect A T S c (effect_of (At x.side.name (Hear place) ∷ []) (mailed (master_of c) x.side mail)) (mailed_events T (master_of c) x.side mail (up mail refl)) (verdict_has_room (mailed (master_of c) x.side mail).refusal) (tt, happenings_ok A c.world.run.number (mailed (master_of c) x.side mail).moves (mailed_ok A c.world.run.number (master_of c) x.side mail)) (λ k. mailed_up_to c.world.run.number (master_of c) x.side mail k)
 
-delivers_up_legal : (A T : Numbered → ℕ → Type 0) (S : Option Numbered → Call → Type 0) (c : Cluster) (place : ℕ) (agent : List ℕ) → AllTell T c.world → Legal A T S c (delivers_up c place (channel_of c agent))
-delivers_up_legal A T S c place agent acked = found (λ (x : Channel). Each (MailOk T) x.to_master) (λ (x : Channel). bytes_eq x.side.name agent) (λ o. Legal A T S c (delivers_up c place o)) tt
-    (λ x h. hears_legal A T S c x place (slice_get x.to_master place) (λ m e. each_at (MailOk T) x.to_master place m h e)) c.world.channels acked
+delivers_up_legal : (A : Numbered → ℕ → Type 0) (T : List ℕ → Numbered → ℕ → TaskState → Type 0) (S : Option Numbered → Call → Type 0) (c : Cluster) (place : ℕ) (agent : List ℕ) → AllTell T c.world → Legal A T S c (delivers_up c place (channel_of c agent))
+delivers_up_legal A T S c place agent acked = found (λ (x : Channel). Each (MailOk (T x.side.name)) x.to_master) (λ (x : Channel). bytes_eq x.side.name agent) (λ o. Legal A T S c (delivers_up c place o)) tt
+    (λ x h. hears_legal A T S c x place (slice_get x.to_master place) (λ m e. each_at (MailOk (T x.side.name)) x.to_master place m h e)) c.world.channels acked
 
 -- a call that acknowledges tells a true thing
 abbrev pub PostOk : (Numbered → ℕ → Type 0) → Master → Option Post → Type 0
 PostOk A m None = ⊤
-PostOk A m (Some (Called stream call)) = CallOk A m call
+PostOk A m (Some (Called stream call)) = CallOk A m.run.number m call
 PostOk A m (Some (Down agent place)) = ⊤
 PostOk A m (Some (Up agent place)) = ⊤
 
-delivers_legal : (A T : Numbered → ℕ → Type 0) (S : Option Numbered → Call → Type 0) (c : Cluster) (p : Option Post) → PostOk A (master_of c) p → AllTell T c.world → Legal A T S c (delivers c p)
+delivers_legal : (A : Numbered → ℕ → Type 0) (T : List ℕ → Numbered → ℕ → TaskState → Type 0) (S : Option Numbered → Call → Type 0) (c : Cluster) (p : Option Post) → PostOk A (master_of c) p → AllTell T c.world → Legal A T S c (delivers c p)
 delivers_legal A T S c None h acked = tt
-delivers_legal A T S c (Some (Called stream call)) h acked = master_legal A T S c (called (master_of c) stream call) (called_ok A (master_of c) stream call h) (called_events T (master_of c) stream call)
+delivers_legal A T S c (Some (Called stream call)) h acked = master_legal A T S c (called (master_of c) stream call) (called_ok A c.world.run.number (master_of c) stream call h) (called_events T (master_of c) stream call) (λ k. called_up_to (master_of c) stream call k)
 delivers_legal A T S c (Some (Down agent place)) h acked = tt
 delivers_legal A T S c (Some (Up agent place)) h acked = delivers_up_legal A T S c place agent acked
 
-hangs_up_legal : (A T : Numbered → ℕ → Type 0) (S : Option Numbered → Call → Type 0) (c : Cluster) (id : Numbered) (s : Option Stream) → Legal A T S c (hangs_up c id s)
+hangs_up_legal : (A : Numbered → ℕ → Type 0) (T : List ℕ → Numbered → ℕ → TaskState → Type 0) (S : Option Numbered → Call → Type 0) (c : Cluster) (id : Numbered) (s : Option Stream) → Legal A T S c (hangs_up c id s)
 hangs_up_legal A T S c id None = tt
-hangs_up_legal A T S c id (Some s) = master_legal A T S c (hung_up (master_of c) id) (hung_ok A (master_of c) id) (hung_events T (master_of c) id)
+hangs_up_legal A T S c id (Some s) = master_legal A T S c (hung_up (master_of c) id) (hung_ok A c.world.run.number (master_of c) id) (hung_events T (master_of c) id) (λ k. hung_up_to c.world.run.number (master_of c) id k)
 
-with_master_legal : (A T : Numbered → ℕ → Type 0) (S : Option Numbered → Call → Type 0) (c : Cluster) (r : Result Done StepRefusal) → Legal A T S c r → Legal A T S c (with_master c r)
+with_master_legal : (A : Numbered → ℕ → Type 0) (T : List ℕ → Numbered → ℕ → TaskState → Type 0) (S : Option Numbered → Call → Type 0) (c : Cluster) (r : Result Done StepRefusal) → Legal A T S c r → Legal A T S c (with_master c r)
 with_master_legal A T S c r p = by_test A T S c c.world.run.serves r (Err MasterDown) p tt
 
 -- agents
@@ -202,9 +205,9 @@ with_master_legal A T S c r p = by_test A T S c c.world.run.serves r (Err Master
 abbrev Roomy : Channel → Type 0
 Roomy x = RoomForAll x
 
-drafts_legal : (A T : Numbered → ℕ → Type 0) (S : Option Numbered → Call → Type 0) (c : Cluster) (x : Channel) (step : AgentStep) (r : Result Draft AgentRefusal) → HasRoom r → Legal A T S c (drafts c x step r)
-drafts_legal A T S c x step (Ok draft) h = legal_effect A T S c (happening c Fine (At x.side.name (ByAgent step) ∷ [])) tt tt (tt, tt)
-drafts_legal A T S c x step (Err refusal) h = legal_effect A T S c (happening c (AgentRefused refusal) []) tt h tt
+drafts_legal : (A : Numbered → ℕ → Type 0) (T : List ℕ → Numbered → ℕ → TaskState → Type 0) (S : Option Numbered → Call → Type 0) (c : Cluster) (x : Channel) (step : AgentStep) (r : Result Draft AgentRefusal) → HasRoom r → Legal A T S c (drafts c x step r)
+drafts_legal A T S c x step (Ok draft) h = legal_effect A T S c (happening c Fine (At x.side.name (ByAgent step) ∷ [])) tt tt (tt, tt) (λ k. k)
+drafts_legal A T S c x step (Err refusal) h = legal_effect A T S c (happening c (AgentRefused refusal) []) tt h tt (λ k. k)
 
 room_if : (b : Bool) (x y : Result Draft AgentRefusal) → HasRoom x → HasRoom y → HasRoom (if b then x else y)
 room_if true x y p q = p
@@ -225,72 +228,72 @@ executes_room a key state = room_if (not (list_any (is_task key) a.tasks)) (Err 
     third : Result Draft AgentRefusal
     third = if list_any (λ t. is_task key t && has_ended t) a.tasks then Err Ended else second
 
-draws_mail_at_legal : (A T : Numbered → ℕ → Type 0) (S : Option Numbered → Call → Type 0) (c : Cluster) (x : Channel) (place : ℕ) (o : Option MasterMail) → ((m : MasterMail) → o ≡ Some m → HasRoom (hears_mail x.agent m)) → Legal A T S c (draws_mail_at c x place o)
+draws_mail_at_legal : (A : Numbered → ℕ → Type 0) (T : List ℕ → Numbered → ℕ → TaskState → Type 0) (S : Option Numbered → Call → Type 0) (c : Cluster) (x : Channel) (place : ℕ) (o : Option MasterMail) → ((m : MasterMail) → o ≡ Some m → HasRoom (hears_mail x.agent m)) → Legal A T S c (draws_mail_at c x place o)
 draws_mail_at_legal A T S c x place None h = tt
 draws_mail_at_legal A T S c x place (Some mail) h = drafts_legal A T S c x (DrawMail place) (hears_mail x.agent mail) (h mail refl)
 
-draws_mail_legal : (A T : Numbered → ℕ → Type 0) (S : Option Numbered → Call → Type 0) (c : Cluster) (x : Channel) (p : Option Post) → Roomy x → Legal A T S c (draws_mail c x p)
+draws_mail_legal : (A : Numbered → ℕ → Type 0) (T : List ℕ → Numbered → ℕ → TaskState → Type 0) (S : Option Numbered → Call → Type 0) (c : Cluster) (x : Channel) (p : Option Post) → Roomy x → Legal A T S c (draws_mail c x p)
 draws_mail_legal A T S c x None h = tt
 draws_mail_legal A T S c x (Some (Called stream call)) h = tt
 draws_mail_legal A T S c x (Some (Up agent place)) h = tt
 draws_mail_legal A T S c x (Some (Down agent place)) h = by_test A T S c (bytes_eq agent x.side.name) (draws_mail_at c x place (slice_get x.to_agent place)) (does c (happening c (AgentRefused NotForMe) []))
-    (draws_mail_at_legal A T S c x place (slice_get x.to_agent place) (λ m e. h place m e)) (legal_effect A T S c (happening c (AgentRefused NotForMe) []) tt tt tt)
+    (draws_mail_at_legal A T S c x place (slice_get x.to_agent place) (λ m e. h place m e)) (legal_effect A T S c (happening c (AgentRefused NotForMe) []) tt tt tt (λ k. k))
 
-prepares_legal : (A T : Numbered → ℕ → Type 0) (S : Option Numbered → Call → Type 0) (c : Cluster) (cause : StepCause) (x : Channel) → Roomy x → Legal A T S c (prepares c cause x)
+prepares_legal : (A : Numbered → ℕ → Type 0) (T : List ℕ → Numbered → ℕ → TaskState → Type 0) (S : Option Numbered → Call → Type 0) (c : Cluster) (cause : StepCause) (x : Channel) → Roomy x → Legal A T S c (prepares c cause x)
 prepares_legal A T S c ByStart x h = drafts_legal A T S c x (Draw Start) (next_of x.agent Start) (room_if (x.agent.run == 0) (Err OldSession) (opens_next x.agent x.agent.session x.agent.run) tt (opens_room x.agent x.agent.session x.agent.run))
 prepares_legal A T S c ByAgain x h = drafts_legal A T S c x (Draw Again) (next_of x.agent Again) tt
 prepares_legal A T S c (ByExecutor key state) x h = drafts_legal A T S c x (Draw (Executor key state)) (next_of x.agent (Executor key state)) (executes_room x.agent key state)
 prepares_legal A T S c (ByMail number) x h = draws_mail_legal A T S c x (post_at c number) h
 
-by_draft_legal : (A T : Numbered → ℕ → Type 0) (S : Option Numbered → Call → Type 0) (c : Cluster) (d : Option Draft) (without with_one : Result Done StepRefusal) → Legal A T S c without → Legal A T S c with_one → Legal A T S c (by_draft d without with_one)
+by_draft_legal : (A : Numbered → ℕ → Type 0) (T : List ℕ → Numbered → ℕ → TaskState → Type 0) (S : Option Numbered → Call → Type 0) (c : Cluster) (d : Option Draft) (without with_one : Result Done StepRefusal) → Legal A T S c without → Legal A T S c with_one → Legal A T S c (by_draft d without with_one)
 by_draft_legal A T S c None without with_one p q = p
 by_draft_legal A T S c (Some d) without with_one p q = q
 
-if_up_legal : (A T : Numbered → ℕ → Type 0) (S : Option Numbered → Call → Type 0) (c : Cluster) (step : Channel → Result Done StepRefusal) (x : Channel) → Legal A T S c (step x) → Legal A T S c (if_up c step x)
+if_up_legal : (A : Numbered → ℕ → Type 0) (T : List ℕ → Numbered → ℕ → TaskState → Type 0) (S : Option Numbered → Call → Type 0) (c : Cluster) (step : Channel → Result Done StepRefusal) (x : Channel) → Legal A T S c (step x) → Legal A T S c (if_up c step x)
 if_up_legal A T S c step x p = by_test A T S c (is_fallen c x) (Err AgentDown) (step x) tt p
 
-at_channel_legal : (A T : Numbered → ℕ → Type 0) (S : Option Numbered → Call → Type 0) (c : Cluster) (agent : List ℕ) (step : Channel → Result Done StepRefusal) → Each Roomy c.world.channels → ((x : Channel) → Roomy x → Legal A T S c (step x)) → Legal A T S c (at_channel (channel_of c agent) step)
+at_channel_legal : (A : Numbered → ℕ → Type 0) (T : List ℕ → Numbered → ℕ → TaskState → Type 0) (S : Option Numbered → Call → Type 0) (c : Cluster) (agent : List ℕ) (step : Channel → Result Done StepRefusal) → Each Roomy c.world.channels → ((x : Channel) → Roomy x → Legal A T S c (step x)) → Legal A T S c (at_channel (channel_of c agent) step)
 at_channel_legal A T S c agent step rooms p = found Roomy (λ x. bytes_eq x.side.name agent) (λ o. Legal A T S c (at_channel o step)) tt p c.world.channels rooms
 
 -- all steps
 
-answer_legal : (A T : Numbered → ℕ → Type 0) (S : Option Numbered → Call → Type 0) (c : Cluster) → Each Roomy c.world.channels → ((number : ℕ) → PostOk A (master_of c) (post_at c number)) → AllTell T c.world → (s : Step) → ((stream : Option Numbered) (call : Call) → s ≡ Send stream call → S stream call) → Legal A T S c (answer c s)
-answer_legal A T S c rooms acks acked (Send stream call) sends = (refl, tt, tt, tt, (Called stream call ∷ [], refl, inr (sends stream call refl)), λ k. (k, tt))
+answer_legal : (A : Numbered → ℕ → Type 0) (T : List ℕ → Numbered → ℕ → TaskState → Type 0) (S : Option Numbered → Call → Type 0) (c : Cluster) → Each Roomy c.world.channels → ((number : ℕ) → PostOk A (master_of c) (post_at c number)) → AllTell T c.world → (s : Step) → ((stream : Option Numbered) (call : Call) → s ≡ Send stream call → S stream call) → Legal A T S c (answer c s)
+answer_legal A T S c rooms acks acked (Send stream call) sends = (refl, tt, tt, tt, (Called stream call ∷ [], refl, inr (sends stream call refl)), (λ k. (k, tt)), λ k. k)
 answer_legal A T S c rooms acks acked (Deliver number) sends = with_master_legal A T S c (delivers c (post_at c number)) (delivers_legal A T S c (post_at c number) (acks number) acked)
-answer_legal A T S c rooms acks acked Allocate sends = with_master_legal A T S c (master_does c (allocated (master_of c))) (master_legal A T S c (allocated (master_of c)) (allocated_ok A (master_of c)) (allocated_events T (master_of c)))
-answer_legal A T S c rooms acks acked (Tick now) sends = with_master_legal A T S c (ticks_at c now) (by_test A T S c (nat_lt now c.last_tick) (Err TimeBack) (master_does (with_tick c now) (ticked (master_of c) now)) tt (legal_effect A T S (with_tick c now) (effect_of [] (ticked (master_of c) now)) (ticked_events T (master_of c) now) tt (happenings_ok A (ticked (master_of c) now).moves (ticked_ok A (master_of c) now))))
-answer_legal A T S c rooms acks acked (LoseAgent agent) sends = at_channel_legal A T S c agent (λ x. with_master c (loses_agent c x)) rooms (λ x h. with_master_legal A T S c (loses_agent c x) (master_legal A T S c (agent_lost (master_of c) x.side) (lost_ok A (master_of c) x.side) (lost_events T (master_of c) x.side)))
+answer_legal A T S c rooms acks acked Allocate sends = with_master_legal A T S c (master_does c (allocated (master_of c))) (master_legal A T S c (allocated (master_of c)) (allocated_ok A c.world.run.number (master_of c)) (allocated_events T (master_of c)) (λ k. k))
+answer_legal A T S c rooms acks acked (Tick now) sends = with_master_legal A T S c (ticks_at c now) (by_test A T S c (nat_lt now c.last_tick) (Err TimeBack) (master_does (with_tick c now) (ticked (master_of c) now)) tt (legal_effect A T S (with_tick c now) (effect_of [] (ticked (master_of c) now)) (ticked_events T (master_of c) now) tt (happenings_ok A c.world.run.number (ticked (master_of c) now).moves (ticked_ok A c.world.run.number (master_of c) now)) (λ k. ticked_up_to c.world.run.number (master_of c) now k)))
+answer_legal A T S c rooms acks acked (LoseAgent agent) sends = at_channel_legal A T S c agent (λ x. with_master c (loses_agent c x)) rooms (λ x h. with_master_legal A T S c (loses_agent c x) (master_legal A T S c (agent_lost (master_of c) x.side) (lost_ok A c.world.run.number (master_of c) x.side) (lost_events T (master_of c) x.side) (λ k. lost_up_to c.world.run.number (master_of c) x.side k)))
 answer_legal A T S c rooms acks acked (HangUp stream) sends = with_master_legal A T S c (hangs_up c stream (stream_at c stream)) (hangs_up_legal A T S c stream (stream_at c stream))
 answer_legal A T S c rooms acks acked (Prepare agent cause) sends = at_channel_legal A T S c agent (if_up c (without_draft (prepares c cause))) rooms (λ x h. if_up_legal A T S c (without_draft (prepares c cause)) x (by_draft_legal A T S c x.draft (prepares c cause x) (Err DraftOpen) (prepares_legal A T S c cause x h) tt))
-answer_legal A T S c rooms acks acked (Commit agent) sends = at_channel_legal A T S c agent (if_up c (with_draft (commits c))) rooms (λ x h. if_up_legal A T S c (with_draft (commits c)) x (by_draft_legal A T S c x.draft (Err NoDraft) (commits c x) tt (legal_effect A T S c (happening c Fine (At x.side.name (ByAgent Adopt) ∷ [])) tt tt (tt, tt))))
-answer_legal A T S c rooms acks acked (StopBefore agent) sends = at_channel_legal A T S c agent (stops c StopWithout) rooms (λ x h. legal_effect A T S (up_again c x.side.name) (happening c Fine (At x.side.name (ByAgent StopWithout) ∷ [])) tt tt (tt, tt))
-answer_legal A T S c rooms acks acked (StopAfter agent) sends = at_channel_legal A T S c agent (with_draft (stops c StopWith)) rooms (λ x h. by_draft_legal A T S c x.draft (Err NoDraft) (stops c StopWith x) tt (legal_effect A T S (up_again c x.side.name) (happening c Fine (At x.side.name (ByAgent StopWith) ∷ [])) tt tt (tt, tt)))
+answer_legal A T S c rooms acks acked (Commit agent) sends = at_channel_legal A T S c agent (if_up c (with_draft (commits c))) rooms (λ x h. if_up_legal A T S c (with_draft (commits c)) x (by_draft_legal A T S c x.draft (Err NoDraft) (commits c x) tt (legal_effect A T S c (happening c Fine (At x.side.name (ByAgent Adopt) ∷ [])) tt tt (tt, tt) (λ k. k))))
+answer_legal A T S c rooms acks acked (StopBefore agent) sends = at_channel_legal A T S c agent (stops c StopWithout) rooms (λ x h. legal_effect A T S (up_again c x.side.name) (happening c Fine (At x.side.name (ByAgent StopWithout) ∷ [])) tt tt (tt, tt) (λ k. k))
+answer_legal A T S c rooms acks acked (StopAfter agent) sends = at_channel_legal A T S c agent (with_draft (stops c StopWith)) rooms (λ x h. by_draft_legal A T S c x.draft (Err NoDraft) (stops c StopWith x) tt (legal_effect A T S (up_again c x.side.name) (happening c Fine (At x.side.name (ByAgent StopWith) ∷ [])) tt tt (tt, tt) (λ k. k)))
 answer_legal A T S c rooms acks acked StopMaster sends = stops_legal (nat_lt c.world.run.number last_run)
   where
     stops_legal : (b : Bool) → Legal A T S c (does c (if b then record (happening c Fine (Restart ∷ map hello_to c.world.channels)) { registers = new_registers } else record (happening c Fine (Halt ∷ [])) { registers = new_registers }))
-    stops_legal true = legal_effect A T S c (record (happening c Fine (Restart ∷ map hello_to c.world.channels)) { registers = new_registers }) tt tt (tt, hellos_ok A c.world.channels)
-    stops_legal false = legal_effect A T S c (record (happening c Fine (Halt ∷ [])) { registers = new_registers }) tt tt (tt, tt)
+    stops_legal true = legal_effect A T S c (record (happening c Fine (Restart ∷ map hello_to c.world.channels)) { registers = new_registers }) tt tt (tt, hellos_ok A c.world.run.number c.world.channels) (λ k. tt)
+    stops_legal false = legal_effect A T S c (record (happening c Fine (Halt ∷ [])) { registers = new_registers }) tt tt (tt, tt) (λ k. tt)
 answer_legal A T S c rooms acks acked (Take stream) sends = takes_legal A T S c stream (stream_at c stream) (found_stream T c stream)
 
-instead_legal : (A T : Numbered → ℕ → Type 0) (S : Option Numbered → Call → Type 0) (c : Cluster) (r : Result Done StepRefusal) (d : Done) → Legal A T S c (Ok d) → Legal A T S c (instead r d)
+instead_legal : (A : Numbered → ℕ → Type 0) (T : List ℕ → Numbered → ℕ → TaskState → Type 0) (S : Option Numbered → Call → Type 0) (c : Cluster) (r : Result Done StepRefusal) (d : Done) → Legal A T S c (Ok d) → Legal A T S c (instead r d)
 instead_legal A T S c (Ok done) d m = m
 instead_legal A T S c (Err e) d m = tt
 
-fallen_legal : (A T : Numbered → ℕ → Type 0) (S : Option Numbered → Call → Type 0) (c : Cluster) → Each Roomy c.world.channels → ((number : ℕ) → PostOk A (master_of c) (post_at c number)) → AllTell T c.world → (s : Step) → ((stream : Option Numbered) (call : Call) → s ≡ Send stream call → S stream call) → Legal A T S c (fallen_answer c s)
+fallen_legal : (A : Numbered → ℕ → Type 0) (T : List ℕ → Numbered → ℕ → TaskState → Type 0) (S : Option Numbered → Call → Type 0) (c : Cluster) → Each Roomy c.world.channels → ((number : ℕ) → PostOk A (master_of c) (post_at c number)) → AllTell T c.world → (s : Step) → ((stream : Option Numbered) (call : Call) → s ≡ Send stream call → S stream call) → Legal A T S c (fallen_answer c s)
 fallen_legal A T S c rooms acks acked (Send stream call) sends = answer_legal A T S c rooms acks acked (Send stream call) sends
-fallen_legal A T S c rooms acks acked (Deliver number) sends = instead_legal A T S c (answer c (Deliver number)) (master_falls c) (legal_effect A T S c (record (happening c Fell (Halt ∷ [])) { registers = new_registers }) tt tt (tt, tt))
-fallen_legal A T S c rooms acks acked Allocate sends = instead_legal A T S c (answer c Allocate) (master_falls c) (legal_effect A T S c (record (happening c Fell (Halt ∷ [])) { registers = new_registers }) tt tt (tt, tt))
-fallen_legal A T S c rooms acks acked (Tick now) sends = instead_legal A T S c (answer c (Tick now)) (master_falls (with_tick c now)) (legal_effect A T S (with_tick c now) (record (happening (with_tick c now) Fell (Halt ∷ [])) { registers = new_registers }) tt tt (tt, tt))
-fallen_legal A T S c rooms acks acked (LoseAgent agent) sends = instead_legal A T S c (answer c (LoseAgent agent)) (master_falls c) (legal_effect A T S c (record (happening c Fell (Halt ∷ [])) { registers = new_registers }) tt tt (tt, tt))
-fallen_legal A T S c rooms acks acked (HangUp stream) sends = instead_legal A T S c (answer c (HangUp stream)) (master_falls c) (legal_effect A T S c (record (happening c Fell (Halt ∷ [])) { registers = new_registers }) tt tt (tt, tt))
-fallen_legal A T S c rooms acks acked (Prepare agent cause) sends = instead_legal A T S c (answer c (Prepare agent cause)) (agent_falls c agent StopWithout) (legal_effect A T S (fallen_too c agent) (happening (fallen_too c agent) Fell (At agent (ByAgent StopWithout) ∷ [])) tt tt (tt, tt))
+fallen_legal A T S c rooms acks acked (Deliver number) sends = instead_legal A T S c (answer c (Deliver number)) (master_falls c) (legal_effect A T S c (record (happening c Fell (Halt ∷ [])) { registers = new_registers }) tt tt (tt, tt) (λ k. tt))
+fallen_legal A T S c rooms acks acked Allocate sends = instead_legal A T S c (answer c Allocate) (master_falls c) (legal_effect A T S c (record (happening c Fell (Halt ∷ [])) { registers = new_registers }) tt tt (tt, tt) (λ k. tt))
+fallen_legal A T S c rooms acks acked (Tick now) sends = instead_legal A T S c (answer c (Tick now)) (master_falls (with_tick c now)) (legal_effect A T S (with_tick c now) (record (happening (with_tick c now) Fell (Halt ∷ [])) { registers = new_registers }) tt tt (tt, tt) (λ k. tt))
+fallen_legal A T S c rooms acks acked (LoseAgent agent) sends = instead_legal A T S c (answer c (LoseAgent agent)) (master_falls c) (legal_effect A T S c (record (happening c Fell (Halt ∷ [])) { registers = new_registers }) tt tt (tt, tt) (λ k. tt))
+fallen_legal A T S c rooms acks acked (HangUp stream) sends = instead_legal A T S c (answer c (HangUp stream)) (master_falls c) (legal_effect A T S c (record (happening c Fell (Halt ∷ [])) { registers = new_registers }) tt tt (tt, tt) (λ k. tt))
+fallen_legal A T S c rooms acks acked (Prepare agent cause) sends = instead_legal A T S c (answer c (Prepare agent cause)) (agent_falls c agent StopWithout) (legal_effect A T S (fallen_too c agent) (happening (fallen_too c agent) Fell (At agent (ByAgent StopWithout) ∷ [])) tt tt (tt, tt) (λ k. k))
 fallen_legal A T S c rooms acks acked (Commit agent) sends = answer_legal A T S c rooms acks acked (Commit agent) sends
-fallen_legal A T S c rooms acks acked (StopBefore agent) sends = instead_legal A T S c (answer c (StopBefore agent)) (agent_falls c agent StopWithout) (legal_effect A T S (fallen_too c agent) (happening (fallen_too c agent) Fell (At agent (ByAgent StopWithout) ∷ [])) tt tt (tt, tt))
-fallen_legal A T S c rooms acks acked (StopAfter agent) sends = instead_legal A T S c (answer c (StopAfter agent)) (agent_falls c agent StopWith) (legal_effect A T S (fallen_too c agent) (happening (fallen_too c agent) Fell (At agent (ByAgent StopWith) ∷ [])) tt tt (tt, tt))
-fallen_legal A T S c rooms acks acked StopMaster sends = by_test A T S c (nat_lt c.world.run.number last_run) (Ok (new_master_falls c)) (answer c StopMaster) (legal_effect A T S c (record (happening c Fell (Restart ∷ Halt ∷ [])) { registers = new_registers }) tt tt (tt, (tt, tt))) (answer_legal A T S c rooms acks acked StopMaster sends)
+fallen_legal A T S c rooms acks acked (StopBefore agent) sends = instead_legal A T S c (answer c (StopBefore agent)) (agent_falls c agent StopWithout) (legal_effect A T S (fallen_too c agent) (happening (fallen_too c agent) Fell (At agent (ByAgent StopWithout) ∷ [])) tt tt (tt, tt) (λ k. k))
+fallen_legal A T S c rooms acks acked (StopAfter agent) sends = instead_legal A T S c (answer c (StopAfter agent)) (agent_falls c agent StopWith) (legal_effect A T S (fallen_too c agent) (happening (fallen_too c agent) Fell (At agent (ByAgent StopWith) ∷ [])) tt tt (tt, tt) (λ k. k))
+fallen_legal A T S c rooms acks acked StopMaster sends = by_test A T S c (nat_lt c.world.run.number last_run) (Ok (new_master_falls c)) (answer c StopMaster) (legal_effect A T S c (record (happening c Fell (Restart ∷ Halt ∷ [])) { registers = new_registers }) tt tt (tt, (tt, tt)) (λ k. tt)) (answer_legal A T S c rooms acks acked StopMaster sends)
 fallen_legal A T S c rooms acks acked (Take stream) sends = answer_legal A T S c rooms acks acked (Take stream) sends
 
-pub step_legal : (A T : Numbered → ℕ → Type 0) (S : Option Numbered → Call → Type 0) (c : Cluster) → Each Roomy c.world.channels → ((number : ℕ) → PostOk A (master_of c) (post_at c number)) → AllTell T c.world → (s : Marked) → ((stream : Option Numbered) (call : Call) → s.step ≡ Send stream call → S stream call) → Legal A T S c (step_marked c s)
+pub step_legal : (A : Numbered → ℕ → Type 0) (T : List ℕ → Numbered → ℕ → TaskState → Type 0) (S : Option Numbered → Call → Type 0) (c : Cluster) → Each Roomy c.world.channels → ((number : ℕ) → PostOk A (master_of c) (post_at c number)) → AllTell T c.world → (s : Marked) → ((stream : Option Numbered) (call : Call) → s.step ≡ Send stream call → S stream call) → Legal A T S c (step_marked c s)
 step_legal A T S c rooms acks acked s sends = by_test A T S c (nat_le last_number c.entries) (Err HistoryFull) (if s.fell then fallen_answer c s.step else answer c s.step) tt
     (by_test A T S c s.fell (fallen_answer c s.step) (answer c s.step) (fallen_legal A T S c rooms acks acked s.step sends) (answer_legal A T S c rooms acks acked s.step sends))
 
@@ -393,26 +396,26 @@ ack_tells rs c marks ok n stream framework agent task uuid at f is any =
     own : p.0.booked.job.framework ≡ f.id
     own = same_is p.0.booked.job.framework f.id (both_true (same p.0.booked.job.framework f.id) (bytes_eq p.0.booked.job.name task) third.1).0
 
-call_tells : (rs : List Durable) (c : Cluster) (marks : List Mark) → OriginOk rs c.world marks → (n : ℕ) (stream : Option Numbered) (call : Call) → slice_get c.posts n ≡ Some (Called stream call) → CallOk (AckedBy rs marks c.posts) (master_of c) call
-call_tells rs c marks ok n stream (Subscribe id role) e = tt
-call_tells rs c marks ok n stream (Teardown framework) e = tt
-call_tells rs c marks ok n stream (Accept framework offers tasks seconds) e = tt
-call_tells rs c marks ok n stream (Decline framework offers seconds) e = tt
-call_tells rs c marks ok n stream (Revive framework) e = tt
-call_tells rs c marks ok n stream (Suppress framework) e = tt
-call_tells rs c marks ok n stream (calls.Kill framework task agent) e = tt
-call_tells rs c marks ok n stream (Acknowledge framework agent task uuid) e = λ f is any. ack_tells rs c marks ok n stream framework agent task uuid e f is any
-call_tells rs c marks ok n stream (Reconcile framework tasks) e = tt
+call_tells : (rs : List Durable) (c : Cluster) (marks : List Mark) → OriginOk rs c.world marks → AllUpTo c.world.run.number c.registers.frameworks → (n : ℕ) (stream : Option Numbered) (call : Call) → slice_get c.posts n ≡ Some (Called stream call) → CallOk (AckedBy rs marks c.posts) c.world.run.number (master_of c) call
+call_tells rs c marks ok known n stream (Subscribe id role) e = tt
+call_tells rs c marks ok known n stream (Teardown framework) e = tt
+call_tells rs c marks ok known n stream (Accept framework offers tasks seconds) e = λ f is. found_up_to c.world.run.number (λ g. same g.id framework) c.registers.frameworks f known is
+call_tells rs c marks ok known n stream (Decline framework offers seconds) e = tt
+call_tells rs c marks ok known n stream (Revive framework) e = tt
+call_tells rs c marks ok known n stream (Suppress framework) e = tt
+call_tells rs c marks ok known n stream (calls.Kill framework task agent) e = tt
+call_tells rs c marks ok known n stream (Acknowledge framework agent task uuid) e = λ f is any. ack_tells rs c marks ok n stream framework agent task uuid e f is any
+call_tells rs c marks ok known n stream (Reconcile framework tasks) e = tt
 
-post_tells : (rs : List Durable) (c : Cluster) (marks : List Mark) → OriginOk rs c.world marks → (n : ℕ) (o : Option Post) → slice_get c.posts n ≡ o → PostOk (AckedBy rs marks c.posts) (master_of c) o
-post_tells rs c marks ok n None e = tt
-post_tells rs c marks ok n (Some (Called stream call)) e = call_tells rs c marks ok n stream call e
-post_tells rs c marks ok n (Some (Down agent place)) e = tt
-post_tells rs c marks ok n (Some (Up agent place)) e = tt
+post_tells : (rs : List Durable) (c : Cluster) (marks : List Mark) → OriginOk rs c.world marks → AllUpTo c.world.run.number c.registers.frameworks → (n : ℕ) (o : Option Post) → slice_get c.posts n ≡ o → PostOk (AckedBy rs marks c.posts) (master_of c) o
+post_tells rs c marks ok known n None e = tt
+post_tells rs c marks ok known n (Some (Called stream call)) e = call_tells rs c marks ok known n stream call e
+post_tells rs c marks ok known n (Some (Down agent place)) e = tt
+post_tells rs c marks ok known n (Some (Up agent place)) e = tt
 
-pub number_tells : (rs : List Durable) (c : Cluster) (marks : List Mark) → OriginOk rs c.world marks → (number : ℕ) → PostOk (AckedBy rs marks c.posts) (master_of c) (post_at c number)
-number_tells rs c marks ok zero = tt
-number_tells rs c marks ok (suc n) = post_tells rs c marks ok n (slice_get c.posts n) refl
+pub number_tells : (rs : List Durable) (c : Cluster) (marks : List Mark) → OriginOk rs c.world marks → AllUpTo c.world.run.number c.registers.frameworks → (number : ℕ) → PostOk (AckedBy rs marks c.posts) (master_of c) (post_at c number)
+number_tells rs c marks ok known zero = tt
+number_tells rs c marks ok known (suc n) = post_tells rs c marks ok known n (slice_get c.posts n) refl
 
 -- all histories
 
@@ -420,64 +423,55 @@ number_tells rs c marks ok (suc n) = post_tells rs c marks ok n (slice_get c.pos
 abbrev pub Before : (Numbered → ℕ → Type 0) → Numbered → ℕ → Type 0
 Before A key k = (j : ℕ) → j < k → A key j
 
--- how many updates of a key there were
-abbrev pub told_count : World → List Happening → Numbered → ℕ
-told_count start hs key = length (updates_of key hs start)
+-- what is known of an update that is told: each one before it was acknowledged, and it has the state of its number among the updates in its agent's record
+abbrev pub Tellable : List Durable → World → List Happening → List Post → List ℕ → Numbered → ℕ → TaskState → Type 0
+Tellable records start hs posts agent key k state = Before (AckedBy records (trail hs start []) posts) key k × (slice_get (updates_on agent key hs start) k ≡ Some state)
 
--- what is known of an update that is told: each one before it was acknowledged, and it is one of the updates of its key
-abbrev pub Tellable : List Durable → World → List Happening → List Post → Numbered → ℕ → Type 0
-Tellable records start hs posts key k = Before (AckedBy records (trail hs start []) posts) key k × (k < told_count start hs key)
+-- the updates in the agents' records
+abbrev pub updates_in : World → List Happening → Sents
+updates_in start hs = λ name key. updates_on name key hs start
 
-abbrev pub EntryOk : (Numbered → ℕ → Type 0) → Entry → Type 0
+abbrev pub EntryOk : (List ℕ → Numbered → ℕ → TaskState → Type 0) → Entry → Type 0
 EntryOk A e = Each (EventOk A) e.outs.events
 
 pub record HistoryOk (records : List Durable) (start : World) (h : History) : Type 0 where
   pub path : h.state.world ≡ after_all h.happenings start
-  pub world : WorldOk h.state.world
+  pub sent : SentOk (updates_in start h.happenings) h.state.world
   pub verdicts : Each (λ (e : Entry). NotNoRoom e.verdict) h.entries
   pub origin : OriginOk records h.state.world (trail h.happenings start [])
   pub acked : AllAcked (AckedBy records (trail h.happenings start []) h.state.posts) h.state.world
-  pub below : Each (Below (told_count start h.happenings)) h.state.world.channels
   pub told : Each (EntryOk (Tellable records start h.happenings h.state.posts)) h.entries
   pub streams : Each (StreamOk (Tellable records start h.happenings h.state.posts)) h.state.streams
   pub handed : Each (HandedOk (Tellable records start h.happenings h.state.posts)) h.entries
+  pub known : AllUpTo h.state.world.run.number h.state.registers.frameworks
+  pub launches : AllFrom h.state.world
 
-events_wider : (A B : Numbered → ℕ → Type 0) → ((key : Numbered) (k : ℕ) → A key k → B key k) → (ts : List Told) → Each (EventOk A) ts → Each (EventOk B) ts
+events_wider : (A B : List ℕ → Numbered → ℕ → TaskState → Type 0) → ((agent : List ℕ) (key : Numbered) (k : ℕ) (state : TaskState) → A agent key k state → B agent key k state) → (ts : List Told) → Each (EventOk A) ts → Each (EventOk B) ts
 events_wider A B f ts h = each_map (EventOk A) (EventOk B) (λ t k. event_wider A B f t.event k) ts h
 
 extended_ok : (records : List Durable) (start : World) (S : Option Numbered → Call → Type 0) (h : History) (r : Result Done StepRefusal) → Legal (AckedBy records (trail h.happenings start []) h.state.posts) (Tellable records start h.happenings h.state.posts) S h.state r → HistoryOk records start h → HistoryOk records start (extended h r)
 extended_ok records start S h (Ok d) l ok = record {
   path = l.0 ∙ (ap (after_all d.happenings) ok.path ∙ sym (after_append h.happenings d.happenings start));
-  world = subst WorldOk (sym l.0) (world_after_all d.happenings h.state.world ok.world);
+  sent = subst (SentOk (updates_in start (h.happenings ++ d.happenings))) (sym l.0) (sent_alike (all_over (updates_in start h.happenings) d.happenings h.state.world) (updates_in start (h.happenings ++ d.happenings)) (after_all d.happenings h.state.world) sent_joins (worlds_sent records d.happenings h.state.world marks (updates_in start h.happenings) ok.origin ok.sent));
   verdicts = each_append (λ (e : Entry). NotNoRoom e.verdict) h.entries (d.entry ∷ []) ok.verdicts (l.1, tt);
   origin = subst (OriginOk records d.after.world) trails (subst (λ w. OriginOk records w (trail d.happenings h.state.world marks)) (sym l.0) (origin_all records d.happenings h.state.world marks ok.origin));
   acked = subst (λ ms. AllAcked (AckedBy records ms d.after.posts) d.after.world) trails (subst (λ ps. AllAcked (AckedBy records (trail d.happenings h.state.world marks) ps) d.after.world) (sym l.4.1)
       (subst (AllAcked (AckedBy records (trail d.happenings h.state.world marks) (h.state.posts ++ l.4.0))) (sym l.0) wider));
-  below = subst (λ w. Each (Below (told_count start (h.happenings ++ d.happenings))) w.channels) (sym l.0)
-      (each_map (Below (count_over d.happenings h.state.world counts)) (Below (told_count start (h.happenings ++ d.happenings))) (λ c k. below_within (count_over d.happenings h.state.world counts) (told_count start (h.happenings ++ d.happenings)) joined c k)
-      (after_all d.happenings h.state.world).channels (worlds_below d.happenings h.state.world counts ok.below));
   told = each_append (EntryOk later) h.entries (d.entry ∷ []) (each_map (EntryOk now) (EntryOk later) (λ e k. events_wider now later widened e.outs.events k) h.entries ok.told) (events_wider now later widened d.entry.outs.events l.3, tt);
   streams = each_map (StreamOk now) (StreamOk later) (λ s k. each_map (TellOk now) (TellOk later) (λ e x. event_wider now later widened e x) s.events k) d.after.streams (l.5 ok.streams).0;
   handed = each_append (HandedOk later) h.entries (d.entry ∷ []) (each_map (HandedOk now) (HandedOk later) (λ e k. events_wider now later widened e.outs.taken k) h.entries ok.handed) (events_wider now later widened d.entry.outs.taken (l.5 ok.streams).1, tt);
+  known = subst (λ w. AllUpTo w.run.number d.after.registers.frameworks) (sym l.0) (each_map (IsUpTo h.state.world.run.number) (IsUpTo (after_all d.happenings h.state.world).run.number) (λ f k. le_trans k (number_rises d.happenings h.state.world)) d.after.registers.frameworks (l.6 ok.known));
+  launches = subst AllFrom (sym l.0) (worlds_from (AckedBy records marks h.state.posts) h.state.world.run.number records d.happenings h.state.world marks (le_refl h.state.world.run.number) l.2 ok.origin ok.launches);
 }
   where
     marks : List Mark
     marks = trail h.happenings start []
 
-    now : Numbered → ℕ → Type 0
+    now : List ℕ → Numbered → ℕ → TaskState → Type 0
     now = Tellable records start h.happenings h.state.posts
 
-    later : Numbered → ℕ → Type 0
+    later : List ℕ → Numbered → ℕ → TaskState → Type 0
     later = Tellable records start (h.happenings ++ d.happenings) d.after.posts
-
-    counts : Numbered → List TaskState
-    counts key = updates_of key h.happenings start
-
-    joins : (key : Numbered) → updates_of key (h.happenings ++ d.happenings) start ≡ updates_over key d.happenings h.state.world (updates_of key h.happenings start)
-    joins key = over_append key h.happenings d.happenings start (recorded_states key start) ∙ ap (λ w. updates_over key d.happenings w (updates_of key h.happenings start)) (sym ok.path)
-
-    joined : (key : Numbered) → count_over d.happenings h.state.world counts key ≤ told_count start (h.happenings ++ d.happenings) key
-    joined key = subst (λ xs. length (updates_over key d.happenings h.state.world (updates_of key h.happenings start)) ≤ length xs) (sym (joins key)) (omega arith)
 
     trails : trail d.happenings h.state.world (trail h.happenings start []) ≡ trail (h.happenings ++ d.happenings) start []
     trails = subst (λ w. trail d.happenings w (trail h.happenings start []) ≡ trail (h.happenings ++ d.happenings) start []) (sym ok.path) (sym (trail_append h.happenings d.happenings start []))
@@ -485,29 +479,35 @@ extended_ok records start S h (Ok d) l ok = record {
     grown : (key : Numbered) (k : ℕ) → AckedBy records (trail h.happenings start []) h.state.posts key k → AckedBy records (trail (h.happenings ++ d.happenings) start []) d.after.posts key k
     grown key k x = subst (λ ms. AckedBy records ms d.after.posts key k) trails (subst (λ ps. AckedBy records (trail d.happenings h.state.world marks) ps key k) (sym l.4.1) (acked_more records d.happenings h.state.world marks h.state.posts l.4.0 key k x))
 
-    widened : (key : Numbered) (k : ℕ) → Tellable records start h.happenings h.state.posts key k → Tellable records start (h.happenings ++ d.happenings) d.after.posts key k
-    widened key k x = (λ j lt. grown key j (x.0 j lt), le_trans x.1 (le_trans (over_more key d.happenings h.state.world (updates_of key h.happenings start)) (joined key)))
+    sent_joins : (name : List ℕ) (key : Numbered) → updates_on name key (h.happenings ++ d.happenings) start ≡ sent_over name key d.happenings h.state.world (updates_on name key h.happenings start)
+    sent_joins name key = sent_append name key h.happenings d.happenings start (states_on name key start.channels) ∙ ap (λ w. sent_over name key d.happenings w (updates_on name key h.happenings start)) (sym ok.path)
+
+    sent_grown : (name : List ℕ) (key : Numbered) → Begins (updates_on name key h.happenings start) (updates_on name key (h.happenings ++ d.happenings) start)
+    sent_grown name key = subst (Begins (updates_on name key h.happenings start)) (sym (sent_joins name key)) (all_begin records d.happenings h.state.world marks (updates_in start h.happenings) ok.origin ok.sent name key)
+
+    widened : (agent : List ℕ) (key : Numbered) (k : ℕ) (state : TaskState) → Tellable records start h.happenings h.state.posts agent key k state → Tellable records start (h.happenings ++ d.happenings) d.after.posts agent key k state
+    widened agent key k state x = ((λ j lt. grown key j (x.0 j lt)), get_begins (updates_on agent key h.happenings start) (updates_on agent key (h.happenings ++ d.happenings) start) k state (sent_grown agent key) x.1)
 
     wider : AllAcked (AckedBy records (trail d.happenings h.state.world (trail h.happenings start [])) (h.state.posts ++ l.4.0)) (after_all d.happenings h.state.world)
     wider = each_map (Carried Always (AckedBy records marks h.state.posts)) (Carried Always (AckedBy records (trail d.happenings h.state.world marks) (h.state.posts ++ l.4.0)))
         (λ c k. told_wider Always Always (AckedBy records marks h.state.posts) (AckedBy records (trail d.happenings h.state.world marks) (h.state.posts ++ l.4.0)) (λ j x. x) (λ key i x. acked_more records d.happenings h.state.world marks h.state.posts l.4.0 key i x) c k)
-        (after_all d.happenings h.state.world).channels (worlds_acked (AckedBy records marks h.state.posts) d.happenings h.state.world l.2 ok.acked)
+        (after_all d.happenings h.state.world).channels (worlds_acked (AckedBy records marks h.state.posts) h.state.world.run.number d.happenings h.state.world l.2 ok.acked)
 extended_ok records start S h (Err refusal) l ok = ok
 
-mail_tells : (A : Numbered → ℕ → Type 0) (n : Numbered → ℕ) (m : AgentMail) → UpTold Always A m → MailBelow n m → MailOk (λ key k. Before A key k × (k < n key)) m
-mail_tells A n (Report session number tasks) h l = tt
-mail_tells A n (Applied session count) h l = tt
-mail_tells A n (mails.Update session key k state ended) h l = (h, l)
+mail_tells : (A : Numbered → ℕ → Type 0) (u : Numbered → List TaskState) (m : AgentMail) → UpTold Always A m → MailAt u m → MailOk (λ key k state. Before A key k × (slice_get (u key) k ≡ Some state)) m
+mail_tells A u (Report session number tasks) h l = tt
+mail_tells A u (Applied session count) h l = tt
+mail_tells A u (mails.Update session key k state ended) h l = (h, l)
 
 pub all_tell : (records : List Durable) (start : World) (h : History) → HistoryOk records start h → AllTell (Tellable records start h.happenings h.state.posts) h.state.world
-all_tell records start h ok = each_both (Carried Always (AckedBy records (trail h.happenings start []) h.state.posts)) (Below (told_count start h.happenings)) (λ c. Each (MailOk (Tellable records start h.happenings h.state.posts)) c.to_master)
-    (λ c a b. each_both (UpTold Always (AckedBy records (trail h.happenings start []) h.state.posts)) (MailBelow (told_count start h.happenings)) (MailOk (Tellable records start h.happenings h.state.posts)) (mail_tells (AckedBy records (trail h.happenings start []) h.state.posts) (told_count start h.happenings)) c.to_master a.ups b.ups)
-    h.state.world.channels ok.acked ok.below
+all_tell records start h ok = each_both (Carried Always (AckedBy records (trail h.happenings start []) h.state.posts)) (MailsIn (updates_in start h.happenings)) (λ c. Each (MailOk (Tellable records start h.happenings h.state.posts c.side.name)) c.to_master)
+    (λ c a b. each_both (UpTold Always (AckedBy records (trail h.happenings start []) h.state.posts)) (MailAt (updates_in start h.happenings c.side.name)) (MailOk (Tellable records start h.happenings h.state.posts c.side.name)) (mail_tells (AckedBy records (trail h.happenings start []) h.state.posts) (updates_in start h.happenings c.side.name)) c.to_master a.ups b.ups)
+    h.state.world.channels ok.acked ok.sent.mails
 
 pub extend_ok : (records : List Durable) (start : World) (ss : List Marked) (h : History) → HistoryOk records start h → HistoryOk records start (extend_all h ss)
 extend_ok records start [] h ok = ok
 extend_ok records start (s ∷ ss) h ok = extend_ok records start ss (extended h (step_marked h.state s))
-    (extended_ok records start (λ stream call. ⊤) h (step_marked h.state s) (step_legal (AckedBy records (trail h.happenings start []) h.state.posts) (Tellable records start h.happenings h.state.posts) (λ stream call. ⊤) h.state (all_room h.state.world ok.world) (number_tells records h.state (trail h.happenings start []) ok.origin) (all_tell records start h ok) s (λ stream call e. tt)) ok)
+    (extended_ok records start (λ stream call. ⊤) h (step_marked h.state s) (step_legal (AckedBy records (trail h.happenings start []) h.state.posts) (Tellable records start h.happenings h.state.posts) (λ stream call. ⊤) h.state (all_room (updates_in start h.happenings) h.state.world ok.sent.world) (number_tells records h.state (trail h.happenings start []) ok.origin ok.known) (all_tell records start h ok) s (λ stream call e. tt)) ok)
 
 -- the opening
 
@@ -534,7 +534,7 @@ channels_acked records posts (d ∷ ds) f g = (
 opening_acked : (run : ℕ) (records : List Durable) → AllAcked (AckedBy records (trail (opening run records).happenings (open_world run records) []) (opening run records).state.posts) (opening run records).state.world
 opening_acked run records = each_map (Carried Always (AckedBy records [] [])) (Carried Always (AckedBy records (trail hs (open_world run records) []) (opening run records).state.posts))
     (λ c k. told_wider Always Always (AckedBy records [] []) (AckedBy records (trail hs (open_world run records) []) (opening run records).state.posts) (λ j x. x) (λ key i x. acked_more records hs (open_world run records) [] [] (opening run records).state.posts key i x) c k)
-    (opening run records).state.world.channels (worlds_acked (AckedBy records [] []) hs (open_world run records) (hellos_ok (AckedBy records [] []) (open_world run records).channels) (channels_acked records [] records (λ j h. h) (λ key k h. h)))
+    (opening run records).state.world.channels (worlds_acked (AckedBy records [] []) run hs (open_world run records) (hellos_ok (AckedBy records [] []) run (open_world run records).channels) (channels_acked records [] records (λ j h. h) (λ key k h. h)))
   where
     hs : List Happening
     hs = map hello_to (open_world run records).channels
@@ -542,14 +542,15 @@ opening_acked run records = each_map (Carried Always (AckedBy records [] [])) (C
 pub opening_ok : (run : ℕ) (records : List Durable) → GoodOpening run records → HistoryOk records (open_world run records) (opening run records)
 opening_ok run records good = record {
   path = refl;
-  world = world_after_all (map hello_to (open_world run records).channels) (open_world run records) (world_opened run records (opening_good run records good));
+  sent = worlds_sent records (map hello_to (open_world run records).channels) (open_world run records) [] (λ name key. states_on name key (open_world run records).channels) (origin_opened run records good) (opened_sent records run (origin_opened run records good) (world_opened run records (opening_good run records good)));
   verdicts = (tt, tt);
   origin = origin_all records (map hello_to (open_world run records).channels) (open_world run records) [] (origin_opened run records good);
   acked = opening_acked run records;
-  below = worlds_below (map hello_to (open_world run records).channels) (open_world run records) (λ key. recorded_states key (open_world run records)) (opened_below (λ key. length (recorded_states key (open_world run records))) records);
   told = (tt, tt);
   streams = tt;
   handed = (tt, tt);
+  known = tt;
+  launches = worlds_from (AckedBy records [] []) run records (map hello_to (open_world run records).channels) (open_world run records) [] (le_refl run) (hellos_ok (AckedBy records [] []) run (open_world run records).channels) (origin_opened run records good) (opened_from run records (opening_from run records good));
 }
 
 pub history_ok : (run : ℕ) (records : List Durable) (steps : List Marked) → GoodOpening run records → HistoryOk records (open_world run records) (history run records steps)
@@ -561,7 +562,7 @@ no_lack : (v : Verdict) → NotNoRoom v → v ≢ AgentRefused NoRoom
 no_lack v h e = subst NotNoRoom e h
 
 pub history_fits : (run : ℕ) (records : List Durable) (steps : List Marked) → GoodOpening run records → AllFit (history run records steps).state.world
-history_fits run records steps good = all_fit (history run records steps).state.world (history_ok run records steps good).world
+history_fits run records steps good = all_fit (updates_in (open_world run records) (history run records steps).happenings) (history run records steps).state.world (history_ok run records steps good).sent.world
 
 pub history_has_room : (run : ℕ) (records : List Durable) (steps : List Marked) → GoodOpening run records → Each (λ (e : Entry). e.verdict ≢ AgentRefused NoRoom) (history run records steps).entries
 history_has_room run records steps good = each_map (λ (e : Entry). NotNoRoom e.verdict) (λ (e : Entry). e.verdict ≢ AgentRefused NoRoom) (λ e h. no_lack e.verdict h) (history run records steps).entries (history_ok run records steps good).verdicts
@@ -571,8 +572,8 @@ history_origin run records steps good = has_origin records (history run records 
 
 pub history_found : (run : ℕ) (records : List Durable) (steps : List Marked) (later : ℕ) (found : List Durable) → GoodOpening run records → (history run records steps).state.world.run.number < later → IsFound (history run records steps).state.world.channels found → GoodOpening later found
 history_found run records steps later found good lt is =
-    found_good records (trail (history run records steps).happenings (open_world run records) []) (history run records steps).state.world later found
-    (history_ok run records steps good).world (history_ok run records steps good).origin
+    found_good (updates_in (open_world run records) (history run records steps).happenings) records (trail (history run records steps).happenings (open_world run records) []) (history run records steps).state.world later found
+    (history_ok run records steps good).sent.world (history_ok run records steps good).origin (history_ok run records steps good).launches
     (subst (λ w. AllNamed w.channels) (sym (history_ok run records steps good).path) (worlds_named (history run records steps).happenings (open_world run records) (open_named records))) lt is
 
 -- jobs with one key are one job
@@ -607,4 +608,55 @@ history_acknowledged run records steps good = each_both (ChannelOk records h.sta
     all = history_ok run records steps good
 
 pub history_premises : (run : ℕ) (records : List Durable) (steps : List Marked) → GoodOpening run records → Each (λ c. NextLaunchIsNew c × ReportFits c) (history run records steps).state.world.channels
-history_premises run records steps good = all_premises (history run records steps).state.world (history_ok run records steps good).world
+history_premises run records steps good = all_premises (updates_in (open_world run records) (history run records steps).happenings) (history run records steps).state.world (history_ok run records steps good).sent.world
+
+-- updates have the states of their numbers
+
+event_tells : (records : List Durable) (start : World) (hs : List Happening) (posts : List Post) → OriginOk records start [] → (e : Event) → TellOk (Tellable records start hs posts) e → TellsUpdate hs start e
+event_tells records start hs posts origin (SUBSCRIBED framework) h = tt
+event_tells records start hs posts origin (OFFERS offers) h = tt
+event_tells records start hs posts origin (RESCIND offer) h = tt
+event_tells records start hs posts origin (UPDATE task state agent None) h = tt
+event_tells records start hs posts origin (UPDATE task state None (Some uuid)) h = absurd h
+event_tells records start hs posts origin (UPDATE task state (Some agent) (Some uuid)) h = (update_there records hs start agent uuid.key uuid.k state origin h.1, h.1)
+event_tells records start hs posts origin (FAILURE agent) h = tt
+event_tells records start hs posts origin FAILED_OVER h = tt
+event_tells records start hs posts origin REMOVED h = tt
+event_tells records start hs posts origin HEARTBEAT h = tt
+
+-- what is told over a whole history
+abbrev pub ToldOver : ℕ → List Durable → List Marked → List ℕ → Numbered → ℕ → TaskState → Type 0
+ToldOver run records steps = Tellable records (open_world run records) (history run records steps).happenings (history run records steps).state.posts
+
+abbrev pub IsTelling : ℕ → List Durable → List Marked → Told → Type 0
+IsTelling run records steps t = TellsUpdate (history run records steps).happenings (open_world run records) t.event
+
+all_telling : (run : ℕ) (records : List Durable) (steps : List Marked) → GoodOpening run records → (ts : List Told) → Each (EventOk (ToldOver run records steps)) ts → Each (IsTelling run records steps) ts
+all_telling run records steps good ts h = each_map (EventOk (ToldOver run records steps)) (IsTelling run records steps) (λ t x. event_tells records (open_world run records) (history run records steps).happenings (history run records steps).state.posts (origin_opened run records good) t.event x) ts h
+
+pub history_tells : (run : ℕ) (records : List Durable) (steps : List Marked) → GoodOpening run records → TellsUpdates (open_world run records) (history run records steps)
+history_tells run records steps good = each_map (EntryOk (ToldOver run records steps)) (λ (e : Entry). Each (IsTelling run records steps) e.outs.events) (λ e h. all_telling run records steps good e.outs.events h) (history run records steps).entries (history_ok run records steps good).told
+
+pub history_hands : (run : ℕ) (records : List Durable) (steps : List Marked) → GoodOpening run records → HandsUpdates (open_world run records) (history run records steps)
+history_hands run records steps good = each_map (HandedOk (ToldOver run records steps)) (λ (e : Entry). Each (IsTelling run records steps) e.outs.taken) (λ e h. all_telling run records steps good e.outs.taken h) (history run records steps).entries (history_ok run records steps good).handed
+
+pub history_there : (run : ℕ) (records : List Durable) (steps : List Marked) (agent : List ℕ) (j : Job) → GoodOpening run records → From records agent (trail (history run records steps).happenings (open_world run records) []) j → updates_of j.key (history run records steps).happenings (open_world run records) ≡ updates_on agent j.key (history run records steps).happenings (open_world run records)
+history_there run records steps agent j good from = updates_there records (history run records steps).happenings (open_world run records) agent j (origin_opened run records good) from
+
+pub history_has_all : (run : ℕ) (records : List Durable) (steps : List Marked) → GoodOpening run records → HaveAllUpdates (history run records steps).happenings (open_world run records) (history run records steps).state.world
+history_has_all run records steps good = each_both (ChannelOk records h.state.world.run marks) (λ c. Each (IsExact (updates_in start h.happenings c.side.name)) c.agent.durable.tasks) (λ c. Each (λ t. t.updates.states ≡ updates_of t.job.key h.happenings start) c.agent.durable.tasks)
+    (λ c o x. each_both (λ t. From records c.side.name marks t.job) (IsExact (updates_in start h.happenings c.side.name)) (λ t. t.updates.states ≡ updates_of t.job.key h.happenings start)
+    (λ t from e. e ∙ sym (updates_there records h.happenings start c.side.name t.job (origin_opened run records good) from)) c.agent.durable.tasks (tasks_from records h.state.world.run marks c o) x)
+    h.state.world.channels ok.origin.channels (all_exact (updates_in start h.happenings) h.state.world ok.sent)
+  where
+    h : History
+    h = history run records steps
+
+    start : World
+    start = open_world run records
+
+    marks : List Mark
+    marks = trail (history run records steps).happenings (open_world run records) []
+
+    ok : HistoryOk records (open_world run records) (history run records steps)
+    ok = history_ok run records steps good

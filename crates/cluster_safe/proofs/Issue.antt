@@ -15,14 +15,14 @@ use Rattle.mails.specs.declared.mail.AgentMail.TheVariants.{Report, Applied, Upd
 use Rattle.cluster_model.specs.Agents.{Agent}
 use Rattle.cluster_model.specs.Sides.{Side, unended, job_rows, just_booked}
 use Rattle.cluster_model.specs.Channels.{InRun}
-use Rattle.cluster_safe.specs.Facts.{Less, UpTo, Stake, Past, Within, live, launches, stakes, Distinct, EndsKept, Ordered, EndsTorn, AtMost, EndedAt, StateOk, DownOk, UpOk, drafted, mails_of, states_of, PastOk, OpenOk, Facts}
-use Rattle.cluster_safe.proofs.Ids.{less_upto, less_differs}
+use Rattle.cluster_safe.specs.Facts.{Less, UpTo, Stake, Past, Within, live, launches, stakes, Distinct, EndsKept, Ordered, EndsTorn, AtMost, EndedAt, Grown, StateOk, DownOk, UpOk, drafted, mails_of, states_of, PastOk, OpenOk, Facts}
+use Rattle.cluster_safe.proofs.Ids.{less_upto, upto_trans, less_differs}
 use Rattle.cluster_safe.proofs.Orders.{each_append, each_map, each_both, within_refl, within_more, within_append}
 use Rattle.cluster_safe.proofs.Amounts.{within_at_most}
 use Rattle.cluster_safe.proofs.Commands.{get_more, get_push, launches-append, NotTorn, ordered_more, ends_torn_more, ends_grown}
 
 abbrev pub issued_past : Past → Command → Past
-issued_past p w = record { ever = λ s. cond (eqb s p.peak) (p.ever s ++ w ∷ []) (p.ever s); peak = p.peak; told = p.told; latest = p.latest }
+issued_past p w = record { ever = λ s. cond (eqb s p.peak) (p.ever s ++ w ∷ []) (p.ever s); peak = p.peak; told = p.told; latest = p.latest; sent = p.sent }
 
 -- what the commands are after one more, by whether it is of that session
 pub ever_cases : (p : Past) (w : Command) (s : ℕ) (P : List Command → Type 0) → (s ≡ p.peak → P (p.ever s ++ w ∷ [])) → P (p.ever s) → P ((issued_past p w).ever s)
@@ -93,6 +93,7 @@ pub record IssueOk (p : Past) (l : InRun) (w : Command) (next : Numbered) (torn 
   pub not_torn : NotTorn torn (launches (w ∷ []))
   pub one : Ordered (w ∷ [])
   pub room : AtMost (job_rows (unended (l.booked ++ bookings w))) l.total
+  pub unsent : Each (Grown p.sent) (launches (w ∷ []))
 
 take_ever : (p : Past) (w : Command) (s n : ℕ) → n ≤ length (p.ever s) → take n ((issued_past p w).ever s) ≡ take n (p.ever s)
 take_ever p w s n le = ever_cases p w s (λ ws. take n ws ≡ take n (p.ever s)) (λ same. take-append-le n (p.ever s) (w ∷ []) le) refl
@@ -110,6 +111,7 @@ state_issued p l w next torn past o c a s cov = record {
   ends = λ up. rw (take_ever p w a.session a.applied (s.applied up)) (cases (λ ss. EndsKept (take a.applied (p.ever a.session)) ss)
       (λ same. ends_grown torn a.applied (p.ever a.session) (stakes p a) (launches (w ∷ [])) (subst (λ u. EndsTorn torn (p.ever u)) (sym same) c.torn_before) c.not_torn (s.ends up))
       (s.ends up));
+  grown = cases (Each (Grown p.sent)) (λ same. each_append (Grown p.sent) (stakes p a) (launches (w ∷ [])) s.grown c.unsent) s.grown;
 }
   where
     cases : (P : List Stake → Type 0) → (a.session ≡ p.peak → P (stakes p a ++ launches (w ∷ []))) → P (stakes p a) → P (stakes (issued_past p w) a)
@@ -161,6 +163,7 @@ pub facts_issued : (p : Past) (l : InRun) (w : Command) (next : Numbered) (torn 
 facts_issued p l w next torn f c = record {
   past = past_issued p l w next torn f.past c;
   run = f.run;
+  unsent = λ key le. f.unsent key (upto_trans l.next_key next key c.later le);
   when_open = λ e. record {
     session = o.session;
     told = o.told;

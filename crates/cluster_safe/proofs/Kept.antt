@@ -27,7 +27,7 @@ use Rattle.cluster_model.specs.Agents.{Agent, Draft, live_tasks, recovered, hear
 use Rattle.cluster_model.specs.Sides.{Run, Side, new_run, torn_down, unended, job_rows, offer_rows, taken, Sending, sends_nothing, issue, oldest_again, may_launch, books, launch_all, is_named, has_offer, is_good, used_offers, without_used, accepted, may_offer, offered, withdrawn, heard_update, forget, forget_all, last_session, opens, opened, counts, shut, lost, halted, restarted, SideStep, MakeOffer, Withdraw, LaunchFrom, SendKill, SendAck, SendEnd, SendHello, SendAgain, Lose, side_step}
 use Rattle.cluster_model.specs.Channels.{Channel, InRun, AgentStep, Draw, DrawMail, Adopt, StopWithout, StopWith, drawn, drawn_mail, adopted, stopped_with, agent_step, ChannelStep, ByMaster, Hear, ByAgent, heard_mail, happens, with_side, halted_run, Fits}
 use Rattle.cluster_model.specs.Masters.{nothing}
-use Rattle.cluster_safe.specs.Facts.{Less, UpTo, Past, Within, live, task_stake, launches, coming, stakes, EndsKept, Ordered, EndsTorn, AtMost, EndedAt, StateOk, DownOk, UpOk, drafted, mails_of, states_of, Facts, Kept}
+use Rattle.cluster_safe.specs.Facts.{Less, UpTo, Past, Within, live, task_stake, launches, coming, stakes, EndsKept, Ordered, EndsTorn, AtMost, EndedAt, Grown, StateOk, DownOk, UpOk, drafted, mails_of, states_of, Facts, Kept}
 use Rattle.cluster_safe.proofs.Ids.{same_is, upto_refl, less_after, upto_after}
 use Rattle.cluster_safe.proofs.Orders.{each_map, each_both, each_at, within_refl, within_trans}
 use Rattle.cluster_safe.proofs.Amounts.{amount-append, covers_is, offers_weigh, jobs-append, offers-append, within_at_most, offers-split, tasks_weigh}
@@ -84,16 +84,17 @@ abbrev pub passed : InRun → Sending → InRun
 passed l x = record { run = x.run; channel = record l.channel { side = x.side; to_agent = l.to_agent ++ x.sent } }
 
 -- a step that sends nothing
-quiet : (l : InRun) (run : Run) (s : Side) → Kept (record { run = run; channel = record l.channel { side = s } }) → Kept (passed l (sends_nothing run s))
-quiet l run s k = subst (λ mails. Kept (record { run = run; channel = record l.channel { side = s; to_agent = mails } })) (sym (append-nil l.to_agent)) k
+quiet : {sent : Numbered → List TaskState} (l : InRun) (run : Run) (s : Side) → Kept sent (record { run = run; channel = record l.channel { side = s } }) → Kept sent (passed l (sends_nothing run s))
+quiet {sent} l run s k = subst (λ mails. Kept sent (record { run = run; channel = record l.channel { side = s; to_agent = mails } })) (sym (append-nil l.to_agent)) k
 
 -- the next offer's id is in no fact
-kept_next_offer : (l : InRun) (next : Numbered) → Kept l → Kept (record { run = record l.run { next_offer = next }; channel = l.channel })
-kept_next_offer l next k = (
+kept_next_offer : {sent : Numbered → List TaskState} (l : InRun) (next : Numbered) → Kept sent l → Kept sent (record { run = record l.run { next_offer = next }; channel = l.channel })
+kept_next_offer {sent} l next k = (
   k.0,
   record {
     past = k.1.past;
     run = k.1.run;
+    unsent = k.1.unsent;
     when_open = λ e. let o = k.1.when_open e in record { session = o.session; told = o.told; issued = o.issued; known = o.known; torn = o.torn; covered = o.covered };
     when_shut = λ e. let o = k.1.when_shut e in record { offers = o.offers; booked = o.booked; closed = o.closed };
     states = k.1.states;
@@ -102,16 +103,17 @@ kept_next_offer l next k = (
     pending = k.1.pending;
   },
   k.2,
+  k.3,
 )
 
 -- offers
 
-kept_offered : (l : InRun) (o : Offer) → Kept l → Kept (passed l (offered l.run l.side o))
-kept_offered l o k = cond_both (may_offer l.run l.side o) (sends_nothing (record l.run { next_offer = following o.id }) (record l.side { offers = l.offers ++ o ∷ [] })) (sends_nothing l.run l.side) (λ x. Kept (passed l x))
+kept_offered : {sent : Numbered → List TaskState} (l : InRun) (o : Offer) → Kept sent l → Kept sent (passed l (offered l.run l.side o))
+kept_offered {sent} l o k = cond_both (may_offer l.run l.side o) (sends_nothing (record l.run { next_offer = following o.id }) (record l.side { offers = l.offers ++ o ∷ [] })) (sends_nothing l.run l.side) (λ x. Kept sent (passed l x))
     (λ e. let all = both_true (l.is_open && same o.id l.next_offer) (covers l.total (o.resources ++ taken l.side)) e in
     let both = both_true l.is_open (same o.id l.next_offer) all.0 in
     quiet l (record l.run { next_offer = following o.id }) (record l.side { offers = l.offers ++ o ∷ [] })
-    (kept_next_offer (sided l (record l.side { offers = l.offers ++ o ∷ [] })) (following o.id) (k.0, facts_offers k.0 l (l.offers ++ o ∷ []) k.1 (λ d. absurd (differ d both.0)), λ name. room name (covers_is l.total (o.resources ++ taken l.side) all.1 name))))
+    (kept_next_offer (sided l (record l.side { offers = l.offers ++ o ∷ [] })) (following o.id) (k.0, facts_offers k.0 l (l.offers ++ o ∷ []) k.1 (λ d. absurd (differ d both.0)), (λ name. room name (covers_is l.total (o.resources ++ taken l.side) all.1 name)), k.3)))
     (λ e. quiet l l.run l.side k)
   where
     differ : l.is_open ≡ false → l.is_open ≡ true → ⊥
@@ -123,18 +125,19 @@ kept_offered l o k = cond_both (may_offer l.run l.side o) (sends_nothing (record
 room_left : (l : Side) (test : Offer → Bool) → AtMost (taken l) l.total → AtMost (offer_rows (filter (λ o. not (test o)) l.offers) ++ job_rows (unended l.booked)) l.total
 room_left l test r name = omega (arith, taken_is name l, r name, offers-split name test l.offers, amount-append name (offer_rows (filter (λ o. not (test o)) l.offers)) (job_rows (unended l.booked)))
 
-kept_withdrawn : (l : InRun) (ids : List Numbered) → Kept l → Kept (passed l (sends_nothing l.run (withdrawn l.side ids)))
-kept_withdrawn l ids k = quiet l l.run (withdrawn l.side ids) (k.0, facts_offers k.0 l (filter (λ o. not (is_among ids o.id)) l.offers) k.1 (λ e. ap (filter (λ o. not (is_among ids o.id))) (k.1.when_shut e).offers), room_left l.side (λ o. is_among ids o.id) k.2)
+kept_withdrawn : {sent : Numbered → List TaskState} (l : InRun) (ids : List Numbered) → Kept sent l → Kept sent (passed l (sends_nothing l.run (withdrawn l.side ids)))
+kept_withdrawn {sent} l ids k = quiet l l.run (withdrawn l.side ids) (k.0, facts_offers k.0 l (filter (λ o. not (is_among ids o.id)) l.offers) k.1 (λ e. ap (filter (λ o. not (is_among ids o.id))) (k.1.when_shut e).offers), room_left l.side (λ o. is_among ids o.id) k.2, k.3)
 
 -- commands
 
-kept_plain : (l : InRun) (w : Command) → bookings w ≡ [] → launches (w ∷ []) ≡ [] → EndsTorn l.torn (w ∷ []) → Ordered (w ∷ []) → Kept l → Kept (passed l (issue (sends_nothing l.run l.side) w))
-kept_plain l w none nothing torn ordered k = cond_both l.is_open (record { run = l.run; side = record l.side { waiting = l.waiting ++ w ∷ [] }; sent = Issued l.session (suc (l.known + length l.waiting)) w ∷ [] }) (sends_nothing l.run l.side) (λ x. Kept (passed l x))
+kept_plain : {sent : Numbered → List TaskState} (l : InRun) (w : Command) → bookings w ≡ [] → launches (w ∷ []) ≡ [] → EndsTorn l.torn (w ∷ []) → Ordered (w ∷ []) → Kept sent l → Kept sent (passed l (issue (sends_nothing l.run l.side) w))
+kept_plain {sent} l w none nothing torn ordered k = cond_both l.is_open (record { run = l.run; side = record l.side { waiting = l.waiting ++ w ∷ [] }; sent = Issued l.session (suc (l.known + length l.waiting)) w ∷ [] }) (sends_nothing l.run l.side) (λ x. Kept sent (passed l x))
     (λ e. (
       issued_past k.0 w,
       subst (λ bs. Facts (issued_past k.0 w) (record { run = l.run; channel = record l.channel { side = record l.side { waiting = l.waiting ++ w ∷ []; booked = bs }; to_agent = l.to_agent ++ Issued l.session (suc (l.known + length l.waiting)) w ∷ [] } })) same_books
           (facts_issued k.0 l w l.next_key l.torn k.1 (conditions e)),
       k.2,
+      k.3,
     ))
     (λ e. quiet l l.run l.side k)
   where
@@ -152,31 +155,32 @@ kept_plain l w none nothing torn ordered k = cond_both l.is_open (record { run =
       not_torn = subst (NotTorn l.torn) (sym nothing) tt;
       one = ordered;
       room = λ name. rw same_books (omega (arith, taken_is name l.side, k.2 name));
+      unsent = subst (Each (Grown k.0.sent)) (sym nothing) tt;
     }
 
 flipped : (b : Bool) → not b ≡ true → b ≡ false
 flipped true e = absurd cc
 flipped false e = refl
 
-pub kept_torn : (l : InRun) (framework : Numbered) → Kept l → Kept (record { run = torn_down framework l.run; channel = l.channel })
-kept_torn l framework k = (k.0, facts_torn k.0 l framework k.1, k.2)
+pub kept_torn : {sent : Numbered → List TaskState} (l : InRun) (framework : Numbered) → Kept sent l → Kept sent (record { run = torn_down framework l.run; channel = l.channel })
+kept_torn {sent} l framework k = (k.0, facts_torn k.0 l framework k.1, k.2, k.3)
 
-kept_ended : (l : InRun) (framework : Numbered) → Kept l → Kept (passed l (side_step l.run l.side (SendEnd framework)))
-kept_ended l framework k = cond_both (is_among l.torn framework) (issue (sends_nothing l.run l.side) (EndFramework framework)) (sends_nothing l.run l.side) (λ x. Kept (passed l x))
+kept_ended : {sent : Numbered → List TaskState} (l : InRun) (framework : Numbered) → Kept sent l → Kept sent (passed l (side_step l.run l.side (SendEnd framework)))
+kept_ended {sent} l framework k = cond_both (is_among l.torn framework) (issue (sends_nothing l.run l.side) (EndFramework framework)) (sends_nothing l.run l.side) (λ x. Kept sent (passed l x))
     (λ e. kept_plain l (EndFramework framework) refl refl (e, tt) (tt, tt) k)
     (λ e. quiet l l.run l.side k)
 
 -- an ACCEPT: what is launched is at most what the offers had
-kept_launched : (framework : Numbered) (ids : List Numbered) (budget used : List Row) (jobs : List Job) (l : InRun) (x : Sending) (p : Past) → Facts p (passed l x) → x.side.is_open ≡ true → is_among x.run.torn framework ≡ false → ((name : List ℕ) → amount name (taken x.side) + amount name budget ≤ amount name x.side.total + amount name used) → AtMost used budget → Kept (passed l (launch_all framework ids budget jobs (record { used = used; sending = x })))
-kept_launched framework ids budget used [] l x p f is not_torn room within = (p, f, λ name. omega (arith, room name, within name))
-kept_launched framework ids budget used (job ∷ jobs) l x p f is not_torn room within =
+kept_launched : {sent : Numbered → List TaskState} (framework : Numbered) (ids : List Numbered) (budget used : List Row) (jobs : List Job) (l : InRun) (x : Sending) (p : Past) → Facts p (passed l x) → x.side.is_open ≡ true → is_among x.run.torn framework ≡ false → ((name : List ℕ) → amount name (taken x.side) + amount name budget ≤ amount name x.side.total + amount name used) → AtMost used budget → p.sent ≡ sent → Kept sent (passed l (launch_all framework ids budget jobs (record { used = used; sending = x })))
+kept_launched {sent} framework ids budget used [] l x p f is not_torn room within same_sent = (p, f, (λ name. omega (arith, room name, within name)), same_sent)
+kept_launched {sent} framework ids budget used (job ∷ jobs) l x p f is not_torn room within same_sent =
     cond_both (may_launch x.run framework budget used job)
-    (record { used = job.resources ++ used; sending = issue (books x job) (Launch job ids) }) (record { used = used; sending = x }) (λ y. Kept (passed l (launch_all framework ids budget jobs y)))
-    (λ e. subst (λ y. Kept (passed l (launch_all framework ids budget jobs (record { used = job.resources ++ used; sending = y })))) (sym issued_is)
+    (record { used = job.resources ++ used; sending = issue (books x job) (Launch job ids) }) (record { used = used; sending = x }) (λ y. Kept sent (passed l (launch_all framework ids budget jobs y)))
+    (λ e. subst (λ y. Kept sent (passed l (launch_all framework ids budget jobs (record { used = job.resources ++ used; sending = y })))) (sym issued_is)
     (kept_launched framework ids budget (job.resources ++ used) jobs l next (issued_past p (Launch job ids))
     (subst (λ mails. Facts (issued_past p (Launch job ids)) (record { run = next.run; channel = record l.channel { side = next.side; to_agent = mails } })) (append_assoc l.to_agent x.sent (command ∷ []))
-    (facts_issued p (passed l x) (Launch job ids) (following job.key) x.run.torn f (conditions e))) is not_torn (more e) (covered e)))
-    (λ e. kept_launched framework ids budget used jobs l x p f is not_torn room within)
+    (facts_issued p (passed l x) (Launch job ids) (following job.key) x.run.torn f (conditions e))) is not_torn (more e) (covered e) same_sent))
+    (λ e. kept_launched framework ids budget used jobs l x p f is not_torn room within same_sent)
   where
     command : MasterMail
     command = Issued x.side.session (suc (x.side.known + length x.side.waiting)) (Launch job ids)
@@ -207,6 +211,7 @@ kept_launched framework ids budget used (job ∷ jobs) l x p f is not_torn room 
       not_torn = (subst (λ g. is_among x.run.torn g ≡ false) (sym alike) not_torn, tt);
       one = tt;
       room = λ name. omega (arith, booked_more name, taken_is name x.side, room name, amount-append name job.resources used, covered e name);
+      unsent = (([], sym (append-nil (p.sent job.key) ∙ f.unsent job.key fresh)), tt);
     }
       where
         parts : (same job.key x.run.next_key && same job.framework framework ≡ true) × (covers budget (job.resources ++ used) ≡ true)
@@ -218,13 +223,13 @@ kept_launched framework ids budget used (job ∷ jobs) l x p f is not_torn room 
         alike : job.framework ≡ framework
         alike = same_is job.framework framework (both_true (same job.key x.run.next_key) (same job.framework framework) parts.0).1
 
-kept_accepted : (l : InRun) (framework : Numbered) (ids : List Numbered) (jobs : List Job) → Kept l → Kept (passed l (accepted l.run l.side framework ids jobs))
-kept_accepted l framework ids jobs k = cond_both (is_good l.side framework ids && not (is_among l.torn framework))
-    (launch_all framework ids budget jobs (record { used = []; sending = sends_nothing l.run (without_used l.side framework ids) })) (sends_nothing l.run l.side) (λ x. Kept (passed l x))
+kept_accepted : {sent : Numbered → List TaskState} (l : InRun) (framework : Numbered) (ids : List Numbered) (jobs : List Job) → Kept sent l → Kept sent (passed l (accepted l.run l.side framework ids jobs))
+kept_accepted {sent} l framework ids jobs k = cond_both (is_good l.side framework ids && not (is_among l.torn framework))
+    (launch_all framework ids budget jobs (record { used = []; sending = sends_nothing l.run (without_used l.side framework ids) })) (sends_nothing l.run l.side) (λ x. Kept sent (passed l x))
     (λ e. let both = both_true (is_good l.side framework ids) (not (is_among l.torn framework)) e in
     let is : l.is_open ≡ true = (both_true l.is_open (not (is_empty ids)) (both_true (l.is_open && not (is_empty ids)) (not (is_repeated ids)) (both_true (l.is_open && not (is_empty ids) && not (is_repeated ids)) (list_all (has_offer l.side framework) ids) both.0).0).0).0 in
     kept_launched framework ids budget [] jobs l (sends_nothing l.run (without_used l.side framework ids)) k.0
-    (subst (λ mails. Facts k.0 (record { run = l.run; channel = record l.channel { side = without_used l.side framework ids; to_agent = mails } })) (sym (append-nil l.to_agent)) (facts_offers k.0 l (filter (λ o. not (is_named framework ids o)) l.offers) k.1 (λ d. absurd (differ d is)))) is (flipped (is_among l.torn framework) both.1) room (λ name. zero-le))
+    (subst (λ mails. Facts k.0 (record { run = l.run; channel = record l.channel { side = without_used l.side framework ids; to_agent = mails } })) (sym (append-nil l.to_agent)) (facts_offers k.0 l (filter (λ o. not (is_named framework ids o)) l.offers) k.1 (λ d. absurd (differ d is)))) is (flipped (is_among l.torn framework) both.1) room (λ name. zero-le) k.3)
     (λ e. quiet l l.run l.side k)
   where
     budget : List Row
@@ -244,17 +249,17 @@ heard_job key k state ended b = cond_both (same b.job.key key) (record { job = b
 heard_for_good : (key : Numbered) (k : ℕ) (state : TaskState) (ended : Bool) (b : Booked) → b.ended ≡ true → (heard_update key k state ended b).ended ≡ true
 heard_for_good key k state ended b e = cond_both (same b.job.key key) (record { job = b.job; ended = b.ended || ended; heard = (if nat_le b.heard (suc k) then suc k else b.heard); state = (if nat_le b.heard (suc k) then state else b.state) }) b (λ c. c.ended ≡ true) (λ d. or_left b.ended ended e) (λ d. e)
 
-kept_came : (l : InRun) (k : Kept l) (o : Option AgentMail) → ((m : AgentMail) → o ≡ Some m → UpOk k.0 l.next_key l.total (states_of l) m) → Kept (record { run = l.run; channel = heard_mail l.run l.channel o })
-kept_came l k None h = k
-kept_came l k (Some (Report session run tasks)) h = cond_both (opens l.run l.side session run) (opened l.side session tasks) l.side (λ x. Kept (sided l x))
+kept_came : {sent : Numbered → List TaskState} (l : InRun) (k : Kept sent l) (o : Option AgentMail) → ((m : AgentMail) → o ≡ Some m → UpOk k.0 l.next_key l.total (states_of l) m) → Kept sent (record { run = l.run; channel = heard_mail l.run l.channel o })
+kept_came {sent} l k None h = k
+kept_came {sent} l k (Some (Report session run tasks)) h = cond_both (opens l.run l.side session run) (opened l.side session tasks) l.side (λ x. Kept sent (sided l x))
     (λ e. let parts = both_true (l.serves && eqb run l.number) (nat_lt (last_session l.side) session) e in
     let both = both_true l.serves (eqb run l.number) parts.0 in
     let u = h (Report session run tasks) refl in
     let same_run : run ≡ l.number = (Decides-eqb run l.number).0 both.1 in
     let below : last_session l.side < session = (let t : nat_lt (last_session l.side) session ≡ true = parts.1 in grind (arith, nat_tests)) in
-    (record { ever = k.0.ever; peak = session; told = k.0.told; latest = k.0.latest }, facts_opened k.0 l session tasks k.1 (u.0 ∙ same_run, u.1, u.2) below, u.1))
+    (record { ever = k.0.ever; peak = session; told = k.0.told; latest = k.0.latest; sent = k.0.sent }, facts_opened k.0 l session tasks k.1 (u.0 ∙ same_run, u.1, u.2) below, u.1, k.3))
     (λ e. k)
-kept_came l k (Some (Applied session count)) h = cond_both (counts l.side session count) (record l.side { booked = forget_all (take (count - l.known) l.waiting) l.booked; waiting = drop (count - l.known) l.waiting; known = count }) l.side (λ x. Kept (sided l x))
+kept_came {sent} l k (Some (Applied session count)) h = cond_both (counts l.side session count) (record l.side { booked = forget_all (take (count - l.known) l.waiting) l.booked; waiting = drop (count - l.known) l.waiting; known = count }) l.side (λ x. Kept sent (sided l x))
     (λ e. let parts = both_true (l.is_open && session == l.session) (nat_lt l.known count && nat_le count (l.known + length l.waiting)) e in
     let both = both_true l.is_open (eqb session l.session) parts.0 in
     let o = k.1.when_open both.0 in
@@ -271,14 +276,16 @@ kept_came l k (Some (Applied session count)) h = cond_both (counts l.side sessio
           (λ a ends w. covered_forget_all k.0 (take (count - l.known) l.waiting) l.booked a (subst (λ ws. EndsKept ws (stakes k.0 a)) cut (ends_drop l.known (take count (k.0.ever k.0.peak)) (stakes k.0 a) (subst (λ s. EndsKept (take count (k.0.ever s)) (stakes k.0 a)) same ends))) w)
           (states_of l) (u.2 same) o.covered),
       room_booked l.side (forget_all (take (count - l.known) l.waiting) l.booked) k.2 (fewer_forgotten (take (count - l.known) l.waiting) l.booked),
+      k.3,
     ))
     (λ e. k)
-kept_came l k (Some (Update session key n state ended)) h = cond_both (l.is_open && session == l.session) (record l.side { booked = map (heard_update key n state ended) l.booked }) l.side (λ x. Kept (sided l x))
+kept_came {sent} l k (Some (Update session key n state ended)) h = cond_both (l.is_open && session == l.session) (record l.side { booked = map (heard_update key n state ended) l.booked }) l.side (λ x. Kept sent (sided l x))
     (λ e. let both = both_true l.is_open (eqb session l.session) e in
     let o = k.1.when_open both.0 in (
       k.0,
       facts_booked k.0 l (map (heard_update key n state ended) l.booked) l.waiting l.known k.1 both.0 o.known o.issued (by_end ended refl o.covered),
       room_booked l.side (map (heard_update key n state ended) l.booked) k.2 (fewer_mapped (heard_update key n state ended) (heard_job key n state ended) (heard_for_good key n state ended) l.booked),
+      k.3,
     ))
     (λ e. k)
   where
@@ -288,45 +295,46 @@ kept_came l k (Some (Update session key n state ended)) h = cond_both (l.is_open
     by_end false e w = each_map (λ a. Within (live (stakes k.0 a)) (unended l.booked)) (λ a. Within (live (stakes k.0 a)) (unended (map (heard_update key n state ended) l.booked)))
         (λ a v. covered_heard k.0 key n state ended l.booked a (λ t. absurd cc) v) (states_of l) w
 
-kept_lost : (l : InRun) → Kept l → Kept (passed l (sends_nothing l.run (lost l.side)))
-kept_lost l k = quiet l l.run (lost l.side) (cond_both l.is_open (shut l.side l.session) l.side (λ x. Kept (sided l x))
-    (λ e. (k.0, facts_lost k.0 l k.1 e, λ name. zero-le)) (λ e. k))
+kept_lost : {sent : Numbered → List TaskState} (l : InRun) → Kept sent l → Kept sent (passed l (sends_nothing l.run (lost l.side)))
+kept_lost {sent} l k = quiet l l.run (lost l.side) (cond_both l.is_open (shut l.side l.session) l.side (λ x. Kept sent (sided l x))
+    (λ e. (k.0, facts_lost k.0 l k.1 e, (λ name. zero-le), k.3)) (λ e. k))
 
 -- the agent
 
 abbrev pub with_channel : InRun → Channel → InRun
 with_channel l c = record { run = l.run; channel = c }
 
-kept_drawn : (l : InRun) (k : Kept l) (o : Option Draft) (r : Result Draft AgentRefusal) → l.draft ≡ o → (l.draft ≡ None → AllOk (Draftable l) r) → Kept (with_channel l (drawn l.channel o r))
-kept_drawn l k (Some old) r e h = k
-kept_drawn l k None (Err fault) e h = k
-kept_drawn l k None (Ok new) e h = (
+kept_drawn : {sent : Numbered → List TaskState} (l : InRun) (k : Kept sent l) (o : Option Draft) (r : Result Draft AgentRefusal) → l.draft ≡ o → (l.draft ≡ None → AllOk (Draftable k.0.sent l) r) → Kept sent (with_channel l (drawn l.channel o r))
+kept_drawn {sent} l k (Some old) r e h = k
+kept_drawn {sent} l k None (Err fault) e h = k
+kept_drawn {sent} l k None (Ok new) e h = (
   d.0,
   subst (λ mails. Facts d.0 (record { run = l.run; channel = record l.channel { draft = Some new; to_master = mails } })) (append-nil l.to_master)
       (facts_replaced d.0 l l.agent (Some new) [] d.1 replaces (d.1.states.0, (d.2.ok, tt)) tt d.2.mails),
   k.2,
+  d.3 ∙ k.3,
 )
   where
-    d : Draftable l new
+    d : Draftable k.0.sent l new
     d = h e
 
     replaces : Replaces d.0 (states_of l) (l.agent ∷ new.after ∷ [])
     replaces P f x = (x.0, (f new.after l.agent d.2.follows x.0, tt))
 
-kept_mail : (l : InRun) (k : Kept l) (o : Option MasterMail) → ((m : MasterMail) → o ≡ Some m → DownOk k.0 m) → Kept (with_channel l (drawn_mail l.channel o))
-kept_mail l k None h = k
-kept_mail l k (Some m) h = kept_drawn l k l.draft (hears_mail l.agent m) refl (λ e. mail_ok k.0 l m k.1 e (h m refl))
+kept_mail : {sent : Numbered → List TaskState} (l : InRun) (k : Kept sent l) (o : Option MasterMail) → ((m : MasterMail) → o ≡ Some m → DownOk k.0 m) → Kept sent (with_channel l (drawn_mail l.channel o))
+kept_mail {sent} l k None h = k
+kept_mail {sent} l k (Some m) h = kept_drawn l k l.draft (hears_mail l.agent m) refl (λ e. mail_ok k.0 l m k.1 e (h m refl))
 
-kept_cause : (l : InRun) (c : Cause) → Kept l → Kept (with_channel l (agent_step l.channel (Draw c)))
-kept_cause l Start k = kept_drawn l k l.draft (next_of l.agent Start) refl (λ e. next_ok k.0 l Start k.1 e tt)
-kept_cause l Again k = kept_drawn l k l.draft (next_of l.agent Again) refl (λ e. next_ok k.0 l Again k.1 e tt)
-kept_cause l (Mail m) k = k
-kept_cause l (Executor key state) k = kept_drawn l k l.draft (next_of l.agent (Executor key state)) refl (λ e. next_ok k.0 l (Executor key state) k.1 e tt)
+kept_cause : {sent : Numbered → List TaskState} (l : InRun) (c : Cause) → Kept sent l → Kept sent (with_channel l (agent_step l.channel (Draw c)))
+kept_cause {sent} l Start k = kept_drawn l k l.draft (next_of l.agent Start) refl (λ e. next_ok k.0 l Start k.1 e tt)
+kept_cause {sent} l Again k = kept_drawn l k l.draft (next_of l.agent Again) refl (λ e. next_ok k.0 l Again k.1 e tt)
+kept_cause {sent} l (Mail m) k = k
+kept_cause {sent} l (Executor key state) k = kept_drawn l k l.draft (next_of l.agent (Executor key state)) refl (λ e. next_ok k.0 l (Executor key state) k.1 e tt)
 
-kept_adopted : (l : InRun) (k : Kept l) (o : Option Draft) → l.draft ≡ o → Kept (with_channel l (adopted l.channel o))
-kept_adopted l k None e = k
-kept_adopted l k (Some d) e =
-    (k.0, facts_replaced k.0 l d.after None d.mails k.1 replaces (states.1.0, tt) pending tt, k.2)
+kept_adopted : {sent : Numbered → List TaskState} (l : InRun) (k : Kept sent l) (o : Option Draft) → l.draft ≡ o → Kept sent (with_channel l (adopted l.channel o))
+kept_adopted {sent} l k None e = k
+kept_adopted {sent} l k (Some d) e =
+    (k.0, facts_replaced k.0 l d.after None d.mails k.1 replaces (states.1.0, tt) pending tt, k.2, k.3)
   where
     states : Each (StateOk k.0 l.next_key l.total) (l.agent ∷ d.after ∷ [])
     states = subst (λ o. Each (StateOk k.0 l.next_key l.total) (l.agent ∷ drafted o)) e k.1.states
@@ -337,21 +345,23 @@ kept_adopted l k (Some d) e =
     replaces : Replaces k.0 (states_of l) (d.after ∷ [])
     replaces P f x = (let y : Each P (l.agent ∷ d.after ∷ []) = subst (λ o. Each P (l.agent ∷ drafted o)) e x in y.1)
 
-kept_without : (l : InRun) → Kept l → Kept (with_channel l (agent_step l.channel StopWithout))
-kept_without l k = (
+kept_without : {sent : Numbered → List TaskState} (l : InRun) → Kept sent l → Kept sent (with_channel l (agent_step l.channel StopWithout))
+kept_without {sent} l k = (
   k.0,
   subst (λ mails. Facts k.0 (record { run = l.run; channel = record l.channel { agent = recovered l.agent; draft = None; to_master = mails } })) (append-nil l.to_master)
       (facts_replaced k.0 l (recovered l.agent) None [] k.1 (λ P f x. (f (recovered l.agent) l.agent (follows_recovered k.0 l.agent) x.0, tt)) (ok_recovered k.0 l.next_key l.total l.agent k.1.states.0, tt) tt tt),
   k.2,
+  k.3,
 )
 
-kept_with : (l : InRun) (k : Kept l) (o : Option Draft) → l.draft ≡ o → Kept (with_channel l (stopped_with l.channel o))
-kept_with l k None e = k
-kept_with l k (Some d) e = (
+kept_with : {sent : Numbered → List TaskState} (l : InRun) (k : Kept sent l) (o : Option Draft) → l.draft ≡ o → Kept sent (with_channel l (stopped_with l.channel o))
+kept_with {sent} l k None e = k
+kept_with {sent} l k (Some d) e = (
   k.0,
   subst (λ mails. Facts k.0 (record { run = l.run; channel = record l.channel { agent = recovered d.after; draft = None; to_master = mails } })) (append-nil l.to_master)
       (facts_replaced k.0 l (recovered d.after) None [] k.1 replaces (ok_recovered k.0 l.next_key l.total d.after states.1.0, tt) tt tt),
   k.2,
+  k.3,
 )
   where
     states : Each (StateOk k.0 l.next_key l.total) (l.agent ∷ d.after ∷ [])
@@ -362,37 +372,37 @@ kept_with l k (Some d) e = (
 
 -- all steps
 
-kept_side : (l : InRun) (step : SideStep) → Kept l → Kept (passed l (side_step l.run l.side step))
-kept_side l (MakeOffer offer) k = kept_offered l offer k
-kept_side l (Withdraw ids) k = kept_withdrawn l ids k
-kept_side l (LaunchFrom framework ids jobs) k = kept_accepted l framework ids jobs k
-kept_side l (SendKill key) k = kept_plain l (Kill key) refl refl tt tt k
-kept_side l (SendAck key i) k = kept_plain l (Ack key i) refl refl tt tt k
-kept_side l (SendEnd framework) k = kept_ended l framework k
-kept_side l SendHello k = (helloed_past k.0 l.number, facts_helloed k.0 l k.1, k.2)
-kept_side l SendAgain k = cond_both l.is_open (oldest_again l.side l.waiting) [] (λ mails. Kept (posted l (l.to_agent ++ mails))) (λ e. (k.0, facts_resent k.0 l e k.1, k.2)) (λ e. quiet l l.run l.side k)
-kept_side l Lose k = kept_lost l k
+kept_side : {sent : Numbered → List TaskState} (l : InRun) (step : SideStep) → Kept sent l → Kept sent (passed l (side_step l.run l.side step))
+kept_side {sent} l (MakeOffer offer) k = kept_offered l offer k
+kept_side {sent} l (Withdraw ids) k = kept_withdrawn l ids k
+kept_side {sent} l (LaunchFrom framework ids jobs) k = kept_accepted l framework ids jobs k
+kept_side {sent} l (SendKill key) k = kept_plain l (Kill key) refl refl tt tt k
+kept_side {sent} l (SendAck key i) k = kept_plain l (Ack key i) refl refl tt tt k
+kept_side {sent} l (SendEnd framework) k = kept_ended l framework k
+kept_side {sent} l SendHello k = (helloed_past k.0 l.number, facts_helloed k.0 l k.1, k.2, k.3)
+kept_side {sent} l SendAgain k = cond_both l.is_open (oldest_again l.side l.waiting) [] (λ mails. Kept sent (posted l (l.to_agent ++ mails))) (λ e. (k.0, facts_resent k.0 l e k.1, k.2, k.3)) (λ e. quiet l l.run l.side k)
+kept_side {sent} l Lose k = kept_lost l k
 
-kept_agent : (l : InRun) (step : AgentStep) → Kept l → Kept (with_channel l (agent_step l.channel step))
-kept_agent l (Draw cause) k = kept_cause l cause k
-kept_agent l (DrawMail place) k = kept_mail l k (slice_get l.to_agent place) (λ m e. each_at (DownOk k.0) l.to_agent place m k.1.downs e)
-kept_agent l Adopt k = kept_adopted l k l.draft refl
-kept_agent l StopWithout k = kept_without l k
-kept_agent l StopWith k = kept_with l k l.draft refl
+kept_agent : {sent : Numbered → List TaskState} (l : InRun) (step : AgentStep) → Kept sent l → Kept sent (with_channel l (agent_step l.channel step))
+kept_agent {sent} l (Draw cause) k = kept_cause l cause k
+kept_agent {sent} l (DrawMail place) k = kept_mail l k (slice_get l.to_agent place) (λ m e. each_at (DownOk k.0) l.to_agent place m k.1.downs e)
+kept_agent {sent} l Adopt k = kept_adopted l k l.draft refl
+kept_agent {sent} l StopWithout k = kept_without l k
+kept_agent {sent} l StopWith k = kept_with l k l.draft refl
 
-pub kept : (l : InRun) (step : ChannelStep) → Kept l → Kept (happens l.run l.channel step)
-kept l (ByMaster step) k = kept_side l step k
-kept l (Hear place) k = kept_came l k (slice_get l.to_master place) (λ m e. each_at (UpOk k.0 l.next_key l.total (states_of l)) l.to_master place m k.1.ups e)
-kept l (ByAgent step) k = kept_agent l step k
+pub kept : {sent : Numbered → List TaskState} (l : InRun) (step : ChannelStep) → Kept sent l → Kept sent (happens l.run l.channel step)
+kept {sent} l (ByMaster step) k = kept_side l step k
+kept {sent} l (Hear place) k = kept_came l k (slice_get l.to_master place) (λ m e. each_at (UpOk k.0 l.next_key l.total (states_of l)) l.to_master place m k.1.ups e)
+kept {sent} l (ByAgent step) k = kept_agent l step k
 
-pub kept_halted : (l : InRun) → Kept l → Kept (record { run = halted_run l.run; channel = with_side halted l.channel })
-kept_halted l k = (k.0, facts_halted k.0 l k.1, λ name. zero-le)
+pub kept_halted : {sent : Numbered → List TaskState} (l : InRun) → Kept sent l → Kept sent (record { run = halted_run l.run; channel = with_side halted l.channel })
+kept_halted {sent} l k = (k.0, facts_halted k.0 l k.1, (λ name. zero-le), k.3)
 
-pub kept_restarted : (l : InRun) → UpTo l.next_key (first_of_run (1 + l.number)) → Kept l → Kept (record { run = new_run (1 + l.number); channel = with_side restarted l.channel })
-kept_restarted l le k = (k.0, facts_new_run k.0 l le k.1, λ name. zero-le)
+pub kept_restarted : {sent : Numbered → List TaskState} (l : InRun) → UpTo l.next_key (first_of_run (1 + l.number)) → Kept sent l → Kept sent (record { run = new_run (1 + l.number); channel = with_side restarted l.channel })
+kept_restarted {sent} l le k = (k.0, facts_new_run k.0 l le k.1, (λ name. zero-le), k.3)
 
-pub fits_from_kept : (l : InRun) → Kept l → Fits l.channel
-fits_from_kept l k name = at_open l.is_open refl
+pub fits_from_kept : {sent : Numbered → List TaskState} (l : InRun) → Kept sent l → Fits l.channel
+fits_from_kept {sent} l k name = at_open l.is_open refl
   where
     a : Agent
     a = l.agent

@@ -9,12 +9,17 @@ pub mod Master
 pub mod Kept
 pub mod Room
 pub mod Opened
+pub mod SideNames
 pub mod Worlds
+pub mod Sent
 pub mod Openings
 pub mod Names
 pub mod Stopped
+pub mod Owners
 pub mod Alone
 pub mod Acks
+pub mod Registers
+pub mod Launches
 pub mod Sources
 pub mod Accepts
 pub mod Histories
@@ -25,7 +30,7 @@ pub mod SideTrails
 pub mod OriginWorlds
 pub mod Premises
 pub mod Events
-pub mod Below
+pub mod Counts
 pub mod Gapless
 pub mod Offered
 pub mod Growth

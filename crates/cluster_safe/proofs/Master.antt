@@ -20,7 +20,7 @@ use Rattle.cluster_model.specs.Agents.{Agent}
 use Rattle.cluster_model.specs.Sides.{Side, new_run, torn_down, unended, oldest_again, heard_update, forget, forget_all, last_session, opened, shut, halted, restarted}
 use Rattle.cluster_model.specs.Channels.{InRun, with_side, halted_run}
 use Rattle.cluster_safe.specs.Facts.{Less, UpTo, Past, Within, live, stakes, EndsKept, EndedAt, StateOk, DownOk, UpOk, drafted, mails_of, states_of, OpenOk, Facts}
-use Rattle.cluster_safe.proofs.Ids.{same_is, less_upto}
+use Rattle.cluster_safe.proofs.Ids.{same_is, less_upto, upto_trans}
 use Rattle.cluster_safe.proofs.Orders.{each_append, each_map, each_both, live_of_ended, each_live, within_mapped, within_filtered}
 use Rattle.cluster_safe.proofs.Commands.{ends_torn_wider}
 
@@ -35,6 +35,7 @@ pub facts_offers : (p : Past) (l : InRun) (os : List Offer) → Facts p l → (l
 facts_offers p l os f h = record {
   past = f.past;
   run = f.run;
+  unsent = f.unsent;
   when_open = λ e. let o = f.when_open e in record { session = o.session; told = o.told; issued = o.issued; known = o.known; torn = o.torn; covered = o.covered };
   when_shut = λ e. let o = f.when_shut e in record { offers = h e; booked = o.booked; closed = o.closed };
   states = f.states;
@@ -47,6 +48,7 @@ pub facts_booked : (p : Past) (l : InRun) (bs : List Booked) (waiting : List Com
 facts_booked p l bs waiting known f is le at h = record {
   past = f.past;
   run = f.run;
+  unsent = f.unsent;
   when_open = λ e. let o = f.when_open e in record { session = o.session; told = o.told; issued = at; known = le; torn = o.torn; covered = h };
   when_shut = λ e. absurd (differ e is);
   states = f.states;
@@ -62,6 +64,7 @@ pub facts_torn : (p : Past) (l : InRun) (framework : Numbered) → Facts p l →
 facts_torn p l framework f = record {
   past = f.past;
   run = f.run;
+  unsent = f.unsent;
   when_open = λ e. let o = f.when_open e in record { session = o.session; told = o.told; issued = o.issued; known = o.known; torn = ends_torn_wider framework l.torn (p.ever p.peak) o.torn; covered = o.covered };
   when_shut = λ e. let o = f.when_shut e in record { offers = o.offers; booked = o.booked; closed = o.closed };
   states = f.states;
@@ -72,15 +75,16 @@ facts_torn p l framework f = record {
 
 -- a Hello tells the run
 abbrev pub helloed_past : Past → ℕ → Past
-helloed_past p run = record { ever = p.ever; peak = p.peak; told = p.told; latest = run }
+helloed_past p run = record { ever = p.ever; peak = p.peak; told = p.told; latest = run; sent = p.sent }
 
 pub facts_helloed : (p : Past) (l : InRun) → Facts p l → Facts (helloed_past p l.number) (posted l (l.to_agent ++ Hello l.number l.closed ∷ []))
 facts_helloed p l f = record {
   past = record { none = f.past.none; ordered = f.past.ordered; rises = f.past.rises; runs = λ s. le_trans (f.past.runs s) f.run };
   run = le_refl l.number;
+  unsent = f.unsent;
   when_open = λ e. let o = f.when_open e in record { session = o.session; told = o.told; issued = o.issued; known = o.known; torn = o.torn; covered = o.covered };
   when_shut = λ e. let o = f.when_shut e in record { offers = o.offers; booked = o.booked; closed = o.closed };
-  states = each_map (StateOk p l.next_key l.total) (StateOk (helloed_past p l.number) l.next_key l.total) (λ a s. record { owns = s.owns; told = s.told; peak = s.peak; applied = s.applied; distinct = s.distinct; below = s.below; room = s.room; ends = s.ends }) (states_of l) f.states;
+  states = each_map (StateOk p l.next_key l.total) (StateOk (helloed_past p l.number) l.next_key l.total) (λ a s. record { owns = s.owns; told = s.told; peak = s.peak; applied = s.applied; distinct = s.distinct; below = s.below; room = s.room; ends = s.ends; grown = s.grown }) (states_of l) f.states;
   downs = each_append (DownOk (helloed_past p l.number)) l.to_agent (Hello l.number l.closed ∷ []) (each_map (DownOk p) (DownOk (helloed_past p l.number)) down l.to_agent f.downs) (le_refl l.number, tt);
   ups = each_map (UpOk p l.next_key l.total (states_of l)) (UpOk (helloed_past p l.number) l.next_key l.total (states_of l)) (up (states_of l)) l.to_master f.ups;
   pending = each_map (UpOk p l.next_key l.total (drafted l.draft)) (UpOk (helloed_past p l.number) l.next_key l.total (drafted l.draft)) (up (drafted l.draft)) (mails_of l.draft) f.pending;
@@ -99,6 +103,7 @@ pub facts_lost : (p : Past) (l : InRun) → Facts p l → l.is_open ≡ true →
 facts_lost p l f is = record {
   past = f.past;
   run = f.run;
+  unsent = f.unsent;
   when_open = λ (e : false ≡ true). absurd cc;
   when_shut = λ e. record { offers = refl; booked = refl; closed = inl (o.told, le_of_eq (sym o.session)) };
   states = f.states;
@@ -118,12 +123,13 @@ up_later p next later total ags le (Applied session count) h = h
 up_later p next later total ags le (Update session key k state ended) h = λ e. (less_upto key next later (h e).0 le, (h e).1)
 
 pub state_later : (p : Past) (next later : Numbered) (total : List Row) → UpTo next later → (a : Agent) → StateOk p next total a → StateOk p later total a
-state_later p next later total le a s = record { owns = s.owns; told = s.told; peak = s.peak; applied = s.applied; distinct = s.distinct; below = each_map (λ x. Less x.job.key next) (λ x. Less x.job.key later) (λ x lt. less_upto x.job.key next later lt le) (stakes p a) s.below; room = s.room; ends = s.ends }
+state_later p next later total le a s = record { owns = s.owns; told = s.told; peak = s.peak; applied = s.applied; distinct = s.distinct; below = each_map (λ x. Less x.job.key next) (λ x. Less x.job.key later) (λ x lt. less_upto x.job.key next later lt le) (stakes p a) s.below; room = s.room; ends = s.ends; grown = s.grown }
 
 pub facts_new_run : (p : Past) (l : InRun) → UpTo l.next_key (first_of_run (1 + l.number)) → Facts p l → Facts p (record { run = new_run (1 + l.number); channel = with_side restarted l.channel })
 facts_new_run p l le f = record {
   past = f.past;
   run = omega (arith, f.run);
+  unsent = λ key above. f.unsent key (upto_trans l.next_key (first_of_run (1 + l.number)) key le above);
   when_open = λ (e : false ≡ true). absurd cc;
   when_shut = λ e. record { offers = refl; booked = refl; closed = inr (omega (arith, f.run, f.past.runs p.peak)) };
   states = each_map (StateOk p l.next_key l.total) (StateOk p (first_of_run (1 + l.number)) l.total) (state_later p l.next_key (first_of_run (1 + l.number)) l.total le) (states_of l) f.states;
@@ -137,6 +143,7 @@ pub facts_halted : (p : Past) (l : InRun) → Facts p l → Facts p (record { ru
 facts_halted p l f = record {
   past = f.past;
   run = f.run;
+  unsent = f.unsent;
   when_open = λ (e : false ≡ true). absurd cc;
   when_shut = λ e. record { offers = refl; booked = refl; closed = at_open l.is_open refl };
   states = f.states;
@@ -154,6 +161,7 @@ pub facts_resent : (p : Past) (l : InRun) → l.is_open ≡ true → Facts p l �
 facts_resent p l is f = record {
   past = f.past;
   run = f.run;
+  unsent = f.unsent;
   when_open = λ e. let o = f.when_open e in record { session = o.session; told = o.told; issued = o.issued; known = o.known; torn = o.torn; covered = o.covered };
   when_shut = λ e. let o = f.when_shut e in record { offers = o.offers; booked = o.booked; closed = o.closed };
   states = f.states;
@@ -176,7 +184,7 @@ facts_resent p l is f = record {
     oldest (w ∷ us) e = ((le_of_eq o.session, (l.known, refl, subst (λ s. slice_get (p.ever s) l.known ≡ Some w) (sym o.session) (first_at (p.ever p.peak) l.known w us (sym e ∙ o.issued)))), tt)
 
 abbrev opened_past : Past → ℕ → Past
-opened_past p session = record { ever = p.ever; peak = session; told = p.told; latest = p.latest }
+opened_past p session = record { ever = p.ever; peak = session; told = p.told; latest = p.latest; sent = p.sent }
 
 -- a Report that opens a session is above each that was ever opened
 pub above_peak : (p : Past) (l : InRun) (session : ℕ) → Facts p l → p.told session ≡ l.number → (if l.is_open then l.session else l.closed) < session → p.peak < session
@@ -202,6 +210,7 @@ pub facts_opened : (p : Past) (l : InRun) (session : ℕ) (tasks : List Booked) 
 facts_opened p l session tasks f u lt = record {
   past = record { none = λ s g. f.past.none s (let h : session < s = g in omega (arith, above)); ordered = f.past.ordered; rises = f.past.rises; runs = f.past.runs };
   run = f.run;
+  unsent = f.unsent;
   when_open = λ e. record {
     session = refl;
     told = u.0;
@@ -212,7 +221,7 @@ facts_opened p l session tasks f u lt = record {
   };
   when_shut = λ (e : true ≡ false). absurd cc;
   states = each_both (StateOk p l.next_key l.total) (λ a. (session ≤ a.session) × (p.peak < session → Within (live (stakes p a)) (unended tasks))) (StateOk (opened_past p session) l.next_key l.total)
-      (λ a s k. record { owns = s.owns; told = s.told; peak = k.0; applied = s.applied; distinct = s.distinct; below = s.below; room = s.room; ends = s.ends }) (states_of l) f.states u.2;
+      (λ a s k. record { owns = s.owns; told = s.told; peak = k.0; applied = s.applied; distinct = s.distinct; below = s.below; room = s.room; ends = s.ends; grown = s.grown }) (states_of l) f.states u.2;
   downs = each_map (DownOk p) (DownOk (opened_past p session)) down l.to_agent f.downs;
   ups = each_map (UpOk p l.next_key l.total (states_of l)) (UpOk (opened_past p session) l.next_key l.total (states_of l)) (up_opened p session l.next_key l.total (states_of l) above) l.to_master f.ups;
   pending = each_map (UpOk p l.next_key l.total (drafted l.draft)) (UpOk (opened_past p session) l.next_key l.total (drafted l.draft)) (up_opened p session l.next_key l.total (drafted l.draft) above) (mails_of l.draft) f.pending;

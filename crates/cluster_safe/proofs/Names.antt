@@ -21,7 +21,7 @@ use Rattle.cluster_model.specs.Sides.{Run, Side, heard_update, forget_all, last_
 use Rattle.cluster_model.specs.Channels.{Channel, AgentStep, Draw, DrawMail, Adopt, StopWithout, StopWith, drawn, drawn_mail, adopted, stopped_with, agent_step, ChannelStep, ByMaster, Hear, ByAgent, heard_mail, happens, World, Happening, At, TearDown, Restart, Halt, behind, in_front, at_agent, with_side, after, after_all, open_channel}
 use Rattle.cluster_safe.proofs.Drafts.{AllOk, all_if}
 use Rattle.cluster_safe.proofs.Told.{drafts_of, agents_of}
-use Rattle.cluster_safe.proofs.OriginWorlds.{agent_side}
+use Rattle.cluster_safe.proofs.SideNames.{agent_side}
 use Rattle.cluster_safe.proofs.Alone.{side_name}
 
 abbrev KeepsName : Agent → Draft → Type 0

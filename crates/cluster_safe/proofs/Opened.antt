@@ -1,18 +1,23 @@
 -- A good opening has the facts.
-use Rattle.std.proofs.Common.{◌≡◌, ℕ, zero-le, le_refl, true, false, List, [], ◌++◌, map, refl, sym, subst, inr, append-nil, le_of_lt}
+use Rattle.std.proofs.Common.{◌≡◌, ℕ, zero-le, le_refl, true, false, List, [], ◌∷◌, ◌++◌, map, refl, sym, subst, inr, append-nil, le_of_lt}
 use Rattle.std.specs.List.{AllByRecursion as Each}
 use Rattle.mails.specs.declared.record.Durable.{Durable}
 use Rattle.cluster_model.specs.Ids.{first_of_run}
 use Rattle.cluster_model.specs.Sides.{new_run, job_rows}
 use Rattle.cluster_model.specs.Channels.{open_channel}
-use Rattle.cluster_safe.specs.Facts.{Less, Stake, live, task_stake, Distinct, AtMost, Kept, IsGood}
+use Rattle.cluster_safe.specs.Facts.{Less, Stake, live, task_stake, Distinct, AtMost, Grown, Kept, IsGood}
 
-pub kept_opening : (d : Durable) (run : ℕ) → IsGood run d → Kept (record { run = new_run run; channel = open_channel d })
+all_grown : (ss : List Stake) → Each (Grown (λ key. [])) ss
+all_grown [] = tt
+all_grown (s ∷ ss) = ((s.states, refl), all_grown ss)
+
+pub kept_opening : (d : Durable) (run : ℕ) → IsGood run d → Kept (λ key. []) (record { run = new_run run; channel = open_channel d })
 kept_opening o run g = (
-  record { ever = λ s. []; peak = 0; told = λ s. o.run; latest = run },
+  record { ever = λ s. []; peak = 0; told = λ s. o.run; latest = run; sent = λ key. [] },
   record {
     past = record { none = λ s lt. refl; ordered = λ s. tt; rises = λ s u le. le_refl o.run; runs = λ s. le_of_lt g.later };
     run = le_refl run;
+    unsent = λ key le. refl;
     when_open = λ (e : false ≡ true). absurd cc;
     when_shut = λ e. record { offers = refl; booked = refl; closed = inr g.later };
     states = (
@@ -25,6 +30,7 @@ kept_opening o run g = (
         below = at (Each (λ s. Less s.job.key (first_of_run run))) g.below;
         room = at (λ ss. AtMost (job_rows (live ss)) o.total) g.fits;
         ends = λ (e : false ≡ true). absurd cc;
+        grown = all_grown (map task_stake o.tasks ++ []);
       },
       tt,
     );
@@ -32,7 +38,8 @@ kept_opening o run g = (
     ups = tt;
     pending = tt;
   },
-  λ name. zero-le,
+  (λ name. zero-le),
+  refl,
 )
   where
     at : (P : List Stake → Type 0) → P (map task_stake o.tasks) → P (map task_stake o.tasks ++ [])

@@ -1,5 +1,5 @@
 -- What a good opening is over its records.
-use Rattle.std.proofs.Common.{◌≡◌, ◌≢◌, ℕ, ◌≤◌, ◌<◌, List, [], ◌∷◌, ◌++◌, map, refl, sym, ap, subst, inl, inr, arith, bytes_eq}
+use Rattle.std.proofs.Common.{◌≡◌, ◌≢◌, ℕ, ◌≤◌, ◌<◌, le_of_lt, List, [], ◌∷◌, ◌++◌, map, flat_map, refl, sym, ap, subst, inl, inr, arith, bytes_eq}
 use Rattle.std.specs.List.{AllByRecursion as Each}
 use Rattle.std.proofs.lemmas.Bool.{cond_both, cond-true}
 use Rattle.std.specs.Cmp.Lexicographic.{bytes_decides}
@@ -12,7 +12,7 @@ use Rattle.mails.specs.declared.record.RecordedTask.{RecordedTask}
 use Rattle.cluster_model.specs.Ids.{first_of_run}
 use Rattle.cluster_model.specs.Sides.{new_run, job_rows}
 use Rattle.cluster_model.specs.Channels.{open_channel, open_world}
-use Rattle.cluster_model.specs.Openings.{RecordFits, recorded_jobs, KeysOnce, NamesOnce, GoodOpening}
+use Rattle.cluster_model.specs.Openings.{RecordFits, recorded_jobs, recorded_offers, KeysOnce, NamesOnce, GoodOpening}
 use Rattle.cluster_safe.specs.Facts.{Less, live, task_stake, Distinct, AtMost, AllGood}
 use Rattle.cluster_safe.specs.Origin.{IsOneOf, recorded_on, From}
 use Rattle.cluster_safe.proofs.Orders.{each_map, each_right, each_left}
@@ -20,6 +20,7 @@ use Rattle.cluster_safe.proofs.Amounts.{tasks_weigh}
 use Rattle.cluster_safe.proofs.Told.{TaskTold}
 use Rattle.cluster_safe.proofs.Origins.{Any, in_behind, in_front_of}
 use Rattle.cluster_safe.proofs.OriginWorlds.{ChannelOk, names_of, OriginOk}
+use Rattle.cluster_safe.proofs.Launches.{TaskFrom, RecordFrom}
 
 -- each record of a good opening is a good one
 
@@ -64,16 +65,35 @@ all_good run (d ∷ ds) f o k u = (
 pub opening_good : (run : ℕ) (ds : List Durable) → GoodOpening run ds → AllGood run ds
 opening_good run ds g = all_good run ds g.fits g.older g.keys_older g.keys_once
 
+-- the runs of their frameworks and offers
+
+tasks_from : (run : ℕ) (ts : List RecordedTask) → Each (λ j. j.framework.run < run) (map (λ t. t.job) ts) → Each (λ id. id.run < run) (flat_map (λ t. t.offers) ts) → Each (TaskFrom run) ts
+tasks_from run [] h k = tt
+tasks_from run (t ∷ ts) h k = (
+  (le_of_lt h.0, each_map (λ (id : Numbered). id.run < run) (λ (id : Numbered). id.run ≤ run) (λ id lt. le_of_lt lt) t.offers (each_left (λ (id : Numbered). id.run < run) t.offers (flat_map (λ u. u.offers) ts) k)),
+  tasks_from run ts h.1 (each_right (λ (id : Numbered). id.run < run) t.offers (flat_map (λ u. u.offers) ts) k),
+)
+
+records_from : (run : ℕ) (ds : List Durable) → Each (λ j. j.framework.run < run) (recorded_jobs ds) → Each (λ id. id.run < run) (recorded_offers ds) → Each (RecordFrom run) ds
+records_from run [] h k = tt
+records_from run (d ∷ ds) h k = (
+  tasks_from run d.tasks (each_left (λ (j : Job). j.framework.run < run) (map (λ t. t.job) d.tasks) (recorded_jobs ds) h) (each_left (λ (id : Numbered). id.run < run) (flat_map (λ t. t.offers) d.tasks) (recorded_offers ds) k),
+  records_from run ds (each_right (λ (j : Job). j.framework.run < run) (map (λ t. t.job) d.tasks) (recorded_jobs ds) h) (each_right (λ (id : Numbered). id.run < run) (flat_map (λ t. t.offers) d.tasks) (recorded_offers ds) k),
+)
+
+pub opening_from : (run : ℕ) (ds : List Durable) → GoodOpening run ds → Each (RecordFrom run) ds
+opening_from run ds g = records_from run ds g.frameworks_older g.offers_older
+
 -- each task of the opening stood in a record
 
-tasks_from_old : (rs : List Durable) (name : List ℕ) (ts : List RecordedTask) → ((j : Job) → IsOneOf j (map (λ t. t.job) ts) → IsOneOf j (recorded_on name rs)) → Each (TaskTold (From rs name []) Any) ts
-tasks_from_old rs name [] f = tt
-tasks_from_old rs name (t ∷ ts) f = ((inr (f t.job (inl refl)), λ j lt. tt), tasks_from_old rs name ts (λ j h. f j (inr h)))
+old_tasks_from : (rs : List Durable) (name : List ℕ) (ts : List RecordedTask) → ((j : Job) → IsOneOf j (map (λ t. t.job) ts) → IsOneOf j (recorded_on name rs)) → Each (TaskTold (From rs name []) Any) ts
+old_tasks_from rs name [] f = tt
+old_tasks_from rs name (t ∷ ts) f = ((inr (f t.job (inl refl)), λ j lt. tt), old_tasks_from rs name ts (λ j h. f j (inr h)))
 
 channels_open : (rs : List Durable) (run : ℕ) (ds : List Durable) → ((name : List ℕ) (j : Job) → IsOneOf j (recorded_on name ds) → IsOneOf j (recorded_on name rs)) → Each (ChannelOk rs (new_run run) []) (map open_channel ds)
 channels_open rs run [] f = tt
 channels_open rs run (d ∷ ds) f = (
-  ((tt, tt), record { booked = tt; waiting = tt; states = (tasks_from_old rs d.name d.tasks (λ j h. f d.name j (here j h)), tt); downs = tt; ups = tt; pending = tt }),
+  ((tt, tt), record { booked = tt; waiting = tt; states = (old_tasks_from rs d.name d.tasks (λ j h. f d.name j (here j h)), tt); downs = tt; ups = tt; pending = tt }),
   channels_open rs run ds (λ name j h. f name j (behind_it name j h)),
 )
   where

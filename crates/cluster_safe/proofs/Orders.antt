@@ -1,5 +1,5 @@
 -- Lists of which one is within the other.
-use Rattle.std.proofs.Common.{◌≡◌, ◌≢◌, ◌⊎◌, ℕ, suc, zero, Bool, true, false, not, ◌&&◌, List, [], ◌∷◌, ◌++◌, slice_get, Some, filter, map, refl, sym, ap, ◌∙◌, subst, inl, inr}
+use Rattle.std.proofs.Common.{◌≡◌, ◌≢◌, ◌⊎◌, ℕ, suc, zero, Bool, true, false, not, ◌&&◌, List, [], ◌∷◌, ◌++◌, slice_get, Some, filter, map, refl, sym, ap, ◌∙◌, subst, inl, inr, append_assoc, append-nil}
 use Rattle.std.specs.List.{AllByRecursion as Each, list_any}
 use Rattle.std.proofs.lemmas.Bool.{cond_both, cases_Bool}
 use Rattle.names_core.specs.Ids.{Numbered}
@@ -12,7 +12,7 @@ use Rattle.stream_core.specs.Updates.{pushed, acknowledged_one, is_front}
 use Rattle.cluster_model.specs.Ids.{same}
 use Rattle.cluster_model.specs.Agents.{has_ended, is_task, stated, acknowledged}
 use Rattle.cluster_model.specs.Sides.{unended}
-use Rattle.cluster_safe.specs.Facts.{Stake, Within, Aged, Fades, live, task_stake, Distinct, EndedAt}
+use Rattle.cluster_safe.specs.Facts.{Stake, Within, Aged, Fades, live, task_stake, Distinct, EndedAt, Grown}
 
 -- Each
 
@@ -76,7 +76,7 @@ within_append (x ∷ xs) (y ∷ ys) us vs (inr h) k = inr (within_append (x ∷ 
 -- Fades
 
 pub aged_refl : (s : Stake) → Aged s s
-aged_refl s = (refl, λ e. e)
+aged_refl s = (refl, (λ e. e), ([], sym (append-nil s.states)))
 
 pub fades_refl : (xs : List Stake) → Fades xs xs
 fades_refl [] = tt
@@ -95,6 +95,13 @@ each_faded P f [] ys h k = tt
 each_faded P f (x ∷ xs) [] h k = absurd h
 each_faded P f (x ∷ xs) (y ∷ ys) (inl h) k = (f x y h.0 k.0, each_faded P f xs ys h.1 k.1)
 each_faded P f (x ∷ xs) (y ∷ ys) (inr h) k = each_faded P f (x ∷ xs) ys h k.1
+
+-- the updates that stood for a key stay a beginning
+pub grown_aged : (sent : Numbered → List TaskState) (x y : Stake) → Aged x y → Grown sent y → Grown sent x
+grown_aged sent x y aged g = (
+  g.0 ++ aged.2.0,
+  aged.2.1 ∙ (ap (λ ss. ss ++ aged.2.0) g.1 ∙ (append_assoc (sent y.job.key) g.0 aged.2.0 ∙ ap (λ (j : Job). sent j.key ++ (g.0 ++ aged.2.0)) (sym aged.0))),
+)
 
 -- what holds of a job holds of the job after
 pub jobs_faded : (P : Job → Type 0) (xs ys : List Stake) → Fades xs ys → Each (λ s. P s.job) ys → Each (λ s. P s.job) xs
@@ -139,7 +146,7 @@ any_more p (x ∷ xs) ys h = elim (cases_Bool (p x)) [ inl e ↦ rw e refl | inr
 pub stated_aged : (key : Numbered) (s : TaskState) (t : RecordedTask) → Aged (task_stake (stated key s t)) (task_stake t)
 stated_aged key s t =
     cond_both (is_task key t && not (has_ended t)) (record { job = t.job; offers = t.offers; updates = pushed s t.updates }) t (λ u. Aged (task_stake u) (task_stake t))
-    (λ e. (refl, λ d. any_more is_terminal t.updates.states (s ∷ []) d)) (λ e. aged_refl (task_stake t))
+    (λ e. (refl, (λ d. any_more is_terminal t.updates.states (s ∷ []) d), (s ∷ [], refl))) (λ e. aged_refl (task_stake t))
 
 pub acknowledged_aged : (key : Numbered) (k : ℕ) (t : RecordedTask) → Aged (task_stake (acknowledged key k t)) (task_stake t)
 acknowledged_aged key k t =

@@ -1,20 +1,17 @@
 -- Each task has its origin: in every world.
-use Rattle.std.proofs.Common.{◌≡◌, ◌≢◌, ℕ, ◌+◌, ◌-◌, Bool, true, false, not, ◌&&◌, List, [], ◌∷◌, ◌++◌, map, take, drop, refl, sym, ap, ◌∙◌, subst, inl, inr, bytes_eq, slice_get, Option, Some, None, Result, Ok, Err}
+use Rattle.std.proofs.Common.{◌≡◌, ◌≢◌, ℕ, ◌+◌, ◌-◌, Bool, true, false, not, ◌&&◌, List, [], ◌∷◌, ◌++◌, map, take, drop, refl, sym, ap, ◌∙◌, subst, inl, inr, bytes_eq, slice_get, Option, Some, None}
 use Rattle.std.specs.Prelude.{◌==◌}
 use Rattle.std.specs.List.{AllByRecursion as Each}
 use Rattle.std.proofs.lemmas.Bool.{cond_both, cond-true}
 use Rattle.std.specs.Cmp.Lexicographic.{bytes_decides}
 use Rattle.names_core.specs.Ids.{Numbered}
 use Rattle.mails.specs.declared.task.Job.{Job}
-use Rattle.mails.specs.declared.mail.MasterMail.{MasterMail}
 use Rattle.mails.specs.declared.mail.AgentMail.{AgentMail}
 use Rattle.mails.specs.declared.mail.AgentMail.TheVariants.{Report, Applied, Update}
 use Rattle.mails.specs.declared.record.Durable.{Durable}
-use Rattle.mails.specs.declared.refusal.AgentRefusal.{AgentRefusal}
 use Rattle.cluster_model.specs.Ids.{first_of_run, is_among}
-use Rattle.cluster_model.specs.Agents.{Draft, hears_mail, next_of}
 use Rattle.cluster_model.specs.Sides.{Run, Side, new_run, offer_rows, Sending, sends_nothing, Launching, is_good, used_offers, without_used, accepted, heard_update, forget_all, last_session, opens, opened, counts, shut, SideStep, MakeOffer, Withdraw, LaunchFrom, SendKill, SendAck, SendEnd, SendHello, SendAgain, Lose, side_step}
-use Rattle.cluster_model.specs.Channels.{Channel, InRun, AgentStep, Draw, DrawMail, Adopt, StopWithout, StopWith, drawn, drawn_mail, adopted, stopped_with, is_own, agent_step, ChannelStep, ByMaster, Hear, ByAgent, heard_mail, happens, World, Happening, At, TearDown, Restart, Halt, behind, in_front, at_agent, with_side, halted_run, after, after_all}
+use Rattle.cluster_model.specs.Channels.{Channel, InRun, agent_step, ChannelStep, ByMaster, Hear, ByAgent, heard_mail, happens, World, Happening, At, TearDown, Restart, Halt, behind, in_front, at_agent, with_side, halted_run, after, after_all}
 use Rattle.cluster_model.specs.Openings.{recorded_jobs, NamesOnce}
 use Rattle.cluster_safe.specs.Origin.{Use, Mark, Made, Used, launched, use_of, marks_at, marks_of, marks_in, marks_by, trail, IsOneOf, jobs_of, jobs_on, From, HasOrigin}
 use Rattle.cluster_safe.proofs.Orders.{each_map}
@@ -22,12 +19,13 @@ use Rattle.cluster_safe.proofs.Worlds.{Later, later_refl, later_step, below_next
 use Rattle.cluster_safe.proofs.Told.{TaskTold, Carried, told_wider, SendingTold, StepTold, happens_told, shut_told}
 use Rattle.cluster_safe.proofs.Origins.{Any, in_behind, in_front_of, each_of, launch_told}
 use Rattle.cluster_safe.proofs.Trails.{OffersOk, TrailOk, trail_later}
+use Rattle.cluster_safe.proofs.SideNames.{agent_side}
 use Rattle.cluster_safe.proofs.SideTrails.{KeysOk, keys_later, SideAfter, Before, side_after}
 
 abbrev pub ChannelOk : List Durable → Run → List Mark → Channel → Type 0
 ChannelOk rs run marks c = OffersOk run.next_offer marks c.side.name c.side.offers × Carried (From rs c.side.name marks) Any c
 
-from_more : (rs : List Durable) (name : List ℕ) (ms marks : List Mark) (j : Job) → From rs name marks j → From rs name (ms ++ marks) j
+pub from_more : (rs : List Durable) (name : List ℕ) (ms marks : List Mark) (j : Job) → From rs name marks j → From rs name (ms ++ marks) j
 from_more rs name [] marks j h = h
 from_more rs name (Made m ∷ ms) marks j h = from_more rs name ms marks j h
 from_more rs name (Used u ∷ ms) marks j h = wider (from_more rs name ms marks j h)
@@ -91,30 +89,6 @@ heard_offers next marks run c None h = (h, refl)
 heard_offers next marks run c (Some (Report session number tasks)) h = cond_both (opens run c.side session number) (opened c.side session tasks) c.side (λ s. OffersOk next marks c.side.name s.offers × (s.name ≡ c.side.name)) (λ e. ((tt, tt), refl)) (λ e. (h, refl))
 heard_offers next marks run c (Some (Applied session count)) h = cond_both (counts c.side session count) (record c.side { booked = forget_all (take (count - c.known) c.waiting) c.booked; waiting = drop (count - c.known) c.waiting; known = count }) c.side (λ s. OffersOk next marks c.side.name s.offers × (s.name ≡ c.side.name)) (λ e. (h, refl)) (λ e. (h, refl))
 heard_offers next marks run c (Some (Update session key k state ended)) h = cond_both (c.is_open && session == c.session) (record c.side { booked = map (heard_update key k state ended) c.booked }) c.side (λ s. OffersOk next marks c.side.name s.offers × (s.name ≡ c.side.name)) (λ e. (h, refl)) (λ e. (h, refl))
-
-drawn_side : (c : Channel) (o : Option Draft) (r : Result Draft AgentRefusal) → (drawn c o r).side ≡ c.side
-drawn_side c (Some rs) r = refl
-drawn_side c None (Err refusal) = refl
-drawn_side c None (Ok new) = refl
-
-drawn_mail_side : (c : Channel) (o : Option MasterMail) → (drawn_mail c o).side ≡ c.side
-drawn_mail_side c None = refl
-drawn_mail_side c (Some mail) = drawn_side c c.draft (hears_mail c.agent mail)
-
-adopted_side : (c : Channel) (o : Option Draft) → (adopted c o).side ≡ c.side
-adopted_side c None = refl
-adopted_side c (Some d) = refl
-
-stopped_side : (c : Channel) (o : Option Draft) → (stopped_with c o).side ≡ c.side
-stopped_side c None = refl
-stopped_side c (Some d) = refl
-
-pub agent_side : (c : Channel) (step : AgentStep) → (agent_step c step).side ≡ c.side
-agent_side c (Draw cause) = cond_both (is_own cause) (drawn c c.draft (next_of c.agent cause)) c (λ d. d.side ≡ c.side) (λ e. drawn_side c c.draft (next_of c.agent cause)) (λ e. refl)
-agent_side c (DrawMail place) = drawn_mail_side c (slice_get c.to_agent place)
-agent_side c Adopt = adopted_side c c.draft
-agent_side c StopWithout = refl
-agent_side c StopWith = stopped_side c c.draft
 
 channel_after : (rs : List Durable) (marks : List Mark) (run : Run) (c : Channel) (step : ChannelStep) → Before (recorded_jobs rs) marks run c.side → Carried (From rs c.side.name marks) Any c → ChannelAfter rs marks run c (happens run c step) (marks_of run c step)
 channel_after rs marks run c (ByMaster step) b t = record {
@@ -233,7 +207,7 @@ pub origin_all : (rs : List Durable) (hs : List Happening) (w : World) (marks : 
 origin_all rs [] w marks ok = ok
 origin_all rs (h ∷ hs) w marks ok = origin_all rs hs (after w h) (marks_by w h ++ marks) (origin_after rs w marks h ok)
 
-tasks_from : (rs : List Durable) (run : Run) (marks : List Mark) (c : Channel) → ChannelOk rs run marks c → Each (λ t. From rs c.side.name marks t.job) c.agent.durable.tasks
+pub tasks_from : (rs : List Durable) (run : Run) (marks : List Mark) (c : Channel) → ChannelOk rs run marks c → Each (λ t. From rs c.side.name marks t.job) c.agent.durable.tasks
 tasks_from rs run marks c h = each_map (TaskTold (From rs c.side.name marks) Any) (λ t. From rs c.side.name marks t.job) (λ t k. k.0) c.agent.durable.tasks h.1.states.0
 
 pub has_origin : (records : List Durable) (w : World) (marks : List Mark) → OriginOk records w marks → HasOrigin records w marks

@@ -5,6 +5,7 @@ use Rattle.std.specs.List.{list_all}
 use Rattle.std.proofs.lemmas.Bool.{cond_both, cases_Bool}
 use Rattle.std.proofs.lemmas.Bool.Decides.{nat_tests, Decides-eqb}
 use Rattle.names_core.specs.Ids.{Numbered}
+use Rattle.names_core.specs.declared.state.TaskState.{TaskState}
 use Rattle.quantity.specs.declared.rows.Row.{Row}
 use Rattle.quantity.specs.Rows.{amount, covers}
 use Rattle.mails.specs.declared.task.Job.{Job}
@@ -44,7 +45,7 @@ launch_fits p next total a job offers s up at_place = covers_from a.total (job.r
     rest = launches (drop (suc a.applied) (p.ever a.session))
 
     parts : (name : List ℕ) → amount name (job_rows (live (stakes p a))) ≡ amount name (job_rows (live (map task_stake a.tasks))) + (amount name job.resources + amount name (job_rows (live rest)))
-    parts name = rw (coming_next p a (Launch job offers) up at_place) (rw (live-append (map task_stake a.tasks) (record { job = job; ended = false } ∷ rest), jobs-append (live (map task_stake a.tasks)) (job ∷ live rest), amount-append name (job_rows (live (map task_stake a.tasks))) (job.resources ++ job_rows (live rest)), amount-append name job.resources (job_rows (live rest))) refl)
+    parts name = rw (coming_next p a (Launch job offers) up at_place) (rw (live-append (map task_stake a.tasks) (record { job = job; ended = false; states = [] } ∷ rest), jobs-append (live (map task_stake a.tasks)) (job ∷ live rest), amount-append name (job_rows (live (map task_stake a.tasks))) (job.resources ++ job_rows (live rest)), amount-append name job.resources (job_rows (live rest))) refl)
 
     fits : AtMost (job.resources ++ task_rows (live_tasks a.tasks)) a.total
     fits name = omega (arith, amount-append name job.resources (task_rows (live_tasks a.tasks)), tasks_rows name a.tasks, parts name, s.room name, ap (amount name) s.owns)
@@ -91,5 +92,5 @@ mail_has_room p next total a (Issued session number what) s h =
         let yes : has_room a what ≡ true = room_command p next total a what s both.0 at_place in
         cc
 
-pub always_room : (l : InRun) → Kept l → RoomForAll l.channel
+pub always_room : {sent : Numbered → List TaskState} (l : InRun) → Kept sent l → RoomForAll l.channel
 always_room l k n m e = mail_has_room k.0 l.next_key l.total l.agent m k.1.states.0 (each_at (DownOk k.0) l.to_agent n m k.1.downs e)

@@ -13,8 +13,8 @@ use Rattle.cluster_model.specs.Ids.{same}
 use Rattle.cluster_model.specs.Agents.{Agent, Draft, has_ended, state_at, reported, front_of, fronts, front_at, report_of, reopened, reports, recovered}
 use Rattle.cluster_model.specs.Sides.{unended, job_rows}
 use Rattle.cluster_model.specs.Channels.{InRun}
-use Rattle.cluster_safe.specs.Facts.{Less, Stake, Past, Within, Fades, live, task_stake, launches, coming, stakes, Distinct, EndsKept, AtMost, EndedAt, StateOk, UpOk, drafted, mails_of, states_of, PastOk, Facts}
-use Rattle.cluster_safe.proofs.Orders.{each_append, each_map, each_both, each_left, within_refl, within_trans, fades_refl, fades_append, each_faded, distinct_faded, live_faded}
+use Rattle.cluster_safe.specs.Facts.{Less, Stake, Past, Within, Fades, live, task_stake, launches, coming, stakes, Distinct, EndsKept, AtMost, EndedAt, Grown, StateOk, UpOk, drafted, mails_of, states_of, PastOk, Facts}
+use Rattle.cluster_safe.proofs.Orders.{each_append, each_map, each_both, each_left, within_refl, within_trans, fades_refl, fades_append, each_faded, grown_aged, distinct_faded, live_faded}
 use Rattle.cluster_safe.proofs.Amounts.{within_at_most}
 use Rattle.cluster_safe.proofs.Commands.{ends_faded}
 
@@ -48,6 +48,7 @@ pub facts_replaced : (p : Past) (l : InRun) (a : Agent) (d : Option Draft) (sent
 facts_replaced p l a d sent f r ok new pend = record {
   past = f.past;
   run = f.run;
+  unsent = f.unsent;
   when_open = λ e. let o = f.when_open e in record { session = o.session; told = o.told; issued = o.issued; known = o.known; torn = o.torn; covered = covered_replaced p l.booked (states_of l) (a ∷ drafted d) r o.covered };
   when_shut = λ e. let o = f.when_shut e in record { offers = o.offers; booked = o.booked; closed = o.closed };
   states = ok;
@@ -74,6 +75,7 @@ ok_followed p next total new old f s owns told applied ends = record {
   below = each_faded (λ x. Less x.job.key next) (λ x y aged lt. subst (λ (j : Job). Less j.key next) (sym aged.0) lt) (stakes p new) (stakes p old) f.fades s.below;
   room = room_followed p total new old f s.room;
   ends = ends;
+  grown = each_faded (Grown p.sent) (λ x y aged g. grown_aged p.sent x y aged g) (stakes p new) (stakes p old) f.fades s.grown;
 }
 
 pub ok_recovered : (p : Past) (next : Numbered) (total : List Row) (a : Agent) → StateOk p next total a → StateOk p next total (recovered a)
@@ -172,7 +174,7 @@ follows_refl p a = record { session = le_refl a.session; fades = fades_refl (sta
 
 -- with a session told anew with a run
 abbrev pub retold_past : Past → ℕ → ℕ → Past
-retold_past p session run = record { ever = p.ever; peak = p.peak; told = λ s. cond (leb s session) (p.told s) run; latest = p.latest }
+retold_past p session run = record { ever = p.ever; peak = p.peak; told = λ s. cond (leb s session) (p.told s) run; latest = p.latest; sent = p.sent }
 
 pub draft_retold : (p : Past) (next : Numbered) (total : List Row) (a : Agent) → PastOk p → StateOk p next total a → DraftOk p next total a (reports a)
 draft_retold p next total a past s = record { follows = follows_refl p a; ok = s; mails = (report_ok p next total a past s, fronts_ok p next total a s) }

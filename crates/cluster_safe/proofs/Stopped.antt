@@ -1,11 +1,12 @@
 -- What is found after a stop is a good opening.
-use Rattle.std.proofs.Common.{◌≡◌, ◌≢◌, ◌⊎◌, ℕ, ◌≤◌, ◌<◌, List, [], ◌∷◌, ◌++◌, map, refl, sym, ap, ◌∙◌, subst, inl, inr, arith, bytes_eq, Option, Some, None}
+use Rattle.std.proofs.Common.{◌≡◌, ◌≢◌, ◌⊎◌, ℕ, ◌≤◌, ◌<◌, List, [], ◌∷◌, ◌++◌, map, flat_map, refl, sym, ap, ◌∙◌, subst, inl, inr, arith, bytes_eq, Option, Some, None}
 use Rattle.std.specs.Prelude.{⊤}
 use Rattle.std.specs.List.{AllByRecursion as Each}
 use Rattle.std.proofs.lemmas.Bool.{cond_both}
 use Rattle.std.proofs.lemmas.Bool.Decides.{nat_tests}
 use Rattle.std.specs.Cmp.Lexicographic.{bytes_decides}
 use Rattle.names_core.specs.Ids.{Numbered}
+use Rattle.names_core.specs.declared.state.TaskState.{TaskState}
 use Rattle.quantity.specs.Rows.{amount}
 use Rattle.mails.specs.declared.task.Job.{Job}
 use Rattle.mails.specs.declared.record.Durable.{Durable}
@@ -13,19 +14,20 @@ use Rattle.mails.specs.declared.record.RecordedTask.{RecordedTask}
 use Rattle.cluster_model.specs.Agents.{Agent, Draft}
 use Rattle.cluster_model.specs.Sides.{Run}
 use Rattle.cluster_model.specs.Channels.{Channel, InRun, World}
-use Rattle.cluster_model.specs.Openings.{RecordFits, recorded_jobs, KeysOnce, NamesOnce, GoodOpening}
+use Rattle.cluster_model.specs.Openings.{RecordFits, recorded_jobs, recorded_offers, KeysOnce, NamesOnce, GoodOpening}
 use Rattle.cluster_safe.specs.Facts.{Less, Stake, Past, live, task_stake, coming, stakes, Distinct, StateOk, drafted, PastOk, Kept}
 use Rattle.cluster_safe.specs.Saved.{IsDraftOf, IsFound}
 use Rattle.cluster_safe.specs.Origin.{Use, Mark, Made, Used, IsOneOf, jobs_of, jobs_on, recorded_on, From}
 use Rattle.cluster_safe.proofs.Orders.{each_append, each_map, each_right, each_left}
 use Rattle.cluster_safe.proofs.Amounts.{within_at_most, tasks_weigh}
 use Rattle.cluster_safe.proofs.States.{live_left}
-use Rattle.cluster_safe.proofs.Worlds.{WorldOk}
+use Rattle.cluster_safe.proofs.Worlds.{Sents, KeptIn, WorldOk}
 use Rattle.cluster_safe.proofs.Told.{drafts_of, TaskTold, AgentTold, past}
 use Rattle.cluster_safe.proofs.Origins.{Any, in_behind, in_front_of}
 use Rattle.cluster_safe.proofs.OriginWorlds.{ChannelOk, names_of, OriginOk}
 use Rattle.cluster_safe.proofs.Openings.{once_left, once_right}
 use Rattle.cluster_safe.proofs.Names.{NamedAs, AllNamed}
+use Rattle.cluster_safe.proofs.Launches.{TaskFrom, AgentFrom, ChannelFrom, AllFrom}
 
 -- jobs with one key are one job, on one agent
 
@@ -109,27 +111,29 @@ pub record FoundOk (rs : List Durable) (run : Run) (marks : List Mark) (c : Chan
   pub below : Each (λ s. Less s.job.key run.next_key) (map task_stake d.tasks)
   pub once : Distinct (map task_stake d.tasks)
   pub from : Each (λ t. From rs c.side.name marks t.job) d.tasks
+  pub runs : Each (TaskFrom run.number) d.tasks
 
 distinct_left : (xs ys : List Stake) → Distinct (xs ++ ys) → Distinct xs
 distinct_left [] ys h = tt
 distinct_left (x ∷ xs) ys h = (each_left (λ t. t.job.key ≢ x.job.key) xs ys h.0, distinct_left xs ys h.1)
 
-state_found : (rs : List Durable) (marks : List Mark) (p : Past) (l : InRun) (a : Agent) → PastOk p → p.latest ≤ l.number → StateOk p l.next_key l.total a → AgentTold (From rs l.channel.side.name marks) Any a → FoundOk rs l.run marks l.channel a.durable
-state_found rs marks p l a past latest s t = record {
+state_found : (rs : List Durable) (marks : List Mark) (p : Past) (l : InRun) (a : Agent) → PastOk p → p.latest ≤ l.number → StateOk p l.next_key l.total a → AgentTold (From rs l.channel.side.name marks) Any a → AgentFrom l.number a → FoundOk rs l.run marks l.channel a.durable
+state_found rs marks p l a past latest s t r = record {
   fits = λ name. omega (arith, tasks_weigh name a.tasks, within_at_most (live (map task_stake a.tasks)) (live (stakes p a)) (live_left (map task_stake a.tasks) (coming p a)) name, s.room name, ap (amount name) s.owns);
   older = omega (arith, s.told, past.runs a.session, latest);
   below = each_left (λ s. Less s.job.key l.next_key) (map task_stake a.tasks) (coming p a) s.below;
   once = distinct_left (map task_stake a.tasks) (coming p a) s.distinct;
   from = each_map (TaskTold (From rs l.channel.side.name marks) Any) (λ u. From rs l.channel.side.name marks u.job) (λ u h. h.0) a.tasks t;
+  runs = r;
 }
 
-draft_found : (rs : List Durable) (marks : List Mark) (p : Past) (l : InRun) (o : Option Draft) (d : Durable) → PastOk p → p.latest ≤ l.number → Each (StateOk p l.next_key l.total) (drafted o) → Each (AgentTold (From rs l.channel.side.name marks) Any) (drafts_of o) → IsDraftOf o d → FoundOk rs l.run marks l.channel d
-draft_found rs marks p l None d past latest s t e = absurd e
-draft_found rs marks p l (Some draft) d past latest s t e = subst (FoundOk rs l.run marks l.channel) (sym e) (state_found rs marks p l draft.after past latest s.0 t.0)
+draft_found : (rs : List Durable) (marks : List Mark) (p : Past) (l : InRun) (o : Option Draft) (d : Durable) → PastOk p → p.latest ≤ l.number → Each (StateOk p l.next_key l.total) (drafted o) → Each (AgentTold (From rs l.channel.side.name marks) Any) (drafts_of o) → Each (AgentFrom l.number) (drafts_of o) → IsDraftOf o d → FoundOk rs l.run marks l.channel d
+draft_found rs marks p l None d past latest s t r e = absurd e
+draft_found rs marks p l (Some draft) d past latest s t r e = subst (FoundOk rs l.run marks l.channel) (sym e) (state_found rs marks p l draft.after past latest s.0 t.0 r.0)
 
-channel_found : (rs : List Durable) (marks : List Mark) (l : InRun) (d : Durable) → Kept l → ChannelOk rs l.run marks l.channel → (d ≡ l.agent.durable) ⊎ IsDraftOf l.draft d → FoundOk rs l.run marks l.channel d
-channel_found rs marks l d k ok (inl e) = subst (FoundOk rs l.run marks l.channel) (sym e) (state_found rs marks k.0 l l.agent k.1.past k.1.run k.1.states.0 ok.1.states.0)
-channel_found rs marks l d k ok (inr e) = draft_found rs marks k.0 l l.draft d k.1.past k.1.run k.1.states.1 ok.1.states.1 e
+channel_found : {sent : Numbered → List TaskState} (rs : List Durable) (marks : List Mark) (l : InRun) (d : Durable) → Kept sent l → ChannelOk rs l.run marks l.channel → ChannelFrom l.number l.channel → (d ≡ l.agent.durable) ⊎ IsDraftOf l.draft d → FoundOk rs l.run marks l.channel d
+channel_found rs marks l d k ok r (inl e) = subst (FoundOk rs l.run marks l.channel) (sym e) (state_found rs marks k.0 l l.agent k.1.past k.1.run k.1.states.0 ok.1.states.0 r.states.0)
+channel_found rs marks l d k ok r (inr e) = draft_found rs marks k.0 l l.draft d k.1.past k.1.run k.1.states.1 ok.1.states.1 r.states.1 e
 
 -- all found records
 
@@ -163,11 +167,11 @@ found_named : (c : Channel) (d : Durable) → NamedAs c.side.name c → (d ≡ c
 found_named c d n (inl e) = ap (λ (x : Durable). x.name) e ∙ n.0
 found_named c d n (inr e) = draft_named c.side.name c.draft d n.1 e
 
-all_found : (rs : List Durable) (marks : List Mark) (run : Run) (cs : List Channel) (ds : List Durable) → Each (λ c. Kept (record { run = run; channel = c })) cs → Each (ChannelOk rs run marks) cs → AllNamed cs → IsFound cs ds → AllFound rs run marks cs ds
-all_found rs marks run [] [] k ok n f = tt
-all_found rs marks run [] (d ∷ ds) k ok n f = absurd f
-all_found rs marks run (c ∷ cs) [] k ok n f = absurd f
-all_found rs marks run (c ∷ cs) (d ∷ ds) k ok n f = (channel_found rs marks (record { run = run; channel = c }) d k.0 ok.0 f.0, found_named c d n.0 f.0, all_found rs marks run cs ds k.1 ok.1 n.1 f.1)
+all_found : (v : Sents) (rs : List Durable) (marks : List Mark) (run : Run) (cs : List Channel) (ds : List Durable) → Each (KeptIn v run) cs → Each (ChannelOk rs run marks) cs → Each (ChannelFrom run.number) cs → AllNamed cs → IsFound cs ds → AllFound rs run marks cs ds
+all_found v rs marks run [] [] k ok r n f = tt
+all_found v rs marks run [] (d ∷ ds) k ok r n f = absurd f
+all_found v rs marks run (c ∷ cs) [] k ok r n f = absurd f
+all_found v rs marks run (c ∷ cs) (d ∷ ds) k ok r n f = (channel_found rs marks (record { run = run; channel = c }) d k.0 ok.0 r.0 f.0, found_named c d n.0 f.0, all_found v rs marks run cs ds k.1 ok.1 r.1 n.1 f.1)
 
 found_apart : (rs : List Durable) (marks : List Mark) (run : Run) (name : List ℕ) (i : Job) (cs : List Channel) (ds : List Durable) → KeysOnce (jobs_of marks ++ recorded_jobs rs) → From rs name marks i → Each (λ m. m ≢ name) (names_of cs) → AllFound rs run marks cs ds → Each (λ j. j.key ≢ i.key) (recorded_jobs ds)
 found_apart rs marks run name i [] [] once h d f = tt
@@ -195,8 +199,16 @@ found_names rs marks run (c ∷ cs) (d ∷ ds) f = ap (λ n. n ∷ map (λ (e : 
 key_of_run : (key next : Numbered) (number later : ℕ) → Less key next → next.run ≡ number → number < later → key.run < later
 key_of_run key next number later lt e above = grind (arith, nat_tests)
 
-each_found : (rs : List Durable) (marks : List Mark) (run : Run) (later : ℕ) (cs : List Channel) (ds : List Durable) → run.next_key.run ≡ run.number → run.number < later → AllFound rs run marks cs ds → Each RecordFits ds × Each (λ d. d.run < later) ds × Each (λ j. j.key.run < later) (recorded_jobs ds)
-each_found rs marks run later [] [] e lt f = (tt, tt, tt)
+frameworks_of : (n later : ℕ) (ts : List RecordedTask) → n < later → Each (TaskFrom n) ts → Each (λ j. j.framework.run < later) (map (λ t. t.job) ts)
+frameworks_of n later [] lt h = tt
+frameworks_of n later (t ∷ ts) lt h = (let le = h.0.0 in omega arith, frameworks_of n later ts lt h.1)
+
+offers_of : (n later : ℕ) (ts : List RecordedTask) → n < later → Each (TaskFrom n) ts → Each (λ id. id.run < later) (flat_map (λ t. t.offers) ts)
+offers_of n later [] lt h = tt
+offers_of n later (t ∷ ts) lt h = each_append (λ (id : Numbered). id.run < later) t.offers (flat_map (λ u. u.offers) ts) (each_map (λ (id : Numbered). id.run ≤ n) (λ (id : Numbered). id.run < later) (λ id le. omega arith) t.offers h.0.1) (offers_of n later ts lt h.1)
+
+each_found : (rs : List Durable) (marks : List Mark) (run : Run) (later : ℕ) (cs : List Channel) (ds : List Durable) → run.next_key.run ≡ run.number → run.number < later → AllFound rs run marks cs ds → Each RecordFits ds × Each (λ d. d.run < later) ds × Each (λ j. j.key.run < later) (recorded_jobs ds) × Each (λ j. j.framework.run < later) (recorded_jobs ds) × Each (λ id. id.run < later) (recorded_offers ds)
+each_found rs marks run later [] [] e lt f = (tt, tt, tt, tt, tt)
 each_found rs marks run later [] (d ∷ ds) e lt f = absurd f
 each_found rs marks run later (c ∷ cs) [] e lt f = absurd f
 each_found rs marks run later (c ∷ cs) (d ∷ ds) e lt f =
@@ -205,10 +217,12 @@ each_found rs marks run later (c ∷ cs) (d ∷ ds) e lt f =
       (f.0.fits, rest.0),
       (omega arith, rest.1),
       each_append (λ j. j.key.run < later) (map (λ t. t.job) d.tasks) (recorded_jobs ds) (stake_keys (λ key. key.run < later) d.tasks (each_map (λ s. Less s.job.key run.next_key) (λ s. s.job.key.run < later) (λ s k. key_of_run s.job.key run.next_key run.number later k e lt) (map task_stake d.tasks) f.0.below)) rest.2,
+      each_append (λ (j : Job). j.framework.run < later) (map (λ t. t.job) d.tasks) (recorded_jobs ds) (frameworks_of run.number later d.tasks lt f.0.runs) rest.3,
+      each_append (λ (id : Numbered). id.run < later) (flat_map (λ t. t.offers) d.tasks) (recorded_offers ds) (offers_of run.number later d.tasks lt f.0.runs) rest.4,
     )
 
-pub found_good : (rs : List Durable) (marks : List Mark) (w : World) (later : ℕ) (ds : List Durable) → WorldOk w → OriginOk rs w marks → AllNamed w.channels → w.run.number < later → IsFound w.channels ds → GoodOpening later ds
-found_good rs marks w later ds ok origin named lt f =
-    let all = all_found rs marks w.run w.channels ds ok.kept origin.channels named f in
+pub found_good : (v : Sents) (rs : List Durable) (marks : List Mark) (w : World) (later : ℕ) (ds : List Durable) → WorldOk v w → OriginOk rs w marks → AllFrom w → AllNamed w.channels → w.run.number < later → IsFound w.channels ds → GoodOpening later ds
+found_good v rs marks w later ds ok origin from named lt f =
+    let all = all_found v rs marks w.run w.channels ds ok.kept origin.channels from named f in
     let each = each_found rs marks w.run later w.channels ds ok.of_run lt all in
-    record { fits = each.0; older = each.1; keys_older = each.2; keys_once = found_once rs marks w.run w.channels ds origin.keys.once origin.once all; names_once = subst NamesOnce (sym (found_names rs marks w.run w.channels ds all)) origin.once }
+    record { fits = each.0; older = each.1; keys_older = each.2; frameworks_older = each.3; offers_older = each.4; keys_once = found_once rs marks w.run w.channels ds origin.keys.once origin.once all; names_once = subst NamesOnce (sym (found_names rs marks w.run w.channels ds all)) origin.once }

@@ -4,6 +4,7 @@ use Rattle.std.specs.List.{AllByRecursion as Each}
 use Rattle.std.proofs.lemmas.Bool.{cond_both}
 use Rattle.std.proofs.lemmas.Bool.Decides.{nat_tests}
 use Rattle.names_core.specs.Ids.{Numbered}
+use Rattle.names_core.specs.declared.state.TaskState.{TaskState}
 use Rattle.quantity.specs.declared.rows.Row.{Row}
 use Rattle.quantity.specs.Rows.{covers}
 use Rattle.mails.specs.declared.task.Job.{Job}
@@ -13,7 +14,7 @@ use Rattle.mails.specs.declared.mail.MasterMail.TheVariants.{Issued}
 use Rattle.mails.specs.declared.record.Durable.{Durable}
 use Rattle.cluster_model.specs.Ids.{same, first_of_run, following, is_among}
 use Rattle.cluster_model.specs.Sides.{Run, Side, new_run, torn_down, offer_rows, taken, Sending, sends_nothing, issue, may_launch, books, Launching, launch_one, launch_all, is_good, used_offers, without_used, may_offer, halted, restarted, SideStep, MakeOffer, Withdraw, LaunchFrom, SendKill, SendAck, SendEnd, SendHello, SendAgain, Lose, side_step}
-use Rattle.cluster_model.specs.Channels.{Channel, InRun, ChannelStep, ByMaster, Hear, ByAgent, happens, World, Happening, At, TearDown, Restart, Halt, behind, in_front, at_agent, with_side, halted_run, after, after_all, open_world, Fits, AllFit}
+use Rattle.cluster_model.specs.Channels.{Channel, InRun, ChannelStep, ByMaster, Hear, ByAgent, happens, World, Happening, At, TearDown, Restart, Halt, behind, in_front, at_agent, with_side, halted_run, after, open_world, Fits, AllFit}
 use Rattle.cluster_safe.specs.Facts.{UpTo, StateOk, UpOk, drafted, mails_of, states_of, Kept, RoomForAll, AllGood}
 use Rattle.cluster_safe.proofs.Ids.{same_is, upto_trans, upto_refl, upto_after}
 use Rattle.cluster_safe.proofs.Orders.{each_map}
@@ -22,6 +23,7 @@ use Rattle.cluster_safe.proofs.Master.{up_later, state_later}
 use Rattle.cluster_safe.proofs.Kept.{kept_torn, kept, kept_halted, kept_restarted, fits_from_kept}
 use Rattle.cluster_safe.proofs.Room.{always_room}
 use Rattle.cluster_safe.proofs.Opened.{kept_opening}
+use Rattle.cluster_safe.proofs.SideNames.{happens_name}
 
 -- a run in which more ids were given out
 pub record Later (run next : Run) : Type 0 where
@@ -38,8 +40,8 @@ later_refl run = record { number = refl; torn = refl; key = upto_refl run.next_k
 later_trans : (a b c : Run) → Later a b → Later b c → Later a c
 later_trans a b c h k = record { number = k.number ∙ h.number; torn = k.torn ∙ h.torn; key = upto_trans a.next_key b.next_key c.next_key h.key k.key; of_run = k.of_run ∙ h.of_run; offer = upto_trans a.next_offer b.next_offer c.next_offer h.offer k.offer; offer_of_run = k.offer_of_run ∙ h.offer_of_run }
 
-kept_later : (run next : Run) (c : Channel) → Later run next → Kept (record { run = run; channel = c }) → Kept (record { run = next; channel = c })
-kept_later run next c later k = subst (λ n. Kept (at n next.torn)) (sym later.number) (subst (λ torn. Kept (at run.number torn)) (sym later.torn) moved)
+pub kept_later : (sent : Numbered → List TaskState) (run next : Run) (c : Channel) → Later run next → Kept sent (record { run = run; channel = c }) → Kept sent (record { run = next; channel = c })
+kept_later sent run next c later k = subst (λ n. Kept sent (at n next.torn)) (sym later.number) (subst (λ torn. Kept sent (at run.number torn)) (sym later.torn) moved)
   where
     at : ℕ → List Numbered → InRun
     at number torn = record { run = record { number = number; serves = next.serves; torn = torn; next_key = next.next_key; next_offer = next.next_offer }; channel = c }
@@ -47,12 +49,13 @@ kept_later run next c later k = subst (λ n. Kept (at n next.torn)) (sym later.n
     l : InRun
     l = record { run = run; channel = c }
 
-    moved : Kept (at run.number run.torn)
+    moved : Kept sent (at run.number run.torn)
     moved = (
       k.0,
       record {
         past = k.1.past;
         run = k.1.run;
+        unsent = λ key le. k.1.unsent key (upto_trans run.next_key next.next_key key later.key le);
         when_open = λ e. let o = k.1.when_open e in record { session = o.session; told = o.told; issued = o.issued; known = o.known; torn = o.torn; covered = o.covered };
         when_shut = λ e. let o = k.1.when_shut e in record { offers = o.offers; booked = o.booked; closed = o.closed };
         states = each_map (StateOk k.0 l.next_key l.total) (StateOk k.0 next.next_key l.total) (state_later k.0 l.next_key next.next_key l.total later.key) (states_of l) k.1.states;
@@ -61,6 +64,7 @@ kept_later run next c later k = subst (λ n. Kept (at n next.torn)) (sym later.n
         pending = each_map (UpOk k.0 l.next_key l.total (drafted l.draft)) (UpOk k.0 next.next_key l.total (drafted l.draft)) (up_later k.0 l.next_key next.next_key l.total (drafted l.draft) later.key) (mails_of l.draft) k.1.pending;
       },
       k.2,
+      k.3,
     )
 
 -- a step gives out ids alone
@@ -110,50 +114,53 @@ later_step run c (ByAgent step) = later_refl run
 
 -- worlds
 
-abbrev pub AllKept : World → Type 0
-AllKept w = Each (λ c. Kept (record { run = w.run; channel = c })) w.channels
+-- for each agent the updates that ever stood in its record for each key
+abbrev pub Sents : Type 0
+Sents = List ℕ → Numbered → List TaskState
 
-pub step_kept : (agent : List ℕ) (step : ChannelStep) (run : Run) (cs : List Channel) → AllKept (record { run = run; channels = cs }) → AllKept (at_agent agent step run cs) × Later run (at_agent agent step run cs).run
-step_kept agent step run [] k = (tt, later_refl run)
-step_kept agent step run (c ∷ cs) k =
-    let rest = step_kept agent step run cs k.1 in
-    cond_both (bytes_eq c.side.name agent) (in_front (happens run c step) cs) (behind c (at_agent agent step run cs)) (λ w. AllKept w × Later run w.run)
-    (λ e. ((kept (record { run = run; channel = c }) step k.0, each_map (λ d. Kept (record { run = run; channel = d })) (λ d. Kept (record { run = (happens run c step).run; channel = d })) (λ d. kept_later run (happens run c step).run d (later_step run c step)) cs k.1), later_step run c step))
-    (λ e. ((kept_later run (at_agent agent step run cs).run c rest.1 k.0, rest.0), rest.1))
+abbrev pub KeptIn : Sents → Run → Channel → Type 0
+KeptIn v run c = Kept (v c.side.name) (record { run = run; channel = c })
 
-pub record WorldOk (w : World) : Type 0 where
+abbrev pub AllKept : Sents → World → Type 0
+AllKept v w = Each (KeptIn v w.run) w.channels
+
+pub step_kept : (v : Sents) (agent : List ℕ) (step : ChannelStep) (run : Run) (cs : List Channel) → AllKept v (record { run = run; channels = cs }) → AllKept v (at_agent agent step run cs) × Later run (at_agent agent step run cs).run
+step_kept v agent step run [] k = (tt, later_refl run)
+step_kept v agent step run (c ∷ cs) k =
+    let rest = step_kept v agent step run cs k.1 in
+    cond_both (bytes_eq c.side.name agent) (in_front (happens run c step) cs) (behind c (at_agent agent step run cs)) (λ w. AllKept v w × Later run w.run)
+    (λ e. ((subst (λ name. Kept (v name) (happens run c step)) (sym (happens_name run c step)) (kept (record { run = run; channel = c }) step k.0), each_map (KeptIn v run) (KeptIn v (happens run c step).run) (λ d. kept_later (v d.side.name) run (happens run c step).run d (later_step run c step)) cs k.1), later_step run c step))
+    (λ e. ((kept_later (v c.side.name) run (at_agent agent step run cs).run c rest.1 k.0, rest.0), rest.1))
+
+pub record WorldOk (v : Sents) (w : World) : Type 0 where
   pub of_run : w.run.next_key.run ≡ w.run.number
   pub offer_of_run : w.run.next_offer.run ≡ w.run.number
-  pub kept : AllKept w
+  pub kept : AllKept v w
 
-mapped : (run next : Run) (f : Channel → Channel) → ((c : Channel) → Kept (record { run = run; channel = c }) → Kept (record { run = next; channel = f c })) → (cs : List Channel) → AllKept (record { run = run; channels = cs }) → AllKept (record { run = next; channels = map f cs })
-mapped run next f g [] h = tt
-mapped run next f g (c ∷ cs) h = (g c h.0, mapped run next f g cs h.1)
+mapped : (v : Sents) (run next : Run) (f : Channel → Channel) → ((c : Channel) → KeptIn v run c → KeptIn v next (f c)) → (cs : List Channel) → AllKept v (record { run = run; channels = cs }) → AllKept v (record { run = next; channels = map f cs })
+mapped v run next f g [] h = tt
+mapped v run next f g (c ∷ cs) h = (g c h.0, mapped v run next f g cs h.1)
 
 pub below_next_run : (key : Numbered) (number : ℕ) → key.run ≡ number → UpTo key (first_of_run (1 + number))
 below_next_run key number e = grind (arith, nat_tests)
 
-pub world_after : (w : World) (h : Happening) → WorldOk w → WorldOk (after w h)
-world_after w (At agent step) ok =
-    let k = step_kept agent step w.run w.channels ok.kept in
+pub world_after : (v : Sents) (w : World) (h : Happening) → WorldOk v w → WorldOk v (after w h)
+world_after v w (At agent step) ok =
+    let k = step_kept v agent step w.run w.channels ok.kept in
     record { of_run = k.1.of_run ∙ (ok.of_run ∙ sym k.1.number); offer_of_run = k.1.offer_of_run ∙ (ok.offer_of_run ∙ sym k.1.number); kept = k.0 }
-world_after w (TearDown framework) ok = record { of_run = ok.of_run; offer_of_run = ok.offer_of_run; kept = each_map (λ c. Kept (record { run = w.run; channel = c })) (λ c. Kept (record { run = torn_down framework w.run; channel = c })) (λ c. kept_torn (record { run = w.run; channel = c }) framework) w.channels ok.kept }
-world_after w Restart ok = record { of_run = refl; offer_of_run = refl; kept = mapped w.run (new_run (1 + w.run.number)) (with_side restarted) (λ c. kept_restarted (record { run = w.run; channel = c }) (below_next_run w.run.next_key w.run.number ok.of_run)) w.channels ok.kept }
-world_after w Halt ok = record { of_run = ok.of_run; offer_of_run = ok.offer_of_run; kept = mapped w.run (halted_run w.run) (with_side halted) (λ c. kept_halted (record { run = w.run; channel = c })) w.channels ok.kept }
+world_after v w (TearDown framework) ok = record { of_run = ok.of_run; offer_of_run = ok.offer_of_run; kept = each_map (KeptIn v w.run) (KeptIn v (torn_down framework w.run)) (λ c. kept_torn (record { run = w.run; channel = c }) framework) w.channels ok.kept }
+world_after v w Restart ok = record { of_run = refl; offer_of_run = refl; kept = mapped v w.run (new_run (1 + w.run.number)) (with_side restarted) (λ c. kept_restarted (record { run = w.run; channel = c }) (below_next_run w.run.next_key w.run.number ok.of_run)) w.channels ok.kept }
+world_after v w Halt ok = record { of_run = ok.of_run; offer_of_run = ok.offer_of_run; kept = mapped v w.run (halted_run w.run) (with_side halted) (λ c. kept_halted (record { run = w.run; channel = c })) w.channels ok.kept }
 
-pub world_after_all : (hs : List Happening) (w : World) → WorldOk w → WorldOk (after_all hs w)
-world_after_all [] w ok = ok
-world_after_all (h ∷ hs) w ok = world_after_all hs (after w h) (world_after w h ok)
-
-pub world_opened : (run : ℕ) (ds : List Durable) → AllGood run ds → WorldOk (open_world run ds)
+pub world_opened : (run : ℕ) (ds : List Durable) → AllGood run ds → WorldOk (λ name key. []) (open_world run ds)
 world_opened run ds good = record { of_run = refl; offer_of_run = refl; kept = each ds good }
   where
-    each : (ds : List Durable) → AllGood run ds → AllKept (open_world run ds)
+    each : (ds : List Durable) → AllGood run ds → AllKept (λ name key. []) (open_world run ds)
     each [] g = tt
     each (d ∷ ds) g = (kept_opening d run g.0, each ds g.1)
 
-pub all_fit : (w : World) → WorldOk w → AllFit w
-all_fit w ok = each_map (λ c. Kept (record { run = w.run; channel = c })) Fits (λ c. fits_from_kept (record { run = w.run; channel = c })) w.channels ok.kept
+pub all_fit : (v : Sents) (w : World) → WorldOk v w → AllFit w
+all_fit v w ok = each_map (KeptIn v w.run) Fits (λ c. fits_from_kept (record { run = w.run; channel = c })) w.channels ok.kept
 
-pub all_room : (w : World) → WorldOk w → Each RoomForAll w.channels
-all_room w ok = each_map (λ c. Kept (record { run = w.run; channel = c })) RoomForAll (λ c. always_room (record { run = w.run; channel = c })) w.channels ok.kept
+pub all_room : (v : Sents) (w : World) → WorldOk v w → Each RoomForAll w.channels
+all_room v w ok = each_map (KeptIn v w.run) RoomForAll (λ c. always_room (record { run = w.run; channel = c })) w.channels ok.kept

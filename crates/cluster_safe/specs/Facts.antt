@@ -2,6 +2,7 @@
 use Rattle.std.specs.Prelude.{◌≡◌, ◌≢◌, ◌⊎◌, ℕ, suc, ◌≤◌, ◌<◌, Bool, true, false, if◌then◌else◌, List, [], ◌∷◌, ◌++◌, length, map, drop, take, slice_get, Option, Some, None, Result, Ok, Err, ⊤}
 use Rattle.std.specs.List.{AllByRecursion as Each}
 use Rattle.names_core.specs.Ids.{Numbered}
+use Rattle.names_core.specs.declared.state.TaskState.{TaskState}
 use Rattle.quantity.specs.declared.rows.Row.{Row}
 use Rattle.quantity.specs.Rows.{amount}
 use Rattle.mails.specs.declared.task.Job.{Job}
@@ -30,13 +31,15 @@ UpTo a b = before b a ≡ false
 pub record Stake : Type 0 where
   pub job : Job
   pub ended : Bool
+  pub states : List TaskState  -- its updates
 
--- what is told of the past beside the channel: all commands ever issued in each session, the greatest session ever opened, the run with which each session is told, and the latest run that a Hello told
+-- what is told of the past beside the channel: all commands ever issued in each session, the greatest session ever opened, the run with which each session is told, the latest run that a Hello told, and the updates that ever stood in the agent's record for each key
 pub record Past : Type 0 where
   pub ever : ℕ → List Command
   pub peak : ℕ
   pub told : ℕ → ℕ
   pub latest : ℕ
+  pub sent : Numbered → List TaskState
 
 -- the first are some of the second, in their order
 abbrev pub Within : List Job → List Job → Type 0
@@ -45,9 +48,9 @@ Within (x ∷ xs) [] = ⊥
 Within (x ∷ xs) (y ∷ ys) = ((x ≡ y) × Within xs ys) ⊎ Within (x ∷ xs) ys
 
 abbrev pub Aged : Stake → Stake → Type 0
-Aged new old = (new.job ≡ old.job) × (old.ended ≡ true → new.ended ≡ true)
+Aged new old = (new.job ≡ old.job) × (old.ended ≡ true → new.ended ≡ true) × ((more : List TaskState) × (new.states ≡ old.states ++ more))
 
--- the first are some of the second, in their order, and more of them may have ended
+-- the first are some of the second, in their order, and more of them may have ended, and have more updates
 abbrev pub Fades : List Stake → List Stake → Type 0
 Fades [] ys = ⊤
 Fades (x ∷ xs) [] = ⊥
@@ -58,11 +61,11 @@ live [] = []
 live (s ∷ ss) = if s.ended then live ss else s.job ∷ live ss
 
 abbrev pub task_stake : RecordedTask → Stake
-task_stake t = record { job = t.job; ended = has_ended t }
+task_stake t = record { job = t.job; ended = has_ended t; states = t.updates.states }
 
 abbrev pub launches : List Command → List Stake
 launches [] = []
-launches (Launch job offers ∷ whats) = record { job = job; ended = false } ∷ launches whats
+launches (Launch job offers ∷ whats) = record { job = job; ended = false; states = [] } ∷ launches whats
 launches (Kill key ∷ whats) = launches whats
 launches (Ack key k ∷ whats) = launches whats
 launches (EndFramework framework ∷ whats) = launches whats
@@ -113,6 +116,10 @@ AtMost rows total = (name : List ℕ) → amount name rows ≤ amount name total
 abbrev pub EndedAt : Numbered → List Stake → Type 0
 EndedAt key ss = Each (λ s. s.job.key ≡ key → s.ended ≡ true) ss
 
+-- the updates that stood for its key are a beginning of its updates
+abbrev pub Grown : (Numbered → List TaskState) → Stake → Type 0
+Grown sent s = (more : List TaskState) × (s.states ≡ sent s.job.key ++ more)
+
 pub record StateOk (p : Past) (next : Numbered) (total : List Row) (a : Agent) : Type 0 where
   pub owns : a.total ≡ total
   pub told : p.told a.session ≡ a.run
@@ -122,6 +129,7 @@ pub record StateOk (p : Past) (next : Numbered) (total : List Row) (a : Agent) :
   pub below : Each (λ s. Less s.job.key next) (stakes p a)
   pub room : AtMost (job_rows (live (stakes p a))) total
   pub ends : a.in_session ≡ true → EndsKept (take a.applied (p.ever a.session)) (stakes p a)
+  pub grown : Each (Grown p.sent) (stakes p a)
 
 abbrev pub DownOk : Past → MasterMail → Type 0
 DownOk p (Hello run dead) = run ≤ p.latest
@@ -171,6 +179,7 @@ pub record ShutOk (p : Past) (l : InRun) : Type 0 where
 pub record Facts (p : Past) (l : InRun) : Type 0 where
   pub past : PastOk p
   pub run : p.latest ≤ l.number
+  pub unsent : (key : Numbered) → UpTo l.next_key key → p.sent key ≡ []
   pub when_open : l.is_open ≡ true → OpenOk p l
   pub when_shut : l.is_open ≡ false → ShutOk p l
   pub states : Each (StateOk p l.next_key l.total) (states_of l)
@@ -181,8 +190,9 @@ pub record Facts (p : Past) (l : InRun) : Type 0 where
 abbrev pub Room : InRun → Type 0
 Room l = AtMost (taken l.channel.side) l.total
 
-abbrev pub Kept : InRun → Type 0
-Kept l = (p : Past) × Facts p l × Room l
+-- with the updates that ever stood in the agent's record
+abbrev pub Kept : (Numbered → List TaskState) → InRun → Type 0
+Kept sent l = (p : Past) × Facts p l × Room l × (p.sent ≡ sent)
 
 -- it isn't refused for want of room
 abbrev pub HasRoom : Result Draft AgentRefusal → Type 0

@@ -1,12 +1,16 @@
 -- The updates of a launch key over a whole history.
-use Rattle.std.specs.Prelude.{◌≤◌, nat_lt, if◌then◌else◌, List, [], ◌∷◌, length, flat_map}
+use Rattle.std.specs.Prelude.{◌≡◌, ℕ, ◌≤◌, nat_lt, if◌then◌else◌, List, [], ◌∷◌, length, flat_map, slice_get, bytes_eq, Option, Some, None, ⊤}
 use Rattle.std.specs.List.{AllByRecursion as Each}
 use Rattle.names_core.specs.Ids.{Numbered}
 use Rattle.names_core.specs.declared.state.TaskState.{TaskState}
+use Rattle.names_core.specs.Updates.{Update}
 use Rattle.mails.specs.declared.record.Durable.{Durable}
 use Rattle.mails.specs.declared.record.RecordedTask.{RecordedTask}
 use Rattle.cluster_model.specs.Ids.{same}
 use Rattle.cluster_model.specs.Channels.{Channel, World, Happening, after}
+use Rattle.cluster_model.specs.Events.{Event, UPDATE, Told}
+use Rattle.cluster_model.specs.Clusters.{Entry}
+use Rattle.cluster_model.specs.Steps.{History}
 use Rattle.cluster_safe.specs.Acknowledged.{recorded_tasks}
 
 abbrev pub longer : List TaskState → List TaskState → List TaskState
@@ -29,6 +33,39 @@ updates_over key (h ∷ hs) w before = updates_over key hs (after w h) (longer b
 -- the updates of a key from a world on: states are only added while a task is in its record, so the most that ever stood there are all of them
 abbrev pub updates_of : Numbered → List Happening → World → List TaskState
 updates_of key hs start = updates_over key hs start (recorded_states key start)
+
+-- the states that stand in the record of one agent for a key
+abbrev pub states_on : List ℕ → Numbered → List Channel → List TaskState
+states_on agent key [] = []
+states_on agent key (c ∷ cs) = if bytes_eq c.side.name agent then states_under key c.agent.durable.tasks else states_on agent key cs
+
+abbrev pub sent_over : List ℕ → Numbered → List Happening → World → List TaskState → List TaskState
+sent_over agent key [] w before = before
+sent_over agent key (h ∷ hs) w before = sent_over agent key hs (after w h) (longer before (states_on agent key (after w h).channels))
+
+-- the updates of a key in one agent's record from a world on
+abbrev pub updates_on : List ℕ → Numbered → List Happening → World → List TaskState
+updates_on agent key hs start = sent_over agent key hs start (states_on agent key start.channels)
+
+-- each task of a record has all updates that ever stood for its key
+abbrev pub HaveAllUpdates : List Happening → World → World → Type 0
+HaveAllUpdates hs start w = Each (λ (c : Channel). Each (λ (t : RecordedTask). t.updates.states ≡ updates_of t.job.key hs start) c.agent.durable.tasks) w.channels
+
+-- an update that is told has the state of its number among the updates of its key, and these stand in its agent's record
+abbrev pub IsUpdateOf : List Happening → World → Option (List ℕ) → Update → TaskState → Type 0
+IsUpdateOf hs start None uuid state = ⊥
+IsUpdateOf hs start (Some agent) uuid state = (slice_get (updates_of uuid.key hs start) uuid.k ≡ Some state) × (slice_get (updates_on agent uuid.key hs start) uuid.k ≡ Some state)
+
+abbrev pub TellsUpdate : List Happening → World → Event → Type 0
+TellsUpdate hs start (UPDATE task state agent (Some uuid)) = IsUpdateOf hs start agent uuid state
+TellsUpdate hs start event = ⊤
+
+-- so does each update of an entry that is told, or handed out by a Take
+abbrev pub TellsUpdates : World → History → Type 0
+TellsUpdates start h = Each (λ (e : Entry). Each (λ (t : Told). TellsUpdate h.happenings start t.event) e.outs.events) h.entries
+
+abbrev pub HandsUpdates : World → History → Type 0
+HandsUpdates start h = Each (λ (e : Entry). Each (λ (t : Told). TellsUpdate h.happenings start t.event) e.outs.taken) h.entries
 
 -- the records of an opening acknowledge no more updates than there are, as every value of `Updates` does
 abbrev pub AcknowledgeTheirs : List Durable → Type 0

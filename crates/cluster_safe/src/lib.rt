@@ -17,13 +17,14 @@ ghost use Rattle.cluster_safe.specs.Growth.{OnlyGrow};
 ghost use Rattle.cluster_safe.specs.Honest.{Honest, IsBeginningOf, IsKeyOf, acknowledged_by};
 ghost use Rattle.cluster_safe.specs.Listed.{MoveFrom, MoveWithout};
 ghost use Rattle.cluster_safe.specs.Offered.{IsTold};
-ghost use Rattle.cluster_safe.specs.Origin.{HasOrigin, jobs_of, launched, trail};
+ghost use Rattle.cluster_safe.specs.Origin.{From, HasOrigin, jobs_of, launched, trail};
 ghost use Rattle.cluster_safe.specs.Premises.{NextLaunchIsNew, ReportFits};
 ghost use Rattle.cluster_safe.specs.Saved.{IsFound};
-ghost use Rattle.cluster_safe.specs.Updates.{AcknowledgeTheirs, updates_of};
+ghost use Rattle.cluster_safe.specs.Updates.{AcknowledgeTheirs, HandsUpdates, HaveAllUpdates, TellsUpdates, updates_of, updates_on};
 ghost use Rattle.cluster_safe.specs.Safe.{NeverLacksRoom};
 ghost use Rattle.mails.specs.declared.call.Call.{Call};
 ghost use Rattle.mails.specs.declared.call.TaskInfo.{TaskInfo};
+ghost use Rattle.mails.specs.declared.task.Job.{Job};
 ghost use Rattle.mails.specs.declared.cause.Cause.{Cause};
 ghost use Rattle.mails.specs.declared.mail.AgentMail.{AgentMail};
 ghost use Rattle.names_core.specs.Ids.{Numbered};
@@ -66,6 +67,24 @@ pub fn acknowledgements_are_prefixes()
 /// The updates of a task only grow at their end, as long as it stays in its agent's record; a new task has none.
 pub fn updates_only_grow()
     ensures { (a : Agent) (cause : Cause) (d : Draft) → next_of a cause ≡ Ok d → OnlyGrow a.durable.tasks d.after.durable.tasks }
+{}
+
+/// Each update that is told or handed out has the state of its number among the updates of its launch key, which stand in the record of the agent that it names.
+pub fn updates_have_the_states_of_their_numbers()
+    ensures told { (run : ℕ) (records : List Durable) (steps : List Marked) → GoodOpening run records → TellsUpdates (open_world run records) (history run records steps) }
+    ensures taken { (run : ℕ) (records : List Durable) (steps : List Marked) → GoodOpening run records → HandsUpdates (open_world run records) (history run records steps) }
+{}
+
+/// A task in a record has all updates that ever stood for its launch key: none is lost or changed over stops.
+pub fn records_have_all_updates()
+    ensures { (run : ℕ) (records : List Durable) (steps : List Marked) → GoodOpening run records → HaveAllUpdates (history run records steps).happenings (open_world run records) (history run records steps).state.world }
+{}
+
+/// All updates of a launch key stand in the record of the agent on which the task was launched, or stood at the opening.
+pub fn updates_stand_with_their_agent()
+    ensures { (run : ℕ) (records : List Durable) (steps : List Marked) (agent : List ℕ) (j : Job) → GoodOpening run records →
+        From records agent (trail (history run records steps).happenings (open_world run records) []) j →
+        updates_of j.key (history run records steps).happenings (open_world run records) ≡ updates_on agent j.key (history run records steps).happenings (open_world run records) }
 {}
 
 /// Whatever is found of the agents' records after a stop, each the record before or the record of an open draft, is a good opening for any later run.
