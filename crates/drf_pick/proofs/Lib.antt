@@ -5,3 +5,4 @@ pub mod Summing
 pub mod Names
 pub mod Places
 pub mod Picks
+pub mod Once

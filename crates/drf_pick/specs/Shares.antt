@@ -1,5 +1,5 @@
 -- What frameworks and roles hold, and what all agents own.
-use Rattle.std.specs.Prelude.{ℕ, Bool, false, ◌&&◌, if◌then◌else◌, List, [], ◌∷◌, ◌++◌, Option, Some, None, bytes_eq}
+use Rattle.std.specs.Prelude.{◌≡◌, ⊤, ℕ, Bool, false, ◌&&◌, if◌then◌else◌, List, [], ◌∷◌, ◌++◌, Option, Some, None, bytes_eq}
 use Rattle.std.specs.List.{find}
 use Rattle.names_core.specs.Ids.{Numbered}
 use Rattle.quantity.specs.declared.rows.Row.{Row}
@@ -108,3 +108,8 @@ returned framework rows t = record t {
   holders = returned_holders framework rows t.holders;
   roles = returned_roles rows (find (is_holder framework) t.holders) t.roles;
 }
+
+-- no framework stands twice
+abbrev pub HoldersOnce : List Holder → Type 0
+HoldersOnce [] = ⊤
+HoldersOnce (h ∷ hs) = (find (is_holder h.framework) hs ≡ None) × HoldersOnce hs

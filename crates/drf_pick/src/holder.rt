@@ -1,6 +1,7 @@
 //! Frameworks and roles, with what they hold.
 
 ghost use Rattle.std.specs.Prelude.{◌≡◌};
+ghost use Rattle.cluster_model.specs.Ids.{before};
 ghost use Rattle.drf_pick.specs.Shares.{is_holder, is_role, holder_of, role_sum_of};
 
 use crate::sum::Sum;
@@ -61,4 +62,11 @@ impl RoleSum {
     {
         self.role.is(role)
     }
+}
+
+/// Ids stand by run, and then by number.
+pub(crate) fn is_before(id: FrameworkId, other: FrameworkId) -> bool
+    ensures { result ≡ before id other }
+{
+    id.run() < other.run() || (id.run() == other.run() && id.number() < other.number())
 }

@@ -2,11 +2,11 @@
 
 ghost use Rattle.std.specs.Prelude.{◌≡◌, [], None, fold};
 ghost use Rattle.std.specs.Option.{option_copied};
-ghost use Rattle.cluster_model.specs.Ids.{before, bytes_before};
+ghost use Rattle.cluster_model.specs.Ids.{bytes_before};
 ghost use Rattle.cluster_model.specs.Rounds.{stands_first};
 ghost use Rattle.drf_pick.specs.Least.{role_held, comes_before, better, better_client, pick_of};
 
-use crate::holder::{Client, Holder, RoleSum};
+use crate::holder::{Client, Holder, RoleSum, is_before};
 use crate::shares::{Shares, find_holder, find_role};
 use crate::sum::{Sum, stands_at_most_at};
 use names_core::{FrameworkId, RoleName};
@@ -15,12 +15,6 @@ fn stands_first(totals: &Sum, first: &Sum, second: &Sum, tie: bool) -> bool
     ensures { result ≡ stands_first totals.now first.now second.now tie }
 {
     stands_at_most_at(totals, first, second) && (tie || !stands_at_most_at(totals, second, first))
-}
-
-fn is_before(id: FrameworkId, other: FrameworkId) -> bool
-    ensures { result ≡ before id other }
-{
-    id.run() < other.run() || (id.run() == other.run() && id.number() < other.number())
 }
 
 fn is_name_before(name: &RoleName, other: &RoleName) -> bool

@@ -3,10 +3,10 @@
 ghost use Rattle.std.specs.Prelude.{◌≡◌, ◌++◌, ◌∷◌, [], true, false, Err, OnOk, OnErr};
 ghost use Rattle.std.specs.List.{find, position};
 ghost use Rattle.std.specs.Option.{option_copied};
-ghost use Rattle.drf_pick.specs.Shares.{is_holder, is_role, at_first, role_holding, given_holders, given_roles, entered, given, holder_of, roles_with, with_role, can_leave, departed, role_has, holder_has, can_back, role_returning, returned_holders, returned_roles, returned};
+ghost use Rattle.drf_pick.specs.Shares.{HoldersOnce, is_holder, is_role, at_first, role_holding, given_holders, given_roles, entered, given, holder_of, roles_with, with_role, can_leave, departed, role_has, holder_has, can_back, role_returning, returned_holders, returned_roles, returned};
 
 use crate::fault::SharesFault;
-use crate::holder::{Holder, RoleSum};
+use crate::holder::{Holder, RoleSum, is_before};
 use crate::sum::Sum;
 use names_core::{FrameworkId, RoleName};
 use quantity::Resources;
@@ -24,18 +24,24 @@ pub struct Shares {
 
 impl Model for Shares {
     ghost use Rattle.std.specs.Prelude.{◌≡◌, []};
-    ghost use Rattle.drf_pick.specs.Shares.{Tally};
+    ghost use Rattle.drf_pick.specs.Shares.{Tally, HoldersOnce};
 
     ghost Value = { Tally };
 
     ghost view = { λ s. record { totals = s.totals; holders = s.holders.items; roles = s.roles.items } };
 
-    ghost invariant = { λ s. s.nothing ≡ [] };
+    ghost invariant = { λ s. (s.nothing ≡ []) × HoldersOnce s.holders.items };
 }
 
-fn holder_place(holders: &[Holder], framework: FrameworkId) -> Option<usize>
+/// The place of a framework's holder. It is found at once where the holders stand in the order of their frameworks' ids.
+pub(crate) fn holder_place(holders: &[Holder], framework: FrameworkId) -> Option<usize>
+    requires { HoldersOnce holders.now }
     ensures { result ≡ position (is_holder framework) holders.now }
 {
+    let place = holders.partition_point(|holder| is_before(holder.framework, framework));
+    if place < holders.len() && holders[place].is_of(framework) {
+        return Some(place);
+    }
     holders.iter().position(|holder| holder.is_of(framework))
 }
 
@@ -46,9 +52,11 @@ fn role_place(roles: &[RoleSum], role: &RoleName) -> Option<usize>
 }
 
 pub(crate) fn find_holder(holders: &[Holder], framework: FrameworkId) -> Option<&Holder>
+    requires { HoldersOnce holders.now }
     ensures { option_copied result ≡ find (is_holder framework) holders.now }
 {
-    holders.iter().find(|holder| holder.is_of(framework))
+    let place = holder_place(holders, framework)?;
+    Some(&holders[place])
 }
 
 pub(crate) fn find_role<'a>(roles: &'a [RoleSum], role: &RoleName) -> Option<&'a RoleSum>
@@ -81,6 +89,7 @@ fn give_in(
     framework: FrameworkId,
     resources: &Resources,
 ) -> Result<(), AllocError>
+    requires { HoldersOnce holders.old.items }
     ensures holders { OnOk result (holders.new.items ≡ given_holders framework resources.now holders.old.items) }
     ensures roles { OnOk result (roles.new.items ≡ given_roles resources.now (find (is_holder framework) holders.old.items) roles.old.items) }
     ensures err { OnErr result ((holders.new.items ≡ holders.old.items) × (roles.new.items ≡ roles.old.items)) }
@@ -124,6 +133,7 @@ fn back_in(
     framework: FrameworkId,
     resources: &Resources,
 ) -> Result<(), SharesFault>
+    requires { HoldersOnce holders.old.items }
     ensures holders { OnOk result (holders.new.items ≡ returned_holders framework resources.now holders.old.items) }
     ensures roles { OnOk result (roles.new.items ≡ returned_roles resources.now (find (is_holder framework) holders.old.items) roles.old.items) }
     ensures covered { OnOk result (holder_has resources.now roles.old.items (find (is_holder framework) holders.old.items) ≡ true) }
