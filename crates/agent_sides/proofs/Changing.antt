@@ -8,36 +8,45 @@ use Rattle.mails.specs.declared.mail.Command.{Command}
 use Rattle.mails.specs.declared.task.Booked.{Booked}
 use Rattle.mails.specs.declared.refusal.MasterRefusal.{MasterRefusal}
 use Rattle.mails.specs.declared.refusal.MasterRefusal.TheVariants.{OldSession, Closed}
-use Rattle.cluster_model.specs.Sides.{Side, last_session, lost}
+use Rattle.names_core.specs.Ids.{Numbered}
+use Rattle.names_core.specs.declared.state.TaskState.{TaskState}
+use Rattle.mails.specs.declared.mail.AgentMail.TheVariants.{Applied, Update}
+use Rattle.cluster_model.specs.Sides.{Run as ModelRun, Side, counts, heard, last_session, lost}
+use Rattle.agent_sides.specs.Looks.{is_session}
 use Rattle.cluster_model.specs.Mails.{judged_session}
-use Rattle.roster.specs.Sessions.{after_report, answered, judged_report, report_opens, reported, with_command}
+use Rattle.roster.specs.Sessions.{after_applied, after_report, newly, answered, judged_report, report_opens, reported, with_command}
 use Rattle.offer_book.specs.declared.account.Account.{Account}
 use Rattle.offer_book.specs.Accounts as accounts
 use Rattle.agent_sides.specs.Changes.{account_of, offering, reporting, side_of}
-use Rattle.agent_sides.specs.declared.sides.ConfiguredAgent.{ConfiguredAgent}
-use Rattle.agent_sides.specs.Joined.{AreOfOne, join, joined}
+use Rattle.agent_sides.specs.declared.config.ConfiguredAgent.{ConfiguredAgent}
+use Rattle.std.specs.List.{AllByRecursion, list_any}
+use Rattle.agent_sides.specs.Configs.{are_ordered, names_of}
+use Rattle.agent_sides.specs.Joined.{AreApart, AreOfOne, Fit, join, joined, side_names}
 use Rattle.agent_sides.proofs.Joining.{KeepsAccount, KeepsSide}
 
 pub offering_joins : (o : Offer) (s : Side) (a : Account) → s.total ≡ a.total → join s (accounts.offering o a) ≡ offering o (join s a)
-offering_joins o s a e = by (accounts.fits a o.resources) refl
+offering_joins o s a e = by (list_any (accounts.is_offered_as o.id) a.offers) refl (accounts.fits a o.resources) refl
   where
-    same : covers s.total (o.resources ++ accounts.taken a) ≡ accounts.fits a o.resources
-    same = ap (λ total. covers total (o.resources ++ accounts.taken a)) e
+    fits_alike : covers s.total (o.resources ++ accounts.taken a) ≡ accounts.fits a o.resources
+    fits_alike = ap (λ total. covers total (o.resources ++ accounts.taken a)) e
 
-    by : (b : Bool) → accounts.fits a o.resources ≡ b → join s (accounts.offering o a) ≡ offering o (join s a)
-    by true h = rw (h, same ∙ h) refl
-    by false h = rw (h, same ∙ h) refl
+    by : (v : Bool) → list_any (accounts.is_offered_as o.id) a.offers ≡ v → (b : Bool) → accounts.fits a o.resources ≡ b → join s (accounts.offering o a) ≡ offering o (join s a)
+    by true i b h = rw i refl
+    by false i true h = rw (i, h, fits_alike ∙ h) refl
+    by false i false h = rw (i, h, fits_alike ∙ h) refl
 
 pub offering_keeps : (o : Offer) → KeepsAccount (accounts.offering o)
-offering_keeps o = record { name = λ a. name a (accounts.fits a o.resources) refl; total = λ a. total a (accounts.fits a o.resources) refl }
+offering_keeps o = record { name = λ a. name a (list_any (accounts.is_offered_as o.id) a.offers) refl (accounts.fits a o.resources) refl; total = λ a. total a (list_any (accounts.is_offered_as o.id) a.offers) refl (accounts.fits a o.resources) refl }
   where
-    name : (a : Account) (b : Bool) → accounts.fits a o.resources ≡ b → (accounts.offering o a).name ≡ a.name
-    name a true h = rw h refl
-    name a false h = rw h refl
+    name : (a : Account) (v : Bool) → list_any (accounts.is_offered_as o.id) a.offers ≡ v → (b : Bool) → accounts.fits a o.resources ≡ b → (accounts.offering o a).name ≡ a.name
+    name a true i b h = rw i refl
+    name a false i true h = rw (i, h) refl
+    name a false i false h = rw (i, h) refl
 
-    total : (a : Account) (b : Bool) → accounts.fits a o.resources ≡ b → (accounts.offering o a).total ≡ a.total
-    total a true h = rw h refl
-    total a false h = rw h refl
+    total : (a : Account) (v : Bool) → list_any (accounts.is_offered_as o.id) a.offers ≡ v → (b : Bool) → accounts.fits a o.resources ≡ b → (accounts.offering o a).total ≡ a.total
+    total a true i b h = rw i refl
+    total a false i true h = rw (i, h) refl
+    total a false i false h = rw (i, h) refl
 
 pub command_joins : (command : Command) (s : Side) (a : Account) → join (with_command command s) a ≡ with_command command (join s a)
 command_joins command s a = by s.is_open refl
@@ -143,6 +152,45 @@ pub entered_joins : (agents : List ConfiguredAgent) → joined (map side_of agen
 entered_joins [] = refl
 entered_joins (a ∷ agents) = ap (λ ss. side_of a ∷ ss) (entered_joins agents)
 
-pub entered_are_one : (agents : List ConfiguredAgent) → AreOfOne (map side_of agents) (map account_of agents)
+entered_are_one : (agents : List ConfiguredAgent) → AreOfOne (map side_of agents) (map account_of agents)
 entered_are_one [] = tt
 entered_are_one (a ∷ agents) = (refl, refl, entered_are_one agents)
+
+entered_names : (agents : List ConfiguredAgent) → side_names (map side_of agents) ≡ names_of agents
+entered_names [] = refl
+entered_names (a ∷ agents) = ap (λ ns. a.name ∷ ns) (entered_names agents)
+
+entered_apart : (agents : List ConfiguredAgent) → AllByRecursion AreApart (map account_of agents)
+entered_apart [] = tt
+entered_apart (a ∷ agents) = (refl, entered_apart agents)
+
+pub entered_fit : (agents : List ConfiguredAgent) → are_ordered (names_of agents) ≡ true → Fit (map side_of agents) (map account_of agents)
+entered_fit agents ordered = record { one = entered_are_one agents; ordered = ap are_ordered (entered_names agents) ∙ ordered; apart = entered_apart agents }
+
+-- updates and counts of applied commands
+
+pub hearing_joins : (run : ModelRun) (session : ℕ) (key : Numbered) (k : ℕ) (state : TaskState) (ended : Bool) (s : Side) (a : Account) → is_session session s ≡ true
+    → join s (accounts.hearing key k state ended a) ≡ heard run (join s a) (Update session key k state ended)
+hearing_joins run session key k state ended s a h = rw h refl
+
+pub hearing_stays : (run : ModelRun) (session : ℕ) (key : Numbered) (k : ℕ) (state : TaskState) (ended : Bool) (s : Side) (a : Account) → is_session session s ≡ false
+    → join s a ≡ heard run (join s a) (Update session key k state ended)
+hearing_stays run session key k state ended s a h = rw h refl
+
+pub applied_joins : (run : ModelRun) (session count : ℕ) (s : Side) (a : Account) → join (after_applied session count s) (accounts.after_commands (newly session count s) a) ≡ heard run (join s a) (Applied session count)
+applied_joins run session count s a = by (counts s session count) refl
+  where
+    by : (b : Bool) → counts s session count ≡ b → join (after_applied session count s) (accounts.after_commands (newly session count s) a) ≡ heard run (join s a) (Applied session count)
+    by true h = rw h refl
+    by false h = rw h refl
+
+pub applied_keeps : (session count : ℕ) → KeepsSide (after_applied session count)
+applied_keeps session count = record { name = λ s. name s (counts s session count) refl; total = λ s. total s (counts s session count) refl }
+  where
+    name : (s : Side) (b : Bool) → counts s session count ≡ b → (after_applied session count s).name ≡ s.name
+    name s true h = rw h refl
+    name s false h = rw h refl
+
+    total : (s : Side) (b : Bool) → counts s session count ≡ b → (after_applied session count s).total ≡ s.total
+    total s true h = rw h refl
+    total s false h = rw h refl

@@ -4,7 +4,9 @@ use Rattle.cluster_model.specs.Sides.{Side}
 use Rattle.roster.specs.Places.{at_place, told_at}
 use Rattle.offer_book.specs.declared.account.Account.{Account}
 use Rattle.offer_book.specs.Books as books
-use Rattle.agent_sides.specs.Joined.{AreOfOne, join, joined}
+use Rattle.std.specs.List.{AllByRecursion}
+use Rattle.agent_sides.specs.Configs.{are_ordered}
+use Rattle.agent_sides.specs.Joined.{AreApart, AreOfOne, Fit, join, joined, side_names}
 
 -- a change of an account keeps its agent
 pub record KeepsAccount (g : Account → Account) : Type 0 where
@@ -132,3 +134,56 @@ joined_same i h tell none told same [] (a ∷ as_) one is = absurd one
 joined_same i h tell none told same (s ∷ ss) [] one is = absurd one
 joined_same zero h tell none told same (s ∷ ss) (a ∷ as_) one is = ap (λ t. t ∷ joined ss as_) (same s a is)
 joined_same (suc i) h tell none told same (s ∷ ss) (a ∷ as_) one is = ap (λ ts. join s a ∷ ts) (joined_same i h tell none told same ss as_ one.2 is)
+
+-- names stay, and offers stay apart
+
+pub names_at : (i : ℕ) (f : Side → Side) → KeepsSide f → (ss : List Side) → side_names (at_place i f ss) ≡ side_names ss
+names_at i f keeps [] = refl
+names_at zero f keeps (s ∷ ss) = ap (λ n. n ∷ side_names ss) (keeps.name s)
+names_at (suc i) f keeps (s ∷ ss) = ap (λ ns. s.name ∷ ns) (names_at i f keeps ss)
+
+abbrev pub KeepsApart : (Account → Account) → Type 0
+KeepsApart g = (a : Account) → AreApart a → AreApart (g a)
+
+apart_map : (g : Account → Account) → KeepsApart g → (as_ : List Account) → AllByRecursion AreApart as_ → AllByRecursion AreApart (map g as_)
+apart_map g keeps [] h = h
+apart_map g keeps (a ∷ as_) h = (keeps a h.0, apart_map g keeps as_ h.1)
+
+apart_at : (i : ℕ) (g : Account → Account) → KeepsApart g → (as_ : List Account) → AllByRecursion AreApart as_ → AllByRecursion AreApart (books.at_place i g as_)
+apart_at i g keeps [] h = h
+apart_at zero g keeps (a ∷ as_) h = (keeps a h.0, h.1)
+apart_at (suc i) g keeps (a ∷ as_) h = (h.0, apart_at i g keeps as_ h.1)
+
+pub fit_map : (g : Account → Account) → KeepsAccount g → KeepsApart g → (ss : List Side) (as_ : List Account) → Fit ss as_ → Fit ss (map g as_)
+fit_map g keeps apart ss as_ fit = record { one = one_map g keeps ss as_ fit.one; ordered = fit.ordered; apart = apart_map g apart as_ fit.apart }
+
+pub fit_book : (i : ℕ) (g : Account → Account) → KeepsAccount g → KeepsApart g → (ss : List Side) (as_ : List Account) → Fit ss as_ → Fit ss (books.at_place i g as_)
+fit_book i g keeps apart ss as_ fit = record { one = one_book i g keeps ss as_ fit.one; ordered = fit.ordered; apart = apart_at i g apart as_ fit.apart }
+
+pub fit_roster : (i : ℕ) (f : Side → Side) → KeepsSide f → (ss : List Side) (as_ : List Account) → Fit ss as_ → Fit (at_place i f ss) as_
+fit_roster i f keeps ss as_ fit = record { one = one_roster i f keeps ss as_ fit.one; ordered = ap are_ordered (names_at i f keeps ss) ∙ fit.ordered; apart = fit.apart }
+
+pub joined_names : (ss : List Side) (as_ : List Account) → AreOfOne ss as_ → side_names (joined ss as_) ≡ side_names ss
+joined_names [] [] one = refl
+joined_names [] (a ∷ as_) one = absurd one
+joined_names (s ∷ ss) [] one = absurd one
+joined_names (s ∷ ss) (a ∷ as_) one = ap (λ ns. s.name ∷ ns) (joined_names ss as_ one.2)
+
+-- an account changes by what is told of the entry, which changes too
+
+pub joined_by : {X : Type 0} (i : ℕ) (f h : Side → Side) (g : X → Account → Account) (tell : Side → X) (none : X) → ((s : Side) (a : Account) → join (f s) (g (tell s) a) ≡ h (join s a))
+    → (ss : List Side) (as_ : List Account) → AreOfOne ss as_ → joined (at_place i f ss) (books.at_place i (g (told_at i tell none ss)) as_) ≡ at_place i h (joined ss as_)
+joined_by i f h g tell none same [] [] one = refl
+joined_by i f h g tell none same [] (a ∷ as_) one = absurd one
+joined_by i f h g tell none same (s ∷ ss) [] one = absurd one
+joined_by zero f h g tell none same (s ∷ ss) (a ∷ as_) one = rw (same s a) refl
+joined_by (suc i) f h g tell none same (s ∷ ss) (a ∷ as_) one = rw (joined_by i f h g tell none same ss as_ one.2) refl
+
+-- an account changes alone, where something is told of the entry
+pub joined_where : {X : Type 0} (i : ℕ) (h : Side → Side) (g : Account → Account) (tell : Side → X) (none told : X) → ((s : Side) (a : Account) → tell s ≡ told → join s (g a) ≡ h (join s a))
+    → (ss : List Side) (as_ : List Account) → AreOfOne ss as_ → told_at i tell none ss ≡ told → joined ss (books.at_place i g as_) ≡ at_place i h (joined ss as_)
+joined_where i h g tell none told same [] [] one is = refl
+joined_where i h g tell none told same [] (a ∷ as_) one is = absurd one
+joined_where i h g tell none told same (s ∷ ss) [] one is = absurd one
+joined_where zero h g tell none told same (s ∷ ss) (a ∷ as_) one is = ap (λ t. t ∷ joined ss as_) (same s a is)
+joined_where (suc i) h g tell none told same (s ∷ ss) (a ∷ as_) one is = ap (λ ts. join s a ∷ ts) (joined_where i h g tell none told same ss as_ one.2 is)

@@ -1,2 +1,5 @@
 pub mod Joining
 pub mod Changing
+pub mod Apart
+pub mod Naming
+pub mod Looking

@@ -1,22 +1,26 @@
 -- What steps change of a side.
 use Rattle.std.specs.Prelude.{ℕ, not, if◌then◌else◌, List, [], ◌∷◌, ◌++◌, filter}
+use Rattle.std.specs.List.{list_any}
 use Rattle.names_core.specs.Ids.{Numbered}
 use Rattle.mails.specs.declared.task.Offer.{Offer}
 use Rattle.mails.specs.declared.task.Booked.{Booked}
 use Rattle.quantity.specs.Rows.{covers}
+use Rattle.cluster_model.specs.Ids.{same}
 use Rattle.cluster_model.specs.Sides.{Side, new_side, opened, taken}
 use Rattle.cluster_model.specs.Masters.{is_of}
 use Rattle.roster.specs.Sessions.{report_opens}
 use Rattle.offer_book.specs.declared.account.Account.{Account}
 use Rattle.offer_book.specs.Accounts.{new_account}
-use Rattle.agent_sides.specs.declared.sides.ConfiguredAgent.{ConfiguredAgent}
+use Rattle.agent_sides.specs.declared.config.ConfiguredAgent.{ConfiguredAgent}
 
 abbrev pub without_offers_of : Numbered → Side → Side
 without_offers_of framework s = record s { offers = filter (λ o. not (is_of framework o)) s.offers }
 
--- with one more offer, where it fits the total
+-- with one more offer, where no current offer on the agent has its id and it fits the total
 abbrev pub offering : Offer → Side → Side
-offering o s = if covers s.total (o.resources ++ taken s) then record s { offers = s.offers ++ o ∷ [] } else s
+offering o s =
+    if list_any (λ other. same other.id o.id) s.offers then s
+    else (if covers s.total (o.resources ++ taken s) then record s { offers = s.offers ++ o ∷ [] } else s)
 
 abbrev pub with_task : Booked → Side → Side
 with_task b s = record s { booked = s.booked ++ b ∷ [] }

@@ -1,7 +1,10 @@
 -- The roster and the book of the same agents, as one list of the master's sides.
-use Rattle.std.specs.Prelude.{◌≡◌, List, [], ◌∷◌, ⊤}
+use Rattle.std.specs.Prelude.{◌≡◌, ℕ, true, false, List, [], ◌∷◌, map, ⊤}
+use Rattle.std.specs.List.{AllByRecursion}
+use Rattle.cluster_model.specs.Ids.{is_repeated}
 use Rattle.cluster_model.specs.Sides.{Side}
 use Rattle.offer_book.specs.declared.account.Account.{Account}
+use Rattle.agent_sides.specs.Configs.{are_ordered}
 
 -- the side of an agent: its session from the roster, its offers and booked tasks from the book
 abbrev pub join : Side → Account → Side
@@ -18,3 +21,17 @@ AreOfOne [] [] = ⊤
 AreOfOne [] (a ∷ as_) = ⊥
 AreOfOne (s ∷ ss) [] = ⊥
 AreOfOne (s ∷ ss) (a ∷ as_) = (s.name ≡ a.name) × (s.total ≡ a.total) × AreOfOne ss as_
+
+-- the agents' names
+abbrev pub side_names : List Side → List (List ℕ)
+side_names ss = map (λ s. s.name) ss
+
+-- no two current offers on an agent have one id
+abbrev pub AreApart : Account → Type 0
+AreApart a = is_repeated (map (λ o. o.id) a.offers) ≡ false
+
+-- what holds of a roster and a book: they are of the same agents, in byte order of their names, and offers have ids of their own
+pub record Fit (ss : List Side) (as_ : List Account) : Type 0 where
+  pub one : AreOfOne ss as_
+  pub ordered : are_ordered (side_names ss) ≡ true
+  pub apart : AllByRecursion AreApart as_

@@ -1,2 +1,4 @@
+pub mod Configs
 pub mod Joined
 pub mod Changes
+pub mod Looks

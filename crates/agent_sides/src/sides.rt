@@ -1,27 +1,30 @@
 //! The roster and the book of the same agents.
 
-ghost use Rattle.std.specs.Prelude.{◌≡◌, ◌++◌, ◌∷◌, [], Some, None, Ok, Err, true, false, map, length, OnOk, OnErr, IfOk, IfErr};
-ghost use Rattle.cluster_model.specs.Sides.{lost, withdrawn, without_used};
+ghost use Rattle.std.specs.Prelude.{◌≡◌, ◌<◌, [], Some, None, Ok, Err, true, false, not, ◌&&◌, bytes_eq, map, length, option_map, OnOk, OnErr, IfOk, IfErr};
+ghost use Rattle.std.specs.List.{find, list_any};
+ghost use Rattle.mails.specs.declared.mail.AgentMail.TheVariants.{Applied, Update};
+ghost use Rattle.cluster_model.specs.Sides.{Run as ModelRun, heard, lost, withdrawn};
+ghost use Rattle.cluster_model.specs.Masters.{has_returned, held_among, is_of, may_have_numbers};
+ghost use Rattle.cluster_model.specs.Mails.{in_session};
+ghost use Rattle.cluster_model.specs.Sides.{is_named};
 ghost use Rattle.roster.specs.Sessions.{issued_number, is_spent, reported, with_command};
-ghost use Rattle.roster.specs.Places.{at_place, told_at};
-ghost use Rattle.roster.specs.Faults.{IsIssueRefusal};
-ghost use Rattle.agent_sides.specs.Changes.{account_of, offering, reporting, side_of, with_task, without_offers_of};
+ghost use Rattle.roster.specs.Places.{at_place, place_of, told_at};
+ghost use Rattle.roster.specs.Faults.{IsAppliedRefusal, IsIssueRefusal};
+ghost use Rattle.offer_book.specs.Held.{place};
+ghost use Rattle.agent_sides.specs.Configs.{are_ordered};
+ghost use Rattle.agent_sides.specs.Joined.{side_names};
+ghost use Rattle.agent_sides.specs.Changes.{account_of, offering, reporting, side_of, with_task};
+ghost use Rattle.agent_sides.specs.Looks.{all_placed, at_name, is_heard_last, next_command, told_of, withdrawing};
 
+use crate::config::{Config, ConfiguredAgent};
+use crate::look;
 use listed::Listed;
 use mails::{Booked, Command, MasterRefusal, Offer};
-use names_core::{AgentName, FrameworkId, OfferId, Run};
-use offer_book::OfferBook;
-use quantity::Resources;
-use roster::{Roster, RosterEntry, RosterFault};
+use names_core::{AgentName, FrameworkId, LaunchKey, OfferId, Run, TaskName};
+use offer_book::{Heard, OfferBook, ids_name_offers};
+use roster::{Roster, RosterFault};
 use std::alloc::{AllocError, Global};
 use std::marker::Model;
-
-/// A configured agent, and what it owns.
-#[derive(Drop)]
-pub struct ConfiguredAgent {
-    pub name: AgentName,
-    pub total: Resources,
-}
 
 /// What the master has of each configured agent, each at its place. At a place past the end nothing is known, and nothing
 /// happens there.
@@ -34,29 +37,13 @@ pub struct Sides {
 impl Model for Sides {
     ghost use Rattle.std.specs.Prelude.{List};
     ghost use Rattle.cluster_model.specs.Sides.{Side};
-    ghost use Rattle.agent_sides.specs.Joined.{AreOfOne, joined};
+    ghost use Rattle.agent_sides.specs.Joined.{Fit, joined};
 
     ghost Value = { List Side };
 
     ghost view = { λ sides. joined sides.roster sides.book };
 
-    ghost invariant = { λ sides. AreOfOne sides.roster sides.book };
-}
-
-fn is_open_in(entries: &[RosterEntry], place: usize) -> bool
-    ensures { result ≡ told_at place (λ s. s.is_open) false entries.now }
-{
-    if place >= entries.len() {
-        return false;
-    }
-    entries[place].is_open()
-}
-
-/// Whether the agent at a place has an open session.
-fn is_open_at(roster: &Roster, place: usize) -> bool
-    ensures { result ≡ told_at place (λ s. s.is_open) false roster.now }
-{
-    is_open_in(roster.entries(), place)
+    ghost invariant = { λ sides. Fit sides.roster sides.book };
 }
 
 /// Enters agents into an empty roster and an empty book.
@@ -79,27 +66,36 @@ fn enter_all(
 }
 
 impl Sides {
-    /// Of these agents, none of which has opened a session in this run.
-    pub fn of(alloc: Global, agents: &[ConfiguredAgent]) -> Result<Sides, AllocError>
-        ensures { IfOk result (λ sides. sides ≡ map side_of agents.now) }
+    /// Of the configured agents, none of which has opened a session in this run.
+    pub fn of(alloc: Global, config: &Config) -> Result<Sides, AllocError>
+        ensures { IfOk result (λ sides. sides ≡ map side_of config.now) }
     {
         let mut roster = Roster::new(alloc);
         let mut book = OfferBook::new(alloc);
-        enter_all(alloc, &mut roster, &mut book, agents)?;
+        enter_all(alloc, &mut roster, &mut book, config.agents())?;
         Ok(Sides { roster, book })
+    }
+
+    /// The agents stand in byte order of their names, none twice.
+    pub fn stand_in_order(&self)
+        ensures { are_ordered (side_names self.now) ≡ true }
+    {
+        let _roster = &self.roster;
     }
 
     /// Withdraws all offers to a framework. It takes no memory.
     pub fn withdraw_of(&mut self, framework: FrameworkId)
-        ensures { self.new ≡ map (without_offers_of framework) self.old }
+        ensures { self.new ≡ map (withdrawing (is_of framework)) self.old }
     {
+        ids_name_offers();
         self.book.withdraw_of(framework);
     }
 
     /// Withdraws the offers to a framework that have one of these ids. It takes no memory.
     pub fn withdraw_named(&mut self, framework: FrameworkId, ids: &[OfferId])
-        ensures { self.new ≡ map (λ s. without_used s framework ids.now) self.old }
+        ensures { self.new ≡ map (withdrawing (is_named framework ids.now)) self.old }
     {
+        ids_name_offers();
         self.book.withdraw_named(framework, ids);
     }
 
@@ -110,7 +106,7 @@ impl Sides {
         self.book.withdraw_at(place, ids);
     }
 
-    /// Makes an offer, if with it all that is taken of the agent still fits its total.
+    /// Makes an offer, if no current one on the agent has its id and with it all that is taken of the agent still fits its total.
     pub fn offer_at(&mut self, alloc: Global, place: usize, offer: Offer) -> Result<(), AllocError>
         ensures ok { OnOk result (self.new ≡ at_place place (offering offer) self.old) }
         ensures err { OnErr result (self.new ≡ self.old) }
@@ -168,9 +164,130 @@ impl Sides {
     pub fn lose(&mut self, alloc: Global, place: usize)
         ensures { self.new ≡ at_place place lost self.old }
     {
-        if is_open_at(&self.roster, place) {
+        if look::is_open_in(self.roster.entries(), place) {
             self.roster.close_session(alloc, place);
             self.book.reopen(alloc, place, Listed::new(alloc));
         }
+    }
+
+    /// The agent has applied the first `count` commands of a session: the books forget what they end. `G2 OldSession`, `G3
+    /// Closed` and `G4 NotOpen` where this isn't the open session, `G5 OutOfMemory` where memory was refused.
+    pub fn applied(
+        &mut self,
+        alloc: Global,
+        place: usize,
+        session: u32,
+        count: u32,
+    ) -> Result<(), RosterFault>
+        ensures ok { (run : ModelRun) → OnOk result (self.new ≡ at_place place (λ s. heard run s (Applied session count)) self.old) }
+        ensures judged { OnOk result (told_at place (λ s. in_session s session) None self.old ≡ None) }
+        ensures refused { IfErr result (IsAppliedRefusal (told_at place (λ s. in_session s session) None self.old)) }
+        ensures err { OnErr result (self.new ≡ self.old) }
+    {
+        let commands = match self.roster.applied(alloc, place, session, count) {
+            Ok(commands) => commands,
+            Err(fault) => return Err(fault),
+        };
+        self.book.forget_by(place, &commands);
+        Ok(())
+    }
+
+    /// An update of a task is heard of, where the session is the open one. It takes no memory.
+    pub fn hear(&mut self, place: usize, session: u32, update: &Heard)
+        requires { update.now.k < 4294967295 }
+        ensures { (run : ModelRun) → self.new ≡ at_place place (λ s. heard run s (Update session update.now.key update.now.k update.now.state update.now.ended)) self.old }
+    {
+        if look::is_session_in(self.roster.entries(), place, session) {
+            self.book.hear(place, update);
+        }
+    }
+
+    /// Issues a command to the agent of a name, as `issue` does, and gives the session and the number.
+    pub fn issue_to(
+        &mut self,
+        name: &AgentName,
+        command: Command,
+    ) -> Result<Option<(u32, u32)>, RosterFault>
+        ensures number { IfOk result (λ n. n ≡ told_of name.now next_command None self.old) }
+        ensures ok { OnOk result (self.new ≡ at_name name.now (with_command command) self.old) }
+        ensures refused { IfErr result (IsIssueRefusal (told_of name.now is_spent false self.old)) }
+        ensures err { OnErr result (self.new ≡ self.old) }
+    {
+        let Some(place) = self.place_of(name) else {
+            return Ok(None);
+        };
+        let session = self.session_at(place);
+        match self.issue(place, command) {
+            Ok(None) => Ok(None),
+            Ok(Some(number)) => Ok(Some((session, number))),
+            Err(fault) => Err(fault),
+        }
+    }
+}
+
+/// Look-ups.
+impl Sides {
+    /// Where the agent of a name stands.
+    pub fn place_of(&self, name: &AgentName) -> Option<usize>
+        ensures { result ≡ place_of name.now self.now }
+    {
+        self.roster.place_of(name)
+    }
+
+    /// The open session of the agent at a place, or the last one that was open; 0 past the end.
+    pub fn session_at(&self, place: usize) -> u32
+        ensures { result ≡ told_at place (λ s. s.session) 0 self.now }
+    {
+        look::session_in(self.roster.entries(), place)
+    }
+
+    /// The booked task of a framework with this name, if any, and its agent. Of several it is one that hasn't ended, if there
+    /// is one, and of these the one with the least launch key.
+    pub fn held(&self, framework: FrameworkId, name: &TaskName) -> Option<(&AgentName, &Booked)>
+        ensures { option_map (λ t. place t.0.now t.1.now) result ≡ held_among (all_placed self.now) framework name.now }
+    {
+        self.book.held(framework, name)
+    }
+
+    /// How many tasks are booked, ended ones too.
+    pub fn booked_count(&self) -> u128
+        ensures { result ≡ length (all_placed self.now) }
+    {
+        self.book.booked_count()
+    }
+
+    /// Whether this is the update last heard of a framework's task of this name and key on this agent.
+    pub fn is_heard_last(
+        &self,
+        framework: FrameworkId,
+        agent: &AgentName,
+        name: &TaskName,
+        key: LaunchKey,
+        k: u32,
+    ) -> bool
+        ensures { result ≡ list_any (is_heard_last framework agent.now name.now key k) (all_placed self.now) }
+    {
+        look::is_heard_last_in(self.book.accounts(), framework, agent, name, key, k)
+    }
+
+    /// Whether so many command numbers are left in the session of the agent of a name, where there is one.
+    pub fn may_have_numbers(&self, name: &AgentName, count: u64) -> bool
+        ensures { result ≡ may_have_numbers count (find (λ s. bytes_eq s.name name.now) self.now) }
+    {
+        look::may_have_numbers(self.roster.entries(), name, count)
+    }
+
+    /// Whether an agent hasn't opened a session in this run.
+    pub fn is_any_awaited(&self) -> bool
+        ensures { result ≡ list_any (λ s. not (has_returned s)) self.now }
+    {
+        look::is_any_awaited(self.roster.entries())
+    }
+
+    /// Whether the agent of this name hasn't opened a session in this run.
+    pub fn is_one_awaited(&self, name: &AgentName) -> bool
+        ensures { result ≡ list_any (λ s. bytes_eq s.name name.now && not (has_returned s)) self.now }
+    {
+        look::is_one_awaited(self.roster.entries(), name)
     }
 }

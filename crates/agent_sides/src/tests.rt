@@ -2,9 +2,11 @@
 
 use super::*;
 use listed::Listed;
-use mails::{Booked, Command, Job, Offer};
+use mails::{Booked, Command, Job, MasterRefusal, Offer};
 use names_core::{AgentName, FrameworkId, LaunchKey, OfferId, Run, TaskName, TaskState};
+use offer_book::Heard;
 use quantity::Resources;
+use roster::RosterFault;
 use std::alloc::Global;
 use std::test::Fail;
 
@@ -15,12 +17,9 @@ fn cpus(alloc: Global, amount: u64) -> Result<Resources, Fail> {
 }
 
 fn one_agent(alloc: Global) -> Result<Sides, Fail> {
-    let mut agents = Vec::new(alloc);
-    agents.push(ConfiguredAgent {
-        name: AgentName::from_text(alloc, "a1")?,
-        total: cpus(alloc, 4)?,
-    })?;
-    Ok(Sides::of(alloc, &agents)?)
+    let mut config = Config::new(alloc);
+    config.add(AgentName::from_text(alloc, "a1")?, cpus(alloc, 4)?)?;
+    Ok(Sides::of(alloc, &config)?)
 }
 
 #[test]
@@ -69,5 +68,43 @@ fn each_step_is_made(rt: HostRuntime) -> Result<(), Fail> {
     sides.withdraw_named(framework, &[id]);
     sides.withdraw_at(0, &[id]);
     sides.withdraw_of(framework);
+    Ok(())
+}
+
+#[test]
+fn an_agent_is_configured_once(rt: HostRuntime) -> Result<(), Fail> {
+    let alloc = rt.alloc();
+    let mut config = Config::new(alloc);
+    config.add(AgentName::from_text(alloc, "b")?, cpus(alloc, 4)?)?;
+    config.add(AgentName::from_text(alloc, "a")?, cpus(alloc, 2)?)?;
+    let again = config.add(AgentName::from_text(alloc, "b")?, cpus(alloc, 1)?);
+    assert!(rt; again == Err(ConfigFault::NamedTwice));
+    let first = config.agents().get(0).ok_or("no agent")?;
+    assert!(rt; first.name.as_text() == "a");
+    Ok(())
+}
+
+#[test]
+fn updates_and_counts_are_heard(rt: HostRuntime) -> Result<(), Fail> {
+    let alloc = rt.alloc();
+    let mut sides = one_agent(alloc)?;
+    let framework = FrameworkId::new(1, 1);
+    let agent = AgentName::from_text(alloc, "a1")?;
+    let name = TaskName::from_text(alloc, "t1")?;
+    let update = Heard {
+        key: LaunchKey::new(1, 1),
+        k: 0,
+        state: TaskState::Running,
+        ended: false,
+    };
+    sides.hear(0, 1, &update);
+    assert!(rt; sides.applied(alloc, 0, 1, 0) == Err(RosterFault::Refused(MasterRefusal::NotOpen)));
+    assert!(rt; sides.held(framework, &name).is_none() && sides.booked_count() == 0);
+    assert!(rt; !sides.is_heard_last(framework, &agent, &name, update.key, 0));
+    assert!(rt; sides.may_have_numbers(&agent, 1));
+    assert!(rt; sides.is_any_awaited() && sides.is_one_awaited(&agent));
+    sides.stand_in_order();
+    assert!(rt; sides.issue_to(&agent, Command::Kill(update.key)) == Ok(None));
+    assert!(rt; sides.place_of(&agent) == Some(0) && sides.session_at(0) == 0);
     Ok(())
 }

@@ -61,12 +61,12 @@ named_part a framework ids = rest_of a.total (rest_of a.total (offer_rows (named
 abbrev pub with_offer : Offer → Account → Account
 with_offer o a = record a { offers = a.offers ++ o ∷ [] }
 
--- with one more offer, where it fits
-abbrev pub offering : Offer → Account → Account
-offering o a = if fits a o.resources then with_offer o a else a
-
 abbrev pub is_offered_as : Numbered → Offer → Bool
 is_offered_as id o = same o.id id
+
+-- with one more offer, where no current one has its id and it fits
+abbrev pub offering : Offer → Account → Account
+offering o a = if list_any (is_offered_as o.id) a.offers then a else (if fits a o.resources then with_offer o a else a)
 
 abbrev pub without_offer : Numbered → Account → Account
 without_offer id a = record a { offers = filter (λ o. not (is_offered_as id o)) a.offers }

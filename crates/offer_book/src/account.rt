@@ -94,11 +94,14 @@ impl Account {
         Ok(part)
     }
 
-    /// Makes an offer, if with it all that is taken still fits the total.
+    /// Makes an offer, if no current one has its id and with it all that is taken still fits the total.
     pub(crate) fn offer(&mut self, alloc: Global, offer: Offer) -> Result<(), AllocError>
         ensures ok { OnOk result (self.new ≡ offering offer self.old) }
         ensures err { OnErr result (self.new ≡ self.old) }
     {
+        if self.offers.is_offered(offer.id) {
+            return Ok(());
+        }
         if self.fits(alloc, &offer.resources)? {
             self.offers.push(offer)?;
         }

@@ -421,7 +421,7 @@ impl OfferBook {
         Ok(())
     }
 
-    /// Makes an offer, if with it all that is taken still fits the total.
+    /// Makes an offer, if no current one of the agent has its id and with it all that is taken still fits the total.
     pub fn offer_at(&mut self, alloc: Global, place: usize, offer: Offer) -> Result<(), AllocError>
         ensures ok { OnOk result (self.new ≡ at_place place (offering offer) self.old) }
         ensures err { OnErr result (self.new ≡ self.old) }

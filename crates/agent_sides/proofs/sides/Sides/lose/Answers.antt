@@ -1,9 +1,9 @@
-use Rattle.std.proofs.Common.{ap, ◌∙◌, sym, ◌≡◌, true, false, []}
+use Rattle.std.proofs.Common.{refl, ap, ◌∙◌, sym, ◌≡◌, true, false, []}
 use Rattle.cluster_model.specs.Sides.{lost}
 use Rattle.offer_book.specs.Accounts as accounts
 use Rattle.offer_book.specs.Books as books
-use Rattle.roster.specs.Places.{at_place}
-use Rattle.agent_sides.proofs.Joining.{joined_same, joined_when, one_book, one_roster}
+use Rattle.roster.specs.Places.{at_place, told_at}
+use Rattle.agent_sides.proofs.Joining.{joined_same, joined_when, fit_book, fit_roster}
 use Rattle.agent_sides.proofs.Changing.{lost_joins, lost_keeps, lost_stays, reopened_keeps}
 use Rattle.agent_sides.proofs.sides.Sides.lose.Goals as goal
 
@@ -11,16 +11,16 @@ pub invariant_of-self : goal.invariant_of-self
 invariant_of-self c =
     let book : c.reopen.new.self ≡ books.at_place c.args.place (accounts.reopened []) c.self.inside.book = c.reopen.ensures ∙ ap (λ tasks. books.at_place c.args.place (accounts.reopened tasks) c.self.inside.book) c.new.ensures in
     rw (c.close_session.ensures, book)
-    (one_roster c.args.place lost lost_keeps c.self.inside.roster (books.at_place c.args.place (accounts.reopened []) c.self.inside.book) (one_book c.args.place (accounts.reopened []) (reopened_keeps []) c.self.inside.roster c.self.inside.book c.self.invariant))
+    (fit_roster c.args.place lost lost_keeps c.self.inside.roster (books.at_place c.args.place (accounts.reopened []) c.self.inside.book) (fit_book c.args.place (accounts.reopened []) (reopened_keeps []) (λ a h. refl) c.self.inside.roster c.self.inside.book c.self.invariant))
 
-pub returns-then-is_open_at : goal.returns-then-is_open_at
-returns-then-is_open_at c =
+pub returns-then-is_open_in : goal.returns-then-is_open_in
+returns-then-is_open_in c =
     let book : c.reopen.new.self ≡ books.at_place c.args.place (accounts.reopened []) c.self.inside.book = c.reopen.ensures ∙ ap (λ tasks. books.at_place c.args.place (accounts.reopened tasks) c.self.inside.book) c.new.ensures in
     rw (c.close_session.ensures, book)
-    (joined_when c.args.place lost lost (accounts.reopened []) (λ s. s.is_open) false true lost_joins c.self.inside.roster c.self.inside.book c.self.invariant (sym c.is_open_at.ensures ∙ c.if-is_open_at.true) ∙ ap (at_place c.args.place lost) c.self.view_is)
+    (joined_when c.args.place lost lost (accounts.reopened []) (λ s. s.is_open) false true lost_joins c.self.inside.roster c.self.inside.book c.self.invariant.one (sym (c.is_open_in.ensures ∙ ap (told_at c.args.place (λ s. s.is_open) false) c.entries.ensures) ∙ c.if-is_open_in.true) ∙ ap (at_place c.args.place lost) c.self.view_is)
 
-pub returns-else-is_open_at : goal.returns-else-is_open_at
-returns-else-is_open_at c =
+pub returns-else-is_open_in : goal.returns-else-is_open_in
+returns-else-is_open_in c =
     sym c.self.view_is
-    ∙ joined_same c.args.place lost (λ s. s.is_open) false false lost_stays c.self.inside.roster c.self.inside.book c.self.invariant (sym c.is_open_at.ensures ∙ c.if-is_open_at.false)
+    ∙ joined_same c.args.place lost (λ s. s.is_open) false false lost_stays c.self.inside.roster c.self.inside.book c.self.invariant.one (sym (c.is_open_in.ensures ∙ ap (told_at c.args.place (λ s. s.is_open) false) c.entries.ensures) ∙ c.if-is_open_in.false)
     ∙ ap (at_place c.args.place lost) c.self.view_is

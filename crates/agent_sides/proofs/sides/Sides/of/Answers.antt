@@ -1,8 +1,13 @@
-use Rattle.agent_sides.proofs.Changing.{entered_are_one, entered_joins}
+use Rattle.std.proofs.Common.{ap, map, ◌∙◌}
+use Rattle.agent_sides.specs.Changes.{side_of}
+use Rattle.agent_sides.specs.Configs.{are_ordered, names_of}
+use Rattle.agent_sides.proofs.Changing.{entered_fit, entered_joins}
 use Rattle.agent_sides.proofs.sides.Sides.of.Goals as goal
 
 pub invariant_of-result : goal.invariant_of-result
-invariant_of-result c = rw (c.in_ok-enter_all.ensures.roster, c.in_ok-enter_all.ensures.book) (entered_are_one c.args.agents.now)
+invariant_of-result c =
+    rw (c.in_ok-enter_all.ensures.roster, c.in_ok-enter_all.ensures.book)
+    (entered_fit c.agents.result.now (ap (λ agents. are_ordered (names_of agents)) c.agents.ensures.agents ∙ c.agents.ensures.ordered))
 
 pub returns : goal.returns
-returns c = rw (c.in_ok-enter_all.ensures.roster, c.in_ok-enter_all.ensures.book) (entered_joins c.args.agents.now)
+returns c = rw (c.in_ok-enter_all.ensures.roster, c.in_ok-enter_all.ensures.book) (entered_joins c.agents.result.now ∙ ap (map side_of) c.agents.ensures.agents)

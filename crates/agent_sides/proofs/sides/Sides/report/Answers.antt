@@ -4,47 +4,47 @@ use Rattle.offer_book.specs.Books as books
 use Rattle.roster.specs.Places.{at_place, told_at}
 use Rattle.roster.specs.Sessions.{after_report, reported}
 use Rattle.agent_sides.specs.Changes.{reporting}
-use Rattle.agent_sides.proofs.Joining.{joined_if, joined_told, joined_when, one_book, one_roster}
+use Rattle.agent_sides.proofs.Joining.{joined_if, joined_told, joined_when, fit_book, fit_roster}
 use Rattle.agent_sides.proofs.Changing.{reopened_keeps, report_again_joins, report_keeps, report_opens_joins, report_refused_joins}
 use Rattle.agent_sides.proofs.sides.Sides.report.Goals as goal
 
 pub invariant_of-self : goal.invariant_of-self
-invariant_of-self c = rw c.report.ensures.sides (one_roster c.args.place (after_report c.args.run c.args.session c.args.number) (report_keeps c.args.run c.args.session c.args.number) c.self.inside.roster c.self.inside.book c.self.invariant)
+invariant_of-self c = rw c.report.ensures.sides (fit_roster c.args.place (after_report c.args.run c.args.session c.args.number) (report_keeps c.args.run c.args.session c.args.number) c.self.inside.roster c.self.inside.book c.self.invariant)
 
 pub returns-in-Err-clause-answer : goal.returns-in-Err-clause-answer
 returns-in-Err-clause-answer c =
-    sym c.in-Err.is ∙ c.report.ensures.answer ∙ joined_told c.args.place (λ s. reported c.args.run s c.args.session c.args.number) (Ok false) (λ s a. refl) c.self.inside.roster c.self.inside.book c.self.invariant ∙ ap (told_at c.args.place (λ s. reported c.args.run s c.args.session c.args.number) (Ok false)) c.self.view_is
+    sym c.in-Err.is ∙ c.report.ensures.answer ∙ joined_told c.args.place (λ s. reported c.args.run s c.args.session c.args.number) (Ok false) (λ s a. refl) c.self.inside.roster c.self.inside.book c.self.invariant.one ∙ ap (told_at c.args.place (λ s. reported c.args.run s c.args.session c.args.number) (Ok false)) c.self.view_is
 
 pub returns-in-Err-clause-sides : goal.returns-in-Err-clause-sides
 returns-in-Err-clause-sides c =
     rw c.report.ensures.sides
-    (joined_if c.args.place (after_report c.args.run c.args.session c.args.number) (reporting c.args.run c.args.session c.args.number c.args.tasks) (λ s. reported c.args.run s c.args.session c.args.number) (Ok false) (Err c.in-Err.refusal) (report_refused_joins c.args.run c.args.session c.args.number c.args.tasks c.in-Err.refusal) c.self.inside.roster c.self.inside.book c.self.invariant (sym c.report.ensures.answer ∙ c.in-Err.is)
+    (joined_if c.args.place (after_report c.args.run c.args.session c.args.number) (reporting c.args.run c.args.session c.args.number c.args.tasks) (λ s. reported c.args.run s c.args.session c.args.number) (Ok false) (Err c.in-Err.refusal) (report_refused_joins c.args.run c.args.session c.args.number c.args.tasks c.in-Err.refusal) c.self.inside.roster c.self.inside.book c.self.invariant.one (sym c.report.ensures.answer ∙ c.in-Err.is)
     ∙ ap (at_place c.args.place (reporting c.args.run c.args.session c.args.number c.args.tasks)) c.self.view_is)
 
 pub invariant_of-self-then-opens : goal.invariant_of-self-then-opens
 invariant_of-self-then-opens c =
     rw (c.report.ensures.sides, c.reopen.ensures)
-    (one_roster c.args.place (after_report c.args.run c.args.session c.args.number) (report_keeps c.args.run c.args.session c.args.number) c.self.inside.roster (books.at_place c.args.place (accounts.reopened c.args.tasks) c.self.inside.book) (one_book c.args.place (accounts.reopened c.args.tasks) (reopened_keeps c.args.tasks) c.self.inside.roster c.self.inside.book c.self.invariant))
+    (fit_roster c.args.place (after_report c.args.run c.args.session c.args.number) (report_keeps c.args.run c.args.session c.args.number) c.self.inside.roster (books.at_place c.args.place (accounts.reopened c.args.tasks) c.self.inside.book) (fit_book c.args.place (accounts.reopened c.args.tasks) (reopened_keeps c.args.tasks) (λ a h. refl) c.self.inside.roster c.self.inside.book c.self.invariant))
 
 pub invariant_of-self-else-opens : goal.invariant_of-self-else-opens
-invariant_of-self-else-opens c = rw c.report.ensures.sides (one_roster c.args.place (after_report c.args.run c.args.session c.args.number) (report_keeps c.args.run c.args.session c.args.number) c.self.inside.roster c.self.inside.book c.self.invariant)
+invariant_of-self-else-opens c = rw c.report.ensures.sides (fit_roster c.args.place (after_report c.args.run c.args.session c.args.number) (report_keeps c.args.run c.args.session c.args.number) c.self.inside.roster c.self.inside.book c.self.invariant)
 
 pub returns-then-opens-clause-answer : goal.returns-then-opens-clause-answer
 returns-then-opens-clause-answer c =
-    sym c.in-Ok.is ∙ c.report.ensures.answer ∙ joined_told c.args.place (λ s. reported c.args.run s c.args.session c.args.number) (Ok false) (λ s a. refl) c.self.inside.roster c.self.inside.book c.self.invariant ∙ ap (told_at c.args.place (λ s. reported c.args.run s c.args.session c.args.number) (Ok false)) c.self.view_is
+    sym c.in-Ok.is ∙ c.report.ensures.answer ∙ joined_told c.args.place (λ s. reported c.args.run s c.args.session c.args.number) (Ok false) (λ s a. refl) c.self.inside.roster c.self.inside.book c.self.invariant.one ∙ ap (told_at c.args.place (λ s. reported c.args.run s c.args.session c.args.number) (Ok false)) c.self.view_is
 
 pub returns-then-opens-clause-sides : goal.returns-then-opens-clause-sides
 returns-then-opens-clause-sides c =
     rw (c.report.ensures.sides, c.reopen.ensures)
-    (joined_when c.args.place (after_report c.args.run c.args.session c.args.number) (reporting c.args.run c.args.session c.args.number c.args.tasks) (accounts.reopened c.args.tasks) (λ s. reported c.args.run s c.args.session c.args.number) (Ok false) (Ok true) (report_opens_joins c.args.run c.args.session c.args.number c.args.tasks) c.self.inside.roster c.self.inside.book c.self.invariant (sym c.report.ensures.answer ∙ c.in-Ok.is ∙ ap (λ b. Ok b) c.if-opens.true)
+    (joined_when c.args.place (after_report c.args.run c.args.session c.args.number) (reporting c.args.run c.args.session c.args.number c.args.tasks) (accounts.reopened c.args.tasks) (λ s. reported c.args.run s c.args.session c.args.number) (Ok false) (Ok true) (report_opens_joins c.args.run c.args.session c.args.number c.args.tasks) c.self.inside.roster c.self.inside.book c.self.invariant.one (sym c.report.ensures.answer ∙ c.in-Ok.is ∙ ap (λ b. Ok b) c.if-opens.true)
     ∙ ap (at_place c.args.place (reporting c.args.run c.args.session c.args.number c.args.tasks)) c.self.view_is)
 
 pub returns-else-opens-clause-answer : goal.returns-else-opens-clause-answer
 returns-else-opens-clause-answer c =
-    sym c.in-Ok.is ∙ c.report.ensures.answer ∙ joined_told c.args.place (λ s. reported c.args.run s c.args.session c.args.number) (Ok false) (λ s a. refl) c.self.inside.roster c.self.inside.book c.self.invariant ∙ ap (told_at c.args.place (λ s. reported c.args.run s c.args.session c.args.number) (Ok false)) c.self.view_is
+    sym c.in-Ok.is ∙ c.report.ensures.answer ∙ joined_told c.args.place (λ s. reported c.args.run s c.args.session c.args.number) (Ok false) (λ s a. refl) c.self.inside.roster c.self.inside.book c.self.invariant.one ∙ ap (told_at c.args.place (λ s. reported c.args.run s c.args.session c.args.number) (Ok false)) c.self.view_is
 
 pub returns-else-opens-clause-sides : goal.returns-else-opens-clause-sides
 returns-else-opens-clause-sides c =
     rw c.report.ensures.sides
-    (joined_if c.args.place (after_report c.args.run c.args.session c.args.number) (reporting c.args.run c.args.session c.args.number c.args.tasks) (λ s. reported c.args.run s c.args.session c.args.number) (Ok false) (Ok false) (report_again_joins c.args.run c.args.session c.args.number c.args.tasks) c.self.inside.roster c.self.inside.book c.self.invariant (sym c.report.ensures.answer ∙ c.in-Ok.is ∙ ap (λ b. Ok b) c.if-opens.false)
+    (joined_if c.args.place (after_report c.args.run c.args.session c.args.number) (reporting c.args.run c.args.session c.args.number c.args.tasks) (λ s. reported c.args.run s c.args.session c.args.number) (Ok false) (Ok false) (report_again_joins c.args.run c.args.session c.args.number c.args.tasks) c.self.inside.roster c.self.inside.book c.self.invariant.one (sym c.report.ensures.answer ∙ c.in-Ok.is ∙ ap (λ b. Ok b) c.if-opens.false)
     ∙ ap (at_place c.args.place (reporting c.args.run c.args.session c.args.number c.args.tasks)) c.self.view_is)

@@ -1,11 +1,15 @@
 use Rattle.std.proofs.Common.{refl, ap, ◌∙◌, map}
+use Rattle.cluster_model.specs.Masters.{is_of}
 use Rattle.offer_book.specs.Accounts as accounts
-use Rattle.agent_sides.specs.Changes.{without_offers_of}
-use Rattle.agent_sides.proofs.Joining.{joined_map, one_map}
+use Rattle.agent_sides.specs.Looks.{withdrawing}
+use Rattle.agent_sides.proofs.Joining.{fit_map}
+use Rattle.agent_sides.proofs.Apart.{joined_apart, of_apart, of_withdrawn}
 use Rattle.agent_sides.proofs.sides.Sides.withdraw_of.Goals as goal
 
 pub invariant_of-self : goal.invariant_of-self
-invariant_of-self c = rw c.withdraw_of.ensures (one_map (accounts.without_offers_of c.args.framework) (record { name = λ a. refl; total = λ a. refl }) c.self.inside.roster c.self.inside.book c.self.invariant)
+invariant_of-self c = rw c.withdraw_of.ensures (fit_map (accounts.without_offers_of c.args.framework) (record { name = λ a. refl; total = λ a. refl }) (of_apart c.args.framework) c.self.inside.roster c.self.inside.book c.self.invariant)
 
 pub returns : goal.returns
-returns c = rw c.withdraw_of.ensures (joined_map (accounts.without_offers_of c.args.framework) (without_offers_of c.args.framework) (λ s a e. refl) c.self.inside.roster c.self.inside.book c.self.invariant ∙ ap (map (without_offers_of c.args.framework)) c.self.view_is)
+returns c =
+    rw c.withdraw_of.ensures (joined_apart (accounts.without_offers_of c.args.framework) (withdrawing (is_of c.args.framework)) (of_withdrawn c.ids_name_offers.ensures c.args.framework) c.self.inside.roster c.self.inside.book c.self.invariant.one c.self.invariant.apart
+    ∙ ap (map (withdrawing (is_of c.args.framework))) c.self.view_is)
