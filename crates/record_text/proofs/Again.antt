@@ -1,0 +1,76 @@
+-- What was written of a record is read again.
+use Rattle.std.proofs.Common.{◌≡◌, ℕ, ◌^◌, List, [], ◌∷◌, map, true, Option, Some, refl, sym, ap, ◌∙◌, arith, nat_lt, lt-ltb, bytes_eq}
+use Rattle.std.proofs.lemmas.Slice.Eq.{bytes_eq-Decides}
+use Rattle.std.specs.List.{AllByRecursion}
+use Rattle.serde_json.specs.Data.{Data, string}
+use Rattle.serde_json.specs.Read.{read}
+use Rattle.names_core.specs.declared.state.TaskState.{TaskState}
+use Rattle.names_core.specs.declared.state.TaskState.TheVariants.{Staging, Running, Finished, Failed, Killed, Lost, Error}
+use Rattle.names_core.specs.Ids.{Numbered, InRange, id_text}
+use Rattle.names_core.specs.States.{state_text, state_of}
+use Rattle.names_core.proofs.IdTexts.{id_again}
+use Rattle.mails.specs.declared.record.Durable.{Durable}
+use Rattle.mails.specs.declared.record.RecordedTask.{RecordedTask}
+use Rattle.record_text.specs.Texts.{task_data, record_data, record_form}
+use Rattle.record_text.specs.Written.{IsTask, IsDurable, IsWritten}
+use Rattle.record_text.specs.Reading.{◌>>=◌, offer_of, update_of, offers_in, updates_in, task_of, tasks_in, parts_of, record_in}
+use Rattle.record_text.proofs.Compact.{read_compact}
+use Rattle.record_text.proofs.Rows.{rows_again}
+use Rattle.record_text.proofs.Each.{each_again, values_of_items}
+use Rattle.record_text.proofs.Data.{few_updates, record_plain, record_depth}
+
+state_again : (s : TaskState) → state_of (state_text s) ≡ Some s
+unfolding state_of state_text
+state_again Staging = refl
+state_again Running = refl
+state_again Finished = refl
+state_again Failed = refl
+state_again Killed = refl
+state_again Lost = refl
+state_again Error = refl
+
+offers_again : (ids : List Numbered) → AllByRecursion InRange ids → AllByRecursion (λ i. offer_of (string (id_text 79 i)) ≡ Some i) ids
+offers_again [] h = tt
+offers_again (i ∷ ids) h = (id_again 79 i h.0, offers_again ids h.1)
+
+states_again : (states : List TaskState) → AllByRecursion (λ s. update_of (string (state_text s)) ≡ Some s) states
+states_again [] = tt
+states_again (s ∷ states) = (state_again s, states_again states)
+
+pub task_again : (t : RecordedTask) → IsTask t → task_of (task_data t) ≡ Some t
+unfolding task_of task_data offers_in updates_in
+task_again t is =
+    let offer = λ (i : Numbered). string (id_text 79 i) in
+    let state = λ (s : TaskState). string (state_text s) in
+    let offers = each_again Numbered offer_of offer [] t.offers (offers_again t.offers is.offers) in
+    let states = each_again TaskState update_of state [] t.updates.states (states_again t.updates.states) in
+    let acked : nat_lt t.updates.acknowledged (2 ^ 32) ≡ true = lt-ltb t.updates.acknowledged (2 ^ 32) (omega (arith, few_updates t.updates.states t.updates.acknowledged is.updates)) in
+    rw (id_again 70 t.job.framework is.framework, id_again 76 t.job.key is.key, is.named, values_of_items (map offer t.offers), offers, rows_again [] t.job.resources is.resources, acked, values_of_items (map state t.updates.states), states, is.updates) refl
+
+all_again : (ts : List RecordedTask) → AllByRecursion IsTask ts → AllByRecursion (λ t. task_of (task_data t) ≡ Some t) ts
+all_again [] h = tt
+all_again (t ∷ ts) h = (task_again t h.0, all_again ts h.1)
+
+pub parts_again : (d : Durable) → IsDurable d → parts_of (record_data d) ≡ Some d
+unfolding parts_of record_data tasks_in
+parts_again d is =
+    let tasks = each_again RecordedTask task_of task_data [] d.tasks (all_again d.tasks is.tasks) in
+    rw (is.named, lt-ltb d.run (2 ^ 32) is.run, lt-ltb d.session (2 ^ 32) is.session, values_of_items (map task_data d.tasks), tasks, rows_again [] d.total is.total) refl
+
+pub read_again : (d : Durable) (text : List ℕ) → IsDurable d → text ≡ record_form d → (read text >>= parts_of) ≡ Some d
+read_again d text is form =
+    let whole = ap read form ∙ read_compact (record_data d) (record_plain d is) (record_depth d) in
+    ap (λ (o : Option Data). o >>= parts_of) whole ∙ parts_again d is
+
+pub record_again : (d : Durable) (text : List ℕ) → IsWritten d text → record_in text ≡ Some d
+unfolding record_in
+record_again d text is =
+    let whole = ap read is.form ∙ read_compact (record_data d) (record_plain d is.durable) (record_depth d) in
+    let same : bytes_eq (record_form d) text ≡ true = (bytes_eq-Decides (record_form d) text).1 (sym is.form) in
+    rw (whole, parts_again d is.durable, same) refl
+
+some_is : {A : Type 0} (o : Option A) (x y : A) → o ≡ Some x → o ≡ Some y → x ≡ y
+some_is o x y p q = cc
+
+pub one_record : (d e : Durable) → IsDurable d → IsDurable e → record_form d ≡ record_form e → d ≡ e
+one_record d e p q same = some_is (read (record_form d) >>= parts_of) d e (read_again d (record_form d) p refl) (read_again e (record_form d) q same)

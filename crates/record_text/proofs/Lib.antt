@@ -1,0 +1,6 @@
+pub mod Compact
+pub mod Rows
+pub mod Each
+pub mod Data
+pub mod Floats
+pub mod Again

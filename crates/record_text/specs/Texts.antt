@@ -1,0 +1,48 @@
+-- A record as compact JSON, members in byte order of their names.
+use Rattle.std.specs.Prelude.{ℕ, List, [], ◌∷◌, map, codes}
+use Rattle.serde_json.specs.Data.{Data, string, number, unsigned, array, object, Members, no_members, member}
+use Rattle.serde_json.specs.View.{items_of}
+use Rattle.serde_json.specs.Written.{compact_text}
+use Rattle.names_core.specs.Ids.{id_text}
+use Rattle.names_core.specs.States.{state_text}
+use Rattle.quantity.specs.declared.rows.Row.{Row}
+use Rattle.mails.specs.declared.record.Durable.{Durable}
+use Rattle.mails.specs.declared.record.RecordedTask.{RecordedTask}
+
+-- a whole number
+abbrev pub whole : ℕ → Data
+whole n = number (unsigned n)
+
+-- each amount under its resource's name
+abbrev pub row_members : List Row → Members
+row_members [] = no_members
+row_members (r ∷ rows) = member r.name (whole r.amount) (row_members rows)
+
+abbrev pub amounts : List Row → Data
+amounts rows = object (row_members rows)
+
+abbrev pub list_data : {A : Type 0} → (A → Data) → List A → Data
+list_data f xs = array (items_of (map f xs))
+
+unfoldable pub task_data : RecordedTask → Data
+task_data t = object
+    (member (codes "acked") (whole t.updates.acknowledged)
+    (member (codes "framework") (string (id_text 70 t.job.framework))
+    (member (codes "key") (string (id_text 76 t.job.key))
+    (member (codes "name") (string t.job.name)
+    (member (codes "offers") (list_data (λ offer. string (id_text 79 offer)) t.offers)
+    (member (codes "resources") (amounts t.job.resources)
+    (member (codes "updates") (list_data (λ state. string (state_text state)) t.updates.states) no_members)))))))
+
+unfoldable pub record_data : Durable → Data
+record_data d = object
+    (member (codes "name") (string d.name)
+    (member (codes "run") (whole d.run)
+    (member (codes "session") (whole d.session)
+    (member (codes "tasks") (list_data task_data d.tasks)
+    (member (codes "total") (amounts d.total)
+    (member (codes "version") (whole 1) no_members))))))
+
+-- the written form of a record
+abbrev pub record_form : Durable → List ℕ
+record_form d = compact_text (record_data d)

@@ -1,0 +1,17 @@
+//! An agent's record as a text, both ways.
+#![tactic(auto)]
+
+mod fault;
+mod laws;
+mod lists;
+mod members;
+mod read;
+mod task;
+#[cfg(test)]
+mod tests;
+mod write;
+
+pub use fault::RecordFault;
+pub use laws::one_record;
+pub use read::record_of;
+pub use write::record_text;

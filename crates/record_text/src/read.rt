@@ -1,0 +1,80 @@
+//! Records read from JSON.
+
+ghost use Rattle.std.specs.Prelude.{◌≡◌, Some, IfOk, IfErr};
+ghost use Rattle.serde_json.specs.View.{view};
+ghost use Rattle.serde_json.specs.Read.{read};
+ghost use Rattle.mails.specs.declared.record.Durable.{Durable};
+ghost use Rattle.record_text.specs.Reading.{Gives, parts_of, record_in};
+ghost use Rattle.record_text.specs.Written.{IsWritten};
+ghost use Rattle.record_text.specs.declared.fault.RecordFault.TheVariants as faults;
+
+use crate::fault::RecordFault;
+use crate::members::{agent_in, number_in, resources_in};
+use crate::task::tasks_in;
+use crate::write::record_text;
+use listed::Listed;
+use mails::Durable;
+use serde_json::Value;
+use std::alloc::Global;
+
+#[tactic(auto, unfolding(crate::specs::Reading::parts_of))]
+fn parts_of(alloc: Global, value: &Value) -> Result<Durable, RecordFault>
+    ensures { Gives (λ d. d) result (parts_of (view value.now)) }
+{
+    let name = agent_in(alloc, value, "name")?;
+    let Some(run) = number_in(value, "run") else {
+        return Err(RecordFault::Damaged);
+    };
+    let Some(session) = number_in(value, "session") else {
+        return Err(RecordFault::Damaged);
+    };
+    let tasks = tasks_in(alloc, value)?;
+    let total = resources_in(alloc, value, "total")?;
+    Ok(Durable {
+        name,
+        total,
+        session,
+        run,
+        tasks: Listed::from_vec(tasks),
+    })
+}
+
+fn value_of(alloc: Global, text: &str) -> Result<Value, RecordFault>
+    ensures { Gives view result (read text.now) }
+{
+    match Value::from_str(alloc, text) {
+        Ok(value) => Ok(value),
+        Err(e) => {
+            if e.is_memory() {
+                Err(RecordFault::OutOfMemory)
+            } else {
+                Err(RecordFault::Damaged)
+            }
+        }
+    }
+}
+
+#[tactic(auto, unfolding(crate::specs::Reading::record_in))]
+fn read_form(alloc: Global, text: &str) -> Result<Durable, RecordFault>
+    ensures found { IfOk result (λ d. IsWritten d text.now) }
+    ensures exact { Gives (λ d. d) result (record_in text.now) }
+{
+    let value = value_of(alloc, text)?;
+    let record = parts_of(alloc, &value)?;
+    let form = record_text(alloc, &record)?;
+    if form.as_str() != text {
+        return Err(RecordFault::Damaged);
+    }
+    Ok(record)
+}
+
+/// The record that a text is the written form of, and nothing else: other spaces, members, or another order of members are refused.
+/// Whether an agent can have it isn't looked at.
+///
+/// `K2 Damaged` where the text is no record's written form; `K4 OutOfMemory` may come before it.
+pub fn record_of(alloc: Global, text: &str) -> Result<Durable, RecordFault>
+    ensures found { IfOk result (λ d. IsWritten d text.now) }
+    ensures only { (d : Durable) → IsWritten d text.now → Gives (λ found. found) result (Some d) }
+{
+    read_form(alloc, text)
+}
