@@ -1,0 +1,28 @@
+-- What is told of a held task, and what KILL and ACKNOWLEDGE do with one.
+use Rattle.std.specs.Prelude.{ℕ, Bool, if◌then◌else◌, List, [], Option, Some, None}
+use Rattle.names_core.specs.Ids.{Numbered}
+use Rattle.names_core.specs.declared.state.TaskState.{TaskState}
+use Rattle.names_core.specs.declared.state.TaskState.TheVariants.{Lost}
+use Rattle.cluster_model.specs.Sides.{SendAck, SendKill}
+use Rattle.cluster_model.specs.Events.{Told, UPDATE}
+use Rattle.cluster_model.specs.Masters.{AtSide, Doing, Master, Placed, nothing, on_stream, saying, side_of}
+use Rattle.cluster_model.specs.Calls.{commanding}
+pub use Rattle.master_calls.specs.declared.on_kill.HeldTask.{HeldTask}
+
+abbrev pub held_task : Placed → HeldTask
+held_task p = record { name = p.booked.job.name; agent = p.agent; key = p.booked.job.key; ended = p.booked.ended; state = p.booked.state }
+
+-- the state of a task on a stream, without an id that has to be acknowledged
+abbrev pub tells_task : Numbered → List ℕ → TaskState → Option (List ℕ) → List Told
+tells_task stream task state agent = on_stream (Some stream) (UPDATE task state agent None)
+
+-- KILL of a held task, or of none, by a framework on its stream
+abbrev pub kills : Master → Numbered → List ℕ → Option (List ℕ) → Option HeldTask → Doing
+kills m stream task agent None = saying m (tells_task stream task Lost agent)
+kills m stream task agent (Some held) =
+    if held.ended then saying m (tells_task stream held.name held.state (Some held.agent))
+    else commanding m (side_of m held.agent) (AtSide held.agent (SendKill held.key))
+
+-- ACKNOWLEDGE of an update that is the one last heard, or isn't
+abbrev pub acks : Master → List ℕ → Numbered → ℕ → Bool → Doing
+acks m agent key k is_last = if is_last then commanding m (side_of m agent) (AtSide agent (SendAck key k)) else nothing m

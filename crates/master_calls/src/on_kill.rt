@@ -1,0 +1,164 @@
+//! KILL and ACKNOWLEDGE.
+
+ghost use Rattle.std.specs.Prelude.{◌≡◌, IfOk, option_map};
+ghost use Rattle.mails.specs.declared.call.Call.TheVariants as calls;
+ghost use Rattle.cluster_model.specs.Sides.{SendAck, SendKill};
+ghost use Rattle.cluster_model.specs.Masters.{AtSide, held, side_of};
+ghost use Rattle.cluster_model.specs.Calls.{called, commanding};
+ghost use Rattle.master_state.specs.States.{told_of_task};
+ghost use Rattle.master_state.specs.Works.{Gave, master_of};
+ghost use Rattle.offer_book.specs.Held.{place};
+ghost use Rattle.master_calls.specs.Tasks.{held_task, kills};
+
+use mails::{Booked, Command, MasterRefusal};
+use master_state::{MasterFault, State};
+use names_core::{AgentName, FrameworkId, LaunchKey, StreamId, TaskName, TaskState, UpdateId};
+use std::alloc::{AllocError, Global};
+
+/// What an answer tells of a booked task.
+#[derive(Debug, Drop)]
+pub struct HeldTask {
+    pub name: TaskName,
+    pub agent: AgentName,
+    pub key: LaunchKey,
+    pub ended: bool,
+    pub state: TaskState,
+}
+
+fn copy_held(alloc: Global, agent: &AgentName, task: &Booked) -> Result<HeldTask, AllocError>
+    ensures { IfOk result (λ copy. copy ≡ held_task (place agent.now task.now)) }
+{
+    Ok(HeldTask {
+        name: task.job.name.copy(alloc)?,
+        agent: agent.copy(alloc)?,
+        key: task.job.key,
+        ended: task.ended,
+        state: task.state,
+    })
+}
+
+/// The booked task of a framework with this name, if any.
+pub(crate) fn held_of(
+    state: &State,
+    alloc: Global,
+    framework: FrameworkId,
+    name: &TaskName,
+) -> Result<Option<HeldTask>, AllocError>
+    ensures { IfOk result (λ task. task ≡ option_map held_task (held (master_of state.now) framework name.now)) }
+{
+    match state.sides.held(framework, name) {
+        None => Ok(None),
+        Some((agent, task)) => Ok(Some(copy_held(alloc, agent, task)?)),
+    }
+}
+
+fn order_kill(
+    state: &mut State,
+    alloc: Global,
+    agent: &AgentName,
+    key: LaunchKey,
+) -> Result<(), MasterFault>
+    ensures { Gave result state.old state.new (commanding (master_of state.old) (side_of (master_of state.old) agent.now) (AtSide agent.now (SendKill key))) }
+{
+    if !state.sides.may_have_numbers(agent, 1) {
+        return Err(MasterFault::Refused(MasterRefusal::LimitExceeded));
+    }
+    match state.order(alloc, agent, Command::Kill(key), Command::Kill(key)) {
+        Ok(()) => Ok(()),
+        Err(_) => Err(MasterFault::OutOfMemory),
+    }
+}
+
+fn order_ack(
+    state: &mut State,
+    alloc: Global,
+    agent: &AgentName,
+    key: LaunchKey,
+    k: u32,
+) -> Result<(), MasterFault>
+    ensures { Gave result state.old state.new (commanding (master_of state.old) (side_of (master_of state.old) agent.now) (AtSide agent.now (SendAck key k))) }
+{
+    if !state.sides.may_have_numbers(agent, 1) {
+        return Err(MasterFault::Refused(MasterRefusal::LimitExceeded));
+    }
+    match state.order(alloc, agent, Command::Ack(key, k), Command::Ack(key, k)) {
+        Ok(()) => Ok(()),
+        Err(_) => Err(MasterFault::OutOfMemory),
+    }
+}
+
+/// What KILL does with a held task, or with none.
+fn kill_held(
+    state: &mut State,
+    alloc: Global,
+    stream: StreamId,
+    task: TaskName,
+    agent: Option<AgentName>,
+    held: Option<HeldTask>,
+) -> Result<(), MasterFault>
+    ensures { Gave result state.old state.new (kills (master_of state.old) stream task agent held) }
+{
+    let Some(held) = held else {
+        return match state.tell_task(stream, task, TaskState::Lost, agent) {
+            Ok(()) => Ok(()),
+            Err(_) => Err(MasterFault::OutOfMemory),
+        };
+    };
+    if !held.ended {
+        return order_kill(state, alloc, &held.agent, held.key);
+    }
+    match state.tell_task(stream, held.name, held.state, Some(held.agent)) {
+        Ok(()) => Ok(()),
+        Err(_) => Err(MasterFault::OutOfMemory),
+    }
+}
+
+/// Ends a task (Mesos scheduler HTTP API, KILL): a command goes to the agent of a booked task that hasn't ended; of one that has
+/// ended its state is told, and of one that isn't booked that it is lost. Refused as `State::admit` tells, and `M4
+/// LimitExceeded` where the agent's session has no command number left.
+pub fn kill(
+    state: &mut State,
+    alloc: Global,
+    given: Option<StreamId>,
+    framework: FrameworkId,
+    task: TaskName,
+    agent: Option<AgentName>,
+) -> Result<(), MasterFault>
+    ensures { Gave result state.old state.new (called (master_of state.old) given (calls.Kill framework task agent)) }
+{
+    let stream = match state.admit(given, framework) {
+        Ok(stream) => stream,
+        Err(refusal) => return Err(MasterFault::Refused(refusal)),
+    };
+    let held = match held_of(state, alloc, framework, &task) {
+        Ok(held) => held,
+        Err(_) => return Err(MasterFault::OutOfMemory),
+    };
+    kill_held(state, alloc, stream, task, agent, held)
+}
+
+/// A status update was received (Mesos scheduler HTTP API, ACKNOWLEDGE): where it is the last one that was heard of the
+/// framework's task of this name and key on this agent, a command goes there; else nothing happens. Refused as `State::admit`
+/// tells, and `M4 LimitExceeded` where the agent's session has no command number left.
+pub fn acknowledge(
+    state: &mut State,
+    alloc: Global,
+    given: Option<StreamId>,
+    framework: FrameworkId,
+    agent: &AgentName,
+    task: &TaskName,
+    update: UpdateId,
+) -> Result<(), MasterFault>
+    ensures { Gave result state.old state.new (called (master_of state.old) given (calls.Acknowledge framework agent.now task.now update)) }
+{
+    let _stream = match state.admit(given, framework) {
+        Ok(stream) => stream,
+        Err(refusal) => return Err(MasterFault::Refused(refusal)),
+    };
+    let key = update.key();
+    let k = u32::from(update.k());
+    if !state.sides.is_heard_last(framework, agent, task, key, k) {
+        return Ok(());
+    }
+    order_ack(state, alloc, agent, key, k)
+}

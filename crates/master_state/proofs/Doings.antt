@@ -1,0 +1,32 @@
+-- What a step of the model makes of what a master holds, by what there is in it.
+use Rattle.std.proofs.Common.{◌≡◌, List, [], ◌∷◌, ◌++◌, map, refl, ap, ◌∙◌}
+use Rattle.names_core.specs.Ids.{Numbered}
+use Rattle.cluster_model.specs.Events.{Told}
+use Rattle.cluster_model.specs.Masters.{Doing, Master, Move, Registers, keeping, move_all, moving, nothing, saying}
+use Rattle.master_state.specs.States.{State, StreamEvent}
+use Rattle.master_state.specs.Works.{Work, done, master_of, work_of, written}
+
+pub none_more : {A : Type 0} (xs : List A) → xs ++ [] ≡ xs
+none_more [] = refl
+none_more (x ∷ xs) = ap (λ ys. x ∷ ys) (none_more xs)
+
+abbrev pub with_registers : Registers → Work → Work
+with_registers registers w = record { moved = w.moved; registers = registers; events = w.events; opens = w.opens; closes = w.closes }
+
+abbrev pub with_events : List StreamEvent → Work → Work
+with_events events w = record { moved = w.moved; registers = w.registers; events = events; opens = w.opens; closes = w.closes }
+
+pub keeps : (registers : Registers) (w : Work) → with_registers registers w ≡ done (keeping registers) w
+keeps registers w = rw (none_more w.events, none_more w.opens, none_more w.closes) refl
+
+pub says : (s : State) (events : List Told) → with_events (s.outs.events ++ map written events) (work_of s) ≡ done (saying (master_of s) events) (work_of s)
+says s events = rw (none_more s.outs.opened, none_more s.outs.closed) refl
+
+abbrev pub with_moves : List Move → Work → Work
+with_moves moves w = record { moved = move_all moves w.moved; registers = w.registers; events = w.events; opens = w.opens; closes = w.closes }
+
+pub moves_alone : (s : State) (moves : List Move) → with_moves moves (work_of s) ≡ done (moving (master_of s) moves) (work_of s)
+moves_alone s moves = rw (none_more s.outs.events, none_more s.outs.opened, none_more s.outs.closed) refl
+
+pub nothing_done : (s : State) → work_of s ≡ done (nothing (master_of s)) (work_of s)
+nothing_done s = rw (none_more s.outs.events, none_more s.outs.opened, none_more s.outs.closed) refl

@@ -1,0 +1,3 @@
+pub mod Doings
+pub mod Moves
+pub mod Admissions

@@ -1,0 +1,96 @@
+-- What a master holds, as the model of it has it, and what the model's steps make of that.
+use Rattle.std.specs.Prelude.{◌≡◌, ℕ, Bool, true, if◌then◌else◌, List, [], ◌∷◌, ◌++◌, map, codes, Option, Some, None, option_map, Result, Ok, Err}
+use Rattle.names_core.specs.Ids.{Numbered}
+use Rattle.names_core.specs.Updates as updates
+use Rattle.names_core.specs.declared.state.TaskState.{TaskState}
+use Rattle.mails.specs.declared.refusal.MasterRefusal.{MasterRefusal}
+use Rattle.mails.specs.declared.refusal.MasterRefusal.TheVariants.{NotSubscribed, WrongStream, NoSuchFramework}
+use Rattle.event_json.specs.declared.event.Event as json
+use Rattle.event_json.specs.declared.event.Event.TheVariants as events
+use Rattle.event_json.specs.declared.offer.Offer as json_offer
+use Rattle.event_json.specs.declared.status.TaskStatus.{TaskStatus}
+use Rattle.cluster_model.specs.Sides.{Run}
+use Rattle.cluster_model.specs.Events.{Event, MadeOffer, Told, SUBSCRIBED, OFFERS, RESCIND, UPDATE, FAILURE, FAILED_OVER, REMOVED, HEARTBEAT}
+use Rattle.cluster_model.specs.Masters.{Doing, Master, Moved, Registers, framework_of, is_torn, move_all}
+use Rattle.cluster_model.specs.Calls.{is_stream}
+use Rattle.master_state.specs.declared.fault.MasterFault.{MasterFault}
+use Rattle.master_state.specs.declared.fault.MasterFault.TheVariants.{OutOfMemory, Refused}
+use Rattle.master_state.specs.States.{State, StreamEvent}
+
+-- events, as they are written
+
+abbrev pub offer_of : MadeOffer → json_offer.Offer
+offer_of made = record { id = made.offer.id; framework = made.offer.framework; agent = made.agent; resources = made.offer.resources }
+
+abbrev pub status_of : List ℕ → TaskState → Option (List ℕ) → Option updates.Update → TaskStatus
+status_of task state agent uuid = record { task = task; state = state; agent = agent; update = uuid }
+
+abbrev pub event_of : Event → json.Event
+event_of (SUBSCRIBED framework) = events.Subscribed framework
+event_of (OFFERS offers) = events.Offers (map offer_of offers)
+event_of (RESCIND offer) = events.Rescind offer
+event_of (UPDATE task state agent uuid) = events.Update (status_of task state agent uuid)
+event_of (FAILURE agent) = events.Failure agent
+event_of FAILED_OVER = events.Error (codes "Framework failed over")
+event_of REMOVED = events.Error (codes "Framework has been removed")
+event_of HEARTBEAT = events.Heartbeat
+
+abbrev pub written : Told → StreamEvent
+written t = record { stream = t.stream; event = event_of t.event }
+
+-- the master of the model
+
+abbrev pub run_of : State → Run
+run_of s = record { number = s.run; serves = true; torn = s.torn; next_key = record { run = s.run; n = s.next_key }; next_offer = record { run = s.run; n = s.next_offer } }
+
+abbrev pub registers_of : State → Registers
+registers_of s = record { now = s.moment; frameworks = s.frameworks; last_framework = s.last_framework; last_stream = s.last_stream }
+
+abbrev pub master_of : State → Master
+master_of s = record { run = run_of s; sides = s.sides; registers = registers_of s }
+
+-- all that a master holds: the run, its sides and the mails that it sent; its registers; its events; the streams opened and closed
+pub record Work : Type 0 where
+  pub moved : Moved
+  pub registers : Registers
+  pub events : List StreamEvent
+  pub opens : List Numbered
+  pub closes : List Numbered
+
+abbrev pub work_of : State → Work
+work_of s = record {
+  moved = record { run = run_of s; sides = s.sides; sent = s.outs.mails };
+  registers = registers_of s;
+  events = s.outs.events;
+  opens = s.outs.opened;
+  closes = s.outs.closed;
+}
+
+-- what a step of the model makes of it
+abbrev pub done : Doing → Work → Work
+done d w = record {
+  moved = move_all d.moves w.moved;
+  registers = d.registers;
+  events = w.events ++ map written d.events;
+  opens = w.opens ++ d.opens;
+  closes = w.closes ++ d.closes;
+}
+
+-- a step was done, or it was refused and nothing changed; where memory was refused nothing is told
+abbrev pub Gave : {T : Type 0} → Result T MasterFault → State → State → Doing → Type 0
+Gave (Ok x) before after d = (d.refusal ≡ None) × (work_of after ≡ done d (work_of before))
+Gave (Err OutOfMemory) before after d = Unit {0}
+Gave (Err (Refused refusal)) before after d = (d.refusal ≡ Some refusal) × (after ≡ before)
+
+-- the open stream on which a framework calls, or why it may not
+
+abbrev pub admission_on : Option Numbered → Numbered → Result Numbered MasterRefusal
+admission_on given open_one = if is_stream open_one given then Ok open_one else Err WrongStream
+
+abbrev pub admission_of : Option Numbered → Bool → Option (Option Numbered) → Result Numbered MasterRefusal
+admission_of given torn None = Err NoSuchFramework
+admission_of given torn (Some None) = if torn then Err NoSuchFramework else Err NotSubscribed
+admission_of given torn (Some (Some open_one)) = if torn then Err NoSuchFramework else admission_on given open_one
+
+abbrev pub admission : Master → Option Numbered → Numbered → Result Numbered MasterRefusal
+admission m given framework = admission_of given (is_torn m framework) (option_map (λ f. f.stream) (framework_of m framework))

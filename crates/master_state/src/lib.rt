@@ -1,0 +1,14 @@
+//! What the master knows in its run, what a step brings out of it, and the steps that can't be refused (Mesos scheduler HTTP API;
+//! Mesos paper, section 3.1).
+#![tactic(auto)]
+
+mod admit;
+mod fault;
+mod order;
+mod state;
+mod tell;
+#[cfg(test)]
+mod tests;
+
+pub use fault::MasterFault;
+pub use state::{Outs, State, StreamEvent};

@@ -1,0 +1,69 @@
+//! Events, streams and mails.
+
+ghost use Rattle.std.specs.Prelude.{◌≡◌, ◌<◌, IfOk, OnOk, None};
+ghost use Rattle.cluster_model.specs.Ids.{last_number};
+ghost use Rattle.cluster_model.specs.Events.{UPDATE};
+ghost use Rattle.master_state.specs.States.{closed, new_stream, opened, sent, told, told_of_task};
+
+use crate::state::{State, StreamEvent};
+use event_json::{Event, TaskStatus};
+use mails::ToAgent;
+use names_core::{AgentName, StreamId, TaskName, TaskState};
+use std::alloc::{AllocError, Global};
+
+impl State {
+    /// An event goes out on a stream.
+    pub fn tell(&mut self, stream: StreamId, event: Event) -> Result<(), AllocError>
+        ensures { OnOk result (self.new ≡ told stream event self.old) }
+    {
+        self.outs.events.push(StreamEvent { stream, event })?;
+        Ok(())
+    }
+
+    /// The state of a task goes out on a stream, without an id that has to be acknowledged.
+    pub fn tell_task(
+        &mut self,
+        stream: StreamId,
+        task: TaskName,
+        state: TaskState,
+        agent: Option<AgentName>,
+    ) -> Result<(), AllocError>
+        ensures { OnOk result (self.new ≡ told_of_task stream task state agent self.old) }
+    {
+        let status = TaskStatus {
+            task,
+            state,
+            agent,
+            update: None,
+        };
+        self.tell(stream, Event::Update { status })
+    }
+
+    /// A stream is closed.
+    pub fn close(&mut self, stream: StreamId) -> Result<(), AllocError>
+        ensures { OnOk result (self.new ≡ closed stream self.old) }
+    {
+        self.outs.closed.push(stream)?;
+        Ok(())
+    }
+
+    /// The next stream is opened.
+    pub fn open_stream(&mut self) -> Result<StreamId, AllocError>
+        requires { self.old.last_stream < last_number }
+        ensures stream { IfOk result (λ stream. stream ≡ new_stream self.old) }
+        ensures state { OnOk result (self.new ≡ opened self.old) }
+    {
+        self.last_stream += 1;
+        let stream = StreamId::new(self.run.number(), self.last_stream);
+        self.outs.opened.push(stream)?;
+        Ok(stream)
+    }
+
+    /// A mail goes out.
+    pub fn send(&mut self, mail: ToAgent) -> Result<(), AllocError>
+        ensures { OnOk result (self.new ≡ sent mail self.old) }
+    {
+        self.outs.mails.push(mail)?;
+        Ok(())
+    }
+}
