@@ -1,0 +1,14 @@
+//! The connections of the scheduler's HTTP endpoint, each served by a worker of its own.
+#![tactic(auto)]
+
+mod arrivals;
+mod fault;
+mod floor;
+mod job;
+mod serve;
+#[cfg(test)]
+mod tests;
+
+pub use arrivals::Arrivals;
+pub use fault::HttpFault;
+pub use serve::serve_all;

@@ -1,0 +1,5 @@
+pub mod TextLemmas
+pub mod RowLemmas
+pub mod StepLemmas
+pub mod ReadLemmas
+pub mod OpenLemmas

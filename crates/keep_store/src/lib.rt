@@ -1,0 +1,18 @@
+//! An agent's record and the number of the master's last run, kept in a SQLite store.
+#![tactic(auto)]
+
+mod check;
+mod fault;
+#[cfg(test)]
+mod file_tests;
+mod keeper;
+mod open;
+mod record;
+mod shape;
+mod statements;
+#[cfg(test)]
+mod tests;
+
+pub use fault::KeepFault;
+pub use keeper::Keeper;
+pub use record_text::{record_of, record_text};

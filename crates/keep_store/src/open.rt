@@ -1,0 +1,45 @@
+//! Keepers of files.
+
+ghost use Rattle.std.specs.Prelude.{◌≡◌, IfOk};
+ghost use Rattle.sqlite.specs.State.{HasCleanDisk};
+ghost use Rattle.sqlite.specs.Files.{file_state, HoldsDatabase};
+ghost use Rattle.sqlite.specs.WalFiles.{image_at};
+ghost use Rattle.sqlite_catalog.specs.Listing.{IsSound};
+ghost use Rattle.keep_store.specs.Tables.{IsReady, keeper_schema};
+
+use crate::fault::{KeepFault, fault_of};
+use crate::keeper::Keeper;
+use sqlite::{Connection, FileFrom, FileStore, Start, Unknown};
+
+impl<S: Start> Keeper<FileStore<FileFrom<S>>> {
+    /// Opens the files at a path, or makes them. `S` stands for what they hold, and `start` is its value. Refusals are those of `adopt`.
+    pub fn open_from(
+        rt: &HostRuntime,
+        path: &str,
+        start: S,
+    ) -> Result<Keeper<FileStore<FileFrom<S>>>, KeepFault>
+        ensures ready { IfOk result (λ keeper. HasCleanDisk (file_state keeper) → IsReady (file_state keeper)) }
+        ensures found { IfOk result (λ keeper. HasCleanDisk (file_state keeper) → (db : _) → HoldsDatabase (image_at S.Start) db → IsSound keeper_schema db → (file_state keeper).now.trees ≡ db) }
+    {
+        let conn = match Connection::open_from(rt, path, false, start) {
+            Ok(conn) => conn,
+            Err((error, _)) => return Err(fault_of(error)),
+        };
+        match Keeper::adopt(conn) {
+            Ok(keeper) => Ok(keeper),
+            Err((fault, _)) => Err(fault),
+        }
+    }
+}
+
+impl Keeper<FileStore<FileFrom<Unknown>>> {
+    /// Opens the files at a path, or makes them, whatever they hold. Refusals are those of `adopt`.
+    pub fn open(
+        rt: &HostRuntime,
+        path: &str,
+    ) -> Result<Keeper<FileStore<FileFrom<Unknown>>>, KeepFault>
+        ensures { IfOk result (λ keeper. HasCleanDisk (file_state keeper) → IsReady (file_state keeper)) }
+    {
+        Keeper::open_from(rt, path, Unknown)
+    }
+}
