@@ -1,5 +1,5 @@
 use Rattle.std.specs.Io.KnownBytes.{Appends}
-use Rattle.std.proofs.Common.{◌≡◌, [], ◌++◌, ◌≤◌, length, take, drop, arith, length-drop}
+use Rattle.std.proofs.Common.{[], ◌++◌, ◌≤◌, length, take, drop, arith, length-drop}
 use Rattle.std.proofs.lemmas.List.{append-nil, take_rest}
 use Rattle.mesos_node.proofs.Written.{appends_more, front_kept, front_taken, take_both}
 use Rattle.mesos_node.proofs.output.put.Goals as goal

@@ -1,4 +1,4 @@
-use Rattle.std.proofs.Common.{◌≡◌, take, sym, ◌∙◌}
+use Rattle.std.proofs.Common.{take, sym, ◌∙◌}
 use Rattle.frame_record.specs.Firsts.{bodies}
 use Rattle.call_json.specs.Calls.{read_call}
 use Rattle.mesos_node.specs.Replies.{frames, reply, replies, after_all}
