@@ -50,7 +50,7 @@ impl AgentName {
     pub fn is(&self, other: &AgentName) -> bool
         ensures { result ≡ bytes_eq self.now other.now }
     {
-        self.text.as_str() == other.text.as_str()
+        self.as_text() == other.as_text()
     }
 
     pub fn copy(&self, alloc: Global) -> Result<AgentName, AllocError>

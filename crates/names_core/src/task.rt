@@ -51,7 +51,7 @@ impl TaskName {
     pub fn is(&self, other: &TaskName) -> bool
         ensures { result ≡ bytes_eq self.now other.now }
     {
-        self.text.as_str() == other.text.as_str()
+        self.as_text() == other.as_text()
     }
 
     pub fn copy(&self, alloc: Global) -> Result<TaskName, AllocError>

@@ -20,7 +20,7 @@ use uuid::Uuid;
 #[derive(Clone, Copy, Debug, Drop, PartialEq, Eq)]
 pub struct UpdateId {
     key: LaunchKey,
-    k: u16,
+    index: u16,
 }
 
 impl Model for UpdateId {
@@ -29,11 +29,11 @@ impl Model for UpdateId {
 
     ghost Value = { Update };
 
-    ghost view = { λ u. record { key = u.key; k = u.k } };
+    ghost view = { λ u. record { key = u.key; k = u.index } };
 
-    ghost invariant = { λ u. u.k < 4096 };
+    ghost invariant = { λ u. u.index < 4096 };
 
-    ghost inverse = { λ u. record { key = u.key; k = u.k } };
+    ghost inverse = { λ u. record { key = u.key; index = u.k } };
 }
 
 impl UpdateId {
@@ -41,7 +41,7 @@ impl UpdateId {
         requires { k < 4096 }
         ensures { result ≡ record { key = key; k = k } }
     {
-        UpdateId { key, k }
+        UpdateId { key, index: k }
     }
 
     pub fn key(&self) -> LaunchKey
@@ -53,7 +53,7 @@ impl UpdateId {
     pub fn k(&self) -> u16
         ensures { result ≡ self.now.k }
     {
-        self.k
+        self.index
     }
 
     fn to_uuid(&self) -> Uuid
@@ -61,7 +61,7 @@ impl UpdateId {
     {
         let [r0, r1] = self.key.run().to_be_bytes();
         let [n0, n1, n2, n3] = self.key.number().to_be_bytes();
-        let [k0, k1, k2, k3] = u32::from(self.k).to_be_bytes();
+        let [k0, k1, k2, k3] = u32::from(self.index).to_be_bytes();
         Uuid::from_bytes([
             r0, r1, n0, n1, n2, n3, 0x80, 0, 0x80, 0, 0, 0, k0, k1, k2, k3,
         ])
@@ -82,7 +82,7 @@ impl UpdateId {
         }
         let update = UpdateId {
             key: LaunchKey::new(run, n),
-            k: k as u16,
+            index: k as u16,
         };
         if bytes == update.to_uuid().into_bytes() {
             Some(update)
