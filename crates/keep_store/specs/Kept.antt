@@ -1,5 +1,6 @@
 -- What a store keeps: an agent's record, and the last run of the master that was given out.
-use Rattle.std.specs.Prelude.{◌≡◌, ℕ, suc, List, [], ◌∷◌, Option, Some, None, pos}
+use Rattle.std.specs.Prelude.{◌≡◌, ◌≢◌, ℕ, suc, true, List, [], ◌∷◌, Option, Some, None, pos}
+use Rattle.std.specs.Str.{IsUtf8}
 use Rattle.std.specs.Option.{MatchOption}
 use Rattle.sqlite.specs.declared.types.Value.{Value}
 use Rattle.sqlite.specs.declared.types.Value.TheVariants.{Int, Text}
@@ -11,6 +12,7 @@ use Rattle.sqlite.specs.declared.error.ErrorCode.TheVariants.{OutOfMemory}
 use Rattle.mails.specs.declared.record.Durable.{Durable}
 use Rattle.record_text.specs.Texts.{record_form}
 use Rattle.record_text.specs.Written.{IsWritten}
+use Rattle.agent_core.specs.Records.{is_record}
 use Rattle.keep_store.specs.declared.fault.KeepFault.{KeepFault}
 use Rattle.keep_store.specs.declared.fault.KeepFault.TheVariants as fault
 
@@ -51,9 +53,17 @@ with_run kept = record { body = kept.body; last = suc kept.last }
 abbrev pub HoldsText : Option Value → List ℕ → Type 0
 HoldsText body text = body ≡ Some (Text text)
 
+-- the text is the written form of a record that an agent can have
+abbrev pub IsRecordText : Durable → List ℕ → Type 0
+IsRecordText d text = IsWritten d text × (is_record d ≡ true)
+
 -- no record where there is no row, and else the record whose written form stands there
 abbrev pub IsLoaded : Option Value → Option Durable → Type 0
-IsLoaded body found = MatchOption found (body ≡ None) (λ d. (text : List ℕ) × HoldsText body text × IsWritten d text)
+IsLoaded body found = MatchOption found (body ≡ None) (λ d. (text : List ℕ) × HoldsText body text × IsRecordText d text)
+
+-- there is a row, and in it no UTF-8 text (RFC 3629) that is a record's
+abbrev pub IsDamaged : Option Value → Type 0
+IsDamaged body = (body ≢ None) × ((d : Durable) (text : List ℕ) → HoldsText body text → IsUtf8 text → IsRecordText d text → ⊥)
 
 -- a want of memory is named, and another fault of the store is carried
 abbrev pub fault_for : Error → KeepFault

@@ -1,28 +1,52 @@
 //! The record that a kept text is.
 
-ghost use Rattle.std.specs.Prelude.{◌≡◌, Some, IfOk, option_map, string_bytes};
+ghost use Rattle.std.specs.Prelude.{◌≡◌, true, false, Some, IfOk, IsErrOf, option_map, string_bytes};
 ghost use Rattle.sqlite.specs.declared.types.Value.TheVariants.{Text};
 ghost use Rattle.mails.specs.declared.record.Durable.{Durable};
 ghost use Rattle.record_text.specs.Texts.{record_form};
-ghost use Rattle.record_text.specs.Written.{IsDurable};
-ghost use Rattle.keep_store.specs.Kept.{IsLoaded};
+ghost use Rattle.agent_core.specs.Records.{is_record};
+ghost use Rattle.keep_store.specs.Kept.{IsDamaged, IsLoaded, IsRecordText};
 
 use crate::fault::KeepFault;
+use agent_core::rebuild;
 use mails::Durable;
 use record_text::{RecordFault, record_of};
 use std::alloc::Global;
 
+/// A record, if an agent can have it.
+fn of_an_agent(alloc: Global, durable: Durable) -> Result<Durable, KeepFault>
+    ensures ok { IfOk result (λ found. (found ≡ durable) × (is_record durable ≡ true)) }
+    ensures damaged { IsErrOf result KeepFault.Damaged → is_record durable ≡ false }
+{
+    match rebuild(alloc, durable) {
+        Ok(Some(durable)) => Ok(durable),
+        Ok(None) => Err(KeepFault::Damaged),
+        Err(_) => Err(KeepFault::OutOfMemory),
+    }
+}
+
+/// The record of a text.
+fn record_at(alloc: Global, text: &str) -> Result<Durable, KeepFault>
+    ensures ok { IfOk result (λ found. IsRecordText found text.now) }
+    ensures only { (d : Durable) → IsRecordText d text.now → IfOk result (λ found. found ≡ d) }
+    ensures damaged { IsErrOf result KeepFault.Damaged → (d : Durable) → IsRecordText d text.now → ⊥ }
+{
+    match record_of(alloc, text) {
+        Ok(durable) => of_an_agent(alloc, durable),
+        Err(RecordFault::Damaged) => Err(KeepFault::Damaged),
+        Err(RecordFault::OutOfMemory) => Err(KeepFault::OutOfMemory),
+    }
+}
+
 /// The record of the text of a row, if there is one.
 pub fn record_in(alloc: Global, text: Option<String>) -> Result<Option<Durable>, KeepFault>
     ensures loaded { IfOk result (IsLoaded (option_map (λ text. Text (string_bytes text)) text)) }
-    ensures saved { (d : Durable) → IsDurable d → option_map (λ text. Text (string_bytes text)) text ≡ Some (Text (record_form d)) → IfOk result (λ found. found ≡ Some d) }
+    ensures saved { (d : Durable) → IsRecordText d (record_form d) → option_map (λ text. Text (string_bytes text)) text ≡ Some (Text (record_form d)) → IfOk result (λ found. found ≡ Some d) }
+    ensures damaged { IsErrOf result KeepFault.Damaged → IsDamaged (option_map (λ text. Text (string_bytes text)) text) }
 {
     let Some(text) = text else {
         return Ok(None);
     };
-    match record_of(alloc, text.as_str()) {
-        Ok(record) => Ok(Some(record)),
-        Err(RecordFault::Damaged) => Err(KeepFault::Damaged),
-        Err(RecordFault::OutOfMemory) => Err(KeepFault::OutOfMemory),
-    }
+    let durable = record_at(alloc, text.as_str())?;
+    Ok(Some(durable))
 }

@@ -111,6 +111,10 @@ fn other_bodies_are_damaged(rt: HostRuntime) -> Result<(), Fail> {
     let text = r#"{"name":"a1","run":1,"session":3,"tasks":[],"total":{},"version":1}"#;
     let mut keeper = keeper_of(alloc, text)?;
     assert_eq!(rt; load(&mut keeper, alloc), Ok(Some(3)));
+    // An agent in run 0 has no session.
+    let no_run = r#"{"name":"a1","run":0,"session":3,"tasks":[],"total":{},"version":1}"#;
+    let mut keeper = keeper_of(alloc, no_run)?;
+    assert_eq!(rt; load(&mut keeper, alloc), Err(KeepFault::Damaged));
     let blank = r#"{"name": "a1","run":1,"session":3,"tasks":[],"total":{},"version":1}"#;
     let mut keeper = keeper_of(alloc, blank)?;
     assert_eq!(rt; load(&mut keeper, alloc), Err(KeepFault::Damaged));
