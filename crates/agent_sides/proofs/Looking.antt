@@ -53,7 +53,7 @@ any_joined test same [] (a ∷ as_) one = absurd one
 any_joined test same (s ∷ ss) [] one = absurd one
 any_joined test same (s ∷ ss) (a ∷ as_) one = ap (λ b. b || list_any test ss) (same s a) ∙ ap (λ b. test (join s a) || b) (any_joined test same ss as_ one.2)
 
-length_joined : (ss : List Side) (as_ : List Account) → AreOfOne ss as_ → length ss ≡ length (joined ss as_)
+pub length_joined : (ss : List Side) (as_ : List Account) → AreOfOne ss as_ → length ss ≡ length (joined ss as_)
 length_joined [] [] one = refl
 length_joined [] (a ∷ as_) one = absurd one
 length_joined (s ∷ ss) [] one = absurd one

@@ -2,10 +2,14 @@
 #![tactic(auto)]
 
 mod config;
+mod free;
 mod look;
+mod own;
 mod sides;
 #[cfg(test)]
 mod tests;
+mod told;
 
 pub use config::{Config, ConfigFault, ConfiguredAgent};
+pub use own::GoodOffers;
 pub use sides::Sides;

@@ -30,8 +30,8 @@ use std::marker::Model;
 /// happens there.
 #[derive(Drop)]
 pub struct Sides {
-    roster: Roster,
-    book: OfferBook,
+    pub(crate) roster: Roster,
+    pub(crate) book: OfferBook,
 }
 
 impl Model for Sides {

@@ -62,14 +62,26 @@ fn better<'a>(shares: &Shares, best: Option<&'a Holder>, holder: &'a Holder) -> 
     }
 }
 
+/// The better one of the best so far and a client. A framework that no role was told of is no better than any.
+pub fn better_client<'a>(
+    shares: &'a Shares,
+    best: Option<&'a Holder>,
+    client: Client,
+) -> Option<&'a Holder>
+    ensures { option_copied result ≡ better_client shares.entry.now (option_copied best.entry) client }
+{
+    match find_holder(shares.holders.as_slice(), client.framework) {
+        None => best,
+        Some(holder) => better(shares, best, holder),
+    }
+}
+
 fn best_of<'a>(shares: &'a Shares, clients: &[Client]) -> Option<&'a Holder>
     ensures { option_copied result ≡ fold (better_client shares.entry.now) None clients.now }
 {
     let mut best = None;
     for client in clients {
-        if let Some(holder) = find_holder(shares.holders.as_slice(), client.framework) {
-            best = better(shares, best, holder);
-        }
+        best = better_client(shares, best, *client);
     }
     best
 }

@@ -11,7 +11,7 @@ mod sum;
 pub use fault::SharesFault;
 pub use holder::{Client, Holder, RoleSum};
 pub use laws::{amounts_decide, picks_least, standing_is_order, sums_add, test_is_relation};
-pub use least::pick;
+pub use least::{better_client, pick};
 pub use shares::Shares;
 pub use sum::Sum;
 

@@ -125,7 +125,8 @@ pub fn clear_in(frameworks: &mut Vec<Framework>, agent: &AgentName)
     }
 }
 
-fn is_due(framework: &Framework, now: u32) -> bool
+/// Whether the last heartbeat on the framework's stream, or its SUBSCRIBED, is 15 seconds ago or more.
+pub fn is_due(framework: &Framework, now: u32) -> bool
     ensures { result ≡ is_due now framework.now }
 {
     u64::from(framework.last_beat) + HEARTBEAT_SECONDS <= u64::from(now)

@@ -10,6 +10,7 @@ mod table;
 #[cfg(test)]
 mod tests;
 
+pub use edit::is_due;
 pub use filters::is_eligible;
 pub use laws::puts_are_changes;
 pub use look::{is_before, is_subscriber};

@@ -1,5 +1,5 @@
 -- Calls of a framework that is admitted.
-use Rattle.std.proofs.Common.{◌≡◌, ℕ, Bool, true, if◌then◌else◌, List, [], ◌∷◌, ◌++◌, map, Option, Some, None, option_map, Result, Ok, Err, refl, sym, ap, ◌∙◌, subst}
+use Rattle.std.proofs.Common.{◌≡◌, ℕ, Bool, true, if◌then◌else◌, List, [], ◌∷◌, ◌++◌, map, Option, Some, None, option_map, Ok, Err, refl, sym, ap, ◌∙◌, subst}
 use Rattle.std.specs.List.{list_any}
 use Rattle.names_core.specs.Ids.{Numbered}
 use Rattle.names_core.specs.Updates.{Update}
@@ -7,12 +7,11 @@ use Rattle.names_core.specs.declared.state.TaskState.TheVariants.{Lost}
 use Rattle.mails.specs.declared.call.Call.TheVariants as calls
 use Rattle.mails.specs.declared.framework.Framework.{Framework}
 use Rattle.mails.specs.declared.mail.Command.{Command}
-use Rattle.mails.specs.declared.mail.ToAgent.{ToAgent}
 use Rattle.mails.specs.declared.refusal.MasterRefusal.{MasterRefusal}
 use Rattle.mails.specs.declared.refusal.MasterRefusal.TheVariants.{LimitExceeded}
-use Rattle.cluster_model.specs.Sides.{Run, SendKill, Side, SideStep, issue, sends_nothing, side_step}
+use Rattle.cluster_model.specs.Sides.{SendKill, Side, SideStep, issue, sends_nothing, side_step}
 use Rattle.cluster_model.specs.Events.{UPDATE}
-use Rattle.cluster_model.specs.Masters.{AtSide, Doing, Master, Moved, Placed, at_side, framework_of, held, keeping, may_have_numbers, moving, nothing, on_stream, refused, saying, sending_more, side_of, with_framework}
+use Rattle.cluster_model.specs.Masters.{AtSide, Doing, Master, Moved, Placed, held, keeping, may_have_numbers, moving, on_stream, refused, saying, sending_more, side_of, with_framework}
 use Rattle.cluster_model.specs.Calls.{by_framework, called, commanding, on_acknowledge, on_kill}
 use Rattle.frameworks.specs.Frameworks.{KeepsId, are_ordered, changed}
 use Rattle.frameworks.proofs.Ordered.{put_changed}

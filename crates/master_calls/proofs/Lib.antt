@@ -1,2 +1,5 @@
 pub mod Calling
 pub mod Subscribing
+pub mod Ending
+pub mod Placing
+pub mod Reconciling

@@ -1,5 +1,5 @@
 -- What SUBSCRIBE makes of what a master holds.
-use Rattle.std.proofs.Common.{◌≡◌, ℕ, suc, List, [], ◌∷◌, ◌++◌, map, length, Option, Some, None, option_map, refl, sym, ap, ◌∙◌, true}
+use Rattle.std.proofs.Common.{◌≡◌, ℕ, suc, List, [], ◌∷◌, ◌++◌, map, Option, Some, None, option_map, refl, sym, ap, ◌∙◌, true}
 use Rattle.names_core.specs.Ids.{Numbered}
 use Rattle.mails.specs.declared.framework.Framework.{Framework}
 use Rattle.cluster_model.specs.Events.{FAILED_OVER, SUBSCRIBED}

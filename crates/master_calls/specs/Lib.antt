@@ -1,2 +1,4 @@
 pub mod Tasks
 pub mod Streams
+pub mod Ends
+pub mod Reconciles

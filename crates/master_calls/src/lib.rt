@@ -2,11 +2,17 @@
 #![tactic(auto)]
 
 mod on_kill;
+mod on_reconcile;
 mod on_revive;
 mod on_subscribe;
+mod on_teardown;
+#[cfg(test)]
+mod reconcile_tests;
 #[cfg(test)]
 mod tests;
 
 pub use on_kill::{acknowledge, kill};
+pub use on_reconcile::reconcile;
 pub use on_revive::{revive, suppress};
 pub use on_subscribe::subscribe;
+pub use on_teardown::teardown;

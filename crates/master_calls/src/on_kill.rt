@@ -25,7 +25,11 @@ pub struct HeldTask {
     pub state: TaskState,
 }
 
-fn copy_held(alloc: Global, agent: &AgentName, task: &Booked) -> Result<HeldTask, AllocError>
+pub(crate) fn copy_held(
+    alloc: Global,
+    agent: &AgentName,
+    task: &Booked,
+) -> Result<HeldTask, AllocError>
     ensures { IfOk result (λ copy. copy ≡ held_task (place agent.now task.now)) }
 {
     Ok(HeldTask {

@@ -1,3 +1,4 @@
 pub mod Doings
 pub mod Moves
 pub mod Admissions
+pub mod Greeting

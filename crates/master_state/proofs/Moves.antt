@@ -18,7 +18,7 @@ use Rattle.agent_sides.specs.Looks.{at_name, next_command, told_of, withdrawing}
 use Rattle.master_state.specs.States.{mail_of}
 use Rattle.master_state.proofs.Doings.{none_more}
 
-both_true : (x y : Bool) → (x && y) ≡ true → (x ≡ true) × (y ≡ true)
+pub both_true : (x y : Bool) → (x && y) ≡ true → (x ≡ true) × (y ≡ true)
 both_true true y e = (refl, e)
 both_true false y e = absurd cc
 
@@ -29,7 +29,7 @@ differs_step x y true true ih p = absurd (true≢false (ih refl))
 differs_step x y true false ih p = grind (arith, nat_tests)
 differs_step x y false e ih p = grind (arith, nat_tests)
 
-before_differs : (xs ys : List ℕ) → bytes_before xs ys ≡ true → bytes_eq xs ys ≡ false
+pub before_differs : (xs ys : List ℕ) → bytes_before xs ys ≡ true → bytes_eq xs ys ≡ false
 before_differs [] [] p = absurd (true≢false (sym p))
 before_differs [] (y ∷ ys) p = refl
 before_differs (x ∷ xs) [] p = refl
@@ -55,7 +55,7 @@ pass_all test s (t ∷ ts) x behind =
     other : bytes_before s.name t.name ≡ true → move (past_side s x) (withdraws_on test t) ≡ past_side s (move x (withdraws_on test t))
     other lt = rw (before_differs s.name t.name lt) refl
 
-itself : (xs : List ℕ) → bytes_eq xs xs ≡ true
+pub itself : (xs : List ℕ) → bytes_eq xs xs ≡ true
 itself [] = refl
 itself (x ∷ xs) = step x (bytes_eq xs xs) (itself xs)
   where

@@ -22,7 +22,7 @@ no_outs = record { events = []; opened = []; closed = []; mails = [] }
 
 -- a master that begins a run, with these agents
 abbrev pub fresh : ℕ → List ConfiguredAgent → State
-fresh run agents = record { run = run; torn = []; next_key = 1; next_offer = 1; sides = map side_of agents; moment = 0; frameworks = []; last_framework = 0; last_stream = 0; outs = no_outs }
+fresh run agents = record { run = run; torn = []; last_key = 0; next_offer = 1; sides = map side_of agents; moment = 0; frameworks = []; last_framework = 0; last_stream = 0; outs = no_outs }
 
 abbrev pub cleared : State → State
 cleared s = record s { outs = no_outs }

@@ -1,5 +1,5 @@
 -- What a master holds, as the model of it has it, and what the model's steps make of that.
-use Rattle.std.specs.Prelude.{◌≡◌, ℕ, Bool, true, if◌then◌else◌, List, [], ◌∷◌, ◌++◌, map, codes, Option, Some, None, option_map, Result, Ok, Err}
+use Rattle.std.specs.Prelude.{◌≡◌, ℕ, suc, Bool, true, if◌then◌else◌, List, [], ◌∷◌, ◌++◌, map, codes, Option, Some, None, option_map, Result, Ok, Err}
 use Rattle.names_core.specs.Ids.{Numbered}
 use Rattle.names_core.specs.Updates as updates
 use Rattle.names_core.specs.declared.state.TaskState.{TaskState}
@@ -41,7 +41,7 @@ written t = record { stream = t.stream; event = event_of t.event }
 -- the master of the model
 
 abbrev pub run_of : State → Run
-run_of s = record { number = s.run; serves = true; torn = s.torn; next_key = record { run = s.run; n = s.next_key }; next_offer = record { run = s.run; n = s.next_offer } }
+run_of s = record { number = s.run; serves = true; torn = s.torn; next_key = record { run = s.run; n = suc s.last_key }; next_offer = record { run = s.run; n = s.next_offer } }
 
 abbrev pub registers_of : State → Registers
 registers_of s = record { now = s.moment; frameworks = s.frameworks; last_framework = s.last_framework; last_stream = s.last_stream }

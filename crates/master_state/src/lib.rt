@@ -4,6 +4,7 @@
 
 mod admit;
 mod fault;
+mod greet;
 mod order;
 mod state;
 mod tell;

@@ -37,8 +37,8 @@ pub struct State {
     pub run: Run,
     /// The frameworks that were torn down in this run, in order.
     pub torn: Listed<FrameworkId>,
-    /// The number of the next launch key, from 1; above 4,294,967,295 the keys are spent.
-    pub next_key: u64,
+    /// The number of the last launch key that was given out in this run, 0 for none.
+    pub last_key: u32,
     /// The number of the next offer, from 1; above 4,294,967,295 the offers are spent.
     pub next_offer: u64,
     pub sides: Sides,
@@ -74,7 +74,7 @@ impl State {
         Ok(State {
             run,
             torn: Listed::new(alloc),
-            next_key: 1,
+            last_key: 0,
             next_offer: 1,
             sides: Sides::of(alloc, config)?,
             moment: 0,

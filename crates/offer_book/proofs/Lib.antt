@@ -3,3 +3,4 @@ pub mod Places
 pub mod Summing
 pub mod Naming
 pub mod Holding
+pub mod Adding

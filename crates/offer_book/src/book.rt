@@ -206,6 +206,19 @@ fn withdraw_ids_at(accounts: &mut Vec<Account>, place: usize, ids: &[OfferId])
     }
 }
 
+fn withdraw_named_one(
+    accounts: &mut Vec<Account>,
+    place: usize,
+    framework: FrameworkId,
+    ids: &[OfferId],
+)
+    ensures { accounts.new.items ≡ at_place place (without_named framework ids.now) accounts.old.items }
+{
+    if place < accounts.len() {
+        accounts[place].offers.withdraw_named(framework, ids);
+    }
+}
+
 fn hear_at(accounts: &mut Vec<Account>, place: usize, update: &Heard)
     requires { update.now.k < 4294967295 }
     ensures { accounts.new.items ≡ at_place place (hearing update.now.key update.now.k update.now.state update.now.ended) accounts.old.items }
@@ -456,6 +469,13 @@ impl OfferBook {
         ensures { self.new ≡ map (without_named framework ids.now) self.old }
     {
         withdraw_named_in(&mut self.accounts, framework, ids);
+    }
+
+    /// Withdraws the offers to a framework on one agent that have one of these ids.
+    pub fn withdraw_named_at(&mut self, place: usize, framework: FrameworkId, ids: &[OfferId])
+        ensures { self.new ≡ at_place place (without_named framework ids.now) self.old }
+    {
+        withdraw_named_one(&mut self.accounts, place, framework, ids);
     }
 
     /// A session opens or ends: offers are gone, and the reported tasks take the place of those that are booked.

@@ -1,9 +1,9 @@
 //! Looking for offers and booked tasks.
 
-ghost use Rattle.std.specs.Prelude.{◌≡◌, option_map};
+ghost use Rattle.std.specs.Prelude.{◌≡◌, fold, option_map};
 ghost use Rattle.cluster_model.specs.Ids.{before};
 ghost use Rattle.cluster_model.specs.Masters.{stands_before, first_placed};
-ghost use Rattle.offer_book.specs.Held.{place, is_of_name, first_in, first_of};
+ghost use Rattle.offer_book.specs.Held.{place, is_of_name, first_at, first_in, first_of};
 ghost use Rattle.offer_book.specs.Found.{made, offer_of, task_of};
 
 use crate::account::Account;
@@ -53,6 +53,26 @@ fn better<'a>(
     }
 }
 
+/// Of a task that was found before, if any, and the tasks of an agent that a framework gave this name: the one that hasn't
+/// ended, then the one with the least launch key.
+pub fn first_among<'a>(
+    before: Option<(&'a AgentName, &'a Booked)>,
+    agent: &'a AgentName,
+    tasks: &'a [Booked],
+    framework: FrameworkId,
+    name: &TaskName,
+) -> Option<(&'a AgentName, &'a Booked)>
+    ensures { option_map (λ h. place h.0.now h.1.now) result ≡ fold (first_at framework name.now agent.entry.now) (option_map (λ h. place h.0.now h.1.now) before.entry) tasks.entry.now }
+{
+    let mut best = before;
+    for task in tasks {
+        if is_task_of(task, framework, name) {
+            best = better(best, agent, task);
+        }
+    }
+    best
+}
+
 fn first_in<'a>(
     before: Option<(&'a AgentName, &'a Booked)>,
     account: &'a Account,
@@ -61,13 +81,8 @@ fn first_in<'a>(
 ) -> Option<(&'a AgentName, &'a Booked)>
     ensures { option_map (λ h. place h.0.now h.1.now) result ≡ first_in framework name.now (option_map (λ h. place h.0.now h.1.now) before.entry) account.entry.now }
 {
-    let mut best = before;
-    for task in account.booked.as_slice() {
-        if is_task_of(task, framework, name) {
-            best = better(best, &account.name, task);
-        }
-    }
-    best
+    let tasks = account.booked.as_slice();
+    first_among(before, &account.name, tasks, framework, name)
 }
 
 /// The booked task of a framework with this name, if any, and its agent.

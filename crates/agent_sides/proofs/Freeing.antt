@@ -1,0 +1,47 @@
+-- An agent's entry and its account, at a place.
+use Rattle.std.proofs.Common.{◌≡◌, ℕ, zero, suc, ◌<◌, ◌≤◌, ◌⊎◌, inl, inr, true, false, List, [], ◌∷◌, ◌++◌, length, get_or, Option, Some, None, refl, sym, ap, ◌∙◌, arith}
+use Rattle.std.specs.List.{AllByRecursion}
+use Rattle.quantity.specs.Rows.{AreRows, rest_of}
+use Rattle.cluster_model.specs.Sides.{Side, job_rows, offer_rows, unended}
+use Rattle.cluster_model.specs.Rounds.{free}
+use Rattle.offer_book.specs.Accounts as accounts
+use Rattle.offer_book.specs.declared.account.Account.{Account}
+use Rattle.roster.specs.Places.{told_at}
+use Rattle.agent_sides.specs.Free.{open_part}
+use Rattle.agent_sides.specs.Joined.{AreOfOne, join, joined}
+
+pub joined_past : {X : Type 0} (i : ℕ) (tell : Side → X) (none : X) (ss : List Side) (as_ : List Account) → ((length ss ≤ i) ⊎ (length as_ ≤ i)) → none ≡ told_at i tell none (joined ss as_)
+joined_past i tell none [] as_ past = refl
+joined_past i tell none (s ∷ ss) [] past = refl
+joined_past zero tell none (s ∷ ss) (a ∷ as_) (inl past) = absurd (omega arith)
+joined_past zero tell none (s ∷ ss) (a ∷ as_) (inr past) = absurd (omega arith)
+joined_past (suc i) tell none (s ∷ ss) (a ∷ as_) (inl past) = joined_past i tell none ss as_ (inl (omega arith))
+joined_past (suc i) tell none (s ∷ ss) (a ∷ as_) (inr past) = joined_past i tell none ss as_ (inr (omega arith))
+
+pub joined_here : {X : Type 0} (i : ℕ) (tell : Side → X) (none : X) (ss : List Side) (as_ : List Account) (s : Side) (a : Account) → i < length ss → i < length as_ → s ≡ get_or ss i s → a ≡ get_or as_ i a
+    → tell (join s a) ≡ told_at i tell none (joined ss as_)
+joined_here i tell none [] as_ s a within fits is was = absurd (omega arith)
+joined_here i tell none (t ∷ ss) [] s a within fits is was = absurd (omega arith)
+joined_here zero tell none (t ∷ ss) (b ∷ as_) s a within fits is was = ap (λ x. tell (join x a)) is ∙ ap (λ x. tell (join t x)) was
+joined_here (suc i) tell none (t ∷ ss) (b ∷ as_) s a within fits is was = joined_here i tell none ss as_ s a (omega arith) (omega arith) is was
+
+pub one_here : (i : ℕ) (ss : List Side) (as_ : List Account) (s : Side) (a : Account) → AreOfOne ss as_ → i < length ss → i < length as_ → s ≡ get_or ss i s → a ≡ get_or as_ i a → s.total ≡ a.total
+one_here i [] as_ s a one within fits is was = absurd (omega arith)
+one_here i (t ∷ ss) [] s a one within fits is was = absurd (omega arith)
+one_here zero (t ∷ ss) (b ∷ as_) s a one within fits is was = ap (λ (x : Side). x.total) is ∙ one.1 ∙ sym (ap (λ (x : Account). x.total) was)
+one_here (suc i) (t ∷ ss) (b ∷ as_) s a one within fits is was = one_here i ss as_ s a one.2 (omega arith) (omega arith) is was
+
+-- what an account leaves is what is free of the side
+pub free_joins : (s : Side) (a : Account) → s.total ≡ a.total → accounts.free a ≡ free (join s a)
+free_joins s a e = ap (λ total. rest_of total (offer_rows a.offers ++ job_rows (unended a.booked))) (sym e)
+
+pub open_joins : (s : Side) (a : Account) → s.total ≡ a.total → s.is_open ≡ true → Some (s.name, accounts.free a) ≡ open_part (join s a)
+open_joins s a e is = ap (λ rows. Some (s.name, rows)) (free_joins s a e) ∙ rw is refl
+
+pub shut_joins : (s : Side) (a : Account) → s.is_open ≡ false → None ≡ open_part (join s a)
+shut_joins s a is = rw is refl
+
+pub rows_joined : (ss : List Side) (as_ : List Account) → AreOfOne ss as_ → AllByRecursion (λ s. AreRows s.total) ss → AllByRecursion (λ s. AreRows s.total) (joined ss as_)
+rows_joined [] as_ one h = tt
+rows_joined (s ∷ ss) [] one h = tt
+rows_joined (s ∷ ss) (a ∷ as_) one h = (h.0, rows_joined ss as_ one.2 h.1)

@@ -1,0 +1,167 @@
+//! What a framework has on all agents: its offers, and its booked tasks.
+
+ghost use Rattle.std.specs.Prelude.{◌≡◌, ◌++◌, ◌∷◌, [], map, not, OnOk, OnErr, IfOk, IfSome};
+ghost use Rattle.std.specs.List.{list_any};
+ghost use Rattle.std.specs.Option.{option_copied};
+ghost use Rattle.quantity.specs.Rows.{AreRows};
+ghost use Rattle.cluster_model.specs.Sides.{without_used};
+ghost use Rattle.cluster_model.specs.Masters.{has_numbers};
+ghost use Rattle.roster.specs.Places.{at_place};
+ghost use Rattle.agent_sides.specs.Changes.{with_task};
+ghost use Rattle.agent_sides.specs.Looks.{at_name};
+ghost use Rattle.agent_sides.specs.Own.{good_account, good_offers, holding, holding_of, lacks_numbers, names_with_tasks, sides_with_tasks};
+
+use crate::sides::Sides;
+use listed::Listed;
+use mails::Booked;
+use names_core::{AgentName, FrameworkId, OfferId};
+use offer_book::Account;
+use quantity::Resources;
+use roster::RosterEntry;
+use std::alloc::{AllocError, Global};
+
+/// What offers give that a framework may use together.
+#[derive(Drop)]
+pub struct GoodOffers {
+    pub agent: AgentName,
+    /// What the offers have together.
+    pub sum: Resources,
+}
+
+/// The account on which offers are good, where the agent's session is open.
+fn good_account<'a>(
+    entries: &[RosterEntry],
+    accounts: &'a [Account],
+    framework: FrameworkId,
+    ids: &[OfferId],
+) -> Option<&'a Account>
+    ensures { option_copied result ≡ good_account framework ids.now entries.now accounts.now }
+{
+    let mut rest = accounts;
+    for entry in entries {
+        let (account, others) = rest.split_first()?;
+        if entry.is_open() && account.offers.are_good(framework, ids) {
+            return Some(account);
+        }
+        rest = others;
+    }
+    None
+}
+
+fn lacks_numbers(entries: &[RosterEntry], accounts: &[Account], framework: FrameworkId) -> bool
+    ensures { result ≡ lacks_numbers framework entries.now accounts.now }
+{
+    let mut rest = accounts;
+    for entry in entries {
+        let Some((account, others)) = rest.split_first() else {
+            return false;
+        };
+        if account.booked.has_tasks_of(framework) && !entry.has_numbers(1) {
+            return true;
+        }
+        rest = others;
+    }
+    false
+}
+
+fn push_if_has_tasks(
+    names: &mut Listed<AgentName>,
+    alloc: Global,
+    account: &Account,
+    framework: FrameworkId,
+) -> Result<(), AllocError>
+    ensures { OnOk result (names.new ≡ names.old ++ names_with_tasks framework (account.now ∷ [])) }
+{
+    if account.booked.has_tasks_of(framework) {
+        names.push(account.name.copy(alloc)?)?;
+    }
+    Ok(())
+}
+
+fn names_with_tasks(
+    alloc: Global,
+    accounts: &[Account],
+    framework: FrameworkId,
+) -> Result<Listed<AgentName>, AllocError>
+    ensures { IfOk result (λ names. names ≡ names_with_tasks framework accounts.now) }
+{
+    let mut names = Listed::new(alloc);
+    for account in accounts {
+        push_if_has_tasks(&mut names, alloc, account, framework)?;
+    }
+    Ok(names)
+}
+
+impl Sides {
+    /// The accounts of the agents.
+    pub fn accounts(&self) -> &[Account]
+        ensures { map holding_of result.now ≡ map holding self.now }
+    {
+        self.book.accounts()
+    }
+
+    /// The agent on which a framework may use the offers of these ids together, and what these have: it has an open session,
+    /// there are some ids, none stands twice, and each is that of a current offer there to the framework.
+    pub fn good_offers(
+        &self,
+        alloc: Global,
+        framework: FrameworkId,
+        ids: &[OfferId],
+    ) -> Result<Option<GoodOffers>, AllocError>
+        ensures good { IfOk result (λ good. good ≡ good_offers framework ids.now self.now) }
+        ensures rows { IfOk result (λ good. IfSome good (λ offers. AreRows offers.sum)) }
+    {
+        let accounts = self.book.accounts();
+        let Some(account) = good_account(self.roster.entries(), accounts, framework, ids) else {
+            return Ok(None);
+        };
+        let agent = account.name.copy(alloc)?;
+        let sum = account.named_sum(alloc, framework, ids)?;
+        let _rows = sum.rows();
+        Ok(Some(GoodOffers { agent, sum }))
+    }
+
+    /// Whether the session of an agent with booked tasks of a framework has no command number left.
+    pub fn lacks_numbers(&self, framework: FrameworkId) -> bool
+        ensures { result ≡ list_any (λ s. not (has_numbers 1 s)) (sides_with_tasks framework self.now) }
+    {
+        lacks_numbers(self.roster.entries(), self.book.accounts(), framework)
+    }
+
+    /// The names of the agents with booked tasks of a framework, ended ones too.
+    pub fn agents_with_tasks(
+        &self,
+        alloc: Global,
+        framework: FrameworkId,
+    ) -> Result<Listed<AgentName>, AllocError>
+        ensures { IfOk result (λ names. names ≡ map (λ s. s.name) (sides_with_tasks framework self.now)) }
+    {
+        names_with_tasks(alloc, self.book.accounts(), framework)
+    }
+
+    fn withdraw_used_at(&mut self, place: usize, framework: FrameworkId, ids: &[OfferId])
+        ensures { self.new ≡ at_place place (λ s. without_used s framework ids.now) self.old }
+    {
+        self.book.withdraw_named_at(place, framework, ids);
+    }
+
+    /// Withdraws the offers to a framework on the agent of a name that have one of these ids. It takes no memory.
+    pub fn withdraw_used(&mut self, name: &AgentName, framework: FrameworkId, ids: &[OfferId])
+        ensures { self.new ≡ at_name name.now (λ s. without_used s framework ids.now) self.old }
+    {
+        if let Some(place) = self.place_of(name) {
+            self.withdraw_used_at(place, framework, ids);
+        }
+    }
+
+    /// Books a task on the agent of a name, whatever is free.
+    pub fn book_on(&mut self, name: &AgentName, task: Booked) -> Result<(), AllocError>
+        ensures ok { OnOk result (self.new ≡ at_name name.now (with_task task) self.old) }
+        ensures err { OnErr result (self.new ≡ self.old) }
+    {
+        match self.place_of(name) {
+            None => Ok(()),
+            Some(place) => self.book_at(place, task),
+        }
+    }
+}

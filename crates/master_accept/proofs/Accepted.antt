@@ -1,0 +1,279 @@
+-- What ACCEPT makes of what a master holds.
+use Rattle.std.proofs.Common.{◌≡◌, ℕ, suc, ◌+◌, ◌≤◌, Bool, true, false, not, ◌&&◌, ◌||◌, cond, if◌then◌else◌, List, [], ◌∷◌, ◌++◌, length, map, fold, Option, Some, None, option_map, Result, Ok, Err, refl, sym, ap, ◌∙◌, subst, bytes_eq, arith}
+use Rattle.std.specs.Prelude.{nat_lt, IfSome}
+use Rattle.std.specs.List.{find}
+use Rattle.std.proofs.lemmas.Bool.{and_from, cond-true}
+use Rattle.std.proofs.lemmas.Bool.Decides.{nat_tests}
+use Rattle.names_core.specs.Ids.{Numbered}
+use Rattle.quantity.specs.declared.rows.Row.{Row}
+use Rattle.quantity.specs.Rows.{AreRows, plus_rows}
+use Rattle.mails.specs.declared.call.Call.TheVariants as calls
+use Rattle.mails.specs.declared.call.TaskInfo.{TaskInfo}
+use Rattle.mails.specs.declared.task.Job.{Job}
+use Rattle.mails.specs.declared.task.Booked.{Booked}
+use Rattle.mails.specs.declared.mail.ToAgent.{ToAgent}
+use Rattle.cluster_model.specs.Events.{Told}
+use Rattle.mails.specs.declared.framework.Framework.{Framework}
+use Rattle.mails.specs.declared.refusal.MasterRefusal.{MasterRefusal}
+use Rattle.mails.specs.declared.refusal.MasterRefusal.TheVariants.{LimitExceeded}
+use Rattle.cluster_model.specs.Ids.{is_among, last_number}
+use Rattle.cluster_model.specs.Sides.{LaunchFrom, Run, Sending, SideStep, Side, is_good, is_named, just_booked, launch_all, offer_rows, sends_nothing, side_step, used_offers, without_used}
+use Rattle.cluster_model.specs.Masters.{AtSide, Doing, framework_of, Master, Moved, Registers, add_filter, all_booked, at_side, is_torn, may_have_numbers, move_all, refused, saying, sending_more, with_framework, withdraws}
+use Rattle.cluster_model.specs.Calls as model
+use Rattle.cluster_model.specs.Calls.{Accepting, Given, accepted_as, accepts_all, by_framework, called, given_by, good_side, on_accept, rest_after, tasks_limit}
+use Rattle.frameworks.specs.Frameworks as frameworks
+use Rattle.frameworks.specs.Frameworks.{changed, with_filter}
+use Rattle.frameworks.proofs.Ordered.{put_changed}
+use Rattle.agent_sides.specs.Configs as configs
+use Rattle.agent_sides.specs.Joined.{side_names}
+use Rattle.agent_sides.specs.Looks.{all_placed, at_name, withdrawing}
+use Rattle.agent_sides.specs.Own.{good_offers, sum_on}
+use Rattle.agent_sides.specs.declared.own.GoodOffers.{GoodOffers}
+use Rattle.master_state.specs.declared.state.State.{State}
+use Rattle.master_state.specs.declared.state.StreamEvent.{StreamEvent}
+use Rattle.master_state.specs.States.{without_offers}
+use Rattle.master_state.specs.Works.{Work, admission, admission_of, done, master_of, registers_of, run_of, work_of, written}
+use Rattle.master_state.proofs.Admissions.{Admitted, admits}
+use Rattle.master_state.proofs.Doings.{none_more}
+use Rattle.master_state.proofs.Moves.{all_withdrawn, itself, moved_so}
+use Rattle.master_accept.specs.Accepts as accepts
+use Rattle.master_accept.specs.Accepts.{Bench, Caller, Progress, accepted_good, accepted_none, accepted_so, bench, may_number, no_progress, passes_limits, refusing_on, takes_all, without_used_on}
+use Rattle.master_accept.specs.Launches.{launched_all}
+use Rattle.master_accept.proofs.Accepting.{Come, begins, lost_all, taken_all, with_events}
+use Rattle.master_accept.proofs.Launching.{Ends, Focus, change_there, focus, found_there, launches_so, moved_there, run_at, stand, step_there, to_agent}
+
+-- the framework that calls isn't torn down
+untorn : (m : Master) (given : Option Numbered) (framework stream : Numbered) → admission m given framework ≡ Ok stream → is_torn m framework ≡ false
+untorn m given framework stream e = by (is_torn m framework) refl (option_map (λ (f : Framework). f.stream) (framework_of m framework)) e
+  where
+    by : (t : Bool) → is_torn m framework ≡ t → (known : Option (Option Numbered)) → admission_of given t known ≡ Ok stream → t ≡ false
+    by true h None q = absurd cc
+    by true h (Some None) q = absurd cc
+    by true h (Some (Some o)) q = absurd cc
+    by false h known q = refl
+
+-- offers that aren't good
+
+abbrev told_work : State → Moved → List StreamEvent → Work
+told_work s x events = record { moved = x; registers = registers_of s; events = events; opens = s.outs.opened; closes = s.outs.closed }
+
+abbrev with_raw : State → List StreamEvent → State
+with_raw s es = record s { outs = record s.outs { events = es } }
+
+none_so : (s : State) (f : Framework) (caller : Caller) (ids : List Numbered) (tasks : List TaskInfo) (seconds : ℕ) → f.id ≡ caller.framework → f.stream ≡ Some caller.stream → configs.are_ordered (side_names s.sides) ≡ true
+    → work_of (accepted_none caller ids tasks s) ≡ done (accepted_as (master_of s) f ids seconds None (accepts_all (master_of s) f None tasks)) (work_of s)
+none_so s f caller ids tasks seconds id e names =
+    ap (λ (u : State). work_of (without_offers (is_named caller.framework ids) u)) (ap (λ es. fold (accepts.loses_one caller) (with_raw s es) tasks) (sym (none_more s.outs.events)) ∙ lost_all s f caller tasks start id e refl)
+    ∙ ap (λ x. told_work s x (s.outs.events ++ map written told)) (sym (all_withdrawn (is_named caller.framework ids) s.sides (run_of s) s.outs.mails names))
+    ∙ ap (λ i. told_work s (move_all (withdraws (is_named i ids) (master_of s)) (moved_so (run_of s) s.sides s.outs.mails)) (s.outs.events ++ map written told)) (sym id)
+    ∙ rw (none_more s.outs.opened, none_more s.outs.closed) refl
+  where
+    start : Accepting
+    start = record { booked = all_booked (master_of s); jobs = []; used = []; next = record { run = s.run; n = suc s.last_key }; events = [] }
+
+    told : List Told
+    told = (accepts_all (master_of s) f None tasks).events
+
+-- offers that are good
+
+abbrev given_on : Numbered → List Numbered → Side → Given
+given_on framework ids t = record { agent = t.name; budget = offer_rows (used_offers t framework ids) }
+
+abbrev good_work : State → Moved → List Framework → List StreamEvent → Work
+good_work s x fs events = record { moved = x; registers = record (registers_of s) { frameworks = fs }; events = events; opens = s.outs.opened; closes = s.outs.closed }
+
+pub record Premises (s : State) (f : Framework) (caller : Caller) (ids : List Numbered) (t : Side) : Type 0 where
+  pub id : f.id ≡ caller.framework
+  pub stream : f.stream ≡ Some caller.stream
+  pub torn : is_torn (master_of s) f.id ≡ false
+  pub known : framework_of (master_of s) caller.framework ≡ Some f
+  pub ordered : frameworks.are_ordered s.frameworks ≡ true
+  pub at : Focus (λ u. is_good u f.id ids) s.sides t
+  pub rows : AreRows (plus_rows [] (offer_rows (used_offers t f.id ids)))
+
+abbrev parts : Numbered → Numbered → List ℕ → List Numbered → ℕ → List Row → List Booked → State → State
+parts framework own agent ids seconds rest launched s = refusing_on framework seconds agent rest (launched_all agent ids launched (without_used_on agent own ids s))
+
+abbrev sided : State → List Side → State
+sided s ss = record s { sides = ss }
+
+abbrev mailed : State → List Side → List ToAgent → State
+mailed s ss ms = record s { sides = ss; outs = record s.outs { mails = ms } }
+
+abbrev moved_by : List Side → List Side → Side → List ToAgent → Run → Moved
+moved_by front back t sent run = record { run = run; sides = front ++ t ∷ back; sent = sent }
+
+good_so : (s : State) (f : Framework) (caller : Caller) (ids : List Numbered) (tasks : List TaskInfo) (seconds : ℕ) (t : Side) → Premises s f caller ids t
+    → work_of (accepted_good caller (sum_on f.id ids t) ids tasks seconds s) ≡ done (accepted_as (master_of s) f ids seconds (Some (given_on f.id ids t)) (accepts_all (master_of s) f (Some (given_on f.id ids t)) tasks)) (work_of s)
+good_so s f caller ids tasks seconds t p =
+    ap work_of (taken ∙ ap (λ (u : State). refusing_on caller.framework seconds t.name rest (launched_all t.name ids (map just_booked x.jobs) u)) begun ∙ ap (refusing_on caller.framework seconds t.name rest) ends.state)
+    ∙ ap (λ (r : Run). good_work s (moved_by front back y.side (s.outs.mails ++ to_agent t.name y.sent) r) refused_table events) (sym ends.run)
+    ∙ ap (λ z. good_work s (sending_more s.outs.mails z) refused_table events) (sym there)
+    ∙ ap (λ fs. good_work s (sending_more s.outs.mails (at_side t.name step (run_of s) s.sides)) fs events) (sym (put_changed change s.frameworks caller.framework f (λ g. refl) p.ordered p.known))
+    ∙ rw (none_more s.outs.opened, none_more s.outs.closed) refl
+  where
+    g : Given
+    g = given_on f.id ids t
+
+    x : Accepting
+    x = accepts_all (master_of s) f (Some g) tasks
+
+    b : Bench
+    b = takes_all caller (sum_on f.id ids t) tasks s
+
+    come : Come s f g b x
+    come = taken_all s f g caller tasks (bench s (no_progress (plus_rows [] g.budget) s.last_key)) (record { booked = all_booked (master_of s); jobs = []; used = []; next = record { run = s.run; n = suc s.last_key }; events = [] }) p.rows p.id p.stream (begins s f g p.rows)
+
+    rest : List Row
+    rest = rest_after g x
+
+    events : List StreamEvent
+    events = s.outs.events ++ map written x.events
+
+    taken : accepted_so caller t.name ids seconds b ≡ parts caller.framework f.id t.name ids seconds rest (map just_booked x.jobs) (with_events s x.events)
+    taken =
+        ap (λ i. parts caller.framework i t.name ids seconds b.progress.rest b.progress.launched b.state) (sym p.id)
+        ∙ ap (λ rows. parts caller.framework f.id t.name ids seconds rows b.progress.launched b.state) come.rest
+        ∙ ap (λ bs. parts caller.framework f.id t.name ids seconds rest bs b.state) come.jobs
+        ∙ ap (λ (u : State). parts caller.framework f.id t.name ids seconds rest (map just_booked x.jobs) u) come.state
+
+    front : List Side
+    front = p.at.front
+
+    back : List Side
+    back = p.at.back
+
+    s1 : State
+    s1 = with_events s x.events
+
+    begun : without_used_on t.name f.id ids s1 ≡ stand s1 front back t.name s.last_key (without_used t f.id ids) []
+    begun =
+        ap (sided s1) (ap (at_name t.name (λ u. without_used u f.id ids)) p.at.is ∙ change_there t.name (λ u. without_used u f.id ids) front back t p.at.others (itself t.name))
+        ∙ ap (mailed s1 (front ++ without_used t f.id ids ∷ back)) (sym (none_more s.outs.mails))
+
+    y : Sending
+    y = launch_all f.id ids g.budget x.jobs (record { used = []; sending = sends_nothing (run_of s) (without_used t f.id ids) })
+
+    ends : Ends s1 front back t.name ids x.jobs (stand s1 front back t.name s.last_key (without_used t f.id ids) []) y
+    ends = launches_so s1 front back t.name f.id ids g.budget p.at.others x.jobs [] s.last_key (sends_nothing (run_of s) (without_used t f.id ids)) (itself t.name) refl come.chain
+
+    change : Framework → Framework
+    change = with_filter s.moment seconds t.name rest
+
+    refused_table : List Framework
+    refused_table = map (changed change caller.framework) s.frameworks
+
+    step : SideStep
+    step = LaunchFrom f.id ids x.jobs
+
+    may : (is_good t f.id ids && not (is_among s.torn f.id)) ≡ true
+    may = and_from (is_good t f.id ids) (not (is_among s.torn f.id)) p.at.passes (ap not p.torn)
+
+    there : at_side t.name step (run_of s) s.sides ≡ moved_there t.name front back y
+    there =
+        ap (at_side t.name step (run_of s)) p.at.is ∙ step_there t.name step (run_of s) front back t p.at.others (itself t.name)
+        ∙ ap (moved_there t.name front back) (cond-true (is_good t f.id ids && not (is_among s.torn f.id)) y (sends_nothing (run_of s) t) may)
+
+-- limits
+
+later_limit : (last n count : ℕ) → nat_lt last (n + count) ≡ nat_lt (suc last) (suc n + count)
+later_limit last n count = grind (arith, nat_tests)
+
+abbrev limits_by : ℕ → State → Bool → Bool → Bool
+limits_by count s late may = (nat_lt 0 count && nat_lt tasks_limit (length (all_placed s.sides) + count)) || late || not may
+
+limits_is : (s : State) (framework : Numbered) (ids : List Numbered) (count : ℕ) (o : Option Side) → find (λ u. is_good u framework ids) s.sides ≡ o → configs.are_ordered (side_names s.sides) ≡ true
+    → passes_limits count (option_map (sum_on framework ids) o) s ≡ model.passes_limits (master_of s) count o
+limits_is s framework ids count None e names = ap (λ late. limits_by count s late true) (later_limit last_number s.last_key count)
+limits_is s framework ids count (Some t) e names =
+    ap (λ late. limits_by count s late (may_have_numbers count (find (λ u. bytes_eq u.name t.name) s.sides))) (later_limit last_number s.last_key count)
+    ∙ ap (λ found. limits_by count s (nat_lt (suc last_number) (suc s.last_key + count)) (may_have_numbers count found)) (ap (find (λ u. bytes_eq u.name t.name)) at.is ∙ found_there t.name at.front at.back t at.others (itself t.name))
+  where
+    at : Focus (λ u. is_good u framework ids) s.sides t
+    at = focus (λ u. is_good u framework ids) s.sides t e names
+
+-- ACCEPT
+
+abbrev accepts_by : Master → List Numbered → List TaskInfo → ℕ → Framework → Option Side → Doing
+accepts_by m ids tasks seconds f o = if model.passes_limits m (length tasks) o then refused m LimitExceeded else model.accepted_from m ids tasks seconds f (given_by f.id ids o)
+
+abbrev Answer : State → Doing → State → Type 0
+Answer s d after = (d.refusal ≡ None) × (work_of after ≡ done d (work_of s))
+
+within_limits : (s : State) (f : Framework) (ids : List Numbered) (tasks : List TaskInfo) (seconds : ℕ) (o : Option Side) → model.passes_limits (master_of s) (length tasks) o ≡ false
+    → accepts_by (master_of s) ids tasks seconds f o ≡ model.accepted_from (master_of s) ids tasks seconds f (given_by f.id ids o)
+within_limits s f ids tasks seconds o e = ap (λ b. if b then refused (master_of s) LimitExceeded else model.accepted_from (master_of s) ids tasks seconds f (given_by f.id ids o)) e
+
+not_good : (s : State) (f : Framework) (ids : List Numbered) (tasks : List TaskInfo) (seconds : ℕ) → (accepted_as (master_of s) f ids seconds None (accepts_all (master_of s) f None tasks)).refusal ≡ None
+not_good s f ids tasks seconds = refl
+
+pub record Asked (s : State) (f : Framework) (caller : Caller) : Type 0 where
+  pub id : f.id ≡ caller.framework
+  pub stream : f.stream ≡ Some caller.stream
+  pub torn : is_torn (master_of s) f.id ≡ false
+  pub known : framework_of (master_of s) caller.framework ≡ Some f
+  pub ordered : frameworks.are_ordered s.frameworks ≡ true
+  pub names : configs.are_ordered (side_names s.sides) ≡ true
+
+answers_by : (s : State) (f : Framework) (caller : Caller) (ids : List Numbered) (tasks : List TaskInfo) (seconds : ℕ) → Asked s f caller → (o : Option Side) → find (λ u. is_good u f.id ids) s.sides ≡ o
+    → IfSome (option_map (sum_on f.id ids) o) (λ offers. AreRows offers.sum) → passes_limits (length tasks) (option_map (sum_on f.id ids) o) s ≡ false
+    → Answer s (accepts_by (master_of s) ids tasks seconds f o) (accepts.accepted_as caller ids tasks seconds s (option_map (sum_on f.id ids) o))
+answers_by s f caller ids tasks seconds a None e rows within =
+    let limits = sym (limits_is s f.id ids (length tasks) None e a.names) ∙ within in
+    subst (λ d. Answer s d (accepted_none caller ids tasks s)) (sym (within_limits s f ids tasks seconds None limits)) (refl, none_so s f caller ids tasks seconds a.id a.stream a.names)
+answers_by s f caller ids tasks seconds a (Some t) e rows within =
+    let limits = sym (limits_is s f.id ids (length tasks) (Some t) e a.names) ∙ within in
+    subst (λ d. Answer s d (accepted_good caller (sum_on f.id ids t) ids tasks seconds s)) (sym (within_limits s f ids tasks seconds (Some t) limits))
+    (refl, good_so s f caller ids tasks seconds t (record { id = a.id; stream = a.stream; torn = a.torn; known = a.known; ordered = a.ordered; at = focus (λ u. is_good u f.id ids) s.sides t e a.names; rows = rows }))
+
+abbrev calling : Numbered → Numbered → Caller
+calling framework stream = record { framework = framework; stream = stream }
+
+pub accepts_so : (s : State) (given : Option Numbered) (framework stream : Numbered) (ids : List Numbered) (tasks : List TaskInfo) (seconds : ℕ) (good : Option GoodOffers) → admission (master_of s) given framework ≡ Ok stream
+    → frameworks.are_ordered s.frameworks ≡ true → configs.are_ordered (side_names s.sides) ≡ true → good ≡ good_offers framework ids s.sides → IfSome good (λ offers. AreRows offers.sum) → passes_limits (length tasks) good s ≡ false
+    → Answer s (called (master_of s) given (calls.Accept framework ids tasks seconds)) (accepts.accepted_as (calling framework stream) ids tasks seconds s good)
+accepts_so s given framework stream ids tasks seconds good e ordered names is rows within =
+    subst (λ d. Answer s d (accepts.accepted_as caller ids tasks seconds s good)) (sym (a.does (on_accept m ids tasks seconds)))
+    (subst (λ o. IfSome o (λ offers. AreRows offers.sum) → passes_limits (length tasks) o s ≡ false → Answer s (accepts_by m ids tasks seconds f found) (accepts.accepted_as caller ids tasks seconds s o)) (sym good_is)
+    (answers_by s f caller ids tasks seconds asked found refl) rows within)
+  where
+    m : Master
+    m = master_of s
+
+    a : Admitted m given framework stream
+    a = admits m given framework stream e
+
+    f : Framework
+    f = a.caller
+
+    caller : Caller
+    caller = calling framework stream
+
+    found : Option Side
+    found = good_side m f.id ids
+
+    good_is : good ≡ option_map (sum_on f.id ids) found
+    good_is = is ∙ ap (λ i. good_offers i ids s.sides) (sym a.id)
+
+    asked : Asked s f caller
+    asked = record { id = a.id; stream = a.stream_is; torn = ap (is_torn m) a.id ∙ untorn m given framework stream e; known = a.known; ordered = ordered; names = names }
+
+pub limited : (s : State) (given : Option Numbered) (framework stream : Numbered) (ids : List Numbered) (tasks : List TaskInfo) (seconds : ℕ) (good : Option GoodOffers) → admission (master_of s) given framework ≡ Ok stream
+    → configs.are_ordered (side_names s.sides) ≡ true → good ≡ good_offers framework ids s.sides → passes_limits (length tasks) good s ≡ true
+    → ((called (master_of s) given (calls.Accept framework ids tasks seconds)).refusal ≡ Some LimitExceeded) × (s ≡ s)
+limited s given framework stream ids tasks seconds good e names is past = (ap (λ d. d.refusal) (a.does (on_accept m ids tasks seconds) ∙ ap (λ b. if b then refused m LimitExceeded else model.accepted_from m ids tasks seconds f (given_by f.id ids found)) limits), refl)
+  where
+    m : Master
+    m = master_of s
+
+    a : Admitted m given framework stream
+    a = admits m given framework stream e
+
+    f : Framework
+    f = a.caller
+
+    found : Option Side
+    found = good_side m f.id ids
+
+    limits : model.passes_limits m (length tasks) found ≡ true
+    limits = sym (limits_is s f.id ids (length tasks) found refl names) ∙ ap (λ o. passes_limits (length tasks) o s) (sym (is ∙ ap (λ i. good_offers i ids s.sides) (sym a.id))) ∙ past

@@ -1,0 +1,4 @@
+pub mod Declining
+pub mod Accepting
+pub mod Launching
+pub mod Accepted

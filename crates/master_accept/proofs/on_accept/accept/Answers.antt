@@ -1,0 +1,18 @@
+use Rattle.std.proofs.Common.{sym, ◌∙◌, length}
+use Rattle.cluster_model.specs.Calls.{on_accept}
+use Rattle.master_state.specs.Works.{master_of}
+use Rattle.master_accept.proofs.Declining.{turned_down}
+use Rattle.master_accept.proofs.Accepted.{accepts_so, limited}
+use Rattle.master_accept.proofs.on_accept.accept.Goals as goal
+
+pub returns-in-Err : goal.returns-in-Err
+returns-in-Err c = turned_down c.args.state.now c.args.given c.args.framework c.in-Err.refusal (on_accept (master_of c.args.state.now) c.args.offers.now c.args.tasks.now c.args.seconds) (sym c.admit.ensures ∙ c.in-Err.is)
+
+pub returns-then-passes_limits : goal.returns-then-passes_limits
+returns-then-passes_limits c =
+    limited c.args.state.now c.args.given c.args.framework c.in-Ok.stream c.args.offers.now c.args.tasks.now c.args.seconds c.in_ok-good.good (sym c.admit.ensures ∙ c.in-Ok.is) c.stand_in_order.ensures c.in_ok-good.ensures.good (sym c.passes_limits.ensures ∙ c.if-passes_limits.true)
+
+pub returns-in-Ok-accept_as : goal.returns-in-Ok-accept_as
+returns-in-Ok-accept_as c =
+    rw c.in-Ok-accept_as.ensures
+    (accepts_so c.args.state.now c.args.given c.args.framework c.in-Ok.stream c.args.offers.now c.args.tasks.now c.args.seconds c.in_ok-good.good (sym c.admit.ensures ∙ c.in-Ok.is) c.as_slice-known.ensures.ordered c.stand_in_order.ensures c.in_ok-good.ensures.good c.in_ok-good.ensures.rows (sym c.passes_limits.ensures ∙ c.if-passes_limits.false))

@@ -1,0 +1,3 @@
+pub mod Declines
+pub mod Accepts
+pub mod Launches

@@ -1,0 +1,96 @@
+//! Launches: tasks are booked on their agent, and a command goes there for each.
+
+ghost use Rattle.std.specs.Prelude.{◌≡◌, fold, IfOk, OnOk};
+ghost use Rattle.mails.specs.declared.mail.Command.TheVariants.{Launch};
+ghost use Rattle.master_state.specs.States.{ordered};
+ghost use Rattle.master_accept.specs.Launches.{booked_on, launched_one};
+
+use listed::Listed;
+use mails::{Booked, Command, Job};
+use master_state::State;
+use names_core::{AgentName, OfferId};
+use std::alloc::{AllocError, Global};
+
+fn copy_job(alloc: Global, job: &Job) -> Result<Job, AllocError>
+    ensures { IfOk result (λ copy. copy ≡ job.now) }
+{
+    Ok(Job {
+        key: job.key,
+        framework: job.framework,
+        name: job.name.copy(alloc)?,
+        resources: job.resources.copy(alloc)?,
+    })
+}
+
+fn copy_task(alloc: Global, task: &Booked) -> Result<Booked, AllocError>
+    ensures { IfOk result (λ copy. copy ≡ task.now) }
+{
+    Ok(Booked {
+        job: copy_job(alloc, &task.job)?,
+        ended: task.ended,
+        heard: task.heard,
+        state: task.state,
+    })
+}
+
+fn copy_ids(alloc: Global, ids: &[OfferId]) -> Result<Listed<OfferId>, AllocError>
+    ensures { IfOk result (λ copy. copy ≡ ids.now) }
+{
+    let mut copy = Listed::new(alloc);
+    for id in ids {
+        copy.push(*id)?;
+    }
+    Ok(copy)
+}
+
+fn launch_of(alloc: Global, job: &Job, ids: &[OfferId]) -> Result<Command, AllocError>
+    ensures { IfOk result (λ command. command ≡ Launch job.now ids.now) }
+{
+    let job = copy_job(alloc, job)?;
+    let offers = copy_ids(alloc, ids)?;
+    Ok(Command::Launch(job, offers))
+}
+
+fn book(
+    state: &mut State,
+    alloc: Global,
+    agent: &AgentName,
+    task: &Booked,
+) -> Result<(), AllocError>
+    ensures { OnOk result (state.new ≡ booked_on agent.now task.now state.old) }
+{
+    let task = copy_task(alloc, task)?;
+    state.last_key = task.job.key.number();
+    state.sides.book_on(agent, task)
+}
+
+fn launch_one(
+    state: &mut State,
+    alloc: Global,
+    agent: &AgentName,
+    ids: &[OfferId],
+    task: &Booked,
+) -> Result<(), AllocError>
+    ensures { OnOk result (state.new ≡ launched_one agent.now ids.now state.old task.now) }
+{
+    book(state, alloc, agent, task)?;
+    let command = launch_of(alloc, &task.job, ids)?;
+    let copy = launch_of(alloc, &task.job, ids)?;
+    state.order(alloc, agent, command, copy)
+}
+
+/// Tasks are launched on an agent from the offers of these ids, in order.
+pub fn launch_all(
+    state: &mut State,
+    alloc: Global,
+    agent: &AgentName,
+    ids: &[OfferId],
+    tasks: &[Booked],
+) -> Result<(), AllocError>
+    ensures { OnOk result (state.new ≡ fold (launched_one agent.now ids.now) state.old tasks.now) }
+{
+    for task in tasks {
+        launch_one(state, alloc, agent, ids, task)?;
+    }
+    Ok(())
+}

@@ -1,0 +1,12 @@
+//! The master's answers to ACCEPT and DECLINE (Mesos scheduler HTTP API, Calls; Mesos paper, section 3.1).
+#![tactic(auto)]
+
+mod launch;
+mod on_accept;
+mod on_decline;
+mod take;
+#[cfg(test)]
+mod tests;
+
+pub use on_accept::accept;
+pub use on_decline::decline;

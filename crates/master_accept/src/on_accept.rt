@@ -1,0 +1,159 @@
+//! ACCEPT.
+
+ghost use Rattle.std.specs.Prelude.{◌≡◌, ◌≤◌, ◌+◌, nat_lt, length, OnOk};
+ghost use Rattle.mails.specs.declared.call.Call.TheVariants as calls;
+ghost use Rattle.cluster_model.specs.Ids.{last_number};
+ghost use Rattle.cluster_model.specs.Calls.{called};
+ghost use Rattle.master_state.specs.Works.{Gave, master_of};
+ghost use Rattle.master_accept.specs.Accepts.{accepted_as, accepted_good, accepted_none, may_number, passes_limits};
+
+use crate::launch::launch_all;
+use crate::take::{Caller, Progress, lose_all, take_all};
+use agent_sides::GoodOffers;
+use listed::Listed;
+use mails::{MasterRefusal, TaskInfo};
+use master_state::{MasterFault, State};
+use names_core::{FrameworkId, OfferId, StreamId};
+use std::alloc::{AllocError, Global};
+
+/// As many tasks as an ACCEPT may leave booked.
+const TASKS_LIMIT: u128 = 65_536;
+
+/// The last number of a launch key.
+const LAST_NUMBER: u128 = 4_294_967_295;
+
+fn may_number(state: &State, good: &Option<GoodOffers>, count: usize) -> bool
+    ensures { result ≡ may_number count good.now state.now.sides }
+{
+    match good {
+        None => true,
+        Some(good) => state.sides.may_have_numbers(&good.agent, count as u64),
+    }
+}
+
+/// Whether so many and so many more pass a limit.
+fn passes(limit: u128, count: u128, more: u128) -> bool
+    ensures { result ≡ nat_lt limit (count + more) }
+{
+    more > limit || count > limit - more
+}
+
+/// Whether booked tasks, launch keys or the command numbers of the offers' agent would pass their limits.
+fn passes_limits(state: &State, good: &Option<GoodOffers>, count: usize) -> bool
+    ensures { result ≡ passes_limits count good.now state.now }
+{
+    if count > 0 && passes(TASKS_LIMIT, state.sides.booked_count(), count as u128) {
+        return true;
+    }
+    if passes(LAST_NUMBER, u128::from(state.last_key), count as u128) {
+        return true;
+    }
+    !may_number(state, good, count)
+}
+
+/// The offers aren't good: those of them that are current and the framework's own are withdrawn, and each task is answered.
+fn accept_none(
+    state: &mut State,
+    alloc: Global,
+    caller: &Caller,
+    offers: &[OfferId],
+    tasks: &[TaskInfo],
+) -> Result<(), AllocError>
+    ensures { OnOk result (state.new ≡ accepted_none caller.now offers.now tasks.now state.old) }
+{
+    lose_all(state, alloc, caller, tasks)?;
+    state.withdraw_named(caller.framework, offers);
+    Ok(())
+}
+
+/// The offers are good: they are withdrawn, tasks are launched from their sum, and what is left is refused for some seconds.
+fn accept_good(
+    state: &mut State,
+    alloc: Global,
+    caller: &Caller,
+    good: GoodOffers,
+    offers: &[OfferId],
+    tasks: &[TaskInfo],
+    seconds: u32,
+) -> Result<(), AllocError>
+    requires { state.old.last_key + length tasks.now ≤ last_number }
+    ensures { OnOk result (state.new ≡ accepted_good caller.now good offers.now tasks.now seconds state.old) }
+{
+    let framework = caller.framework;
+    let mut progress = Progress {
+        launched: Listed::new(alloc),
+        rest: good.sum,
+        last_key: state.last_key,
+    };
+    take_all(state, alloc, caller, &good.agent, &mut progress, tasks)?;
+    state.sides.withdraw_used(&good.agent, framework, offers);
+    launch_all(
+        state,
+        alloc,
+        &good.agent,
+        offers,
+        progress.launched.as_slice(),
+    )?;
+    let moment = state.moment;
+    state.frameworks.refuse(
+        alloc,
+        framework,
+        moment,
+        seconds,
+        &good.agent,
+        &progress.rest,
+    )
+}
+
+fn accept_as(
+    state: &mut State,
+    alloc: Global,
+    caller: &Caller,
+    good: Option<GoodOffers>,
+    offers: &[OfferId],
+    tasks: &[TaskInfo],
+    seconds: u32,
+) -> Result<(), AllocError>
+    requires { state.old.last_key + length tasks.now ≤ last_number }
+    ensures { OnOk result (state.new ≡ accepted_as caller.now offers.now tasks.now seconds state.old good) }
+{
+    match good {
+        None => accept_none(state, alloc, caller, offers, tasks),
+        Some(good) => accept_good(state, alloc, caller, good, offers, tasks, seconds),
+    }
+}
+
+/// Launches tasks on offers (Mesos scheduler HTTP API, ACCEPT). The offers are good where there are some, none is named twice, and
+/// all are current, the framework's own, and of one agent with an open session. Then they are withdrawn, and each task in order
+/// that isn't held already is launched from what is left of their sum; a task of another agent, one that asks for nothing, and
+/// one that isn't covered are told to be in error; what is left in the end isn't offered to the framework again for so many
+/// seconds. Where the offers aren't good, those that are current and its own are withdrawn, and tasks that aren't held are told to
+/// be lost. A held task is answered its state. Refused as `State::admit` tells, and `M4 LimitExceeded` where more than 65,536 tasks
+/// would be booked, or launch keys or the command numbers of the agent would be spent, if all tasks were launched.
+pub fn accept(
+    state: &mut State,
+    alloc: Global,
+    given: Option<StreamId>,
+    framework: FrameworkId,
+    offers: &[OfferId],
+    tasks: &[TaskInfo],
+    seconds: u32,
+) -> Result<(), MasterFault>
+    ensures { Gave result state.old state.new (called (master_of state.old) given (calls.Accept framework offers.now tasks.now seconds)) }
+{
+    let stream = match state.admit(given, framework) {
+        Ok(stream) => stream,
+        Err(refusal) => return Err(MasterFault::Refused(refusal)),
+    };
+    let _known = state.frameworks.as_slice();
+    state.sides.stand_in_order();
+    let good = state.sides.good_offers(alloc, framework, offers)?;
+    if passes_limits(state, &good, tasks.len()) {
+        return Err(MasterFault::Refused(MasterRefusal::LimitExceeded));
+    }
+    let caller = Caller { framework, stream };
+    match accept_as(state, alloc, &caller, good, offers, tasks, seconds) {
+        Ok(()) => Ok(()),
+        Err(_) => Err(MasterFault::OutOfMemory),
+    }
+}

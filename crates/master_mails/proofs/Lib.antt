@@ -1,0 +1,6 @@
+pub mod Hanging
+pub mod Ticking
+pub mod Naming
+pub mod Losing
+pub mod Mailing
+pub mod Reporting

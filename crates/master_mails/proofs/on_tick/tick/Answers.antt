@@ -1,0 +1,15 @@
+use Rattle.std.proofs.Common.{◌++◌, map, flat_map, ap, ◌∙◌}
+use Rattle.agent_sides.proofs.Joining.{on_ok}
+use Rattle.cluster_model.specs.Mails.{beaten, beats}
+use Rattle.master_state.specs.Works.{run_of, written}
+use Rattle.master_state.proofs.Moves.{moved_so}
+use Rattle.master_mails.proofs.Ticking.{ticked_events, ticked_so, ticked_work}
+use Rattle.master_mails.proofs.on_tick.tick.Goals as goal
+
+pub returns : goal.returns
+returns c =
+    let s = c.args.state.now in
+    on_ok c.send_again.result
+    (λ e. ap (λ mails. ticked_work s c.args.now c.beat.new.self c.tell_beats.new.events (moved_so (run_of s) s.sides mails) s.outs.opened s.outs.closed) e
+    ∙ rw (c.beat.ensures, c.in_ok-tell_beats.ensures, c.as_slice.ensures.items) (ticked_so s c.args.now c.stand_in_order.ensures))
+    c.send_again.ensures

@@ -1,0 +1,2 @@
+pub mod Tells
+pub mod Steps

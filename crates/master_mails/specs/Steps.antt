@@ -1,0 +1,89 @@
+-- What the master does at one agent that is named, and the small steps of it.
+use Rattle.std.specs.declared.alloc.AllocError.{AllocError}
+use Rattle.std.specs.Prelude.{◌≡◌, ◌<◌, ⊤, ℕ, ◌++◌, List, [], ◌∷◌, map, filter, flat_map, fold, Option, Some, None, Result, Ok, Err}
+use Rattle.names_core.specs.Ids.{Numbered}
+use Rattle.mails.specs.declared.mail.AgentMail.{AgentMail}
+use Rattle.mails.specs.declared.mail.AgentMail.TheVariants.{Report, Applied, Update}
+use Rattle.mails.specs.declared.mail.Command.TheVariants.{EndFramework}
+use Rattle.mails.specs.declared.task.Booked.{Booked}
+use Rattle.mails.specs.declared.refusal.MasterRefusal.{MasterRefusal}
+use Rattle.mails.specs.declared.refusal.MasterRefusal.TheVariants.{OtherRun}
+use Rattle.cluster_model.specs.Events.{Told, FAILURE}
+use Rattle.cluster_model.specs.Masters.{Doing, Master, clear_on, nothing, tells_all}
+use Rattle.cluster_model.specs.Mails.{agent_lost, hear_at, is_to_end, mailed}
+use Rattle.cluster_model.specs.Sides.{lost}
+use Rattle.stream_core.specs.Updates.{most_updates}
+use Rattle.agent_sides.specs.Changes.{reporting}
+use Rattle.agent_sides.specs.Looks.{at_name, told_of}
+use Rattle.master_state.specs.Greetings.{greeted}
+use Rattle.master_state.specs.declared.state.State.{State}
+use Rattle.master_state.specs.States.{ordered}
+use Rattle.master_state.specs.Works.{Work, done, master_of, work_of, written}
+use Rattle.master_mails.specs.Tells.{loss_of, rescind_of}
+
+-- what is done when the agent of this name is lost; nothing where it isn't configured
+abbrev pub lost_by : Master → List ℕ → Doing
+lost_by m agent = told_of agent (agent_lost m) (nothing m) m.sides
+
+-- what goes with a mail of the agent of this name; nothing where it isn't configured
+abbrev pub mailed_by : Master → List ℕ → AgentMail → Doing
+mailed_by m agent mail = told_of agent (λ s. mailed m s mail) (nothing m) m.sides
+
+-- what a master holds, once the side of an agent has heard a mail
+abbrev pub having_heard : List ℕ → AgentMail → Work → Work
+having_heard agent mail w = record w { moved = record w.moved { sides = hear_at agent w.moved.run mail w.moved.sides } }
+
+-- an update has a number that an agent's record has room for
+abbrev pub FitsRecord : AgentMail → Type 0
+FitsRecord (Report session number tasks) = ⊤
+FitsRecord (Applied session count) = ⊤
+FitsRecord (Update session key k state ended) = k < most_updates
+
+-- an agent's mail was heard, with what goes with it, and why it is refused is told; where memory was refused nothing is told
+abbrev pub Answered : Result (Option MasterRefusal) AllocError → State → State → List ℕ → AgentMail → Type 0
+Answered (Ok refusal) before after agent mail =
+    (refusal ≡ (mailed_by (master_of before) agent mail).refusal) × (work_of after ≡ done (mailed_by (master_of before) agent mail) (having_heard agent mail (work_of before)))
+Answered (Err e) before after agent mail = ⊤
+
+-- small steps
+
+abbrev pub with_told : List Told → State → State
+with_told ts s = record s { outs = record s.outs { events = s.outs.events ++ map written ts } }
+
+abbrev pub without_filters : List ℕ → State → State
+without_filters agent s = record s { frameworks = map (clear_on agent) s.frameworks }
+
+abbrev pub with_lost : List ℕ → State → State
+with_lost agent s = record s { sides = at_name agent lost s.sides }
+
+-- what is told of an agent's offers and of its booked tasks that aren't reported
+abbrev pub rescinded : List ℕ → State → State
+rescinded agent s = with_told (flat_map (rescind_of s.frameworks) (told_of agent (λ t. t.offers) [] s.sides)) s
+
+abbrev pub with_losses : List ℕ → List Booked → State → State
+with_losses agent reported s = with_told (flat_map (loss_of s.frameworks agent reported) (told_of agent (λ t. t.booked) [] s.sides)) s
+
+abbrev pub with_failures : List ℕ → State → State
+with_failures agent s = with_told (tells_all s.frameworks (FAILURE agent)) s
+
+abbrev pub left : List ℕ → State → State
+left agent s = greeted agent (with_lost agent (without_filters agent (with_failures agent (with_losses agent [] (rescinded agent s)))))
+
+-- a Hello goes with every refusal but that of another run
+abbrev pub turned_away : List ℕ → MasterRefusal → State → State
+turned_away agent OtherRun s = s
+turned_away agent refusal s = greeted agent s
+
+abbrev pub with_report : List ℕ → ℕ → ℕ → List Booked → State → State
+with_report agent session number tasks s = record s { sides = at_name agent (reporting s.run session number tasks) s.sides }
+
+-- the frameworks that were torn down and have reported tasks
+abbrev pub ends_of : List Booked → State → List Numbered
+ends_of tasks s = map (λ f. f.id) (filter (is_to_end (master_of s) tasks) s.frameworks)
+
+abbrev pub ending : List ℕ → State → Numbered → State
+ending agent s framework = ordered agent (EndFramework framework) s
+
+abbrev pub session_opened : List ℕ → ℕ → ℕ → List Booked → State → State
+session_opened agent session number tasks s =
+    fold (ending agent) (with_report agent session number tasks (without_filters agent (with_losses agent tasks (rescinded agent s)))) (ends_of tasks s)

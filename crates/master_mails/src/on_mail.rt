@@ -1,0 +1,129 @@
+//! An agent's mail.
+
+ghost use Rattle.std.specs.Prelude.{◌≡◌, ◌<◌, Some, IfOk, OnOk};
+ghost use Rattle.stream_core.specs.Updates.{most_updates};
+ghost use Rattle.mails.specs.declared.mail.AgentMail.TheVariants.{Applied, Report, Update};
+ghost use Rattle.master_mails.specs.Steps.{Answered, FitsRecord, turned_away};
+
+use crate::opening::open_session;
+use crate::tell;
+use listed::Listed;
+use mails::{AgentMail, Booked, MasterRefusal};
+use master_state::State;
+use names_core::AgentName;
+use offer_book::Heard;
+use std::alloc::{AllocError, Global};
+
+/// A Hello goes with every refusal but that of another run.
+fn turn_away(
+    state: &mut State,
+    alloc: Global,
+    agent: &AgentName,
+    refusal: MasterRefusal,
+) -> Result<Option<MasterRefusal>, AllocError>
+    ensures refusal { IfOk result (λ told. told ≡ Some refusal) }
+    ensures state { OnOk result (state.new ≡ turned_away agent.now refusal state.old) }
+{
+    if refusal != MasterRefusal::OtherRun {
+        state.greet(alloc, agent)?;
+    }
+    Ok(Some(refusal))
+}
+
+fn hear_report(
+    state: &mut State,
+    alloc: Global,
+    agent: &AgentName,
+    session: u32,
+    number: u32,
+    tasks: Listed<Booked>,
+) -> Result<Option<MasterRefusal>, AllocError>
+    ensures { Answered result state.old state.new agent.now (Report session number tasks) }
+{
+    match state.sides.judge_report(agent, state.run, session, number) {
+        Err(refusal) => turn_away(state, alloc, agent, refusal),
+        Ok(false) => Ok(None),
+        Ok(true) => {
+            open_session(state, alloc, agent, session, number, tasks)?;
+            Ok(None)
+        }
+    }
+}
+
+fn hear_applied(
+    state: &mut State,
+    alloc: Global,
+    agent: &AgentName,
+    session: u32,
+    count: u32,
+) -> Result<Option<MasterRefusal>, AllocError>
+    ensures { Answered result state.old state.new agent.now (Applied session count) }
+{
+    if let Some(refusal) = state.sides.judge(agent, session) {
+        return turn_away(state, alloc, agent, refusal);
+    }
+    match state.sides.hear_applied(alloc, agent, session, count) {
+        Ok(()) => Ok(None),
+        Err(_) => Err(AllocError),
+    }
+}
+
+fn hear_update(
+    state: &mut State,
+    alloc: Global,
+    agent: &AgentName,
+    session: u32,
+    update: &Heard,
+) -> Result<Option<MasterRefusal>, AllocError>
+    requires { update.now.k < most_updates }
+    ensures { Answered result state.old state.new agent.now (Update session update.now.key update.now.k update.now.state update.now.ended) }
+{
+    if let Some(refusal) = state.sides.judge(agent, session) {
+        return turn_away(state, alloc, agent, refusal);
+    }
+    let tasks = state.sides.tasks_of(agent);
+    let events = &mut state.outs.events;
+    tell::tell_news(alloc, &state.frameworks, agent, update, tasks, events)?;
+    state.sides.hear_update(agent, session, update);
+    Ok(None)
+}
+
+/// A mail of an agent (Mesos paper, section 3.5). A Report opens a session where it is of this run and above every session that
+/// was open or is closed: the agent's offers are rescinded, its booked tasks that aren't reported are lost, filters on it end,
+/// and the reported tasks are its books. An update goes to the framework of its task, and a count of applied commands lets go
+/// what they end. The answer is why the mail is refused, if it is: `G1 OtherRun` for a Report to a master of another run, and with
+/// a Hello to the agent `G2 OldSession` below the open session, `G3 Closed` where none is open and this one is closed, `G4
+/// NotOpen` where no Report has opened it. Nothing happens where no agent of this name is configured.
+pub fn mail(
+    state: &mut State,
+    alloc: Global,
+    agent: &AgentName,
+    mail: AgentMail,
+) -> Result<Option<MasterRefusal>, AllocError>
+    requires { FitsRecord mail }
+    ensures { Answered result state.old state.new agent.now mail }
+{
+    match mail {
+        AgentMail::Report {
+            session,
+            run,
+            tasks,
+        } => hear_report(state, alloc, agent, session, run, tasks),
+        AgentMail::Applied { session, count } => hear_applied(state, alloc, agent, session, count),
+        AgentMail::Update {
+            session,
+            key,
+            k,
+            state: task_state,
+            ended,
+        } => {
+            let update = Heard {
+                key,
+                k,
+                state: task_state,
+                ended,
+            };
+            hear_update(state, alloc, agent, session, &update)
+        }
+    }
+}

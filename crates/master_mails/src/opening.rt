@@ -1,0 +1,108 @@
+//! A Report opens a session.
+
+ghost use Rattle.std.specs.Prelude.{◌≡◌, ◌++◌, map, filter, fold, IfOk, OnOk};
+ghost use Rattle.std.specs.List.{list_any};
+ghost use Rattle.cluster_model.specs.Ids.{same};
+ghost use Rattle.cluster_model.specs.Mails.{is_to_end};
+ghost use Rattle.master_state.specs.Works.{master_of};
+ghost use Rattle.master_mails.specs.Steps.{ending, ends_of, session_opened};
+
+use crate::tell;
+use listed::Listed;
+use mails::{Booked, Command, Framework};
+use master_state::State;
+use names_core::{AgentName, FrameworkId};
+use std::alloc::{AllocError, Global};
+
+fn has_tasks_of(tasks: &[Booked], framework: FrameworkId) -> bool
+    ensures { result ≡ list_any (λ t. same t.job.framework framework) tasks.now }
+{
+    for task in tasks {
+        let other = task.job.framework;
+        if other.number() == framework.number() && other.run() == framework.run() {
+            return true;
+        }
+    }
+    false
+}
+
+fn is_to_end(state: &State, tasks: &[Booked], framework: &Framework) -> bool
+    ensures { result ≡ is_to_end (master_of state.now) tasks.now framework.now }
+{
+    state.is_torn(framework.id) && has_tasks_of(tasks, framework.id)
+}
+
+fn push_ends(
+    state: &State,
+    tasks: &[Booked],
+    frameworks: &[Framework],
+    ends: &mut Vec<FrameworkId>,
+) -> Result<(), AllocError>
+    ensures { OnOk result (ends.new.items ≡ ends.old.items ++ map (λ f. f.id) (filter (is_to_end (master_of state.now) tasks.now) frameworks.now)) }
+{
+    for framework in frameworks {
+        if is_to_end(state, tasks, framework) {
+            ends.push(framework.id)?;
+        }
+    }
+    Ok(())
+}
+
+/// The frameworks that were torn down in this run and have reported tasks.
+fn frameworks_to_end(
+    state: &State,
+    alloc: Global,
+    tasks: &[Booked],
+) -> Result<Vec<FrameworkId>, AllocError>
+    ensures { IfOk result (λ ends. ends.items ≡ ends_of tasks.now state.now) }
+{
+    let mut ends = Vec::new(alloc);
+    push_ends(state, tasks, state.frameworks.as_slice(), &mut ends)?;
+    Ok(ends)
+}
+
+fn order_ends(
+    state: &mut State,
+    alloc: Global,
+    agent: &AgentName,
+    ends: &[FrameworkId],
+) -> Result<(), AllocError>
+    ensures { OnOk result (state.new ≡ fold (ending agent.now) state.old ends.now) }
+{
+    for framework in ends {
+        let command = Command::EndFramework(*framework);
+        state.order(alloc, agent, command, Command::EndFramework(*framework))?;
+    }
+    Ok(())
+}
+
+/// A Report opens a session: the agent's offers are rescinded, its booked tasks that aren't reported and haven't ended are lost,
+/// filters on it end, its books are the reported tasks, and those of frameworks that were torn down are to end.
+pub fn open_session(
+    state: &mut State,
+    alloc: Global,
+    agent: &AgentName,
+    session: u32,
+    number: u32,
+    tasks: Listed<Booked>,
+) -> Result<(), AllocError>
+    ensures { OnOk result (state.new ≡ session_opened agent.now session number tasks state.old) }
+{
+    let events = &mut state.outs.events;
+    tell::tell_rescinds(&state.frameworks, state.sides.offers_of(agent), events)?;
+    let booked = state.sides.tasks_of(agent);
+    tell::tell_losses(
+        alloc,
+        &state.frameworks,
+        agent,
+        tasks.as_slice(),
+        booked,
+        events,
+    )?;
+    let ends = frameworks_to_end(state, alloc, tasks.as_slice())?;
+    state.frameworks.clear_filters_on(agent);
+    state
+        .sides
+        .hear_report(alloc, agent, state.run, session, number, tasks);
+    order_ends(state, alloc, agent, &ends)
+}

@@ -1,0 +1,263 @@
+//! Events to frameworks, on their open streams.
+
+ghost use Rattle.std.specs.Prelude.{◌≡◌, ◌<◌, ◌&&◌, ◌++◌, map, flat_map, suc, nat_le, IfOk, OnOk};
+ghost use Rattle.cluster_model.specs.Ids.{same};
+ghost use Rattle.cluster_model.specs.Events.{FAILURE, RESCIND};
+ghost use Rattle.cluster_model.specs.Mails.{beats, is_reported};
+ghost use Rattle.cluster_model.specs.Masters.{on_stream, stream_of, tells_all};
+ghost use Rattle.frameworks.specs.Frameworks.{with_id};
+ghost use Rattle.stream_core.specs.Updates.{most_updates};
+ghost use Rattle.master_state.specs.Works.{written};
+ghost use Rattle.master_mails.specs.Tells.{loss_of, lost_event, news, rescind_of, updated_event};
+
+use event_json::{Event, TaskStatus};
+use frameworks::{Frameworks, is_due};
+use listed::Listed;
+use mails::{Booked, Framework, Offer};
+use master_state::StreamEvent;
+use names_core::{AgentName, FrameworkId, LaunchKey, StreamId, TaskState, UpdateId};
+use offer_book::Heard;
+use std::alloc::{AllocError, Global};
+
+fn open_stream_of(frameworks: &Frameworks, framework: FrameworkId) -> Option<StreamId>
+    ensures { result ≡ stream_of (with_id framework frameworks.now) }
+{
+    match frameworks.stream_of(framework) {
+        None => None,
+        Some(stream) => stream,
+    }
+}
+
+fn tell_rescind(
+    frameworks: &Frameworks,
+    offer: &Offer,
+    events: &mut Listed<StreamEvent>,
+) -> Result<(), AllocError>
+    ensures { OnOk result (events.new ≡ events.old ++ map written (rescind_of frameworks.now offer.now)) }
+{
+    match open_stream_of(frameworks, offer.framework) {
+        None => Ok(()),
+        Some(stream) => events.push(StreamEvent {
+            stream,
+            event: Event::Rescind { offer: offer.id },
+        }),
+    }
+}
+
+/// RESCIND of offers goes to their frameworks.
+pub fn tell_rescinds(
+    frameworks: &Frameworks,
+    offers: &[Offer],
+    events: &mut Listed<StreamEvent>,
+) -> Result<(), AllocError>
+    ensures { OnOk result (events.new ≡ events.old ++ map written (flat_map (rescind_of frameworks.now) offers.now)) }
+{
+    for offer in offers {
+        tell_rescind(frameworks, offer, events)?;
+    }
+    Ok(())
+}
+
+fn is_same_key(key: LaunchKey, other: LaunchKey) -> bool
+    ensures { result ≡ same key other }
+{
+    key.number() == other.number() && key.run() == other.run()
+}
+
+fn is_reported(tasks: &[Booked], task: &Booked) -> bool
+    ensures { result ≡ is_reported tasks.now task.now }
+{
+    for other in tasks {
+        if is_same_key(other.job.key, task.job.key) {
+            return true;
+        }
+    }
+    false
+}
+
+fn lost(alloc: Global, agent: &AgentName, task: &Booked) -> Result<Event, AllocError>
+    ensures { IfOk result (λ event. event ≡ lost_event agent.now task.now) }
+{
+    Ok(Event::Update {
+        status: TaskStatus {
+            task: task.job.name.copy(alloc)?,
+            state: TaskState::Lost,
+            agent: Some(agent.copy(alloc)?),
+            update: None,
+        },
+    })
+}
+
+fn tell_loss(
+    alloc: Global,
+    frameworks: &Frameworks,
+    agent: &AgentName,
+    reported: &[Booked],
+    task: &Booked,
+    events: &mut Listed<StreamEvent>,
+) -> Result<(), AllocError>
+    ensures { OnOk result (events.new ≡ events.old ++ map written (loss_of frameworks.now agent.now reported.now task.now)) }
+{
+    if task.ended || is_reported(reported, task) {
+        return Ok(());
+    }
+    match open_stream_of(frameworks, task.job.framework) {
+        None => Ok(()),
+        Some(stream) => {
+            let event = lost(alloc, agent, task)?;
+            events.push(StreamEvent { stream, event })
+        }
+    }
+}
+
+/// TASK_LOST of booked tasks of an agent that haven't ended and aren't reported goes to their frameworks.
+pub fn tell_losses(
+    alloc: Global,
+    frameworks: &Frameworks,
+    agent: &AgentName,
+    reported: &[Booked],
+    tasks: &[Booked],
+    events: &mut Listed<StreamEvent>,
+) -> Result<(), AllocError>
+    ensures { OnOk result (events.new ≡ events.old ++ map written (flat_map (loss_of frameworks.now agent.now reported.now) tasks.now)) }
+{
+    for task in tasks {
+        tell_loss(alloc, frameworks, agent, reported, task, events)?;
+    }
+    Ok(())
+}
+
+fn tell_failure(
+    alloc: Global,
+    agent: &AgentName,
+    framework: &Framework,
+    events: &mut Listed<StreamEvent>,
+) -> Result<(), AllocError>
+    ensures { OnOk result (events.new ≡ events.old ++ map written (on_stream framework.now.stream (FAILURE agent.now))) }
+{
+    match framework.stream {
+        None => Ok(()),
+        Some(stream) => {
+            let agent = agent.copy(alloc)?;
+            events.push(StreamEvent {
+                stream,
+                event: Event::Failure { agent },
+            })
+        }
+    }
+}
+
+/// FAILURE of an agent goes to each subscribed framework.
+pub fn tell_failures(
+    alloc: Global,
+    agent: &AgentName,
+    frameworks: &[Framework],
+    events: &mut Listed<StreamEvent>,
+) -> Result<(), AllocError>
+    ensures { OnOk result (events.new ≡ events.old ++ map written (tells_all frameworks.now (FAILURE agent.now))) }
+{
+    for framework in frameworks {
+        tell_failure(alloc, agent, framework, events)?;
+    }
+    Ok(())
+}
+
+fn tell_beat(
+    now: u32,
+    framework: &Framework,
+    events: &mut Listed<StreamEvent>,
+) -> Result<(), AllocError>
+    ensures { OnOk result (events.new ≡ events.old ++ map written (beats now framework.now)) }
+{
+    if !is_due(framework, now) {
+        return Ok(());
+    }
+    match framework.stream {
+        None => Ok(()),
+        Some(stream) => events.push(StreamEvent {
+            stream,
+            event: Event::Heartbeat,
+        }),
+    }
+}
+
+/// HEARTBEAT goes on each open stream whose last one, or SUBSCRIBED, is 15 seconds ago or more.
+pub fn tell_beats(
+    now: u32,
+    frameworks: &[Framework],
+    events: &mut Listed<StreamEvent>,
+) -> Result<(), AllocError>
+    ensures { OnOk result (events.new ≡ events.old ++ map written (flat_map (beats now) frameworks.now)) }
+{
+    for framework in frameworks {
+        tell_beat(now, framework, events)?;
+    }
+    Ok(())
+}
+
+/// An update is news of a booked task: it has the task's key, and is not older than what was heard.
+fn is_news(task: &Booked, update: &Heard) -> bool
+    ensures { result ≡ (same task.now.job.key update.now.key && nat_le task.now.heard (suc update.now.k)) }
+{
+    is_same_key(task.job.key, update.key) && u64::from(task.heard) <= u64::from(update.k) + 1
+}
+
+fn updated(
+    alloc: Global,
+    agent: &AgentName,
+    task: &Booked,
+    update: &Heard,
+) -> Result<Event, AllocError>
+    requires { update.now.k < most_updates }
+    ensures { IfOk result (λ event. event ≡ updated_event agent.now update.now task.now) }
+{
+    Ok(Event::Update {
+        status: TaskStatus {
+            task: task.job.name.copy(alloc)?,
+            state: update.state,
+            agent: Some(agent.copy(alloc)?),
+            update: Some(UpdateId::new(update.key, update.k as u16)),
+        },
+    })
+}
+
+fn tell_news_of(
+    alloc: Global,
+    frameworks: &Frameworks,
+    agent: &AgentName,
+    update: &Heard,
+    task: &Booked,
+    events: &mut Listed<StreamEvent>,
+) -> Result<(), AllocError>
+    requires { update.now.k < most_updates }
+    ensures { OnOk result (events.new ≡ events.old ++ map written (news frameworks.now agent.now update.now task.now)) }
+{
+    if !is_news(task, update) {
+        return Ok(());
+    }
+    match open_stream_of(frameworks, task.job.framework) {
+        None => Ok(()),
+        Some(stream) => {
+            let event = updated(alloc, agent, task, update)?;
+            events.push(StreamEvent { stream, event })
+        }
+    }
+}
+
+/// An update of a booked task goes to its framework, where it isn't older than what was heard.
+pub fn tell_news(
+    alloc: Global,
+    frameworks: &Frameworks,
+    agent: &AgentName,
+    update: &Heard,
+    tasks: &[Booked],
+    events: &mut Listed<StreamEvent>,
+) -> Result<(), AllocError>
+    requires { update.now.k < most_updates }
+    ensures { OnOk result (events.new ≡ events.old ++ map written (flat_map (news frameworks.now agent.now update.now) tasks.now)) }
+{
+    for task in tasks {
+        tell_news_of(alloc, frameworks, agent, update, task, events)?;
+    }
+    Ok(())
+}

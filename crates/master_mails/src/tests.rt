@@ -1,0 +1,356 @@
+//! What goes out at each step, over a whole state.
+
+use super::*;
+use agent_sides::Config;
+use event_json::write_event;
+use listed::Listed;
+use mails::{AgentMail, Booked, Command, Job, MasterMail, MasterRefusal, Offer, ToAgent};
+use master_state::State;
+use names_core::{
+    AgentName, FrameworkId, LaunchKey, OfferId, RoleName, Run, StreamId, TaskName, TaskState,
+};
+use quantity::Resources;
+use std::alloc::Global;
+use std::test::Fail;
+
+const LOST: &str =
+    "S1-1 {\"type\":\"UPDATE\",\"update\":{\"status\":{\"agent_id\":{\"value\":\"a1\"},\"state\":\"TASK_LOST\",\"task_id\":{\"value\":\"t1\"}}}}\n";
+
+const FAILED: &str = "S1-1 {\"failure\":{\"agent_id\":{\"value\":\"a1\"}},\"type\":\"FAILURE\"}\n";
+
+const RUNNING: &str =
+    "S1-1 {\"type\":\"UPDATE\",\"update\":{\"status\":{\"agent_id\":{\"value\":\"a1\"},\"state\":\"TASK_RUNNING\",\"task_id\":{\"value\":\"t1\"},\"uuid\":\"AAEAAAABgACAAAAAAAAAAA==\"}}}\n";
+
+/// What is asked of an agent.
+fn text_of(alloc: Global, command: &Command) -> Result<String, Fail> {
+    Ok(match command {
+        Command::Launch(job, offers) => {
+            let key = job.key.to_text(alloc)?;
+            format!(in alloc; "Launch {} {}", key, offers.len())?
+        }
+        Command::Kill(key) => {
+            let key = key.to_text(alloc)?;
+            format!(in alloc; "Kill {}", key)?
+        }
+        Command::Ack(key, k) => {
+            let key = key.to_text(alloc)?;
+            format!(in alloc; "Ack {} {}", key, k)?
+        }
+        Command::EndFramework(framework) => {
+            let framework = framework.to_text(alloc)?;
+            format!(in alloc; "EndFramework {}", framework)?
+        }
+    })
+}
+
+fn mail_line(alloc: Global, mail: &ToAgent) -> Result<String, Fail> {
+    let agent = mail.agent.as_text();
+    Ok(match &mail.mail {
+        MasterMail::Hello { run, dead } => {
+            format!(in alloc; "{} Hello({}, {})\n", agent, run, dead)?
+        }
+        MasterMail::Issued {
+            session,
+            number,
+            command,
+        } => {
+            let command = text_of(alloc, command)?;
+            format!(in alloc; "{} Cmd({}, {}, {})\n", agent, session, number, command)?
+        }
+    })
+}
+
+/// What went out so far, a line each: events, then closed streams, then mails.
+fn lines(alloc: Global, state: &mut State) -> Result<String, Fail> {
+    let outs = state.take_outs(alloc);
+    let mut text = String::new(alloc);
+    for event in outs.events.as_slice() {
+        let stream = event.stream.to_text(alloc)?;
+        let written = write_event(alloc, &event.event)?;
+        let event = std::str::from_utf8(&written)?;
+        text.push_str(&format!(in alloc; "{} {}\n", stream, event)?)?;
+    }
+    for stream in outs.closed.as_slice() {
+        let stream = stream.to_text(alloc)?;
+        text.push_str(&format!(in alloc; "{} closed\n", stream)?)?;
+    }
+    for mail in outs.mails.as_slice() {
+        text.push_str(&mail_line(alloc, mail)?)?;
+    }
+    Ok(text)
+}
+
+/// Whether this, and no more, went out.
+fn tells(alloc: Global, state: &mut State, text: &str) -> Result<bool, Fail> {
+    let told = lines(alloc, state)?;
+    Ok(told.as_str() == text)
+}
+
+fn cpus(alloc: Global, amount: u64) -> Result<Resources, Fail> {
+    let mut resources = Resources::new(alloc);
+    resources.add(alloc, "cpus", amount)?;
+    Ok(resources)
+}
+
+fn named(alloc: Global, name: &str) -> Result<AgentName, Fail> {
+    Ok(AgentName::from_text(alloc, name)?)
+}
+
+/// Agents a1 and a2 of run 1, none of which has reported.
+fn two_agents(alloc: Global) -> Result<State, Fail> {
+    let mut config = Config::new(alloc);
+    config.add(named(alloc, "a1")?, cpus(alloc, 4)?)?;
+    config.add(named(alloc, "a2")?, cpus(alloc, 4)?)?;
+    Ok(State::new(alloc, Run::new(1), &config)?)
+}
+
+/// Task t1 of F1-1 under L1-1, of which nothing was heard.
+fn task(alloc: Global) -> Result<Booked, Fail> {
+    let job = Job {
+        key: LaunchKey::new(1, 1),
+        framework: FrameworkId::new(1, 1),
+        name: TaskName::from_text(alloc, "t1")?,
+        resources: cpus(alloc, 1)?,
+    };
+    Ok(Booked {
+        job,
+        ended: false,
+        heard: 0,
+        state: TaskState::Staging,
+    })
+}
+
+/// F1-1 subscribes on S1-1 at moment 0.
+fn subscribe(alloc: Global, state: &mut State) -> Result<(), Fail> {
+    let role = RoleName::from_text(alloc, "*")?;
+    let stream = StreamId::new(1, 1);
+    state
+        .frameworks
+        .subscribe(alloc, FrameworkId::new(1, 1), role, stream, 0)?;
+    Ok(())
+}
+
+/// A Report of a1, with these tasks.
+fn report(
+    alloc: Global,
+    state: &mut State,
+    session: u32,
+    run: u32,
+    tasks: Listed<Booked>,
+) -> Result<Option<MasterRefusal>, Fail> {
+    let agent = named(alloc, "a1")?;
+    let mail_of = AgentMail::Report {
+        session,
+        run,
+        tasks,
+    };
+    Ok(mail(state, alloc, &agent, mail_of)?)
+}
+
+fn one(task: Booked, alloc: Global) -> Result<Listed<Booked>, Fail> {
+    let mut tasks = Listed::new(alloc);
+    tasks.push(task)?;
+    Ok(tasks)
+}
+
+/// Session 1 of a1 is open, F1-1 is subscribed on S1-1, and t1 is booked on a1 under L1-1.
+fn running(alloc: Global) -> Result<State, Fail> {
+    let mut state = two_agents(alloc)?;
+    report(alloc, &mut state, 1, 1, Listed::new(alloc))?;
+    subscribe(alloc, &mut state)?;
+    state.sides.book_at(0, task(alloc)?)?;
+    Ok(state)
+}
+
+/// Session 3 of a1 is open, after session 1.
+fn in_session_3(alloc: Global) -> Result<State, Fail> {
+    let mut state = two_agents(alloc)?;
+    report(alloc, &mut state, 1, 1, Listed::new(alloc))?;
+    report(alloc, &mut state, 3, 1, Listed::new(alloc))?;
+    Ok(state)
+}
+
+#[test]
+fn sessions_rise(rt: HostRuntime) -> Result<(), Fail> {
+    let alloc = rt.alloc();
+    let mut state = two_agents(alloc)?;
+    tick(&mut state, alloc, 0)?;
+    assert!(rt; tells(alloc, &mut state, "a1 Hello(1, 0)\na2 Hello(1, 0)\n")?);
+    assert!(rt; report(alloc, &mut state, 1, 1, Listed::new(alloc))? == None);
+    assert!(rt; report(alloc, &mut state, 3, 1, Listed::new(alloc))? == None);
+    assert!(rt; tells(alloc, &mut state, "")?);
+    Ok(())
+}
+
+#[test]
+fn an_old_session_is_refused(rt: HostRuntime) -> Result<(), Fail> {
+    let alloc = rt.alloc();
+    let mut state = in_session_3(alloc)?;
+    let old = report(alloc, &mut state, 2, 1, Listed::new(alloc))?;
+    assert!(rt; old == Some(MasterRefusal::OldSession));
+    assert!(rt; tells(alloc, &mut state, "a1 Hello(1, 1)\n")?);
+    Ok(())
+}
+
+#[test]
+fn a_session_that_is_not_open_is_refused(rt: HostRuntime) -> Result<(), Fail> {
+    let alloc = rt.alloc();
+    let mut state = in_session_3(alloc)?;
+    let count = AgentMail::Applied {
+        session: 4,
+        count: 0,
+    };
+    let refused = mail(&mut state, alloc, &named(alloc, "a1")?, count)?;
+    assert!(rt; refused == Some(MasterRefusal::NotOpen));
+    assert!(rt; tells(alloc, &mut state, "a1 Hello(1, 1)\n")?);
+    Ok(())
+}
+
+#[test]
+fn another_run_is_refused_without_hello(rt: HostRuntime) -> Result<(), Fail> {
+    let alloc = rt.alloc();
+    let mut state = in_session_3(alloc)?;
+    let other = report(alloc, &mut state, 3, 2, Listed::new(alloc))?;
+    assert!(rt; other == Some(MasterRefusal::OtherRun));
+    assert!(rt; tells(alloc, &mut state, "")?);
+    Ok(())
+}
+
+#[test]
+fn a_lost_agent_leaves_the_books(rt: HostRuntime) -> Result<(), Fail> {
+    let alloc = rt.alloc();
+    let mut state = running(alloc)?;
+    assert!(rt; report(alloc, &mut state, 1, 1, Listed::new(alloc))? == None);
+    assert!(rt; tells(alloc, &mut state, "")?);
+    lose_agent(&mut state, alloc, &named(alloc, "a1")?)?;
+    let text = format!(in alloc; "{}{}a1 Hello(1, 1)\n", LOST, FAILED)?;
+    assert!(rt; tells(alloc, &mut state, text.as_str())?);
+    assert!(rt; state.sides.booked_count() == 0);
+    Ok(())
+}
+
+#[test]
+fn a_closed_session_is_refused(rt: HostRuntime) -> Result<(), Fail> {
+    let alloc = rt.alloc();
+    let mut state = two_agents(alloc)?;
+    let agent = named(alloc, "a1")?;
+    report(alloc, &mut state, 1, 1, Listed::new(alloc))?;
+    lose_agent(&mut state, alloc, &agent)?;
+    lose_agent(&mut state, alloc, &agent)?;
+    let again = report(alloc, &mut state, 1, 1, Listed::new(alloc))?;
+    assert!(rt; again == Some(MasterRefusal::Closed));
+    assert!(rt; tells(alloc, &mut state, "a1 Hello(1, 1)\na1 Hello(1, 1)\n")?);
+    Ok(())
+}
+
+/// The first or the second update of the task of this key on a1, in session 1: it runs, and has ended.
+fn update(
+    alloc: Global,
+    state: &mut State,
+    key: LaunchKey,
+    is_second: bool,
+) -> Result<Option<MasterRefusal>, Fail> {
+    let agent = named(alloc, "a1")?;
+    let k = if is_second { 1 } else { 0 };
+    let mail_of = AgentMail::Update {
+        session: 1,
+        key,
+        k,
+        state: TaskState::Running,
+        ended: true,
+    };
+    Ok(mail(state, alloc, &agent, mail_of)?)
+}
+
+#[test]
+fn an_update_goes_to_its_framework(rt: HostRuntime) -> Result<(), Fail> {
+    let alloc = rt.alloc();
+    let mut state = running(alloc)?;
+    assert!(rt; update(alloc, &mut state, LaunchKey::new(1, 1), false)? == None);
+    assert!(rt; tells(alloc, &mut state, RUNNING)?);
+    assert!(rt; update(alloc, &mut state, LaunchKey::new(1, 1), false)? == None);
+    assert!(rt; tells(alloc, &mut state, RUNNING)?);
+    assert!(rt; update(alloc, &mut state, LaunchKey::new(1, 1), true)? == None);
+    let _later = lines(alloc, &mut state)?;
+    assert!(rt; update(alloc, &mut state, LaunchKey::new(1, 1), false)? == None);
+    assert!(rt; tells(alloc, &mut state, "")?);
+    Ok(())
+}
+
+#[test]
+fn an_old_update_leaves_the_new_task(rt: HostRuntime) -> Result<(), Fail> {
+    let alloc = rt.alloc();
+    let mut state = running(alloc)?;
+    assert!(rt; update(alloc, &mut state, LaunchKey::new(1, 2), true)? == None);
+    assert!(rt; tells(alloc, &mut state, "")?);
+    let agent = named(alloc, "a1")?;
+    let task = state.sides.tasks_of(&agent).first().ok_or("no task")?;
+    assert!(rt; !task.ended);
+    Ok(())
+}
+
+#[test]
+fn a_stream_beats_and_the_oldest_command_goes_again(rt: HostRuntime) -> Result<(), Fail> {
+    let alloc = rt.alloc();
+    let mut state = running(alloc)?;
+    tick(&mut state, alloc, 14)?;
+    assert!(rt; tells(alloc, &mut state, "a2 Hello(1, 0)\n")?);
+    let key = LaunchKey::new(1, 1);
+    let agent = named(alloc, "a1")?;
+    state.order(alloc, &agent, Command::Kill(key), Command::Kill(key))?;
+    state.order(alloc, &agent, Command::Ack(key, 0), Command::Ack(key, 0))?;
+    let _sent = lines(alloc, &mut state)?;
+    tick(&mut state, alloc, 15)?;
+    let beat = "S1-1 {\"type\":\"HEARTBEAT\"}\na1 Cmd(1, 1, Kill L1-1)\na2 Hello(1, 0)\n";
+    assert!(rt; tells(alloc, &mut state, beat)?);
+    tick(&mut state, alloc, 20)?;
+    assert!(rt;
+        tells(
+            alloc,
+            &mut state,
+            "a1 Cmd(1, 1, Kill L1-1)\na2 Hello(1, 0)\n"
+        )?
+    );
+    Ok(())
+}
+
+#[test]
+fn a_new_session_loses_what_is_not_reported(rt: HostRuntime) -> Result<(), Fail> {
+    let alloc = rt.alloc();
+    let mut state = running(alloc)?;
+    let offer = Offer {
+        id: OfferId::new(1, 1),
+        framework: FrameworkId::new(1, 1),
+        resources: cpus(alloc, 2)?,
+    };
+    state.sides.offer_at(alloc, 0, offer)?;
+    assert!(rt; report(alloc, &mut state, 2, 1, Listed::new(alloc))? == None);
+    let rescind = "S1-1 {\"rescind\":{\"offer_id\":{\"value\":\"O1-1\"}},\"type\":\"RESCIND\"}\n";
+    let text = format!(in alloc; "{}{}", rescind, LOST)?;
+    assert!(rt; tells(alloc, &mut state, text.as_str())?);
+    assert!(rt; state.sides.booked_count() == 0);
+    Ok(())
+}
+
+#[test]
+fn tasks_of_a_framework_that_was_torn_down_are_to_end(rt: HostRuntime) -> Result<(), Fail> {
+    let alloc = rt.alloc();
+    let mut state = running(alloc)?;
+    let stream = StreamId::new(1, 1);
+    hang_up(&mut state, stream)?;
+    hang_up(&mut state, stream)?;
+    assert!(rt; tells(alloc, &mut state, "S1-1 closed\n")?);
+    state.torn.push(FrameworkId::new(1, 1))?;
+    let tasks = one(task(alloc)?, alloc)?;
+    assert!(rt; report(alloc, &mut state, 2, 1, tasks)? == None);
+    assert!(rt; tells(alloc, &mut state, "a1 Cmd(2, 1, EndFramework F1-1)\n")?);
+    assert!(rt; state.sides.booked_count() == 1);
+    let agent = named(alloc, "a1")?;
+    let count = AgentMail::Applied {
+        session: 2,
+        count: 1,
+    };
+    assert!(rt; mail(&mut state, alloc, &agent, count)? == None);
+    assert!(rt; state.sides.booked_count() == 0);
+    Ok(())
+}

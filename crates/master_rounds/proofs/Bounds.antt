@@ -1,0 +1,148 @@
+-- How much all that is held can be.
+use Rattle.std.proofs.Common.{◌≡◌, ◌⊎◌, ℕ, suc, ◌+◌, ◌-◌, ◌*◌, ◌<◌, ◌≤◌, ◌^◌, Bool, true, false, cond, List, [], ◌∷◌, ◌++◌, map, flat_map, fold, length, Option, Some, None, refl, sym, ap, ◌∙◌, subst, arith, inl, inr, zero-le}
+use Rattle.std.specs.Prelude.{if◌then◌else◌, nat_lt}
+use Rattle.std.specs.List.{AllByRecursion}
+use Rattle.names_core.specs.Ids.{Numbered}
+use Rattle.quantity.specs.declared.rows.Row.{Row}
+use Rattle.quantity.specs.Rows.{AreRows, IsRow, amount, greatest_amount, rest_of}
+use Rattle.quantity.specs.Merging.{count_below, front_amount, rows_from}
+use Rattle.quantity.proofs.Amounts.{amount-append}
+use Rattle.quantity.proofs.Rests.{rests_are_less}
+use Rattle.quantity.proofs.Walks.{all_drop, front_is, front_small}
+use Rattle.mails.specs.declared.task.Job.{Job}
+use Rattle.mails.specs.declared.task.Offer.{Offer}
+use Rattle.cluster_model.specs.Ids.{following, last_number}
+use Rattle.cluster_model.specs.Sides.{Side, job_rows, offer_rows, taken, unended}
+use Rattle.cluster_model.specs.Events.{MadeOffer}
+use Rattle.cluster_model.specs.Masters.{Master}
+use Rattle.cluster_model.specs.Rounds.{Client, Round, free, offers_free, offers_to, pick, totals_of, visits}
+use Rattle.frameworks.specs.Frameworks.{are_ordered}
+use Rattle.side_fits.specs.Fits.{AllFitTotals, FitsTotal, most_sides}
+use Rattle.round_shares.specs.Gifts.{all_rows, gifts_of, gifts_with, job_gift, made_gift, offer_gift, side_gifts}
+use Rattle.round_shares.specs.Laws.{AddUp, CanBeSummed}
+use Rattle.round_shares.proofs.Rows.{all-append}
+
+abbrev pub HaveRows : List Side → Type 0
+HaveRows ss = AllByRecursion (λ s. AreRows s.total) ss
+
+-- what all agents own
+abbrev pub total_rows : List Side → List Row
+total_rows ss = flat_map (λ s. s.total) ss
+
+amount_small : (name : List ℕ) (rows : List Row) → AreRows rows → amount name rows ≤ greatest_amount
+amount_small name rows are = subst (λ n. n ≤ greatest_amount) (front_is name rows are.ordered) (front_small name (rows_from name rows) (all_drop IsRow (count_below name rows) rows are.each))
+
+total_one : (name : List ℕ) (s : Side) (ss : List Side) → amount name (total_rows (s ∷ ss)) ≡ amount name s.total + amount name (total_rows ss)
+total_one name s ss = amount-append name s.total (total_rows ss)
+
+total_small : (name : List ℕ) (ss : List Side) → HaveRows ss → amount name (total_rows ss) ≤ 1099511627776 * length ss
+total_small name [] rows = zero-le
+total_small name (s ∷ ss) rows =
+    let one : amount name s.total ≤ 1099511627776 = amount_small name s.total rows.0 in
+    omega (arith, total_one name s ss, one, total_small name ss rows.1)
+
+-- what is held on an agent is what is taken of it
+
+offers_held : (os : List Offer) → all_rows (map offer_gift os) ≡ offer_rows os
+offers_held [] = refl
+offers_held (o ∷ os) = ap (λ rows. o.resources ++ rows) (offers_held os)
+
+jobs_held : (js : List Job) → all_rows (map job_gift js) ≡ job_rows js
+jobs_held [] = refl
+jobs_held (j ∷ js) = ap (λ rows. j.resources ++ rows) (jobs_held js)
+
+side_held : (s : Side) → all_rows (side_gifts s) ≡ taken s
+side_held s =
+    all-append (map offer_gift s.offers) (map job_gift (unended s.booked))
+    ∙ ap (λ rows. rows ++ all_rows (map job_gift (unended s.booked))) (offers_held s.offers)
+    ∙ ap (λ rows. offer_rows s.offers ++ rows) (jobs_held (unended s.booked))
+
+all_held : (name : List ℕ) (ss : List Side) → AllFitTotals ss → amount name (all_rows (gifts_of ss)) ≤ amount name (total_rows ss)
+all_held name [] fits = zero-le
+all_held name (s ∷ ss) fits =
+    omega (arith, ap (amount name) (all-append (side_gifts s) (gifts_of ss)), amount-append name (all_rows (side_gifts s)) (all_rows (gifts_of ss)), ap (amount name) (side_held s), fits.0 name, total_one name s ss, all_held name ss fits.1)
+
+owned_held : (name : List ℕ) (ss : List Side) → amount name (flat_map (λ s. if s.is_open then s.total else []) ss) ≤ amount name (total_rows ss)
+owned_held name [] = zero-le
+owned_held name (s ∷ ss) = omega (arith, total_one name s ss, by s.is_open (owned_held name ss))
+  where
+    rest : List Row
+    rest = flat_map (λ t. if t.is_open then t.total else []) ss
+
+    by : (b : Bool) → amount name (flat_map (λ t. if t.is_open then t.total else []) ss) ≤ amount name (total_rows ss)
+        → amount name ((if b then s.total else []) ++ flat_map (λ t. if t.is_open then t.total else []) ss) ≤ amount name s.total + amount name (total_rows ss)
+    by true ih = omega (arith, amount-append name s.total (flat_map (λ t. if t.is_open then t.total else []) ss), ih)
+    by false ih = omega (arith, ih)
+
+-- a visit of an agent
+
+abbrev pub made_at : Side → Numbered → Numbered → MadeOffer
+made_at s id f = record { agent = s.name; offer = record { id = id; framework = f; resources = free s } }
+
+abbrev pub more : Round → Side → Numbered → Round
+more r s f = record { made = r.made ++ made_at s r.next f ∷ []; next = following r.next }
+
+-- nothing is offered there, or all that is free goes to a framework
+abbrev pub Visited : Round → Side → Round → Type 0
+Visited r s after = (after ≡ r) ⊎ ((f : Numbered) × (s.is_open ≡ true) × (after ≡ more r s f))
+
+abbrev more_rows : Round → Side → Numbered → List Row → Round
+more_rows r s f rows = record { made = r.made ++ record { agent = s.name; offer = record { id = r.next; framework = f; resources = rows } } ∷ []; next = following r.next }
+
+picked_visited : (r : Round) (s : Side) (rows : List Row) (o : Option Client) → rows ≡ free s → s.is_open ≡ true → Visited r s (offers_to r s.name rows o)
+picked_visited r s rows None e is = inl refl
+picked_visited r s rows (Some c) e is = inr (c.framework.id, is, ap (more_rows r s c.framework.id) e)
+
+free_visited : (now : ℕ) (totals : List Row) (cs : List Client) (r : Round) (s : Side) (rows : List Row) → rows ≡ free s → s.is_open ≡ true → Visited r s (offers_free now totals cs r s.name rows)
+free_visited now totals cs r s [] e is = inl refl
+free_visited now totals cs r s (row ∷ rows) e is = by (nat_lt last_number r.next.n)
+  where
+    by : (b : Bool) → Visited r s (if b then r else offers_to r s.name (row ∷ rows) (pick now totals cs r.made s.name (row ∷ rows)))
+    by true = inl refl
+    by false = picked_visited r s (row ∷ rows) (pick now totals cs r.made s.name (row ∷ rows)) e is
+
+pub visited : (now : ℕ) (totals : List Row) (cs : List Client) (r : Round) (s : Side) → Visited r s (visits now totals cs r s)
+visited now totals cs r s = by s.is_open refl
+  where
+    by : (b : Bool) → s.is_open ≡ b → Visited r s (if b then offers_free now totals cs r s.name (free s) else r)
+    by true e = free_visited now totals cs r s (free s) refl e
+    by false e = inl refl
+
+-- how much a round gives
+
+abbrev pub made_rows : List MadeOffer → List Row
+made_rows made = all_rows (map made_gift made)
+
+made_append : (made : List MadeOffer) (g : MadeOffer) → made_rows (made ++ g ∷ []) ≡ made_rows made ++ made_rows (g ∷ [])
+made_append [] g = refl
+made_append (h ∷ made) g = ap (λ rows. h.offer.resources ++ rows) (made_append made g) ∙ sym (together h.offer.resources (made_rows made) (made_rows (g ∷ [])))
+  where
+    together : (xs ys zs : List Row) → (xs ++ ys) ++ zs ≡ xs ++ (ys ++ zs)
+    together [] ys zs = refl
+    together (x ∷ xs) ys zs = ap (λ rows. x ∷ rows) (together xs ys zs)
+
+made_one : (name : List ℕ) (made : List MadeOffer) (g : MadeOffer) → amount name (made_rows (made ++ g ∷ [])) ≡ amount name (made_rows made) + amount name g.offer.resources
+made_one name made g = omega (arith, ap (amount name) (made_append made g), amount-append name (made_rows made) (made_rows (g ∷ [])), amount-append name g.offer.resources [])
+
+free_less : (name : List ℕ) (s : Side) → AreRows s.total → amount name (free s) ≤ amount name s.total
+free_less name s are = omega (arith, rests_are_less s.total (taken s) are name)
+
+made_less : (name : List ℕ) (r : Round) (s : Side) (after : Round) → AreRows s.total → Visited r s after → amount name (made_rows after.made) ≤ amount name (made_rows r.made) + amount name s.total
+made_less name r s after are (inl e) = omega (arith, ap (λ (x : Round). amount name (made_rows x.made)) e)
+made_less name r s after are (inr v) = omega (arith, ap (λ (x : Round). amount name (made_rows x.made)) v.2, made_one name r.made (made_at s r.next v.0), free_less name s are)
+
+-- what was given, and what the agents that weren't visited own, is no more than all own
+abbrev pub Within : Master → Round → List Side → Type 0
+Within m r ss = (name : List ℕ) → amount name (made_rows r.made) + amount name (total_rows ss) ≤ amount name (total_rows m.sides)
+
+pub within_next : (m : Master) (r : Round) (s : Side) (ss : List Side) (after : Round) → AreRows s.total → Visited r s after → Within m r (s ∷ ss) → Within m after ss
+within_next m r s ss after are v w name = omega (arith, w name, total_one name s ss, made_less name r s after are v)
+
+-- so all can be summed
+pub can_be_summed : (m : Master) (r : Round) (ss : List Side) → are_ordered m.registers.frameworks ≡ true → HaveRows m.sides → AllFitTotals m.sides → length m.sides ≤ most_sides → Within m r ss → CanBeSummed m r.made
+can_be_summed m r ss ordered rows fits few w = record {
+  ordered = ordered;
+  rows = rows;
+  totals = λ name. omega (arith, owned_held name m.sides, total_small name m.sides rows, few);
+  held = λ name. omega (arith, ap (amount name) (all-append (gifts_of m.sides) (map made_gift r.made)), amount-append name (all_rows (gifts_of m.sides)) (made_rows r.made), all_held name m.sides fits, total_small name m.sides rows, few, w name);
+}

@@ -1,0 +1,6 @@
+pub mod Visiting
+pub mod Bounds
+pub mod Agreeing
+pub mod Making
+pub mod Telling
+pub mod Starting

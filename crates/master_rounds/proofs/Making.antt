@@ -1,0 +1,176 @@
+-- All offers of a round are made at their agents.
+use Rattle.std.proofs.Common.{◌≡◌, ◌⊎◌, ℕ, zero, suc, ◌+◌, ◌-◌, ◌<◌, ◌≤◌, Bool, true, false, ◌&&◌, ◌||◌, ◌==◌, cond, List, [], ◌∷◌, ◌++◌, map, drop, fold, length, refl, sym, ap, ◌∙◌, subst, arith, inl, inr, bytes_eq, append_assoc, append-nil}
+use Rattle.std.specs.List.{AllByRecursion, list_all, list_any}
+use Rattle.std.proofs.lemmas.Bool.Decides.{nat_tests}
+use Rattle.names_core.specs.Ids.{Numbered}
+use Rattle.quantity.specs.declared.rows.Row.{Row}
+use Rattle.quantity.specs.Rows.{AreRows, amount, covers}
+use Rattle.quantity.specs.Laws.{AtLeast}
+use Rattle.quantity.proofs.Amounts.{amount-append, covers_is_at_least}
+use Rattle.quantity.proofs.Rests.{rests_are_less}
+use Rattle.mails.specs.declared.task.Offer.{Offer}
+use Rattle.mails.specs.declared.mail.ToAgent.{ToAgent}
+use Rattle.event_json.specs.declared.offer.Offer as json_offer
+use Rattle.cluster_model.specs.Ids.{before, bytes_before, following, same}
+use Rattle.cluster_model.specs.Sides.{MakeOffer, Run, Side, Sending, may_offer, offered, sends_nothing, taken}
+use Rattle.cluster_model.specs.Events.{MadeOffer}
+use Rattle.cluster_model.specs.Masters.{AtSide, Move, Moved, at_side, at_this_side, move, move_all, past_side, sending_more}
+use Rattle.cluster_model.specs.Rounds.{Client, Round, entered, entered_on, free, visits}
+use Rattle.agent_sides.specs.Changes.{offering}
+use Rattle.agent_sides.specs.Configs.{are_ordered}
+use Rattle.agent_sides.specs.Joined.{side_names}
+use Rattle.agent_sides.specs.Looks.{at_name}
+use Rattle.side_fits.specs.Fits.{AllFitTotals, FitsTotal, OffersBefore}
+use Rattle.side_fits.proofs.Numbering.{Goes, sides_later}
+use Rattle.round_shares.proofs.Rows.{same_itself}
+use Rattle.master_state.specs.Works.{offer_of}
+use Rattle.master_state.proofs.Doings.{none_more}
+use Rattle.master_state.proofs.Moves.{before_differs, both_true, itself, moved_so}
+use Rattle.master_rounds.specs.News.{offers_all, offers_at, plain}
+use Rattle.master_rounds.proofs.Bounds.{HaveRows, Visited, made_at, more, visited}
+
+abbrev pub offer_move : MadeOffer → Move
+offer_move g = AtSide g.agent (MakeOffer g.offer)
+
+abbrev pub with_next : Numbered → Run → Run
+with_next next run = record run { next_offer = next }
+
+abbrev with_offer : Offer → Side → Side
+with_offer o s = record s { offers = s.offers ++ o ∷ [] }
+
+-- an offer of what is free fits, and its id is new
+
+free_covered : (s : Side) → AreRows s.total → FitsTotal s → covers s.total (free s ++ taken s) ≡ true
+free_covered s are fits = (covers_is_at_least s.total (free s ++ taken s)).1 (λ name. omega (arith, amount-append name (free s) (taken s), rests_are_less s.total (taken s) are name, fits name))
+
+no_id : (next : Numbered) (os : List Offer) → AllByRecursion (λ o. before o.id next ≡ true) os → list_any (λ o. same o.id next) os ≡ false
+no_id next [] h = refl
+no_id next (o ∷ os) h =
+    let is : before o.id next ≡ true = h.0 in
+    let other : same o.id next ≡ false = grind (arith, nat_tests) in
+    rw other (no_id next os h.1)
+
+model_makes : (run : Run) (s : Side) (f : Numbered) (id : Numbered) → AreRows s.total → FitsTotal s → s.is_open ≡ true → run.next_offer ≡ id
+    → offered run s (made_at s id f).offer ≡ sends_nothing (with_next (following id) run) (with_offer (made_at s id f).offer s)
+model_makes run s f id are fits is e =
+    ap (λ b. cond b (sends_nothing (with_next (following id) run) (with_offer (made_at s id f).offer s)) (sends_nothing run s)) test
+  where
+    test : may_offer run s (made_at s id f).offer ≡ true
+    test = rw (is, e) (rw (same_itself id) (free_covered s are fits))
+
+code_makes : (s : Side) (f : Numbered) (id : Numbered) → AreRows s.total → FitsTotal s → OffersBefore id s → offering (made_at s id f).offer s ≡ with_offer (made_at s id f).offer s
+code_makes s f id are fits below = rw (no_id id s.offers below, free_covered s are fits) refl
+
+-- what was made at other agents passes this one
+
+abbrev Others : List ℕ → List MadeOffer → Type 0
+Others name gs = AllByRecursion (λ g. bytes_eq name g.agent ≡ false) gs
+
+passes : (s : Side) (g : MadeOffer) (x : Moved) → bytes_eq s.name g.agent ≡ false → move (past_side s x) (offer_move g) ≡ past_side s (move x (offer_move g))
+passes s g x other = rw other refl
+
+pass_all : (s : Side) (gs : List MadeOffer) (x : Moved) → Others s.name gs → move_all (map offer_move gs) (past_side s x) ≡ past_side s (move_all (map offer_move gs) x)
+pass_all s [] x others = refl
+pass_all s (g ∷ gs) x others = ap (move_all (map offer_move gs)) (passes s g x others.0) ∙ pass_all s gs (move x (offer_move g)) others.1
+
+code_passes : (s : Side) (gs : List MadeOffer) (ss : List Side) → Others s.name gs → offers_all (map offer_of gs) (s ∷ ss) ≡ s ∷ offers_all (map offer_of gs) ss
+code_passes s [] ss others = refl
+code_passes s (g ∷ gs) ss others = ap (offers_all (map offer_of gs)) (one others.0) ∙ code_passes s gs (offers_at ss (offer_of g)) others.1
+  where
+    one : bytes_eq s.name g.agent ≡ false → offers_at (s ∷ ss) (offer_of g) ≡ s ∷ offers_at ss (offer_of g)
+    one other = rw other refl
+
+-- which offers entered
+
+drop_front : (os : List Offer) (o : Offer) → drop (length os) (os ++ o ∷ []) ≡ o ∷ []
+drop_front [] o = refl
+drop_front (p ∷ os) o = drop_front os o
+
+drop_own : (os : List Offer) → drop (length os) os ≡ []
+drop_own [] = refl
+drop_own (o ∷ os) = drop_own os
+
+abbrev made_on : List ℕ → List Offer → List MadeOffer
+made_on agent os = map (λ o. record { agent = agent; offer = o }) os
+
+-- what is made of a round, from some agents on
+pub record Made (r : Round) (ss : List Side) (after : Round) : Type 0 where
+  pub gs : List MadeOffer
+  pub news : List Side
+  pub made : after.made ≡ r.made ++ gs
+  pub moves : (run : Run) (sent : List ToAgent) → run.next_offer ≡ r.next → move_all (map offer_move gs) (moved_so run ss sent) ≡ moved_so (with_next after.next run) news sent
+  pub code : offers_all (map offer_of gs) ss ≡ news
+  pub entered_are : entered ss news ≡ gs
+  pub few : length gs ≤ length ss
+  pub others : (name : List ℕ) → list_all (bytes_before name) (side_names ss) ≡ true → Others name gs
+
+nothing_made : (r : Round) → Made r [] r
+nothing_made r = record {
+  gs = [];
+  news = [];
+  made = sym (append-nil r.made);
+  moves = λ run sent e. ap (λ id. moved_so (with_next id run) [] sent) e;
+  code = refl;
+  entered_are = refl;
+  few = omega arith;
+  others = λ name h. tt;
+}
+
+-- nothing is offered at the first agent
+passed_over : (r : Round) (s : Side) (ss : List Side) (next after : Round) → next ≡ r → list_all (bytes_before s.name) (side_names ss) ≡ true → Made next ss after → Made r (s ∷ ss) after
+passed_over r s ss next after e behind k = record {
+  gs = k.gs;
+  news = s ∷ k.news;
+  made = k.made ∙ ap (λ (x : Round). x.made ++ k.gs) e;
+  moves = λ run sent is. pass_all s k.gs (moved_so run ss sent) (k.others s.name behind) ∙ ap (past_side s) (k.moves run sent (is ∙ ap (λ (x : Round). x.next) (sym e)));
+  code = code_passes s k.gs ss (k.others s.name behind) ∙ ap (λ ts. s ∷ ts) k.code;
+  entered_are = ap (λ os. made_on s.name os ++ entered ss k.news) (drop_own s.offers) ∙ k.entered_are;
+  few = omega (arith, k.few);
+  others = λ name h. k.others name (both_true (bytes_before name s.name) (list_all (bytes_before name) (side_names ss)) h).1;
+}
+
+-- what is free at the first agent is offered
+made_first : (r : Round) (s : Side) (ss : List Side) (f : Numbered) (next after : Round) → AreRows s.total → FitsTotal s → OffersBefore r.next s → s.is_open ≡ true → next ≡ more r s f
+    → list_all (bytes_before s.name) (side_names ss) ≡ true → Made next ss after → Made r (s ∷ ss) after
+made_first r s ss f next after are fits below is e behind k = record {
+  gs = g ∷ k.gs;
+  news = with_offer g.offer s ∷ k.news;
+  made = k.made ∙ ap (λ (x : Round). x.made ++ k.gs) e ∙ append_assoc r.made (g ∷ []) k.gs;
+  moves = λ run sent same_next. ap (move_all (map offer_move k.gs)) (here run sent same_next)
+      ∙ pass_all (with_offer g.offer s) k.gs (moved_so (with_next (following r.next) run) ss sent) (k.others s.name behind)
+      ∙ ap (past_side (with_offer g.offer s)) (k.moves (with_next (following r.next) run) sent (ap (λ (x : Round). x.next) (sym e)));
+  code = ap (offers_all (map offer_of k.gs)) here_too ∙ code_passes (with_offer g.offer s) k.gs ss (k.others s.name behind) ∙ ap (λ ts. with_offer g.offer s ∷ ts) k.code;
+  entered_are = ap (λ os. made_on s.name os ++ entered ss k.news) (drop_front s.offers g.offer) ∙ ap (λ hs. g ∷ hs) k.entered_are;
+  few = omega (arith, k.few);
+  others = λ name h. let both = both_true (bytes_before name s.name) (list_all (bytes_before name) (side_names ss)) h in (before_differs name s.name both.0, k.others name both.1);
+}
+  where
+    g : MadeOffer
+    g = made_at s r.next f
+
+    here : (run : Run) (sent : List ToAgent) → run.next_offer ≡ r.next → move (moved_so run (s ∷ ss) sent) (offer_move g) ≡ past_side (with_offer g.offer s) (moved_so (with_next (following r.next) run) ss sent)
+    here run sent same_next =
+        ap (λ b. sending_more sent (cond b (at_this_side s.name (offered run s g.offer) ss) (past_side s (at_side s.name (MakeOffer g.offer) run ss)))) (itself s.name)
+        ∙ ap (λ x. sending_more sent (at_this_side s.name x ss)) (model_makes run s f r.next are fits is same_next)
+        ∙ ap (λ mails. past_side (with_offer g.offer s) (moved_so (with_next (following r.next) run) ss mails)) (none_more sent)
+
+    here_too : offers_at (s ∷ ss) (offer_of g) ≡ with_offer g.offer s ∷ ss
+    here_too = ap (λ b. cond b (offering g.offer s ∷ ss) (s ∷ at_name s.name (offering g.offer) ss)) (itself s.name) ∙ ap (λ t. t ∷ ss) (code_makes s f r.next are fits below)
+
+next_goes : (r : Round) (s : Side) (after : Round) → Visited r s after → Goes r.next after.next
+next_goes r s after (inl e) = inl (ap (λ (x : Round). x.next) e)
+next_goes r s after (inr v) = inr (ap (λ (x : Round). x.next) v.2)
+
+pub all_made : (now : ℕ) (totals : List Row) (cs : List Client) (ss : List Side) (r : Round) → HaveRows ss → AllFitTotals ss → AllByRecursion (OffersBefore r.next) ss → are_ordered (side_names ss) ≡ true
+    → Made r ss (fold (visits now totals cs) r ss)
+all_made now totals cs [] r rows fits below ordered = nothing_made r
+all_made now totals cs (s ∷ ss) r rows fits below ordered =
+    by (visited now totals cs r s)
+    (all_made now totals cs ss (visits now totals cs r s) rows.1 fits.1 (sides_later r.next (visits now totals cs r s).next (next_goes r s (visits now totals cs r s) (visited now totals cs r s)) ss below.1) both.1)
+  where
+    both : (list_all (bytes_before s.name) (side_names ss) ≡ true) × (are_ordered (side_names ss) ≡ true)
+    both = both_true (list_all (bytes_before s.name) (side_names ss)) (are_ordered (side_names ss)) ordered
+
+    by : Visited r s (visits now totals cs r s) → Made (visits now totals cs r s) ss (fold (visits now totals cs) (visits now totals cs r s) ss) → Made r (s ∷ ss) (fold (visits now totals cs) (visits now totals cs r s) ss)
+    by (inl e) k = passed_over r s ss (visits now totals cs r s) (fold (visits now totals cs) (visits now totals cs r s) ss) e both.0 k
+    by (inr v) k = made_first r s ss v.0 (visits now totals cs r s) (fold (visits now totals cs) (visits now totals cs r s) ss) rows.0 fits.0 below.0 v.1 v.2 both.0 k

@@ -1,0 +1,144 @@
+-- The events of a round, and all that a master holds after it.
+use Rattle.std.proofs.Common.{◌≡◌, ℕ, suc, ◌≤◌, Bool, true, false, cond, List, [], ◌∷◌, ◌++◌, map, filter, flat_map, fold, length, Option, Some, None, refl, sym, ap, ◌∙◌, subst, arith, append_assoc}
+use Rattle.names_core.specs.Ids.{Numbered}
+use Rattle.mails.specs.declared.framework.Framework.{Framework}
+use Rattle.mails.specs.declared.mail.ToAgent.{ToAgent}
+use Rattle.event_json.specs.declared.offer.Offer as json_offer
+use Rattle.cluster_model.specs.Ids.{same}
+use Rattle.cluster_model.specs.Sides.{Side}
+use Rattle.cluster_model.specs.Events.{MadeOffer, Told}
+use Rattle.cluster_model.specs.Masters.{Moved, move_all, moved}
+use Rattle.cluster_model.specs.Rounds as rounds
+use Rattle.cluster_model.specs.Rounds.{Round, allocated, clients_of, entered, making, offers_of, round, tells_offers, totals_of}
+use Rattle.frameworks.specs.Frameworks as frameworks
+use Rattle.agent_sides.specs.Configs.{are_ordered}
+use Rattle.agent_sides.specs.Joined.{side_names}
+use Rattle.side_fits.specs.Fits.{SidesFit}
+use Rattle.master_state.specs.declared.state.State.{State}
+use Rattle.master_state.specs.declared.state.StreamEvent.{StreamEvent}
+use Rattle.master_state.specs.Works.{Work, done, event_of, master_of, offer_of, registers_of, run_of, work_of, written}
+use Rattle.master_state.proofs.Doings.{none_more}
+use Rattle.master_state.proofs.Moves.{moved_so}
+use Rattle.master_rounds.specs.News.{event_on, news_of, offers_all, offers_event}
+use Rattle.master_rounds.specs.Visits.{Progress, round_of, starts, visits}
+use Rattle.master_rounds.proofs.Agreeing.{Agrees, Allocates, rounds_alike}
+use Rattle.master_rounds.proofs.Bounds.{HaveRows}
+use Rattle.master_rounds.proofs.Making.{Made, all_made, offer_move, with_next}
+
+-- events
+
+for_one : (id : Numbered) (made : List MadeOffer) → filter (λ o. same o.framework id) (map offer_of made) ≡ map offer_of (filter (λ g. same g.offer.framework id) made)
+for_one id [] = refl
+for_one id (g ∷ made) = by (same g.offer.framework id) (for_one id made)
+  where
+    by : (b : Bool) → filter (λ o. same o.framework id) (map offer_of made) ≡ map offer_of (filter (λ h. same h.offer.framework id) made)
+        → cond b (offer_of g ∷ filter (λ o. same o.framework id) (map offer_of made)) (filter (λ o. same o.framework id) (map offer_of made))
+        ≡ map offer_of (cond b (g ∷ filter (λ h. same h.offer.framework id) made) (filter (λ h. same h.offer.framework id) made))
+    by true ih = ap (λ os. offer_of g ∷ os) ih
+    by false ih = ih
+
+abbrev tells_on : Option Numbered → List MadeOffer → List Told
+tells_on None gs = []
+tells_on (Some stream) [] = []
+tells_on (Some stream) (g ∷ gs) = record { stream = stream; event = Rattle.cluster_model.specs.Events.OFFERS (g ∷ gs) } ∷ []
+
+told_so : (f : Framework) (gs : List MadeOffer) → map written (tells_offers f gs) ≡ event_on f.stream (map offer_of gs)
+told_so f [] = by f.stream
+  where
+    by : (o : Option Numbered) → [] ≡ event_on o []
+    by None = refl
+    by (Some stream) = refl
+told_so f (g ∷ gs) = by f.stream
+  where
+    by : (o : Option Numbered) → map written (Rattle.cluster_model.specs.Masters.on_stream o (Rattle.cluster_model.specs.Events.OFFERS (g ∷ gs))) ≡ event_on o (map offer_of (g ∷ gs))
+    by None = refl
+    by (Some stream) = refl
+
+map_append : (xs ys : List Told) → map written (xs ++ ys) ≡ map written xs ++ map written ys
+map_append [] ys = refl
+map_append (x ∷ xs) ys = ap (λ es. written x ∷ es) (map_append xs ys)
+
+pub told_all : (made : List MadeOffer) (fs : List Framework) → flat_map (news_of (map offer_of made)) fs ≡ map written (flat_map (offers_of made) fs)
+told_all made [] = refl
+told_all made (f ∷ fs) =
+    ap (λ os. event_on f.stream os ++ flat_map (news_of (map offer_of made)) fs) (for_one f.id made)
+    ∙ ap (λ es. es ++ flat_map (news_of (map offer_of made)) fs) (sym (told_so f (filter (λ g. same g.offer.framework f.id) made)))
+    ∙ ap (λ es. map written (offers_of made f) ++ es) (told_all made fs)
+    ∙ sym (map_append (offers_of made f) (flat_map (offers_of made) fs))
+
+-- a round of a master
+
+abbrev start_of : State → Round
+start_of s = record { made = []; next = record { run = s.run; n = s.next_offer } }
+
+abbrev round_after : State → Round
+round_after s = fold (rounds.visits s.moment (totals_of (master_of s)) (clients_of (master_of s))) (start_of s) s.sides
+
+-- what a master holds that has allocated
+pub record Holds (s : State) : Type 0 where
+  pub ordered : frameworks.are_ordered s.frameworks ≡ true
+  pub names : are_ordered (side_names s.sides) ≡ true
+  pub rows : HaveRows s.sides
+  pub fit : SidesFit (run_of s) s.sides
+
+starts_agree : (s : State) → Agrees (master_of s) s.run (start_of s) (starts s)
+starts_agree s = record { made = refl; next = refl; shares = refl }
+
+agreed : (s : State) → Holds s → Agrees (master_of s) s.run (round_after s) (round_of s)
+agreed s h = rounds_alike (master_of s) s.run (record { ordered = h.ordered; rows = h.rows; fits = h.fit.totals; few = h.fit.few }) s.sides h.rows (start_of s) (starts s) (λ name. omega arith) (starts_agree s)
+
+made_of : (s : State) → Holds s → Made (start_of s) s.sides (round_after s)
+made_of s h = all_made s.moment (totals_of (master_of s)) (clients_of (master_of s)) s.sides (start_of s) h.rows h.fit.totals h.fit.ids h.names
+
+length_mapped : (gs : List MadeOffer) → length (map offer_of gs) ≡ length gs
+length_mapped [] = refl
+length_mapped (g ∷ gs) = ap suc (length_mapped gs)
+
+pub few_made : (s : State) → Holds s → length (round_of s).made ≤ 256
+few_made s h =
+    let k = made_of s h in
+    omega (arith, ap length (agreed s h).made, length_mapped (round_after s).made, ap length k.made, k.few, h.fit.few)
+
+abbrev pub with_all : State → ℕ → List Side → List StreamEvent → Work
+with_all s next ss events = record {
+  moved = record { run = with_next (record { run = s.run; n = next }) (run_of s); sides = ss; sent = s.outs.mails };
+  registers = registers_of s;
+  events = events;
+  opens = s.outs.opened;
+  closes = s.outs.closed;
+}
+
+abbrev with_moved : State → Moved → List StreamEvent → Work
+with_moved s x events = record { moved = x; registers = registers_of s; events = events; opens = s.outs.opened; closes = s.outs.closed }
+
+abbrev with_opens : State → List Numbered → List Numbered → Work
+with_opens s opens closes = record {
+  moved = move_all (making (master_of s)) (moved_so (run_of s) s.sides s.outs.mails);
+  registers = registers_of s;
+  events = s.outs.events ++ map written (allocated (master_of s)).events;
+  opens = opens;
+  closes = closes;
+}
+
+pub allocated_so : (s : State) → Holds s → with_all s (round_of s).next (offers_all (round_of s).made s.sides) (s.outs.events ++ flat_map (news_of (round_of s).made) s.frameworks) ≡ done (allocated (master_of s)) (work_of s)
+allocated_so s h =
+    ap (λ os. with_all s (round_of s).next (offers_all os s.sides) (s.outs.events ++ flat_map (news_of os) s.frameworks)) (a.made ∙ ap (map offer_of) k.made)
+    ∙ ap (λ ss. with_all s (round_of s).next ss (s.outs.events ++ flat_map (news_of (map offer_of k.gs)) s.frameworks)) k.code
+    ∙ ap (λ id. with_moved s (moved_so (with_next id (run_of s)) k.news s.outs.mails) (s.outs.events ++ flat_map (news_of (map offer_of k.gs)) s.frameworks)) (sym a.next)
+    ∙ ap (λ x. with_moved s x (s.outs.events ++ flat_map (news_of (map offer_of k.gs)) s.frameworks)) (sym (k.moves (run_of s) s.outs.mails refl))
+    ∙ ap (λ gs. with_moved s (move_all (map offer_move gs) (moved_so (run_of s) s.sides s.outs.mails)) (s.outs.events ++ flat_map (news_of (map offer_of k.gs)) s.frameworks)) (sym k.made)
+    ∙ ap (λ es. with_moved s (move_all (making (master_of s)) (moved_so (run_of s) s.sides s.outs.mails)) (s.outs.events ++ es)) (told_all k.gs s.frameworks ∙ ap (λ gs. map written (flat_map (offers_of gs) s.frameworks)) (sym all_entered))
+    ∙ ap (λ opens. with_opens s opens s.outs.closed) (sym (none_more s.outs.opened))
+    ∙ ap (with_opens s (s.outs.opened ++ [])) (sym (none_more s.outs.closed))
+  where
+    k : Made (start_of s) s.sides (round_after s)
+    k = made_of s h
+
+    a : Agrees (master_of s) s.run (round_after s) (round_of s)
+    a = agreed s h
+
+    all_entered : entered s.sides (moved (master_of s) (making (master_of s))).sides ≡ k.gs
+    all_entered =
+        ap (λ gs. entered s.sides (move_all (map offer_move gs) (moved_so (run_of s) s.sides [])).sides) k.made
+        ∙ ap (λ (x : Moved). entered s.sides x.sides) (k.moves (run_of s) [] refl)
+        ∙ k.entered_are

@@ -1,0 +1,40 @@
+-- A round visits the agents, in order.
+use Rattle.std.specs.Prelude.{ℕ, suc, ◌||◌, nat_lt, if◌then◌else◌, List, [], ◌∷◌, ◌++◌, fold, Option, Some, None}
+use Rattle.names_core.specs.Ids.{Numbered}
+use Rattle.quantity.specs.declared.rows.Row.{Row}
+use Rattle.mails.specs.declared.framework.Framework.{Framework}
+use Rattle.event_json.specs.declared.offer.Offer as json_offer
+use Rattle.cluster_model.specs.Ids.{is_empty, last_number}
+use Rattle.cluster_model.specs.Sides.{Side}
+use Rattle.drf_pick.specs.Shares.{given}
+use Rattle.agent_sides.specs.Free.{open_part}
+use Rattle.round_shares.specs.Gifts.{shares_of}
+use Rattle.round_shares.specs.Picks.{picked}
+use Rattle.master_state.specs.declared.state.State.{State}
+pub use Rattle.master_rounds.specs.declared.visit.Progress.{Progress}
+
+-- the offer of what is free on an agent
+abbrev pub next_offer : ℕ → List ℕ → List Row → ℕ → Numbered → json_offer.Offer
+next_offer run agent free number framework = record { id = record { run = run; n = number }; framework = framework; agent = agent; resources = free }
+
+-- it goes to a framework, or to none
+abbrev pub goes_to : ℕ → List ℕ → List Row → Progress → Option Numbered → Progress
+goes_to run agent free p None = p
+goes_to run agent free p (Some framework) = record { made = p.made ++ next_offer run agent free p.next framework ∷ []; next = suc p.next; shares = given framework free p.shares }
+
+-- a free part that isn't empty goes whole to the eligible framework that stands least, while numbers are left
+abbrev pub offers_free : ℕ → ℕ → List Framework → Progress → List ℕ → List Row → Progress
+offers_free run now fs p agent free = if is_empty free || nat_lt last_number p.next then p else goes_to run agent free p (picked now agent free p.shares fs)
+
+abbrev pub visits_part : ℕ → ℕ → List Framework → Progress → Option (List ℕ × List Row) → Progress
+visits_part run now fs p None = p
+visits_part run now fs p (Some part) = offers_free run now fs p part.0 part.1
+
+abbrev pub visits : ℕ → ℕ → List Framework → Progress → Side → Progress
+visits run now fs p s = visits_part run now fs p (open_part s)
+
+abbrev pub starts : State → Progress
+starts s = record { made = []; next = s.next_offer; shares = shares_of s.sides s.frameworks }
+
+abbrev pub round_of : State → Progress
+round_of s = fold (visits s.run s.moment s.frameworks) (starts s) s.sides

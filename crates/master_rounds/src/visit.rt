@@ -1,0 +1,159 @@
+//! A round visits the agents, in order.
+
+ghost use Rattle.std.specs.Prelude.{◌≡◌, ◌≤◌, ◌<◌, None, Some, fold, OnOk, IfOk};
+ghost use Rattle.cluster_model.specs.Ids.{is_empty, last_number};
+ghost use Rattle.drf_pick.specs.Shares.{given};
+ghost use Rattle.roster.specs.Places.{told_at};
+ghost use Rattle.agent_sides.specs.Free.{open_part};
+ghost use Rattle.master_rounds.specs.Visits.{goes_to, offers_free, round_of, visits, visits_part};
+
+use agent_sides::Sides;
+use drf_pick::Shares;
+use event_json::Offer;
+use listed::Listed;
+use mails::Framework;
+use master_state::State;
+use names_core::{AgentName, FrameworkId, OfferId, Run};
+use quantity::Resources;
+use round_shares::{picked, shares_of};
+use std::alloc::{AllocError, Global};
+
+/// The last number of an offer.
+const LAST_NUMBER: u64 = 4_294_967_295;
+
+/// How far a round has come.
+#[derive(Drop)]
+pub struct Progress {
+    /// The offers made so far, in order.
+    pub made: Listed<Offer>,
+    /// The number of the next offer.
+    pub next: u64,
+    /// What frameworks hold, with these offers.
+    pub shares: Shares,
+}
+
+fn give(
+    shares: &mut Shares,
+    alloc: Global,
+    framework: FrameworkId,
+    free: &Resources,
+) -> Result<(), AllocError>
+    ensures { OnOk result (shares.new ≡ given framework free.now shares.old) }
+{
+    match shares.give(alloc, framework, free) {
+        Ok(()) => Ok(()),
+        Err(_) => Err(AllocError),
+    }
+}
+
+fn go_to(
+    progress: &mut Progress,
+    alloc: Global,
+    run: Run,
+    agent: &AgentName,
+    free: Resources,
+    framework: FrameworkId,
+) -> Result<(), AllocError>
+    requires numbered { 0 < progress.old.next }
+    requires left { progress.old.next ≤ last_number }
+    ensures numbered { 0 < progress.new.next }
+    ensures ok { OnOk result (progress.new ≡ goes_to run agent.now free progress.old (Some framework)) }
+{
+    give(&mut progress.shares, alloc, framework, &free)?;
+    let agent = agent.copy(alloc)?;
+    let id = OfferId::new(run.number(), progress.next as u32);
+    progress.made.push(Offer {
+        id,
+        framework,
+        agent,
+        resources: free,
+    })?;
+    progress.next += 1;
+    Ok(())
+}
+
+fn is_empty(free: &Resources) -> bool
+    ensures { result ≡ is_empty free.now }
+{
+    free.is_empty()
+}
+
+fn offer_free(
+    progress: &mut Progress,
+    alloc: Global,
+    run: Run,
+    now: u32,
+    frameworks: &[Framework],
+    agent: &AgentName,
+    free: Resources,
+) -> Result<(), AllocError>
+    requires { 0 < progress.old.next }
+    ensures numbered { 0 < progress.new.next }
+    ensures ok { OnOk result (progress.new ≡ offers_free run now frameworks.now progress.old agent.now free) }
+{
+    if is_empty(&free) || LAST_NUMBER < progress.next {
+        return Ok(());
+    }
+    match picked(&progress.shares, frameworks, now, agent, &free) {
+        None => Ok(()),
+        Some(framework) => go_to(progress, alloc, run, agent, free, framework),
+    }
+}
+
+fn visit(
+    progress: &mut Progress,
+    alloc: Global,
+    run: Run,
+    now: u32,
+    frameworks: &[Framework],
+    sides: &Sides,
+    place: usize,
+) -> Result<(), AllocError>
+    requires { 0 < progress.old.next }
+    ensures numbered { 0 < progress.new.next }
+    ensures ok { OnOk result (progress.new ≡ visits_part run now frameworks.now progress.old (told_at place open_part None sides.now)) }
+{
+    match sides.open_part(alloc, place)? {
+        None => Ok(()),
+        Some((agent, free)) => offer_free(progress, alloc, run, now, frameworks, agent, free),
+    }
+}
+
+fn visit_all(
+    progress: &mut Progress,
+    alloc: Global,
+    run: Run,
+    now: u32,
+    frameworks: &[Framework],
+    sides: &Sides,
+) -> Result<(), AllocError>
+    requires { 0 < progress.old.next }
+    ensures { OnOk result (progress.new ≡ fold (visits run now frameworks.now) progress.old sides.now) }
+{
+    for place in 0..sides.len() {
+        visit(progress, alloc, run, now, frameworks, sides, place)?;
+    }
+    Ok(())
+}
+
+/// The offers of a round: each agent's whole free part goes to the eligible framework that stands least, counted before the
+/// next agent is visited.
+pub fn round_of(state: &State, alloc: Global) -> Result<Progress, AllocError>
+    requires { 0 < state.now.next_offer }
+    ensures { IfOk result (λ progress. progress ≡ round_of state.now) }
+{
+    let mut progress = Progress {
+        made: Listed::new(alloc),
+        next: state.next_offer,
+        shares: shares_of(alloc, &state.sides, &state.frameworks)?,
+    };
+    visit_all(
+        &mut progress,
+        alloc,
+        state.run,
+        state.moment,
+        state.frameworks.as_slice(),
+        &state.sides,
+    )?;
+    Ok(progress)
+}

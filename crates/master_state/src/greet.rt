@@ -1,0 +1,26 @@
+//! Hellos to agents.
+
+ghost use Rattle.std.specs.Prelude.{◌≡◌, OnOk};
+ghost use Rattle.master_state.specs.Greetings.{greeted};
+
+use crate::state::State;
+use mails::{MasterMail, ToAgent};
+use names_core::AgentName;
+use std::alloc::{AllocError, Global};
+
+impl State {
+    /// A Hello goes to an agent, where it is configured.
+    pub fn greet(&mut self, alloc: Global, agent: &AgentName) -> Result<(), AllocError>
+        ensures { OnOk result (self.new ≡ greeted agent.now self.old) }
+    {
+        let Some(dead) = self.sides.closed(agent) else {
+            return Ok(());
+        };
+        let name = agent.copy(alloc)?;
+        let run = u32::from(self.run.number());
+        self.send(ToAgent {
+            agent: name,
+            mail: MasterMail::Hello { run, dead },
+        })
+    }
+}

@@ -1,0 +1,7 @@
+use Rattle.std.proofs.Common.{◌≡◌, None, map, flat_map, take, drop, fold}
+use Rattle.cluster_model.specs.Sides.{unended}
+use Rattle.round_shares.specs.Gifts.{enters, gifts_on, holds, job_gift, knows, offer_gift}
+use Rattle.round_shares.proofs.fill.give_tasks.Given as goal
+
+abbrev pub invariant-loop-task : goal.invariant-loop-task
+invariant-loop-task l = fold holds l.shares (map job_gift (unended (drop l.task-index l.tasks))) ≡ fold holds l.fn.shares (map job_gift (unended l.tasks))

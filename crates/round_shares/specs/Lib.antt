@@ -1,0 +1,3 @@
+pub mod Gifts
+pub mod Picks
+pub mod Laws

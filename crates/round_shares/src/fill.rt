@@ -1,0 +1,121 @@
+//! What agents own, and what frameworks hold of it.
+
+ghost use Rattle.std.specs.Prelude.{◌≡◌, fold, map, flat_map, OnOk, IfOk};
+ghost use Rattle.cluster_model.specs.Sides.{unended};
+ghost use Rattle.round_shares.specs.Gifts.{enters, gifts_on, holds, job_gift, knows, offer_gift, shares_of};
+
+use agent_sides::Sides;
+use drf_pick::Shares;
+use frameworks::Frameworks;
+use mails::{Booked, Framework, Offer};
+use names_core::FrameworkId;
+use offer_book::Account;
+use quantity::Resources;
+use roster::RosterEntry;
+use std::alloc::{AllocError, Global};
+
+fn enter(shares: &mut Shares, alloc: Global, entry: &RosterEntry) -> Result<(), AllocError>
+    ensures { OnOk result (shares.new ≡ enters shares.old entry.now) }
+{
+    if !entry.is_open() {
+        return Ok(());
+    }
+    match shares.enter(alloc, entry.total()) {
+        Ok(()) => Ok(()),
+        Err(_) => Err(AllocError),
+    }
+}
+
+fn enter_all(shares: &mut Shares, alloc: Global, entries: &[RosterEntry]) -> Result<(), AllocError>
+    ensures { OnOk result (shares.new ≡ fold enters shares.old entries.now) }
+{
+    for entry in entries {
+        enter(shares, alloc, entry)?;
+    }
+    Ok(())
+}
+
+fn know(shares: &mut Shares, alloc: Global, framework: &Framework) -> Result<(), AllocError>
+    ensures { OnOk result (shares.new ≡ knows shares.old framework.now) }
+{
+    match shares.role(alloc, framework.id, &framework.role) {
+        Ok(()) => Ok(()),
+        Err(_) => Err(AllocError),
+    }
+}
+
+fn know_all(shares: &mut Shares, alloc: Global, frameworks: &[Framework]) -> Result<(), AllocError>
+    ensures { OnOk result (shares.new ≡ fold knows shares.old frameworks.now) }
+{
+    for framework in frameworks {
+        know(shares, alloc, framework)?;
+    }
+    Ok(())
+}
+
+fn give(
+    shares: &mut Shares,
+    alloc: Global,
+    framework: FrameworkId,
+    resources: &Resources,
+) -> Result<(), AllocError>
+    ensures { OnOk result (shares.new ≡ holds shares.old (record { framework = framework; resources = resources.now })) }
+{
+    match shares.give(alloc, framework, resources) {
+        Ok(()) => Ok(()),
+        Err(_) => Err(AllocError),
+    }
+}
+
+fn give_offers(shares: &mut Shares, alloc: Global, offers: &[Offer]) -> Result<(), AllocError>
+    ensures { OnOk result (shares.new ≡ fold holds shares.old (map offer_gift offers.now)) }
+{
+    for offer in offers {
+        give(shares, alloc, offer.framework, &offer.resources)?;
+    }
+    Ok(())
+}
+
+fn give_tasks(shares: &mut Shares, alloc: Global, tasks: &[Booked]) -> Result<(), AllocError>
+    ensures { OnOk result (shares.new ≡ fold holds shares.old (map job_gift (unended tasks.now))) }
+{
+    for task in tasks {
+        if !task.ended {
+            give(shares, alloc, task.job.framework, &task.job.resources)?;
+        }
+    }
+    Ok(())
+}
+
+fn give_account(shares: &mut Shares, alloc: Global, account: &Account) -> Result<(), AllocError>
+    ensures { OnOk result (shares.new ≡ fold holds shares.old (gifts_on account.now.offers account.now.booked)) }
+{
+    give_offers(shares, alloc, account.offers.as_slice())?;
+    give_tasks(shares, alloc, account.booked.as_slice())
+}
+
+fn give_all(shares: &mut Shares, alloc: Global, accounts: &[Account]) -> Result<(), AllocError>
+    ensures { OnOk result (shares.new ≡ fold holds shares.old (flat_map (λ a. gifts_on a.offers a.booked) accounts.now)) }
+{
+    for account in accounts {
+        give_account(shares, alloc, account)?;
+    }
+    Ok(())
+}
+
+/// The shares of a round: what the agents with an open session own, the frameworks with their roles, and their current offers
+/// and booked tasks that haven't ended, on every agent.
+pub fn shares_of(
+    alloc: Global,
+    sides: &Sides,
+    frameworks: &Frameworks,
+) -> Result<Shares, AllocError>
+    ensures { IfOk result (λ shares. shares ≡ shares_of sides.now frameworks.now) }
+{
+    let (entries, accounts) = sides.parts();
+    let mut shares = Shares::new(alloc);
+    enter_all(&mut shares, alloc, entries)?;
+    know_all(&mut shares, alloc, frameworks.as_slice())?;
+    give_all(&mut shares, alloc, accounts)?;
+    Ok(shares)
+}

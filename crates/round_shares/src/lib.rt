@@ -1,0 +1,12 @@
+//! The shares of a round of offers, and which framework stands least by them (DRF paper, section 4).
+#![tactic(auto)]
+
+mod fill;
+mod laws;
+mod pick;
+#[cfg(test)]
+mod tests;
+
+pub use fill::shares_of;
+pub use laws::picks_alike;
+pub use pick::picked;

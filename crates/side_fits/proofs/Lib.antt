@@ -1,0 +1,4 @@
+pub mod Weights
+pub mod Steps
+pub mod Hearing
+pub mod Numbering

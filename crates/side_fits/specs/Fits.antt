@@ -1,0 +1,76 @@
+-- What is taken of each agent fits what it owns, and each step of the master keeps it so.
+use Rattle.std.specs.Prelude.{◌≡◌, ◌≤◌, ◌<◌, ℕ, true, List, [], length, ⊤, bytes_eq}
+use Rattle.std.specs.List.{AllByRecursion}
+use Rattle.names_core.specs.Ids.{Numbered}
+use Rattle.quantity.specs.declared.rows.Row.{Row}
+use Rattle.quantity.specs.Laws.{AtLeast}
+use Rattle.mails.specs.declared.mail.AgentMail.{AgentMail}
+use Rattle.mails.specs.declared.mail.AgentMail.TheVariants.{Report, Applied, Update}
+use Rattle.cluster_model.specs.Ids.{before}
+use Rattle.cluster_model.specs.Sides.{Run, Side, SideStep, heard, job_rows, side_step, taken, unended}
+use Rattle.cluster_model.specs.Masters.{Move, Moved, move_all}
+use Rattle.cluster_model.specs.Mails.{hear_at}
+
+-- current offers and booked tasks that haven't ended are at most what the agent owns, name by name
+abbrev pub FitsTotal : Side → Type 0
+FitsTotal s = AtLeast s.total (taken s)
+
+abbrev pub AllFitTotals : List Side → Type 0
+AllFitTotals ss = AllByRecursion FitsTotal ss
+
+-- the tasks of a Report that haven't ended fit a total
+abbrev pub MailFits : List Row → AgentMail → Type 0
+MailFits total (Report session number tasks) = AtLeast total (job_rows (unended tasks))
+MailFits total (Applied session count) = ⊤
+MailFits total (Update session key k state ended) = ⊤
+
+-- a mail of an agent fits what the agent owns
+abbrev pub MailFitsAt : List ℕ → AgentMail → List Side → Type 0
+MailFitsAt agent mail ss = AllByRecursion (λ s. bytes_eq s.name agent ≡ true → MailFits s.total mail) ss
+
+-- a mail that reports no tasks
+abbrev pub ReportsNothing : AgentMail → Type 0
+ReportsNothing (Report session number tasks) = tasks ≡ []
+ReportsNothing (Applied session count) = ⊤
+ReportsNothing (Update session key k state ended) = ⊤
+
+-- it fits whatever an agent owns
+abbrev pub NothingFits : Type 0
+NothingFits = (agent : List ℕ) (mail : AgentMail) (ss : List Side) → ReportsNothing mail → MailFitsAt agent mail ss
+
+-- whatever the master does at an agent, what is taken still fits
+abbrev pub StepsKeepFits : Type 0
+StepsKeepFits = (run : Run) (s : Side) (step : SideStep) → FitsTotal s → FitsTotal (side_step run s step).side
+
+abbrev pub MovesKeepFits : Type 0
+MovesKeepFits = (moves : List Move) (x : Moved) → AllFitTotals x.sides → AllFitTotals (move_all moves x).sides
+
+-- and whatever it hears, where what is reported fits
+abbrev pub HearingKeepsFits : Type 0
+HearingKeepsFits = (run : Run) (s : Side) (mail : AgentMail) → MailFits s.total mail → FitsTotal s → FitsTotal (heard run s mail)
+
+abbrev pub HearingAtKeepsFits : Type 0
+HearingAtKeepsFits = (agent : List ℕ) (run : Run) (mail : AgentMail) (ss : List Side) → MailFitsAt agent mail ss → AllFitTotals ss → AllFitTotals (hear_at agent run mail ss)
+
+-- the ids of current offers stand before the next one
+abbrev pub OffersBefore : Numbered → Side → Type 0
+OffersBefore next s = AllByRecursion (λ o. before o.id next ≡ true) s.offers
+
+-- as many agents as a master has at most
+abbrev pub most_sides : ℕ
+most_sides = 256
+
+-- what holds of a master's sides in its run: what is taken fits, offers have ids that were given out, these are numbered from 1, and the agents are few
+pub record SidesFit (run : Run) (ss : List Side) : Type 0 where
+  pub totals : AllFitTotals ss
+  pub ids : AllByRecursion (OffersBefore run.next_offer) ss
+  pub numbered : 0 < run.next_offer.n
+  pub few : length ss ≤ most_sides
+
+-- all moves of the master keep it
+abbrev pub MovesKeepSides : Type 0
+MovesKeepSides = (moves : List Move) (x : Moved) → SidesFit x.run x.sides → SidesFit (move_all moves x).run (move_all moves x).sides
+
+-- and so does what it hears, where what is reported fits
+abbrev pub HearingKeepsSides : Type 0
+HearingKeepsSides = (agent : List ℕ) (run : Run) (mail : AgentMail) (ss : List Side) → MailFitsAt agent mail ss → SidesFit run ss → SidesFit run (hear_at agent run mail ss)

@@ -1,0 +1,35 @@
+//! What is taken of each agent, current offers and booked tasks that haven't ended, stays within what the agent owns.
+#![tactic(auto)]
+
+ghost use Rattle.cluster_model.specs.Sides.{Side, new_side};
+ghost use Rattle.quantity.specs.declared.rows.Row.{Row};
+ghost use Rattle.side_fits.specs.Fits.{FitsTotal, HearingAtKeepsFits, HearingKeepsFits, HearingKeepsSides, MovesKeepFits, MovesKeepSides, NothingFits, StepsKeepFits};
+ghost use Rattle.std.specs.Prelude.{List, ℕ};
+
+/// Every step of the master at an agent keeps what is taken within what the agent owns.
+pub fn steps_keep_fits()
+    ensures { StepsKeepFits }
+{}
+
+/// So do all moves of the master, one after another; and current offers keep ids that stand before the next one.
+pub fn moves_keep_fits()
+    ensures fits { MovesKeepFits }
+    ensures sides { MovesKeepSides }
+{}
+
+/// So does a mail of an agent, where the tasks that it reports fit what the agent owns.
+pub fn hearing_keeps_fits()
+    ensures side { HearingKeepsFits }
+    ensures at_agent { HearingAtKeepsFits }
+    ensures sides { HearingKeepsSides }
+{}
+
+/// Nothing is taken of an agent that has not yet opened a session.
+pub fn new_sides_fit()
+    ensures { (name : List ℕ) (total : List Row) → FitsTotal (new_side name total) }
+{}
+
+/// A mail that reports no tasks fits whatever the agent owns.
+pub fn mails_without_tasks_fit()
+    ensures { NothingFits }
+{}
