@@ -1,4 +1,2 @@
-pub mod Answers
-pub mod Frameworks
-pub mod Steps
 pub mod Texts
+pub mod Steps

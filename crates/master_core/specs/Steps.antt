@@ -1,40 +1,73 @@
--- What a master knows in its run, and the small steps that calls are made of.
-use Rattle.std.specs.Prelude.{ℕ, ◌+◌, ◌-◌, ◌^◌, [], ◌∷◌, ◌++◌}
-use Rattle.names_core.specs.Ids.{Numbered}
-use Rattle.event_json.specs.declared.event.Event.{Event}
-pub use Rattle.master_core.specs.declared.state.StreamEvent.{StreamEvent}
-pub use Rattle.master_core.specs.declared.state.Outs.{Outs}
-pub use Rattle.master_core.specs.declared.state.State.{State}
+-- A master's steps, as the model of a cluster has them.
+use Rattle.std.specs.declared.alloc.AllocError.{AllocError}
+use Rattle.std.specs.Prelude.{◌≡◌, ⊤, ℕ, List, [], map, Option, Some, None, Result, Ok, Err}
+use Rattle.mails.specs.declared.mail.AgentMail.{AgentMail}
+use Rattle.mails.specs.declared.refusal.MasterRefusal.{MasterRefusal}
+use Rattle.quantity.specs.declared.rows.Row.{Row}
+use Rattle.quantity.specs.Rows.{plus_rows}
+use Rattle.cluster_model.specs.Sides.{SendHello, offer_rows}
+use Rattle.cluster_model.specs.Masters.{AtSide, Doing, Master, after_doing, moved, moving}
+use Rattle.cluster_model.specs.Mails.{having_heard}
+use Rattle.agent_sides.specs.Looks.{told_of}
+use Rattle.master_state.specs.declared.fault.MasterFault.{MasterFault}
+use Rattle.master_state.specs.declared.fault.MasterFault.TheVariants.{OutOfMemory, Refused}
+use Rattle.master_state.specs.declared.state.Outs.{Outs}
+use Rattle.master_state.specs.declared.state.State.{State}
+use Rattle.master_state.specs.States.{cleared, no_outs}
+use Rattle.master_state.specs.Works.{master_of, run_of, written}
+use Rattle.master_mails.specs.Steps.{mailed_by}
+use Rattle.side_fits.specs.Fits.{SidesFit}
+pub use Rattle.master_core.specs.declared.master.HeardMail.{HeardMail}
 
--- the last number of a framework or a stream in a run
-abbrev pub last_number : ℕ
-last_number = 2 ^ 32 - 1
+-- what a step brings out
+abbrev pub outs_of : Master → Doing → Outs
+outs_of m d = record { events = map written d.events; opened = d.opens; closed = d.closes; mails = (moved m d.moves).sent }
 
--- as many frameworks as may be known in one run
-abbrev pub framework_limit : ℕ
-framework_limit = 4096
+-- A step of a master that is up was done, or it was refused and nothing changed. Where memory was refused the master is down: it
+-- answers so for ever.
+abbrev pub Answers : Result Outs MasterFault → Option Master → Option Master → (Master → Doing) → Type 0
+Answers (Ok outs) None after doing = ⊥
+Answers (Ok outs) (Some m) after doing = ((doing m).refusal ≡ None) × (outs ≡ outs_of m (doing m)) × (after ≡ Some (after_doing m (doing m)))
+Answers (Err OutOfMemory) before after doing = after ≡ None
+Answers (Err (Refused refusal)) None after doing = ⊥
+Answers (Err (Refused refusal)) (Some m) after doing = ((doing m).refusal ≡ Some refusal) × (after ≡ Some m)
 
-abbrev pub no_outs : Outs
-no_outs = record { events = []; closed = [] }
+-- A mail was heard, and what goes with it was done; why it was refused is told.
+abbrev pub Hears : Result HeardMail MasterFault → Option Master → Option Master → List ℕ → AgentMail → Type 0
+Hears (Ok heard) None after agent mail = ⊥
+Hears (Ok heard) (Some m) after agent mail =
+    (heard.refusal ≡ (mailed_by m agent mail).refusal)
+    × (heard.outs ≡ outs_of (having_heard m agent mail) (mailed_by m agent mail))
+    × (after ≡ Some (after_doing (having_heard m agent mail) (mailed_by m agent mail)))
+Hears (Err OutOfMemory) before after agent mail = after ≡ None
+Hears (Err (Refused refusal)) before after agent mail = ⊥
 
--- a master that has just started, without agents
-abbrev pub fresh : ℕ → State
-fresh run = record { run = run; last_framework = 0; last_stream = 0; frameworks = []; outs = no_outs }
+-- a Hello to every agent
+abbrev pub greeting : Master → Doing
+greeting m = moving m (map (λ s. AtSide s.name SendHello) m.sides)
 
-abbrev pub cleared : State → State
-cleared s = record s { outs = no_outs }
+-- the sum of an agent's current offers
+abbrev pub offered_on : Master → List ℕ → List Row
+offered_on m agent = plus_rows [] (offer_rows (told_of agent (λ s. s.offers) [] m.sides))
 
--- an event goes out on a stream
-abbrev pub told : Numbered → Event → State → State
-told stream event s = record s { outs = record s.outs { events = s.outs.events ++ record { stream = stream; event = event } ∷ [] } }
+-- ---- for private clauses
 
--- a stream ends
-abbrev pub closed : Numbered → State → State
-closed stream s = record s { outs = record s.outs { closed = s.outs.closed ++ stream ∷ [] } }
+-- what a master has between its steps: nothing to bring out, and sides that fit what the agents own
+abbrev pub IsRest : State → Type 0
+IsRest s = (s.outs ≡ no_outs) × SidesFit (run_of s) s.sides
 
--- the next stream, and the state in which its number is given out
-abbrev pub new_stream : State → Numbered
-new_stream s = record { run = s.run; n = s.last_stream + 1 }
+abbrev pub IsAtRest : Option State → Type 0
+IsAtRest None = ⊤
+IsAtRest (Some s) = IsRest s
 
-abbrev pub with_new_stream : State → State
-with_new_stream s = record s { last_stream = s.last_stream + 1 }
+-- the answer of a step that only memory can refuse
+abbrev pub of_memory : Result Unit AllocError → Result Unit MasterFault
+of_memory (Ok x) = Ok x
+of_memory (Err e) = Err OutOfMemory
+
+-- what a step that was done brought out is handed out; where it wanted memory there is no state
+abbrev pub Settled : Result Unit MasterFault → Option State → Option State → Result Outs MasterFault → Type 0
+Settled (Ok x) None new result = (new ≡ None) × (result ≡ Err OutOfMemory)
+Settled (Ok x) (Some s) new result = (new ≡ Some (cleared s)) × (result ≡ Ok s.outs)
+Settled (Err OutOfMemory) old new result = (new ≡ None) × (result ≡ Err OutOfMemory)
+Settled (Err (Refused refusal)) old new result = (new ≡ old) × (result ≡ Err (Refused refusal))

@@ -1,39 +1,73 @@
-//! The answer to a call, by its type.
+//! The answer to a call.
 
-ghost use Rattle.std.specs.Prelude.{◌≡◌, IsTrue};
-ghost use Rattle.master_core.specs.Answers.{Steps, answered, is_answered};
+ghost use Rattle.std.specs.Prelude.{◌≡◌};
+ghost use Rattle.cluster_model.specs.Calls.{called};
+ghost use Rattle.master_state.specs.Works.{Gave, master_of};
 
-use crate::fault::MasterFault;
-use crate::state::State;
-use call_json::Call;
+use mails::Call;
+use master_accept::{accept, decline};
+use master_calls::{acknowledge, kill, reconcile, revive, subscribe, suppress, teardown};
+use master_state::{MasterFault, State};
 use names_core::StreamId;
 use std::alloc::Global;
 
-impl State {
-    pub fn answer(
-        &mut self,
-        alloc: Global,
-        given: Option<StreamId>,
-        call: Call,
-    ) -> Result<(), MasterFault>
-        requires { IsTrue (is_answered call) }
-        ensures { Steps result self.old self.new (answered given call self.old) }
-    {
-        match call {
-            Call::Subscribe { role, framework } => self.subscribe(alloc, role, framework),
-            Call::Teardown { framework } => {
-                let stream = self.stream_of_call(given, framework)?;
-                self.tear_down(framework, stream)?;
-                Ok(())
-            }
-            _ => unreachable!(),
-        }
-    }
-}
-
-/// Whether the master answers a call so far.
-pub fn is_answered(call: &Call) -> bool
-    ensures { result ≡ is_answered call.now }
+/// Answers a call that came with this stream, or with none.
+pub fn answer(
+    state: &mut State,
+    alloc: Global,
+    given: Option<StreamId>,
+    call: Call,
+) -> Result<(), MasterFault>
+    ensures { Gave result state.old state.new (called (master_of state.old) given call) }
 {
-    matches!(call, Call::Subscribe { .. } | Call::Teardown { .. })
+    match call {
+        Call::Subscribe { framework, role } => subscribe(state, alloc, given, framework, role),
+        Call::Teardown { framework } => teardown(state, alloc, given, framework),
+        Call::Accept {
+            framework,
+            offers,
+            tasks,
+            refuse_seconds,
+        } => accept(
+            state,
+            alloc,
+            given,
+            framework,
+            offers.as_slice(),
+            tasks.as_slice(),
+            refuse_seconds,
+        ),
+        Call::Decline {
+            framework,
+            offers,
+            refuse_seconds,
+        } => decline(
+            state,
+            alloc,
+            given,
+            framework,
+            offers.as_slice(),
+            refuse_seconds,
+        ),
+        Call::Revive { framework } => revive(state, alloc, given, framework),
+        Call::Suppress { framework } => suppress(state, given, framework),
+        Call::Kill {
+            framework,
+            task,
+            agent,
+        } => kill(state, alloc, given, framework, task, agent),
+        Call::Acknowledge {
+            framework,
+            agent,
+            task,
+            update,
+        } => acknowledge(state, alloc, given, framework, &agent, &task, update),
+        Call::Reconcile { framework, tasks } => reconcile(
+            state,
+            alloc,
+            given,
+            framework,
+            tasks.as_slice(),
+        ),
+    }
 }

@@ -1,19 +1,16 @@
-//! The master: which frameworks it knows, on which streams they are told of events, and what it answers to their calls
-//! (Mesos scheduler HTTP API, Calls).
+//! The master: its answers to calls, and what it does at agents' mails, rounds of offers, ticks, lost agents and hang-ups
+//! (Mesos scheduler HTTP API, Calls; Mesos paper, section 3.1).
 #![tactic(auto)]
 
 mod answer;
-mod fault;
-mod frameworks;
 mod master;
-mod state;
-mod subscribe;
-mod teardown;
+mod offered;
+mod refusal;
+mod settle;
 #[cfg(test)]
 mod tests;
 
-pub use answer::is_answered;
-pub use fault::{MasterFault, MasterRefusal};
-pub use frameworks::{Framework, Frameworks};
-pub use master::Master;
-pub use state::{Outs, State, StreamEvent};
+pub use agent_sides::{Config, ConfigFault};
+pub use master::{HeardMail, Master};
+pub use master_state::{MasterFault, Outs, StreamEvent};
+pub use refusal::refusal_text;

@@ -1,58 +1,107 @@
-//! The master.
+//! Masters.
 
-ghost use Rattle.std.specs.Prelude.{◌≡◌, Ok, Err, Some, None, true, false, IsTrue, IfOk, IfErr};
-ghost use Rattle.master_core.specs.Answers.{Condition, IsFault, call_after, is_answered};
-ghost use Rattle.master_core.specs.Frameworks.{open_stream_of};
-ghost use Rattle.master_core.specs.Steps.{fresh};
-ghost use Rattle.master_core.specs.declared.fault.MasterFault.TheVariants.{OutOfMemory};
+ghost use Rattle.std.specs.Prelude.{◌≡◌, Some, None, IfOk, IfSome, option_and_then, option_map};
+ghost use Rattle.cluster_model.specs.Calls.{called};
+ghost use Rattle.cluster_model.specs.Masters.{framework_of, stream_of};
+ghost use Rattle.cluster_model.specs.Mails.{hung_up, ticked};
+ghost use Rattle.cluster_model.specs.Rounds.{allocated};
+ghost use Rattle.master_state.specs.States.{fresh};
+ghost use Rattle.master_state.specs.Works.{Gave, master_of};
+ghost use Rattle.master_mails.specs.Steps.{FitsRecord, lost_by};
+ghost use Rattle.side_fits.specs.Fits.{MailFitsAt};
+ghost use Rattle.master_core.specs.Steps.{Answers, Hears, greeting, of_memory, offered_on, outs_of};
 
-use crate::fault::MasterFault;
-use crate::frameworks::{Frameworks, Standing};
-use crate::state::{Outs, State};
-use call_json::Call;
-use names_core::{FrameworkId, Run, StreamId};
-use std::alloc::Global;
+use crate::answer::answer;
+use crate::offered::sum_of;
+use crate::settle::settle;
+use agent_sides::Config;
+use mails::{AgentMail, Call, MasterRefusal};
+use master_mails::{hang_up, lose_agent, mail as hear, tick};
+use master_rounds::allocate;
+use master_state::{MasterFault, Outs, State};
+use names_core::{AgentName, FrameworkId, Run, StreamId};
+use quantity::Resources;
+use side_fits::{hearing_keeps_fits, moves_keep_fits};
+use std::alloc::{AllocError, Global};
 use std::marker::Model;
 
-/// The master of one run: it answers each call at once, and keeps what it knows in memory alone.
-#[derive(Debug, Drop)]
+/// A master in its run. Where a step wanted memory it is down: every later step answers `M5 OutOfMemory`, and does nothing.
+#[derive(Drop)]
 pub struct Master {
-    state: State,
-    is_down: bool,
+    state: Option<State>,
 }
 
 impl Model for Master {
-    ghost use Rattle.master_core.specs.Answers.{Condition};
+    ghost use Rattle.std.specs.Prelude.{Option, option_map};
+    ghost use Rattle.cluster_model.specs.Masters.{Master as ModelMaster};
+    ghost use Rattle.master_state.specs.Works.{master_of};
+    ghost use Rattle.master_core.specs.Steps.{IsAtRest};
 
-    ghost Value = { Condition };
+    ghost Value = { Option ModelMaster };
 
-    ghost view = { λ m. record { state = m.state; is_down = m.is_down } };
+    ghost view = { λ m. option_map master_of m.state };
+
+    ghost invariant = { λ m. IsAtRest m.state };
+}
+
+/// What a mail brought out, and why it was refused, if it was.
+#[derive(Debug, Drop)]
+pub struct HeardMail {
+    pub outs: Outs,
+    pub refusal: Option<MasterRefusal>,
+}
+
+/// A step that only memory can refuse.
+fn of_memory(done: Result<(), AllocError>) -> Result<(), MasterFault>
+    ensures { result ≡ of_memory done }
+{
+    match done {
+        Ok(()) => Ok(()),
+        Err(_) => Err(MasterFault::OutOfMemory),
+    }
+}
+
+fn lose(state: &mut State, alloc: Global, agent: &AgentName) -> Result<(), MasterFault>
+    ensures { Gave result state.old state.new (lost_by (master_of state.old) agent.now) }
+{
+    match lose_agent(state, alloc, agent) {
+        Ok(()) => Ok(()),
+        Err(_) => Err(MasterFault::OutOfMemory),
+    }
 }
 
 impl Master {
-    /// The master of a run, without agents, which knows nothing yet.
-    pub fn start(alloc: Global, run: Run) -> Master
-        ensures { result ≡ record { state = fresh run; is_down = false } }
+    /// A master that begins a run over these agents, and a Hello to each.
+    pub fn start(alloc: Global, run: Run, config: &Config) -> Result<(Master, Outs), MasterFault>
+        ensures master { IfOk result (λ started. started.0 ≡ Some (master_of (fresh run config.now))) }
+        ensures outs { IfOk result (λ started. started.1 ≡ outs_of (master_of (fresh run config.now)) (greeting (master_of (fresh run config.now)))) }
     {
-        Master {
-            state: State {
-                run,
-                last_framework: 0,
-                last_stream: 0,
-                frameworks: Frameworks::new(alloc),
-                outs: Outs::new(alloc),
-            },
-            is_down: false,
-        }
+        let _agents = config.agents();
+        let mut state = State::new(alloc, run, config)?;
+        state.sides.stand_in_order();
+        let run = state.run;
+        state.sides.send_again(alloc, run, &mut state.outs.mails)?;
+        let outs = state.take_outs(alloc);
+        Ok((Master { state: Some(state) }, outs))
     }
 
-    /// Answers a SUBSCRIBE or TEARDOWN that came with this stream, or with none; `is_answered` tells these calls. It is refused with
+    /// The open stream of a framework.
+    pub fn stream_of(&self, framework: FrameworkId) -> Option<StreamId>
+        ensures { result ≡ option_and_then (λ m. stream_of (framework_of m framework)) self.now }
+    {
+        let Some(state) = &self.state else {
+            return None;
+        };
+        state.frameworks.stream_of(framework)?
+    }
+
+    /// Answers a call that came with this stream, or with none. It is refused with
     ///
     /// - `M1 NotSubscribed` where its framework has no open stream,
     /// - `M2 WrongStream` where it didn't come with its framework's open stream,
     /// - `M3 NoSuchFramework` where its framework is unknown in this run or torn down, or a SUBSCRIBE has an id that was
     ///   never given out,
-    /// - `M4 LimitExceeded` where 4,096 frameworks are known or the numbers are spent.
+    /// - `M4 LimitExceeded` where 4,096 frameworks are known, 65,536 tasks would be booked, or numbers are spent.
     ///
     /// `M5 OutOfMemory` leaves the master down: it answers so for ever.
     pub fn call(
@@ -61,32 +110,108 @@ impl Master {
         given: Option<StreamId>,
         call: Call,
     ) -> Result<Outs, MasterFault>
-        requires { IsTrue (is_answered call) }
-        ensures ok { IfOk result (λ outs. (call_after self.old.state given call ≡ Ok (self.new.state, outs)) × (self.new.is_down ≡ false)) }
-        ensures err { IfErr result (IsFault self.old self.new given call) }
-        ensures down { self.old.is_down ≡ true → (result ≡ Err OutOfMemory) × (self.new ≡ self.old) }
+        ensures { Answers result self.old self.new (λ m. called m given call) }
     {
-        if self.is_down {
+        moves_keep_fits();
+        let Some(state) = &mut self.state else {
             return Err(MasterFault::OutOfMemory);
-        }
-        let _earlier = self.state.take_outs(alloc);
-        match self.state.answer(alloc, given, call) {
-            Ok(()) => Ok(self.state.take_outs(alloc)),
-            Err(MasterFault::OutOfMemory) => {
-                self.is_down = true;
+        };
+        let done = answer(state, alloc, given, call);
+        settle(&mut self.state, alloc, done)
+    }
+
+    /// A round of offers: what is free on each agent with an open session goes whole to the eligible framework that stands least by
+    /// dominant shares (DRF paper, section 4).
+    pub fn allocate(&mut self, alloc: Global) -> Result<Outs, MasterFault>
+        ensures { Answers result self.old self.new allocated }
+    {
+        moves_keep_fits();
+        let Some(state) = &mut self.state else {
+            return Err(MasterFault::OutOfMemory);
+        };
+        let done = of_memory(allocate(state, alloc));
+        settle(&mut self.state, alloc, done)
+    }
+
+    /// The moment is now, in seconds.
+    pub fn tick(&mut self, alloc: Global, now: u32) -> Result<Outs, MasterFault>
+        ensures { Answers result self.old self.new (λ m. ticked m now) }
+    {
+        moves_keep_fits();
+        let Some(state) = &mut self.state else {
+            return Err(MasterFault::OutOfMemory);
+        };
+        let done = of_memory(tick(state, alloc, now));
+        settle(&mut self.state, alloc, done)
+    }
+
+    /// An agent is lost. Nothing happens where it has no open session, or isn't configured.
+    pub fn lose_agent(&mut self, alloc: Global, agent: &AgentName) -> Result<Outs, MasterFault>
+        ensures { Answers result self.old self.new (λ m. lost_by m agent.now) }
+    {
+        moves_keep_fits();
+        let Some(state) = &mut self.state else {
+            return Err(MasterFault::OutOfMemory);
+        };
+        let done = lose(state, alloc, agent);
+        settle(&mut self.state, alloc, done)
+    }
+
+    /// A stream hangs up. Nothing happens where it is no framework's open stream.
+    pub fn hang_up(&mut self, alloc: Global, stream: StreamId) -> Result<Outs, MasterFault>
+        ensures { Answers result self.old self.new (λ m. hung_up m stream) }
+    {
+        moves_keep_fits();
+        let Some(state) = &mut self.state else {
+            return Err(MasterFault::OutOfMemory);
+        };
+        let done = of_memory(hang_up(state, stream));
+        settle(&mut self.state, alloc, done)
+    }
+
+    /// A mail of an agent (Mesos paper, section 3.5). Why it is refused stands beside what it brings out: `G1 OtherRun` for a Report to
+    /// a master of another run, and with a Hello to the agent `G2 OldSession` below the open session, `G3 Closed` where none is open
+    /// and this one is closed, `G4 NotOpen` where no Report has opened it. Nothing happens where the agent isn't configured.
+    ///
+    /// The caller owes that an update has a number that an agent's record has room for, and that what a Report tells hasn't ended
+    /// fits what the agent owns.
+    pub fn mail(
+        &mut self,
+        alloc: Global,
+        agent: &AgentName,
+        mail: AgentMail,
+    ) -> Result<HeardMail, MasterFault>
+        requires number { FitsRecord mail }
+        requires fits { IfSome self.old (λ m. MailFitsAt agent.now mail m.sides) }
+        ensures { Hears result self.old self.new agent.now mail }
+    {
+        hearing_keeps_fits();
+        moves_keep_fits();
+        let Some(state) = &mut self.state else {
+            return Err(MasterFault::OutOfMemory);
+        };
+        match hear(state, alloc, agent, mail) {
+            Ok(refusal) => {
+                let outs = settle(&mut self.state, alloc, Ok(()))?;
+                Ok(HeardMail { outs, refusal })
+            }
+            Err(_) => {
+                let _outs = settle(&mut self.state, alloc, Err(MasterFault::OutOfMemory));
                 Err(MasterFault::OutOfMemory)
             }
-            Err(fault) => Err(fault),
         }
     }
 
-    /// The open stream of a framework, if it has one.
-    pub fn stream_of(&self, framework: FrameworkId) -> Option<StreamId>
-        ensures { result ≡ open_stream_of framework self.now.state.frameworks }
+    /// The sum of an agent's current offers; nothing where it isn't configured. Want of memory leaves the master as it is.
+    pub fn offered_on(&self, alloc: Global, agent: &AgentName) -> Result<Resources, MasterFault>
+        ensures { IfOk result (λ sum. option_map (λ m. offered_on m agent.now) self.now ≡ Some sum) }
     {
-        match self.state.frameworks.standing_of(framework) {
-            Standing::Connected(stream) => Some(stream),
-            _ => None,
+        let Some(state) = &self.state else {
+            return Err(MasterFault::OutOfMemory);
+        };
+        match sum_of(alloc, state.sides.offers_of(agent)) {
+            Ok(sum) => Ok(sum),
+            Err(_) => Err(MasterFault::OutOfMemory),
         }
     }
 }

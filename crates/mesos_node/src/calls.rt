@@ -4,13 +4,13 @@ ghost use Rattle.std.specs.Prelude.{◌≡◌, ◌<◌, ◌++◌, length, vec_le
 ghost use Rattle.std.specs.Io.KnownBytes.{Appends};
 ghost use Rattle.frame_record.specs.declared.fault.FrameFault.{FrameFault};
 ghost use Rattle.frame_record.specs.Records.{end_of};
-ghost use Rattle.mesos_node.specs.Replies.{IsAnswer, AppendsFront, fault_in};
+ghost use Rattle.mesos_node.specs.Replies.{IsAnswer, AppendsFront, fault_in, first_master};
 
 use crate::fault::Stop;
 use crate::output::read_some;
 use crate::reply::answer_all;
 use frame_record::{FrameFault, Reader, fault_stays, first_records_stay};
-use master_core::Master;
+use master_core::{Config, Master};
 use names_core::Run;
 use std::alloc::{AllocError, Global};
 use std::io::{self, ErrorKind, Read, Write};
@@ -34,14 +34,27 @@ fn fault_at_end(frames: &Reader) -> Option<FrameFault>
     }
 }
 
+/// A master that begins run 1, without agents.
+fn first_master(alloc: Global) -> Result<Master, Stop>
+    ensures { IfOk result (λ master. master ≡ first_master) }
+{
+    let config = Config::new(alloc);
+    match Master::start(alloc, Run::new(1), &config) {
+        Ok((master, _greetings)) => Ok(master),
+        Err(_) => Err(Stop::MasterMemory),
+    }
+}
+
 /// Answers the calls that a reader gives, which it reads by this buffer.
 fn answer_input<R: Read, W: Write>(
     alloc: Global,
     reader: &mut R,
     writer: &mut W,
     buffer: &mut [u8],
+    mut master: Master,
 ) -> Result<Option<FrameFault>, Stop>
-    requires { 0 < length buffer.old }
+    requires buffer { 0 < length buffer.old }
+    requires master { master ≡ first_master }
     ensures ok { IfOk result (λ fault. IfSome (R.remaining reader.old) (λ input.
         (text : List ℕ) × IsAnswer input text fault × Appends (W.contents writer.old) (W.contents writer.new) text)) }
     ensures err { OnErr result (IfSome (R.remaining reader.old) (λ input. (text : List ℕ) (fault : Option FrameFault)
@@ -50,7 +63,6 @@ fn answer_input<R: Read, W: Write>(
     first_records_stay();
     fault_stays();
     let mut frames = Reader::new(alloc);
-    let mut master = Master::start(alloc, Run::new(1));
     for _ in 0..u64::MAX {
         let count = match read_some(reader, buffer) {
             Ok(count) => count,
@@ -92,5 +104,9 @@ pub fn calls<R: Read, W: Write>(
         Ok(buffer) => buffer,
         Err(_) => return Err(Stop::FrameMemory),
     };
-    answer_input(alloc, reader, writer, &mut buffer)
+    let master = match first_master(alloc) {
+        Ok(master) => master,
+        Err(stop) => return Err(stop),
+    };
+    answer_input(alloc, reader, writer, &mut buffer, master)
 }

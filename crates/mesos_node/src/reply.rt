@@ -6,15 +6,15 @@ ghost use Rattle.frame_record.specs.Firsts.{bodies};
 ghost use Rattle.call_json.specs.Calls.{read_call};
 ghost use Rattle.call_members.specs.Texts as call_texts;
 ghost use Rattle.event_json.specs.declared.event.Event.TheVariants.{Error};
-ghost use Rattle.master_core.specs.Answers.{call_after, is_answered};
+ghost use Rattle.master_core.specs.Texts as master_texts;
 ghost use Rattle.mesos_node.specs.Replies.{AppendsFront, after_all, event_in, frame, frames, framework_of_call, replies, reply, stream_given};
 
 use crate::fault::Stop;
 use crate::output::put;
-use call_json::{Call, CallFault, Refusal, read_call};
+use call_json::{Call, CallFault, read_call};
 use event_json::{Event, Message, write_event};
 use frame_record::encode;
-use master_core::{Master, MasterFault, StreamEvent, is_answered};
+use master_core::{Master, MasterFault, StreamEvent, refusal_text};
 use names_core::{FrameworkId, StreamId};
 use std::alloc::Global;
 use std::io::Write;
@@ -37,7 +37,7 @@ fn framework_of_call(call: &Call) -> Option<FrameworkId>
 
 /// The open stream of a call's framework, if there is one.
 fn stream_given(master: &Master, call: &Call) -> Option<StreamId>
-    ensures { result ≡ stream_given master.now.state call.now }
+    ensures { result ≡ stream_given master.now call.now }
 {
     master.stream_of(framework_of_call(call)?)
 }
@@ -83,29 +83,22 @@ fn error_frame(alloc: Global, message: &str) -> Result<Vec<u8>, Stop>
 
 /// What the master answers to a call.
 fn answer(alloc: Global, master: &mut Master, call: Call) -> Result<Vec<u8>, Stop>
-    requires { IsTrue (is_answered call) }
-    ensures { IfOk result (λ text. (text.items ≡ frames (reply master.old.state (Ok call)).events) × (master.new.state ≡ (reply master.old.state (Ok call)).after)) }
+    ensures { IfOk result (λ text. (text.items ≡ frames (reply master.old (Ok call)).events) × (master.new ≡ (reply master.old (Ok call)).after)) }
 {
     let given = stream_given(master, &call);
     match master.call(alloc, given, call) {
         Ok(outs) => event_frames(alloc, outs.events.as_slice()),
-        Err(MasterFault::Refused(refusal)) => error_frame(alloc, refusal.as_text()),
+        Err(MasterFault::Refused(refusal)) => error_frame(alloc, refusal_text(refusal)),
         Err(MasterFault::OutOfMemory) => Err(Stop::MasterMemory),
     }
 }
 
 /// What a record is answered by.
 fn reply(alloc: Global, master: &mut Master, body: &[u8]) -> Result<Vec<u8>, Stop>
-    ensures { IfOk result (λ text. (text.items ≡ frames (reply master.old.state (read_call body.now)).events) × (master.new.state ≡ (reply master.old.state (read_call body.now)).after)) }
+    ensures { IfOk result (λ text. (text.items ≡ frames (reply master.old (read_call body.now)).events) × (master.new ≡ (reply master.old (read_call body.now)).after)) }
 {
     match read_call(alloc, body) {
-        Ok(call) => {
-            if is_answered(&call) {
-                answer(alloc, master, call)
-            } else {
-                error_frame(alloc, Refusal::UnknownType.as_text())
-            }
-        }
+        Ok(call) => answer(alloc, master, call),
         Err(CallFault::Refused(refusal)) => error_frame(alloc, refusal.as_text()),
         Err(CallFault::OutOfMemory) => Err(Stop::CallMemory),
     }
@@ -118,9 +111,9 @@ fn answer_one<W: Write>(
     body: &[u8],
     writer: &mut W,
 ) -> Result<(), Stop>
-    ensures ok { OnOk result (Appends (W.contents writer.old) (W.contents writer.new) (frames (reply master.old.state (read_call body.now)).events)) }
-    ensures after { OnOk result (master.new.state ≡ (reply master.old.state (read_call body.now)).after) }
-    ensures err { OnErr result (AppendsFront (W.contents writer.old) (W.contents writer.new) (frames (reply master.old.state (read_call body.now)).events)) }
+    ensures ok { OnOk result (Appends (W.contents writer.old) (W.contents writer.new) (frames (reply master.old (read_call body.now)).events)) }
+    ensures after { OnOk result (master.new ≡ (reply master.old (read_call body.now)).after) }
+    ensures err { OnErr result (AppendsFront (W.contents writer.old) (W.contents writer.new) (frames (reply master.old (read_call body.now)).events)) }
 {
     let text = match reply(alloc, master, body) {
         Ok(text) => text,
@@ -139,9 +132,9 @@ pub fn answer_all<W: Write>(
     records: &[Vec<u8>],
     writer: &mut W,
 ) -> Result<(), Stop>
-    ensures ok { OnOk result (Appends (W.contents writer.old) (W.contents writer.new) (replies master.old.state (bodies records.now))) }
-    ensures after { OnOk result (master.new.state ≡ after_all master.old.state (bodies records.now)) }
-    ensures err { OnErr result (AppendsFront (W.contents writer.old) (W.contents writer.new) (replies master.old.state (bodies records.now))) }
+    ensures ok { OnOk result (Appends (W.contents writer.old) (W.contents writer.new) (replies master.old (bodies records.now))) }
+    ensures after { OnOk result (master.new ≡ after_all master.old (bodies records.now)) }
+    ensures err { OnErr result (AppendsFront (W.contents writer.old) (W.contents writer.new) (replies master.old (bodies records.now))) }
 {
     for body in records {
         if let Err(stop) = answer_one(alloc, master, body, writer) {

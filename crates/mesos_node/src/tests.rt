@@ -111,6 +111,33 @@ fn a_removed_framework_stays_removed(rt: HostRuntime) -> Result<(), Fail> {
 }
 
 #[test]
+fn a_task_of_nobody_is_lost(rt: HostRuntime) -> Result<(), Fail> {
+    let kill =
+        b"81\n{\"framework_id\":{\"value\":\"F1-1\"},\"kill\":{\"task_id\":{\"value\":\"t1\"}},\"type\":\"KILL\"}".as_slice();
+    let lost =
+        b"84\n{\"type\":\"UPDATE\",\"update\":{\"status\":{\"state\":\"TASK_LOST\",\"task_id\":{\"value\":\"t1\"}}}}".as_slice();
+    let (text, _) = answer(rt.alloc(), &joined(rt.alloc(), &[SUBSCRIBE, kill])?)?;
+    assert!(rt; text == joined(rt.alloc(), &[SUBSCRIBED, lost])?);
+    Ok(())
+}
+
+#[test]
+fn frameworks_are_limited(rt: HostRuntime) -> Result<(), Fail> {
+    let mut input = Vec::new(rt.alloc());
+    for _ in 0..4097u32 {
+        input.extend_from_slice(SUBSCRIBE)?;
+    }
+    input.extend_from_slice(SUBSCRIBE_AGAIN)?;
+    let (text, _) = answer(rt.alloc(), &input)?;
+    let limit = b"55\n{\"error\":{\"message\":\"M4 LimitExceeded\"},\"type\":\"ERROR\"}".as_slice();
+    let failed_over =
+        b"60\n{\"error\":{\"message\":\"Framework failed over\"},\"type\":\"ERROR\"}".as_slice();
+    let end = joined(rt.alloc(), &[limit, failed_over, SUBSCRIBED])?;
+    assert!(rt; text.as_slice().ends_with(&end));
+    Ok(())
+}
+
+#[test]
 fn frames_before_a_fault_are_answered(rt: HostRuntime) -> Result<(), Fail> {
     let (text, fault) = answer(
         rt.alloc(),

@@ -7,11 +7,11 @@ use Rattle.mesos_node.proofs.Written.{appends_more, appends_nothing}
 use Rattle.mesos_node.proofs.reply.answer_all.Goals as goal
 
 pub loop-body-init : goal.loop-body-init
-loop-body-init g c = record { written = rw (replies_none c.args.master.now.state) (appends_nothing (g.W.Write.contents c.args.writer.now)); after = sym (after_none c.args.master.now.state) }
+loop-body-init g c = record { written = rw (replies_none c.args.master.now) (appends_nothing (g.W.Write.contents c.args.writer.now)); after = sym (after_none c.args.master.now) }
 
 pub loop-body-preserved : goal.loop-body-preserved
 loop-body-preserved g c =
-    let s = c.args.master.now.state in
+    let s = c.args.master.now in
     let rs = c.args.records.now in
     let i = c.loop-body.body-index in
     let r = c.body-item.result in
@@ -25,7 +25,7 @@ loop-body-preserved g c =
 
 pub returns-in-Err-clause-err : goal.returns-in-Err-clause-err
 returns-in-Err-clause-err g c =
-    let s = c.args.master.now.state in
+    let s = c.args.master.now in
     let rs = c.args.records.now in
     let i = c.loop-body.body-index in
     let r = c.body-item.result in

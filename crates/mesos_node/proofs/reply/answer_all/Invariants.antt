@@ -6,6 +6,6 @@ use Rattle.mesos_node.proofs.reply.answer_all.Given as goal
 
 abbrev pub invariant-loop-body : goal.invariant-loop-body
 invariant-loop-body g l = record {
-  written : Appends (g.W.Write.contents l.initial.writer) (g.W.Write.contents l.writer) (replies l.initial.master.state (bodies (take l.body-index l.records)));
-  after : l.master.state ≡ after_all l.initial.master.state (bodies (take l.body-index l.records));
+  written : Appends (g.W.Write.contents l.initial.writer) (g.W.Write.contents l.writer) (replies l.initial.master (bodies (take l.body-index l.records)));
+  after : l.master ≡ after_all l.initial.master (bodies (take l.body-index l.records));
 }

@@ -1,0 +1,31 @@
+-- Where an agent is lost nothing is refused.
+use Rattle.std.proofs.Common.{◌≡◌, ℕ, Bool, true, false, List, [], ◌∷◌, Option, None, refl, bytes_eq}
+use Rattle.std.specs.Prelude.{if◌then◌else◌, cond}
+use Rattle.mails.specs.declared.refusal.MasterRefusal.{MasterRefusal}
+use Rattle.cluster_model.specs.Sides.{Side}
+use Rattle.cluster_model.specs.Masters.{Doing, Master, nothing}
+use Rattle.cluster_model.specs.Mails.{agent_lost}
+use Rattle.agent_sides.specs.Looks.{told_of}
+use Rattle.master_mails.specs.Steps.{lost_by}
+
+abbrev NotRefused : Doing → Type 0
+NotRefused d = d.refusal ≡ None
+
+lost_so : (m : Master) (s : Side) → NotRefused (agent_lost m s)
+lost_so m s = by s.is_open _ _ refl refl
+  where
+    by : (b : Bool) (d e : Doing) → NotRefused d → NotRefused e → NotRefused (if b then d else e)
+    by true d e h k = h
+    by false d e h k = k
+
+told_so : (m : Master) (agent : List ℕ) (ss : List Side) → NotRefused (told_of agent (agent_lost m) (nothing m) ss)
+told_so m agent [] = refl
+told_so m agent (s ∷ ss) = by (bytes_eq s.name agent) (lost_so m s) (told_so m agent ss)
+  where
+    by : (b : Bool) → NotRefused (agent_lost m s) → NotRefused (told_of agent (agent_lost m) (nothing m) ss)
+        → NotRefused (if b then agent_lost m s else told_of agent (agent_lost m) (nothing m) ss)
+    by true here rest = here
+    by false here rest = rest
+
+pub not_refused : (m : Master) (agent : List ℕ) → (lost_by m agent).refusal ≡ None
+not_refused m agent = told_so m agent m.sides

@@ -1,0 +1,17 @@
+use Rattle.std.proofs.Common.{[], ap, refl}
+use Rattle.master_state.specs.declared.state.Outs.{Outs}
+use Rattle.mails.specs.declared.mail.ToAgent.{ToAgent}
+use Rattle.std.specs.Prelude.{List}
+use Rattle.master_core.proofs.Starting.{fresh_fits, greets}
+use Rattle.master_core.proofs.master.Master.start.Goals as goal
+
+abbrev with_mails : List ToAgent → Outs
+with_mails mails = record { events = []; opened = []; closed = []; mails = mails }
+
+pub invariant_of-result : goal.invariant_of-result
+invariant_of-result c = rw (c.take_outs-outs.ensures.state, c.in_ok-state.ensures) (refl, fresh_fits c.args.run c.args.config.now c.agents-agents.ensures.few)
+
+pub returns-clause-outs : goal.returns-clause-outs
+returns-clause-outs c =
+    let ordered = rw c.in_ok-state.ensures at c.stand_in_order.ensures in
+    rw (c.take_outs-outs.ensures.outs, c.in_ok-send_again.ensures, c.in_ok-state.ensures) (ap with_mails (greets c.args.run c.args.config.now ordered))
