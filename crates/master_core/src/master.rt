@@ -1,6 +1,6 @@
 //! Masters.
 
-ghost use Rattle.std.specs.Prelude.{◌≡◌, Some, None, IfOk, IfSome, option_and_then, option_map};
+ghost use Rattle.std.specs.Prelude.{◌≡◌, Some, None, IfOk, IfErr, IfSome, option_and_then, option_map};
 ghost use Rattle.cluster_model.specs.Calls.{called};
 ghost use Rattle.cluster_model.specs.Masters.{framework_of, stream_of};
 ghost use Rattle.cluster_model.specs.Mails.{hung_up, ticked};
@@ -75,6 +75,7 @@ impl Master {
     pub fn start(alloc: Global, run: Run, config: &Config) -> Result<(Master, Outs), MasterFault>
         ensures master { IfOk result (λ started. started.0 ≡ Some (master_of (fresh run config.now))) }
         ensures outs { IfOk result (λ started. started.1 ≡ outs_of (master_of (fresh run config.now)) (greeting (master_of (fresh run config.now)))) }
+        ensures refused { IfErr result (λ fault. fault ≡ MasterFault.OutOfMemory) }
     {
         let _agents = config.agents();
         let mut state = State::new(alloc, run, config)?;
@@ -204,7 +205,8 @@ impl Master {
 
     /// The sum of an agent's current offers; nothing where it isn't configured. Want of memory leaves the master as it is.
     pub fn offered_on(&self, alloc: Global, agent: &AgentName) -> Result<Resources, MasterFault>
-        ensures { IfOk result (λ sum. option_map (λ m. offered_on m agent.now) self.now ≡ Some sum) }
+        ensures sum { IfOk result (λ sum. option_map (λ m. offered_on m agent.now) self.now ≡ Some sum) }
+        ensures refused { IfErr result (λ fault. fault ≡ MasterFault.OutOfMemory) }
     {
         let Some(state) = &self.state else {
             return Err(MasterFault::OutOfMemory);
