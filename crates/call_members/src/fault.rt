@@ -1,6 +1,6 @@
 //! Why a text is no call.
 
-ghost use Rattle.std.specs.Prelude.{◌≡◌, ◌≤◌, length};
+ghost use Rattle.std.specs.Prelude.{◌≡◌, ◌≤◌, length, Some};
 ghost use Rattle.call_members.specs.Texts.{missing_text, refusal_text, fault_text};
 ghost use Rattle.call_members.specs.declared.fault.CallFault.TheVariants.{OutOfMemory, Refused};
 
@@ -134,6 +134,8 @@ impl CallFault {
 }
 
 impl fmt::Display for Refusal {
+    ghost output = { λ refusal. Some (refusal_text refusal) };
+
     fn fmt<W: fmt::Write>(&self, f: &mut fmt::Formatter<W>) -> fmt::Result {
         f.write_str(self.as_text())
     }
@@ -142,6 +144,8 @@ impl fmt::Display for Refusal {
 impl Error for Refusal {}
 
 impl fmt::Display for CallFault {
+    ghost output = { λ fault. Some (fault_text fault) };
+
     fn fmt<W: fmt::Write>(&self, f: &mut fmt::Formatter<W>) -> fmt::Result {
         f.write_str(self.as_text())
     }
