@@ -23,7 +23,7 @@ pub fn is_open_in(entries: &[RosterEntry], place: usize) -> bool
     entries[place].is_open()
 }
 
-/// The open session of the agent at a place, or the last one that was open; 0 past the end.
+/// The open session of the agent at a place; 0 where none is open, and past the end.
 pub fn session_in(entries: &[RosterEntry], place: usize) -> u32
     ensures { result ≡ told_at place (λ s. s.session) 0 entries.now }
 {

@@ -234,7 +234,7 @@ impl Sides {
         self.roster.place_of(name)
     }
 
-    /// The open session of the agent at a place, or the last one that was open; 0 past the end.
+    /// The open session of the agent at a place; 0 where none is open, and past the end.
     pub fn session_at(&self, place: usize) -> u32
         ensures { result ≡ told_at place (λ s. s.session) 0 self.now }
     {

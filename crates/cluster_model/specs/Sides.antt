@@ -212,9 +212,9 @@ heard run s (Update session key k state ended) =
 
 -- ends of sessions and runs
 
--- no session is open, and this one was the last
+-- no session is open, and the last one that was closed is this
 abbrev pub shut : Side → ℕ → Side
-shut s closed = record s { is_open = false; closed = closed; waiting = []; known = 0; offers = []; booked = [] }
+shut s closed = record s { is_open = false; session = 0; closed = closed; waiting = []; known = 0; offers = []; booked = [] }
 
 -- the agent is lost: its session is closed, and it leaves the books
 abbrev pub lost : Side → Side

@@ -72,7 +72,7 @@ impl RosterEntry {
         self.is_open
     }
 
-    /// The open session, or the last one that was open; 0 before the first.
+    /// The open session, 0 where none is open.
     pub fn session(&self) -> u32
         ensures { result ≡ self.now.session }
     {
@@ -191,6 +191,7 @@ impl RosterEntry {
         if self.is_open {
             self.is_open = false;
             self.closed = self.session;
+            self.session = 0;
             self.link = LinkOut::new(alloc);
         }
     }
