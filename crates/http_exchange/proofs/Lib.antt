@@ -1,0 +1,7 @@
+mod Parts
+mod Heads
+mod Chunks
+mod Bodies
+mod Requests
+mod Responses
+mod Exchanges
