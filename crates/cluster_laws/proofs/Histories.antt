@@ -1,0 +1,67 @@
+-- What holds after every list of steps.
+use Rattle.std.proofs.Common.{◌≡◌, ℕ, suc, List, [], ◌∷◌, ◌++◌, length, length-append, map, Result, Ok, Err, refl, sym, ap, ◌∙◌, subst, arith}
+use Rattle.mails.specs.declared.record.Durable.{Durable}
+use Rattle.cluster_model.specs.Channels.{World, Happening, open_channel, open_world, after, after_all}
+use Rattle.cluster_model.specs.Clusters.{Cluster, StepRefusal}
+use Rattle.cluster_model.specs.Openings.{NamesOnce, GoodOpening}
+use Rattle.cluster_model.specs.Steps.{Done, greets_all, open_cluster, opened_over, Marked, step_marked, History, opening, extended, extend_all, history}
+use Rattle.cluster_laws.specs.Items.{names_of, Item, Stand, StandIn, items_sent, call_of, new_items}
+use Rattle.cluster_laws.proofs.Lists.{cons_same}
+use Rattle.cluster_laws.proofs.Grown.{worlds_named}
+use Rattle.cluster_laws.proofs.Follows.{Follows, Followed, effect_follows, step_follows}
+
+-- what one happening keeps, all keep
+happened : (Q : World → Type 0) → ((w : World) (h : Happening) → Q w → Q (after w h)) → (hs : List Happening) (w : World) → Q w → Q (after_all hs w)
+happened Q f [] w q = q
+happened Q f (h ∷ hs) w q = happened Q f hs (after w h) (f w h q)
+
+answered : (Q : World → Type 0) → ((w : World) (h : Happening) → Q w → Q (after w h)) → (h : History) (calls : List Item) (r : Result Done StepRefusal) → Follows calls h.state r → Q h.state.world → Q (extended h r).state.world
+answered Q f h calls (Ok d) follows q = subst Q (sym follows.world) (happened Q f d.happenings h.state.world q)
+answered Q f h calls (Err refusal) follows q = q
+
+extended_all : (Q : World → Type 0) → ((w : World) (h : Happening) → Q w → Q (after w h)) → (h : History) (steps : List Marked) → Q h.state.world → Q (extend_all h steps).state.world
+extended_all Q f h [] q = q
+extended_all Q f h (s ∷ ss) q = extended_all Q f (extended h (step_marked h.state s)) ss (answered Q f h (call_of s.step) (step_marked h.state s) (step_follows h.state s) q)
+
+pub reached : (Q : World → Type 0) → ((w : World) (h : Happening) → Q w → Q (after w h)) → (run : ℕ) (records : List Durable) (steps : List Marked) → Q (open_world run records) → Q (history run records steps).state.world
+reached Q f run records steps q = extended_all Q f (opening run records) steps (happened Q f (greets_all (opened_over run records)).happenings (open_world run records) q)
+
+-- names
+
+opened_names : (records : List Durable) → names_of (map open_channel records) ≡ map (λ d. d.name) records
+opened_names [] = refl
+opened_names (d ∷ ds) = cons_same d.name d.name (names_of (map open_channel ds)) (map (λ (x : Durable). x.name) ds) refl (opened_names ds)
+
+pub history_names : (run : ℕ) (records : List Durable) (steps : List Marked) → names_of (history run records steps).state.world.channels ≡ map (λ d. d.name) records
+history_names run records steps = reached (λ w. names_of w.channels ≡ map (λ (d : Durable). d.name) records) (λ w h e. worlds_named (h ∷ []) w ∙ e) run records steps (opened_names records)
+
+pub history_once : (run : ℕ) (records : List Durable) (steps : List Marked) → GoodOpening run records → NamesOnce (names_of (history run records steps).state.world.channels)
+history_once run records steps good = subst NamesOnce (sym (history_names run records steps)) good.names_once
+
+-- items
+
+pub opening_stands : (run : ℕ) (records : List Durable) → GoodOpening run records → StandIn (opening run records).state (items_sent [] (open_cluster run records).entry.outs.sent)
+opening_stands run records good = (effect_follows [] (opened_over run records) (greets_all (opened_over run records))).posted [] (subst NamesOnce (sym (opened_names records)) good.names_once) refl
+
+step_stands : (h : History) (calls : List Item) (r : Result Done StepRefusal) (d : Done) (sent : List Item) → Follows calls h.state r → NamesOnce (names_of h.state.world.channels) → r ≡ Ok d → StandIn h.state sent → StandIn d.after (sent ++ items_sent calls d.entry.outs.sent)
+step_stands h calls (Err refusal) d sent follows once e stand = absurd cc
+step_stands h calls (Ok x) d sent follows once e stand = let is : x ≡ d = cc in subst (λ (y : Done). StandIn y.after (sent ++ items_sent calls y.entry.outs.sent)) is (follows.posted sent once stand)
+
+pub history_stands : (run : ℕ) (records : List Durable) (steps : List Marked) (s : Marked) (d : Done) (sent : List Item) → GoodOpening run records → step_marked (history run records steps).state s ≡ Ok d →
+    StandIn (history run records steps).state sent → StandIn d.after (sent ++ new_items s.step d)
+history_stands run records steps s d sent good e stand =
+    let h = history run records steps in
+    step_stands h (call_of s.step) (step_marked h.state s) d sent (step_follows h.state s) (history_once run records steps good) e stand
+
+-- entries
+
+counted_one : (h : History) (calls : List Item) (r : Result Done StepRefusal) → Follows calls h.state r → h.state.entries ≡ length h.entries → (extended h r).state.entries ≡ length (extended h r).entries
+counted_one h calls (Ok d) follows e = let n = follows.entries in omega (arith, n, e, length-append h.entries (d.entry ∷ []))
+counted_one h calls (Err refusal) follows e = e
+
+counted_all : (h : History) (steps : List Marked) → h.state.entries ≡ length h.entries → (extend_all h steps).state.entries ≡ length (extend_all h steps).entries
+counted_all h [] e = e
+counted_all h (s ∷ ss) e = counted_all (extended h (step_marked h.state s)) ss (counted_one h (call_of s.step) (step_marked h.state s) (step_follows h.state s) e)
+
+pub history_counted : (run : ℕ) (records : List Durable) (steps : List Marked) → (history run records steps).state.entries ≡ length (history run records steps).entries
+history_counted run records steps = counted_all (opening run records) steps refl

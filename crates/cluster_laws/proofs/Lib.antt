@@ -1,0 +1,17 @@
+pub mod Lists
+pub mod Sides
+pub mod Grown
+pub mod Found
+pub mod Sent
+pub mod Follows
+pub mod Histories
+pub mod Agents
+pub mod Named
+pub mod Posts
+pub mod Again
+pub mod Limits
+pub mod Moves
+pub mod Ordinary
+pub mod WithinRuns
+pub mod Streams
+pub mod Told

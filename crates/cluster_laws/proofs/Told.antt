@@ -1,0 +1,41 @@
+-- What is told of the side of a name is told of the side of its channel.
+use Rattle.std.proofs.Common.{◌≡◌, ℕ, Bool, true, false, List, [], ◌∷◌, map, Some, refl, ap, bytes_eq}
+use Rattle.mails.specs.declared.mail.AgentMail.{AgentMail}
+use Rattle.mails.specs.declared.record.Durable.{Durable}
+use Rattle.agent_sides.specs.Changes.{side_of}
+use Rattle.agent_sides.specs.Looks.{told_of}
+use Rattle.cluster_model.specs.Sides.{Side, new_run}
+use Rattle.cluster_model.specs.Channels.{Channel, open_channel}
+use Rattle.cluster_model.specs.Clusters.{Cluster, master_of, sides_of}
+use Rattle.cluster_model.specs.Mails.{agent_lost, mailed}
+use Rattle.cluster_model.specs.Masters.{new_registers, nothing}
+use Rattle.cluster_model.specs.Steps.{channel_of, opened_over}
+use Rattle.master_mails.specs.Steps.{lost_by, mailed_by}
+use Rattle.master_state.specs.States.{fresh}
+use Rattle.master_state.specs.Works.{master_of as master_in}
+use Rattle.cluster_laws.specs.Items.{channel_at}
+use Rattle.cluster_laws.specs.Parts.{configured}
+
+told_is : {X : Type 0} (agent : List ℕ) (cs : List Channel) (x : Channel) (tell : Side → X) (none : X) → channel_at agent cs ≡ Some x → told_of agent tell none (sides_of cs) ≡ tell x.side
+told_is agent [] x tell none e = absurd cc
+told_is agent (c ∷ cs) x tell none e = by (bytes_eq c.side.name agent) refl e (λ f. told_is agent cs x tell none f)
+  where
+    by : (t : Bool) → bytes_eq c.side.name agent ≡ t → channel_at agent (c ∷ cs) ≡ Some x → (channel_at agent cs ≡ Some x → told_of agent tell none (sides_of cs) ≡ tell x.side) → told_of agent tell none (sides_of (c ∷ cs)) ≡ tell x.side
+    by true b f rest =
+        let found_it : Some c ≡ Some x = rw b at f in
+        let is : c ≡ x = cc in
+        rw b (ap (λ (y : Channel). tell y.side) is)
+    by false b f rest = rw b (rest (rw b at f))
+
+pub lost_is : (c : Cluster) (agent : List ℕ) (x : Channel) → channel_of c agent ≡ Some x → lost_by (master_of c) agent ≡ agent_lost (master_of c) x.side
+lost_is c agent x e = told_is agent c.world.channels x (agent_lost (master_of c)) (nothing (master_of c)) e
+
+pub mailed_is : (c : Cluster) (agent : List ℕ) (x : Channel) (mail : AgentMail) → channel_of c agent ≡ Some x → mailed_by (master_of c) agent mail ≡ mailed (master_of c) x.side mail
+mailed_is c agent x mail e = told_is agent c.world.channels x (λ s. mailed (master_of c) s mail) (nothing (master_of c)) e
+
+sides_are : (records : List Durable) → map side_of (map configured records) ≡ sides_of (map open_channel records)
+sides_are [] = refl
+sides_are (d ∷ ds) = ap (λ ss. side_of (configured d) ∷ ss) (sides_are ds)
+
+pub fresh_is : (run : ℕ) (records : List Durable) → master_in (fresh run (map configured records)) ≡ master_of (opened_over run records)
+fresh_is run records = ap (λ (ss : List Side). record { run = new_run run; sides = ss; registers = new_registers }) (sides_are records)

@@ -1,0 +1,4 @@
+pub mod Items
+pub mod Premises
+pub mod Parts
+pub mod Runs

@@ -1,0 +1,23 @@
+-- What the code owes at each mail that it hands to a part.
+use Rattle.std.specs.Prelude.{◌≡◌, ℕ, true, List, slice_get, Some}
+use Rattle.std.specs.List.{AllByRecursion as Each}
+use Rattle.stream_core.specs.Updates.{are_updates}
+use Rattle.mails.specs.declared.mail.ToAgent.{ToAgent}
+use Rattle.mails.specs.declared.mail.ToMaster.{ToMaster}
+use Rattle.mails.specs.declared.record.Durable.{Durable}
+use Rattle.cluster_model.specs.Channels.{Channel}
+use Rattle.cluster_model.specs.Clusters.{Cluster, Called, Down, Up}
+use Rattle.cluster_model.specs.Steps.{channel_of}
+use Rattle.cluster_safe.specs.Acknowledged.{recorded_tasks}
+
+-- the tasks of the records have updates as every value of the type `Updates` is
+abbrev pub AreRecorded : List Durable → Type 0
+AreRecorded records = Each (λ t. are_updates t.updates.states t.updates.acknowledged ≡ true) (recorded_tasks records)
+
+-- the post at a place of all posts is this mail to an agent, in its channel
+abbrev pub IsDown : Cluster → ℕ → ToAgent → Type 0
+IsDown c n to = (place : ℕ) × (x : Channel) × (slice_get c.posts n ≡ Some (Down to.agent place)) × (channel_of c to.agent ≡ Some x) × (slice_get x.to_agent place ≡ Some to.mail)
+
+-- or this mail of an agent
+abbrev pub IsUp : Cluster → ℕ → ToMaster → Type 0
+IsUp c n to = (place : ℕ) × (x : Channel) × (slice_get c.posts n ≡ Some (Up to.agent place)) × (channel_of c to.agent ≡ Some x) × (slice_get x.to_master place ≡ Some to.mail)

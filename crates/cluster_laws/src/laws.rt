@@ -1,0 +1,65 @@
+//! What was sent, and what the parts owe to each other.
+
+ghost use Rattle.std.specs.Prelude.{◌≡◌, ◌++◌, false, List, [], map, slice_get, Option, Some, None, Ok, ℕ};
+ghost use Rattle.std.specs.List.{AllByRecursion as Each};
+ghost use Rattle.agent_core.specs.Drafts.{repeats_launch};
+ghost use Rattle.cluster_laws.specs.Items.{Item, StandIn, items_sent, names_of, new_items};
+ghost use Rattle.cluster_laws.specs.Premises.{AreRecorded, IsDown, IsUp};
+ghost use Rattle.cluster_laws.specs.declared.item.Item.TheVariants as items;
+ghost use Rattle.cluster_model.specs.Clusters.{Called, Cluster, sides_of};
+ghost use Rattle.cluster_model.specs.Openings.{GoodOpening, NamesOnce};
+ghost use Rattle.cluster_model.specs.Steps.{Done, Marked, history, open_cluster, opening, step_marked};
+ghost use Rattle.mails.specs.declared.call.Call.{Call};
+ghost use Rattle.mails.specs.declared.cause.Cause.TheVariants.{Mail};
+ghost use Rattle.mails.specs.declared.mail.ToAgent.{ToAgent};
+ghost use Rattle.mails.specs.declared.mail.ToMaster.{ToMaster};
+ghost use Rattle.mails.specs.declared.record.Durable.{Durable};
+ghost use Rattle.master_mails.specs.Steps.{FitsRecord};
+ghost use Rattle.names_core.specs.Ids.{Numbered};
+ghost use Rattle.side_fits.specs.Fits.{MailFitsAt};
+
+use cluster_safe::mails_meet_their_premises;
+
+/// The agents keep their names and their order, and no name stands twice.
+pub fn agents_keep_their_names()
+    ensures names { (run : ℕ) (records : List Durable) (steps : List Marked) → names_of (history run records steps).state.world.channels ≡ map (λ d. d.name) records }
+    ensures once { (run : ℕ) (records : List Durable) (steps : List Marked) → GoodOpening run records → NamesOnce (names_of (history run records steps).state.world.channels) }
+{}
+
+/// The mails of the opening stand for its posts, one for one.
+pub fn opening_items_stand()
+    ensures { (run : ℕ) (records : List Durable) → GoodOpening run records → StandIn (opening run records).state (items_sent [] (open_cluster run records).entry.outs.sent) }
+{}
+
+/// Where items stand for all posts, they stand so after each step, with the items that it sends behind them.
+pub fn sent_items_stand()
+    ensures { (run : ℕ) (records : List Durable) (steps : List Marked) (s : Marked) (d : Done) (sent : List Item) → GoodOpening run records →
+        step_marked (history run records steps).state s ≡ Ok d → StandIn (history run records steps).state sent → StandIn d.after (sent ++ new_items s.step d) }
+{}
+
+/// From an item at its place, which is its number less 1, to its post, and to the mail in its channel.
+pub fn items_are_posts()
+    ensures calls { (c : Cluster) (sent : List Item) (n : ℕ) (stream : Option Numbered) (call : Call) → StandIn c sent → slice_get sent n ≡ Some (items.Call stream call) → slice_get c.posts n ≡ Some (Called stream call) }
+    ensures to_agents { (c : Cluster) (sent : List Item) (n : ℕ) (to : ToAgent) → StandIn c sent → slice_get sent n ≡ Some (items.ToAgent to) → IsDown c n to }
+    ensures to_master { (c : Cluster) (sent : List Item) (n : ℕ) (to : ToMaster) → StandIn c sent → slice_get sent n ≡ Some (items.ToMaster to) → IsUp c n to }
+    ensures none { (c : Cluster) (sent : List Item) (n : ℕ) → StandIn c sent → slice_get sent n ≡ None → slice_get c.posts n ≡ None }
+{}
+
+/// Each mail of an agent that was ever sent tells an update of a number that a record has room for, where the records of the opening have
+/// updates as their type allows, and the tasks that it reports fit what the agent owns.
+pub fn mails_of_agents_fit()
+    ensures number { (run : ℕ) (records : List Durable) (steps : List Marked) (sent : List Item) (n : ℕ) (to : ToMaster) → AreRecorded records →
+        StandIn (history run records steps).state sent → slice_get sent n ≡ Some (items.ToMaster to) → FitsRecord to.mail }
+    ensures fits { (run : ℕ) (records : List Durable) (steps : List Marked) (sent : List Item) (n : ℕ) (to : ToMaster) → GoodOpening run records →
+        StandIn (history run records steps).state sent → slice_get sent n ≡ Some (items.ToMaster to) → MailFitsAt to.agent to.mail (sides_of (history run records steps).state.world.channels) }
+{
+    mails_meet_their_premises();
+}
+
+/// No mail to an agent that was ever sent is a next command that launches under a key of the record of the agent that it is handed to.
+pub fn mails_to_agents_launch_anew()
+    ensures { (run : ℕ) (records : List Durable) (steps : List Marked) (sent : List Item) (n : ℕ) (to : ToAgent) → GoodOpening run records →
+        StandIn (history run records steps).state sent → slice_get sent n ≡ Some (items.ToAgent to) → Each (λ x. repeats_launch x.agent (Mail to) ≡ false) (history run records steps).state.world.channels }
+{
+    mails_meet_their_premises();
+}

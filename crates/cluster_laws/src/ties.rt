@@ -1,0 +1,24 @@
+//! The words of the master's contracts are those of the model.
+
+ghost use Rattle.std.specs.Prelude.{◌≡◌, List, map, slice_get, Some, ℕ};
+ghost use Rattle.cluster_laws.specs.Parts.{configured};
+ghost use Rattle.cluster_model.specs.Channels.{Channel};
+ghost use Rattle.cluster_model.specs.Clusters.{Cluster, master_of};
+ghost use Rattle.cluster_model.specs.Mails.{agent_lost, mailed};
+ghost use Rattle.cluster_model.specs.Steps.{channel_of, opened_over};
+ghost use Rattle.mails.specs.declared.mail.AgentMail.{AgentMail};
+ghost use Rattle.mails.specs.declared.record.Durable.{Durable};
+ghost use Rattle.master_mails.specs.Steps.{lost_by, mailed_by};
+ghost use Rattle.master_state.specs.States.{fresh};
+ghost use Rattle.master_state.specs.Works.{master_of as master_in};
+
+/// What the master does at the agent of a name is what the model has it do at the side of its channel.
+pub fn named_agents_are_found()
+    ensures losses { (c : Cluster) (agent : List ℕ) (x : Channel) → channel_of c agent ≡ Some x → lost_by (master_of c) agent ≡ agent_lost (master_of c) x.side }
+    ensures mails { (c : Cluster) (agent : List ℕ) (x : Channel) (mail : AgentMail) → channel_of c agent ≡ Some x → mailed_by (master_of c) agent mail ≡ mailed (master_of c) x.side mail }
+{}
+
+/// A master that begins a run over the agents of records is the one that the opening has before it greets them.
+pub fn fresh_masters_open()
+    ensures { (run : ℕ) (records : List Durable) → master_in (fresh run (map configured records)) ≡ master_of (opened_over run records) }
+{}

@@ -1,0 +1,45 @@
+//! What was ever sent.
+
+ghost use Rattle.std.specs.Prelude.{◌≡◌, ◌-◌, ◌≤◌, ℕ};
+ghost use Rattle.post_rules.specs.Numbers.{is_number, numbers_are_from_one};
+
+use crate::direction::Direction;
+use crate::post::Post;
+use std::alloc::{AllocError, Global};
+
+/// All that was ever put can be handed out, in any order and any number of times.
+#[derive(Debug, Drop)]
+pub struct EverSent {
+    count: u64,
+}
+
+impl Post for EverSent {
+    ghost count = { λ p. p.count };
+
+    ghost gives = { λ p n. is_number p.count n };
+
+    ghost room = { λ p. 18446744073709551615 - p.count };
+
+    ghost was_put = { λ p n e. numbers_are_from_one p.count n e };
+
+    fn empty() -> EverSent {
+        EverSent { count: 0 }
+    }
+
+    fn reserve(&mut self, _alloc: Global, more: usize) -> Result<(), AllocError> {
+        if u64::MAX - self.count < more as u64 {
+            return Err(AllocError);
+        }
+        Ok(())
+    }
+
+    fn put(&mut self, _direction: Direction) {
+        self.count += 1;
+    }
+
+    fn can_give(&self, n: u64) -> bool {
+        0 < n && n <= self.count
+    }
+
+    fn given(&mut self, _n: u64) {}
+}

@@ -1,0 +1,12 @@
+//! Which of all that was ever sent can be handed out: rules by number, without the contents.
+#![tactic(auto)]
+
+mod direction;
+mod ever_sent;
+mod post;
+#[cfg(test)]
+mod tests;
+
+pub use direction::Direction;
+pub use ever_sent::EverSent;
+pub use post::Post;
