@@ -1,0 +1,14 @@
+//! The steps of a cluster, and the entries of its history: plain data.
+#![tactic(auto)]
+
+mod copies;
+mod entry;
+mod events;
+mod fault;
+mod step;
+#[cfg(test)]
+mod tests;
+
+pub use entry::{Entry, Outputs, Sent, Verdict};
+pub use fault::ClusterFault;
+pub use step::{Keep, Step, StepCause};

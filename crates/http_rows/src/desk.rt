@@ -1,0 +1,179 @@
+//! A bench over a master.
+
+use event_json::Event;
+use http_door::{Answer, Bench, BenchFault, LinkFault, NoGate, Sink, Source, serve_conn};
+use mails::Call;
+use master_core::{Config, Master, MasterFault, Outs, StreamEvent};
+use names_core::{Run, StreamId};
+use std::alloc::{AllocError, Global};
+
+/// A master, and what it told its streams that wasn't taken yet.
+#[derive(Drop)]
+pub struct Desk {
+    alloc: Global,
+    pub master: Master,
+    told: Vec<StreamEvent>,
+}
+
+impl Desk {
+    /// A master that begins run 1, without agents.
+    pub fn new(alloc: Global) -> Result<Desk, MasterFault> {
+        let config = Config::new(alloc);
+        let (master, _greetings) = Master::start(alloc, Run::new(1), &config)?;
+        Ok(Desk {
+            alloc,
+            master,
+            told: Vec::new(alloc),
+        })
+    }
+
+    /// Keeps what a step told, and gives the stream that it opened.
+    fn keep(&mut self, outs: Outs) -> Result<Option<StreamId>, AllocError> {
+        let opened = outs.opened.as_slice().first().copied();
+        for told in outs.events.into_vec() {
+            self.told.push(told)?;
+        }
+        Ok(opened)
+    }
+
+    /// A moment later.
+    pub fn tick(&mut self, now: u32) -> Result<(), MasterFault> {
+        let outs = self.master.tick(self.alloc, now)?;
+        let _none = self.keep(outs)?;
+        Ok(())
+    }
+
+    /// Whether a stream has events that weren't taken.
+    pub fn has_told(&self, stream: StreamId) -> bool {
+        self.told.iter().any(|told| told.stream == stream)
+    }
+
+    /// The first event of a stream that wasn't taken.
+    fn take(&mut self, stream: StreamId) -> Option<Event> {
+        let at = self.told.iter().position(|told| told.stream == stream)?;
+        Some(self.told.remove(at).event)
+    }
+}
+
+impl Bench for Desk {
+    ghost use Rattle.std.specs.Prelude.{⊤};
+
+    ghost does = { λ _ _ _. ⊤ };
+
+    fn call(&mut self, stream: Option<StreamId>, call: Call) -> Answer {
+        let outs = match self.master.call(self.alloc, stream, call) {
+            Ok(outs) => outs,
+            Err(MasterFault::Refused(refusal)) => return Answer::Refused(BenchFault::Master(
+                refusal,
+            )),
+            Err(MasterFault::OutOfMemory) => return Answer::Refused(BenchFault::MasterOutOfMemory),
+        };
+        match self.keep(outs) {
+            Ok(Some(opened)) => Answer::Opened(opened),
+            Ok(None) => Answer::Accepted,
+            Err(_) => Answer::Refused(BenchFault::OutOfMemory),
+        }
+    }
+
+    /// Where nothing is told any more, the stream is as closed.
+    fn next_events(&mut self, stream: StreamId) -> Result<Option<Event>, AllocError> {
+        Ok(self.take(stream))
+    }
+
+    fn hang_up(&mut self, stream: StreamId) {
+        let _outs = self.master.hang_up(self.alloc, stream);
+    }
+}
+
+/// What came of a connection.
+#[derive(Drop)]
+pub struct Reply {
+    /// What it sent back.
+    pub got: Vec<u8>,
+    /// What it didn't read.
+    pub left: Vec<u8>,
+    pub ended: Result<(), LinkFault>,
+}
+
+/// Serves a connection whose client sends this, so many bytes at a time, and whose outlet fails after so many writes.
+pub fn answer<B: Bench>(
+    alloc: Global,
+    bench: &mut B,
+    request: Vec<u8>,
+    most: usize,
+    writes: u64,
+) -> Reply {
+    let mut source = Source {
+        bytes: request,
+        most,
+        turns: 1 << 30,
+        faults: 0,
+    };
+    let mut sink = Sink {
+        bytes: Vec::new(alloc),
+        most: 1 << 20,
+        turns: writes,
+        faults: 0,
+    };
+    let ended = serve_conn(alloc, &mut source, &mut sink, bench, &NoGate);
+    Reply {
+        got: sink.bytes,
+        left: source.bytes,
+        ended,
+    }
+}
+
+/// A connection's bench, beside which another connection makes its call once the first stream waits, and then time passes.
+#[derive(Drop)]
+pub struct Beside {
+    alloc: Global,
+    pub desk: Desk,
+    other: Option<Vec<u8>>,
+    /// What the other connection got.
+    pub got: Vec<u8>,
+    /// The moment that comes then, in seconds.
+    later: u32,
+}
+
+impl Beside {
+    pub fn new(alloc: Global, other: Vec<u8>, later: u32) -> Result<Beside, MasterFault> {
+        Ok(Beside {
+            alloc,
+            desk: Desk::new(alloc)?,
+            other: Some(other),
+            got: Vec::new(alloc),
+            later,
+        })
+    }
+
+    /// The other connection, and the moment behind it.
+    fn meanwhile(&mut self) -> Result<(), MasterFault> {
+        let Some(request) = self.other.take() else {
+            return Ok(());
+        };
+        let reply = answer(self.alloc, &mut self.desk, request, 1 << 20, 1 << 30);
+        self.got = reply.got;
+        self.desk.tick(self.later)
+    }
+}
+
+impl Bench for Beside {
+    ghost use Rattle.std.specs.Prelude.{⊤};
+
+    ghost does = { λ _ _ _. ⊤ };
+
+    fn call(&mut self, stream: Option<StreamId>, call: Call) -> Answer {
+        self.desk.call(stream, call)
+    }
+
+    fn next_events(&mut self, stream: StreamId) -> Result<Option<Event>, AllocError> {
+        if !self.desk.has_told(stream) && self.meanwhile().is_err() {
+            return Err(AllocError);
+        }
+        self.desk.next_events(stream)
+    }
+
+    fn hang_up(&mut self, stream: StreamId) {
+        self.desk.hang_up(stream);
+    }
+}
