@@ -10,5 +10,6 @@ mod step;
 mod tests;
 
 pub use entry::{Entry, Outputs, Sent, Verdict};
+pub use events::copy_stream_event;
 pub use fault::ClusterFault;
 pub use step::{Keep, Step, StepCause};

@@ -1,0 +1,13 @@
+//! The streams of a cluster, with the events on them that nobody took yet.
+#![tactic(auto)]
+
+mod kept;
+mod laws;
+mod places;
+mod streams;
+#[cfg(test)]
+mod tests;
+
+pub use kept::{KeptStream, Waiting};
+pub use laws::{kept_streams_are_found, kept_streams_follow, no_more_is_taken};
+pub use streams::Streams;
