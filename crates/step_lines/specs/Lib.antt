@@ -1,0 +1,4 @@
+pub mod Answers
+pub mod Members
+pub mod Lines
+pub mod Configs

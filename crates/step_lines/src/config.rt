@@ -1,0 +1,146 @@
+//! The first line: which agents there are, and what each owns.
+
+ghost use Rattle.std.specs.Prelude.{◌≡◌, []};
+ghost use Rattle.serde_json.specs.View.{view, members_view};
+ghost use Rattle.step_lines.specs.Answers.{Gives};
+ghost use Rattle.step_lines.specs.Configs as configs;
+
+use crate::fault::{LineFault, LineRefusal};
+use crate::members::has_members;
+use crate::read::LONGEST_LINE;
+use agent_sides::{Config, ConfigFault};
+use names_core::{AgentName, NameFault};
+use number_trim::trim;
+use quantity::{QuantityFault, Resources};
+use serde_json::{Map, Value};
+use std::alloc::Global;
+
+/// The line has no form of a configuration.
+const BAD_CONFIG: LineFault = LineFault::Refused(LineRefusal::BadConfig);
+
+/// An amount of a name more.
+fn add(alloc: Global, resources: &mut Resources, name: &str, value: &Value) -> Result<(), LineFault>
+    ensures { Gives (λ _. resources.new) result (configs.configured (configs.more_of name.now (view value.now) resources.old)) }
+{
+    let Some(amount) = value.as_u64() else {
+        return Err(BAD_CONFIG);
+    };
+    if amount == 0 {
+        return Err(BAD_CONFIG);
+    }
+    match resources.add(alloc, name, amount) {
+        Ok(()) => Ok(()),
+        Err(QuantityFault::OutOfMemory) => Err(LineFault::OutOfMemory),
+        Err(_) => Err(BAD_CONFIG),
+    }
+}
+
+fn rows_of(alloc: Global, members: &Map<String, Value>) -> Result<Resources, LineFault>
+    ensures { Gives (λ r. r) result (configs.configured (configs.rows_in [] (members_view members.now.entries))) }
+{
+    let mut resources = Resources::new(alloc);
+    for (name, value) in members.iter() {
+        add(alloc, &mut resources, name.as_str(), value)?;
+    }
+    Ok(resources)
+}
+
+/// What an agent owns, which may be nothing.
+fn total_of(alloc: Global, value: &Value) -> Result<Resources, LineFault>
+    ensures { Gives (λ r. r) result (configs.configured (configs.total_of (view value.now))) }
+{
+    match value.as_object() {
+        Some(members) => rows_of(alloc, members),
+        None => Err(BAD_CONFIG),
+    }
+}
+
+fn name_of(alloc: Global, name: &str) -> Result<AgentName, LineFault>
+    ensures { Gives (λ n. n) result (configs.configured (configs.name_of name.now)) }
+{
+    match AgentName::from_text(alloc, name) {
+        Ok(name) => {
+            if name.can_be_configured() {
+                Ok(name)
+            } else {
+                Err(BAD_CONFIG)
+            }
+        }
+        Err(NameFault::BadName) => Err(BAD_CONFIG),
+        Err(_) => Err(LineFault::OutOfMemory),
+    }
+}
+
+fn join(config: &mut Config, name: AgentName, total: Resources) -> Result<(), LineFault>
+    ensures { Gives (λ _. config.new) result (configs.configured (configs.joined (record { name = name; total = total }) config.old)) }
+{
+    match config.add(name, total) {
+        Ok(()) => Ok(()),
+        Err(ConfigFault::OutOfMemory) => Err(LineFault::OutOfMemory),
+        Err(_) => Err(BAD_CONFIG),
+    }
+}
+
+#[tactic(auto, unfolding(crate::specs::Configs::agent_more))]
+fn add_agent(alloc: Global, config: &mut Config, name: &str, value: &Value) -> Result<(), LineFault>
+    ensures { Gives (λ _. config.new) result (configs.configured (configs.agent_more name.now (view value.now) config.old)) }
+{
+    let name = name_of(alloc, name)?;
+    let total = total_of(alloc, value)?;
+    join(config, name, total)
+}
+
+fn agents_of(alloc: Global, members: &Map<String, Value>) -> Result<Config, LineFault>
+    ensures { Gives (λ c. c) result (configs.configured (configs.agents_in [] (members_view members.now.entries))) }
+{
+    let mut config = Config::new(alloc);
+    for (name, value) in members.iter() {
+        add_agent(alloc, &mut config, name.as_str(), value)?;
+    }
+    Ok(config)
+}
+
+#[tactic(auto, unfolding(crate::specs::Configs::config_of))]
+fn config_of(alloc: Global, value: &Value) -> Result<Config, LineFault>
+    ensures { Gives (λ c. c) result (configs.configured (configs.config_of (view value.now))) }
+{
+    if !has_members(value, 1) {
+        return Err(BAD_CONFIG);
+    }
+    let Some(members) = value.get("agents").and_then(Value::as_object) else {
+        return Err(BAD_CONFIG);
+    };
+    let config = agents_of(alloc, members)?;
+    if config.agents().is_empty() {
+        return Err(BAD_CONFIG);
+    }
+    Ok(config)
+}
+
+#[tactic(auto, unfolding(crate::specs::Configs::config_json))]
+fn config_json(alloc: Global, bytes: &[u8]) -> Result<Config, LineFault>
+    ensures { Gives (λ c. c) result (configs.config_json bytes.now) }
+{
+    match Value::from_slice(alloc, bytes) {
+        Ok(value) => config_of(alloc, &value),
+        Err(e) => {
+            if e.is_memory() {
+                Err(LineFault::OutOfMemory)
+            } else {
+                Err(BAD_CONFIG)
+            }
+        }
+    }
+}
+
+/// The agents that a line configures: `{"agents":{"a1":{"cpus":4,"mem":4096}}}`, with 1 to 256 agents, whose names have 1 to 64 ASCII letters, digits, `-`, `_`
+/// and `.`; an agent owns up to 8 amounts, each a whole number from 1 to 2^40. Every other line is `X3 BadConfig`; `X4 OutOfMemory` may come before it.
+pub fn read_config(alloc: Global, line: &[u8]) -> Result<Config, LineFault>
+    ensures { Gives (λ c. c) result (configs.read_config line.now) }
+{
+    if line.len() > LONGEST_LINE {
+        return Err(BAD_CONFIG);
+    }
+    let trimmed = trim(alloc, line)?;
+    config_json(alloc, &trimmed)
+}
