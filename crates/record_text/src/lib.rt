@@ -14,4 +14,4 @@ mod write;
 pub use fault::RecordFault;
 pub use laws::one_record;
 pub use read::record_of;
-pub use write::record_text;
+pub use write::{amounts_value, offers_value, record_text};

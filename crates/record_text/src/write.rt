@@ -28,14 +28,16 @@ fn members_of(alloc: Global, rows: &[Row]) -> Result<Map<String, Value>, AllocEr
     Ok(members)
 }
 
-fn amounts_value(alloc: Global, resources: &Resources) -> Result<Value, AllocError>
+/// Amounts as an object: each under its resource's name.
+pub fn amounts_value(alloc: Global, resources: &Resources) -> Result<Value, AllocError>
     ensures value { IfOk result (λ v. view v ≡ amounts resources.now) }
     ensures ordered { AreRows resources.now }
 {
     Ok(Value::Object(members_of(alloc, resources.rows())?))
 }
 
-fn offers_value(alloc: Global, offers: &[OfferId]) -> Result<Value, AllocError>
+/// The ids of offers, as an array of texts.
+pub fn offers_value(alloc: Global, offers: &[OfferId]) -> Result<Value, AllocError>
     ensures value { IfOk result (λ v. view v ≡ list_data (λ offer. string (id_text 79 offer)) offers.now) }
     ensures in_range { IfOk result (λ _. AllByRecursion InRange offers.now) }
 {

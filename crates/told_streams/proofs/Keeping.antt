@@ -1,5 +1,5 @@
 -- What is kept of the model's streams.
-use Rattle.std.proofs.Common.{◌≡◌, ℕ, zero, suc, ◌<◌, ◌≤◌, ◌+◌, Bool, true, false, cond, List, [], ◌∷◌, ◌++◌, length, drop, map, Option, Some, None, refl, sym, ap, subst, ◌∙◌, slice_get, append-nil, arith}
+use Rattle.std.proofs.Common.{◌≡◌, ℕ, zero, suc, ◌<◌, ◌≤◌, Bool, true, false, cond, List, [], ◌∷◌, ◌++◌, length, drop, map, Option, Some, None, refl, ap, ◌∙◌, slice_get, arith}
 use Rattle.std.specs.Prelude.{option_map}
 use Rattle.std.specs.List.{AllByRecursion as Each, find}
 use Rattle.std.proofs.lemmas.Bool.{cond_both}
@@ -13,10 +13,9 @@ use Rattle.cluster_model.specs.Events.{Event, Told}
 use Rattle.cluster_model.specs.Clusters.{Cluster, Stream, Take}
 use Rattle.cluster_model.specs.Steps.{answer, hears, new_stream, stream_at, streams_after, takes, takes_event, takes_one, told_on}
 use Rattle.cluster_laws.specs.Runs.{AreRising, ids_of}
-use Rattle.told_streams.specs.Streams.{KeptStream, events_on, first_waiting, heard, hearing, is_kept_as, kept_ids, next_on, opened_stream, stream_kept, taken, taking}
+use Rattle.told_streams.specs.Streams.{KeptStream, events_on, first_waiting, heard, hearing, is_kept_as, kept_ids, next_on, opened_stream, taken, taking}
 use Rattle.told_streams.specs.Kept.{AreWithin, kept_stream, kept_streams, untaken, untaken_of}
 use Rattle.told_streams.proofs.Standing.{later_differs}
-use Rattle.told_streams.proofs.Hearing.{ids_after}
 
 -- hearing
 

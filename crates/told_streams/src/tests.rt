@@ -1,4 +1,5 @@
 //! Events of three streams, taken one by one.
+
 ghost use Rattle.std.specs.Prelude.{◌<◌};
 
 use crate::Streams;

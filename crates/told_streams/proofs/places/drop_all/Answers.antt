@@ -1,4 +1,4 @@
-use Rattle.std.proofs.Common.{◌≡◌, ◌∙◌, ◌-◌, ◌+◌, ℕ, length, ap, sym, subst, arith, rules}
+use Rattle.std.proofs.Common.{◌∙◌, sym, subst, rules}
 use Rattle.cluster_laws.specs.Runs.{AreRising}
 use Rattle.told_streams.proofs.Hearing.{hears_none_left, heard_but_last}
 use Rattle.told_streams.proofs.places.drop_all.Goals as goal

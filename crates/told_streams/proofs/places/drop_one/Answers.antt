@@ -1,5 +1,4 @@
-use Rattle.std.proofs.Common.{◌≡◌, ◌∙◌, sym, refl}
-use Rattle.told_streams.specs.Streams.{KeptStream}
+use Rattle.std.proofs.Common.{◌∙◌, sym}
 use Rattle.told_streams.proofs.Hearing.{unheard, unheard_nowhere, set_ids}
 use Rattle.told_streams.proofs.places.drop_one.Goals as goal
 

@@ -1,4 +1,4 @@
-use Rattle.std.proofs.Common.{◌≡◌, [], ◌∷◌, set, ap, sym, ◌∙◌, rules}
+use Rattle.std.proofs.Common.{[], ◌∷◌, set, ap, sym, ◌∙◌, rules}
 use Rattle.told_streams.specs.Streams.{KeptStream, hearing}
 use Rattle.told_streams.proofs.Standing.{stands_at, changes_there, changes_nowhere}
 use Rattle.told_streams.proofs.Hearing.{hears_elsewhere, hears_one}

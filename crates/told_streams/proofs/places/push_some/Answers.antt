@@ -1,7 +1,5 @@
-use Rattle.std.proofs.Common.{◌≡◌, ◌∙◌, [], ◌∷◌, List, map, ap, sym, subst, rules}
-use Rattle.cluster_laws.specs.Runs.{AreRising}
-use Rattle.names_core.specs.Ids.{Numbered}
-use Rattle.told_streams.specs.Streams.{KeptStream, hearing, kept_ids}
+use Rattle.std.proofs.Common.{◌≡◌, ◌∙◌, [], ◌∷◌, List, map, ap, sym, rules}
+use Rattle.told_streams.specs.Streams.{KeptStream, hearing}
 use Rattle.told_streams.proofs.Hearing.{hears_nothing, ids_heard, heard_one_more}
 use Rattle.told_streams.proofs.places.push_some.Goals as goal
 

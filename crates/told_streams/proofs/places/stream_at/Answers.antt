@@ -1,4 +1,4 @@
-use Rattle.std.proofs.Common.{◌≡◌, sym, ◌∙◌}
+use Rattle.std.proofs.Common.{sym, ◌∙◌}
 use Rattle.told_streams.proofs.Standing.{stands_at, none_at}
 use Rattle.told_streams.proofs.places.stream_at.Goals as goal
 

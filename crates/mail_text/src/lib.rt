@@ -1,0 +1,10 @@
+//! Mails as texts.
+#![tactic(auto)]
+
+#[cfg(test)]
+mod tests;
+mod to_agent;
+mod to_master;
+
+pub use to_agent::to_agent_text;
+pub use to_master::to_master_text;
