@@ -6,3 +6,4 @@ pub mod Names
 pub mod Places
 pub mod Picks
 pub mod Once
+pub mod OnceRoles

@@ -12,7 +12,7 @@ use Rattle.cluster_model.specs.Ids.{same}
 use Rattle.drf_pick.specs.Shares.{Holder, HoldersOnce, is_holder, at_first}
 
 -- where no item passes, the item at a place doesn't
-none_here : {X : Type 0} (test : X → Bool) (xs : List X) (i : ℕ) (x : X) → i < length xs → x ≡ get_or xs i x → find test xs ≡ None → test x ≡ false
+pub none_here : {X : Type 0} (test : X → Bool) (xs : List X) (i : ℕ) (x : X) → i < length xs → x ≡ get_or xs i x → find test xs ≡ None → test x ≡ false
 none_here test [] i x within is none = absurd (omega arith)
 none_here {X} test (y ∷ ys) zero x within is none = by_case (test y) none (ap test is)
   where

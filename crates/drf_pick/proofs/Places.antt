@@ -1,10 +1,10 @@
 -- Items at their places.
-use Rattle.std.proofs.Common.{◌≡◌, ℕ, zero, suc, ◌<◌, Bool, true, false, cond, nat_lt, List, [], ◌∷◌, length, set, get_or, Some, None, refl, sym, ap, ◌∙◌, arith}
+use Rattle.std.proofs.Common.{◌≡◌, ℕ, zero, suc, ◌+◌, ◌<◌, Bool, true, false, not, cond, nat_lt, List, [], ◌∷◌, length, set, get_or, Option, Some, None, refl, sym, ap, ◌∙◌, arith}
 use Rattle.std.specs.List.{position, position_or_len, find}
 use Rattle.std.proofs.lemmas.Option.{slice_get_past}
 use Rattle.std.proofs.lemmas.List.Folds.{find_at}
 use Rattle.std.proofs.lemmas.List.Quantifiers.{position-Some}
-use Rattle.std.proofs.lemmas.Bool.{ltb-false}
+use Rattle.std.proofs.lemmas.Bool.{ltb-false, ltb-true}
 use Rattle.drf_pick.specs.Shares.{at_first}
 
 -- the first place at which a test passes
@@ -43,3 +43,23 @@ unchanged {X} test change (x ∷ xs) h = by_case (test x) (λ g. unchanged test 
     by_case : (b : Bool) → (find test xs ≡ None → xs ≡ at_first test change xs) → cond b (Some x) (find test xs) ≡ None → x ∷ xs ≡ cond b (change x ∷ xs) (x ∷ at_first test change xs)
     by_case true more k = absurd (cc)
     by_case false more k = ap (λ (zs : List X). x ∷ zs) (more k)
+
+-- where one has a place one is found
+len_at : {X : Type 0} (test : X → Bool) (xs : List X) → find test xs ≡ None → position_or_len test xs ≡ length xs
+len_at test [] h = refl
+len_at {X} test (x ∷ xs) h = by_case (test x) (λ g. len_at test xs g) h
+  where
+    by_case : (b : Bool) → (find test xs ≡ None → position_or_len test xs ≡ length xs) → cond b (Some x) (find test xs) ≡ None → cond (not b) (1 + position_or_len test xs) 0 ≡ suc (length xs)
+    by_case true more k = absurd (cc)
+    by_case false more k = omega (arith, more k)
+
+pub found_at : {X : Type 0} (test : X → Bool) (xs : List X) (i : ℕ) → position test xs ≡ Some i → (x : X) × (find test xs ≡ Some x)
+found_at {X} test xs i h = by_case (find test xs) refl
+  where
+    by_len : (b : Bool) → nat_lt (position_or_len test xs) (length xs) ≡ b → cond b (Some (position_or_len test xs)) None ≡ Some i → position_or_len test xs ≡ length xs → (x : X) × (find test xs ≡ Some x)
+    by_len true e k at = absurd (omega (arith, ltb-true _ _ e, at))
+    by_len false e k at = absurd (cc)
+
+    by_case : (o : Option X) → find test xs ≡ o → (x : X) × (find test xs ≡ Some x)
+    by_case (Some x) e = (x, e)
+    by_case None e = by_len (nat_lt (position_or_len test xs) (length xs)) refl h (len_at test xs e)

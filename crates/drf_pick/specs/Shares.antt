@@ -113,3 +113,8 @@ returned framework rows t = record t {
 abbrev pub HoldersOnce : List Holder → Type 0
 HoldersOnce [] = ⊤
 HoldersOnce (h ∷ hs) = (find (is_holder h.framework) hs ≡ None) × HoldersOnce hs
+
+-- no role stands twice
+abbrev pub RolesOnce : List RoleSum → Type 0
+RolesOnce [] = ⊤
+RolesOnce (r ∷ rs) = (find (is_role r.role) rs ≡ None) × RolesOnce rs

@@ -4,10 +4,11 @@ ghost use Rattle.std.specs.Prelude.{◌≡◌, [], None, fold};
 ghost use Rattle.std.specs.Option.{option_copied};
 ghost use Rattle.cluster_model.specs.Ids.{bytes_before};
 ghost use Rattle.cluster_model.specs.Rounds.{stands_first};
+ghost use Rattle.drf_pick.specs.Shares.{RolesOnce};
 ghost use Rattle.drf_pick.specs.Least.{role_held, comes_before, better, better_client, pick_of};
 
 use crate::holder::{Client, Holder, RoleSum, is_before};
-use crate::shares::{Shares, find_holder, find_role};
+use crate::shares::{Shares, find_holder, find_role, guess_of};
 use crate::sum::{Sum, stands_at_most_at};
 use names_core::{FrameworkId, RoleName};
 
@@ -23,11 +24,12 @@ fn is_name_before(name: &RoleName, other: &RoleName) -> bool
     name.as_text().cmp(other.as_text()).is_lt()
 }
 
-fn held_by_role<'a>(roles: &'a [RoleSum], none: &'a Sum, role: &RoleName) -> &'a Sum
-    requires { none.now ≡ [] }
+fn held_by_role<'a>(roles: &'a [RoleSum], none: &'a Sum, guess: usize, role: &RoleName) -> &'a Sum
+    requires none { none.now ≡ [] }
+    requires once { RolesOnce roles.now }
     ensures { result.now ≡ role_held roles.entry.now role.now }
 {
-    match find_role(roles, role) {
+    match find_role(roles, guess, role) {
         Some(sum) => &sum.held,
         None => none,
     }
@@ -42,8 +44,10 @@ fn comes_before(shares: &Shares, first: &Holder, second: &Holder) -> bool
         return stands_first(&shares.totals, &first.held, &second.held, tie);
     }
     let tie = is_name_before(&first.role, &second.role);
-    let first_held = held_by_role(&shares.roles, &shares.nothing, &first.role);
-    let second_held = held_by_role(&shares.roles, &shares.nothing, &second.role);
+    let first_guess = guess_of(shares, first);
+    let second_guess = guess_of(shares, second);
+    let first_held = held_by_role(&shares.roles, &shares.nothing, first_guess, &first.role);
+    let second_held = held_by_role(&shares.roles, &shares.nothing, second_guess, &second.role);
     stands_first(&shares.totals, first_held, second_held, tie)
 }
 

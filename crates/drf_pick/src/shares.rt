@@ -3,7 +3,7 @@
 ghost use Rattle.std.specs.Prelude.{◌≡◌, ◌++◌, ◌∷◌, [], true, false, Err, OnOk, OnErr};
 ghost use Rattle.std.specs.List.{find, position};
 ghost use Rattle.std.specs.Option.{option_copied};
-ghost use Rattle.drf_pick.specs.Shares.{HoldersOnce, is_holder, is_role, at_first, role_holding, given_holders, given_roles, entered, given, holder_of, roles_with, with_role, can_leave, departed, role_has, holder_has, can_back, role_returning, returned_holders, returned_roles, returned};
+ghost use Rattle.drf_pick.specs.Shares.{HoldersOnce, RolesOnce, is_holder, is_role, at_first, role_holding, given_holders, given_roles, entered, given, holder_of, role_sum_of, roles_with, with_role, can_leave, departed, role_has, holder_has, can_back, role_returning, returned_holders, returned_roles, returned};
 
 use crate::fault::SharesFault;
 use crate::holder::{Holder, RoleSum, is_before};
@@ -19,18 +19,20 @@ pub struct Shares {
     pub(crate) totals: Sum,
     pub(crate) holders: Vec<Holder>,
     pub(crate) roles: Vec<RoleSum>,
+    /// For each holder the place of its role. It is tried first; no answer hangs on it.
+    pub(crate) role_places: Vec<usize>,
     pub(crate) nothing: Sum,
 }
 
 impl Model for Shares {
     ghost use Rattle.std.specs.Prelude.{◌≡◌, []};
-    ghost use Rattle.drf_pick.specs.Shares.{Tally, HoldersOnce};
+    ghost use Rattle.drf_pick.specs.Shares.{Tally, HoldersOnce, RolesOnce};
 
     ghost Value = { Tally };
 
     ghost view = { λ s. record { totals = s.totals; holders = s.holders.items; roles = s.roles.items } };
 
-    ghost invariant = { λ s. (s.nothing ≡ []) × HoldersOnce s.holders.items };
+    ghost invariant = { λ s. ((s.nothing ≡ []) × RolesOnce s.roles.items) × HoldersOnce s.holders.items };
 }
 
 /// The place of a framework's holder. It is found at once where the holders stand in the order of their frameworks' ids.
@@ -45,9 +47,14 @@ pub(crate) fn holder_place(holders: &[Holder], framework: FrameworkId) -> Option
     holders.iter().position(|holder| holder.is_of(framework))
 }
 
-fn role_place(roles: &[RoleSum], role: &RoleName) -> Option<usize>
+/// The place of a role's sum. It is found at once where the guess is right.
+fn role_place(roles: &[RoleSum], guess: usize, role: &RoleName) -> Option<usize>
+    requires { RolesOnce roles.now }
     ensures { result ≡ position (is_role role.now) roles.now }
 {
+    if guess < roles.len() && roles[guess].is_of(role) {
+        return Some(guess);
+    }
     roles.iter().position(|sum| sum.is_of(role))
 }
 
@@ -59,22 +66,43 @@ pub(crate) fn find_holder(holders: &[Holder], framework: FrameworkId) -> Option<
     Some(&holders[place])
 }
 
-pub(crate) fn find_role<'a>(roles: &'a [RoleSum], role: &RoleName) -> Option<&'a RoleSum>
+pub(crate) fn find_role<'a>(
+    roles: &'a [RoleSum],
+    guess: usize,
+    role: &RoleName,
+) -> Option<&'a RoleSum>
+    requires { RolesOnce roles.now }
     ensures { option_copied result ≡ find (is_role role.now) roles.entry.now }
 {
-    roles.iter().find(|sum| sum.is_of(role))
+    let place = role_place(roles, guess, role)?;
+    Some(&roles[place])
+}
+
+/// Where the role of the holder at a place is likely to stand.
+fn guess_at(role_places: &[usize], place: usize) -> usize {
+    role_places.get(place).copied().unwrap_or(0)
+}
+
+/// Where the role of a holder is likely to stand.
+pub(crate) fn guess_of(shares: &Shares, holder: &Holder) -> usize {
+    match holder_place(&shares.holders, holder.framework) {
+        Some(place) => guess_at(&shares.role_places, place),
+        None => 0,
+    }
 }
 
 fn give_role(
     roles: &mut Vec<RoleSum>,
     alloc: Global,
+    guess: usize,
     role: &RoleName,
     resources: &Resources,
 ) -> Result<(), AllocError>
+    requires { RolesOnce roles.old.items }
     ensures ok { OnOk result (roles.new.items ≡ at_first (is_role role.now) (role_holding resources.now) roles.old.items) }
     ensures err { OnErr result (roles.new.items ≡ roles.old.items) }
 {
-    let Some(place) = role_place(roles, role) else {
+    let Some(place) = role_place(roles, guess, role) else {
         return Ok(());
     };
     let held = roles[place].held.plus(alloc, resources)?;
@@ -85,11 +113,13 @@ fn give_role(
 fn give_in(
     holders: &mut Vec<Holder>,
     roles: &mut Vec<RoleSum>,
+    role_places: &[usize],
     alloc: Global,
     framework: FrameworkId,
     resources: &Resources,
 ) -> Result<(), AllocError>
-    requires { HoldersOnce holders.old.items }
+    requires holders { HoldersOnce holders.old.items }
+    requires roles { RolesOnce roles.old.items }
     ensures holders { OnOk result (holders.new.items ≡ given_holders framework resources.now holders.old.items) }
     ensures roles { OnOk result (roles.new.items ≡ given_roles resources.now (find (is_holder framework) holders.old.items) roles.old.items) }
     ensures err { OnErr result ((holders.new.items ≡ holders.old.items) × (roles.new.items ≡ roles.old.items)) }
@@ -97,8 +127,9 @@ fn give_in(
     let Some(place) = holder_place(holders, framework) else {
         return Ok(());
     };
+    let guess = guess_at(role_places, place);
     let held = holders[place].held.plus(alloc, resources)?;
-    give_role(roles, alloc, &holders[place].role, resources)?;
+    give_role(roles, alloc, guess, &holders[place].role, resources)?;
     holders[place].held = held;
     Ok(())
 }
@@ -106,15 +137,17 @@ fn give_in(
 fn back_role(
     roles: &mut Vec<RoleSum>,
     alloc: Global,
+    guess: usize,
     role: &RoleName,
     resources: &Resources,
 ) -> Result<(), SharesFault>
+    requires { RolesOnce roles.old.items }
     ensures ok { OnOk result (roles.new.items ≡ at_first (is_role role.now) (role_returning resources.now) roles.old.items) }
     ensures covered { OnOk result (role_has resources.now (find (is_role role.now) roles.old.items) ≡ true) }
     ensures refused { result ≡ Err SharesFault.NotHeld → role_has resources.now (find (is_role role.now) roles.old.items) ≡ false }
     ensures err { OnErr result (roles.new.items ≡ roles.old.items) }
 {
-    let Some(place) = role_place(roles, role) else {
+    let Some(place) = role_place(roles, guess, role) else {
         return Err(SharesFault::NotHeld);
     };
     match roles[place].held.minus(alloc, resources) {
@@ -129,11 +162,13 @@ fn back_role(
 fn back_in(
     holders: &mut Vec<Holder>,
     roles: &mut Vec<RoleSum>,
+    role_places: &[usize],
     alloc: Global,
     framework: FrameworkId,
     resources: &Resources,
 ) -> Result<(), SharesFault>
-    requires { HoldersOnce holders.old.items }
+    requires holders { HoldersOnce holders.old.items }
+    requires roles { RolesOnce roles.old.items }
     ensures holders { OnOk result (holders.new.items ≡ returned_holders framework resources.now holders.old.items) }
     ensures roles { OnOk result (roles.new.items ≡ returned_roles resources.now (find (is_holder framework) holders.old.items) roles.old.items) }
     ensures covered { OnOk result (holder_has resources.now roles.old.items (find (is_holder framework) holders.old.items) ≡ true) }
@@ -143,8 +178,9 @@ fn back_in(
     let Some(place) = holder_place(holders, framework) else {
         return Err(SharesFault::NotHeld);
     };
+    let guess = guess_at(role_places, place);
     match holders[place].held.minus(alloc, resources) {
-        Ok(held) => match back_role(roles, alloc, &holders[place].role, resources) {
+        Ok(held) => match back_role(roles, alloc, guess, &holders[place].role, resources) {
             Ok(()) => {
                 holders[place].held = held;
                 Ok(())
@@ -155,31 +191,63 @@ fn back_in(
     }
 }
 
-fn add_role(roles: &mut Vec<RoleSum>, alloc: Global, role: &RoleName) -> Result<(), AllocError>
+fn push_role(roles: &mut Vec<RoleSum>, alloc: Global, role: &RoleName) -> Result<(), AllocError>
+    ensures ok { OnOk result (roles.new.items ≡ roles.old.items ++ role_sum_of role.now ∷ []) }
+    ensures err { OnErr result (roles.new.items ≡ roles.old.items) }
+{
+    roles.push(RoleSum::new(alloc, role.copy(alloc)?))?;
+    Ok(())
+}
+
+/// The place of a role's sum, which is added where there is none.
+fn add_role(roles: &mut Vec<RoleSum>, alloc: Global, role: &RoleName) -> Result<usize, AllocError>
+    requires { RolesOnce roles.old.items }
     ensures ok { OnOk result (roles.new.items ≡ roles_with role.now roles.old.items (find (is_role role.now) roles.old.items)) }
     ensures err { OnErr result (roles.new.items ≡ roles.old.items) }
 {
-    if find_role(roles, role).is_none() {
-        roles.push(RoleSum::new(alloc, role.copy(alloc)?))?;
+    let count = roles.len();
+    if let Some(place) = role_place(roles, count, role) {
+        return Ok(place);
+    }
+    push_role(roles, alloc, role)?;
+    Ok(count)
+}
+
+/// There is room for the place of the role of the holder that comes next.
+fn make_room(role_places: &mut Vec<usize>, count: usize) -> Result<(), AllocError> {
+    if role_places.len() <= count {
+        role_places.push(0)?;
     }
     Ok(())
+}
+
+fn keep_place(role_places: &mut Vec<usize>, holder: usize, place: usize) {
+    if let Some(kept) = role_places.get_mut(holder) {
+        *kept = place;
+    }
 }
 
 fn add_holder(
     holders: &mut Vec<Holder>,
     roles: &mut Vec<RoleSum>,
+    role_places: &mut Vec<usize>,
     alloc: Global,
     framework: FrameworkId,
     role: &RoleName,
 ) -> Result<(), AllocError>
+    requires { RolesOnce roles.old.items }
     ensures holders { OnOk result (holders.new.items ≡ holders.old.items ++ holder_of framework role.now ∷ []) }
     ensures roles { OnOk result (roles.new.items ≡ roles_with role.now roles.old.items (find (is_role role.now) roles.old.items)) }
     ensures err { OnErr result ((holders.new.items ≡ holders.old.items) × (roles.new.items ≡ roles.old.items)) }
 {
     let count = holders.len();
+    make_room(role_places, count)?;
     holders.push(Holder::new(alloc, framework, role.copy(alloc)?))?;
     match add_role(roles, alloc, role) {
-        Ok(()) => Ok(()),
+        Ok(place) => {
+            keep_place(role_places, count, place);
+            Ok(())
+        }
         Err(fault) => {
             holders.truncate(count);
             Err(fault)
@@ -196,6 +264,7 @@ impl Shares {
             totals: Sum::new(alloc),
             holders: Vec::new(alloc),
             roles: Vec::new(alloc),
+            role_places: Vec::new(alloc),
             nothing: Sum::new(alloc),
         }
     }
@@ -223,7 +292,14 @@ impl Shares {
         if find_holder(&self.holders, framework).is_some() {
             return Ok(());
         }
-        add_holder(&mut self.holders, &mut self.roles, alloc, framework, role)?;
+        add_holder(
+            &mut self.holders,
+            &mut self.roles,
+            &mut self.role_places,
+            alloc,
+            framework,
+            role,
+        )?;
         Ok(())
     }
 
@@ -241,6 +317,7 @@ impl Shares {
         give_in(
             &mut self.holders,
             &mut self.roles,
+            &self.role_places,
             alloc,
             framework,
             resources,
@@ -280,6 +357,7 @@ impl Shares {
         back_in(
             &mut self.holders,
             &mut self.roles,
+            &self.role_places,
             alloc,
             framework,
             resources,

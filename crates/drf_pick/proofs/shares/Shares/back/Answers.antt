@@ -1,12 +1,17 @@
 use Rattle.std.proofs.Common.{refl}
-use Rattle.drf_pick.specs.Shares.{returned_holders, returning}
+use Rattle.std.specs.List.{find}
+use Rattle.drf_pick.specs.Shares.{is_holder, returned_holders, returned_roles, returning}
 use Rattle.drf_pick.proofs.Once.{once_changed, once_either}
+use Rattle.drf_pick.proofs.OnceRoles.{returned_once, roles_either}
 use Rattle.drf_pick.proofs.shares.Shares.back.Goals as goal
 
 pub invariant_of-self : goal.invariant_of-self
 invariant_of-self c =
-    let hs = c.self.inside.holders.items in (
-      c.self.invariant.0,
+    let hs = c.self.inside.holders.items in
+    let rs = c.self.inside.roles.items in
+    let found = find (is_holder c.args.framework) hs in
+    let roles = roles_either _ c.back_in.result c.back_in.new.roles.items (returned_roles c.args.resources.now found rs) rs c.back_in.ensures.roles c.back_in.ensures.err (returned_once c.args.resources.now found rs c.self.invariant.0.1) c.self.invariant.0.1 in (
+      (c.self.invariant.0.0, roles),
       once_either _ c.back_in.result c.back_in.new.holders.items (returned_holders c.args.framework c.args.resources.now hs) hs c.back_in.ensures.holders c.back_in.ensures.err
           (once_changed c.args.framework (returning c.args.resources.now) (λ h. refl) hs c.self.invariant.1) c.self.invariant.1,
     )

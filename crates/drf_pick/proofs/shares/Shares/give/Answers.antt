@@ -1,8 +1,12 @@
 use Rattle.std.proofs.Common.{◌≡◌, subst, sym, refl}
-use Rattle.drf_pick.specs.Shares.{HoldersOnce, holding}
+use Rattle.std.specs.List.{find}
+use Rattle.drf_pick.specs.Shares.{HoldersOnce, RolesOnce, holding, is_holder}
 use Rattle.drf_pick.proofs.Once.{once_changed}
+use Rattle.drf_pick.proofs.OnceRoles.{given_once}
 use Rattle.drf_pick.proofs.shares.Shares.give.Goals as goal
 
 pub invariant_of-self-2 : goal.invariant_of-self-2
 invariant_of-self-2 c =
-    (c.self.invariant.0, subst HoldersOnce (sym c.in_ok-give_in.ensures.holders) (once_changed c.args.framework (holding c.args.resources.now) (λ h. refl) c.self.inside.holders.items c.self.invariant.1))
+    let hs = c.self.inside.holders.items in
+    let roles = subst RolesOnce (sym c.in_ok-give_in.ensures.roles) (given_once c.args.resources.now (find (is_holder c.args.framework) hs) c.self.inside.roles.items c.self.invariant.0.1) in
+    ((c.self.invariant.0.0, roles), subst HoldersOnce (sym c.in_ok-give_in.ensures.holders) (once_changed c.args.framework (holding c.args.resources.now) (λ h. refl) hs c.self.invariant.1))

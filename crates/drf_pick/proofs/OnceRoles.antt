@@ -1,0 +1,99 @@
+-- Sums of roles of which none stands twice.
+use Rattle.std.proofs.Common.{◌≡◌, ℕ, zero, suc, ◌<◌, Bool, true, false, cond, List, [], ◌∷◌, ◌++◌, length, get_or, Option, Some, None, Result, Ok, Err, OnOk, OnErr, refl, sym, ap, subst, ◌∙◌, arith, bytes_eq}
+use Rattle.std.specs.List.{position, position_or_len, find}
+use Rattle.std.proofs.lemmas.List.Sums.{position_or_len_is}
+use Rattle.std.proofs.lemmas.Bool.{true≢false, lt-ltb}
+use Rattle.std.proofs.lemmas.Slice.Eq.{bytes_eq-Decides}
+use Rattle.quantity.specs.declared.rows.Row.{Row}
+use Rattle.drf_pick.specs.Shares.{Holder, RoleSum, RolesOnce, is_role, at_first, given_roles, returned_roles, role_holding, role_returning, role_sum_of, roles_with}
+use Rattle.drf_pick.proofs.Once.{none_here}
+
+same_name : (a b name : List ℕ) → bytes_eq a name ≡ true → bytes_eq b name ≡ true → bytes_eq b a ≡ true
+same_name a b name h k = (bytes_eq-Decides b a).1 ((bytes_eq-Decides b name).0 k ∙ sym ((bytes_eq-Decides a name).0 h))
+
+-- a sum of the role is the first one
+earlier : (name : List ℕ) (rs : List RoleSum) (i : ℕ) (r : RoleSum) → RolesOnce rs → i < length rs → r ≡ get_or rs i r → is_role name r ≡ true → (k : ℕ) → k < i → is_role name (get_or rs k r) ≡ false
+earlier name [] i r once within is passes k below = absurd (omega arith)
+earlier name (g ∷ rs) zero r once within is passes k below = absurd (omega arith)
+earlier name (g ∷ rs) (suc i) r once within is passes zero below = by_case (is_role name g) refl
+  where
+    by_case : (b : Bool) → is_role name g ≡ b → is_role name g ≡ false
+    by_case true e = absurd (true≢false (sym (same_name g.role r.role name e passes) ∙ none_here (is_role g.role) rs i r (omega arith) is once.0))
+    by_case false e = e
+earlier name (g ∷ rs) (suc i) r once within is passes (suc k) below = earlier name rs i r once.1 (omega arith) is passes k (omega arith)
+
+pub placed_role : (name : List ℕ) (rs : List RoleSum) (i : ℕ) (r : RoleSum) → RolesOnce rs → i < length rs → r ≡ get_or rs i r → is_role name r ≡ true → position (is_role name) rs ≡ Some i
+placed_role name rs i r once within is passes =
+    let at : position_or_len (is_role name) rs ≡ i = position_or_len_is (is_role name) rs i r (omega arith) (earlier name rs i r once within is passes) (λ w. ap (is_role name) (sym is) ∙ passes) in
+    rw (at, lt-ltb i (length rs) within) refl
+
+-- one more
+
+not_same_name : (a b : List ℕ) → bytes_eq b a ≡ false → bytes_eq a b ≡ false
+not_same_name a b h = by_case (bytes_eq a b) refl
+  where
+    by_case : (x : Bool) → bytes_eq a b ≡ x → bytes_eq a b ≡ false
+    by_case true e = absurd (true≢false (sym ((bytes_eq-Decides b a).1 (sym ((bytes_eq-Decides a b).0 e))) ∙ h))
+    by_case false e = e
+
+find_none_push : (name : List ℕ) (rs : List RoleSum) (r : RoleSum) → find (is_role name) rs ≡ None → is_role name r ≡ false → find (is_role name) (rs ++ r ∷ []) ≡ None
+find_none_push name [] r none other = rw other refl
+find_none_push name (g ∷ rs) r none other = by_case (is_role name g) none (λ n. find_none_push name rs r n other)
+  where
+    by_case : (b : Bool) → cond b (Some g) (find (is_role name) rs) ≡ None → (find (is_role name) rs ≡ None → find (is_role name) (rs ++ r ∷ []) ≡ None) → cond b (Some g) (find (is_role name) (rs ++ r ∷ [])) ≡ None
+    by_case true n ih = absurd (cc)
+    by_case false n ih = ih n
+
+head_none : (name : List ℕ) (g : RoleSum) (rs : List RoleSum) → find (is_role name) (g ∷ rs) ≡ None → (is_role name g ≡ false) × (find (is_role name) rs ≡ None)
+head_none name g rs none = by_case (is_role name g) refl none
+  where
+    by_case : (b : Bool) → is_role name g ≡ b → cond b (Some g) (find (is_role name) rs) ≡ None → (is_role name g ≡ false) × (find (is_role name) rs ≡ None)
+    by_case true e n = absurd (cc)
+    by_case false e n = (e, n)
+
+push_once : (rs : List RoleSum) (r : RoleSum) → RolesOnce rs → find (is_role r.role) rs ≡ None → RolesOnce (rs ++ r ∷ [])
+push_once [] r once none = (refl, tt)
+push_once (g ∷ rs) r once none =
+    let n = head_none r.role g rs none in
+    (find_none_push g.role rs r once.0 (not_same_name r.role g.role n.0), push_once rs r once.1 n.1)
+
+pub with_once : (name : List ℕ) (rs : List RoleSum) → RolesOnce rs → RolesOnce (roles_with name rs (find (is_role name) rs))
+with_once name rs once = by_case (find (is_role name) rs) refl
+  where
+    by_case : (o : Option RoleSum) → find (is_role name) rs ≡ o → RolesOnce (roles_with name rs o)
+    by_case None e = push_once rs (role_sum_of name) once e
+    by_case (Some r) e = once
+
+-- one of them holds another amount
+
+find_none_changed : (f t : List ℕ) (change : RoleSum → RoleSum) → ((r : RoleSum) → (change r).role ≡ r.role) → (rs : List RoleSum) → find (is_role f) rs ≡ None → find (is_role f) (at_first (is_role t) change rs) ≡ None
+find_none_changed f t change keeps [] none = refl
+find_none_changed f t change keeps (g ∷ rs) none =
+    let n = head_none f g rs none in
+    by_case (is_role t g) n.0 n.1 (find_none_changed f t change keeps rs n.1)
+  where
+    by_case : (b : Bool) → is_role f g ≡ false → find (is_role f) rs ≡ None → find (is_role f) (at_first (is_role t) change rs) ≡ None
+        → find (is_role f) (cond b (change g ∷ rs) (g ∷ at_first (is_role t) change rs)) ≡ None
+    by_case true other n ih = rw (ap (λ (name : List ℕ). bytes_eq name f) (keeps g) ∙ other) n
+    by_case false other n ih = rw other ih
+
+changed_once : (t : List ℕ) (change : RoleSum → RoleSum) → ((r : RoleSum) → (change r).role ≡ r.role) → (rs : List RoleSum) → RolesOnce rs → RolesOnce (at_first (is_role t) change rs)
+changed_once t change keeps [] once = once
+changed_once t change keeps (g ∷ rs) once = by_case (is_role t g) (changed_once t change keeps rs once.1)
+  where
+    by_case : (b : Bool) → RolesOnce (at_first (is_role t) change rs) → RolesOnce (cond b (change g ∷ rs) (g ∷ at_first (is_role t) change rs))
+    by_case true ih = (ap (λ (name : List ℕ). find (is_role name) rs) (keeps g) ∙ once.0, once.1)
+    by_case false ih = (find_none_changed g.role t change keeps rs once.0, ih)
+
+pub given_once : (rows : List Row) (o : Option Holder) (rs : List RoleSum) → RolesOnce rs → RolesOnce (given_roles rows o rs)
+given_once rows None rs once = once
+given_once rows (Some h) rs once = changed_once h.role (role_holding rows) (λ r. refl) rs once
+
+pub returned_once : (rows : List Row) (o : Option Holder) (rs : List RoleSum) → RolesOnce rs → RolesOnce (returned_roles rows o rs)
+returned_once rows None rs once = once
+returned_once rows (Some h) rs once = changed_once h.role (role_returning rows) (λ r. refl) rs once
+
+-- whether they changed or stayed
+pub roles_either : {T E : Type 0} (X : Type 0) (r : Result T E) (now changed before : List RoleSum) → OnOk r (now ≡ changed) → OnErr r (X × (now ≡ before)) → RolesOnce changed → RolesOnce before → RolesOnce now
+roles_either X (Ok x) now changed before ok err c b = subst RolesOnce (sym ok) c
+roles_either X (Err e) now changed before ok err c b = subst RolesOnce (sym err.1) b
