@@ -1,7 +1,7 @@
 //! Agents.
 
 ghost use Rattle.std.specs.Prelude.{◌≡◌, ◌≢◌, false, Ok, IfOk, IfErr};
-ghost use Rattle.cluster_model.specs.Agents.{next_of, recovered_from};
+ghost use Rattle.cluster_model.specs.Agents.{next_of, recovered, recovered_from};
 ghost use Rattle.agent_core.specs.Drafts.{IsRefusal, repeats_launch};
 ghost use Rattle.agent_core.specs.declared.fault.AgentFault.TheVariants.{StaleDraft};
 
@@ -53,6 +53,23 @@ impl Agent {
         ensures { result ≡ self.durable }
     {
         self.state.durable
+    }
+
+    /// Stops, and comes up again over its record, with no open session. It takes no memory.
+    pub fn stop(&mut self)
+        ensures { self.new ≡ recovered self.old }
+    {
+        self.state.in_session = false;
+        self.state.applied = 0;
+    }
+
+    /// Stops once a draft's record was saved, and comes up again over that, with no open session. It takes no memory.
+    pub fn stop_with(&mut self, draft: Draft)
+        ensures { self.new ≡ recovered draft.draft.after }
+    {
+        let next = draft.into_next();
+        self.state = next.after;
+        self.stop();
     }
 
     /// Whether a cause is the next command of the open session and launches a task under a launch key of the record.
