@@ -2,7 +2,7 @@
 
 ghost use Rattle.std.specs.Prelude.{◌≡◌, IfOk, string_bytes};
 ghost use Rattle.serde_json.specs.View.{view};
-ghost use Rattle.mail_text.specs.Mails.{ack_data, command_data, framework_data, hello_data, issued_data, key_data, launch_data, master_mail_data, only, to_agent_form};
+ghost use Rattle.mail_text.specs.Mails.{ack_data, command_data, hello_data, issued_data, launch_data, master_mail_data, to_agent_form};
 
 use mails::{Command, Job, MasterMail, ToAgent};
 use names_core::{FrameworkId, LaunchKey, OfferId};

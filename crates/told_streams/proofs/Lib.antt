@@ -1,3 +1,4 @@
 pub mod Standing
 pub mod Hearing
 pub mod Keeping
+pub mod Histories

@@ -1,6 +1,6 @@
 //! A stream, and the events that wait on it.
 
-ghost use Rattle.std.specs.Prelude.{◌≡◌, ◌++◌, ◌∷◌, [], drop, take, length, slice_get, List, OnOk, OnErr};
+ghost use Rattle.std.specs.Prelude.{◌≡◌, ◌++◌, ◌∷◌, [], drop, length, slice_get, List, OnOk, OnErr};
 ghost use Rattle.std.specs.Option.{option_copied};
 ghost use Rattle.event_json.specs.declared.event.Event.{Event};
 ghost use Rattle.told_streams.specs.Streams.{opened_stream, is_kept_as};

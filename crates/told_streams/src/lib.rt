@@ -9,5 +9,7 @@ mod streams;
 mod tests;
 
 pub use kept::{KeptStream, Waiting};
-pub use laws::{kept_streams_are_found, kept_streams_follow, no_more_is_taken};
+pub use laws::{
+    kept_streams_are_found, kept_streams_follow, no_more_is_taken, opened_streams_rise,
+};
 pub use streams::Streams;

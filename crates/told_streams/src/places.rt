@@ -1,11 +1,11 @@
 //! Streams at their places.
 
-ghost use Rattle.std.specs.Prelude.{◌≡◌, ◌++◌, ◌∷◌, [], ◌≤◌, map, take, length, List, option_map, OnOk, OnErr};
+ghost use Rattle.std.specs.Prelude.{◌≡◌, ◌++◌, ◌∷◌, [], ◌≤◌, map, take, length, List, OnOk, OnErr};
 ghost use Rattle.std.specs.List.{position};
 ghost use Rattle.std.specs.Option.{option_copied};
 ghost use Rattle.cluster_laws.specs.Runs.{AreRising};
 ghost use Rattle.cluster_model.specs.Ids.{before};
-ghost use Rattle.told_streams.specs.Streams.{KeptStream as Kept, count_on, heard, hearing, is_kept_as, kept_ids, next_on, opened_stream, stream_kept, taken};
+ghost use Rattle.told_streams.specs.Streams.{KeptStream as Kept, heard, hearing, is_kept_as, kept_ids, next_on, opened_stream, stream_kept, taken};
 
 use crate::kept::KeptStream;
 use cluster_steps::copy_stream_event;
