@@ -15,3 +15,4 @@ pub mod Ordinary
 pub mod WithinRuns
 pub mod Streams
 pub mod Told
+pub mod Refusals

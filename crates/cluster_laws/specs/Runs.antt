@@ -1,10 +1,11 @@
 -- What a master's step keeps of its run, and the order of the streams that it opens.
-use Rattle.std.specs.Prelude.{◌≡◌, ◌⊎◌, suc, true, List, [], ◌∷◌, map, ⊤}
+use Rattle.std.specs.Prelude.{◌≡◌, ◌⊎◌, suc, true, List, [], ◌∷◌, map, Some, ⊤}
 use Rattle.std.specs.List.{AllByRecursion as Each}
 use Rattle.names_core.specs.Ids.{Numbered}
+use Rattle.mails.specs.declared.refusal.MasterRefusal.{MasterRefusal}
 use Rattle.cluster_model.specs.Ids.{before}
 use Rattle.cluster_model.specs.Sides.{Run}
-use Rattle.cluster_model.specs.Masters.{Doing, Master, Move, AtSide, TearDownAll, RestartAll, HaltAll}
+use Rattle.cluster_model.specs.Masters.{Doing, Master, Move, AtSide, TearDownAll, RestartAll, HaltAll, refused}
 use Rattle.cluster_model.specs.Calls.{new_stream}
 use Rattle.cluster_model.specs.Clusters.{Cluster, Stream}
 use Rattle.cluster_model.specs.Steps.{done, effect_of}
@@ -23,6 +24,10 @@ IsPlain (AtSide agent step) = ⊤
 IsPlain (TearDownAll framework) = ⊤
 IsPlain RestartAll = ⊥
 IsPlain HaltAll = ⊥
+
+-- where it refuses, it does nothing else
+abbrev pub RefusesAlone : Master → Doing → Type 0
+RefusesAlone m d = (r : MasterRefusal) → d.refusal ≡ Some r → d ≡ refused m r
 
 -- no stream opens, or the one with the number behind the last one
 abbrev pub OpensNext : Master → Doing → Type 0

@@ -20,10 +20,11 @@ ghost use Rattle.side_fits.specs.Fits.{MailFitsAt};
 
 use cluster_safe::mails_meet_their_premises;
 
-/// The agents keep their names and their order, and no name stands twice.
+/// The agents keep their names and their order, and no name stands twice. Each agent's record has its name.
 pub fn agents_keep_their_names()
     ensures names { (run : ℕ) (records : List Durable) (steps : List Marked) → names_of (history run records steps).state.world.channels ≡ map (λ d. d.name) records }
     ensures once { (run : ℕ) (records : List Durable) (steps : List Marked) → GoodOpening run records → NamesOnce (names_of (history run records steps).state.world.channels) }
+    ensures recorded { (run : ℕ) (records : List Durable) (steps : List Marked) → Each (λ x. x.agent.durable.name ≡ x.side.name) (history run records steps).state.world.channels }
 {}
 
 /// The mails of the opening stand for its posts, one for one.

@@ -19,4 +19,4 @@ pub use parts::{
 pub use runs::{
     masters_open_next_streams, masters_stay_in_their_run, states_count_entries, streams_rise,
 };
-pub use ties::{fresh_masters_open, named_agents_are_found};
+pub use ties::{fresh_masters_open, named_agents_are_found, refusals_stand_alone};

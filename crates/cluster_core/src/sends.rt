@@ -1,0 +1,93 @@
+//! Calls are sent, and events are taken.
+
+ghost use Rattle.std.specs.Prelude.{◌≡◌, ◌++◌, ◌∷◌, [], List, Option, Some, None, IfOk, IfErr, OnErr, ℕ};
+ghost use Rattle.cluster_core.specs.Masters.{MasterMakes, StandsFor, taking};
+ghost use Rattle.cluster_core.specs.Moves.{Makes, Reached, Refuses, kept_agents, sending};
+ghost use Rattle.cluster_laws.specs.Items.{StandIn};
+ghost use Rattle.cluster_laws.specs.declared.item.Item.{Item};
+ghost use Rattle.cluster_laws.specs.declared.item.Item.TheVariants as items;
+ghost use Rattle.cluster_model.specs.Clusters.{Cluster, Send, Take};
+ghost use Rattle.cluster_model.specs.Masters.{Master};
+ghost use Rattle.cluster_steps.specs.declared.entry.Sent.TheVariants as entries;
+ghost use Rattle.cluster_steps.specs.declared.entry.Verdict.TheVariants as verdicts;
+ghost use Rattle.cluster_steps.specs.declared.fault.ClusterFault.TheVariants.{NoSuchMail};
+ghost use Rattle.event_json.specs.declared.event.Event.{Event};
+ghost use Rattle.mails.specs.declared.call.Call.{Call};
+ghost use Rattle.names_core.specs.Ids.{Numbered};
+ghost use Rattle.told_streams.specs.Kept.{kept_streams};
+ghost use Rattle.told_streams.specs.Streams.{next_on, taken};
+
+use crate::items::Items;
+use crate::masters::Made;
+use cluster_laws::{Item, sent_items_stand, streams_rise};
+use cluster_steps::{ClusterFault, Outputs, Sent, Verdict};
+use listed::Listed;
+use mails::Call as SentCall;
+use master_core::StreamEvent;
+use names_core::StreamId;
+use std::alloc::Global;
+use told_streams::{Streams, kept_streams_are_found, kept_streams_follow, no_more_is_taken};
+
+/// A call is sent, and the agents are as they were.
+fn sends_are_made()
+    ensures { (c : Cluster) (stream : Option Numbered) (call : Call) (sent : List Item) → Reached c → StandIn c sent →
+        Makes c (Send stream call) verdicts.Ok (sending (entries.Call ∷ [])) (kept_agents c) (sent ++ items.Call stream call ∷ []) }
+{
+    sent_items_stand();
+}
+
+/// The first event that waits on a stream is taken; where none waits the step is refused.
+fn takes_are_made()
+    ensures made { (c : Cluster) (id : Numbered) (event : Event) (master : Option (Option Master)) (sent : List Item) → Reached c → StandsFor c master sent (kept_streams c.streams) → next_on id (kept_streams c.streams) ≡ Some event →
+        MasterMakes c (Take id) c.last_tick (taking id event) master sent (taken id (kept_streams c.streams)) }
+    ensures refused { (c : Cluster) (id : Numbered) → next_on id (kept_streams c.streams) ≡ None → Refuses c (Take id) NoSuchMail }
+{
+    kept_streams_are_found();
+    kept_streams_follow();
+    no_more_is_taken();
+    sent_items_stand();
+    streams_rise();
+}
+
+/// A framework sends a call, on a stream or on none.
+pub fn send(
+    items: &mut Items,
+    alloc: Global,
+    stream: Option<StreamId>,
+    call: SentCall,
+) -> Result<Listed<Sent>, ClusterFault>
+    ensures made { IfOk result (λ sent. (c : Cluster) → Reached c → StandIn c items.old → Makes c (Send stream call) verdicts.Ok (sending sent) (kept_agents c) items.new) }
+    ensures unchanged { OnErr result (items.new ≡ items.old) }
+{
+    sends_are_made();
+    let mut sent = Listed::new(alloc);
+    sent.push(Sent::Call)?;
+    let mut more = Listed::new(alloc);
+    more.push(Item::Call(stream, call))?;
+    items.append(more)?;
+    Ok(sent)
+}
+
+/// A framework takes the first event that waits on a stream. It takes no memory.
+pub fn take(streams: &mut Streams, alloc: Global, id: StreamId) -> Result<Made, ClusterFault>
+    ensures made { IfOk result (λ made. (c : Cluster) (master : Option (Option Master)) (sent : List Item) → Reached c → StandsFor c master sent streams.old → MasterMakes c (Take id) c.last_tick made master sent streams.new) }
+    ensures refused { IfErr result (λ fault. (c : Cluster) → streams.old ≡ kept_streams c.streams → Refuses c (Take id) fault) }
+    ensures unchanged { OnErr result (streams.new ≡ streams.old) }
+{
+    takes_are_made();
+    if streams.next(id).is_none() {
+        return Err(ClusterFault::NoSuchMail);
+    }
+    match streams.take(id) {
+        Some(event) => Ok(Made {
+            verdict: Verdict::Ok,
+            outputs: Outputs {
+                events: Listed::new(alloc),
+                closed: Listed::new(alloc),
+                sent: Listed::new(alloc),
+                taken: Some(StreamEvent { stream: id, event }),
+            },
+        }),
+        None => Err(ClusterFault::NoSuchMail),
+    }
+}
