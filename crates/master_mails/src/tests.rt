@@ -162,60 +162,6 @@ fn running(alloc: Global) -> Result<State, Fail> {
     Ok(state)
 }
 
-/// Session 3 of a1 is open, after session 1.
-fn in_session_3(alloc: Global) -> Result<State, Fail> {
-    let mut state = two_agents(alloc)?;
-    report(alloc, &mut state, 1, 1, Listed::new(alloc))?;
-    report(alloc, &mut state, 3, 1, Listed::new(alloc))?;
-    Ok(state)
-}
-
-#[test]
-fn sessions_rise(rt: HostRuntime) -> Result<(), Fail> {
-    let alloc = rt.alloc();
-    let mut state = two_agents(alloc)?;
-    tick(&mut state, alloc, 0)?;
-    assert!(rt; tells(alloc, &mut state, "a1 Hello(1, 0)\na2 Hello(1, 0)\n")?);
-    assert!(rt; report(alloc, &mut state, 1, 1, Listed::new(alloc))? == None);
-    assert!(rt; report(alloc, &mut state, 3, 1, Listed::new(alloc))? == None);
-    assert!(rt; tells(alloc, &mut state, "")?);
-    Ok(())
-}
-
-#[test]
-fn an_old_session_is_refused(rt: HostRuntime) -> Result<(), Fail> {
-    let alloc = rt.alloc();
-    let mut state = in_session_3(alloc)?;
-    let old = report(alloc, &mut state, 2, 1, Listed::new(alloc))?;
-    assert!(rt; old == Some(MasterRefusal::OldSession));
-    assert!(rt; tells(alloc, &mut state, "a1 Hello(1, 1)\n")?);
-    Ok(())
-}
-
-#[test]
-fn a_session_that_is_not_open_is_refused(rt: HostRuntime) -> Result<(), Fail> {
-    let alloc = rt.alloc();
-    let mut state = in_session_3(alloc)?;
-    let count = AgentMail::Applied {
-        session: 4,
-        count: 0,
-    };
-    let refused = mail(&mut state, alloc, &named(alloc, "a1")?, count)?;
-    assert!(rt; refused == Some(MasterRefusal::NotOpen));
-    assert!(rt; tells(alloc, &mut state, "a1 Hello(1, 1)\n")?);
-    Ok(())
-}
-
-#[test]
-fn another_run_is_refused_without_hello(rt: HostRuntime) -> Result<(), Fail> {
-    let alloc = rt.alloc();
-    let mut state = in_session_3(alloc)?;
-    let other = report(alloc, &mut state, 3, 2, Listed::new(alloc))?;
-    assert!(rt; other == Some(MasterRefusal::OtherRun));
-    assert!(rt; tells(alloc, &mut state, "")?);
-    Ok(())
-}
-
 #[test]
 fn a_lost_agent_leaves_the_books(rt: HostRuntime) -> Result<(), Fail> {
     let alloc = rt.alloc();
@@ -226,20 +172,6 @@ fn a_lost_agent_leaves_the_books(rt: HostRuntime) -> Result<(), Fail> {
     let text = format!(in alloc; "{}{}a1 Hello(1, 1)\n", LOST, FAILED)?;
     assert!(rt; tells(alloc, &mut state, text.as_str())?);
     assert!(rt; state.sides.booked_count() == 0);
-    Ok(())
-}
-
-#[test]
-fn a_closed_session_is_refused(rt: HostRuntime) -> Result<(), Fail> {
-    let alloc = rt.alloc();
-    let mut state = two_agents(alloc)?;
-    let agent = named(alloc, "a1")?;
-    report(alloc, &mut state, 1, 1, Listed::new(alloc))?;
-    lose_agent(&mut state, alloc, &agent)?;
-    lose_agent(&mut state, alloc, &agent)?;
-    let again = report(alloc, &mut state, 1, 1, Listed::new(alloc))?;
-    assert!(rt; again == Some(MasterRefusal::Closed));
-    assert!(rt; tells(alloc, &mut state, "a1 Hello(1, 1)\na1 Hello(1, 1)\n")?);
     Ok(())
 }
 
