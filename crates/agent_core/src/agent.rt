@@ -67,8 +67,8 @@ impl Agent {
     pub fn stop_with(&mut self, draft: Draft)
         ensures { self.new ≡ recovered draft.draft.after }
     {
-        let next = draft.into_next();
-        self.state = next.after;
+        let saved = draft.into_next();
+        self.state = saved.after;
         self.stop();
     }
 

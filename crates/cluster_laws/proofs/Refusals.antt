@@ -21,7 +21,6 @@ use Rattle.cluster_model.specs.Mails.{judged, rescinds, loses, is_to_end, sessio
 use Rattle.cluster_model.specs.Rounds.{round, allocated}
 use Rattle.cluster_laws.specs.Runs.{RefusesAlone}
 
-
 fine : (m : Master) (d : Doing) → d.refusal ≡ None → RefusesAlone m d
 fine m d h r e = absurd (let clash : None ≡ Some r = cc in cc)
 
