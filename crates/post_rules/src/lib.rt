@@ -4,9 +4,12 @@
 mod direction;
 mod ever_sent;
 mod post;
+mod queues;
+mod stores;
 #[cfg(test)]
 mod tests;
 
 pub use direction::Direction;
 pub use ever_sent::EverSent;
 pub use post::Post;
+pub use queues::Queues;

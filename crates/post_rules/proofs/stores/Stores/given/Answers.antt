@@ -1,0 +1,50 @@
+use Rattle.std.proofs.Common.{◌≡◌, ◌-◌, true, length, refl, ap, ◌∙◌}
+use Rattle.std.proofs.lemmas.List.{length-set}
+use Rattle.post_rules.specs.Queueing.{hands_out}
+use Rattle.post_rules.specs.Stores.{given_sent, items_of}
+use Rattle.post_rules.proofs.Keeping.{as_many, given_once, hands_out_front, items_with_given, lasts_there, lasts_with_given, order_after_front, order_along}
+use Rattle.post_rules.proofs.stores.Stores.given.Goals as goal
+
+pub invariant_of-self : goal.invariant_of-self
+invariant_of-self c =
+    let xs = c.self.inside.sent.items in
+    let gives : hands_out (items_of xs) c.args.n ≡ true = ap (λ p. hands_out p.items c.args.n) c.self.view_is ∙ c.requires in
+    let front = hands_out_front xs c.args.n gives in
+    let is = c.hand_out.ensures.items front.0 front.1.at in (
+      order_along _ _ is (order_after_front xs (c.args.n - 1) front.0 c.self.invariant.0 front.1),
+      lasts_there _ _ c.self.inside.lasts is (lasts_with_given xs c.self.inside.lasts (c.args.n - 1) front.0 front.1.at c.self.invariant.1),
+    )
+
+pub returns-clause-items : goal.returns-clause-items
+returns-clause-items c i at =
+    let xs = c.self.inside.sent.items in
+    let items : items_of xs ≡ c.args.self.now.items = ap (λ p. p.items) c.self.view_is in
+    let gives : hands_out (items_of xs) c.args.n ≡ true = ap (λ p. hands_out p.items c.args.n) c.self.view_is ∙ c.requires in
+    let front = hands_out_front xs c.args.n gives in
+    let is = c.hand_out.ensures.items front.0 front.1.at in
+    ap items_of is ∙ (items_with_given xs (c.args.n - 1) front.0 i front.1.at (rw items at) ∙ rw items refl)
+
+pub returns-clause-once : goal.returns-clause-once
+returns-clause-once c =
+    let xs = c.self.inside.sent.items in
+    let gives : hands_out (items_of xs) c.args.n ≡ true = ap (λ p. hands_out p.items c.args.n) c.self.view_is ∙ c.requires in
+    let front = hands_out_front xs c.args.n gives in
+    let is = c.hand_out.ensures.items front.0 front.1.at in
+    ap (λ ys. hands_out (items_of ys) c.args.n) is ∙ given_once xs c.args.n front.0 front.1.at
+
+pub returns-clause-count : goal.returns-clause-count
+returns-clause-count c =
+    let xs = c.self.inside.sent.items in
+    let gives : hands_out (items_of xs) c.args.n ≡ true = ap (λ p. hands_out p.items c.args.n) c.self.view_is ∙ c.requires in
+    let front = hands_out_front xs c.args.n gives in
+    let is = c.hand_out.ensures.items front.0 front.1.at in
+    ap (λ ys. length (items_of ys)) is ∙ (as_many xs (c.args.n - 1) front.0 ∙ ap (λ p. length p.items) c.self.view_is)
+
+pub returns-clause-room : goal.returns-clause-room
+returns-clause-room c =
+    let xs = c.self.inside.sent.items in
+    let gives : hands_out (items_of xs) c.args.n ≡ true = ap (λ p. hands_out p.items c.args.n) c.self.view_is ∙ c.requires in
+    let front = hands_out_front xs c.args.n gives in
+    let is = c.hand_out.ensures.items front.0 front.1.at in
+    let many : length c.hand_out.new.sent.items ≡ length xs = ap length is ∙ length-set xs (c.args.n - 1) (given_sent front.0) in
+    rw (c.hand_out.ensures.room, many) (ap (λ p. p.room) c.self.view_is)

@@ -1,0 +1,30 @@
+use Rattle.std.proofs.Common.{◌≡◌, ◌+◌, List, [], ◌∷◌, ◌++◌, length, false, refl, ap, arith}
+use Rattle.std.proofs.lemmas.List.{length-append, map-append}
+use Rattle.post_rules.specs.declared.stores.Sent.{Sent}
+use Rattle.post_rules.specs.Queueing.{Item}
+use Rattle.post_rules.specs.Stores.{item_of, items_of}
+use Rattle.post_rules.proofs.Keeping.{lasts_there, lasts_with_more, newest_can_go, older_stay, order_along, order_with_more}
+use Rattle.post_rules.proofs.stores.Stores.put.Goals as goal
+
+pub invariant_of-self : goal.invariant_of-self
+invariant_of-self c =
+    let xs = c.self.inside.sent.items in
+    let s : Sent = record { direction = c.args.direction; previous = c.last_in-previous.result; given = false } in
+    let more : length (xs ++ s ∷ []) ≡ length xs + 1 = length-append xs (s ∷ []) in
+    let number : c.len.result ≡ length xs + 1 = omega (arith, c.len.ensures, c.push_reserved.ensures.len, c.self.inside) in
+    let lasts = rw number at c.set_last.ensures.lasts in (
+      order_along (xs ++ s ∷ []) _ c.push_reserved.ensures.items (order_with_more xs s c.self.invariant.0 (rw c.last_in-previous.ensures (c.self.invariant.1 c.args.direction)) refl),
+      lasts_there (xs ++ s ∷ []) _ c.set_last.new.lasts c.push_reserved.ensures.items (lasts_with_more xs c.self.inside.lasts c.set_last.new.lasts s c.self.invariant.1 lasts),
+    )
+
+items_then : (xs ys : List Sent) (s : Sent) (items : List Item) → ys ≡ xs ++ s ∷ [] → items_of xs ≡ items → items_of ys ≡ items ++ item_of s ∷ []
+items_then xs ys s items e f = rw (e, map-append item_of xs (s ∷ []), f) refl
+
+pub returns-clause-items : goal.returns-clause-items
+returns-clause-items c = items_then c.self.inside.sent.items _ _ c.args.self.now.items c.push_reserved.ensures.items (ap (λ p. p.items) c.self.view_is)
+
+pub returns-clause-older : goal.returns-clause-older
+returns-clause-older c n le = rw (items_then c.self.inside.sent.items _ _ c.args.self.now.items c.push_reserved.ensures.items (ap (λ p. p.items) c.self.view_is)) (older_stay c.args.self.now.items _ n le)
+
+pub returns-clause-newest : goal.returns-clause-newest
+returns-clause-newest c = rw (items_then c.self.inside.sent.items _ _ c.args.self.now.items c.push_reserved.ensures.items (ap (λ p. p.items) c.self.view_is)) (newest_can_go c.args.self.now.items c.args.direction)

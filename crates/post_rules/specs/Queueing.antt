@@ -1,0 +1,40 @@
+-- Calls and queues of mails, of which each is handed out once.
+use Rattle.std.specs.Prelude.{ℕ, ◌-◌, List, [], Bool, true, false, ◌&&◌, ◌||◌, not, ◌==◌, nat_lt, take, Option, None, Some}
+use Rattle.std.specs.List.{slice_get, list_all}
+use Rattle.post_rules.specs.declared.direction.Direction.{Direction}
+use Rattle.post_rules.specs.declared.direction.Direction.TheVariants.{ToAgent, FromAgent}
+
+-- something that was put, and whether it was handed out
+pub record Item : Type 0 where
+  pub direction : Direction
+  pub given : Bool
+
+-- the mails to one agent stand in one queue, and so do those from it; a call stands in none
+abbrev pub same_queue : Direction → Direction → Bool
+same_queue (ToAgent a) (ToAgent b) = a == b
+same_queue (FromAgent a) (FromAgent b) = a == b
+same_queue d e = false
+
+-- of these nothing in the queue of a direction waits
+abbrev pub nothing_waits : Direction → List Item → Bool
+nothing_waits d items = list_all (λ i. i.given || not (same_queue d i.direction)) items
+
+-- it wasn't handed out, and of those before it nothing in its queue waits
+abbrev pub is_next : List Item → Option Item → Bool
+is_next before None = false
+is_next before (Some item) = not item.given && nothing_waits item.direction before
+
+-- what is handed out next: each call, and of each queue the first that waits; numbers are from 1
+abbrev pub hands_out : List Item → ℕ → Bool
+hands_out items n = nat_lt 0 n && is_next (take (n - 1) items) (slice_get items (n - 1))
+
+abbrev pub handed_over : Item → Item
+handed_over i = record { direction = i.direction; given = true }
+
+-- what was put, in order, and how many more can be put without memory
+pub record Post : Type 0 where
+  pub items : List Item
+  pub room : ℕ
+
+abbrev pub nothing_put : Post
+nothing_put = record { items = []; room = 0 }

@@ -1,0 +1,47 @@
+-- How queues are kept: with each item the number of the one before it in its queue, and of each queue the number of its last.
+use Rattle.std.specs.Prelude.{◌≡◌, ◌<◌, ◌≤◌, ℕ, ◌-◌, List, true, false, take, length, map, nat_eq, unwrap_or, Some}
+use Rattle.std.specs.List.{slice_get}
+use Rattle.std.specs.declared.hash.FoldHasher.{FoldHasher}
+use Rattle.std.specs.declared.hash.BuildHasherDefault.{BuildHasherDefault}
+use Rattle.std.specs.HashMap.{HashMap, get}
+use Rattle.post_rules.specs.declared.direction.Direction.{Direction}
+use Rattle.post_rules.specs.declared.direction.Direction.TheVariants.{Call, ToAgent, FromAgent}
+use Rattle.post_rules.specs.declared.stores.Lasts.{Lasts}
+use Rattle.post_rules.specs.declared.stores.Sent.{Sent}
+use Rattle.post_rules.specs.Queueing.{Item, same_queue}
+
+abbrev pub LastsByAgent : Type 0
+LastsByAgent = HashMap ℕ Lasts (BuildHasherDefault FoldHasher)
+
+abbrev pub lasts_of : LastsByAgent → ℕ → Lasts
+lasts_of m agent = unwrap_or (get nat_eq m agent) (record { to_agent = 0; from_agent = 0 })
+
+-- the number of the last in the queue of a direction, 0 where there is none
+abbrev pub last_in : LastsByAgent → Direction → ℕ
+last_in m Call = 0
+last_in m (ToAgent agent) = (lasts_of m agent).to_agent
+last_in m (FromAgent agent) = (lasts_of m agent).from_agent
+
+abbrev pub item_of : Sent → Item
+item_of s = record { direction = s.direction; given = s.given }
+
+abbrev pub given_sent : Sent → Sent
+given_sent s = record { direction = s.direction; previous = s.previous; given = true }
+
+abbrev pub items_of : List Sent → List Item
+items_of sent = map item_of sent
+
+-- of these, the last in the queue of a direction has this number, or there is none and the number is 0
+pub record IsLast (d : Direction) (sent : List Sent) (last : ℕ) : Type 0 where
+  pub within : last ≤ length sent
+  pub found : (s : Sent) → 0 < last → slice_get sent (last - 1) ≡ Some s → same_queue d s.direction ≡ true
+  pub above : (i : ℕ) (s : Sent) → last ≤ i → slice_get sent i ≡ Some s → same_queue d s.direction ≡ false
+
+-- each queue is handed out in order, and with each item the number of the one before it is kept
+pub record AreInOrder (sent : List Sent) : Type 0 where
+  pub chained : (i : ℕ) (s : Sent) → slice_get sent i ≡ Some s → IsLast s.direction (take i sent) s.previous
+  pub in_order : (i j : ℕ) (s t : Sent) → i < j → slice_get sent i ≡ Some s → slice_get sent j ≡ Some t → same_queue t.direction s.direction ≡ true → t.given ≡ true → s.given ≡ true
+
+-- of each queue the number of its last is kept
+abbrev pub AreLasts : List Sent → LastsByAgent → Type 0
+AreLasts sent m = (d : Direction) → IsLast d sent (last_in m d)

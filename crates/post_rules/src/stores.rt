@@ -1,0 +1,175 @@
+//! What queues are kept in.
+
+ghost use Rattle.std.specs.Prelude.{◌≡◌, ◌<◌, ◌≤◌, ◌-◌, ◌+◌, ◌++◌, ◌∷◌, [], ℕ, suc, Bool, true, false, length, not, ◌||◌, nat_eq, if◌then◌else◌, set, slice_get, take, vec_capacity, OnOk, Some};
+ghost use Rattle.std.specs.HashMap.{spare};
+ghost use Rattle.post_rules.specs.Queueing.{Item, handed_over, hands_out, is_next, nothing_waits, same_queue};
+ghost use Rattle.post_rules.specs.Stores.{AreInOrder, given_sent, items_of, lasts_of, last_in};
+
+use crate::direction::Direction;
+use std::alloc::{AllocError, Global};
+use std::collections::HashMap;
+use std::marker::Model;
+
+/// Something that was put.
+#[derive(Drop)]
+struct Sent {
+    direction: Direction,
+    /// The number of the one before it in its queue; 0 where there is none.
+    previous: usize,
+    given: bool,
+}
+
+/// The numbers of the last mails to and from an agent; 0 where there is none.
+#[derive(Clone, Copy)]
+struct Lasts {
+    to_agent: usize,
+    from_agent: usize,
+}
+
+/// All that was put, with the last numbers of each agent.
+#[derive(Drop)]
+pub(crate) struct Stores {
+    sent: Vec<Sent>,
+    lasts: HashMap<usize, Lasts>,
+}
+
+impl Model for Stores {
+    ghost use Rattle.std.specs.Prelude.{◌-◌, length, min, vec_capacity};
+    ghost use Rattle.std.specs.HashMap.{spare};
+    ghost use Rattle.post_rules.specs.Queueing.{Post as Kept};
+    ghost use Rattle.post_rules.specs.Stores.{AreInOrder, AreLasts, items_of};
+
+    ghost Value = { Kept };
+
+    ghost view = { λ q. record { items = items_of q.sent.items; room = min (vec_capacity q.sent - length q.sent.items) (spare q.lasts) } };
+
+    ghost invariant = { λ q. AreInOrder q.sent.items × AreLasts q.sent.items q.lasts };
+}
+
+fn lasts_of(lasts: &HashMap<usize, Lasts>, agent: usize) -> Lasts
+    ensures { result ≡ lasts_of lasts.now agent }
+{
+    match lasts.get(&agent) {
+        Some(found) => *found,
+        None => Lasts {
+            to_agent: 0,
+            from_agent: 0,
+        },
+    }
+}
+
+/// The number of the last in a direction's queue, 0 where there is none.
+fn last_in(lasts: &HashMap<usize, Lasts>, direction: Direction) -> usize
+    ensures { result ≡ last_in lasts.now direction }
+{
+    match direction {
+        Direction::Call => 0,
+        Direction::ToAgent(agent) => lasts_of(lasts, agent).to_agent,
+        Direction::FromAgent(agent) => lasts_of(lasts, agent).from_agent,
+    }
+}
+
+/// This number is the last in the direction's queue now.
+fn set_last(lasts: &mut HashMap<usize, Lasts>, direction: Direction, number: usize)
+    requires { 0 < spare lasts.old }
+    ensures lasts { (d : Direction) → last_in lasts.new d ≡ (if same_queue direction d then number else last_in lasts.old d) }
+    ensures room { spare lasts.old ≤ spare lasts.new + 1 }
+{
+    let (agent, now) = match direction {
+        Direction::Call => return,
+        Direction::ToAgent(agent) => (
+            agent,
+            Lasts {
+                to_agent: number,
+                from_agent: lasts_of(lasts, agent).from_agent,
+            },
+        ),
+        Direction::FromAgent(agent) => (
+            agent,
+            Lasts {
+                to_agent: lasts_of(lasts, agent).to_agent,
+                from_agent: number,
+            },
+        ),
+    };
+    let _ = lasts.insert(agent, now);
+}
+
+/// Whether the one at this place waits, and nothing before it in its queue does.
+fn is_next(sent: &[Sent], index: usize) -> bool
+    requires { AreInOrder sent.now }
+    ensures { result ≡ is_next (take index (items_of sent.now)) (slice_get (items_of sent.now) index) }
+{
+    match sent.get(index) {
+        None => false,
+        Some(item) => {
+            if item.given {
+                return false;
+            }
+            item.previous == 0 || sent[item.previous - 1].given
+        }
+    }
+}
+
+fn hand_out(sent: &mut Vec<Sent>, index: usize)
+    requires { index < length sent.old.items }
+    ensures items { (s : Sent) → slice_get sent.old.items index ≡ Some s → sent.new.items ≡ set sent.old.items index (given_sent s) }
+    ensures room { vec_capacity sent.new ≡ vec_capacity sent.old }
+{
+    let item = &mut sent[index];
+    item.given = true;
+}
+
+impl Stores {
+    pub(crate) fn new(alloc: Global) -> Stores
+        ensures { result.items ≡ [] }
+    {
+        Stores {
+            sent: Vec::new(alloc),
+            lasts: HashMap::new(alloc),
+        }
+    }
+
+    /// Makes room for so many more, whatever their directions.
+    pub(crate) fn reserve(&mut self, more: usize) -> Result<(), AllocError>
+        ensures room { OnOk result (more ≤ self.new.room) }
+        ensures items { self.new.items ≡ self.old.items }
+    {
+        self.sent.reserve(more)?;
+        self.lasts.reserve(more)
+    }
+
+    /// What is put waits behind all that was put.
+    pub(crate) fn put(&mut self, direction: Direction)
+        requires { 0 < self.old.room }
+        ensures items { self.new.items ≡ self.old.items ++ record { direction = direction; given = false } ∷ [] }
+        ensures room { self.old.room ≤ suc self.new.room }
+        ensures older { (n : ℕ) → n ≤ length self.old.items → hands_out self.new.items n ≡ hands_out self.old.items n }
+        ensures newest { hands_out self.new.items (suc (length self.old.items)) ≡ nothing_waits direction self.old.items }
+    {
+        let previous = last_in(&self.lasts, direction);
+        self.sent.push_reserved(Sent {
+            direction,
+            previous,
+            given: false,
+        });
+        set_last(&mut self.lasts, direction, self.sent.len());
+    }
+
+    pub(crate) fn can_give(&self, n: u64) -> bool
+        ensures { result ≡ hands_out self.now.items n }
+    {
+        0 < n && is_next(&self.sent, (n - 1) as usize)
+    }
+
+    /// What was handed out has its mark.
+    pub(crate) fn given(&mut self, n: u64)
+        requires { hands_out self.old.items n ≡ true }
+        ensures count { length self.new.items ≡ length self.old.items }
+        ensures items { (i : Item) → slice_get self.old.items (n - 1) ≡ Some i → self.new.items ≡ set self.old.items (n - 1) (handed_over i) }
+        ensures room { self.new.room ≡ self.old.room }
+        ensures once { hands_out self.new.items n ≡ false }
+    {
+        hand_out(&mut self.sent, (n - 1) as usize);
+    }
+}
