@@ -7,3 +7,14 @@ pub mod Mastering
 pub mod StepsDone
 pub mod StepsServed
 pub mod Sendings
+pub mod Outgoing
+pub mod Hearing
+pub mod Parting
+pub mod Telling
+pub mod Greeting
+pub mod Openings
+pub mod Restarts
+pub mod FreshRecords
+pub mod SafeStories
+pub mod RunSteps
+pub mod Decided

@@ -81,6 +81,8 @@ doing_told more c s moment d items r within stand serves how fine = record {
   answers = how.answers;
   ends = ap (λ o. verdict_of (steps.verdict_of o)) (sym fine);
   brings = ap (told_with (map written d.events) d.closes) (sym (told_so mails)) ∙ ap (λ (xs : List Sent). told_with (map written d.events) d.closes (map sent_of xs)) (sym sends);
+  gives = refl;
+  drafts = refl;
   stands = record {
     as_master = ap (λ (m : Master). Some (Some m)) (sym after) ∙ sym (serving (master_of D.after) (how.keeps.serves ∙ serves));
     as_items = subst (λ (xs : List Item). StandIn D.after (items ++ xs)) (ap (items_sent (call_of s)) sends ∙ kept_so (call_of s) mails) (items_by more.stand c marks D items r how.answers stand);
@@ -120,6 +122,8 @@ doing_refused more c s moment d refusal items r within stand serves how is = rec
   answers = answers;
   ends = refl;
   brings = refl;
+  gives = refl;
+  drafts = refl;
   stands = record {
     as_master = sym (serving (master_of c) serves);
     as_items = subst (StandIn D.after) (append_nothing items) (items_by more.stand c (marks_so false s) D items r answers stand);
@@ -155,6 +159,8 @@ doing_falls more c s moment d items r within stand how = record {
   answers = answers;
   ends = refl;
   brings = ap (λ (xs : List Sent). sending (map sent_of xs)) (sym silent);
+  gives = refl;
+  drafts = refl;
   stands = record {
     as_master = sym (not_serving (master_of D.after) (more.down base));
     as_items = subst (StandIn D.after) (append_nothing items) (subst (λ (xs : List Sent). StandIn D.after (items ++ items_sent (call_of s) xs)) silent (items_by more.stand c (marks_so true s) D items r answers stand));
@@ -212,7 +218,7 @@ answer_made more c s moment doing (Err (fault.Refused refusal)) after made n ite
 abbrev unfallen : Step → Marked
 unfallen s = record { fell = false; step = s }
 
-extended_more : (h : History) (ss : List Marked) (m : Marked) → extend_all h (ss ++ m ∷ []) ≡ extended (extend_all h ss) (step_marked (extend_all h ss).state m)
+pub extended_more : (h : History) (ss : List Marked) (m : Marked) → extend_all h (ss ++ m ∷ []) ≡ extended (extend_all h ss) (step_marked (extend_all h ss).state m)
 extended_more h [] m = refl
 extended_more h (s ∷ ss) m = extended_more (extended h (step_marked h.state s)) ss m
 

@@ -1,7 +1,8 @@
 -- An agent opens a draft, refuses its cause, or falls.
-use Rattle.std.proofs.Common.{◌≡◌, ◌≢◌, ◌-◌, ℕ, zero, suc, Bool, true, false, not, List, [], ◌∷◌, ◌++◌, map, filter, slice_get, slice_set, Option, Some, None, is_some, Result, Ok, Err, refl, sym, ap, ◌∙◌, subst, bytes_eq, arith, eqb}
-use Rattle.std.specs.Prelude.{if◌then◌else◌, ◌==◌, ⊤}
-use Rattle.std.specs.List.{AllByRecursion as Each, list_any}
+use Rattle.std.proofs.Common.{◌≡◌, ◌≢◌, ◌-◌, ℕ, zero, suc, Bool, true, false, not, List, [], ◌∷◌, ◌++◌, map, filter, slice_get, slice_set, Option, Some, None, is_some, Result, Ok, Err, refl, sym, ap, ◌∙◌, subst, bytes_eq, arith, eqb, inl, inr, cond, ◌+◌}
+use Rattle.std.specs.Prelude.{if◌then◌else◌, ◌==◌, ◌⊎◌, position, ⊤}
+use Rattle.std.specs.List.{AllByRecursion as Each, find, list_any, position_from}
+use Rattle.std.proofs.lemmas.Iterator.Adapters.{position_from-zero}
 use Rattle.std.proofs.lemmas.Bool.Decides.{nat_tests}
 use Rattle.mails.specs.declared.call.Call.{Call}
 use Rattle.mails.specs.declared.cause.Cause.{Cause}
@@ -33,8 +34,9 @@ use Rattle.cluster_steps.specs.declared.fault.ClusterFault.{ClusterFault}
 use Rattle.cluster_steps.specs.declared.fault.ClusterFault.TheVariants as faults
 use Rattle.cluster_steps.specs.declared.step.StepCause.{StepCause}
 use Rattle.cluster_steps.specs.declared.step.StepCause.TheVariants.{Start, Again, Executor, Mail}
-use Rattle.cluster_core.specs.Agents.{KeptAgent, Draws, comes_up_without, goes_down, place_in, with_part}
-use Rattle.cluster_core.specs.Causes.{Causes, Drawn, cause_due, for_it, item_at, mail_due}
+use Rattle.cluster_core.specs.Agents.{KeptAgent, Draws, agent_in, comes_up_without, drafted_in, goes_down, place_in, with_part}
+use Rattle.cluster_core.specs.Causes.{Causes, Drawn, cause_due, for_it, item_at, mail_due, record_drawn, record_prepared}
+use Rattle.cluster_core.specs.Handing.{MayRefuse, is_withheld}
 use Rattle.cluster_core.specs.Moves.{LaunchAnew, Makes, Reached, Refuses, kept_agents, kept_part, sending}
 use Rattle.cluster_core.proofs.Finding.{Found, found, not_found, kept_at, bytes_same, bytes_refl, falls_alone, is_down_then}
 use Rattle.cluster_core.proofs.Making.{Laws, OneMoves, append_nothing, done_at, items_stand, one_moves_silently, quiet_streams}
@@ -355,6 +357,98 @@ prepare_refused more c name place a cause faults.HistoryFull sent stand e at is_
 prepare_refused more c name place a cause faults.TimeBack sent stand e at is_up free due = absurd due
 prepare_refused more c name place a cause faults.NoSuchAgent sent stand e at is_up free due = absurd due
 prepare_refused more c name place a cause faults.OutOfMemory sent stand e at is_up free due = tt
+
+-- ---- a mail that is withheld
+
+unsent_or_taken_at : (c : Cluster) (x : Channel) (place : ℕ) (o : Option MasterMail) → (draws_mail_at c x place o ≡ Err NoSuchMail) ⊎ ((d : Done) × (draws_mail_at c x place o ≡ Ok d))
+unsent_or_taken_at c x place None = inl refl
+unsent_or_taken_at c x place (Some mail) = by (hears_mail x.agent mail)
+  where
+    by : (r : Result Draft AgentRefusal) → (drafts c x (DrawMail place) r ≡ Err NoSuchMail) ⊎ ((d : Done) × (drafts c x (DrawMail place) r ≡ Ok d))
+    by (Ok draft) = inr (_, refl)
+    by (Err refusal) = inr (_, refl)
+
+unsent_or_taken : (c : Cluster) (x : Channel) (o : Option Post) → (draws_mail c x o ≡ Err NoSuchMail) ⊎ ((d : Done) × (draws_mail c x o ≡ Ok d))
+unsent_or_taken c x None = inl refl
+unsent_or_taken c x (Some (Called stream call)) = inl refl
+unsent_or_taken c x (Some (Up agent place)) = inl refl
+unsent_or_taken c x (Some (Down agent place)) = by (bytes_eq agent x.side.name)
+  where
+    there : Result Done StepRefusal
+    there = draws_mail_at c x place (slice_get x.to_agent place)
+
+    by : (b : Bool) → ((if b then there else does c (happening c (AgentRefused NotForMe) [])) ≡ Err NoSuchMail) ⊎ ((d : Done) × ((if b then there else does c (happening c (AgentRefused NotForMe) [])) ≡ Ok d))
+    by true = unsent_or_taken_at c x place (slice_get x.to_agent place)
+    by false = inr (_, refl)
+
+not_true : (b : Bool) → not b ≡ true → b ≡ false
+not_true true e = absurd (let clash : false ≡ true = e in cc)
+not_true false e = refl
+
+withheld_so : (c : Cluster) (name : List ℕ) (x : Channel) (n : ℕ) (gives : ℕ → Bool) → answer c (Prepare name (model.ByMail n)) ≡ draws_mail c x (post_at c n) → gives n ≡ false → MayRefuse c gives (Prepare name (model.ByMail n)) faults.NoSuchMail
+withheld_so c name x n gives asked none = by (unsent_or_taken c x (post_at c n))
+  where
+    by : (draws_mail c x (post_at c n) ≡ Err NoSuchMail) ⊎ ((d : Done) × (draws_mail c x (post_at c n) ≡ Ok d)) → MayRefuse c gives (Prepare name (model.ByMail n)) faults.NoSuchMail
+    by (inl e) = inl (asked ∙ e)
+    by (inr (d, e)) = inr (refl, (n, d, refl, none, asked ∙ e))
+
+pub prepare_withheld : (c : Cluster) (name : List ℕ) (place : ℕ) (a : KeptAgent) (cause : StepCause) (gives : ℕ → Bool) → place_in name (kept_agents c) ≡ Some place → slice_get (kept_agents c) place ≡ Some a → a.is_down ≡ false → a.part.draft ≡ None →
+    is_withheld gives cause ≡ true → MayRefuse c gives (Prepare name (cause_of cause)) faults.NoSuchMail
+prepare_withheld c name place a Start gives e at is_up free held = absurd (let clash : false ≡ true = held in cc)
+prepare_withheld c name place a Again gives e at is_up free held = absurd (let clash : false ≡ true = held in cc)
+prepare_withheld c name place a (Executor key state) gives e at is_up free held = absurd (let clash : false ≡ true = held in cc)
+prepare_withheld c name place a (Mail n) gives e at is_up free held = by (ready c name place a e at is_up free)
+  where
+    by : Ready c name place a → MayRefuse c gives (Prepare name (model.ByMail n)) faults.NoSuchMail
+    by y = subst (λ (m : List ℕ). MayRefuse c gives (Prepare m (model.ByMail n)) faults.NoSuchMail) y.called (withheld_so c y.x.side.name y.x n gives (y.asked (Mail n)) (not_true (gives n) held))
+
+-- ---- the record of the draft that was opened
+
+abbrev is_called : List ℕ → KeptAgent → Bool
+is_called name a = bytes_eq a.part.name name
+
+record SetAt (name : List ℕ) (as_ : List KeptAgent) (i k : ℕ) : Type 0 where
+  place : ℕ
+  is : k ≡ place + i
+  found : (old new : KeptAgent) → slice_get as_ place ≡ Some old → new.part.name ≡ old.part.name → find (is_called name) (slice_set as_ place new) ≡ Some new
+
+set_at : (name : List ℕ) (as_ : List KeptAgent) (i k : ℕ) → position_from (is_called name) i as_ ≡ Some k → SetAt name as_ i k
+set_at name [] i k e = absurd (let clash : None ≡ Some k = e in cc)
+set_at name (a ∷ as_) i k e = by (is_called name a) refl e (λ f. set_at name as_ (i + 1) k f)
+  where
+    by : (t : Bool) → is_called name a ≡ t → cond (is_called name a) (Some i) (position_from (is_called name) (i + 1) as_) ≡ Some k → (position_from (is_called name) (i + 1) as_ ≡ Some k → SetAt name as_ (i + 1) k) → SetAt name (a ∷ as_) i k
+    by true b f rest =
+        let same : Some i ≡ Some k = rw b at f in
+        let at_once : i ≡ k = cc in
+        record {
+          place = 0;
+          is = omega (arith, at_once);
+          found = λ old new here called.
+              let is : a ≡ old = (let s : Some a ≡ Some old = here in cc) in
+              let name_is : is_called name new ≡ true = ap (λ (n : List ℕ). bytes_eq n name) (called ∙ ap (λ (z : KeptAgent). z.part.name) (sym is)) ∙ b in
+              rw name_is refl;
+        }
+    by false b f rest =
+        let s = rest (rw b at f) in
+        record {
+          place = suc s.place;
+          is = (let h : k ≡ s.place + (i + 1) = s.is in omega (arith, h));
+          found = λ old new here called. rw b (s.found old new here called);
+        }
+
+pub set_found : (name : List ℕ) (as_ : List KeptAgent) (place : ℕ) (old new : KeptAgent) → place_in name as_ ≡ Some place → slice_get as_ place ≡ Some old → new.part.name ≡ old.part.name → agent_in name (slice_set as_ place new) ≡ Some new
+set_found name as_ place old new e here called = made (set_at name as_ 0 place (sym (position_from-zero (is_called name) as_) ∙ e))
+  where
+    made : SetAt name as_ 0 place → agent_in name (slice_set as_ place new) ≡ Some new
+    made s =
+        let same : s.place ≡ place = (let h : place ≡ s.place + 0 = s.is in omega (arith, h)) in
+        subst (λ (k : ℕ). slice_get as_ k ≡ Some old → find (is_called name) (slice_set as_ k new) ≡ Some new) same (λ h. s.found old new h called) here
+
+pub record_so : (verdict : code.Verdict) (name : List ℕ) (as_ : List KeptAgent) (new : KeptAgent) → agent_in name as_ ≡ Some new → record_drawn verdict new ≡ record_prepared verdict name as_
+record_so verdicts.Ok name as_ new e = sym (ap drafted_in e)
+record_so (verdicts.MasterRefused refusal) name as_ new e = refl
+record_so (verdicts.AgentRefused refusal) name as_ new e = refl
+record_so verdicts.OutOfMemory name as_ new e = refl
 
 -- ---- what the agent is handed launches anew
 

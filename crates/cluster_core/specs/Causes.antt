@@ -3,6 +3,7 @@ use Rattle.std.specs.Prelude.{◌≡◌, ◌-◌, ℕ, ◌==◌, if◌then◌els
 use Rattle.mails.specs.declared.cause.Cause.{Cause}
 use Rattle.mails.specs.declared.cause.Cause.TheVariants as causes
 use Rattle.mails.specs.declared.mail.ToAgent.{ToAgent}
+use Rattle.mails.specs.declared.record.Durable.{Durable}
 use Rattle.mails.specs.declared.refusal.AgentRefusal.{AgentRefusal}
 use Rattle.cluster_model.specs.Agents.{Draft}
 use Rattle.cluster_steps.specs.declared.entry.Verdict.{Verdict}
@@ -13,7 +14,7 @@ use Rattle.cluster_steps.specs.declared.fault.ClusterFault.{ClusterFault}
 use Rattle.cluster_steps.specs.declared.fault.ClusterFault.TheVariants.{NoSuchMail, MasterDown, AgentDown, DraftOpen, NoDraft, HistoryFull, TimeBack, NoSuchAgent, OutOfMemory}
 use Rattle.cluster_steps.specs.declared.step.StepCause.{StepCause}
 use Rattle.cluster_steps.specs.declared.step.StepCause.TheVariants.{Start, Again, Executor, Mail}
-use Rattle.cluster_core.specs.Agents.{KeptAgent, Draws, comes_up_without, goes_down}
+use Rattle.cluster_core.specs.Agents.{KeptAgent, Draws, agent_in, comes_up_without, drafted, drafted_in, goes_down}
 
 -- what was sent under a number, from 1
 abbrev pub item_at : ℕ → List Item → Option Item
@@ -67,3 +68,17 @@ Drawn verdicts.Ok old new due = Draws None old new due
 Drawn (verdicts.MasterRefused refusal) old new due = ⊥
 Drawn (verdicts.AgentRefused refusal) old new due = Draws (Some refusal) old new due
 Drawn verdicts.OutOfMemory old new due = new ≡ goes_down (comes_up_without old)
+
+-- the record that goes with a draft that was opened
+abbrev pub record_drawn : Verdict → KeptAgent → Option Durable
+record_drawn verdicts.Ok a = drafted a
+record_drawn (verdicts.MasterRefused refusal) a = None
+record_drawn (verdicts.AgentRefused refusal) a = None
+record_drawn verdicts.OutOfMemory a = None
+
+-- the same, of the agent of a name
+abbrev pub record_prepared : Verdict → List ℕ → List KeptAgent → Option Durable
+record_prepared verdicts.Ok name agents = drafted_in (agent_in name agents)
+record_prepared (verdicts.MasterRefused refusal) name agents = None
+record_prepared (verdicts.AgentRefused refusal) name agents = None
+record_prepared verdicts.OutOfMemory name agents = None

@@ -4,3 +4,14 @@ pub mod Stories
 pub mod Moves
 pub mod Sending
 pub mod Masters
+pub mod Posts
+pub mod Handing
+pub mod Hearing
+pub mod Restarting
+pub mod Parts
+pub mod Keeping
+pub mod Opening
+pub mod Fresh
+pub mod Safety
+pub mod Running
+pub mod Openable

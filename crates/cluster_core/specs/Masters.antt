@@ -45,6 +45,8 @@ pub record MasterMakes (c : Cluster) (step : Step) (moment : ℕ) (made : Made) 
   pub answers : (if fell made.verdict then fallen_answer c step else answer c step) ≡ Ok done
   pub ends : made.verdict ≡ verdict_of done.entry.verdict
   pub brings : made.outputs ≡ outputs_of done.entry.outs
+  pub gives : made.given ≡ made.outputs
+  pub drafts : made.durable ≡ None
   pub stands : StandsFor done.after master items_sent streams
   pub leaves_parts : parts_of done.after.world.channels ≡ parts_of c.world.channels
   pub leaves_fallen : done.after.fallen ≡ c.fallen
@@ -70,10 +72,10 @@ abbrev pub told_by : Outs → Outputs
 told_by outs = record { events = outs.events; closed = outs.closed; sent = map sent_to outs.mails; taken = None }
 
 abbrev pub ends_with : Verdict → Made
-ends_with verdict = record { verdict = verdict; outputs = sending [] }
+ends_with verdict = record { verdict = verdict; outputs = sending []; given = sending []; durable = None }
 
 abbrev pub tells : Outs → Made
-tells outs = record { verdict = verdicts.Ok; outputs = told_by outs }
+tells outs = record { verdict = verdicts.Ok; outputs = told_by outs; given = told_by outs; durable = None }
 
 -- the master has fallen, and nothing else changed
 pub record Falls (made : Made) (master : Option (Option Master)) (old_items new_items : List Item) (old_streams new_streams : List KeptStream) : Type 0 where
@@ -105,8 +107,12 @@ abbrev pub Standing : Option (Option Master) → List Item → List KeptStream �
 Standing master items_sent streams = (c : Cluster) × Reached c × StandsFor c master items_sent streams
 
 -- an event is taken
+
+abbrev pub taking_out : Numbered → Event → Outputs
+taking_out id event = record { events = []; closed = []; sent = []; taken = Some (record { stream = id; event = event }) }
+
 abbrev pub taking : Numbered → Event → Made
-taking id event = record { verdict = verdicts.Ok; outputs = record { events = []; closed = []; sent = []; taken = Some (record { stream = id; event = event }) } }
+taking id event = record { verdict = verdicts.Ok; outputs = taking_out id event; given = taking_out id event; durable = None }
 
 -- with the moment of its last tick
 abbrev pub StandingAt : ℕ → Option (Option Master) → List Item → List KeptStream → Type 0

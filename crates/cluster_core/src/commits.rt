@@ -1,7 +1,8 @@
 //! Drafts are committed.
 
-ghost use Rattle.std.specs.Prelude.{◌≡◌, List, map, IfOk, IfErr, OnErr};
+ghost use Rattle.std.specs.Prelude.{◌≡◌, ◌+◌, ◌≤◌, length, map, None, IfOk, IfErr, OnErr};
 ghost use Rattle.cluster_core.specs.Moves.{Makes, Reached, Refuses, kept_agents, sending};
+ghost use Rattle.cluster_core.specs.Posts.{Grows, Roomier};
 ghost use Rattle.cluster_core.specs.Sending.{BringsNothing, BringsOut, item_from, sent_from};
 ghost use Rattle.cluster_laws.specs.Items.{StandIn};
 ghost use Rattle.cluster_model.specs.Clusters.{Cluster, Commit};
@@ -10,6 +11,7 @@ ghost use Rattle.cluster_steps.specs.declared.entry.Verdict.TheVariants as verdi
 use crate::agents::ClusterAgent;
 use crate::items::Items;
 use crate::laws::commits_are_made;
+use crate::masters::{Made, sending_twice};
 use crate::stops::found;
 use cluster_laws::Item;
 use cluster_steps::{ClusterFault, Sent};
@@ -17,12 +19,20 @@ use listed::Listed;
 use mail_copies::copy_agent_mail;
 use mails::{AgentMail, ToMaster};
 use names_core::AgentName;
+use post_rules::Post;
 use std::alloc::{AllocError, Global};
 
-/// The mails of a draft, as an entry tells them and as they are kept.
+/// The mails of a draft, as an entry tells them. They are there twice, to be kept and to be given away.
+#[derive(Drop)]
+struct ToldTwice {
+    sent: Listed<Sent>,
+    given: Listed<Sent>,
+}
+
+/// The mails of a draft, as they are told and as they are kept.
 #[derive(Drop)]
 struct Outgoing {
-    sent: Listed<Sent>,
+    told: ToldTwice,
     items: Listed<Item>,
 }
 
@@ -79,21 +89,28 @@ fn draft_mails(
     };
     let mails = draft.mails();
     Ok(Outgoing {
-        sent: sent_from(alloc, name, mails)?,
+        told: ToldTwice {
+            sent: sent_from(alloc, name, mails)?,
+            given: sent_from(alloc, name, mails)?,
+        },
         items: items_from(alloc, name, mails)?,
     })
 }
 
-/// The agent's draft becomes its record, and its mails are sent.
-pub fn commit(
+/// The agent's draft becomes its record, and its mails are kept, for which the post has room first.
+fn send_draft<P: Post>(
     agents: &mut [ClusterAgent],
     items: &mut Items,
+    post: &mut P,
     alloc: Global,
     name: &AgentName,
-) -> Result<Listed<Sent>, ClusterFault>
-    ensures made { IfOk result (λ sent. (c : Cluster) → Reached c → agents.old ≡ kept_agents c → StandIn c items.old → Makes c (Commit name.now) verdicts.Ok (sending sent) agents.new items.new) }
+) -> Result<ToldTwice, ClusterFault>
+    ensures made { IfOk result (λ told. (c : Cluster) → Reached c → agents.old ≡ kept_agents c → StandIn c items.old → Makes c (Commit name.now) verdicts.Ok (sending told.sent) agents.new items.new) }
+    ensures given { IfOk result (λ told. told.given ≡ told.sent) }
     ensures refused { IfErr result (λ fault. (c : Cluster) → agents.old ≡ kept_agents c → Refuses c (Commit name.now) fault) }
     ensures unchanged { OnErr result ((agents.new ≡ agents.old) × (items.new ≡ items.old)) }
+    ensures post { Roomier (P.count post.old) (P.count post.new) (P.gives post.old) (P.gives post.new) }
+    ensures room { Grows (length items.old) (length items.new) (P.room post.new) }
 {
     commits_are_made();
     let place = found(agents, name)?;
@@ -102,7 +119,28 @@ pub fn commit(
         return Err(ClusterFault::AgentDown);
     }
     let out = draft_mails(alloc, agent, name)?;
+    post.reserve(alloc, out.items.len())?;
     items.append(out.items)?;
     let _mails = agent.commit();
-    Ok(out.sent)
+    Ok(out.told)
+}
+
+/// The agent's draft becomes its record, and its mails are sent.
+pub fn commit<P: Post>(
+    agents: &mut [ClusterAgent],
+    items: &mut Items,
+    post: &mut P,
+    alloc: Global,
+    name: &AgentName,
+) -> Result<Made, ClusterFault>
+    ensures made { IfOk result (λ made. (c : Cluster) → Reached c → agents.old ≡ kept_agents c → StandIn c items.old → Makes c (Commit name.now) made.verdict made.outputs agents.new items.new) }
+    ensures given { IfOk result (λ made. made.given ≡ made.outputs) }
+    ensures durable { IfOk result (λ made. made.durable ≡ None) }
+    ensures refused { IfErr result (λ fault. (c : Cluster) → agents.old ≡ kept_agents c → Refuses c (Commit name.now) fault) }
+    ensures unchanged { OnErr result ((agents.new ≡ agents.old) × (items.new ≡ items.old)) }
+    ensures post { Roomier (P.count post.old) (P.count post.new) (P.gives post.old) (P.gives post.new) }
+    ensures room { Grows (length items.old) (length items.new) (P.room post.new) }
+{
+    let told = send_draft(agents, items, post, alloc, name)?;
+    Ok(sending_twice(alloc, told.sent, told.given))
 }

@@ -1,8 +1,9 @@
 //! What the steps of agents make.
 
-ghost use Rattle.std.specs.Prelude.{◌≡◌, ◌++◌, true, false, is_some, List, [], map, slice_get, slice_set, Some, None, Err, ℕ};
+ghost use Rattle.std.specs.Prelude.{◌≡◌, ◌++◌, true, false, is_some, List, [], map, slice_get, slice_set, Bool, Some, None, Err, ℕ};
 ghost use Rattle.cluster_core.specs.Agents.{KeptAgent, comes_up_with, comes_up_without, place_in, with_part};
 ghost use Rattle.cluster_core.specs.Causes.{Causes, Drawn, cause_due};
+ghost use Rattle.cluster_core.specs.Handing.{MayRefuse, is_withheld};
 ghost use Rattle.cluster_core.specs.Moves.{Makes, Reached, Refuses, kept_agents, sending};
 ghost use Rattle.cluster_core.specs.Sending.{item_from, sent_from};
 ghost use Rattle.cluster_laws.specs.Items.{StandIn};
@@ -11,7 +12,7 @@ ghost use Rattle.cluster_model.specs.Agents.{Draft, next_of};
 ghost use Rattle.cluster_model.specs.Clusters.{Cluster, Commit, Prepare, StopAfter, StopBefore};
 ghost use Rattle.cluster_steps.specs.Steps.{cause_of};
 ghost use Rattle.cluster_steps.specs.declared.entry.Verdict.TheVariants as verdicts;
-ghost use Rattle.cluster_steps.specs.declared.fault.ClusterFault.TheVariants.{AgentDown, DraftOpen, NoDraft, NoSuchAgent};
+ghost use Rattle.cluster_steps.specs.declared.fault.ClusterFault.TheVariants.{AgentDown, DraftOpen, NoDraft, NoSuchAgent, NoSuchMail};
 ghost use Rattle.cluster_steps.specs.declared.fault.ClusterFault.{ClusterFault};
 ghost use Rattle.cluster_model.specs.Clusters as model;
 ghost use Rattle.cluster_steps.specs.declared.entry.Verdict.{Verdict};
@@ -67,6 +68,8 @@ pub fn prepares_are_made()
     ensures opened { (c : Cluster) (name : List ℕ) (place : ℕ) (a : KeptAgent) (asked : model.StepCause) → place_in name (kept_agents c) ≡ Some place → slice_get (kept_agents c) place ≡ Some a → a.is_down ≡ false → is_some a.part.draft ≡ true → Refuses c (Prepare name asked) DraftOpen }
     ensures refused { (c : Cluster) (name : List ℕ) (place : ℕ) (a : KeptAgent) (cause : StepCause) (fault : ClusterFault) (sent : List Item) → StandIn c sent → place_in name (kept_agents c) ≡ Some place → slice_get (kept_agents c) place ≡ Some a → a.is_down ≡ false → a.part.draft ≡ None →
         Causes (Err fault) (cause_due sent name cause) → Refuses c (Prepare name (cause_of cause)) fault }
+    ensures withheld { (c : Cluster) (name : List ℕ) (place : ℕ) (a : KeptAgent) (cause : StepCause) (gives : ℕ → Bool) → place_in name (kept_agents c) ≡ Some place → slice_get (kept_agents c) place ≡ Some a → a.is_down ≡ false → a.part.draft ≡ None →
+        is_withheld gives cause ≡ true → MayRefuse c gives (Prepare name (cause_of cause)) NoSuchMail }
 {
     agents_keep_their_names();
     agents_leave_the_others();

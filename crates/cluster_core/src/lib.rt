@@ -1,16 +1,38 @@
-//! The steps of a cluster on its parts: the master, the agents with their drafts, all that was ever sent, and the streams. Each is the step that the model
-//! makes of whatever state the parts stand for. The cluster that keeps its parts under one history isn't here yet, so nothing is given out.
+//! A cluster: one master and its agents under one history. Each entry of the history is a legal step of the model, whatever calls, deliveries, losses,
+//! repeats, reorderings and restarts it is given, and so the cluster is safe.
 #![tactic(auto)]
 
+mod advancing;
 mod agents;
 mod causes;
+mod cluster;
 mod commits;
+mod delivering;
 mod doings;
+mod event_copies;
+mod fresh;
+mod good_openings;
 mod items;
 mod laws;
 mod master_laws;
 mod masters;
+mod opening;
+#[cfg(test)]
+mod opening_tests;
+mod parts;
 mod prepares;
+mod recorded;
+mod restarting;
+mod running;
+mod safety;
 mod sends;
 mod serving;
 mod stops;
+mod taken;
+
+pub use cluster::Cluster;
+pub use cluster_steps::{ClusterFault, Entry, Keep, Outputs, Sent, Step, StepCause, Verdict};
+pub use fresh::{fresh_agents_open, fresh_records};
+pub use good_openings::good_opening;
+pub use running::{open_fresh, run};
+pub use taken::Taken;

@@ -1,10 +1,11 @@
 //! The steps that a serving master takes.
 
-ghost use Rattle.std.specs.Prelude.{◌≡◌, is_some, Some, IfOk, IfErr, OnErr};
+ghost use Rattle.std.specs.Prelude.{◌≡◌, ◌+◌, ◌≤◌, is_some, length, Some, IfOk, IfErr, OnErr};
 ghost use Rattle.cluster_core.specs.Agents.{place_in};
 ghost use Rattle.cluster_core.specs.Causes.{item_at};
 ghost use Rattle.cluster_core.specs.Masters.{MasterMakes, Standing, StandingAt, StandingWith, StandsFor};
 ghost use Rattle.cluster_core.specs.Moves.{Reached, Refuses, kept_agents};
+ghost use Rattle.cluster_core.specs.Posts.{Grows, Roomier};
 ghost use Rattle.cluster_laws.specs.declared.item.Item.TheVariants as sent;
 ghost use Rattle.cluster_model.specs.Clusters.{Allocate, Cluster, Deliver, HangUp, LoseAgent, Tick};
 
@@ -18,20 +19,24 @@ use cluster_steps::ClusterFault;
 use mails::Call;
 use master_core::Master;
 use names_core::{AgentName, StreamId};
+use post_rules::Post;
 use std::alloc::Global;
 use told_streams::{Streams, kept_streams_are_found};
 
 /// The master makes a round of offers.
-pub fn allocate(
+pub fn allocate<P: Post>(
     master: &mut Option<Master>,
     items: &mut Items,
     streams: &mut Streams,
+    post: &mut P,
     alloc: Global,
 ) -> Result<Made, ClusterFault>
     requires { Standing master.old items.old streams.old }
     ensures made { IfOk result (λ made. (c : Cluster) → Reached c → StandsFor c master.old items.old streams.old → MasterMakes c Allocate c.last_tick made master.new items.new streams.new) }
     ensures refused { IfErr result (λ fault. (c : Cluster) → StandsFor c master.old items.old streams.old → Refuses c Allocate fault) }
     ensures unchanged { OnErr result ((master.new ≡ master.old) × (items.new ≡ items.old) × (streams.new ≡ streams.old)) }
+    ensures post { Roomier (P.count post.old) (P.count post.new) (P.gives post.old) (P.gives post.new) }
+    ensures room { Grows (length items.old) (length items.new) (P.room post.new) }
 {
     answers_are_made();
     masters_do_their_steps();
@@ -39,14 +44,15 @@ pub fn allocate(
         return Err(ClusterFault::MasterDown);
     };
     let answer = serving.allocate(alloc);
-    Ok(settle(master, items, streams, alloc, answer))
+    Ok(settle(master, items, streams, post, alloc, answer))
 }
 
 /// The master's moment is this one, unless it lies before the last one.
-pub fn tick(
+pub fn tick<P: Post>(
     master: &mut Option<Master>,
     items: &mut Items,
     streams: &mut Streams,
+    post: &mut P,
     alloc: Global,
     last_tick: u32,
     now: u32,
@@ -55,6 +61,8 @@ pub fn tick(
     ensures made { IfOk result (λ made. (c : Cluster) → Reached c → c.last_tick ≡ last_tick → StandsFor c master.old items.old streams.old → MasterMakes c (Tick now) now made master.new items.new streams.new) }
     ensures refused { IfErr result (λ fault. (c : Cluster) → c.last_tick ≡ last_tick → StandsFor c master.old items.old streams.old → Refuses c (Tick now) fault) }
     ensures unchanged { OnErr result ((master.new ≡ master.old) × (items.new ≡ items.old) × (streams.new ≡ streams.old)) }
+    ensures post { Roomier (P.count post.old) (P.count post.new) (P.gives post.old) (P.gives post.new) }
+    ensures room { Grows (length items.old) (length items.new) (P.room post.new) }
 {
     answers_are_made();
     masters_do_their_steps();
@@ -65,14 +73,15 @@ pub fn tick(
         return Err(ClusterFault::TimeBack);
     }
     let answer = serving.tick(alloc, now);
-    Ok(settle(master, items, streams, alloc, answer))
+    Ok(settle(master, items, streams, post, alloc, answer))
 }
 
 /// A call that was sent under a number comes to the master.
-pub fn deliver_call(
+pub fn deliver_call<P: Post>(
     master: &mut Option<Master>,
     items: &mut Items,
     streams: &mut Streams,
+    post: &mut P,
     alloc: Global,
     number: u64,
     stream: Option<StreamId>,
@@ -83,6 +92,8 @@ pub fn deliver_call(
     ensures made { IfOk result (λ made. (c : Cluster) → Reached c → StandsFor c master.old items.old streams.old → MasterMakes c (Deliver number) c.last_tick made master.new items.new streams.new) }
     ensures refused { IfErr result (λ fault. (c : Cluster) → StandsFor c master.old items.old streams.old → Refuses c (Deliver number) fault) }
     ensures unchanged { OnErr result ((master.new ≡ master.old) × (items.new ≡ items.old) × (streams.new ≡ streams.old)) }
+    ensures post { Roomier (P.count post.old) (P.count post.new) (P.gives post.old) (P.gives post.new) }
+    ensures room { Grows (length items.old) (length items.new) (P.room post.new) }
 {
     answers_are_made();
     items_are_posts();
@@ -91,14 +102,15 @@ pub fn deliver_call(
         return Err(ClusterFault::MasterDown);
     };
     let answer = serving.call(alloc, stream, call);
-    Ok(settle(master, items, streams, alloc, answer))
+    Ok(settle(master, items, streams, post, alloc, answer))
 }
 
 /// A framework hangs a stream up that was opened.
-pub fn hang_up(
+pub fn hang_up<P: Post>(
     master: &mut Option<Master>,
     items: &mut Items,
     streams: &mut Streams,
+    post: &mut P,
     alloc: Global,
     id: StreamId,
 ) -> Result<Made, ClusterFault>
@@ -106,6 +118,8 @@ pub fn hang_up(
     ensures made { IfOk result (λ made. (c : Cluster) → Reached c → StandsFor c master.old items.old streams.old → MasterMakes c (HangUp id) c.last_tick made master.new items.new streams.new) }
     ensures refused { IfErr result (λ fault. (c : Cluster) → StandsFor c master.old items.old streams.old → Refuses c (HangUp id) fault) }
     ensures unchanged { OnErr result ((master.new ≡ master.old) × (items.new ≡ items.old) × (streams.new ≡ streams.old)) }
+    ensures post { Roomier (P.count post.old) (P.count post.new) (P.gives post.old) (P.gives post.new) }
+    ensures room { Grows (length items.old) (length items.new) (P.room post.new) }
 {
     answers_are_made();
     kept_streams_are_found();
@@ -117,7 +131,7 @@ pub fn hang_up(
         return Err(ClusterFault::NoSuchMail);
     }
     let answer = serving.hang_up(alloc, id);
-    Ok(settle(master, items, streams, alloc, answer))
+    Ok(settle(master, items, streams, post, alloc, answer))
 }
 
 /// Whether an agent of this name is configured.
@@ -128,11 +142,12 @@ fn is_known(agents: &[ClusterAgent], name: &AgentName) -> bool
 }
 
 /// The master takes an agent for lost that is configured.
-pub fn lose_agent(
+pub fn lose_agent<P: Post>(
     master: &mut Option<Master>,
     agents: &[ClusterAgent],
     items: &mut Items,
     streams: &mut Streams,
+    post: &mut P,
     alloc: Global,
     name: &AgentName,
 ) -> Result<Made, ClusterFault>
@@ -140,6 +155,8 @@ pub fn lose_agent(
     ensures made { IfOk result (λ made. (c : Cluster) → Reached c → agents.now ≡ kept_agents c → StandsFor c master.old items.old streams.old → MasterMakes c (LoseAgent name.now) c.last_tick made master.new items.new streams.new) }
     ensures refused { IfErr result (λ fault. (c : Cluster) → agents.now ≡ kept_agents c → StandsFor c master.old items.old streams.old → Refuses c (LoseAgent name.now) fault) }
     ensures unchanged { OnErr result ((master.new ≡ master.old) × (items.new ≡ items.old) × (streams.new ≡ streams.old)) }
+    ensures post { Roomier (P.count post.old) (P.count post.new) (P.gives post.old) (P.gives post.new) }
+    ensures room { Grows (length items.old) (length items.new) (P.room post.new) }
 {
     answers_are_made();
     masters_do_their_steps();
@@ -150,7 +167,7 @@ pub fn lose_agent(
         None => Err(ClusterFault::MasterDown),
         Some(serving) => {
             let answer = serving.lose_agent(alloc, name);
-            Ok(settle(master, items, streams, alloc, answer))
+            Ok(settle(master, items, streams, post, alloc, answer))
         }
     }
 }

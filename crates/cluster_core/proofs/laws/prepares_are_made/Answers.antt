@@ -1,5 +1,5 @@
 use Rattle.cluster_core.proofs.Making.{Laws}
-use Rattle.cluster_core.proofs.Preparing.{MoreLaws, prepare_astray, prepare_down, prepare_made, prepare_opened, prepare_refused, prepare_unknown}
+use Rattle.cluster_core.proofs.Preparing.{MoreLaws, prepare_astray, prepare_down, prepare_made, prepare_opened, prepare_refused, prepare_unknown, prepare_withheld}
 use Rattle.cluster_core.proofs.laws.prepares_are_made.Goals as goal
 
 pub returns : goal.returns
@@ -25,4 +25,4 @@ returns c =
       to_master = c.items_are_posts.ensures.to_master;
       none = c.items_are_posts.ensures.none;
     } in
-    record { made = prepare_made more; astray = prepare_astray more; unknown = prepare_unknown; down = prepare_down; opened = prepare_opened; refused = prepare_refused more }
+    record { made = prepare_made more; astray = prepare_astray more; unknown = prepare_unknown; down = prepare_down; opened = prepare_opened; refused = prepare_refused more; withheld = prepare_withheld }

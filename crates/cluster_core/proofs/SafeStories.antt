@@ -1,0 +1,27 @@
+-- The records of an opening acknowledge no more updates than there are.
+use Rattle.std.proofs.Common.{◌≡◌, ◌≤◌, ℕ, true, ◌&&◌, List, [], ◌∷◌, length, nat_le, arith}
+use Rattle.std.specs.Prelude.{if◌then◌else◌}
+use Rattle.std.specs.List.{AllByRecursion as Each, list_any}
+use Rattle.std.proofs.lemmas.Bool.Decides.{nat_tests}
+use Rattle.mails.specs.declared.record.Durable.{Durable}
+use Rattle.mails.specs.declared.record.RecordedTask.{RecordedTask}
+use Rattle.names_core.specs.declared.state.TaskState.{TaskState}
+use Rattle.names_core.specs.States.{is_terminal}
+use Rattle.stream_core.specs.Updates.{are_updates, ends_last}
+use Rattle.cluster_safe.specs.Acknowledged.{recorded_tasks}
+use Rattle.cluster_safe.specs.Updates.{AcknowledgeTheirs}
+use Rattle.cluster_laws.proofs.Lists.{both_true}
+use Rattle.cluster_laws.specs.Premises.{AreRecorded}
+
+counts_its_own : (states : List TaskState) (count : ℕ) → are_updates states count ≡ true → count ≤ length states
+counts_its_own states count e =
+    let last = both_true (ends_last states && nat_le count (length states)) (nat_le (length states) (if list_any is_terminal states then 4096 else 4095)) e in
+    let few : nat_le count (length states) ≡ true = (both_true (ends_last states) (nat_le count (length states)) last.0).1 in
+    grind (arith, nat_tests, few)
+
+all_count : (ts : List RecordedTask) → Each (λ t. are_updates t.updates.states t.updates.acknowledged ≡ true) ts → Each (λ t. t.updates.acknowledged ≤ length t.updates.states) ts
+all_count [] h = tt
+all_count (t ∷ ts) h = (counts_its_own t.updates.states t.updates.acknowledged h.0, all_count ts h.1)
+
+pub acknowledge_theirs : (records : List Durable) → AreRecorded records → AcknowledgeTheirs records
+acknowledge_theirs records h = all_count (recorded_tasks records) h

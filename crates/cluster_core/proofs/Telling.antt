@@ -1,0 +1,204 @@
+-- A story goes on by one entry.
+use Rattle.std.proofs.Common.{◌≡◌, ◌<◌, ◌≤◌, ◌+◌, ℕ, zero, suc, Bool, true, false, List, [], ◌∷◌, ◌++◌, map, length, nat_le, Option, Some, None, Result, Ok, Err, inl, inr, refl, sym, ap, ◌∙◌, subst, arith, length-append}
+use Rattle.std.specs.Prelude.{if◌then◌else◌, ◌⊎◌}
+use Rattle.std.proofs.lemmas.Bool.Decides.{nat_tests}
+use Rattle.mails.specs.declared.record.Durable.{Durable}
+use Rattle.cluster_model.specs.Clusters as model
+use Rattle.cluster_model.specs.Clusters.{Cluster, StepRefusal}
+use Rattle.cluster_model.specs.Ids.{last_number}
+use Rattle.cluster_model.specs.Steps.{Done, History, Marked, answer, extend_all, extended, fallen_answer, history, opening, open_cluster, step_marked, unmarked}
+use Rattle.cluster_laws.specs.Items.{StandIn}
+use Rattle.cluster_laws.specs.Parts.{configured}
+use Rattle.cluster_laws.specs.Premises.{AreRecorded}
+use Rattle.cluster_model.specs.Openings.{GoodOpening}
+use Rattle.cluster_core.specs.Opening.{Opens}
+use Rattle.cluster_core.specs.declared.opening.Opened.{Opened}
+use Rattle.cluster_steps.specs.declared.entry.Entry.{Entry}
+use Rattle.cluster_steps.specs.declared.entry.Outputs.{Outputs}
+use Rattle.cluster_steps.specs.declared.fault.ClusterFault.{ClusterFault}
+use Rattle.cluster_steps.specs.declared.fault.ClusterFault.TheVariants as faults
+use Rattle.cluster_steps.specs.declared.step.Step.{Step}
+use Rattle.cluster_steps.specs.Steps.{entry_of, fell, marked_of, outputs_of, step_of, verdict_of}
+use Rattle.cluster_core.specs.Handing.{MayRefuse, handed}
+use Rattle.cluster_core.specs.Keeping.{IsKept, IsRefused, IsTaken, entry_made, taken_made}
+use Rattle.cluster_core.specs.Moves.{Reached, Refuses, kept_agents}
+use Rattle.cluster_core.specs.Parts.{AreParts, PartsOf, Same, Stands, Takes, record_of}
+use Rattle.cluster_core.specs.Stories.{IsLegal, Legal, Story, history_of, state_of, with_entry}
+use Rattle.cluster_core.specs.declared.masters.Made.{Made}
+use Rattle.cluster_core.specs.declared.parts.Parts.{Parts}
+use Rattle.cluster_core.specs.declared.taken.Taken.{Taken}
+use Rattle.cluster_core.proofs.Committing.{if_it_is_down, if_it_is_up}
+use Rattle.cluster_core.proofs.Mastering.{extended_more}
+
+-- ---- how many entries there are
+
+-- the law that a state counts the entries of its history
+abbrev pub CountLaw : Type 0
+CountLaw = (run : ℕ) (records : List Durable) (steps : List Marked) → (history run records steps).state.entries ≡ length (history run records steps).entries
+
+counts : (h : History) (es : List Entry) (new : Cluster) → Legal h.state es new → length (extend_all h (map marked_of es)).entries ≡ length h.entries + length es
+counts h [] new l = omega arith
+counts h (e ∷ es) new (d, step, is, rest) =
+    let next : History = record { entries = h.entries ++ d.entry ∷ []; happenings = h.happenings ++ d.happenings; state = d.after } in
+    let here : extended h (step_marked h.state (marked_of e)) ≡ next = ap (extended h) step in
+    let behind : length (extend_all next (map marked_of es)).entries ≡ length next.entries + length es = counts next es new rest in
+    let one : length next.entries ≡ length h.entries + 1 = length-append h.entries (d.entry ∷ []) in
+    let all : length (extend_all (extended h (step_marked h.state (marked_of e))) (map marked_of es)).entries ≡ length next.entries + length es = ap (λ (x : History). length (extend_all x (map marked_of es)).entries) here ∙ behind in
+    omega (arith, all, one)
+
+pub state_counts : CountLaw → (s : Story) → IsLegal s → (state_of s).entries ≡ suc (length s.entries)
+state_counts law s l =
+    let all : length (history_of s).entries ≡ length (opening s.run s.records).entries + length s.entries = counts (opening s.run s.records) s.entries (state_of s) l.legal in
+    let first : length (opening s.run s.records).entries ≡ 1 = refl in
+    let counted : (state_of s).entries ≡ length (history_of s).entries = law s.run s.records (map marked_of s.entries) in
+    omega (arith, all, first, counted)
+
+pub has_room : CountLaw → (s : Story) → IsLegal s → length s.entries < 4294967294 → nat_le last_number (state_of s).entries ≡ false
+has_room law s l h = let e : (state_of s).entries ≡ suc (length s.entries) = state_counts law s l in room (state_of s).entries (length s.entries) e h
+  where
+    room : (n k : ℕ) → n ≡ suc k → k < 4294967294 → nat_le 4294967295 n ≡ false
+    room n k e h = grind (arith, nat_tests)
+
+pub is_full : CountLaw → (s : Story) → IsLegal s → 4294967294 ≤ length s.entries → nat_le last_number (state_of s).entries ≡ true
+is_full law s l h = let e : (state_of s).entries ≡ suc (length s.entries) = state_counts law s l in full (state_of s).entries (length s.entries) e h
+  where
+    full : (n k : ℕ) → n ≡ suc k → 4294967294 ≤ k → nat_le 4294967295 n ≡ true
+    full n k e h = grind (arith, nat_tests)
+
+-- ---- what is known of the parts
+
+abbrev pub reached : CountLaw → (s : Story) → IsLegal s → length s.entries < 4294967294 → Reached (state_of s)
+reached law s l h = record { run = s.run; records = s.records; steps = map marked_of s.entries; good = l.good; recorded = l.recorded; is = refl; room = has_room law s l h }
+
+pub parts_of_story : CountLaw → (s : Story) (opened : Outputs) (p : Parts) (count : ℕ) → IsKept s opened p count → length s.entries < 4294967294 → PartsOf (state_of s) p
+parts_of_story law s opened p count k h = record { reached = reached law s k.legal h; config = k.config; stands = k.stands }
+
+pub are_parts : CountLaw → (s : Story) (opened : Outputs) (p : Parts) (count : ℕ) → IsKept s opened p count → length s.entries < 4294967294 → AreParts p
+are_parts law s opened p count k h = (state_of s, parts_of_story law s opened p count k h)
+
+-- ---- refusals
+
+marks : (c : Cluster) (m : Marked) → nat_le last_number c.entries ≡ false → step_marked c m ≡ (if m.fell then fallen_answer c m.step else answer c m.step)
+marks c m room = if_it_is_up (nat_le last_number c.entries) (Err model.HistoryFull) (if m.fell then fallen_answer c m.step else answer c m.step) room
+
+pub full_refused : CountLaw → (s : Story) (gives : ℕ → Bool) (step : model.Step) → IsLegal s → 4294967294 ≤ length s.entries → IsRefused (state_of s) gives step faults.HistoryFull
+full_refused law s gives step l h = if_it_is_down (nat_le last_number (state_of s).entries) (Err model.HistoryFull) (answer (state_of s) step) (is_full law s l h)
+
+refused_so : (c : Cluster) (gives : ℕ → Bool) (step : model.Step) (fault : ClusterFault) → nat_le last_number c.entries ≡ false → MayRefuse c gives step fault → IsRefused c gives step fault
+refused_so c gives step faults.NoSuchMail room (inl e) = inl (marks c (unmarked step) room ∙ e)
+refused_so c gives step faults.NoSuchMail room (inr (is, (n, d, hands, none, e))) = inr (n, d, hands, none, marks c (unmarked step) room ∙ e)
+refused_so c gives step faults.MasterDown room (inl e) = marks c (unmarked step) room ∙ e
+refused_so c gives step faults.MasterDown room (inr w) = absurd (let clash : faults.MasterDown ≡ faults.NoSuchMail = w.0 in cc)
+refused_so c gives step faults.AgentDown room (inl e) = marks c (unmarked step) room ∙ e
+refused_so c gives step faults.AgentDown room (inr w) = absurd (let clash : faults.AgentDown ≡ faults.NoSuchMail = w.0 in cc)
+refused_so c gives step faults.DraftOpen room (inl e) = marks c (unmarked step) room ∙ e
+refused_so c gives step faults.DraftOpen room (inr w) = absurd (let clash : faults.DraftOpen ≡ faults.NoSuchMail = w.0 in cc)
+refused_so c gives step faults.NoDraft room (inl e) = marks c (unmarked step) room ∙ e
+refused_so c gives step faults.NoDraft room (inr w) = absurd (let clash : faults.NoDraft ≡ faults.NoSuchMail = w.0 in cc)
+refused_so c gives step faults.HistoryFull room (inl e) = marks c (unmarked step) room ∙ e
+refused_so c gives step faults.HistoryFull room (inr w) = absurd (let clash : faults.HistoryFull ≡ faults.NoSuchMail = w.0 in cc)
+refused_so c gives step faults.TimeBack room (inl e) = marks c (unmarked step) room ∙ e
+refused_so c gives step faults.TimeBack room (inr w) = absurd (let clash : faults.TimeBack ≡ faults.NoSuchMail = w.0 in cc)
+refused_so c gives step faults.NoSuchAgent room (inl e) = marks c (unmarked step) room ∙ e
+refused_so c gives step faults.NoSuchAgent room (inr w) = absurd (let clash : faults.NoSuchAgent ≡ faults.NoSuchMail = w.0 in cc)
+refused_so c gives step faults.OutOfMemory room h = tt
+
+pub step_refused : CountLaw → (s : Story) (opened : Outputs) (p : Parts) (count : ℕ) (gives : ℕ → Bool) (step : model.Step) (fault : ClusterFault) → IsKept s opened p count → length s.entries < 4294967294 →
+    ((c : Cluster) → PartsOf c p → MayRefuse c gives step fault) → IsRefused (state_of s) gives step fault
+step_refused law s opened p count gives step fault k h why = refused_so (state_of s) gives step fault (has_room law s k.legal h) (why (state_of s) (parts_of_story law s opened p count k h))
+
+-- ---- one more entry
+
+pub map_more : (es : List Entry) (e : Entry) → map marked_of (es ++ e ∷ []) ≡ map marked_of es ++ marked_of e ∷ []
+map_more [] e = refl
+map_more (x ∷ es) e = ap (λ (ms : List Marked). marked_of x ∷ ms) (map_more es e)
+
+state_more : (s : Story) (e : Entry) (d : Done) → step_marked (state_of s) (marked_of e) ≡ Ok d → state_of (with_entry s e) ≡ d.after
+state_more s e d step =
+    ap (λ (ms : List Marked). (history s.run s.records ms).state) (map_more s.entries e)
+    ∙ ap (λ (x : History). x.state) (extended_more (opening s.run s.records) (map marked_of s.entries) (marked_of e))
+    ∙ ap (λ (x : Result Done StepRefusal). (extended (history_of s) x).state) step
+
+legal_more : (c : Cluster) (es : List Entry) (e : Entry) (m : Cluster) (d : Done) → Legal c es m → step_marked m (marked_of e) ≡ Ok d → e ≡ entry_of e.step d.entry → Legal c (es ++ e ∷ []) d.after
+legal_more c [] e m d l step is = (d, subst (λ (x : Cluster). step_marked x (marked_of e) ≡ Ok d) l step, is, refl)
+legal_more c (x ∷ es) e m d (dx, stepx, isx, rest) step is = (dx, stepx, isx, legal_more dx.after es e m d rest step is)
+
+pub story_more : (s : Story) (e : Entry) (d : Done) → IsLegal s → step_marked (state_of s) (marked_of e) ≡ Ok d → e ≡ entry_of e.step d.entry → IsLegal (with_entry s e)
+story_more s e d l step is = record {
+  good = l.good;
+  recorded = l.recorded;
+  legal = subst (Legal (opening s.run s.records).state (s.entries ++ e ∷ [])) (sym (state_more s e d step)) (legal_more (opening s.run s.records).state s.entries e (state_of s) d l.legal step is);
+}
+
+made_marks : CountLaw → (s : Story) (step : Step) (made : Made) (q : Parts) → IsLegal s → length s.entries < 4294967294 → (t : Takes (state_of s) (step_of step) made q) → step_marked (state_of s) (marked_of (entry_made step made)) ≡ Ok t.done
+made_marks law s step made q l h t = marks (state_of s) (marked_of (entry_made step made)) (has_room law s l h) ∙ t.answers
+
+pub keeps_on : CountLaw → (s : Story) (opened : Outputs) (p q : Parts) (count more : ℕ) (step : Step) (made : Made) → IsKept s opened p count → length s.entries < 4294967294 → Takes (state_of s) (step_of step) made q → q.config ≡ p.config → more ≡ length q.items →
+    IsKept (with_entry s (entry_made step made)) opened q more
+keeps_on law s opened p q count more step made k h t config counted =
+    let e = entry_made step made in
+    let step_is : step_marked (state_of s) (marked_of e) ≡ Ok t.done = made_marks law s step made q k.legal h t in
+    let is : e ≡ entry_of step t.done.entry = rw (t.ends, t.brings) refl in
+    record {
+      legal = story_more s e t.done k.legal step_is is;
+      short = (let one : length (s.entries ++ e ∷ []) ≡ length s.entries + 1 = length-append s.entries (e ∷ []) in omega (arith, one, h));
+      begins = k.begins;
+      config = config ∙ k.config;
+      stands = subst (λ (c : Cluster). Stands c q) (sym (state_more s e t.done step_is)) t.stands;
+      counted = counted;
+    }
+
+pub takes_on : CountLaw → (s : Story) (q : Parts) (step : Step) (made : Made) → IsLegal s → length s.entries < 4294967294 → Takes (state_of s) (step_of step) made q → IsTaken s step (taken_made step made) (with_entry s (entry_made step made))
+takes_on law s q step made l h t =
+    let given : entry_made step made ≡ (taken_made step made).entry = ap (λ (o : Outputs). record { step = step; verdict = made.verdict; outputs = o }) (sym t.gives) in
+    record {
+      done = t.done;
+      answers = made_marks law s step made q l h t;
+      makes = sym given ∙ rw (t.ends, t.brings) refl;
+      drafts = t.drafts ∙ ap (record_of (step_of step) made.verdict) t.stands.as_agents;
+      tells = ap (with_entry s) given;
+    }
+
+pub stays : (s : Story) (opened : Outputs) (p q : Parts) (count more : ℕ) → IsKept s opened p count → Same p q → more ≡ count → IsKept s opened q more
+stays s opened p q count more k same m = record {
+  legal = k.legal;
+  short = k.short;
+  begins = k.begins;
+  config = same.config ∙ k.config;
+  stands = record {
+    as_agents = same.agents ∙ k.stands.as_agents;
+    as_others = record {
+      as_master = same.master ∙ k.stands.as_others.as_master;
+      as_items = rw same.items_sent k.stands.as_others.as_items;
+      as_streams = same.streams ∙ k.stands.as_others.as_streams;
+      within = k.stands.as_others.within;
+    };
+    as_moment = k.stands.as_moment ∙ sym same.moment;
+    as_run = k.stands.as_run ∙ sym same.run;
+  };
+  counted = m ∙ k.counted ∙ ap length (sym same.items_sent);
+}
+
+-- ---- the opening
+
+pub opens_so : (run : ℕ) (records : List Durable) (es : List Entry) (opened : Outputs) (p : Parts) (o : Opened) (count : ℕ) → es ≡ [] → GoodOpening run records → AreRecorded records → Opens run records o → p.config ≡ map configured records → p.agents.items ≡ o.agents.items →
+    p.master ≡ o.master → p.items ≡ o.items → p.streams ≡ o.streams → p.run ≡ run → p.last_tick ≡ 0 → opened ≡ o.outputs → count ≡ length p.items → IsKept (record { run = run; records = records; entries = es }) opened p count
+opens_so run records [] opened p o count none good recorded opens config agents master items streams in_run tick outputs counted = record {
+  legal = record { good = good; recorded = recorded; legal = refl };
+  short = omega arith;
+  begins = outputs ∙ opens.outputs;
+  config = config;
+  stands = record {
+    as_agents = agents ∙ opens.agents;
+    as_others = record {
+      as_master = master ∙ opens.stands.as_master;
+      as_items = subst (StandIn (opening run records).state) (sym items) opens.stands.as_items;
+      as_streams = streams ∙ opens.stands.as_streams;
+      within = opens.stands.within;
+    };
+    as_moment = sym tick;
+    as_run = opens.in_run ∙ sym in_run;
+  };
+  counted = counted;
+}
+opens_so run records (e ∷ es) opened p o count none good recorded opens config agents master items streams in_run tick outputs counted = absurd (let clash : e ∷ es ≡ [] = none in cc)

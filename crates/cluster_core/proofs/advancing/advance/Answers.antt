@@ -1,0 +1,49 @@
+use Rattle.std.proofs.Common.{◌≡◌, ◌<◌, ◌≤◌, ◌∙◌, List, ap, arith, length, sym, subst}
+use Rattle.cluster_steps.specs.Steps.{step_of}
+use Rattle.cluster_steps.specs.declared.entry.Entry.{Entry}
+use Rattle.cluster_steps.specs.declared.entry.Outputs.{Outputs}
+use Rattle.cluster_core.specs.Keeping.{IsKept, IsTaken, entry_made, story_of, taken_made}
+use Rattle.cluster_core.specs.Stories.{Story, state_of, with_entry}
+use Rattle.cluster_core.specs.declared.taken.Taken.{Taken}
+use Rattle.cluster_core.proofs.Telling.{are_parts, full_refused, keeps_on, parts_of_story, step_refused, takes_on}
+use Rattle.cluster_core.proofs.advancing.advance.Goals as goal
+
+pub returns-then-len-ge-MOST_ENTRIES-clause-refused : goal.returns-then-len-ge-MOST_ENTRIES-clause-refused
+returns-then-len-ge-MOST_ENTRIES-clause-refused g c =
+    let h : 4294967294 ≤ length c.args.history.now.entries.items = omega arith in
+    full_refused c.states_count_entries.ensures (story_of c.args.history.now) (g.P.Post.gives c.args.post.now) (step_of c.args.step) c.requires.legal h
+
+pub take_step-requires : goal.take_step-requires
+take_step-requires g c =
+    let h : length c.args.history.now.entries.items < 4294967294 = omega arith in
+    are_parts c.states_count_entries.ensures (story_of c.args.history.now) c.args.history.now.opened c.args.parts.now (g.P.Post.count c.args.post.now) c.requires h
+
+pub returns-in-Ok-clause-kept : goal.returns-in-Ok-clause-kept
+returns-in-Ok-clause-kept g c =
+    let s = story_of c.args.history.now in
+    let h : length c.args.history.now.entries.items < 4294967294 = omega arith in
+    let law = c.states_count_entries.ensures in
+    let e = entry_made c.args.step c.in-Ok.made in
+    let t = c.in-Ok.ensures.made (state_of s) (parts_of_story law s c.args.history.now.opened c.args.parts.now (g.P.Post.count c.args.post.now) c.requires h) in
+    let kept = keeps_on law s c.args.history.now.opened c.args.parts.now c.take_step.new.self (g.P.Post.count c.args.post.now) (g.P.Post.count c.hand_on.new.post) c.args.step c.in-Ok.made c.requires h t c.take_step.ensures.config c.hand_on.ensures in
+    let told : story_of c.write_down.new.history ≡ with_entry s e =
+    c.write_down.ensures.told ∙ ap (λ (xs : List Entry). with_entry (record { run = c.args.history.now.run; records = c.args.history.now.records.items; entries = xs }) e) c.reserve.ensures.items in
+    subst (λ (o : Outputs). IsKept (story_of c.write_down.new.history) o c.take_step.new.self (g.P.Post.count c.hand_on.new.post)) (sym c.write_down.ensures.opened)
+    (subst (λ (x : Story). IsKept x c.args.history.now.opened c.take_step.new.self (g.P.Post.count c.hand_on.new.post)) (sym told) kept)
+
+pub returns-in-Ok-clause-taken : goal.returns-in-Ok-clause-taken
+returns-in-Ok-clause-taken g c =
+    let s = story_of c.args.history.now in
+    let h : length c.args.history.now.entries.items < 4294967294 = omega arith in
+    let law = c.states_count_entries.ensures in
+    let e = entry_made c.args.step c.in-Ok.made in
+    let t = c.in-Ok.ensures.made (state_of s) (parts_of_story law s c.args.history.now.opened c.args.parts.now (g.P.Post.count c.args.post.now) c.requires h) in
+    let told : story_of c.write_down.new.history ≡ with_entry s e =
+    c.write_down.ensures.told ∙ ap (λ (xs : List Entry). with_entry (record { run = c.args.history.now.run; records = c.args.history.now.records.items; entries = xs }) e) c.reserve.ensures.items in
+    subst (λ (x : Taken). IsTaken s c.args.step x (story_of c.write_down.new.history)) (sym c.write_down.ensures.taken)
+    (subst (IsTaken s c.args.step (taken_made c.args.step c.in-Ok.made)) (sym told) (takes_on law s c.take_step.new.self c.args.step c.in-Ok.made c.requires.legal h t))
+
+pub returns-in-Err-clause-refused : goal.returns-in-Err-clause-refused
+returns-in-Err-clause-refused g c =
+    let h : length c.args.history.now.entries.items < 4294967294 = omega arith in
+    step_refused c.states_count_entries.ensures (story_of c.args.history.now) c.args.history.now.opened c.args.parts.now (g.P.Post.count c.args.post.now) (g.P.Post.gives c.args.post.now) (step_of c.args.step) c.in-Err.fault c.requires h c.in-Err.ensures.refused

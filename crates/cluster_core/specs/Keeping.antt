@@ -1,0 +1,78 @@
+-- What a cluster keeps true of its parts, and what a step makes of its story.
+use Rattle.std.specs.Prelude.{◌≡◌, ◌⊎◌, ◌<◌, ℕ, Bool, false, if◌then◌else◌, List, map, length, Option, Some, None, Ok, Err, ⊤}
+use Rattle.mails.specs.declared.record.Durable.{Durable}
+use Rattle.cluster_model.specs.Clusters as model
+use Rattle.cluster_model.specs.Clusters.{Cluster}
+use Rattle.cluster_model.specs.Masters.{Master}
+use Rattle.master_core.specs.Steps.{offered_on}
+use Rattle.quantity.specs.declared.rows.Row.{Row}
+use Rattle.cluster_model.specs.Steps.{Done, open_cluster, step_marked, unmarked}
+use Rattle.cluster_laws.specs.Parts.{configured}
+use Rattle.cluster_steps.specs.Steps.{entry_of, marked_of, outputs_of, step_of}
+use Rattle.cluster_steps.specs.declared.entry.Entry.{Entry}
+use Rattle.cluster_steps.specs.declared.entry.Outputs.{Outputs}
+use Rattle.cluster_steps.specs.declared.fault.ClusterFault.{ClusterFault}
+use Rattle.cluster_steps.specs.declared.fault.ClusterFault.TheVariants.{NoSuchMail, MasterDown, AgentDown, DraftOpen, NoDraft, HistoryFull, TimeBack, NoSuchAgent, OutOfMemory}
+use Rattle.cluster_steps.specs.declared.step.Step.{Step}
+use Rattle.cluster_core.specs.Handing.{handed}
+use Rattle.cluster_core.specs.Moves.{kept_agents}
+use Rattle.cluster_core.specs.Parts.{Stands, record_of}
+use Rattle.cluster_core.specs.Stories.{IsLegal, Story, state_of, with_entry}
+use Rattle.cluster_core.specs.declared.masters.Made.{Made}
+use Rattle.cluster_core.specs.declared.parts.Parts.{Parts}
+use Rattle.cluster_core.specs.declared.taken.History.{History}
+use Rattle.cluster_core.specs.declared.taken.Taken.{Taken}
+
+-- an entry of a step, and what is given of it
+
+abbrev pub entry_made : Step → Made → Entry
+entry_made step made = record { step = step; verdict = made.verdict; outputs = made.outputs }
+
+abbrev pub taken_made : Step → Made → Taken
+taken_made step made = record { entry = record { step = step; verdict = made.verdict; outputs = made.given }; durable = made.durable }
+
+-- the story that a history tells
+abbrev pub story_of : History → Story
+story_of h = record { run = h.run; records = h.records.items; entries = h.entries.items }
+
+-- its story is legal, its parts stand for the state in which the story ends, and the post has had all that was sent
+pub record IsKept (s : Story) (opened : Outputs) (p : Parts) (count : ℕ) : Type 0 where
+  pub legal : IsLegal s
+  pub short : length s.entries < 4294967295
+  pub begins : opened ≡ outputs_of (open_cluster s.run s.records).entry.outs
+  pub config : p.config ≡ map configured s.records
+  pub stands : Stands (state_of s) p
+  pub counted : count ≡ length p.items
+
+-- a step was taken: its entry is the one that the model makes of it, and stands behind the others; with a Prepare goes the record of the draft that it opened
+pub record IsTaken (s : Story) (step : Step) (taken : Taken) (new : Story) : Type 0 where
+  pub done : Done
+  pub answers : step_marked (state_of s) (marked_of taken.entry) ≡ Ok done
+  pub makes : taken.entry ≡ entry_of step done.entry
+  pub drafts : taken.durable ≡ record_of (step_of step) taken.entry.verdict (kept_agents done.after)
+  pub tells : new ≡ with_entry s taken.entry
+
+-- the model takes the step, but what it hands out can't be
+abbrev pub WithheldFrom : Cluster → (ℕ → Bool) → model.Step → Type 0
+WithheldFrom c gives step = (n : ℕ) × (d : Done) × (handed step ≡ Some n) × (gives n ≡ false) × (step_marked c (unmarked step) ≡ Ok d)
+
+-- why a step may be refused: memory was, or the model refuses the step so, or what the step hands out is withheld
+abbrev pub IsRefused : Cluster → (ℕ → Bool) → model.Step → ClusterFault → Type 0
+IsRefused c gives step NoSuchMail = (step_marked c (unmarked step) ≡ Err model.NoSuchMail) ⊎ WithheldFrom c gives step
+IsRefused c gives step MasterDown = step_marked c (unmarked step) ≡ Err model.MasterDown
+IsRefused c gives step AgentDown = step_marked c (unmarked step) ≡ Err model.AgentDown
+IsRefused c gives step DraftOpen = step_marked c (unmarked step) ≡ Err model.DraftOpen
+IsRefused c gives step NoDraft = step_marked c (unmarked step) ≡ Err model.NoDraft
+IsRefused c gives step HistoryFull = step_marked c (unmarked step) ≡ Err model.HistoryFull
+IsRefused c gives step TimeBack = step_marked c (unmarked step) ≡ Err model.TimeBack
+IsRefused c gives step NoSuchAgent = step_marked c (unmarked step) ≡ Err model.NoSuchAgent
+IsRefused c gives step OutOfMemory = ⊤
+
+-- what is known of a cluster: its story, and what it can hand out
+pub record Known (P : Type 0) : Type 0 where
+  pub story : Story
+  pub post : P
+
+-- the sum of an agent's current offers, where a master serves
+abbrev pub offered_in : List ℕ → Master → Option (List Row)
+offered_in agent m = if m.run.serves then Some (offered_on m agent) else None

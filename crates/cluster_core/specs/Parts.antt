@@ -1,0 +1,55 @@
+-- The parts of a cluster, and what a step makes of them.
+use Rattle.std.specs.Prelude.{◌≡◌, ℕ, if◌then◌else◌, List, map, Option, None, Ok}
+use Rattle.mails.specs.declared.record.Durable.{Durable}
+use Rattle.cluster_model.specs.Clusters.{Cluster, Step, Prepare}
+use Rattle.cluster_model.specs.Steps.{Done, answer, fallen_answer}
+use Rattle.cluster_laws.specs.Parts.{configured}
+use Rattle.cluster_steps.specs.Steps.{fell, outputs_of, verdict_of}
+use Rattle.cluster_steps.specs.declared.entry.Verdict.{Verdict}
+use Rattle.cluster_core.specs.Agents.{KeptAgent}
+use Rattle.cluster_core.specs.Causes.{record_prepared}
+use Rattle.cluster_core.specs.Masters.{StandsFor}
+use Rattle.cluster_core.specs.Moves.{Reached, kept_agents}
+use Rattle.cluster_core.specs.declared.masters.Made.{Made}
+use Rattle.cluster_core.specs.declared.parts.Parts.{Parts}
+
+-- the parts stand for a state
+pub record Stands (c : Cluster) (p : Parts) : Type 0 where
+  pub as_agents : p.agents.items ≡ kept_agents c
+  pub as_others : StandsFor c p.master p.items p.streams
+  pub as_moment : c.last_tick ≡ p.last_tick
+  pub as_run : c.world.run.number ≡ p.run
+
+-- they stand for a state that is reached, with the agents of the opening's records
+pub record PartsOf (c : Cluster) (p : Parts) : Type 0 where
+  pub reached : Reached c
+  pub config : p.config ≡ map configured reached.records
+  pub stands : Stands c p
+
+abbrev pub AreParts : Parts → Type 0
+AreParts p = (c : Cluster) × PartsOf c p
+
+-- nothing changed
+pub record Same (old new : Parts) : Type 0 where
+  pub config : new.config ≡ old.config
+  pub master : new.master ≡ old.master
+  pub agents : new.agents.items ≡ old.agents.items
+  pub items_sent : new.items ≡ old.items
+  pub streams : new.streams ≡ old.streams
+  pub run : new.run ≡ old.run
+  pub moment : new.last_tick ≡ old.last_tick
+
+-- the record of the draft that a step opened
+abbrev pub record_of : Step → Verdict → List KeptAgent → Option Durable
+record_of (Prepare agent cause) verdict agents = record_prepared verdict agent agents
+record_of step verdict agents = None
+
+-- a step was made: what it answers, and the parts that then stand for the state
+pub record Takes (c : Cluster) (step : Step) (made : Made) (p : Parts) : Type 0 where
+  pub done : Done
+  pub answers : (if fell made.verdict then fallen_answer c step else answer c step) ≡ Ok done
+  pub ends : made.verdict ≡ verdict_of done.entry.verdict
+  pub brings : made.outputs ≡ outputs_of done.entry.outs
+  pub gives : made.given ≡ made.outputs
+  pub drafts : made.durable ≡ record_of step made.verdict p.agents.items
+  pub stands : Stands done.after p

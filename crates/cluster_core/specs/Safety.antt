@@ -1,0 +1,38 @@
+-- Safe: what holds of every legal story.
+use Rattle.std.specs.Prelude.{List, [], ◌++◌, map}
+use Rattle.names_core.specs.Ids.{Numbered}
+use Rattle.cluster_model.specs.Channels.{AllFit, open_world}
+use Rattle.cluster_model.specs.Openings.{recorded_jobs}
+use Rattle.cluster_model.specs.Steps.{Marked, opening}
+use Rattle.cluster_safe.specs.Acknowledged.{AcknowledgedByOwner}
+use Rattle.cluster_safe.specs.Honest.{Honest, IsBeginningOf, IsKeyOf, acknowledged_by}
+use Rattle.cluster_safe.specs.Origin.{HasOrigin, Mark, jobs_of, trail}
+use Rattle.cluster_safe.specs.Safe.{NeverLacksRoom}
+use Rattle.cluster_safe.specs.Updates.{updates_of}
+use Rattle.cluster_steps.specs.Steps.{marked_of}
+use Rattle.cluster_core.specs.Stories.{Story, history_of, state_of}
+
+-- the offers that were made and the accepted ones that were used, over a whole story
+abbrev pub trail_of : Story → List Mark
+trail_of s = trail (history_of s).happenings (open_world s.run s.records) []
+
+-- the framework acknowledges only updates that were handed out before
+abbrev pub IsHonest : Numbered → Story → Type 0
+IsHonest framework s = Honest framework (opening s.run s.records) (map marked_of s.entries)
+
+-- a task of the framework was launched under the key, or stood under it at the opening
+abbrev pub IsKeyIn : Story → Numbered → Numbered → Type 0
+IsKeyIn s framework key = IsKeyOf framework key (jobs_of (trail_of s) ++ recorded_jobs s.records)
+
+-- what the framework has acknowledged of the key is a beginning of the updates of its task
+abbrev pub AcknowledgesInOrder : Story → Numbered → Numbered → Type 0
+AcknowledgesInOrder s framework key = IsBeginningOf (updates_of key (history_of s).happenings (open_world s.run s.records)) (acknowledged_by s.records framework key (state_of s).posts)
+
+-- on every agent current offers and live tasks fit what it owns, each task came from one accepted offer or from a record, each update counts as
+-- acknowledged by the task's own framework alone, an honest framework acknowledges in order, and no agent ever lacked room
+pub record Safe (s : Story) : Type 0 where
+  pub fits : AllFit (state_of s).world
+  pub origin : HasOrigin s.records (state_of s).world (trail_of s)
+  pub acknowledged : AcknowledgedByOwner s.records (state_of s).world (state_of s).posts
+  pub in_order : (framework key : Numbered) → IsHonest framework s → IsKeyIn s framework key → AcknowledgesInOrder s framework key
+  pub room : NeverLacksRoom (history_of s)

@@ -1,0 +1,141 @@
+//! A history goes on by one step.
+
+ghost use Rattle.std.specs.Prelude.{◌≡◌, ◌<◌, ◌≤◌, ◌+◌, length, vec_capacity, vec_len, IfOk, IfErr, OnErr, true, ℕ};
+ghost use Rattle.cluster_core.specs.Handing.{IsGiven, handed};
+ghost use Rattle.cluster_core.specs.Keeping.{IsKept, IsRefused, IsTaken, entry_made, story_of, taken_made};
+ghost use Rattle.cluster_core.specs.Posts.{Roomier};
+ghost use Rattle.cluster_core.specs.Stories.{state_of, with_entry};
+ghost use Rattle.cluster_steps.specs.Steps.{step_of};
+
+use crate::agents::{ClusterAgent, place_of};
+use crate::masters::Made;
+use crate::parts::Parts;
+use crate::taken::{History, Taken};
+use cluster_laws::{Item, states_count_entries};
+use cluster_steps::{ClusterFault, Entry, Step, StepCause};
+use names_core::AgentName;
+use post_rules::{Direction, Post};
+use std::alloc::Global;
+
+/// With the opening's entry, which has the number 0, a history has 4,294,967,295 entries at most.
+const MOST_ENTRIES: u64 = 4_294_967_294;
+
+/// Where the agent of a name stands; each mail's agent does.
+fn place_or_end(agents: &[ClusterAgent], name: &AgentName) -> usize {
+    match place_of(agents, name) {
+        Some(place) => place,
+        None => agents.len(),
+    }
+}
+
+/// Which way an item was sent.
+fn direction_of(agents: &[ClusterAgent], item: &Item) -> Direction {
+    match item {
+        Item::Call(..) => Direction::Call,
+        Item::ToAgent(to) => Direction::ToAgent(place_or_end(agents, &to.agent)),
+        Item::ToMaster(to) => Direction::FromAgent(place_or_end(agents, &to.agent)),
+    }
+}
+
+/// Puts all items into the post that were sent behind the first so many, which it has.
+pub fn put_all<P: Post>(post: &mut P, agents: &[ClusterAgent], items: &[Item], before: usize)
+    requires counted { P.count post.old ≡ before }
+    requires within { before ≤ length items.now }
+    requires room { length items.now ≤ before + P.room post.old }
+    ensures count { P.count post.new ≡ length items.now }
+    ensures gives { (n : ℕ) → n ≤ before → P.gives post.new n ≡ P.gives post.old n }
+{
+    let sent = &items[before..];
+    for item in sent {
+        post.put(direction_of(agents, item));
+    }
+}
+
+/// The number of what a step hands out.
+fn handed(step: &Step) -> Option<u64>
+    ensures { result ≡ handed (step_of step.now) }
+{
+    match step {
+        Step::Deliver(number) => Some(*number),
+        Step::Prepare {
+            cause: StepCause::Mail(number),
+            ..
+        } => Some(*number),
+        _ => None,
+    }
+}
+
+/// Puts what a step sent, and tells the post what the step handed out.
+fn hand_on<P: Post>(post: &mut P, parts: &Parts, before: usize, step: &Step)
+    requires counted { P.count post.old ≡ before }
+    requires within { before ≤ length parts.now.items }
+    requires room { length parts.now.items ≤ before + P.room post.old }
+    requires given { IsGiven (P.gives post.old) (step_of step.now) }
+    ensures { P.count post.new ≡ length parts.now.items }
+{
+    put_all(
+        post,
+        parts.agents.as_slice(),
+        parts.items.as_slice(),
+        before,
+    );
+    if let Some(number) = handed(step) {
+        post.given(number);
+    }
+}
+
+/// Writes an entry down, for which there is room, and gives it.
+fn write_down(history: &mut History, step: Step, copy: Step, made: Made) -> Taken
+    requires room { vec_len history.old.entries < vec_capacity history.old.entries }
+    requires copy { copy ≡ step }
+    ensures told { story_of history.new ≡ with_entry (story_of history.old) (entry_made step made) }
+    ensures opened { history.new.opened ≡ history.old.opened }
+    ensures taken { result ≡ taken_made step made }
+{
+    history.entries.push_reserved(Entry {
+        step,
+        verdict: made.verdict,
+        outputs: made.outputs,
+    });
+    Taken {
+        entry: Entry {
+            step: copy,
+            verdict: made.verdict,
+            outputs: made.given,
+        },
+        durable: made.durable,
+    }
+}
+
+/// Takes a step, for whose entry there is room first. Of several refusals the first is given in the order C6, C8, C2, C3, C4, C5, C1, C7;
+/// C9 may come before any but C6.
+pub fn advance<P: Post>(
+    history: &mut History,
+    parts: &mut Parts,
+    post: &mut P,
+    alloc: Global,
+    step: Step,
+) -> Result<Taken, ClusterFault>
+    requires { IsKept (story_of history.old) history.old.opened parts.old (P.count post.old) }
+    ensures kept { IsKept (story_of history.new) history.new.opened parts.new (P.count post.new) }
+    ensures taken { IfOk result (λ taken. IsTaken (story_of history.old) step taken (story_of history.new)) }
+    ensures given { IfOk result (λ _. IsGiven (P.gives post.old) (step_of step)) }
+    ensures refused { IfErr result (IsRefused (state_of (story_of history.old)) (P.gives post.old) (step_of step)) }
+    ensures unchanged { OnErr result (story_of history.new ≡ story_of history.old) }
+    ensures post { OnErr result (Roomier (P.count post.old) (P.count post.new) (P.gives post.old) (P.gives post.new)) }
+{
+    states_count_entries();
+    if history.entries.len() as u64 >= MOST_ENTRIES {
+        return Err(ClusterFault::HistoryFull);
+    }
+    history.entries.reserve(1)?;
+    let copy = step.copy(alloc)?;
+    let before = parts.items.as_slice().len();
+    match parts.take_step(post, alloc, &step) {
+        Ok(made) => {
+            hand_on(post, parts, before, &step);
+            Ok(write_down(history, step, copy, made))
+        }
+        Err(fault) => Err(fault),
+    }
+}

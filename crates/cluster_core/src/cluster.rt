@@ -1,0 +1,227 @@
+//! Clusters.
+
+ghost use Rattle.std.specs.Prelude.{◌≡◌, ◌<◌, ◌≤◌, ◌+◌, ℕ, Bool, true, [], map, option_map, slice_get, length, IfOk, IfErr, OnErr};
+ghost use Rattle.std.specs.Option.{option_copied};
+ghost use Rattle.cluster_core.specs.Agents.{agent_in, drafted_in, recorded, recorded_in};
+ghost use Rattle.cluster_core.specs.Handing.{IsGiven};
+ghost use Rattle.cluster_core.specs.Keeping.{IsRefused, IsTaken, WithheldFrom, offered_in};
+ghost use Rattle.cluster_model.specs.Clusters as model;
+ghost use Rattle.cluster_core.specs.Moves.{kept_agents};
+ghost use Rattle.cluster_core.specs.Posts.{Roomier};
+ghost use Rattle.cluster_core.specs.Safety.{Safe};
+ghost use Rattle.cluster_core.specs.Stories.{IsLegal, state_of};
+ghost use Rattle.cluster_laws.specs.Parts.{configured};
+ghost use Rattle.cluster_model.specs.Clusters.{master_of};
+ghost use Rattle.cluster_model.specs.Openings.{GoodOpening};
+ghost use Rattle.cluster_model.specs.Steps.{open_cluster};
+ghost use Rattle.cluster_steps.specs.Steps.{outputs_of, step_of};
+ghost use Rattle.cluster_steps.specs.declared.fault.ClusterFault.TheVariants.{OutOfMemory};
+
+use crate::advancing::{advance, put_all};
+use crate::agents::ClusterAgent;
+use crate::opening::open_parts;
+use crate::parts::Parts;
+use crate::recorded::records_are_recorded;
+use crate::safety::stories_are_safe;
+use crate::taken::{History, Taken};
+use cluster_laws::states_count_entries;
+use cluster_steps::{ClusterFault, Entry, Outputs, Step};
+use mails::Durable;
+use master_core::Config;
+use names_core::{AgentName, Run};
+use post_rules::Post;
+use quantity::Resources;
+use std::alloc::Global;
+use std::marker::Model;
+
+/// A master and its agents under one history, whose every entry is a legal step. What is sent is handed out as the post allows.
+#[derive(Drop)]
+pub struct Cluster<P: Post + Drop> {
+    history: History,
+    parts: Parts,
+    post: P,
+}
+
+impl<P: Post + Drop> Model for Cluster<P> {
+    ghost use Rattle.cluster_core.specs.Keeping.{IsKept, Known, story_of};
+
+    ghost Value = { Known P };
+
+    ghost view = { λ c. record { story = story_of c.history; post = c.post } };
+
+    ghost invariant = { λ c. IsKept (story_of c.history) c.history.opened c.parts (P.count c.post) };
+}
+
+impl<P: Post + Drop> Cluster<P> {
+    /// The cluster of configured agents that come up over their records, whose first master begins this run and greets each. Of the faults
+    /// there is `C9 OutOfMemory` alone.
+    pub fn open(
+        alloc: Global,
+        config: Config,
+        records: Vec<Durable>,
+        run: Run,
+    ) -> Result<Cluster<P>, ClusterFault>
+        requires good { GoodOpening run records.items }
+        requires configured { config ≡ map configured records.items }
+        ensures opened { IfOk result (λ cluster. cluster.story ≡ record { run = run; records = records.items; entries = [] }) }
+        ensures memory { IfErr result (λ fault. fault ≡ OutOfMemory) }
+    {
+        records_are_recorded(records.as_slice());
+        let mut post = P::empty();
+        let opened = open_parts(&mut post, alloc, &config, records.as_slice(), run)?;
+        put_all(
+            &mut post,
+            opened.agents.as_slice(),
+            opened.items.as_slice(),
+            0,
+        );
+        Ok(Cluster {
+            history: History {
+                run,
+                records,
+                opened: opened.outputs,
+                entries: Vec::new(alloc),
+            },
+            parts: Parts {
+                config,
+                master: opened.master,
+                agents: opened.agents,
+                items: opened.items,
+                streams: opened.streams,
+                run,
+                last_tick: 0,
+            },
+            post,
+        })
+    }
+
+    /// Takes a step: its entry stands in the history and is given. A step that is refused is no entry, and changes nothing. Of several
+    /// refusals the first is given in the order C6, C8, C2, C3, C4, C5, C1, C7; C9, for want of memory, may come before any but C6. A part that
+    /// runs out of memory in mid-step is down, and the entry says so.
+    pub fn step(&mut self, alloc: Global, step: Step) -> Result<Taken, ClusterFault>
+        ensures taken { IfOk result (λ taken. IsTaken self.old.story step taken self.new.story) }
+        ensures given { IfOk result (λ _. IsGiven (P.gives self.old.post) (step_of step)) }
+        ensures refused { IfErr result (IsRefused (state_of self.old.story) (P.gives self.old.post) (step_of step)) }
+        ensures unchanged { OnErr result (self.new.story ≡ self.old.story) }
+        ensures post { OnErr result (Roomier (P.count self.old.post) (P.count self.new.post) (P.gives self.old.post) (P.gives self.new.post)) }
+        ensures safe { Safe self.new.story }
+    {
+        let taken = advance(
+            &mut self.history,
+            &mut self.parts,
+            &mut self.post,
+            alloc,
+            step,
+        );
+        self.is_safe();
+        taken
+    }
+
+    /// Each entry of the history is a legal step.
+    pub fn is_legal(&self)
+        ensures { IsLegal self.now.story }
+    {
+        let _ = &self.history;
+    }
+
+    /// Whatever was done to the cluster, it is safe.
+    pub fn is_safe(&self)
+        ensures { Safe self.now.story }
+    {
+        stories_are_safe();
+        let _ = &self.history;
+    }
+
+    /// The post has had all calls and mails that were ever sent.
+    pub fn has_all_sent(&self)
+        ensures { P.count self.now.post ≡ length (state_of self.now.story).posts }
+    {
+        let _ = &self.history;
+    }
+
+    /// A post that hands out all that was put withholds nothing that the model would hand out.
+    pub fn withholds_nothing(&self)
+        ensures { (gives : ℕ → Bool) (step : model.Step) → ((n : ℕ) → 0 < n → n ≤ P.count self.now.post → gives n ≡ true) → WithheldFrom (state_of self.now.story) gives step → ⊥ }
+    {
+        self.has_all_sent();
+    }
+
+    /// The state counts the entries, and the opening.
+    pub fn has_counted(&self)
+        ensures { (state_of self.now.story).entries ≡ length self.now.story.entries + 1 }
+    {
+        states_count_entries();
+        self.is_legal();
+    }
+
+    /// The entries since the opening, the oldest first.
+    pub fn history(&self) -> &[Entry]
+        ensures { result.now ≡ self.now.story.entries }
+    {
+        self.history.entries.as_slice()
+    }
+
+    /// What the opening brought out: a Hello to every agent.
+    pub fn opened(&self) -> &Outputs
+        ensures { result.now ≡ outputs_of (open_cluster self.now.story.run self.now.story.records).entry.outs }
+    {
+        &self.history.opened
+    }
+
+    /// How many agents there are.
+    pub fn agent_count(&self) -> usize
+        ensures { result ≡ length (kept_agents (state_of self.now.story)) }
+    {
+        self.parts.agents.len()
+    }
+
+    /// The record of the agent at a place, in the order of the configuration.
+    pub fn durable_at(&self, place: usize) -> Option<&Durable>
+        ensures { option_map (λ d. d.now) result ≡ option_map recorded (slice_get (kept_agents (state_of self.now.story)) place) }
+    {
+        Some(self.parts.agents.get(place)?.durable())
+    }
+
+    /// The record of the agent of a name.
+    pub fn durable(&self, name: &AgentName) -> Option<&Durable>
+        ensures { option_map (λ d. d.now) result ≡ recorded_in (agent_in name.now (kept_agents (state_of self.now.story))) }
+    {
+        Some(agent_of(self.parts.agents.as_slice(), name)?.durable())
+    }
+
+    /// The record of the open draft of the agent of a name.
+    pub fn draft(&self, name: &AgentName) -> Option<&Durable>
+        ensures { option_map (λ d. d.now) result ≡ drafted_in (agent_in name.now (kept_agents (state_of self.now.story))) }
+    {
+        Some(
+            agent_of(self.parts.agents.as_slice(), name)?
+                .draft()?
+                .durable(),
+        )
+    }
+
+    /// The sum of the current offers on the agent of a name; none where no master serves. Of the faults there is `C9 OutOfMemory` alone.
+    pub fn offered_on(
+        &self,
+        alloc: Global,
+        name: &AgentName,
+    ) -> Result<Option<Resources>, ClusterFault>
+        ensures sum { IfOk result (λ sum. sum ≡ offered_in name.now (master_of (state_of self.now.story))) }
+        ensures memory { IfErr result (λ fault. fault ≡ OutOfMemory) }
+    {
+        match &self.parts.master {
+            Some(master) => match master.offered_on(alloc, name) {
+                Ok(sum) => Ok(Some(sum)),
+                Err(_) => Err(ClusterFault::OutOfMemory),
+            },
+            None => Ok(None),
+        }
+    }
+}
+
+/// The agent of a name.
+fn agent_of<'a>(agents: &'a [ClusterAgent], name: &AgentName) -> Option<&'a ClusterAgent>
+    ensures { option_copied result ≡ agent_in name.now agents.now }
+{
+    agents.iter().find(|agent| agent.name().is(name))
+}

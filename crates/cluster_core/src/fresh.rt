@@ -1,0 +1,33 @@
+//! Agents that never ran.
+
+ghost use Rattle.std.specs.Prelude.{◌≡◌, ◌<◌, map, IfOk, ℕ};
+ghost use Rattle.cluster_core.specs.Fresh.{fresh_records};
+ghost use Rattle.cluster_laws.specs.Parts.{configured};
+ghost use Rattle.cluster_laws.specs.Premises.{AreRecorded};
+ghost use Rattle.cluster_model.specs.Openings.{GoodOpening};
+
+use agent_core::fresh;
+use mails::Durable;
+use master_core::Config;
+use std::alloc::{AllocError, Global};
+
+/// A cluster may be opened in any run over configured agents that never ran, and they are those of the configuration.
+pub fn fresh_agents_open(config: &Config)
+    ensures good { (run : ℕ) → 0 < run → GoodOpening run (fresh_records config.now) }
+    ensures recorded { AreRecorded (fresh_records config.now) }
+    ensures configured { config.now ≡ map configured (fresh_records config.now) }
+{
+    let _agents = config.agents();
+}
+
+/// The records of configured agents that never ran, in the order of their names.
+pub fn fresh_records(alloc: Global, config: &Config) -> Result<Vec<Durable>, AllocError>
+    ensures { IfOk result (λ records. records.items ≡ fresh_records config.now) }
+{
+    let agents = config.agents();
+    let mut records = Vec::with_capacity(alloc, agents.len())?;
+    for agent in agents {
+        records.push(fresh(alloc, agent.name.copy(alloc)?, agent.total.copy(alloc)?))?;
+    }
+    Ok(records)
+}

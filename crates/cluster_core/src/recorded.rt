@@ -1,0 +1,25 @@
+//! What the type of updates keeps of every record.
+
+ghost use Rattle.std.specs.Prelude.{◌≡◌, true};
+ghost use Rattle.std.specs.List.{AllByRecursion as Each};
+ghost use Rattle.cluster_laws.specs.Premises.{AreRecorded};
+ghost use Rattle.stream_core.specs.Updates.{are_updates};
+
+use mails::{Durable, RecordedTask};
+
+fn tasks_are_recorded(tasks: &[RecordedTask])
+    ensures { Each (λ t. are_updates t.updates.states t.updates.acknowledged ≡ true) tasks.now }
+{
+    for task in tasks {
+        let _states = task.updates.states();
+    }
+}
+
+/// The tasks of all records have updates as every value of their type is.
+pub fn records_are_recorded(records: &[Durable])
+    ensures { AreRecorded records.now }
+{
+    for durable in records {
+        tasks_are_recorded(durable.tasks.as_slice());
+    }
+}

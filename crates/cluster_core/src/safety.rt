@@ -1,0 +1,20 @@
+//! Every legal story is safe.
+
+ghost use Rattle.cluster_core.specs.Safety.{Safe};
+ghost use Rattle.cluster_core.specs.Stories.{IsLegal, Story};
+
+use cluster_safe::{
+    acknowledged_by_the_owner, acknowledgements_are_prefixes, agents_have_room,
+    offers_and_tasks_fit, tasks_have_their_origin,
+};
+
+/// Whatever calls, deliveries, losses, repeats, reorderings and restarts a story has, it is safe.
+pub fn stories_are_safe()
+    ensures { (s : Story) → IsLegal s → Safe s }
+{
+    acknowledged_by_the_owner();
+    acknowledgements_are_prefixes();
+    agents_have_room();
+    offers_and_tasks_fit();
+    tasks_have_their_origin();
+}

@@ -1,0 +1,25 @@
+//! The history of a cluster, and what a step gives.
+
+use cluster_steps::{Entry, Outputs};
+use mails::Durable;
+use names_core::Run;
+
+/// How a cluster was opened, and every entry since.
+#[derive(Drop)]
+pub struct History {
+    /// The first run of the master.
+    pub run: Run,
+    /// The agents' records at the opening.
+    pub records: Vec<Durable>,
+    /// What the opening brought out.
+    pub opened: Outputs,
+    pub entries: Vec<Entry>,
+}
+
+/// A step that was taken: its entry, which stands in the history too.
+#[derive(Debug, Drop)]
+pub struct Taken {
+    pub entry: Entry,
+    /// The record of the draft that a Prepare opened; it is to be saved before the draft is committed.
+    pub durable: Option<Durable>,
+}
