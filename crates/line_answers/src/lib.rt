@@ -1,0 +1,10 @@
+//! A text that is answered line by line, as it comes.
+#![tactic(auto)]
+
+mod answers;
+mod teller;
+#[cfg(test)]
+mod tests;
+
+pub use answers::{Stop, answer_lines};
+pub use teller::Teller;
