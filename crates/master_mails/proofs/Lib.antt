@@ -1,3 +1,4 @@
+pub mod Finding
 pub mod Hanging
 pub mod Ticking
 pub mod Naming

@@ -7,6 +7,7 @@ mod on_loss;
 mod on_mail;
 mod on_tick;
 mod opening;
+mod reported;
 mod tell;
 #[cfg(test)]
 mod tests;

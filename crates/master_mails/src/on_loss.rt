@@ -4,6 +4,7 @@ ghost use Rattle.std.specs.Prelude.{◌≡◌, OnOk};
 ghost use Rattle.master_state.specs.Works.{done, master_of, work_of};
 ghost use Rattle.master_mails.specs.Steps.{left, lost_by};
 
+use crate::reported::Reported;
 use crate::tell;
 use master_state::State;
 use names_core::AgentName;
@@ -15,7 +16,8 @@ fn lose_open(state: &mut State, alloc: Global, agent: &AgentName) -> Result<(), 
     let events = &mut state.outs.events;
     tell::tell_rescinds(&state.frameworks, state.sides.offers_of(agent), events)?;
     let tasks = state.sides.tasks_of(agent);
-    tell::tell_losses(alloc, &state.frameworks, agent, &[], tasks, events)?;
+    let none = Reported::none(alloc);
+    tell::tell_losses(alloc, &state.frameworks, agent, &none, tasks, events)?;
     tell::tell_failures(alloc, agent, state.frameworks.as_slice(), events)?;
     state.frameworks.clear_filters_on(agent);
     state.sides.lose_named(alloc, agent);

@@ -1,12 +1,11 @@
 //! A Report opens a session.
 
 ghost use Rattle.std.specs.Prelude.{◌≡◌, ◌++◌, map, filter, fold, IfOk, OnOk};
-ghost use Rattle.std.specs.List.{list_any};
-ghost use Rattle.cluster_model.specs.Ids.{same};
 ghost use Rattle.cluster_model.specs.Mails.{is_to_end};
 ghost use Rattle.master_state.specs.Works.{master_of};
 ghost use Rattle.master_mails.specs.Steps.{ending, ends_of, session_opened};
 
+use crate::reported::Reported;
 use crate::tell;
 use listed::Listed;
 use mails::{Booked, Command, Framework};
@@ -14,27 +13,15 @@ use master_state::State;
 use names_core::{AgentName, FrameworkId};
 use std::alloc::{AllocError, Global};
 
-fn has_tasks_of(tasks: &[Booked], framework: FrameworkId) -> bool
-    ensures { result ≡ list_any (λ t. same t.job.framework framework) tasks.now }
-{
-    for task in tasks {
-        let other = task.job.framework;
-        if other.number() == framework.number() && other.run() == framework.run() {
-            return true;
-        }
-    }
-    false
-}
-
-fn is_to_end(state: &State, tasks: &[Booked], framework: &Framework) -> bool
+fn is_to_end(state: &State, tasks: &Reported, framework: &Framework) -> bool
     ensures { result ≡ is_to_end (master_of state.now) tasks.now framework.now }
 {
-    state.is_torn(framework.id) && has_tasks_of(tasks, framework.id)
+    state.is_torn(framework.id) && tasks.has_tasks_of(framework.id)
 }
 
 fn push_ends(
     state: &State,
-    tasks: &[Booked],
+    tasks: &Reported,
     frameworks: &[Framework],
     ends: &mut Vec<FrameworkId>,
 ) -> Result<(), AllocError>
@@ -52,7 +39,7 @@ fn push_ends(
 fn frameworks_to_end(
     state: &State,
     alloc: Global,
-    tasks: &[Booked],
+    tasks: &Reported,
 ) -> Result<Vec<FrameworkId>, AllocError>
     ensures { IfOk result (λ ends. ends.items ≡ ends_of tasks.now state.now) }
 {
@@ -88,19 +75,14 @@ pub fn open_session(
 ) -> Result<(), AllocError>
     ensures { OnOk result (state.new ≡ session_opened agent.now session number tasks state.old) }
 {
+    let reported = Reported::of(alloc, tasks)?;
     let events = &mut state.outs.events;
     tell::tell_rescinds(&state.frameworks, state.sides.offers_of(agent), events)?;
     let booked = state.sides.tasks_of(agent);
-    tell::tell_losses(
-        alloc,
-        &state.frameworks,
-        agent,
-        tasks.as_slice(),
-        booked,
-        events,
-    )?;
-    let ends = frameworks_to_end(state, alloc, tasks.as_slice())?;
+    tell::tell_losses(alloc, &state.frameworks, agent, &reported, booked, events)?;
+    let ends = frameworks_to_end(state, alloc, &reported)?;
     state.frameworks.clear_filters_on(agent);
+    let tasks = reported.into_tasks();
     state
         .sides
         .hear_report(alloc, agent, state.run, session, number, tasks);

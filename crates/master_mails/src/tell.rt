@@ -10,6 +10,7 @@ ghost use Rattle.stream_core.specs.Updates.{most_updates};
 ghost use Rattle.master_state.specs.Works.{written};
 ghost use Rattle.master_mails.specs.Tells.{loss_of, lost_event, news, rescind_of, updated_event};
 
+use crate::reported::Reported;
 use event_json::{Event, TaskStatus};
 use frameworks::{Frameworks, is_due};
 use listed::Listed;
@@ -64,15 +65,10 @@ fn is_same_key(key: LaunchKey, other: LaunchKey) -> bool
     key.number() == other.number() && key.run() == other.run()
 }
 
-fn is_reported(tasks: &[Booked], task: &Booked) -> bool
+fn is_reported(tasks: &Reported, task: &Booked) -> bool
     ensures { result ≡ is_reported tasks.now task.now }
 {
-    for other in tasks {
-        if is_same_key(other.job.key, task.job.key) {
-            return true;
-        }
-    }
-    false
+    tasks.has_key(task.job.key)
 }
 
 fn lost(alloc: Global, agent: &AgentName, task: &Booked) -> Result<Event, AllocError>
@@ -92,7 +88,7 @@ fn tell_loss(
     alloc: Global,
     frameworks: &Frameworks,
     agent: &AgentName,
-    reported: &[Booked],
+    reported: &Reported,
     task: &Booked,
     events: &mut Listed<StreamEvent>,
 ) -> Result<(), AllocError>
@@ -115,7 +111,7 @@ pub fn tell_losses(
     alloc: Global,
     frameworks: &Frameworks,
     agent: &AgentName,
-    reported: &[Booked],
+    reported: &Reported,
     tasks: &[Booked],
     events: &mut Listed<StreamEvent>,
 ) -> Result<(), AllocError>
