@@ -4,8 +4,8 @@ use super::*;
 use agent_sides::Config;
 use event_json::write_event;
 use listed::Listed;
-use mails::{Booked, Job, MasterRefusal, ReconciledTask};
-use master_state::{MasterFault, State, StreamEvent};
+use mails::{Booked, Job, ReconciledTask};
+use master_state::{State, StreamEvent};
 use names_core::{AgentName, FrameworkId, LaunchKey, RoleName, Run, StreamId, TaskName, TaskState};
 use quantity::Resources;
 use std::alloc::Global;
@@ -16,9 +16,6 @@ const T1_RUNS: &str =
 
 const T2_RUNS: &str =
     r#"S1-1 {"type":"UPDATE","update":{"status":{"agent_id":{"value":"a1"},"state":"TASK_RUNNING","task_id":{"value":"t2"}}}};"#;
-
-const Y_IS_LOST: &str =
-    r#"S1-1 {"type":"UPDATE","update":{"status":{"agent_id":{"value":"zz"},"state":"TASK_LOST","task_id":{"value":"y"}}}};"#;
 
 fn framework() -> FrameworkId {
     FrameworkId::new(1, 1)
@@ -68,13 +65,6 @@ fn open(alloc: Global) -> Result<State, Fail> {
     Ok(state)
 }
 
-fn asked(alloc: Global, name: &str, agent: &str) -> Result<ReconciledTask, Fail> {
-    Ok(ReconciledTask {
-        name: TaskName::from_text(alloc, name)?,
-        agent: Some(AgentName::from_text(alloc, agent)?),
-    })
-}
-
 fn write_told(alloc: Global, text: &mut String, told: &StreamEvent) -> Result<(), Fail> {
     let stream = told.stream.to_text(alloc)?;
     let event = write_event(alloc, &told.event)?;
@@ -100,24 +90,6 @@ fn text_of(alloc: Global, first: &str, second: &str) -> Result<String, Fail> {
 }
 
 #[test]
-fn tasks_are_told_where_their_agents_are_known(rt: HostRuntime) -> Result<(), Fail> {
-    let alloc = rt.alloc();
-    let mut state = open(alloc)?;
-    book(alloc, &mut state, "t1", LaunchKey::new(1, 1), false)?;
-    let tasks = [
-        asked(alloc, "t1", "a1")?,
-        asked(alloc, "x", "a2")?,
-        asked(alloc, "y", "zz")?,
-    ];
-    let both = text_of(alloc, T1_RUNS, Y_IS_LOST)?;
-    assert_eq!(rt; told(alloc, &mut state, &tasks)?.as_str(), both.as_str());
-    let name = TaskName::from_text(alloc, "z")?;
-    let anywhere = [ReconciledTask { name, agent: None }];
-    assert_eq!(rt; told(alloc, &mut state, &anywhere)?.as_str(), "");
-    Ok(())
-}
-
-#[test]
 fn all_live_tasks_are_told_by_launch_key(rt: HostRuntime) -> Result<(), Fail> {
     let alloc = rt.alloc();
     let mut state = open(alloc)?;
@@ -127,20 +99,5 @@ fn all_live_tasks_are_told_by_launch_key(rt: HostRuntime) -> Result<(), Fail> {
     book(alloc, &mut state, "t2", LaunchKey::new(1, 2), false)?;
     let both = text_of(alloc, T2_RUNS, T1_RUNS)?;
     assert_eq!(rt; told(alloc, &mut state, &[])?.as_str(), both.as_str());
-    Ok(())
-}
-
-#[test]
-fn who_may_not_call_is_refused(rt: HostRuntime) -> Result<(), Fail> {
-    let alloc = rt.alloc();
-    let mut state = open(alloc)?;
-    let other = reconcile(
-        &mut state,
-        alloc,
-        Some(StreamId::new(1, 2)),
-        framework(),
-        &[],
-    );
-    assert!(rt; other == Err(MasterFault::Refused(MasterRefusal::WrongStream)));
     Ok(())
 }

@@ -1,12 +1,10 @@
-//! Each of the master's steps, over one history: sessions, offers, launches, an end.
+//! What is offered is told to who asks the master.
 
 use crate::{Config, Master, MasterFault, Outs};
 use event_json::write_event;
 use listed::Listed;
-use mails::{AgentMail, Call, Command, MasterMail, MasterRefusal, TaskInfo, ToAgent};
-use names_core::{
-    AgentName, FrameworkId, LaunchKey, OfferId, RoleName, Run, StreamId, TaskName, TaskState,
-};
+use mails::{AgentMail, Call, Command, MasterMail, ToAgent};
+use names_core::{AgentName, FrameworkId, RoleName, Run, StreamId};
 use quantity::Resources;
 use side_fits::mails_without_tasks_fit;
 use std::alloc::Global;
@@ -127,19 +125,6 @@ fn offered_on(master: &Master, alloc: Global) -> Result<(u64, u64), Fail> {
     Ok((sum.get("cpus"), sum.get("mem")))
 }
 
-fn tick(master: &mut Master, alloc: Global, now: u32) -> Result<String, Fail> {
-    done(alloc, master.tick(alloc, now))
-}
-
-fn hang_up(master: &mut Master, alloc: Global, stream: StreamId) -> Result<String, Fail> {
-    done(alloc, master.hang_up(alloc, stream))
-}
-
-fn lose(master: &mut Master, alloc: Global) -> Result<String, Fail> {
-    let agent = named(alloc, "a1")?;
-    done(alloc, master.lose_agent(alloc, &agent))
-}
-
 fn subscribe(alloc: Global, framework: Option<FrameworkId>) -> Result<Call, Fail> {
     Ok(Call::Subscribe {
         framework,
@@ -156,15 +141,6 @@ fn started(alloc: Global) -> Result<(Master, String), Fail> {
     Ok((master, text))
 }
 
-const SUBSCRIBED: &str =
-    "S1-1 {\"subscribed\":{\"framework_id\":{\"value\":\"F1-1\"},\"heartbeat_interval_seconds\":15},\"type\":\"SUBSCRIBED\"}\n";
-
-const OFFERED: &str =
-    "S1-1 {\"offers\":{\"offers\":[{\"agent_id\":{\"value\":\"a1\"},\"framework_id\":{\"value\":\"F1-1\"},\"hostname\":\"a1\",\"id\":{\"value\":\"O1-1\"},\"resources\":[{\"name\":\"cpus\",\"role\":\"*\",\"scalar\":{\"value\":4},\"type\":\"SCALAR\"},{\"name\":\"mem\",\"role\":\"*\",\"scalar\":{\"value\":4096},\"type\":\"SCALAR\"}]}]},\"type\":\"OFFERS\"}\n";
-
-const STAGING: &str =
-    "S1-1 {\"type\":\"UPDATE\",\"update\":{\"status\":{\"agent_id\":{\"value\":\"a1\"},\"state\":\"TASK_STAGING\",\"task_id\":{\"value\":\"t1\"}}}}\n";
-
 /// The framework F1-1 on S1-1, to which all of agent a1 is offered as O1-1.
 fn offered(alloc: Global) -> Result<Master, Fail> {
     let (mut master, _hello) = started(alloc)?;
@@ -172,42 +148,6 @@ fn offered(alloc: Global) -> Result<Master, Fail> {
     let _subscribed = call(&mut master, alloc, None, subscribe(alloc, None)?)?;
     let _offered = allocate(&mut master, alloc)?;
     Ok(master)
-}
-
-/// An ACCEPT of O1-1 that launches t1 of 2 cpus and 1024 of mem.
-fn accept(alloc: Global) -> Result<Call, Fail> {
-    let mut offers = Listed::new(alloc);
-    offers.push(OfferId::new(1, 1))?;
-    let mut tasks = Listed::new(alloc);
-    tasks.push(TaskInfo {
-        name: TaskName::from_text(alloc, "t1")?,
-        agent: named(alloc, "a1")?,
-        resources: of(alloc, 2, 1024)?,
-    })?;
-    Ok(Call::Accept {
-        framework: FrameworkId::new(1, 1),
-        offers,
-        tasks,
-        refuse_seconds: 0,
-    })
-}
-
-#[test]
-fn agents_are_greeted(rt: HostRuntime) -> Result<(), Fail> {
-    let (_master, hello) = started(rt.alloc())?;
-    assert_eq!(rt; hello.as_str(), "a1 Hello 1 0\n");
-    Ok(())
-}
-
-#[test]
-fn what_is_free_is_offered(rt: HostRuntime) -> Result<(), Fail> {
-    let alloc = rt.alloc();
-    let (mut master, _hello) = started(alloc)?;
-    assert_eq!(rt; report(&mut master, alloc, 1, 1)?.as_str(), "");
-    let subscribed = call(&mut master, alloc, None, subscribe(alloc, None)?)?;
-    assert_eq!(rt; subscribed.as_str(), SUBSCRIBED);
-    assert_eq!(rt; allocate(&mut master, alloc)?.as_str(), OFFERED);
-    Ok(())
 }
 
 #[test]
@@ -220,88 +160,5 @@ fn what_is_offered_is_told(rt: HostRuntime) -> Result<(), Fail> {
         Some(StreamId::new(1, 1))
     );
     assert_eq!(rt; offered_on(&master, alloc)?, (4, 4096));
-    Ok(())
-}
-
-#[test]
-fn a_task_is_launched_once(rt: HostRuntime) -> Result<(), Fail> {
-    let alloc = rt.alloc();
-    let mut master = offered(alloc)?;
-    let stream = Some(StreamId::new(1, 1));
-    let launched = call(&mut master, alloc, stream, accept(alloc)?)?;
-    assert_eq!(rt; launched.as_str(), "a1 1 1 Launch L1-1\n");
-    let again = call(&mut master, alloc, stream, accept(alloc)?)?;
-    assert_eq!(rt; again.as_str(), STAGING);
-    let ended = call(
-        &mut master,
-        alloc,
-        stream,
-        Call::Teardown {
-            framework: FrameworkId::new(1, 1),
-        },
-    )?;
-    assert_eq!(rt; ended.as_str(), "S1-1 closed\na1 1 2 EndFramework F1-1\n");
-    Ok(())
-}
-
-const LOST: &str =
-    "S1-1 {\"rescind\":{\"offer_id\":{\"value\":\"O1-1\"}},\"type\":\"RESCIND\"}\nS1-1 {\"failure\":{\"agent_id\":{\"value\":\"a1\"}},\"type\":\"FAILURE\"}\na1 Hello 1 1\n";
-
-#[test]
-fn an_agent_is_lost(rt: HostRuntime) -> Result<(), Fail> {
-    let alloc = rt.alloc();
-    let mut master = offered(alloc)?;
-    let lost = lose(&mut master, alloc)?;
-    assert_eq!(rt; lost.as_str(), LOST);
-    let again = report(&mut master, alloc, 1, 1)?;
-    assert_eq!(rt; again.as_str(), "a1 Hello 1 1\nG3 Closed\n");
-    let other = report(&mut master, alloc, 2, 2)?;
-    assert_eq!(rt; other.as_str(), "G1 OtherRun\n");
-    Ok(())
-}
-
-#[test]
-fn streams_are_kept_alive_and_hang_up(rt: HostRuntime) -> Result<(), Fail> {
-    let alloc = rt.alloc();
-    let mut master = offered(alloc)?;
-    assert_eq!(rt; tick(&mut master, alloc, 14)?.as_str(), "");
-    assert_eq!(rt;
-        tick(&mut master, alloc, 15)?.as_str(),
-        "S1-1 {\"type\":\"HEARTBEAT\"}\n"
-    );
-    assert_eq!(rt; tick(&mut master, alloc, 20)?.as_str(), "");
-    let stream = StreamId::new(1, 1);
-    assert_eq!(rt;
-        hang_up(&mut master, alloc, stream)?.as_str(),
-        "S1-1 closed\n"
-    );
-    let revived = call(
-        &mut master,
-        alloc,
-        Some(stream),
-        Call::Revive {
-            framework: FrameworkId::new(1, 1),
-        },
-    )?;
-    assert_eq!(rt; revived.as_str(), "M1 NotSubscribed\n");
-    Ok(())
-}
-
-#[test]
-fn calls_are_refused(rt: HostRuntime) -> Result<(), Fail> {
-    let alloc = rt.alloc();
-    let mut master = offered(alloc)?;
-    let suppress = Call::Suppress {
-        framework: FrameworkId::new(1, 1),
-    };
-    let other = call(&mut master, alloc, Some(StreamId::new(1, 2)), suppress)?;
-    assert_eq!(rt; other.as_str(), "M2 WrongStream\n");
-    let unknown = call(
-        &mut master,
-        alloc,
-        None,
-        subscribe(alloc, Some(FrameworkId::new(1, 2)))?,
-    )?;
-    assert_eq!(rt; unknown.as_str(), "M3 NoSuchFramework\n");
     Ok(())
 }

@@ -16,11 +16,6 @@ use std::test::Fail;
 const LOST: &str =
     "S1-1 {\"type\":\"UPDATE\",\"update\":{\"status\":{\"agent_id\":{\"value\":\"a1\"},\"state\":\"TASK_LOST\",\"task_id\":{\"value\":\"t1\"}}}}\n";
 
-const FAILED: &str = "S1-1 {\"failure\":{\"agent_id\":{\"value\":\"a1\"}},\"type\":\"FAILURE\"}\n";
-
-const RUNNING: &str =
-    "S1-1 {\"type\":\"UPDATE\",\"update\":{\"status\":{\"agent_id\":{\"value\":\"a1\"},\"state\":\"TASK_RUNNING\",\"task_id\":{\"value\":\"t1\"},\"uuid\":\"AAEAAAABgACAAAAAAAAAAA==\"}}}\n";
-
 /// What is asked of an agent.
 fn text_of(alloc: Global, command: &Command) -> Result<String, Fail> {
     Ok(match command {
@@ -147,12 +142,6 @@ fn report(
     Ok(mail(state, alloc, &agent, mail_of)?)
 }
 
-fn one(task: Booked, alloc: Global) -> Result<Listed<Booked>, Fail> {
-    let mut tasks = Listed::new(alloc);
-    tasks.push(task)?;
-    Ok(tasks)
-}
-
 /// Session 1 of a1 is open, F1-1 is subscribed on S1-1, and t1 is booked on a1 under L1-1.
 fn running(alloc: Global) -> Result<State, Fail> {
     let mut state = two_agents(alloc)?;
@@ -160,65 +149,6 @@ fn running(alloc: Global) -> Result<State, Fail> {
     subscribe(alloc, &mut state)?;
     state.sides.book_at(0, task(alloc)?)?;
     Ok(state)
-}
-
-#[test]
-fn a_lost_agent_leaves_the_books(rt: HostRuntime) -> Result<(), Fail> {
-    let alloc = rt.alloc();
-    let mut state = running(alloc)?;
-    assert!(rt; report(alloc, &mut state, 1, 1, Listed::new(alloc))? == None);
-    assert!(rt; tells(alloc, &mut state, "")?);
-    lose_agent(&mut state, alloc, &named(alloc, "a1")?)?;
-    let text = format!(in alloc; "{}{}a1 Hello(1, 1)\n", LOST, FAILED)?;
-    assert!(rt; tells(alloc, &mut state, text.as_str())?);
-    assert!(rt; state.sides.booked_count() == 0);
-    Ok(())
-}
-
-/// The first or the second update of the task of this key on a1, in session 1: it runs, and has ended.
-fn update(
-    alloc: Global,
-    state: &mut State,
-    key: LaunchKey,
-    is_second: bool,
-) -> Result<Option<MasterRefusal>, Fail> {
-    let agent = named(alloc, "a1")?;
-    let k = if is_second { 1 } else { 0 };
-    let mail_of = AgentMail::Update {
-        session: 1,
-        key,
-        k,
-        state: TaskState::Running,
-        ended: true,
-    };
-    Ok(mail(state, alloc, &agent, mail_of)?)
-}
-
-#[test]
-fn an_update_goes_to_its_framework(rt: HostRuntime) -> Result<(), Fail> {
-    let alloc = rt.alloc();
-    let mut state = running(alloc)?;
-    assert!(rt; update(alloc, &mut state, LaunchKey::new(1, 1), false)? == None);
-    assert!(rt; tells(alloc, &mut state, RUNNING)?);
-    assert!(rt; update(alloc, &mut state, LaunchKey::new(1, 1), false)? == None);
-    assert!(rt; tells(alloc, &mut state, RUNNING)?);
-    assert!(rt; update(alloc, &mut state, LaunchKey::new(1, 1), true)? == None);
-    let _later = lines(alloc, &mut state)?;
-    assert!(rt; update(alloc, &mut state, LaunchKey::new(1, 1), false)? == None);
-    assert!(rt; tells(alloc, &mut state, "")?);
-    Ok(())
-}
-
-#[test]
-fn an_old_update_leaves_the_new_task(rt: HostRuntime) -> Result<(), Fail> {
-    let alloc = rt.alloc();
-    let mut state = running(alloc)?;
-    assert!(rt; update(alloc, &mut state, LaunchKey::new(1, 2), true)? == None);
-    assert!(rt; tells(alloc, &mut state, "")?);
-    let agent = named(alloc, "a1")?;
-    let task = state.sides.tasks_of(&agent).first().ok_or("no task")?;
-    assert!(rt; !task.ended);
-    Ok(())
 }
 
 #[test]
@@ -260,29 +190,6 @@ fn a_new_session_loses_what_is_not_reported(rt: HostRuntime) -> Result<(), Fail>
     let rescind = "S1-1 {\"rescind\":{\"offer_id\":{\"value\":\"O1-1\"}},\"type\":\"RESCIND\"}\n";
     let text = format!(in alloc; "{}{}", rescind, LOST)?;
     assert!(rt; tells(alloc, &mut state, text.as_str())?);
-    assert!(rt; state.sides.booked_count() == 0);
-    Ok(())
-}
-
-#[test]
-fn tasks_of_a_framework_that_was_torn_down_are_to_end(rt: HostRuntime) -> Result<(), Fail> {
-    let alloc = rt.alloc();
-    let mut state = running(alloc)?;
-    let stream = StreamId::new(1, 1);
-    hang_up(&mut state, stream)?;
-    hang_up(&mut state, stream)?;
-    assert!(rt; tells(alloc, &mut state, "S1-1 closed\n")?);
-    state.torn.push(FrameworkId::new(1, 1))?;
-    let tasks = one(task(alloc)?, alloc)?;
-    assert!(rt; report(alloc, &mut state, 2, 1, tasks)? == None);
-    assert!(rt; tells(alloc, &mut state, "a1 Cmd(2, 1, EndFramework F1-1)\n")?);
-    assert!(rt; state.sides.booked_count() == 1);
-    let agent = named(alloc, "a1")?;
-    let count = AgentMail::Applied {
-        session: 2,
-        count: 1,
-    };
-    assert!(rt; mail(&mut state, alloc, &agent, count)? == None);
     assert!(rt; state.sides.booked_count() == 0);
     Ok(())
 }
