@@ -1,6 +1,6 @@
 -- What a step makes of the parts.
 use Rattle.std.proofs.Common.{◌≡◌, ℕ, Bool, true, false, List, [], ◌∷◌, map, slice_get, Option, Some, None, is_none, Result, Ok, Err, inl, inr, refl, sym, ap, ◌∙◌, subst}
-use Rattle.std.specs.Prelude.{◌⊎◌, IfOk, OnErr}
+use Rattle.std.specs.Prelude.{◌⊎◌, IfOk}
 use Rattle.std.specs.List.{AllByRecursion as Each}
 use Rattle.agent_core.specs.Drafts.{repeats_launch}
 use Rattle.mails.specs.declared.cause.Cause.TheVariants.{Mail}
@@ -8,7 +8,7 @@ use Rattle.mails.specs.declared.mail.AgentMail.{AgentMail}
 use Rattle.mails.specs.declared.mail.ToAgent.{ToAgent}
 use Rattle.mails.specs.declared.record.Durable.{Durable}
 use Rattle.cluster_model.specs.Channels.{Channel}
-use Rattle.cluster_model.specs.Clusters.{Called, Cluster, Commit, Deliver, Down, LoseAgent, Post, Send, Step, Take, StepRefusal, StopMaster, Up, MasterDown, NoSuchMail, master_of}
+use Rattle.cluster_model.specs.Clusters.{Called, Cluster, Commit, Deliver, Down, LoseAgent, Post, Send, Step, Take, StopMaster, Up, MasterDown, NoSuchMail, master_of}
 use Rattle.cluster_model.specs.Masters.{Master}
 use Rattle.cluster_model.specs.Openings.{GoodOpening}
 use Rattle.cluster_model.specs.Steps.{Done, Marked, answer, channel_of, delivers, delivers_up, history, master_hears, post_at}
@@ -22,17 +22,17 @@ use Rattle.cluster_steps.specs.declared.fault.ClusterFault.TheVariants as faults
 use Rattle.names_core.specs.Ids.{Numbered}
 use Rattle.mails.specs.declared.call.Call.{Call}
 use Rattle.told_streams.specs.declared.kept.KeptStream.{KeptStream}
-use Rattle.cluster_core.specs.Agents.{KeptAgent}
-use Rattle.cluster_core.specs.Handing.{MayRefuse}
-use Rattle.cluster_core.specs.Masters.{MasterMakes, Standing, StandingAt, StandingWith, StandsFor, kept_master}
-use Rattle.cluster_core.specs.Moves.{LaunchAnew, Makes, Reached, kept_agents, kept_part}
-use Rattle.cluster_core.specs.Parts.{AreParts, PartsOf, Stands, Takes, record_of}
-use Rattle.cluster_core.specs.Restarting.{Restarts, StandingOver}
-use Rattle.cluster_core.specs.declared.masters.Made.{Made}
+use Rattle.cluster_parts.specs.Agents.{KeptAgent}
+use Rattle.cluster_parts.specs.Handing.{MayRefuse}
+use Rattle.cluster_parts.specs.Masters.{MasterMakes, Standing, StandingAt, StandingWith, StandsFor, kept_master}
+use Rattle.cluster_parts.specs.Moves.{LaunchAnew, Makes, Reached, kept_agents, kept_part}
+use Rattle.cluster_core.specs.Parts.{AreParts, PartsOf, Takes, record_of}
+use Rattle.cluster_parts.specs.Restarting.{Restarts, StandingOver}
+use Rattle.cluster_parts.specs.declared.masters.Made.{Made}
 use Rattle.cluster_core.specs.declared.parts.Parts.{Parts}
-use Rattle.cluster_core.proofs.Committing.{if_it_is_down}
-use Rattle.cluster_core.proofs.Mastering.{serves_if}
-use Rattle.cluster_core.proofs.StepsServed.{no_master}
+use Rattle.cluster_parts.proofs.Committing.{if_it_is_down}
+use Rattle.cluster_parts.proofs.Mastering.{serves_if}
+use Rattle.cluster_parts.proofs.StepsServed.{no_master}
 use Rattle.told_streams.specs.Kept.{AreWithin, kept_streams}
 
 -- the agents stay where their parts do and the same are down

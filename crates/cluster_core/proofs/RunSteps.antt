@@ -1,27 +1,27 @@
 -- Steps that are run one by one.
-use Rattle.std.proofs.Common.{◌≡◌, ◌<◌, ◌≤◌, ℕ, zero, suc, Bool, true, false, List, [], ◌∷◌, ◌++◌, map, length, take, nat_le, slice_get, Option, Some, None, Result, Ok, Err, inl, inr, refl, sym, ap, ◌∙◌, subst, arith, cond}
-use Rattle.std.specs.Prelude.{if◌then◌else◌, ◌⊎◌, ◌≢◌, IfErr, IfOk, OnErr, OnOk}
+use Rattle.std.proofs.Common.{◌≡◌, ◌<◌, ◌≤◌, ℕ, zero, suc, Bool, true, false, List, [], ◌∷◌, ◌++◌, map, length, nat_le, slice_get, Option, Some, None, Result, Ok, Err, inl, inr, refl, sym, ap, ◌∙◌, subst, arith}
+use Rattle.std.specs.Prelude.{if◌then◌else◌, ◌≢◌, IfErr, IfOk, OnErr, OnOk}
 use Rattle.std.proofs.lemmas.Bool.Decides.{nat_tests}
 use Rattle.mails.specs.declared.record.Durable.{Durable}
 use Rattle.cluster_model.specs.Agents.{Draft}
 use Rattle.cluster_model.specs.Channels.{Channel}
 use Rattle.cluster_model.specs.Clusters.{Cluster, Post, Step, StepRefusal, Send, Deliver, Allocate, Tick, LoseAgent, HangUp, Prepare, Commit, StopBefore, StopAfter, StopMaster, Take, ByStart, ByAgain, ByExecutor, ByMail, AgentDown, DraftOpen, HistoryFull, MasterDown}
 use Rattle.cluster_model.specs.Ids.{last_number}
-use Rattle.cluster_model.specs.Steps.{Done, History, Marked, answer, at_channel, by_draft, channel_of, delivers, draws_mail, extended, history, if_up, is_fallen, opening, post_at, prepares, step_marked, unmarked, with_master, without_draft}
+use Rattle.cluster_model.specs.Steps.{Done, History, Marked, answer, at_channel, by_draft, channel_of, delivers, draws_mail, extended, history, if_up, is_fallen, opening, post_at, prepares, step_marked, unmarked, without_draft}
 use Rattle.cluster_laws.specs.Items.{StandIn, item_of}
 use Rattle.cluster_laws.specs.declared.item.Item.{Item}
 use Rattle.cluster_steps.specs.declared.entry.Entry.{Entry}
 use Rattle.cluster_steps.specs.declared.fault.ClusterFault.{ClusterFault}
 use Rattle.cluster_steps.specs.declared.fault.ClusterFault.TheVariants as faults
 use Rattle.cluster_steps.specs.declared.step.Step as code
-use Rattle.cluster_steps.specs.Steps.{entry_of, fell, marked_of, step_of}
+use Rattle.cluster_steps.specs.Steps.{fell, marked_of, step_of}
 use Rattle.post_rules.specs.Numbers.{is_number}
-use Rattle.cluster_core.specs.Handing.{handed}
+use Rattle.cluster_parts.specs.Handing.{handed}
 use Rattle.cluster_core.specs.Keeping.{IsRefused, IsTaken, WithheldFrom}
 use Rattle.cluster_core.specs.Running.{Passes, Ran, marked_as}
 use Rattle.cluster_core.specs.Stories.{Story, history_of, state_of, with_entry}
 use Rattle.cluster_core.specs.declared.taken.Taken.{Taken}
-use Rattle.cluster_core.proofs.Mastering.{extended_more}
+use Rattle.cluster_parts.proofs.Mastering.{extended_more}
 use Rattle.cluster_core.proofs.Telling.{map_more}
 
 -- ---- what a taken step hands out was sent

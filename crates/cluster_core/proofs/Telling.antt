@@ -1,34 +1,33 @@
 -- A story goes on by one entry.
-use Rattle.std.proofs.Common.{◌≡◌, ◌<◌, ◌≤◌, ◌+◌, ℕ, zero, suc, Bool, true, false, List, [], ◌∷◌, ◌++◌, map, length, nat_le, Option, Some, None, Result, Ok, Err, inl, inr, refl, sym, ap, ◌∙◌, subst, arith, length-append}
-use Rattle.std.specs.Prelude.{if◌then◌else◌, ◌⊎◌}
+use Rattle.std.proofs.Common.{◌≡◌, ◌<◌, ◌≤◌, ◌+◌, ℕ, suc, Bool, true, false, List, [], ◌∷◌, ◌++◌, map, length, nat_le, Result, Ok, Err, inl, inr, refl, sym, ap, ◌∙◌, subst, arith, length-append}
+use Rattle.std.specs.Prelude.{if◌then◌else◌}
 use Rattle.std.proofs.lemmas.Bool.Decides.{nat_tests}
 use Rattle.mails.specs.declared.record.Durable.{Durable}
 use Rattle.cluster_model.specs.Clusters as model
 use Rattle.cluster_model.specs.Clusters.{Cluster, StepRefusal}
 use Rattle.cluster_model.specs.Ids.{last_number}
-use Rattle.cluster_model.specs.Steps.{Done, History, Marked, answer, extend_all, extended, fallen_answer, history, opening, open_cluster, step_marked, unmarked}
+use Rattle.cluster_model.specs.Steps.{Done, History, Marked, answer, extend_all, extended, fallen_answer, history, opening, step_marked, unmarked}
 use Rattle.cluster_laws.specs.Items.{StandIn}
 use Rattle.cluster_laws.specs.Parts.{configured}
 use Rattle.cluster_laws.specs.Premises.{AreRecorded}
 use Rattle.cluster_model.specs.Openings.{GoodOpening}
-use Rattle.cluster_core.specs.Opening.{Opens}
-use Rattle.cluster_core.specs.declared.opening.Opened.{Opened}
+use Rattle.cluster_parts.specs.Opening.{Opens}
+use Rattle.cluster_parts.specs.declared.opening.Opened.{Opened}
 use Rattle.cluster_steps.specs.declared.entry.Entry.{Entry}
 use Rattle.cluster_steps.specs.declared.entry.Outputs.{Outputs}
 use Rattle.cluster_steps.specs.declared.fault.ClusterFault.{ClusterFault}
 use Rattle.cluster_steps.specs.declared.fault.ClusterFault.TheVariants as faults
 use Rattle.cluster_steps.specs.declared.step.Step.{Step}
-use Rattle.cluster_steps.specs.Steps.{entry_of, fell, marked_of, outputs_of, step_of, verdict_of}
-use Rattle.cluster_core.specs.Handing.{MayRefuse, handed}
+use Rattle.cluster_steps.specs.Steps.{entry_of, marked_of, step_of}
+use Rattle.cluster_parts.specs.Handing.{MayRefuse}
 use Rattle.cluster_core.specs.Keeping.{IsKept, IsRefused, IsTaken, entry_made, taken_made}
-use Rattle.cluster_core.specs.Moves.{Reached, Refuses, kept_agents}
+use Rattle.cluster_parts.specs.Moves.{Reached}
 use Rattle.cluster_core.specs.Parts.{AreParts, PartsOf, Same, Stands, Takes, record_of}
 use Rattle.cluster_core.specs.Stories.{IsLegal, Legal, Story, history_of, state_of, with_entry}
-use Rattle.cluster_core.specs.declared.masters.Made.{Made}
+use Rattle.cluster_parts.specs.declared.masters.Made.{Made}
 use Rattle.cluster_core.specs.declared.parts.Parts.{Parts}
-use Rattle.cluster_core.specs.declared.taken.Taken.{Taken}
-use Rattle.cluster_core.proofs.Committing.{if_it_is_down, if_it_is_up}
-use Rattle.cluster_core.proofs.Mastering.{extended_more}
+use Rattle.cluster_parts.proofs.Committing.{if_it_is_down, if_it_is_up}
+use Rattle.cluster_parts.proofs.Mastering.{extended_more}
 
 -- ---- how many entries there are
 

@@ -1,6 +1,5 @@
 -- What a cluster keeps true of its parts, and what a step makes of its story.
 use Rattle.std.specs.Prelude.{◌≡◌, ◌⊎◌, ◌<◌, ℕ, Bool, false, if◌then◌else◌, List, map, length, Option, Some, None, Ok, Err, ⊤}
-use Rattle.mails.specs.declared.record.Durable.{Durable}
 use Rattle.cluster_model.specs.Clusters as model
 use Rattle.cluster_model.specs.Clusters.{Cluster}
 use Rattle.cluster_model.specs.Masters.{Master}
@@ -14,11 +13,11 @@ use Rattle.cluster_steps.specs.declared.entry.Outputs.{Outputs}
 use Rattle.cluster_steps.specs.declared.fault.ClusterFault.{ClusterFault}
 use Rattle.cluster_steps.specs.declared.fault.ClusterFault.TheVariants.{NoSuchMail, MasterDown, AgentDown, DraftOpen, NoDraft, HistoryFull, TimeBack, NoSuchAgent, OutOfMemory}
 use Rattle.cluster_steps.specs.declared.step.Step.{Step}
-use Rattle.cluster_core.specs.Handing.{handed}
-use Rattle.cluster_core.specs.Moves.{kept_agents}
+use Rattle.cluster_parts.specs.Handing.{handed}
+use Rattle.cluster_parts.specs.Moves.{kept_agents}
 use Rattle.cluster_core.specs.Parts.{Stands, record_of}
 use Rattle.cluster_core.specs.Stories.{IsLegal, Story, state_of, with_entry}
-use Rattle.cluster_core.specs.declared.masters.Made.{Made}
+use Rattle.cluster_parts.specs.declared.masters.Made.{Made}
 use Rattle.cluster_core.specs.declared.parts.Parts.{Parts}
 use Rattle.cluster_core.specs.declared.taken.History.{History}
 use Rattle.cluster_core.specs.declared.taken.Taken.{Taken}

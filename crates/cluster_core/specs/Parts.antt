@@ -1,16 +1,16 @@
 -- The parts of a cluster, and what a step makes of them.
-use Rattle.std.specs.Prelude.{◌≡◌, ℕ, if◌then◌else◌, List, map, Option, None, Ok}
+use Rattle.std.specs.Prelude.{◌≡◌, if◌then◌else◌, List, map, Option, None, Ok}
 use Rattle.mails.specs.declared.record.Durable.{Durable}
 use Rattle.cluster_model.specs.Clusters.{Cluster, Step, Prepare}
 use Rattle.cluster_model.specs.Steps.{Done, answer, fallen_answer}
 use Rattle.cluster_laws.specs.Parts.{configured}
 use Rattle.cluster_steps.specs.Steps.{fell, outputs_of, verdict_of}
 use Rattle.cluster_steps.specs.declared.entry.Verdict.{Verdict}
-use Rattle.cluster_core.specs.Agents.{KeptAgent}
-use Rattle.cluster_core.specs.Causes.{record_prepared}
-use Rattle.cluster_core.specs.Masters.{StandsFor}
-use Rattle.cluster_core.specs.Moves.{Reached, kept_agents}
-use Rattle.cluster_core.specs.declared.masters.Made.{Made}
+use Rattle.cluster_parts.specs.Agents.{KeptAgent}
+use Rattle.cluster_parts.specs.Causes.{record_prepared}
+use Rattle.cluster_parts.specs.Masters.{StandsFor}
+use Rattle.cluster_parts.specs.Moves.{Reached, kept_agents}
+use Rattle.cluster_parts.specs.declared.masters.Made.{Made}
 use Rattle.cluster_core.specs.declared.parts.Parts.{Parts}
 
 -- the parts stand for a state

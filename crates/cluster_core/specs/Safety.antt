@@ -3,7 +3,7 @@ use Rattle.std.specs.Prelude.{List, [], ◌++◌, map}
 use Rattle.names_core.specs.Ids.{Numbered}
 use Rattle.cluster_model.specs.Channels.{AllFit, open_world}
 use Rattle.cluster_model.specs.Openings.{recorded_jobs}
-use Rattle.cluster_model.specs.Steps.{Marked, opening}
+use Rattle.cluster_model.specs.Steps.{opening}
 use Rattle.cluster_safe.specs.Acknowledged.{AcknowledgedByOwner}
 use Rattle.cluster_safe.specs.Honest.{Honest, IsBeginningOf, IsKeyOf, acknowledged_by}
 use Rattle.cluster_safe.specs.Origin.{HasOrigin, Mark, jobs_of, trail}

@@ -1,5 +1,5 @@
 -- A cluster's story: how it was opened, and every entry since. What holds of it is a function of the story.
-use Rattle.std.specs.Prelude.{◌≡◌, ℕ, List, [], ◌∷◌, ◌++◌, map, Result, Ok, Err, ⊤}
+use Rattle.std.specs.Prelude.{◌≡◌, ℕ, List, [], ◌∷◌, ◌++◌, map, Ok}
 use Rattle.mails.specs.declared.record.Durable.{Durable}
 use Rattle.cluster_model.specs.Clusters.{Cluster}
 use Rattle.cluster_model.specs.Openings.{GoodOpening}

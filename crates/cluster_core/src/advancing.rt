@@ -1,17 +1,17 @@
 //! A history goes on by one step.
 
-ghost use Rattle.std.specs.Prelude.{◌≡◌, ◌<◌, ◌≤◌, ◌+◌, length, vec_capacity, vec_len, IfOk, IfErr, OnErr, true, ℕ};
-ghost use Rattle.cluster_core.specs.Handing.{IsGiven, handed};
+ghost use Rattle.std.specs.Prelude.{◌≡◌, ◌<◌, ◌≤◌, ◌+◌, length, vec_capacity, vec_len, IfOk, IfErr, OnErr, ℕ};
 ghost use Rattle.cluster_core.specs.Keeping.{IsKept, IsRefused, IsTaken, entry_made, story_of, taken_made};
-ghost use Rattle.cluster_core.specs.Posts.{Roomier};
+ghost use Rattle.cluster_core.specs.Putting.{direction_of, place_or_end};
 ghost use Rattle.cluster_core.specs.Stories.{state_of, with_entry};
+ghost use Rattle.cluster_parts.specs.Handing.{IsGiven, handed};
+ghost use Rattle.cluster_parts.specs.Posts.{Roomier};
 ghost use Rattle.cluster_steps.specs.Steps.{step_of};
 
-use crate::agents::{ClusterAgent, place_of};
-use crate::masters::Made;
 use crate::parts::Parts;
 use crate::taken::{History, Taken};
 use cluster_laws::{Item, states_count_entries};
+use cluster_parts::{ClusterAgent, Made, place_of};
 use cluster_steps::{ClusterFault, Entry, Step, StepCause};
 use names_core::AgentName;
 use post_rules::{Direction, Post};
@@ -21,7 +21,9 @@ use std::alloc::Global;
 const MOST_ENTRIES: u64 = 4_294_967_294;
 
 /// Where the agent of a name stands; each mail's agent does.
-fn place_or_end(agents: &[ClusterAgent], name: &AgentName) -> usize {
+fn place_or_end(agents: &[ClusterAgent], name: &AgentName) -> usize
+    ensures { result ≡ place_or_end name.now agents.now }
+{
     match place_of(agents, name) {
         Some(place) => place,
         None => agents.len(),
@@ -29,7 +31,9 @@ fn place_or_end(agents: &[ClusterAgent], name: &AgentName) -> usize {
 }
 
 /// Which way an item was sent.
-fn direction_of(agents: &[ClusterAgent], item: &Item) -> Direction {
+fn direction_of(agents: &[ClusterAgent], item: &Item) -> Direction
+    ensures { result ≡ direction_of agents.now item.now }
+{
     match item {
         Item::Call(..) => Direction::Call,
         Item::ToAgent(to) => Direction::ToAgent(place_or_end(agents, &to.agent)),

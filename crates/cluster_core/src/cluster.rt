@@ -2,29 +2,30 @@
 
 ghost use Rattle.std.specs.Prelude.{◌≡◌, ◌<◌, ◌≤◌, ◌+◌, ℕ, Bool, true, [], map, option_map, slice_get, length, IfOk, IfErr, OnErr};
 ghost use Rattle.std.specs.Option.{option_copied};
-ghost use Rattle.cluster_core.specs.Agents.{agent_in, drafted_in, recorded, recorded_in};
-ghost use Rattle.cluster_core.specs.Handing.{IsGiven};
 ghost use Rattle.cluster_core.specs.Keeping.{IsRefused, IsTaken, WithheldFrom, offered_in};
-ghost use Rattle.cluster_model.specs.Clusters as model;
-ghost use Rattle.cluster_core.specs.Moves.{kept_agents};
-ghost use Rattle.cluster_core.specs.Posts.{Roomier};
 ghost use Rattle.cluster_core.specs.Safety.{Safe};
 ghost use Rattle.cluster_core.specs.Stories.{IsLegal, state_of};
 ghost use Rattle.cluster_laws.specs.Parts.{configured};
+ghost use Rattle.cluster_model.specs.Clusters as model;
 ghost use Rattle.cluster_model.specs.Clusters.{master_of};
 ghost use Rattle.cluster_model.specs.Openings.{GoodOpening};
 ghost use Rattle.cluster_model.specs.Steps.{open_cluster};
+ghost use Rattle.cluster_parts.specs.Agents.{agent_in, drafted_in, recorded, recorded_in};
+ghost use Rattle.cluster_parts.specs.Handing.{IsGiven};
+ghost use Rattle.cluster_parts.specs.Moves.{kept_agents};
+ghost use Rattle.cluster_parts.specs.Posts.{Roomier};
 ghost use Rattle.cluster_steps.specs.Steps.{outputs_of, step_of};
 ghost use Rattle.cluster_steps.specs.declared.fault.ClusterFault.TheVariants.{OutOfMemory};
 
+mod reading;
+
 use crate::advancing::{advance, put_all};
-use crate::agents::ClusterAgent;
-use crate::opening::open_parts;
 use crate::parts::Parts;
 use crate::recorded::records_are_recorded;
 use crate::safety::stories_are_safe;
 use crate::taken::{History, Taken};
 use cluster_laws::states_count_entries;
+use cluster_parts::{ClusterAgent, open_parts};
 use cluster_steps::{ClusterFault, Entry, Outputs, Step};
 use mails::Durable;
 use master_core::Config;

@@ -3,31 +3,13 @@
 #![tactic(auto)]
 
 mod advancing;
-mod agents;
-mod causes;
 mod cluster;
-mod commits;
-mod delivering;
-mod doings;
-mod event_copies;
 mod fresh;
 mod good_openings;
-mod items;
-mod laws;
-mod master_laws;
-mod masters;
-mod opening;
-#[cfg(test)]
-mod opening_tests;
 mod parts;
-mod prepares;
 mod recorded;
-mod restarting;
 mod running;
 mod safety;
-mod sends;
-mod serving;
-mod stops;
 mod taken;
 
 pub use cluster::Cluster;

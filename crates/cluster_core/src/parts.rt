@@ -1,18 +1,15 @@
 //! The parts of a cluster, and the step that each makes of them.
 
-ghost use Rattle.std.specs.Prelude.{◌≡◌, ◌+◌, ◌≤◌, false, true, length, IfOk, IfErr, OnErr};
-ghost use Rattle.cluster_core.specs.Handing.{IsGiven, MayRefuse, is_withheld};
-ghost use Rattle.cluster_core.specs.Moves.{Refuses};
+ghost use Rattle.std.specs.Prelude.{◌≡◌, false, true, length, IfOk, IfErr, OnErr};
 ghost use Rattle.cluster_core.specs.Parts.{AreParts, PartsOf, Same, Takes};
-ghost use Rattle.cluster_core.specs.Posts.{Grows, Roomier};
 ghost use Rattle.cluster_model.specs.Clusters.{Allocate, Cluster, Commit, Deliver, HangUp, LoseAgent, Prepare, Send, StopAfter, StopBefore, StopMaster, Take, Tick};
+ghost use Rattle.cluster_parts.specs.Handing.{IsGiven, MayRefuse, is_withheld};
+ghost use Rattle.cluster_parts.specs.Moves.{Refuses};
+ghost use Rattle.cluster_parts.specs.Posts.{Grows, Roomier};
 ghost use Rattle.cluster_steps.specs.Steps.{cause_of, step_of};
 
-use crate::agents::ClusterAgent;
-use crate::items::Items;
-use crate::masters::{Made, ends_with, sending};
-use crate::{commits, delivering, prepares, restarting, sends, serving, stops};
 use cluster_laws::mails_to_agents_launch_anew;
+use cluster_parts::{ClusterAgent, Items, Made, ends_with, sending};
 use cluster_steps::{ClusterFault, Keep, Step, StepCause, Verdict};
 use listed::Listed;
 use mail_copies::copy_call;
@@ -57,7 +54,7 @@ impl Parts {
         ensures room { Grows (length self.old.items) (length self.new.items) (P.room post.new) }
     {
         let copy = copy_call(alloc, call)?;
-        sends::send(&mut self.items, post, alloc, stream, copy)
+        cluster_parts::send(&mut self.items, post, alloc, stream, copy)
     }
 
     /// What was sent under a number comes to the master, if the post can hand it out.
@@ -83,7 +80,7 @@ impl Parts {
             return Err(ClusterFault::NoSuchMail);
         }
         let items = &mut self.items;
-        delivering::deliver(
+        cluster_parts::deliver(
             &mut self.master,
             items,
             &mut self.streams,
@@ -103,7 +100,7 @@ impl Parts {
         ensures post { Roomier (P.count post.old) (P.count post.new) (P.gives post.old) (P.gives post.new) }
         ensures room { Grows (length self.old.items) (length self.new.items) (P.room post.new) }
     {
-        serving::allocate(
+        cluster_parts::allocate(
             &mut self.master,
             &mut self.items,
             &mut self.streams,
@@ -124,7 +121,7 @@ impl Parts {
     {
         let items = &mut self.items;
         let last = self.last_tick;
-        let made = serving::tick(
+        let made = cluster_parts::tick(
             &mut self.master,
             items,
             &mut self.streams,
@@ -154,7 +151,7 @@ impl Parts {
     {
         let agents = self.agents.as_slice();
         let items = &mut self.items;
-        serving::lose_agent(
+        cluster_parts::lose_agent(
             &mut self.master,
             agents,
             items,
@@ -181,7 +178,7 @@ impl Parts {
         ensures room { Grows (length self.old.items) (length self.new.items) (P.room post.new) }
     {
         let items = &mut self.items;
-        serving::hang_up(
+        cluster_parts::hang_up(
             &mut self.master,
             items,
             &mut self.streams,
@@ -206,7 +203,9 @@ impl Parts {
         let mut run = self.run;
         let config = &self.config;
         let master = &mut self.master;
-        let made = restarting::stop_master(master, config, items, streams, post, alloc, &mut run);
+        let made = cluster_parts::stop_master(
+            master, config, items, streams, post, alloc, &mut run,
+        );
         self.run = run;
         Ok(made)
     }
@@ -220,7 +219,7 @@ impl Parts {
         ensures config { self.new.config ≡ self.old.config }
         ensures items { length self.new.items ≡ length self.old.items }
     {
-        sends::take(&mut self.streams, alloc, stream)
+        cluster_parts::take(&mut self.streams, alloc, stream)
     }
 
     /// An agent prepares what a cause makes of it, which the post can hand out if it is a mail.
@@ -242,7 +241,7 @@ impl Parts {
         mails_to_agents_launch_anew();
         let agents = self.agents.as_mut_slice();
         let items = self.items.as_slice();
-        let prepared = prepares::prepare(agents, items, post, alloc, name, cause)?;
+        let prepared = cluster_parts::prepare(agents, items, post, alloc, name, cause)?;
         Ok(Made {
             verdict: prepared.verdict,
             outputs: sending(alloc, Listed::new(alloc)),
@@ -266,7 +265,7 @@ impl Parts {
         ensures post { Roomier (P.count post.old) (P.count post.new) (P.gives post.old) (P.gives post.new) }
         ensures room { Grows (length self.old.items) (length self.new.items) (P.room post.new) }
     {
-        commits::commit(
+        cluster_parts::commit(
             self.agents.as_mut_slice(),
             &mut self.items,
             post,
@@ -284,7 +283,7 @@ impl Parts {
         ensures config { self.new.config ≡ self.old.config }
         ensures items { length self.new.items ≡ length self.old.items }
     {
-        stops::stop_before(self.agents.as_mut_slice(), name)?;
+        cluster_parts::stop_before(self.agents.as_mut_slice(), name)?;
         Ok(ends_with(alloc, Verdict::Ok))
     }
 
@@ -297,7 +296,7 @@ impl Parts {
         ensures config { self.new.config ≡ self.old.config }
         ensures items { length self.new.items ≡ length self.old.items }
     {
-        stops::stop_after(self.agents.as_mut_slice(), name)?;
+        cluster_parts::stop_after(self.agents.as_mut_slice(), name)?;
         Ok(ends_with(alloc, Verdict::Ok))
     }
 

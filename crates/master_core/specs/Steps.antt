@@ -1,12 +1,15 @@
 -- A master's steps, as the model of a cluster has them.
 use Rattle.std.specs.declared.alloc.AllocError.{AllocError}
-use Rattle.std.specs.Prelude.{◌≡◌, ⊤, ℕ, List, [], map, Option, Some, None, Result, Ok, Err}
+use Rattle.std.specs.Prelude.{◌≡◌, ⊤, ℕ, Bool, false, List, [], map, Option, Some, None, Result, Ok, Err}
+use Rattle.std.specs.List.{list_any}
+use Rattle.names_core.specs.Ids.{Numbered}
 use Rattle.mails.specs.declared.mail.AgentMail.{AgentMail}
 use Rattle.mails.specs.declared.refusal.MasterRefusal.{MasterRefusal}
 use Rattle.quantity.specs.declared.rows.Row.{Row}
 use Rattle.quantity.specs.Rows.{plus_rows}
 use Rattle.cluster_model.specs.Sides.{SendHello, offer_rows}
 use Rattle.cluster_model.specs.Masters.{AtSide, Doing, Master, after_doing, moved, moving}
+use Rattle.cluster_model.specs.Calls.{is_stream}
 use Rattle.cluster_model.specs.Mails.{having_heard}
 use Rattle.agent_sides.specs.Looks.{told_of}
 use Rattle.master_state.specs.declared.fault.MasterFault.{MasterFault}
@@ -49,6 +52,11 @@ greeting m = moving m (map (λ s. AtSide s.name SendHello) m.sides)
 -- the sum of an agent's current offers
 abbrev pub offered_on : Master → List ℕ → List Row
 offered_on m agent = plus_rows [] (offer_rows (told_of agent (λ s. s.offers) [] m.sides))
+
+-- whether a stream is the open one of a framework
+abbrev pub is_open : Numbered → Option Master → Bool
+is_open stream None = false
+is_open stream (Some m) = list_any (λ f. is_stream stream f.stream) m.registers.frameworks
 
 -- ---- for private clauses
 

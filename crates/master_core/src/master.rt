@@ -1,7 +1,8 @@
 //! Masters.
 
 ghost use Rattle.std.specs.Prelude.{◌≡◌, Some, None, IfOk, IfErr, IfSome, option_and_then, option_map};
-ghost use Rattle.cluster_model.specs.Calls.{called};
+ghost use Rattle.std.specs.List.{list_any};
+ghost use Rattle.cluster_model.specs.Calls.{called, is_stream};
 ghost use Rattle.cluster_model.specs.Masters.{framework_of, stream_of};
 ghost use Rattle.cluster_model.specs.Mails.{hung_up, ticked};
 ghost use Rattle.cluster_model.specs.Rounds.{allocated};
@@ -9,13 +10,14 @@ ghost use Rattle.master_state.specs.States.{fresh};
 ghost use Rattle.master_state.specs.Works.{Gave, master_of};
 ghost use Rattle.master_mails.specs.Steps.{FitsRecord, lost_by};
 ghost use Rattle.side_fits.specs.Fits.{MailFitsAt};
-ghost use Rattle.master_core.specs.Steps.{Answers, Hears, greeting, of_memory, offered_on, outs_of};
+ghost use Rattle.master_core.specs.Steps.{Answers, Hears, greeting, is_open, of_memory, offered_on, outs_of};
 
 use crate::answer::answer;
 use crate::offered::sum_of;
 use crate::settle::settle;
 use agent_sides::Config;
-use mails::{AgentMail, Call, MasterRefusal};
+use frameworks::is_subscriber;
+use mails::{AgentMail, Call, Framework, MasterRefusal};
 use master_mails::{hang_up, lose_agent, mail as hear, tick};
 use master_rounds::allocate;
 use master_state::{MasterFault, Outs, State};
@@ -70,6 +72,15 @@ fn lose(state: &mut State, alloc: Global, agent: &AgentName) -> Result<(), Maste
     }
 }
 
+/// Whether this is the open stream of one of these.
+fn is_open_in(frameworks: &[Framework], stream: StreamId) -> bool
+    ensures { result ≡ list_any (λ f. is_stream stream f.stream) frameworks.now }
+{
+    frameworks
+        .iter()
+        .any(|framework| is_subscriber(framework, stream))
+}
+
 impl Master {
     /// A master that begins a run over these agents, and a Hello to each.
     pub fn start(alloc: Global, run: Run, config: &Config) -> Result<(Master, Outs), MasterFault>
@@ -94,6 +105,16 @@ impl Master {
             return None;
         };
         state.frameworks.stream_of(framework)?
+    }
+
+    /// Whether this is a framework's open stream. It takes time for each framework.
+    pub fn is_open(&self, stream: StreamId) -> bool
+        ensures { result ≡ is_open stream self.now }
+    {
+        match &self.state {
+            Some(state) => is_open_in(state.frameworks.as_slice(), stream),
+            None => false,
+        }
     }
 
     /// Answers a call that came with this stream, or with none. It is refused with

@@ -80,7 +80,7 @@ one_waits d xs i j x lt at same waits =
     let fails : list_all test (take i xs) ≡ false = one_fails test (take i xs) j x (take_of_get i xs j x lt at) (or_neither x.given (same_queue d x.direction) waits same) in
     rw (take-map item_of i xs, list_all-map (λ (k : Item). k.given || not (same_queue d k.direction)) item_of (take i xs)) fails
 
-item_at : (xs : List Sent) (i : ℕ) (x : Sent) → slice_get xs i ≡ Some x → slice_get (items_of xs) i ≡ Some (item_of x)
+pub item_at : (xs : List Sent) (i : ℕ) (x : Sent) → slice_get xs i ≡ Some x → slice_get (items_of xs) i ≡ Some (item_of x)
 item_at xs i x at = slice_get-map item_of xs i ∙ ap (option_map item_of) at
 
 -- ---- the cases in which the one at a place is next

@@ -1,3 +1,4 @@
 pub mod Handing
 pub mod Keeping
 pub mod Lists
+pub mod Seeking

@@ -1,5 +1,5 @@
 -- Calls and queues of mails, of which each is handed out once.
-use Rattle.std.specs.Prelude.{ℕ, ◌-◌, List, [], Bool, true, false, ◌&&◌, ◌||◌, not, ◌==◌, nat_lt, take, Option, None, Some}
+use Rattle.std.specs.Prelude.{◌≡◌, IfSome, ℕ, ◌-◌, List, [], Bool, true, false, ◌&&◌, ◌||◌, not, ◌==◌, nat_lt, take, Option, None, Some}
 use Rattle.std.specs.List.{slice_get, list_all}
 use Rattle.post_rules.specs.declared.direction.Direction.{Direction}
 use Rattle.post_rules.specs.declared.direction.Direction.TheVariants.{ToAgent, FromAgent}
@@ -27,6 +27,10 @@ is_next before (Some item) = not item.given && nothing_waits item.direction befo
 -- what is handed out next: each call, and of each queue the first that waits; numbers are from 1
 abbrev pub hands_out : List Item → ℕ → Bool
 hands_out items n = nat_lt 0 n && is_next (take (n - 1) items) (slice_get items (n - 1))
+
+-- this number is that of the first that waits in the queue of a direction
+abbrev pub IsFirstWaiting : Direction → List Item → ℕ → Type 0
+IsFirstWaiting d items n = (hands_out items n ≡ true) × IfSome (slice_get items (n - 1)) (λ i. same_queue d i.direction ≡ true)
 
 abbrev pub handed_over : Item → Item
 handed_over i = record { direction = i.direction; given = true }

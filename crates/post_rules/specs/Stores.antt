@@ -1,5 +1,5 @@
 -- How queues are kept: with each item the number of the one before it in its queue, and of each queue the number of its last.
-use Rattle.std.specs.Prelude.{◌≡◌, ◌<◌, ◌≤◌, ℕ, ◌-◌, List, true, false, take, length, map, nat_eq, unwrap_or, Some}
+use Rattle.std.specs.Prelude.{◌≡◌, ◌<◌, ◌≤◌, ℕ, suc, zero, ◌-◌, List, true, false, take, length, map, nat_eq, unwrap_or, Some}
 use Rattle.std.specs.List.{slice_get}
 use Rattle.std.specs.declared.hash.FoldHasher.{FoldHasher}
 use Rattle.std.specs.declared.hash.BuildHasherDefault.{BuildHasherDefault}
@@ -8,7 +8,7 @@ use Rattle.post_rules.specs.declared.direction.Direction.{Direction}
 use Rattle.post_rules.specs.declared.direction.Direction.TheVariants.{Call, ToAgent, FromAgent}
 use Rattle.post_rules.specs.declared.stores.Lasts.{Lasts}
 use Rattle.post_rules.specs.declared.stores.Sent.{Sent}
-use Rattle.post_rules.specs.Queueing.{Item, same_queue}
+use Rattle.post_rules.specs.Queueing.{IsFirstWaiting, Item, nothing_waits, same_queue}
 
 abbrev pub LastsByAgent : Type 0
 LastsByAgent = HashMap ℕ Lasts (BuildHasherDefault FoldHasher)
@@ -45,3 +45,19 @@ pub record AreInOrder (sent : List Sent) : Type 0 where
 -- of each queue the number of its last is kept
 abbrev pub AreLasts : List Sent → LastsByAgent → Type 0
 AreLasts sent m = (d : Direction) → IsLast d sent (last_in m d)
+
+-- this number is that of the first that waits in the queue of a direction, or nothing waits there and the number is 0
+abbrev pub IsFirstOrNone : Direction → List Item → ℕ → Type 0
+IsFirstOrNone d items zero = nothing_waits d items ≡ true
+IsFirstOrNone d items (suc n) = IsFirstWaiting d items (suc n)
+
+-- what stands before this number, and all of it where there is no such number
+abbrev pub before : ℕ → List Sent → List Sent
+before zero sent = sent
+before (suc n) sent = take n sent
+
+-- of the queue of a direction, what stands from one number on doesn't wait but for the first that is known to
+pub record IsSought (d : Direction) (sent : List Sent) (number first : ℕ) : Type 0 where
+  pub last : IsLast d (before first sent) number
+  pub within : first ≤ length sent
+  pub waits : (s : Sent) → 0 < first → slice_get sent (first - 1) ≡ Some s → (s.given ≡ false) × (same_queue d s.direction ≡ true)

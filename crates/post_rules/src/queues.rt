@@ -1,7 +1,7 @@
 //! Queues of what was put.
 
-ghost use Rattle.std.specs.Prelude.{◌≡◌, ◌<◌, ◌≤◌, ◌-◌, ◌++◌, ◌∷◌, [], ℕ, suc, true, false, length, set, slice_get, Some};
-ghost use Rattle.post_rules.specs.Queueing.{Item, handed_over, hands_out, nothing_waits};
+ghost use Rattle.std.specs.Prelude.{◌≡◌, ◌<◌, ◌≤◌, ◌-◌, ◌++◌, ◌∷◌, [], ℕ, suc, true, false, length, set, slice_get, IfNone, IfSome, Some};
+ghost use Rattle.post_rules.specs.Queueing.{IsFirstWaiting, Item, handed_over, hands_out, nothing_waits};
 
 use crate::direction::Direction;
 use crate::post::Post;
@@ -84,6 +84,19 @@ impl Post for Queues {
     {
         if let Some(stores) = &mut self.stores {
             stores.given(n);
+        }
+    }
+}
+
+impl Queues {
+    /// The number of the first that waits in the queue of a direction, None where nothing waits there; calls wait in none. It takes time for each that waits.
+    pub fn first_waiting(&self, direction: Direction) -> Option<u64>
+        ensures first { IfSome result (IsFirstWaiting direction self.now.items) }
+        ensures none { IfNone result (nothing_waits direction self.now.items ≡ true) }
+    {
+        match &self.stores {
+            Some(stores) => stores.first_waiting(direction),
+            None => None,
         }
     }
 }

@@ -1,9 +1,9 @@
 //! What queues are kept in.
 
-ghost use Rattle.std.specs.Prelude.{◌≡◌, ◌<◌, ◌≤◌, ◌-◌, ◌+◌, ◌++◌, ◌∷◌, [], ℕ, suc, Bool, true, false, length, not, ◌||◌, nat_eq, if◌then◌else◌, set, slice_get, take, vec_capacity, OnOk, Some};
+ghost use Rattle.std.specs.Prelude.{◌≡◌, ◌<◌, ◌≤◌, ◌-◌, ◌+◌, ◌++◌, ◌∷◌, [], ℕ, suc, Bool, true, false, length, not, ◌||◌, nat_eq, if◌then◌else◌, set, slice_get, take, vec_capacity, IfNone, IfSome, OnOk, Some};
 ghost use Rattle.std.specs.HashMap.{spare};
-ghost use Rattle.post_rules.specs.Queueing.{Item, handed_over, hands_out, is_next, nothing_waits, same_queue};
-ghost use Rattle.post_rules.specs.Stores.{AreInOrder, given_sent, items_of, lasts_of, last_in};
+ghost use Rattle.post_rules.specs.Queueing.{IsFirstWaiting, Item, handed_over, hands_out, is_next, nothing_waits, same_queue};
+ghost use Rattle.post_rules.specs.Stores.{AreInOrder, IsFirstOrNone, IsLast, given_sent, items_of, lasts_of, last_in};
 
 use crate::direction::Direction;
 use std::alloc::{AllocError, Global};
@@ -111,6 +111,21 @@ fn is_next(sent: &[Sent], index: usize) -> bool
     }
 }
 
+/// The number of the first that waits in the queue of a direction, whose last has this number; 0 where nothing waits there.
+fn first_of(sent: &[Sent], _direction: Direction, last: usize) -> usize
+    requires order { AreInOrder sent.now }
+    requires last { IsLast _direction sent.now last }
+    ensures { IsFirstOrNone _direction (items_of sent.now) result }
+{
+    let mut first = 0;
+    let mut number = last;
+    while number > 0 && !sent[number - 1].given {
+        first = number;
+        number = sent[number - 1].previous;
+    }
+    first
+}
+
 fn hand_out(sent: &mut Vec<Sent>, index: usize)
     requires { index < length sent.old.items }
     ensures items { (s : Sent) → slice_get sent.old.items index ≡ Some s → sent.new.items ≡ set sent.old.items index (given_sent s) }
@@ -160,6 +175,18 @@ impl Stores {
         ensures { result ≡ hands_out self.now.items n }
     {
         0 < n && is_next(&self.sent, (n - 1) as usize)
+    }
+
+    /// The number of the first that waits in the queue of a direction, None where nothing waits there. It takes time for each that waits.
+    pub(crate) fn first_waiting(&self, direction: Direction) -> Option<u64>
+        ensures first { IfSome result (IsFirstWaiting direction self.now.items) }
+        ensures none { IfNone result (nothing_waits direction self.now.items ≡ true) }
+    {
+        let first = first_of(&self.sent, direction, last_in(&self.lasts, direction));
+        if first == 0 {
+            return None;
+        }
+        Some(first as u64)
     }
 
     /// What was handed out has its mark.

@@ -1,5 +1,5 @@
-use Rattle.std.proofs.Common.{◌≡◌, ◌≤◌, ◌+◌, ℕ, length}
-use Rattle.cluster_core.specs.Posts.{Puts}
+use Rattle.std.proofs.Common.{length}
+use Rattle.cluster_core.specs.Putting.{Puts}
 use Rattle.cluster_core.proofs.advancing.put_all.Given as goal
 
 abbrev pub invariant-loop-item : goal.invariant-loop-item

@@ -1,10 +1,9 @@
-use Rattle.std.proofs.Common.{◌≤◌, ℕ, length, subst, sym}
+use Rattle.std.proofs.Common.{◌≤◌, ℕ, subst, sym}
 use Rattle.std.specs.Prelude.{OnOk}
 use Rattle.post_rules.specs.Numbers.{is_number}
 use Rattle.cluster_steps.specs.Steps.{step_of}
 use Rattle.cluster_steps.specs.declared.step.Step.{Step}
 use Rattle.cluster_core.specs.Running.{Passes}
-use Rattle.cluster_core.specs.Stories.{state_of}
 use Rattle.cluster_core.proofs.RunSteps.{numbers_so, passes_so}
 use Rattle.cluster_core.proofs.running.pass.Goals as goal
 

@@ -1,4 +1,4 @@
-use Rattle.std.proofs.Common.{◌∙◌, sym, ap, length}
+use Rattle.std.proofs.Common.{◌∙◌, sym}
 use Rattle.cluster_core.specs.Keeping.{story_of}
 use Rattle.cluster_core.specs.Stories.{state_of}
 use Rattle.cluster_core.proofs.RunSteps.{all_posts}

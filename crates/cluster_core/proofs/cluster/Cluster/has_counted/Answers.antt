@@ -1,4 +1,4 @@
-use Rattle.std.proofs.Common.{◌≡◌, suc, ◌+◌, length, arith}
+use Rattle.std.proofs.Common.{◌≡◌, suc, length, arith}
 use Rattle.cluster_core.specs.Stories.{state_of}
 use Rattle.cluster_core.proofs.Telling.{state_counts}
 use Rattle.cluster_core.proofs.cluster.Cluster.has_counted.Goals as goal

@@ -1,7 +1,7 @@
 use Rattle.std.proofs.Common.{List, sym, subst}
 use Rattle.cluster_laws.specs.declared.item.Item.{Item}
-use Rattle.cluster_core.specs.Agents.{KeptAgent}
-use Rattle.cluster_core.specs.Moves.{LaunchAnew}
+use Rattle.cluster_parts.specs.Agents.{KeptAgent}
+use Rattle.cluster_parts.specs.Moves.{LaunchAnew}
 use Rattle.cluster_core.proofs.Parting.{launches_anew}
 use Rattle.cluster_core.proofs.parts.Parts.prepare.Goals as goal
 

@@ -1,4 +1,4 @@
-use Rattle.std.proofs.Common.{Option, subst}
+use Rattle.std.proofs.Common.{subst}
 use Rattle.mails.specs.declared.call.Call.{Call}
 use Rattle.cluster_core.proofs.Parting.{AllTake, by_send}
 use Rattle.cluster_core.proofs.parts.Parts.send.Goals as goal

@@ -3,9 +3,9 @@ use Rattle.std.proofs.lemmas.List.{with_items_is}
 use Rattle.std.specs.Vec.{with_items}
 use Rattle.cluster_model.specs.Clusters.{StopBefore}
 use Rattle.cluster_steps.specs.declared.entry.Verdict.TheVariants as verdicts
-use Rattle.cluster_core.specs.Masters.{ends_with}
+use Rattle.cluster_parts.specs.Masters.{ends_with}
 use Rattle.cluster_core.specs.Parts.{Takes}
-use Rattle.cluster_core.specs.declared.masters.Made.{Made}
+use Rattle.cluster_parts.specs.declared.masters.Made.{Made}
 use Rattle.cluster_core.proofs.Parting.{by_agent}
 use Rattle.cluster_core.proofs.parts.Parts.stop_before.Goals as goal
 

@@ -1,0 +1,8 @@
+use Rattle.std.proofs.Common.{length, sym, ap, ◌∙◌}
+use Rattle.cluster_core.specs.Keeping.{story_of}
+use Rattle.cluster_core.specs.Stories.{state_of}
+use Rattle.cluster_core.proofs.RunSteps.{all_posts}
+use Rattle.cluster_core.proofs.cluster.Cluster.sent_count.Goals as goal
+
+pub returns : goal.returns
+returns g c = rw (← c.self.view_is) (ap length c.as_slice.ensures ∙ sym (all_posts (state_of (story_of c.self.inside.history)) c.self.inside.parts.items c.self.invariant.stands.as_others.as_items))

@@ -1,0 +1,14 @@
+pub mod Finding
+pub mod Making
+pub mod Stopping
+pub mod Committing
+pub mod Preparing
+pub mod Mastering
+pub mod StepsDone
+pub mod StepsServed
+pub mod Sendings
+pub mod Outgoing
+pub mod Hearing
+pub mod Greeting
+pub mod Openings
+pub mod Restarts

@@ -1,0 +1,95 @@
+-- Calls are sent, and events are taken.
+use Rattle.std.proofs.Common.{◌≡◌, ℕ, suc, Bool, false, List, [], ◌∷◌, ◌++◌, map, Option, Some, None, option_map, Ok, Err, refl, sym, ap, ◌∙◌, subst}
+use Rattle.event_json.specs.declared.event.Event as json
+use Rattle.mails.specs.declared.call.Call.{Call}
+use Rattle.mails.specs.declared.record.Durable.{Durable}
+use Rattle.master_state.specs.Works.{event_of}
+use Rattle.names_core.specs.Ids.{Numbered}
+use Rattle.cluster_model.specs.Clusters.{Cluster, Send, Step, Stream, Take, NoSuchMail, Fine}
+use Rattle.cluster_model.specs.Events.{Event}
+use Rattle.cluster_model.specs.Masters.{Master}
+use Rattle.cluster_model.specs.Steps.{Done, Marked, answer, history, sends, takes_event, takes_one}
+use Rattle.cluster_laws.specs.declared.item.Item.{Item}
+use Rattle.cluster_laws.specs.declared.item.Item.TheVariants as items
+use Rattle.cluster_laws.specs.Items.{StandIn}
+use Rattle.cluster_laws.specs.Runs.{AreRising, ids_of}
+use Rattle.cluster_steps.specs.declared.entry.Sent.TheVariants as entries
+use Rattle.cluster_steps.specs.declared.entry.Verdict.TheVariants as verdicts
+use Rattle.told_streams.specs.Kept.{AreWithin, kept_streams, untaken}
+use Rattle.told_streams.specs.Streams.{next_on, taken}
+use Rattle.cluster_parts.specs.Masters.{MasterMakes, StandsFor, taking}
+use Rattle.cluster_parts.specs.Moves.{Makes, Reached, kept_agents, sending}
+use Rattle.cluster_parts.proofs.Making.{ItemsStand, append_nothing, items_by}
+
+abbrev marks_so : Bool → Step → Marked
+marks_so b s = record { fell = b; step = s }
+
+pub send_made : ItemsStand → (c : Cluster) (stream : Option Numbered) (call : Call) (sent : List Item) → Reached c → StandIn c sent →
+    Makes c (Send stream call) verdicts.Ok (sending (entries.Call ∷ [])) (kept_agents c) (sent ++ items.Call stream call ∷ [])
+send_made law c stream call sent r stand = record {
+  done = sends c stream call;
+  answers = refl;
+  ends = refl;
+  brings = refl;
+  keeps_agents = refl;
+  keeps_items = items_by law c (marks_so false (Send stream call)) (sends c stream call) sent r refl stand;
+  leaves_master = refl;
+  leaves_streams = refl;
+  leaves_moment = refl;
+}
+
+pub record TakeLaws : Type 0 where
+  pub stand : ItemsStand
+  pub rising : (run : ℕ) (records : List Durable) (steps : List Marked) → AreRising (ids_of (history run records steps).state.streams)
+  pub next : (c : Cluster) (id : Numbered) → next_on id (kept_streams c.streams) ≡ option_map event_of (untaken c id)
+  pub answers : (c : Cluster) (id : Numbered) → answer c (Take id) ≡ takes_event c id (untaken c id)
+  pub takes : (streams : List Stream) (id : Numbered) → kept_streams (map (takes_one id) streams) ≡ taken id (kept_streams streams)
+  pub within : (c : Cluster) (id : Numbered) (event : Event) → AreRising (ids_of c.streams) → AreWithin c.streams → untaken c id ≡ Some event → AreWithin (map (takes_one id) c.streams)
+
+abbrev taken_so : Cluster → Numbered → Event → Done
+taken_so c id event = record {
+  entry = record { verdict = Fine; outs = record { events = []; closed = []; sent = []; taken = record { stream = id; event = event } ∷ [] } };
+  happenings = [];
+  after = record c { streams = map (takes_one id) c.streams; entries = suc c.entries };
+}
+
+take_one : TakeLaws → (c : Cluster) (id : Numbered) (event : Event) (master : Option (Option Master)) (sent : List Item) → Reached c → StandsFor c master sent (kept_streams c.streams) → untaken c id ≡ Some event →
+    MasterMakes c (Take id) c.last_tick (taking id (event_of event)) master sent (taken id (kept_streams c.streams))
+take_one laws c id event master sent r stands e = record {
+  done = taken_so c id event;
+  answers = answers;
+  ends = refl;
+  brings = refl;
+  gives = refl;
+  drafts = refl;
+  stands = record {
+    as_master = stands.as_master;
+    as_items = subst (StandIn (taken_so c id event).after) (append_nothing sent) (items_by laws.stand c (marks_so false (Take id)) (taken_so c id event) sent r answers stands.as_items);
+    as_streams = sym (laws.takes c.streams id);
+    within = laws.within c id event (subst (λ (x : Cluster). AreRising (ids_of x.streams)) (sym r.is) (laws.rising r.run r.records r.steps)) stands.within e;
+  };
+  leaves_parts = refl;
+  leaves_fallen = refl;
+  leaves_run = refl;
+  keeps_moment = refl;
+}
+  where
+    answers : answer c (Take id) ≡ Ok (taken_so c id event)
+    answers = laws.answers c id ∙ ap (takes_event c id) e
+
+pub take_made : TakeLaws → (c : Cluster) (id : Numbered) (event : json.Event) (master : Option (Option Master)) (sent : List Item) → Reached c → StandsFor c master sent (kept_streams c.streams) → next_on id (kept_streams c.streams) ≡ Some event →
+    MasterMakes c (Take id) c.last_tick (taking id event) master sent (taken id (kept_streams c.streams))
+take_made laws c id event master sent r stands e = by (untaken c id) refl (sym (laws.next c id) ∙ e)
+  where
+    by : (o : Option Event) → untaken c id ≡ o → option_map event_of (untaken c id) ≡ Some event → MasterMakes c (Take id) c.last_tick (taking id event) master sent (taken id (kept_streams c.streams))
+    by None f g = absurd (let clash : None ≡ Some event = ap (option_map event_of) (sym f) ∙ g in cc)
+    by (Some x) f g =
+        let same : event_of x ≡ event = (let s : Some (event_of x) ≡ Some event = ap (option_map event_of) (sym f) ∙ g in cc) in
+        subst (λ (y : json.Event). MasterMakes c (Take id) c.last_tick (taking id y) master sent (taken id (kept_streams c.streams))) same (take_one laws c id x master sent r stands f)
+
+pub take_refused : TakeLaws → (c : Cluster) (id : Numbered) → next_on id (kept_streams c.streams) ≡ None → answer c (Take id) ≡ Err NoSuchMail
+take_refused laws c id e = by (untaken c id) refl (sym (laws.next c id) ∙ e)
+  where
+    by : (o : Option Event) → untaken c id ≡ o → option_map event_of (untaken c id) ≡ None → answer c (Take id) ≡ Err NoSuchMail
+    by None f g = laws.answers c id ∙ ap (takes_event c id) f
+    by (Some x) f g = absurd (let clash : Some (event_of x) ≡ None = ap (option_map event_of) (sym f) ∙ g in cc)

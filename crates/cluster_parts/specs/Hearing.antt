@@ -1,0 +1,55 @@
+-- What is delivered to the master, and how it ends where the master refuses a mail that it has heard.
+use Rattle.std.specs.Prelude.{◌≡◌, List, Option, Some, None, Result, Ok, Err, ⊤}
+use Rattle.mails.specs.declared.refusal.MasterRefusal.{MasterRefusal}
+use Rattle.cluster_model.specs.Masters.{Master}
+use Rattle.cluster_laws.specs.declared.item.Item.{Item}
+use Rattle.cluster_laws.specs.declared.item.Item.TheVariants as items
+use Rattle.cluster_steps.specs.declared.entry.Verdict.{Verdict}
+use Rattle.cluster_steps.specs.declared.entry.Verdict.TheVariants as verdicts
+use Rattle.cluster_steps.specs.declared.fault.ClusterFault.{ClusterFault}
+use Rattle.cluster_steps.specs.declared.fault.ClusterFault.TheVariants.{NoSuchMail, MasterDown, AgentDown, DraftOpen, NoDraft, HistoryFull, TimeBack, NoSuchAgent, OutOfMemory}
+use Rattle.master_core.specs.declared.master.HeardMail.{HeardMail}
+use Rattle.master_state.specs.declared.fault.MasterFault.{MasterFault}
+use Rattle.told_streams.specs.declared.kept.KeptStream.{KeptStream}
+use Rattle.cluster_parts.specs.Masters.{Settles}
+use Rattle.cluster_parts.specs.declared.delivering.ForMaster.{ForMaster}
+use Rattle.cluster_parts.specs.declared.delivering.ForMaster.TheVariants as for_master
+use Rattle.cluster_parts.specs.declared.masters.Made.{Made}
+
+-- what was sent and isn't for the master, or wasn't sent
+abbrev pub IsNotForMaster : Option Item → Type 0
+IsNotForMaster None = ⊤
+IsNotForMaster (Some (items.Call stream call)) = ⊥
+IsNotForMaster (Some (items.ToAgent to)) = ⊤
+IsNotForMaster (Some (items.ToMaster to)) = ⊥
+
+-- a call or an agent's mail is for the master; of memory it may be refused
+abbrev pub IsForMaster : Result ForMaster ClusterFault → Option Item → Type 0
+IsForMaster (Ok (for_master.Call stream call)) sent = sent ≡ Some (items.Call stream call)
+IsForMaster (Ok (for_master.Mail to)) sent = sent ≡ Some (items.ToMaster to)
+IsForMaster (Err NoSuchMail) sent = IsNotForMaster sent
+IsForMaster (Err MasterDown) sent = ⊥
+IsForMaster (Err AgentDown) sent = ⊥
+IsForMaster (Err DraftOpen) sent = ⊥
+IsForMaster (Err NoDraft) sent = ⊥
+IsForMaster (Err HistoryFull) sent = ⊥
+IsForMaster (Err TimeBack) sent = ⊥
+IsForMaster (Err NoSuchAgent) sent = ⊥
+IsForMaster (Err OutOfMemory) sent = ⊤
+
+-- a step that was done is one that the master refused; any other end stays
+abbrev pub refusing : MasterRefusal → Verdict → Verdict
+refusing refusal verdicts.Ok = verdicts.MasterRefused refusal
+refusing refusal (verdicts.MasterRefused other) = verdicts.MasterRefused other
+refusing refusal (verdicts.AgentRefused other) = verdicts.AgentRefused other
+refusing refusal verdicts.OutOfMemory = verdicts.OutOfMemory
+
+-- why the master refused the mail that it heard, if it did
+abbrev pub with_refusal : Option MasterRefusal → Made → Made
+with_refusal None made = made
+with_refusal (Some refusal) made = record made { verdict = refusing refusal made.verdict }
+
+-- what becomes of what a mail brought out, refused or not
+abbrev pub SettlesHeard : Result HeardMail MasterFault → Made → Option (Option Master) → Option (Option Master) → List Item → List Item → List KeptStream → List KeptStream → Type 0
+SettlesHeard (Ok heard) made m n is js ss ts = (settled : Made) × (made ≡ with_refusal heard.refusal settled) × Settles (Ok heard.outs) settled m n is js ss ts
+SettlesHeard (Err fault) made m n is js ss ts = Settles (Err fault) made m n is js ss ts

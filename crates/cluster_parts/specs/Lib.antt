@@ -1,0 +1,10 @@
+pub mod Agents
+pub mod Causes
+pub mod Moves
+pub mod Sending
+pub mod Masters
+pub mod Posts
+pub mod Handing
+pub mod Hearing
+pub mod Restarting
+pub mod Opening

@@ -1,0 +1,39 @@
+-- What a cluster has at its opening.
+use Rattle.std.specs.Prelude.{◌≡◌, ℕ, false, List, Option, Some, Result, Ok, Err, ⊤}
+use Rattle.mails.specs.declared.record.Durable.{Durable}
+use Rattle.agent_sides.specs.declared.config.ConfiguredAgent.{ConfiguredAgent}
+use Rattle.cluster_model.specs.Masters.{Master}
+use Rattle.cluster_model.specs.Steps.{open_cluster, opening}
+use Rattle.cluster_laws.specs.Parts.{recovered_part}
+use Rattle.cluster_steps.specs.Steps.{outputs_of}
+use Rattle.master_core.specs.Steps.{greeting, outs_of}
+use Rattle.master_state.specs.States.{fresh}
+use Rattle.master_state.specs.Works.{master_of}
+use Rattle.master_state.specs.declared.fault.MasterFault.{MasterFault}
+use Rattle.master_state.specs.declared.fault.MasterFault.TheVariants as fault
+use Rattle.master_state.specs.declared.state.Outs.{Outs}
+use Rattle.cluster_parts.specs.Agents.{KeptAgent}
+use Rattle.cluster_parts.specs.Masters.{StandsFor}
+use Rattle.cluster_parts.specs.Moves.{kept_agents}
+use Rattle.cluster_parts.specs.declared.opening.Opened.{Opened}
+
+-- an agent that came up over its record
+abbrev pub up_over : Durable → KeptAgent
+up_over d = record { part = recovered_part d; is_down = false }
+
+-- the master that begins a run over configured agents
+abbrev pub new_master : ℕ → List ConfiguredAgent → Master
+new_master run agents = master_of (fresh run agents)
+
+-- a new master stands in its place and greets every agent; or memory was refused
+abbrev pub Starts : Result Outs MasterFault → Option (Option Master) → ℕ → List ConfiguredAgent → Type 0
+Starts (Ok outs) master run agents = (master ≡ Some (Some (new_master run agents))) × (outs ≡ outs_of (new_master run agents) (greeting (new_master run agents)))
+Starts (Err fault.OutOfMemory) master run agents = ⊤
+Starts (Err (fault.Refused refusal)) master run agents = ⊥
+
+-- what stands for the opening, and what its entry tells
+pub record Opens (run : ℕ) (records : List Durable) (opened : Opened) : Type 0 where
+  pub agents : opened.agents.items ≡ kept_agents (opening run records).state
+  pub stands : StandsFor (opening run records).state opened.master opened.items opened.streams
+  pub in_run : (opening run records).state.world.run.number ≡ run
+  pub outputs : opened.outputs ≡ outputs_of (open_cluster run records).entry.outs

@@ -1,0 +1,36 @@
+-- The master stops, and a new one begins the next run.
+use Rattle.std.specs.Prelude.{◌≡◌, ◌+◌, ℕ, nat_lt, if◌then◌else◌, List, map, Option, Some, None, Ok}
+use Rattle.agent_sides.specs.declared.config.ConfiguredAgent.{ConfiguredAgent}
+use Rattle.cluster_model.specs.Clusters.{Cluster, StopMaster}
+use Rattle.cluster_model.specs.Ids.{last_run}
+use Rattle.cluster_model.specs.Masters.{Master}
+use Rattle.cluster_model.specs.Steps.{Done, answer, fallen_answer}
+use Rattle.cluster_laws.specs.Parts.{configured, parts_of}
+use Rattle.cluster_laws.specs.declared.item.Item.{Item}
+use Rattle.cluster_steps.specs.Steps.{fell, outputs_of, verdict_of}
+use Rattle.told_streams.specs.declared.kept.KeptStream.{KeptStream}
+use Rattle.cluster_parts.specs.Masters.{StandsFor}
+use Rattle.cluster_parts.specs.Moves.{Reached}
+use Rattle.cluster_parts.specs.declared.masters.Made.{Made}
+
+-- the run behind this one; none behind the last one
+abbrev pub run_behind : ℕ → Option ℕ
+run_behind run = if nat_lt run last_run then Some (1 + run) else None
+
+-- what a stop of the master is taken on: with the agents of the opening's records, in this run
+abbrev pub StandingOver : List ConfiguredAgent → ℕ → Option (Option Master) → List Item → List KeptStream → Type 0
+StandingOver agents run master sent streams = (c : Cluster) × (r : Reached c) × (agents ≡ map configured r.records) × (c.world.run.number ≡ run) × StandsFor c master sent streams
+
+-- the master was stopped: how it ends, and what then stands for the master's part in this run; the agents are as they were
+pub record Restarts (c : Cluster) (made : Made) (run : ℕ) (master : Option (Option Master)) (sent : List Item) (streams : List KeptStream) : Type 0 where
+  pub done : Done
+  pub answers : (if fell made.verdict then fallen_answer c StopMaster else answer c StopMaster) ≡ Ok done
+  pub ends : made.verdict ≡ verdict_of done.entry.verdict
+  pub brings : made.outputs ≡ outputs_of done.entry.outs
+  pub gives : made.given ≡ made.outputs
+  pub drafts : made.durable ≡ None
+  pub stands : StandsFor done.after master sent streams
+  pub leaves_parts : parts_of done.after.world.channels ≡ parts_of c.world.channels
+  pub leaves_fallen : done.after.fallen ≡ c.fallen
+  pub in_run : done.after.world.run.number ≡ run
+  pub leaves_moment : done.after.last_tick ≡ c.last_tick

@@ -1,0 +1,147 @@
+//! Drafts are committed.
+
+ghost use Rattle.std.specs.Prelude.{◌≡◌, length, map, None, IfOk, IfErr, OnErr};
+ghost use Rattle.cluster_parts.specs.Moves.{Makes, Reached, Refuses, kept_agents, sending};
+ghost use Rattle.cluster_parts.specs.Posts.{Grows, Roomier};
+ghost use Rattle.cluster_parts.specs.Sending.{BringsNothing, BringsOut, item_from, sent_from};
+ghost use Rattle.cluster_laws.specs.Items.{StandIn};
+ghost use Rattle.cluster_model.specs.Clusters.{Cluster, Commit};
+ghost use Rattle.cluster_steps.specs.declared.entry.Verdict.TheVariants as verdicts;
+
+use crate::agents::ClusterAgent;
+use crate::items::Items;
+use crate::laws::commits_are_made;
+use crate::masters::{Made, sending_twice};
+use crate::stops::found;
+use cluster_laws::Item;
+use cluster_steps::{ClusterFault, Sent};
+use listed::Listed;
+use mail_copies::copy_agent_mail;
+use mails::{AgentMail, ToMaster};
+use names_core::AgentName;
+use post_rules::Post;
+use std::alloc::{AllocError, Global};
+
+/// The mails of a draft, as an entry tells them. They are there twice, to be kept and to be given away.
+#[derive(Drop)]
+struct ToldTwice {
+    sent: Listed<Sent>,
+    given: Listed<Sent>,
+}
+
+/// The mails of a draft, as they are told and as they are kept.
+#[derive(Drop)]
+struct Outgoing {
+    told: ToldTwice,
+    items: Listed<Item>,
+}
+
+fn to_master(alloc: Global, name: &AgentName, mail: &AgentMail) -> Result<ToMaster, AllocError>
+    ensures { IfOk result (λ to. to ≡ record { agent = name.now; mail = mail.now }) }
+{
+    Ok(ToMaster {
+        agent: name.copy(alloc)?,
+        mail: copy_agent_mail(alloc, mail)?,
+    })
+}
+
+/// The mails of an agent, as an entry tells them.
+fn sent_from(
+    alloc: Global,
+    name: &AgentName,
+    mails: &[AgentMail],
+) -> Result<Listed<Sent>, AllocError>
+    ensures { IfOk result (λ sent. sent ≡ map (sent_from name.now) mails.now) }
+{
+    let mut sent = Listed::from_vec(Vec::with_capacity(alloc, mails.len())?);
+    for mail in mails {
+        sent.push(Sent::ToMaster(to_master(alloc, name, mail)?))?;
+    }
+    Ok(sent)
+}
+
+/// The mails of an agent, as they are kept.
+fn items_from(
+    alloc: Global,
+    name: &AgentName,
+    mails: &[AgentMail],
+) -> Result<Listed<Item>, AllocError>
+    ensures { IfOk result (λ items. items ≡ map (item_from name.now) mails.now) }
+{
+    let mut items = Listed::from_vec(Vec::with_capacity(alloc, mails.len())?);
+    for mail in mails {
+        items.push(Item::ToMaster(to_master(alloc, name, mail)?))?;
+    }
+    Ok(items)
+}
+
+/// What an agent's open draft will send.
+fn draft_mails(
+    alloc: Global,
+    agent: &ClusterAgent,
+    name: &AgentName,
+) -> Result<Outgoing, ClusterFault>
+    ensures brings { IfOk result (BringsOut name.now agent.now.part.draft) }
+    ensures refused { IfErr result (BringsNothing agent.now.part.draft) }
+{
+    let Some(draft) = agent.draft() else {
+        return Err(ClusterFault::NoDraft);
+    };
+    let mails = draft.mails();
+    Ok(Outgoing {
+        told: ToldTwice {
+            sent: sent_from(alloc, name, mails)?,
+            given: sent_from(alloc, name, mails)?,
+        },
+        items: items_from(alloc, name, mails)?,
+    })
+}
+
+/// The agent's draft becomes its record, and its mails are kept, for which the post has room first.
+fn send_draft<P: Post>(
+    agents: &mut [ClusterAgent],
+    items: &mut Items,
+    post: &mut P,
+    alloc: Global,
+    name: &AgentName,
+) -> Result<ToldTwice, ClusterFault>
+    ensures made { IfOk result (λ told. (c : Cluster) → Reached c → agents.old ≡ kept_agents c → StandIn c items.old → Makes c (Commit name.now) verdicts.Ok (sending told.sent) agents.new items.new) }
+    ensures given { IfOk result (λ told. told.given ≡ told.sent) }
+    ensures refused { IfErr result (λ fault. (c : Cluster) → agents.old ≡ kept_agents c → Refuses c (Commit name.now) fault) }
+    ensures unchanged { OnErr result ((agents.new ≡ agents.old) × (items.new ≡ items.old)) }
+    ensures post { Roomier (P.count post.old) (P.count post.new) (P.gives post.old) (P.gives post.new) }
+    ensures room { Grows (length items.old) (length items.new) (P.room post.new) }
+{
+    commits_are_made();
+    let place = found(agents, name)?;
+    let agent = &mut agents[place];
+    if agent.is_down() {
+        return Err(ClusterFault::AgentDown);
+    }
+    let out = draft_mails(alloc, agent, name)?;
+    post.reserve(alloc, out.items.len())?;
+    items.append(out.items)?;
+    let _mails = agent.commit();
+    Ok(out.told)
+}
+
+/// The agent's draft becomes its record, and its mails are sent, for which the post has room first. It is refused with `C8 NoSuchAgent`,
+/// `C3 AgentDown` or `C5 NoDraft`, of several the first in this order, and with `C9 OutOfMemory`.
+pub fn commit<P: Post>(
+    agents: &mut [ClusterAgent],
+    items: &mut Items,
+    post: &mut P,
+    alloc: Global,
+    name: &AgentName,
+) -> Result<Made, ClusterFault>
+    ensures made { IfOk result (λ made. (c : Cluster) → Reached c → agents.old ≡ kept_agents c → StandIn c items.old → Makes c (Commit name.now) made.verdict made.outputs agents.new items.new) }
+    ensures given { IfOk result (λ made. made.given ≡ made.outputs) }
+    ensures durable { IfOk result (λ made. made.durable ≡ None) }
+    ensures refused { IfErr result (λ fault. (c : Cluster) → agents.old ≡ kept_agents c → Refuses c (Commit name.now) fault) }
+    ensures unchanged { OnErr result ((agents.new ≡ agents.old) × (items.new ≡ items.old)) }
+    ensures post { Roomier (P.count post.old) (P.count post.new) (P.gives post.old) (P.gives post.new) }
+    ensures room { Grows (length items.old) (length items.new) (P.room post.new) }
+{
+    let told = send_draft(agents, items, post, alloc, name)?;
+    Ok(sending_twice(alloc, told.sent, told.given))
+}

@@ -1,0 +1,176 @@
+//! What was sent to the master comes to it.
+
+ghost use Rattle.std.specs.Prelude.{◌≡◌, ◌+◌, ◌++◌, true, length, is_some, Some, Err, IfOk, IfErr, IfSome, OnErr, List, Option, Result, ℕ};
+ghost use Rattle.cluster_parts.specs.Causes.{item_at};
+ghost use Rattle.cluster_parts.specs.Hearing.{IsForMaster, SettlesHeard, with_refusal};
+ghost use Rattle.cluster_parts.specs.Masters.{MasterMakes, Standing, StandsFor};
+ghost use Rattle.cluster_parts.specs.Moves.{Reached, Refuses};
+ghost use Rattle.cluster_parts.specs.Posts.{Grows, Roomier};
+ghost use Rattle.cluster_parts.specs.declared.masters.Made.{Made as MadeSo};
+ghost use Rattle.cluster_laws.specs.Runs.{AreRising};
+ghost use Rattle.cluster_laws.specs.declared.item.Item.TheVariants as sent;
+ghost use Rattle.cluster_laws.specs.declared.item.Item.{Item as SentItem};
+ghost use Rattle.cluster_model.specs.Clusters.{Cluster, Deliver};
+ghost use Rattle.cluster_model.specs.Masters.{Master as ModelMaster};
+ghost use Rattle.cluster_steps.specs.declared.fault.ClusterFault.{ClusterFault as ClusterFaultSo};
+ghost use Rattle.mails.specs.declared.mail.ToMaster.{ToMaster as SentMail};
+ghost use Rattle.master_core.specs.Steps.{Hears};
+ghost use Rattle.master_core.specs.declared.master.HeardMail.{HeardMail as HeardSo};
+ghost use Rattle.master_mails.specs.Steps.{FitsRecord};
+ghost use Rattle.master_state.specs.declared.fault.MasterFault.{MasterFault as Fault};
+ghost use Rattle.side_fits.specs.Fits.{MailFitsAt};
+ghost use Rattle.told_streams.specs.Streams.{kept_ids};
+ghost use Rattle.told_streams.specs.declared.kept.KeptStream.{KeptStream};
+
+use crate::causes::item_at;
+use crate::items::Items;
+use crate::masters::{Made, settle};
+use crate::serving::deliver_call;
+use cluster_laws::{
+    Item, fallen_masters_do_not_serve, items_are_posts, mails_of_agents_fit, masters_leave_agents,
+    masters_stay_in_their_run, named_agents_are_found, sent_items_stand, streams_rise,
+};
+use cluster_safe::masters_step_alone;
+use cluster_steps::{ClusterFault, Verdict};
+use mail_copies::{copy_call, copy_to_master};
+use mails::{Call as SentCall, MasterRefusal, ToMaster};
+use master_core::{HeardMail, Master, MasterFault};
+use names_core::StreamId;
+use post_rules::Post;
+use std::alloc::Global;
+use told_streams::{Streams, kept_streams_follow, no_more_is_taken};
+
+/// What is for the master: a call with its stream, or a mail of an agent.
+#[derive(Debug, Drop)]
+enum ForMaster {
+    Call(Option<StreamId>, SentCall),
+    Mail(ToMaster),
+}
+
+/// A mail of an agent that was sent is one that the master may hear, and what it makes of it is the step's.
+fn mails_are_heard()
+    ensures made { (c : Cluster) (number : ℕ) (to : SentMail) (before after : Option ModelMaster) (answered : Result HeardSo Fault) (made : MadeSo) (n : Option (Option ModelMaster)) (items js : List SentItem) (ss ts : List KeptStream) →
+        Reached c → StandsFor c (Some before) items ss → item_at number items ≡ Some (sent.ToMaster to) → Hears answered before after to.agent to.mail → SettlesHeard answered made (Some after) n items js ss ts → MasterMakes c (Deliver number) c.last_tick made n js ts }
+    ensures rise { (c : Cluster) (number : ℕ) (to : SentMail) (before after : Option ModelMaster) (answered : Result HeardSo Fault) (items : List SentItem) (ss : List KeptStream) →
+        Reached c → StandsFor c (Some before) items ss → item_at number items ≡ Some (sent.ToMaster to) → Hears answered before after to.agent to.mail → IfOk answered (λ heard. AreRising (kept_ids ss ++ heard.outs.opened)) }
+    ensures number { (c : Cluster) (number : ℕ) (to : SentMail) (master : Option (Option ModelMaster)) (items : List SentItem) (ss : List KeptStream) →
+        Reached c → StandsFor c master items ss → item_at number items ≡ Some (sent.ToMaster to) → FitsRecord to.mail }
+    ensures fits { (c : Cluster) (number : ℕ) (to : SentMail) (before : Option ModelMaster) (items : List SentItem) (ss : List KeptStream) →
+        Reached c → StandsFor c (Some before) items ss → item_at number items ≡ Some (sent.ToMaster to) → IfSome before (λ m. MailFitsAt to.agent to.mail m.sides) }
+    ensures refused { (c : Cluster) (number : ℕ) (fault : ClusterFaultSo) (master : Option (Option ModelMaster)) (items : List SentItem) (ss : List KeptStream) →
+        StandsFor c master items ss → is_some master ≡ true → IsForMaster (Err fault) (item_at number items) → Refuses c (Deliver number) fault }
+{
+    fallen_masters_do_not_serve();
+    items_are_posts();
+    kept_streams_follow();
+    mails_of_agents_fit();
+    masters_leave_agents();
+    masters_stay_in_their_run();
+    masters_step_alone();
+    named_agents_are_found();
+    no_more_is_taken();
+    sent_items_stand();
+    streams_rise();
+}
+
+/// What was sent under a number, if it is for the master.
+fn for_master(alloc: Global, items: &[Item], number: u64) -> Result<ForMaster, ClusterFault>
+    ensures { IsForMaster result (item_at number items.now) }
+{
+    match item_at(items, number) {
+        Some(Item::Call(stream, call)) => Ok(ForMaster::Call(*stream, copy_call(alloc, call)?)),
+        Some(Item::ToMaster(to)) => Ok(ForMaster::Mail(copy_to_master(alloc, to)?)),
+        _ => Err(ClusterFault::NoSuchMail),
+    }
+}
+
+/// Why the master refused a mail, where it is still up.
+fn with_refusal(mut made: Made, refusal: Option<MasterRefusal>) -> Made
+    ensures { result ≡ with_refusal refusal made }
+{
+    if let (Some(refusal), Verdict::Ok) = (refusal, made.verdict) {
+        made.verdict = Verdict::MasterRefused(refusal);
+    }
+    made
+}
+
+/// Keeps and tells what a mail brought out, which it may have done though it was refused.
+fn settle_heard<P: Post>(
+    master: &mut Option<Master>,
+    items: &mut Items,
+    streams: &mut Streams,
+    post: &mut P,
+    alloc: Global,
+    heard: Result<HeardMail, MasterFault>,
+) -> Made
+    requires { IfOk heard (λ heard. AreRising (kept_ids streams.old ++ heard.outs.opened)) }
+    ensures settled { SettlesHeard heard result master.old master.new items.old items.new streams.old streams.new }
+    ensures post { Roomier (P.count post.old) (P.count post.new) (P.gives post.old) (P.gives post.new) }
+    ensures room { Grows (length items.old) (length items.new) (P.room post.new) }
+{
+    match heard {
+        Ok(heard) => {
+            let made = settle(master, items, streams, post, alloc, Ok(heard.outs));
+            with_refusal(made, heard.refusal)
+        }
+        Err(fault) => settle(master, items, streams, post, alloc, Err(fault)),
+    }
+}
+
+/// A mail of an agent that was sent under a number comes to the master.
+fn deliver_mail<P: Post>(
+    master: &mut Option<Master>,
+    items: &mut Items,
+    streams: &mut Streams,
+    post: &mut P,
+    alloc: Global,
+    number: u64,
+    to: ToMaster,
+) -> Result<Made, ClusterFault>
+    requires stands { Standing master.old items.old streams.old }
+    requires sent { item_at number items.old ≡ Some (sent.ToMaster to) }
+    ensures made { IfOk result (λ made. (c : Cluster) → Reached c → StandsFor c master.old items.old streams.old → MasterMakes c (Deliver number) c.last_tick made master.new items.new streams.new) }
+    ensures refused { IfErr result (λ fault. (c : Cluster) → StandsFor c master.old items.old streams.old → Refuses c (Deliver number) fault) }
+    ensures unchanged { OnErr result ((master.new ≡ master.old) × (items.new ≡ items.old) × (streams.new ≡ streams.old)) }
+    ensures post { Roomier (P.count post.old) (P.count post.new) (P.gives post.old) (P.gives post.new) }
+    ensures room { Grows (length items.old) (length items.new) (P.room post.new) }
+{
+    mails_are_heard();
+    let Some(serving) = master else {
+        return Err(ClusterFault::MasterDown);
+    };
+    let ToMaster { agent, mail } = to;
+    let heard = serving.mail(alloc, &agent, mail);
+    Ok(settle_heard(master, items, streams, post, alloc, heard))
+}
+
+/// A call or a mail that was sent under a number, from 1, comes to the master. It is refused with `C2 MasterDown` where no master serves,
+/// with `C1 NoSuchMail` where nothing was sent under the number or it is a mail to an agent, and with `C9 OutOfMemory`. A master that runs
+/// out of memory in the step is down.
+pub fn deliver<P: Post>(
+    master: &mut Option<Master>,
+    items: &mut Items,
+    streams: &mut Streams,
+    post: &mut P,
+    alloc: Global,
+    number: u64,
+) -> Result<Made, ClusterFault>
+    requires { Standing master.old items.old streams.old }
+    ensures made { IfOk result (λ made. (c : Cluster) → Reached c → StandsFor c master.old items.old streams.old → MasterMakes c (Deliver number) c.last_tick made master.new items.new streams.new) }
+    ensures refused { IfErr result (λ fault. (c : Cluster) → StandsFor c master.old items.old streams.old → Refuses c (Deliver number) fault) }
+    ensures unchanged { OnErr result ((master.new ≡ master.old) × (items.new ≡ items.old) × (streams.new ≡ streams.old)) }
+    ensures post { Roomier (P.count post.old) (P.count post.new) (P.gives post.old) (P.gives post.new) }
+    ensures room { Grows (length items.old) (length items.new) (P.room post.new) }
+{
+    mails_are_heard();
+    if master.is_none() {
+        return Err(ClusterFault::MasterDown);
+    }
+    match for_master(alloc, items.as_slice(), number) {
+        Ok(ForMaster::Call(stream, call)) => {
+            deliver_call(master, items, streams, post, alloc, number, stream, call)
+        }
+        Ok(ForMaster::Mail(to)) => deliver_mail(master, items, streams, post, alloc, number, to),
+        Err(fault) => Err(fault),
+    }
+}

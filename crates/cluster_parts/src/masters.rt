@@ -1,0 +1,186 @@
+//! What the master brings out is kept and told.
+
+ghost use Rattle.std.specs.Prelude.{◌≡◌, ◌+◌, ◌≤◌, ◌++◌, length, map, IfOk, OnOk, OnErr};
+ghost use Rattle.cluster_parts.specs.Masters.{Settles, ends_with, item_to, sent_to, tells};
+ghost use Rattle.cluster_parts.specs.Moves.{sending};
+ghost use Rattle.cluster_parts.specs.Posts.{Grows, Roomier};
+ghost use Rattle.cluster_laws.specs.Runs.{AreRising};
+ghost use Rattle.cluster_steps.specs.declared.entry.Verdict.TheVariants as verdicts;
+ghost use Rattle.told_streams.specs.Streams.{heard, kept_ids};
+
+use crate::items::Items;
+use cluster_laws::Item;
+use cluster_steps::{Outputs, Sent, Verdict};
+use listed::Listed;
+use mail_copies::copy_to_agent;
+use mails::{Durable, ToAgent};
+use master_core::{Master, MasterFault, Outs, StreamEvent};
+use names_core::StreamId;
+use post_rules::Post;
+use std::alloc::{AllocError, Global};
+use told_streams::Streams;
+
+/// How a step ended and what it brought out: its entry, but for the step. The outputs are there twice, to be kept and to be given away.
+#[derive(Debug, Drop)]
+pub struct Made {
+    pub verdict: Verdict,
+    pub outputs: Outputs,
+    pub given: Outputs,
+    /// A copy of the record of the draft that the step opened.
+    pub durable: Option<Durable>,
+}
+
+/// What a step brings out that only sends.
+pub fn sending(alloc: Global, sent: Listed<Sent>) -> Outputs
+    ensures { result ≡ sending sent }
+{
+    Outputs {
+        events: Listed::new(alloc),
+        closed: Listed::new(alloc),
+        sent,
+        taken: None,
+    }
+}
+
+/// A step that was taken and only sends. Both lists are the same.
+pub fn sending_twice(alloc: Global, sent: Listed<Sent>, given: Listed<Sent>) -> Made
+    ensures { result ≡ record { verdict = verdicts.Ok; outputs = sending sent; given = sending given; durable = None } }
+{
+    Made {
+        verdict: Verdict::Ok,
+        outputs: sending(alloc, sent),
+        given: sending(alloc, given),
+        durable: None,
+    }
+}
+
+/// A step that ended in this way and brings out nothing.
+pub fn ends_with(alloc: Global, verdict: Verdict) -> Made
+    ensures { result ≡ ends_with verdict }
+{
+    Made {
+        verdict,
+        outputs: sending(alloc, Listed::new(alloc)),
+        given: sending(alloc, Listed::new(alloc)),
+        durable: None,
+    }
+}
+
+/// The master's mails, as an entry tells them.
+fn sent_to(alloc: Global, mails: &[ToAgent]) -> Result<Listed<Sent>, AllocError>
+    ensures { IfOk result (λ sent. sent ≡ map sent_to mails.now) }
+{
+    let mut sent = Listed::from_vec(Vec::with_capacity(alloc, mails.len())?);
+    for to in mails {
+        sent.push(Sent::ToAgent(copy_to_agent(alloc, to)?))?;
+    }
+    Ok(sent)
+}
+
+/// The master's mails, as they are kept.
+fn items_to(alloc: Global, mails: &[ToAgent]) -> Result<Listed<Item>, AllocError>
+    ensures { IfOk result (λ items. items ≡ map item_to mails.now) }
+{
+    let mut items = Listed::from_vec(Vec::with_capacity(alloc, mails.len())?);
+    for to in mails {
+        items.push(Item::ToAgent(copy_to_agent(alloc, to)?))?;
+    }
+    Ok(items)
+}
+
+/// Keeps what was sent and hears what was told, or neither where memory is refused.
+fn keep(
+    items: &mut Items,
+    streams: &mut Streams,
+    alloc: Global,
+    mails: &[ToAgent],
+    opened: &[StreamId],
+    events: &[StreamEvent],
+) -> Result<(), AllocError>
+    requires { AreRising (kept_ids streams.old ++ opened.now) }
+    ensures items { OnOk result (items.new ≡ items.old ++ map item_to mails.now) }
+    ensures streams { OnOk result (streams.new ≡ heard opened.now events.now streams.old) }
+    ensures unchanged { OnErr result ((items.new ≡ items.old) × (streams.new ≡ streams.old)) }
+{
+    let before = items.as_slice().len();
+    let more = items_to(alloc, mails)?;
+    items.append(more)?;
+    match streams.hear(alloc, opened, events) {
+        Ok(()) => Ok(()),
+        Err(e) => {
+            items.cut(before);
+            Err(e)
+        }
+    }
+}
+
+/// What the master brought out, kept and told, once the post has room for its mails.
+fn tell<P: Post>(
+    items: &mut Items,
+    streams: &mut Streams,
+    post: &mut P,
+    alloc: Global,
+    outs: Outs,
+) -> Result<Made, AllocError>
+    requires { AreRising (kept_ids streams.old ++ outs.opened) }
+    ensures made { IfOk result (λ made. made ≡ tells outs) }
+    ensures items { OnOk result (items.new ≡ items.old ++ map item_to outs.mails) }
+    ensures streams { OnOk result (streams.new ≡ heard outs.opened outs.events streams.old) }
+    ensures unchanged { OnErr result ((items.new ≡ items.old) × (streams.new ≡ streams.old)) }
+    ensures post { Roomier (P.count post.old) (P.count post.new) (P.gives post.old) (P.gives post.new) }
+    ensures room { OnOk result (length outs.mails ≤ P.room post.new) }
+{
+    post.reserve(alloc, outs.mails.len())?;
+    let outputs = Outputs {
+        events: outs.events,
+        closed: outs.closed,
+        sent: sent_to(alloc, outs.mails.as_slice())?,
+        taken: None,
+    };
+    let given = outputs.copy(alloc)?;
+    let mails = outs.mails.as_slice();
+    keep(
+        items,
+        streams,
+        alloc,
+        mails,
+        outs.opened.as_slice(),
+        outputs.events.as_slice(),
+    )?;
+    Ok(Made {
+        verdict: Verdict::Ok,
+        outputs,
+        given,
+        durable: None,
+    })
+}
+
+/// Keeps and tells what the master's answer brought out. Where memory was refused the master has fallen, and nothing else changes.
+pub fn settle<P: Post>(
+    master: &mut Option<Master>,
+    items: &mut Items,
+    streams: &mut Streams,
+    post: &mut P,
+    alloc: Global,
+    answer: Result<Outs, MasterFault>,
+) -> Made
+    requires { IfOk answer (λ outs. AreRising (kept_ids streams.old ++ outs.opened)) }
+    ensures settled { Settles answer result master.old master.new items.old items.new streams.old streams.new }
+    ensures post { Roomier (P.count post.old) (P.count post.new) (P.gives post.old) (P.gives post.new) }
+    ensures room { Grows (length items.old) (length items.new) (P.room post.new) }
+{
+    match answer {
+        Ok(outs) => match tell(items, streams, post, alloc, outs) {
+            Ok(made) => made,
+            Err(_) => {
+                *master = None;
+                ends_with(alloc, Verdict::OutOfMemory)
+            }
+        },
+        Err(MasterFault::Refused(refusal)) => ends_with(alloc, Verdict::MasterRefused(refusal)),
+        Err(MasterFault::OutOfMemory) => {
+            *master = None;
+            ends_with(alloc, Verdict::OutOfMemory)
+        }
+    }
+}

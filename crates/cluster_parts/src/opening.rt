@@ -1,0 +1,127 @@
+//! A cluster opens.
+
+ghost use Rattle.std.specs.Prelude.{◌≡◌, ◌≤◌, ◌++◌, [], length, List, Option, Result, map, IfOk, IfErr, ℕ};
+ghost use Rattle.cluster_parts.specs.Masters.{Settles, StandsFor};
+ghost use Rattle.cluster_parts.specs.Moves.{kept_agents};
+ghost use Rattle.cluster_parts.specs.Opening.{Opens, Starts, up_over};
+ghost use Rattle.cluster_parts.specs.Posts.{Roomier};
+ghost use Rattle.cluster_parts.specs.declared.masters.Made.{Made as MadeSo};
+ghost use Rattle.cluster_laws.specs.Parts.{configured};
+ghost use Rattle.cluster_laws.specs.Runs.{AreRising};
+ghost use Rattle.cluster_laws.specs.declared.item.Item.{Item};
+ghost use Rattle.cluster_model.specs.Masters.{Master as ModelMaster};
+ghost use Rattle.cluster_model.specs.Openings.{GoodOpening};
+ghost use Rattle.cluster_model.specs.Steps.{open_cluster, opening};
+ghost use Rattle.cluster_steps.specs.Steps.{outputs_of};
+ghost use Rattle.cluster_steps.specs.declared.entry.Verdict.TheVariants as verdicts;
+ghost use Rattle.cluster_steps.specs.declared.fault.ClusterFault.TheVariants.{OutOfMemory};
+ghost use Rattle.mails.specs.declared.record.Durable.{Durable as Record};
+ghost use Rattle.master_state.specs.declared.fault.MasterFault.{MasterFault as Fault};
+ghost use Rattle.master_state.specs.declared.state.Outs.{Outs as OutsSo};
+ghost use Rattle.told_streams.specs.Streams.{kept_ids};
+ghost use Rattle.told_streams.specs.declared.kept.KeptStream.{KeptStream};
+
+use crate::agents::ClusterAgent;
+use crate::items::Items;
+use crate::masters::settle;
+use cluster_laws::{
+    fresh_masters_open, masters_begin_with_greetings, masters_leave_agents, opening_items_stand,
+};
+use cluster_safe::masters_step_alone;
+use cluster_steps::{ClusterFault, Outputs, Verdict};
+use mail_copies::copy_record;
+use mails::Durable;
+use master_core::{Config, Master, MasterFault, Outs};
+use names_core::Run;
+use post_rules::Post;
+use std::alloc::{AllocError, Global};
+use told_streams::Streams;
+
+/// What a cluster has at its opening, and what the opening's entry tells.
+#[derive(Drop)]
+pub struct Opened {
+    pub master: Option<Master>,
+    pub agents: Vec<ClusterAgent>,
+    pub items: Items,
+    pub streams: Streams,
+    pub outputs: Outputs,
+}
+
+/// A new master that greets every agent stands for the opening, and so do agents that come up over their records.
+fn openings_are_made()
+    ensures made { (run : ℕ) (records : List Record) (answered : Result OutsSo Fault) (made : MadeSo) (started n : Option (Option ModelMaster)) (js : List Item) (ts : List KeptStream) →
+        GoodOpening run records → Starts answered started run (map configured records) → Settles answered made started n [] js [] ts → made.verdict ≡ verdicts.Ok → StandsFor (opening run records).state n js ts × (made.outputs ≡ outputs_of (open_cluster run records).entry.outs) }
+    ensures runs { (run : ℕ) (records : List Record) → (opening run records).state.world.run.number ≡ run }
+    ensures agents { (run : ℕ) (records : List Record) → map up_over records ≡ kept_agents (opening run records).state }
+    ensures rise { (run : ℕ) (records : List Record) (answered : Result OutsSo Fault) (started : Option (Option ModelMaster)) → Starts answered started run (map configured records) → IfOk answered (λ outs. AreRising (kept_ids [] ++ outs.opened)) }
+{
+    fresh_masters_open();
+    masters_begin_with_greetings();
+    masters_leave_agents();
+    masters_step_alone();
+    opening_items_stand();
+}
+
+/// A new master of a run in place of what was there, and its greetings.
+pub fn start_in(
+    master: &mut Option<Master>,
+    alloc: Global,
+    config: &Config,
+    run: Run,
+) -> Result<Outs, MasterFault>
+    ensures { Starts result master.new run config.now }
+{
+    match Master::start(alloc, run, config) {
+        Ok((new, outs)) => {
+            *master = Some(new);
+            Ok(outs)
+        }
+        Err(fault) => Err(fault),
+    }
+}
+
+/// The agents that come up over copies of their records.
+fn recover_all(alloc: Global, records: &[Durable]) -> Result<Vec<ClusterAgent>, AllocError>
+    ensures { IfOk result (λ agents. agents.items ≡ map up_over records.now) }
+{
+    let mut agents = Vec::with_capacity(alloc, records.len())?;
+    for durable in records {
+        agents.push(ClusterAgent::recover(alloc, copy_record(alloc, durable)?)?)?;
+    }
+    Ok(agents)
+}
+
+/// What a cluster of these agents has at its opening: they come up over copies of the records, and the first master begins this run and
+/// greets each. The post has room for the greetings. Of its faults there is `C9 OutOfMemory` alone.
+pub fn open_parts<P: Post>(
+    post: &mut P,
+    alloc: Global,
+    config: &Config,
+    records: &[Durable],
+    run: Run,
+) -> Result<Opened, ClusterFault>
+    requires good { GoodOpening run records.now }
+    requires configured { config.now ≡ map configured records.now }
+    ensures opens { IfOk result (Opens run records.now) }
+    ensures refused { IfErr result (λ fault. fault ≡ OutOfMemory) }
+    ensures post { Roomier (P.count post.old) (P.count post.new) (P.gives post.old) (P.gives post.new) }
+    ensures room { IfOk result (λ opened. length opened.items ≤ P.room post.new) }
+{
+    openings_are_made();
+    let agents = recover_all(alloc, records)?;
+    let mut master = None;
+    let mut items = Items::new(alloc);
+    let mut streams = Streams::new(alloc);
+    let answer = start_in(&mut master, alloc, config, run);
+    let made = settle(&mut master, &mut items, &mut streams, post, alloc, answer);
+    match made.verdict {
+        Verdict::Ok => Ok(Opened {
+            master,
+            agents,
+            items,
+            streams,
+            outputs: made.outputs,
+        }),
+        _ => Err(ClusterFault::OutOfMemory),
+    }
+}

@@ -1,0 +1,97 @@
+//! The master stops, and a new one begins the next run.
+
+ghost use Rattle.std.specs.Prelude.{◌≡◌, ◌+◌, ◌++◌, length, true, false, nat_lt, List, Option, None, Result, map, IfOk, ℕ};
+ghost use Rattle.cluster_parts.specs.Masters.{Settles, StandsFor, ends_with};
+ghost use Rattle.cluster_parts.specs.Moves.{Reached};
+ghost use Rattle.cluster_parts.specs.Opening.{Starts};
+ghost use Rattle.cluster_parts.specs.Posts.{Grows, Roomier};
+ghost use Rattle.cluster_parts.specs.Restarting.{Restarts, StandingOver, run_behind};
+ghost use Rattle.cluster_parts.specs.declared.masters.Made.{Made as MadeSo};
+ghost use Rattle.cluster_laws.specs.Parts.{configured};
+ghost use Rattle.cluster_laws.specs.Runs.{AreRising};
+ghost use Rattle.cluster_laws.specs.declared.item.Item.{Item};
+ghost use Rattle.cluster_model.specs.Clusters.{Cluster};
+ghost use Rattle.cluster_model.specs.Ids.{last_run};
+ghost use Rattle.cluster_model.specs.Masters.{Master as ModelMaster};
+ghost use Rattle.cluster_steps.specs.declared.entry.Verdict.TheVariants as verdicts;
+ghost use Rattle.master_state.specs.declared.fault.MasterFault.{MasterFault as Fault};
+ghost use Rattle.master_state.specs.declared.state.Outs.{Outs};
+ghost use Rattle.told_streams.specs.Streams.{kept_ids};
+ghost use Rattle.told_streams.specs.declared.kept.KeptStream.{KeptStream};
+
+use crate::items::Items;
+use crate::masters::{Made, ends_with, settle};
+use crate::opening::start_in;
+use cluster_laws::{
+    fresh_masters_open, masters_begin_with_greetings, masters_leave_agents, sent_items_stand,
+    streams_rise,
+};
+use cluster_safe::masters_step_alone;
+use cluster_steps::Verdict;
+use master_core::{Config, Master};
+use names_core::Run;
+use post_rules::Post;
+use std::alloc::Global;
+use told_streams::{Streams, kept_streams_follow};
+
+/// The last run of a master.
+const LAST_RUN: u16 = 65_535;
+
+/// A new master of the next run that greets every agent stands for the state behind a stop of the master; behind the last run none does.
+fn restarts_are_made()
+    ensures anew { (c : Cluster) (r : Reached c) (answered : Result Outs Fault) (made : MadeSo) (master started n : Option (Option ModelMaster)) (items js : List Item) (ss ts : List KeptStream) →
+        StandsFor c master items ss → nat_lt c.world.run.number last_run ≡ true → Starts answered started (1 + c.world.run.number) (map configured r.records) → Settles answered made started n items js ss ts → Restarts c made (1 + c.world.run.number) n js ts }
+    ensures last { (c : Cluster) (master : Option (Option ModelMaster)) (items : List Item) (ss : List KeptStream) →
+        Reached c → StandsFor c master items ss → nat_lt c.world.run.number last_run ≡ false → Restarts c (ends_with verdicts.Ok) c.world.run.number None items ss }
+    ensures rise { (c : Cluster) (r : Reached c) (answered : Result Outs Fault) (master started : Option (Option ModelMaster)) (items : List Item) (ss : List KeptStream) (run : ℕ) →
+        StandsFor c master items ss → Starts answered started run (map configured r.records) → IfOk answered (λ outs. AreRising (kept_ids ss ++ outs.opened)) }
+{
+    fresh_masters_open();
+    kept_streams_follow();
+    masters_begin_with_greetings();
+    masters_leave_agents();
+    masters_step_alone();
+    sent_items_stand();
+    streams_rise();
+}
+
+/// The run behind this one; none behind the last one.
+fn run_behind(run: Run) -> Option<Run>
+    ensures { result ≡ run_behind run }
+{
+    if run.number() < LAST_RUN {
+        Some(Run::new(run.number() + 1))
+    } else {
+        None
+    }
+}
+
+/// The master stops: every stream closes untold, and what waits on it can still be taken. A new one begins the next run, with the agents of
+/// the configuration, and greets each. Behind the last run, 65,535, none comes, and none where memory is refused. It is never refused.
+pub fn stop_master<P: Post>(
+    master: &mut Option<Master>,
+    config: &Config,
+    items: &mut Items,
+    streams: &mut Streams,
+    post: &mut P,
+    alloc: Global,
+    run: &mut Run,
+) -> Made
+    requires { StandingOver config.now run.old master.old items.old streams.old }
+    ensures made { (c : Cluster) (r : Reached c) → config.now ≡ map configured r.records → c.world.run.number ≡ run.old → StandsFor c master.old items.old streams.old → Restarts c result run.new master.new items.new streams.new }
+    ensures post { Roomier (P.count post.old) (P.count post.new) (P.gives post.old) (P.gives post.new) }
+    ensures room { Grows (length items.old) (length items.new) (P.room post.new) }
+{
+    restarts_are_made();
+    match run_behind(*run) {
+        Some(next) => {
+            *run = next;
+            let answer = start_in(master, alloc, config, next);
+            settle(master, items, streams, post, alloc, answer)
+        }
+        None => {
+            *master = None;
+            ends_with(alloc, Verdict::Ok)
+        }
+    }
+}

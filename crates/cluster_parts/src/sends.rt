@@ -1,0 +1,127 @@
+//! Calls are sent, and events are taken.
+
+ghost use Rattle.std.specs.Prelude.{◌≡◌, ◌+◌, ◌++◌, ◌∷◌, [], length, List, Option, Some, None, IfOk, IfErr, OnErr};
+ghost use Rattle.cluster_parts.specs.Masters.{MasterMakes, StandsFor, taking, taking_out};
+ghost use Rattle.cluster_parts.specs.Moves.{Makes, Reached, Refuses, kept_agents, sending};
+ghost use Rattle.cluster_parts.specs.Posts.{Grows, Roomier};
+ghost use Rattle.cluster_parts.specs.Sending.{MayLackEvent};
+ghost use Rattle.cluster_laws.specs.Items.{StandIn};
+ghost use Rattle.cluster_laws.specs.declared.item.Item.{Item};
+ghost use Rattle.cluster_laws.specs.declared.item.Item.TheVariants as items;
+ghost use Rattle.cluster_model.specs.Clusters.{Cluster, Send, Take};
+ghost use Rattle.cluster_model.specs.Masters.{Master};
+ghost use Rattle.cluster_steps.specs.declared.entry.Sent.TheVariants as entries;
+ghost use Rattle.cluster_steps.specs.declared.entry.Verdict.TheVariants as verdicts;
+ghost use Rattle.cluster_steps.specs.declared.fault.ClusterFault.TheVariants.{NoSuchMail, OutOfMemory};
+ghost use Rattle.event_json.specs.declared.event.Event as told;
+ghost use Rattle.mails.specs.declared.call.Call.{Call};
+ghost use Rattle.names_core.specs.Ids.{Numbered};
+ghost use Rattle.told_streams.specs.Kept.{kept_streams};
+ghost use Rattle.told_streams.specs.Streams.{next_on, taken};
+
+use crate::event_copies::copy_event;
+use crate::items::Items;
+use crate::masters::{Made, sending_twice};
+use cluster_laws::{Item, sent_items_stand, streams_rise};
+use cluster_steps::{ClusterFault, Outputs, Sent, Verdict};
+use event_json::Event;
+use listed::Listed;
+use mails::Call as SentCall;
+use master_core::StreamEvent;
+use names_core::StreamId;
+use post_rules::Post;
+use std::alloc::Global;
+use told_streams::{Streams, kept_streams_are_found, kept_streams_follow, no_more_is_taken};
+
+/// A call is sent, and the agents are as they were.
+fn sends_are_made()
+    ensures { (c : Cluster) (stream : Option Numbered) (call : Call) (sent : List Item) → Reached c → StandIn c sent →
+        Makes c (Send stream call) verdicts.Ok (sending (entries.Call ∷ [])) (kept_agents c) (sent ++ items.Call stream call ∷ []) }
+{
+    sent_items_stand();
+}
+
+/// The first event that waits on a stream is taken; where none waits the step is refused.
+fn takes_are_made()
+    ensures made { (c : Cluster) (id : Numbered) (event : told.Event) (master : Option (Option Master)) (sent : List Item) → Reached c → StandsFor c master sent (kept_streams c.streams) → next_on id (kept_streams c.streams) ≡ Some event →
+        MasterMakes c (Take id) c.last_tick (taking id event) master sent (taken id (kept_streams c.streams)) }
+    ensures refused { (c : Cluster) (id : Numbered) → next_on id (kept_streams c.streams) ≡ None → Refuses c (Take id) NoSuchMail }
+{
+    kept_streams_are_found();
+    kept_streams_follow();
+    no_more_is_taken();
+    sent_items_stand();
+    streams_rise();
+}
+
+/// A framework sends a call, on a stream or on none; the stream may be one that was never opened. The post has room for the call. It is
+/// refused with `C9 OutOfMemory` alone.
+pub fn send<P: Post>(
+    items: &mut Items,
+    post: &mut P,
+    alloc: Global,
+    stream: Option<StreamId>,
+    call: SentCall,
+) -> Result<Made, ClusterFault>
+    ensures made { IfOk result (λ made. (c : Cluster) → Reached c → StandIn c items.old → Makes c (Send stream call) made.verdict made.outputs (kept_agents c) items.new) }
+    ensures given { IfOk result (λ made. made.given ≡ made.outputs) }
+    ensures durable { IfOk result (λ made. made.durable ≡ None) }
+    ensures memory { IfErr result (λ fault. fault ≡ OutOfMemory) }
+    ensures unchanged { OnErr result (items.new ≡ items.old) }
+    ensures post { Roomier (P.count post.old) (P.count post.new) (P.gives post.old) (P.gives post.new) }
+    ensures room { Grows (length items.old) (length items.new) (P.room post.new) }
+{
+    sends_are_made();
+    let mut more = Listed::new(alloc);
+    more.push(Item::Call(stream, call))?;
+    let mut sent = Listed::new(alloc);
+    sent.push(Sent::Call)?;
+    let mut given = Listed::new(alloc);
+    given.push(Sent::Call)?;
+    post.reserve(alloc, 1)?;
+    items.append(more)?;
+    Ok(sending_twice(alloc, sent, given))
+}
+
+/// An event that was taken, and nothing else.
+fn taking(alloc: Global, stream: StreamId, event: Event) -> Outputs
+    ensures { result ≡ taking_out stream event }
+{
+    Outputs {
+        events: Listed::new(alloc),
+        closed: Listed::new(alloc),
+        sent: Listed::new(alloc),
+        taken: Some(StreamEvent { stream, event }),
+    }
+}
+
+/// A copy of the first event that waits on a stream, or `C1 NoSuchMail` where none waits.
+fn first_waiting(streams: &Streams, alloc: Global, id: StreamId) -> Result<Event, ClusterFault>
+    ensures event { IfOk result (λ event. next_on id streams.now ≡ Some event) }
+    ensures none { IfErr result (MayLackEvent (next_on id streams.now)) }
+{
+    match streams.next(id) {
+        Some(event) => Ok(copy_event(alloc, event)?),
+        None => Err(ClusterFault::NoSuchMail),
+    }
+}
+
+/// A framework takes the first event that waits on a stream, of any run. It is refused with `C1 NoSuchMail` where none waits, and with
+/// `C9 OutOfMemory`.
+pub fn take(streams: &mut Streams, alloc: Global, id: StreamId) -> Result<Made, ClusterFault>
+    ensures made { IfOk result (λ made. (c : Cluster) (master : Option (Option Master)) (sent : List Item) → Reached c → StandsFor c master sent streams.old → MasterMakes c (Take id) c.last_tick made master sent streams.new) }
+    ensures refused { IfErr result (λ fault. (c : Cluster) → streams.old ≡ kept_streams c.streams → Refuses c (Take id) fault) }
+    ensures unchanged { OnErr result (streams.new ≡ streams.old) }
+{
+    takes_are_made();
+    let copy = first_waiting(streams, alloc, id)?;
+    match streams.take(id) {
+        Some(event) => Ok(Made {
+            verdict: Verdict::Ok,
+            outputs: taking(alloc, id, event),
+            given: taking(alloc, id, copy),
+            durable: None,
+        }),
+        None => Err(ClusterFault::NoSuchMail),
+    }
+}
