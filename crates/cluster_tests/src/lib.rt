@@ -1,0 +1,9 @@
+//! Tests of clusters. They stand apart, so that the crates that they test need not be proved once more with them.
+#![tactic(auto)]
+
+#[cfg(test)]
+mod of_cluster_core_opening;
+#[cfg(test)]
+mod of_cluster_core_steps;
+#[cfg(test)]
+mod of_recorded_cluster;
