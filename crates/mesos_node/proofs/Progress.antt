@@ -1,12 +1,14 @@
 -- How far the answering of an input has come.
-use Rattle.std.proofs.Common.{◌≡◌, ℕ, List, [], ◌++◌, Option, None, Some, refl, sym, ap, ◌∙◌, append_assoc}
+use Rattle.std.proofs.Common.{◌≡◌, List, ℕ, [], ◌++◌, Option, Some, refl, sym, ap, ◌∙◌}
 use Rattle.std.proofs.lemmas.List.{append-nil}
 use Rattle.std.specs.Option.{IfSome}
 use Rattle.std.specs.Io.KnownBytes.{Appends, Consumes, IsAtEnd}
 use Rattle.frame_record.specs.declared.fault.FrameFault.{FrameFault}
 use Rattle.frame_record.specs.Records.{State as Standing, Reads, end_of}
-use Rattle.mesos_node.specs.Replies.{first_master, Asked, AppendsFront, IsAnswer, after_all, fault_in, replies}
-use Rattle.mesos_node.proofs.Written.{appends_more, appends_nothing, front_after, front_longer}
+use Rattle.mesos_node.specs.Replies.{first_master, Asked, IsAnswer, after_all, fault_in, replies}
+use Rattle.device_io.specs.Read.{all_consumed, consumes_more, consumes_nothing, if_known, some_left}
+use Rattle.device_io.specs.Writes.{AppendsFront}
+use Rattle.device_io.specs.Written.{appends_more, appends_nothing, front_after, front_longer}
 use Rattle.mesos_node.proofs.Replying.{after_all-append, after_none, replies-append, replies_none}
 
 -- so much of the input was read, these records stood on it, and their replies were written
@@ -17,16 +19,6 @@ pub record Progress (start now old new : Option (List ℕ)) (frames : Standing) 
   pub read : Reads consumed records frames
   pub written : Appends old new (replies first_master records)
   pub state : master ≡ after_all first_master records
-
-consumes_nothing : (start : Option (List ℕ)) → Consumes start start []
-consumes_nothing None = tt
-consumes_nothing (Some xs) = refl
-
-consumes_more : (start now then : Option (List ℕ)) (a b : List ℕ) → Consumes start now a → Consumes now then b → Consumes start then (a ++ b)
-consumes_more None now then a b h k = tt
-consumes_more (Some xs) None then a b h k = absurd h
-consumes_more (Some xs) (Some ys) None a b h k = absurd k
-consumes_more (Some xs) (Some ys) (Some zs) a b h k = h ∙ (ap (λ (t : List ℕ). a ++ t) k ∙ sym (append_assoc a b zs))
 
 pub begins : (start old : Option (List ℕ)) (frames : Standing) (master : Asked) → Reads [] [] frames → master ≡ first_master → Progress start start old old frames master
 begins start old frames master reads is = record {
@@ -58,20 +50,6 @@ goes_nowhere start now then old new frames master p took =
     let all : Consumes start then (p.consumed ++ []) = consumes_more start now then p.consumed [] p.taken took in
     let taken : Consumes start then p.consumed = rw (append-nil p.consumed) at all in
     record { consumed = p.consumed; records = p.records; taken = taken; read = p.read; written = p.written; state = p.state }
-
-pub if_known : (start : Option (List ℕ)) (P : List ℕ → Type 0) → ((input : List ℕ) → start ≡ Some input → P input) → IfSome start P
-if_known None P h = tt
-if_known (Some input) P h = h input refl
-
-all_consumed : (start now : Option (List ℕ)) (a input : List ℕ) → start ≡ Some input → Consumes start now a → IsAtEnd now → a ≡ input
-all_consumed None now a input e h k = absurd (let bad : ⊥ = cc in bad)
-all_consumed (Some xs) None a input e h k = absurd h
-all_consumed (Some xs) (Some ys) a input e h k = let same : xs ≡ input = cc in sym (append-nil a) ∙ (sym (ap (λ (t : List ℕ). a ++ t) k) ∙ (sym h ∙ same))
-
-some_left : (start now : Option (List ℕ)) (a input : List ℕ) → start ≡ Some input → Consumes start now a → (rest : List ℕ) × (input ≡ a ++ rest)
-some_left None now a input e h = absurd (let bad : ⊥ = cc in bad)
-some_left (Some xs) None a input e h = absurd h
-some_left (Some xs) (Some ys) a input e h = let same : xs ≡ input = cc in (ys, sym same ∙ h)
 
 -- at the end of the input
 pub ends : (start now old new : Option (List ℕ)) (frames : Standing) (master : Asked) (fault : Option FrameFault) → Progress start now old new frames master → IsAtEnd now → fault ≡ fault_in (end_of frames)

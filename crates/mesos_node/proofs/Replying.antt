@@ -3,8 +3,9 @@ use Rattle.std.proofs.Common.{◌≡◌, ℕ, ◌+◌, ◌<◌, List, [], ◌∷
 use Rattle.std.proofs.lemmas.List.{take_more, drop_more, map-append, take-append-drop, append-nil}
 use Rattle.frame_record.specs.Firsts.{bodies}
 use Rattle.call_json.specs.Calls.{read_call}
-use Rattle.mesos_node.specs.Replies.{Asked, AppendsFront, frames, reply, replies, after_all}
-use Rattle.mesos_node.proofs.Written.{front_after, front_longer}
+use Rattle.mesos_node.specs.Replies.{Asked, frames, reply, replies, after_all}
+use Rattle.device_io.specs.Writes.{AppendsFront}
+use Rattle.device_io.specs.Written.{front_after, front_longer}
 use Rattle.std.specs.Io.KnownBytes.{Appends}
 
 pub replies_none : (s : Asked) → replies s [] ≡ []

@@ -1,6 +1,5 @@
 -- What the program writes for the calls that it reads.
 use Rattle.std.specs.Prelude.{◌≡◌, ℕ, List, [], ◌∷◌, ◌++◌, map, flat_map, if◌then◌else◌, Option, None, Some, Result, Ok, Err, option_and_then}
-use Rattle.std.specs.Io.KnownBytes.{Appends}
 use Rattle.frame_record.specs.declared.fault.FrameFault.{FrameFault}
 use Rattle.frame_record.specs.Records.{State as Standing, Reads, record_text, end_of}
 use Rattle.names_core.specs.Ids.{Numbered}
@@ -94,7 +93,3 @@ fault_in (Err f) = Some f
 -- the text is what the records of the input are answered by, in run 1 and without agents, and the fault is what stands behind them
 abbrev pub IsAnswer : List ℕ → List ℕ → Option FrameFault → Type 0
 IsAnswer input text fault = (records : List (List ℕ)) × (s : Standing) × Reads input records s × (text ≡ replies first_master records) × (fault ≡ fault_in (end_of s))
-
--- a beginning of the bytes was written
-abbrev pub AppendsFront : Option (List ℕ) → Option (List ℕ) → List ℕ → Type 0
-AppendsFront old new bytes = (front rest : List ℕ) × (bytes ≡ front ++ rest) × Appends old new front

@@ -2,13 +2,14 @@
 
 ghost use Rattle.std.specs.Prelude.{◌≡◌, ◌<◌, ◌++◌, length, vec_len, List, ℕ, Option, None, Some, IfOk, IfSome, OnOk, OnErr};
 ghost use Rattle.std.specs.Io.KnownBytes.{Appends};
+ghost use Rattle.device_io.specs.Writes.{AppendsFront};
 ghost use Rattle.frame_record.specs.declared.fault.FrameFault.{FrameFault};
 ghost use Rattle.frame_record.specs.Records.{end_of};
-ghost use Rattle.mesos_node.specs.Replies.{IsAnswer, AppendsFront, fault_in, first_master};
+ghost use Rattle.mesos_node.specs.Replies.{IsAnswer, fault_in, first_master};
 
 use crate::fault::Stop;
-use crate::output::read_some;
 use crate::reply::answer_all;
+use device_io::read_some;
 use frame_record::{FrameFault, Reader, fault_stays, first_records_stay};
 use master_core::{Config, Master};
 use names_core::Run;

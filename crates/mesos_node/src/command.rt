@@ -13,6 +13,8 @@ use std::alloc::{AllocError, Global};
 pub enum Action {
     /// `calls`: answer the calls on standard input.
     Calls,
+    /// `replay`: take the steps on standard input.
+    Replay,
 }
 
 const ABOUT: &str =
@@ -31,26 +33,73 @@ A record has at most 1048576 bytes. A record that is no call, or whose call is r
 The status is 0 where the input ends behind a record, 2 where a frame is wrong (F1 BadSize, F2 TooLong, F3 Cut), and 3 where
 memory, the input or the output fails.";
 
+const REPLAY_ABOUT: &str =
+    "Replays a history of a cluster: reads the agents and then the steps, one JSON object a line, from standard input, and writes what comes of each step to standard output.";
+
+const REPLAY_HELP: &str =
+    "The first line says which agents there are, and what each owns in whole amounts:
+
+  {\"agents\":{\"a1\":{\"cpus\":4,\"mem\":4096}}}
+
+Each other line is a step. Its members, of which only `stream` of a send may lack:
+
+  {\"step\":\"send\",\"stream\":\"S1-1\",\"call\":CALL}      a framework sends a call of the Mesos scheduler API
+  {\"step\":\"deliver\",\"mail\":2}                       the master takes the call or mail of this number
+  {\"step\":\"allocate\"}                               the master makes a round of offers
+  {\"step\":\"tick\",\"now\":15}                          the time is so many seconds after the start
+  {\"step\":\"lose\",\"agent\":\"a1\"}                      the master takes the agent for lost
+  {\"step\":\"hangup\",\"stream\":\"S1-1\"}                 a stream of events is closed
+  {\"step\":\"take\",\"stream\":\"S1-1\"}                   a framework takes the next event of a stream
+  {\"step\":\"prepare\",\"agent\":\"a1\",\"mail\":1}          the agent drafts what it does at the mail of this number,
+  {\"step\":\"prepare\",\"agent\":\"a1\",\"cause\":\"start\"}   .. when it has come up (\"again\": at its next turn),
+  {\"step\":\"prepare\",\"agent\":\"a1\",\"launch\":\"L1-1\",\"state\":\"TASK_RUNNING\"}
+                                                    .. at its task's new state (or TASK_FINISHED, TASK_FAILED)
+  {\"step\":\"commit\",\"agent\":\"a1\"}                    the draft is the agent's record, and its mails are sent
+  {\"step\":\"stop_agent\",\"agent\":\"a1\",\"keep\":\"after\"}  the agent stops and comes up over its draft's record (\"before\": without it)
+  {\"step\":\"stop_master\"}                            the master stops, and a new one begins the next run
+
+Calls and mails have numbers from 1 on, in the order in which they are sent, and each can be delivered again and again. A line of
+spaces, tabs and carriage returns alone is passed over.
+
+For the opening, number 0, and each step a line says `NUMBER ok`, or why it was refused, as `7 C1 NoSuchMail`. Behind it stands what
+the step brought out: `> STREAM EVENT`, `x STREAM` for a stream that was closed, `# NUMBER RECEIVER MAIL` (of a call its type), and
+`< STREAM EVENT` for an event that was taken. At the end stands what each agent owns, what of it is offered, what its live tasks
+hold, and its tasks; then the number of entries of the history.
+
+Here the agent greets the master, and is seen to be there:
+
+  {\"agents\":{\"a1\":{\"cpus\":4,\"mem\":4096}}}
+  {\"step\":\"prepare\",\"agent\":\"a1\",\"mail\":1}
+  {\"step\":\"commit\",\"agent\":\"a1\"}
+  {\"step\":\"deliver\",\"mail\":2}
+
+The status is 0 where the input ends, 2 where a line is wrong (X1 NotAStep, X2 BadCall, X3 BadConfig, with the line's number before
+it), and 3 where memory, the input or the output fails.";
+
 fn app<'a>(alloc: Global) -> Result<Command<'a>, AllocError>
     ensures { IfOk result (λ app. app_of app ≡ command_line) }
 {
     let calls = Command::new(alloc, "calls")
         .about(CALLS_ABOUT)
         .after_help(CALLS_HELP);
-    let app = Command::new(alloc, "mesos_node")
+    let replay = Command::new(alloc, "replay")
+        .about(REPLAY_ABOUT)
+        .after_help(REPLAY_HELP);
+    let top = Command::new(alloc, "mesos_node")
         .about(ABOUT)
-        .subcommand_required(true)
-        .subcommand(calls)?;
+        .subcommand_required(true);
+    let with_calls = top.subcommand(calls)?;
+    let app = with_calls.subcommand(replay)?;
     Ok(app)
 }
 
 fn action_named(name: &str) -> Option<Action>
     ensures { result ≡ action_named name.now }
 {
-    if name == "calls" {
-        Some(Action::Calls)
-    } else {
-        None
+    match name {
+        "calls" => Some(Action::Calls),
+        "replay" => Some(Action::Replay),
+        _ => None,
     }
 }
 

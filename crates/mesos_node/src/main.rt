@@ -4,7 +4,6 @@
 mod calls;
 mod command;
 mod fault;
-mod output;
 mod reply;
 #[cfg(test)]
 mod tests;
@@ -12,19 +11,21 @@ mod tests;
 use calls::calls;
 use clap::error::ErrorKind;
 use command::{Action, command_of};
+use replays::replay;
 use std::process::ExitCode;
-use std::{env, io};
+use std::{env, fmt, io};
 
 /// The statuses: refused input, and a fault of memory, of the input or of the output.
 const REFUSED: u8 = 2;
 
 const FAILED: u8 = 3;
 
-/// Answers the calls on standard input.
-fn run_calls(rt: &HostRuntime) -> ExitCode {
-    let mut input = rt.stdin();
-    let mut output = rt.stdout();
-    match calls(rt.alloc(), &mut input, &mut output) {
+/// The status of a command's end, whose fault is told: of the input, which ended the work at its place, or of memory or a device.
+fn status_of<F: fmt::Display + Drop, S: fmt::Display + Drop>(
+    rt: &HostRuntime,
+    end: Result<Option<F>, S>,
+) -> ExitCode {
+    match end {
         Ok(None) => ExitCode::SUCCESS,
         Ok(Some(fault)) => {
             let _ = eprintln!(rt; "{fault}");
@@ -35,6 +36,20 @@ fn run_calls(rt: &HostRuntime) -> ExitCode {
             ExitCode::from(FAILED)
         }
     }
+}
+
+/// Answers the calls on standard input.
+fn run_calls(rt: &HostRuntime) -> ExitCode {
+    let mut input = rt.stdin();
+    let mut output = rt.stdout();
+    status_of(rt, calls(rt.alloc(), &mut input, &mut output))
+}
+
+/// Replays the steps on standard input.
+fn run_replay(rt: &HostRuntime) -> ExitCode {
+    let mut input = rt.stdin();
+    let mut output = rt.stdout();
+    status_of(rt, replay(rt.alloc(), &mut input, &mut output))
 }
 
 fn main(rt: HostRuntime) -> io::Result<ExitCode> {
@@ -48,6 +63,7 @@ fn main(rt: HostRuntime) -> io::Result<ExitCode> {
     }
     match command_of(rt.alloc(), &texts) {
         Ok(Action::Calls) => Ok(run_calls(&rt)),
+        Ok(Action::Replay) => Ok(run_replay(&rt)),
         Err(fault) => {
             fault.print(&rt)?;
             Ok(match fault.kind() {

@@ -2,16 +2,17 @@
 
 ghost use Rattle.std.specs.Prelude.{◌≡◌, ◌≤◌, ◌++◌, [], ◌∷◌, length, List, ℕ, Result, Option, None, Some, Ok, Err, map, IsTrue, IfOk, OnOk, OnErr};
 ghost use Rattle.std.specs.Io.KnownBytes.{Appends};
+ghost use Rattle.device_io.specs.Writes.{AppendsFront};
 ghost use Rattle.frame_record.specs.Firsts.{bodies};
 ghost use Rattle.call_json.specs.Calls.{read_call};
 ghost use Rattle.call_members.specs.Texts as call_texts;
 ghost use Rattle.event_json.specs.declared.event.Event.TheVariants.{Error};
 ghost use Rattle.master_core.specs.Texts as master_texts;
-ghost use Rattle.mesos_node.specs.Replies.{AppendsFront, after_all, event_in, frame, frames, framework_of_call, replies, reply, stream_given};
+ghost use Rattle.mesos_node.specs.Replies.{after_all, event_in, frame, frames, framework_of_call, replies, reply, stream_given};
 
 use crate::fault::Stop;
-use crate::output::put;
 use call_json::{Call, CallFault, read_call};
+use device_io::put;
 use event_json::{Event, Message, write_event};
 use frame_record::encode;
 use master_core::{Master, MasterFault, StreamEvent, refusal_text};

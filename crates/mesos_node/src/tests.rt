@@ -226,6 +226,10 @@ fn the_command_line_is_read(rt: HostRuntime) -> Result<(), Fail> {
         command_of(rt.alloc(), &["mesos_node", "calls"])?,
         Action::Calls
     );
+    assert_eq!(rt;
+        command_of(rt.alloc(), &["mesos_node", "replay"])?,
+        Action::Replay
+    );
     let kinds = [
         (["mesos_node", "--help"].as_slice(), ErrorKind::DisplayHelp),
         (

@@ -1,5 +1,5 @@
-use Rattle.mesos_node.proofs.Progress.{if_known}
-use Rattle.mesos_node.proofs.Written.{front_nothing}
+use Rattle.device_io.specs.Read.{if_known}
+use Rattle.device_io.specs.Written.{front_nothing}
 use Rattle.mesos_node.proofs.calls.calls.Goals as goal
 
 pub returns-in-Err-clause-err : goal.returns-in-Err-clause-err

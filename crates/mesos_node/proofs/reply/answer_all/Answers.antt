@@ -3,7 +3,7 @@ use Rattle.frame_record.specs.Firsts.{bodies}
 use Rattle.call_json.specs.Calls.{read_call}
 use Rattle.mesos_node.specs.Replies.{frames, reply, replies, after_all}
 use Rattle.mesos_node.proofs.Replying.{after_none, replies_none, replies_more, after_more, front_at}
-use Rattle.mesos_node.proofs.Written.{appends_more, appends_nothing}
+use Rattle.device_io.specs.Written.{appends_more, appends_nothing}
 use Rattle.mesos_node.proofs.reply.answer_all.Goals as goal
 
 pub loop-body-init : goal.loop-body-init

@@ -1,0 +1,136 @@
+-- What a replay writes for its lines.
+use Rattle.std.specs.Prelude.{ℕ, ◌+◌, ◌==◌, ◌&&◌, ◌||◌, not, Bool, List, [], ◌++◌, length, nat_le, is_some, Option, Some, None, Result, Ok, Err, unwrap_or, if◌then◌else◌}
+use Rattle.std.specs.List.{flat_map, list_all}
+use Rattle.mails.specs.declared.record.Durable.{Durable}
+use Rattle.mails.specs.declared.record.RecordedTask.{RecordedTask}
+use Rattle.quantity.specs.declared.rows.Row.{Row}
+use Rattle.quantity.specs.Rows.{plus_rows}
+use Rattle.agent_sides.specs.declared.config.ConfiguredAgent.{ConfiguredAgent}
+use Rattle.cluster_model.specs.Agents.{live_tasks, task_rows}
+use Rattle.cluster_steps.specs.declared.entry.Entry.{Entry}
+use Rattle.cluster_steps.specs.declared.fault.ClusterFault.{ClusterFault}
+use Rattle.cluster_steps.specs.declared.step.Step.{Step}
+use Rattle.step_lines.specs.declared.fault.LineRefusal.{LineRefusal}
+use Rattle.step_lines.specs.declared.fault.LineRefusal.TheVariants.{BadConfig}
+use Rattle.step_lines.specs.Configs.{read_config}
+use Rattle.step_lines.specs.Lines.{longest_line, read_step}
+use Rattle.entry_lines.specs.Ends.{agent_text, entries_text}
+use Rattle.entry_lines.specs.Lines.{entry_text, opening_text, refused_text}
+use Rattle.line_answers.specs.Answers.{after_all, answer}
+use Rattle.text_lines.specs.Texts.{all_lines}
+use Rattle.replays.specs.declared.fault.LineStop.{LineStop}
+use Rattle.replays.specs.Stories.{count, due, fresh_story, greetings, offered_now, records_now}
+use Rattle.cluster_core.specs.Stories.{Story, with_entry}
+
+-- how a replay stands behind some lines: its cluster's story, of which there is none before the first line; how many lines and steps there were, and how many calls and
+-- mails were sent; and the line that ended it, if one did, with its refusal
+pub record Replay : Type 0 where
+  pub story : Option Story
+  pub lines : ℕ
+  pub steps : ℕ
+  pub sent : ℕ
+  pub fault : Option LineStop
+
+abbrev pub beginning : Replay
+beginning = record { story = None; lines = 0; steps = 0; sent = 0; fault = None }
+
+-- what is told on a line, and how the replay stands behind it
+pub record Told : Type 0 where
+  pub text : List ℕ
+  pub after : Replay
+
+-- a line that is refused ends the replay
+abbrev pub stops : Replay → LineRefusal → Told
+stops r refusal = record { text = []; after = record r { lines = r.lines + 1; fault = Some (record { line = r.lines + 1; refusal = refusal }) } }
+
+-- the first line opens a cluster of agents that never ran
+
+abbrev pub opened : Replay → Story → Told
+opened r s = record { text = opening_text (greetings s); after = record r { story = Some s; lines = r.lines + 1; sent = length (greetings s) } }
+
+abbrev pub opens : Replay → Result (List ConfiguredAgent) LineRefusal → Told
+opens r (Err refusal) = stops r refusal
+opens r (Ok agents) = opened r (fresh_story agents)
+
+-- each other line is a step
+
+-- what is told of a step, its cluster's story then, and how many calls and mails it sent
+pub record Outcome : Type 0 where
+  pub text : List ℕ
+  pub story : Story
+  pub sent : ℕ
+
+-- of the step of this number, whose first call or mail has the number `first`: its entry, or why it is refused
+abbrev pub outcome : ℕ → ℕ → Story → Result Entry ClusterFault → Outcome
+outcome number first s (Err fault) = record { text = refused_text number fault; story = s; sent = 0 }
+outcome number first s (Ok entry) = record { text = unwrap_or (entry_text number first entry) []; story = with_entry s entry; sent = length entry.outputs.sent }
+
+abbrev pub answered : Replay → Outcome → Told
+answered r o = record { text = o.text; after = record r { story = Some o.story; lines = r.lines + 1; steps = r.steps + 1; sent = r.sent + o.sent } }
+
+abbrev pub takes : Replay → Story → Result Step LineRefusal → Told
+takes r s (Err refusal) = stops r refusal
+takes r s (Ok step) = answered r (outcome (r.steps + 1) (r.sent + 1) s (due s step))
+
+-- a space, a tab or a carriage return
+abbrev pub is_blank : ℕ → Bool
+is_blank b = b == 32 || b == 9 || b == 13
+
+-- a line of these alone is passed over, unless it is too long
+abbrev pub is_passed_over : List ℕ → Bool
+is_passed_over line = nat_le (length line) longest_line && list_all is_blank line
+
+abbrev pub passed : Replay → Told
+passed r = record { text = []; after = record r { lines = r.lines + 1 } }
+
+abbrev pub by_line : Replay → Option Story → List ℕ → Told
+by_line r None line = opens r (read_config line)
+by_line r (Some s) line = if is_passed_over line then passed r else takes r s (read_step line)
+
+-- what a line brings; behind a refused line nothing more
+unfoldable pub tells : Replay → List ℕ → Told
+tells r line = if is_some r.fault then record { text = []; after = r } else by_line r r.story line
+
+abbrev pub told : Replay → List ℕ → List ℕ
+told r line = (tells r line).text
+
+abbrev pub after : Replay → List ℕ → Replay
+after r line = (tells r line).after
+
+abbrev pub goes_on : Replay → Bool
+goes_on r = not (is_some r.fault)
+
+-- at the end stand the agents with their tasks, and the number of entries
+
+-- what live tasks hold
+abbrev pub live : List RecordedTask → List Row
+live tasks = plus_rows [] (task_rows (live_tasks tasks))
+
+abbrev pub agent_lines : Story → Durable → List ℕ
+agent_lines s d = agent_text d (offered_now s d.name) (live d.tasks)
+
+abbrev pub table : Story → List ℕ
+table s = flat_map (agent_lines s) (records_now s) ++ entries_text (count s)
+
+abbrev pub table_of : Option Story → List ℕ
+table_of None = []
+table_of (Some s) = table s
+
+unfoldable pub ending : Replay → List ℕ
+ending r = if is_some r.fault then [] else table_of r.story
+
+-- a text of no line has no first one
+abbrev pub missing_config : Option Story → Option LineStop
+missing_config None = Some (record { line = 1; refusal = BadConfig })
+missing_config (Some s) = None
+
+abbrev pub fault : Replay → Option LineStop
+fault r = if is_some r.fault then r.fault else missing_config r.story
+
+-- what a replay writes for its input, and the line that ended it
+
+abbrev pub replay_text : List ℕ → List ℕ
+replay_text input = answer told after ending beginning input
+
+abbrev pub replay_fault : List ℕ → Option LineStop
+replay_fault input = fault (after_all after beginning (all_lines input))

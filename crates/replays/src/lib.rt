@@ -1,0 +1,17 @@
+//! Replays: the steps of a cluster, read line by line, with what each brings out.
+#![tactic(auto)]
+
+mod fault;
+mod live;
+mod numbers;
+mod replayed;
+mod replayer;
+mod replaying;
+mod steps;
+mod table;
+#[cfg(test)]
+mod tests;
+
+pub use fault::{LineStop, ReplayStop};
+pub use replayer::Replayer;
+pub use replaying::replay;

@@ -1,0 +1,202 @@
+//! The replayer.
+
+ghost use Rattle.std.specs.Prelude.{◌≡◌, ◌+◌, IfOk, IfSome};
+ghost use Rattle.std.specs.List.{list_all};
+ghost use Rattle.step_lines.specs.Configs.{read_config};
+ghost use Rattle.step_lines.specs.Lines.{read_step};
+ghost use Rattle.replays.specs.Replays as replays;
+
+use crate::fault::LineStop;
+use crate::numbers::raised;
+use crate::replayed::Replayed;
+use crate::steps::{take_step, tell_opening};
+use crate::table::table;
+use line_answers::Teller;
+use std::alloc::{AllocError, Global};
+use std::marker::Model;
+use step_lines::{LineFault, LineRefusal, read_config, read_step};
+use text_lines::LONGEST_LINE;
+
+/// Tells what comes of the lines of a replay: the first says which agents there are, and each other one is a step.
+#[derive(Drop)]
+pub struct Replayer {
+    /// None before the first line.
+    cluster: Option<Replayed>,
+    lines: u64,
+    steps: u64,
+    sent: u64,
+    fault: Option<LineStop>,
+}
+
+impl Model for Replayer {
+    ghost use Rattle.replays.specs.Replays.{Replay};
+
+    ghost Value = { Replay };
+
+    ghost view = { λ r. record { story = r.cluster; lines = r.lines; steps = r.steps; sent = r.sent; fault = r.fault } };
+}
+
+fn is_blank(byte: u8) -> bool
+    ensures { result ≡ replays.is_blank byte }
+{
+    byte == b' ' || byte == b'\t' || byte == b'\r'
+}
+
+fn is_blank_line(line: &[u8]) -> bool
+    ensures { result ≡ list_all replays.is_blank line.now }
+{
+    line.iter().all(|byte| is_blank(*byte))
+}
+
+fn is_passed_over(line: &[u8]) -> bool
+    ensures { result ≡ replays.is_passed_over line.now }
+{
+    line.len() <= LONGEST_LINE && is_blank_line(line)
+}
+
+impl Replayer {
+    /// Before the first line.
+    pub fn new() -> Replayer
+        ensures { result ≡ replays.beginning }
+    {
+        Replayer {
+            cluster: None,
+            lines: 0,
+            steps: 0,
+            sent: 0,
+            fault: None,
+        }
+    }
+
+    /// How many lines were read.
+    pub fn lines(&self) -> u64
+        ensures { result ≡ self.now.lines }
+    {
+        self.lines
+    }
+
+    /// The line that ended the replay; at the end of the input it is line 1 where there is none.
+    pub fn fault(&self) -> Option<LineStop>
+        ensures { result ≡ replays.fault self.now }
+    {
+        if self.fault.is_some() {
+            return self.fault;
+        }
+        match &self.cluster {
+            Some(_) => None,
+            None => Some(LineStop {
+                line: 1,
+                refusal: LineRefusal::BadConfig,
+            }),
+        }
+    }
+
+    /// This line ends the replay.
+    fn stop(&mut self, line: u64, refusal: LineRefusal)
+        requires { line ≡ self.old.lines + 1 }
+        ensures { self.new ≡ (replays.stops self.old refusal).after }
+    {
+        self.lines = line;
+        self.fault = Some(LineStop { line, refusal });
+    }
+
+    /// The first line, which is this one of the text.
+    fn open(&mut self, alloc: Global, number: u64, line: &[u8]) -> Result<Vec<u8>, AllocError>
+        requires { number ≡ self.old.lines + 1 }
+        ensures { IfOk result (λ text. replays.opens self.old (read_config line.now) ≡ record { text = text.items; after = self.new }) }
+    {
+        let config = match read_config(alloc, line) {
+            Ok(config) => config,
+            Err(LineFault::OutOfMemory) => return Err(AllocError),
+            Err(LineFault::Refused(refusal)) => {
+                self.stop(number, refusal);
+                return Ok(Vec::new(alloc));
+            }
+        };
+        let cluster = Replayed::open(alloc, config)?;
+        let told = tell_opening(alloc, &cluster)?;
+        self.cluster = Some(cluster);
+        self.lines = number;
+        self.sent = told.sent;
+        Ok(told.text)
+    }
+
+    /// A step, on the line of this number.
+    fn take(&mut self, alloc: Global, number: u64, line: &[u8]) -> Result<Vec<u8>, AllocError>
+        requires { number ≡ self.old.lines + 1 }
+        ensures { IfOk result (λ text. IfSome self.old.story (λ s. replays.takes self.old s (read_step line.now) ≡ record { text = text.items; after = self.new })) }
+    {
+        let step = match read_step(alloc, line) {
+            Ok(step) => step,
+            Err(LineFault::OutOfMemory) => return Err(AllocError),
+            Err(LineFault::Refused(refusal)) => {
+                self.stop(number, refusal);
+                return Ok(Vec::new(alloc));
+            }
+        };
+        let steps = raised(self.steps, 1)?;
+        let first = raised(self.sent, 1)?;
+        let Some(cluster) = &mut self.cluster else {
+            return Err(AllocError);
+        };
+        let told = take_step(cluster, alloc, steps, first, step)?;
+        self.lines = number;
+        self.steps = steps;
+        self.sent = raised(self.sent, told.sent)?;
+        Ok(told.text)
+    }
+
+    #[tactic(auto, unfolding(crate::specs::Replays::tells))]
+    fn tell_line(&mut self, alloc: Global, line: &[u8]) -> Result<Vec<u8>, AllocError>
+        ensures { IfOk result (λ text. replays.tells self.old line.now ≡ record { text = text.items; after = self.new }) }
+    {
+        if self.fault.is_some() {
+            return Ok(Vec::new(alloc));
+        }
+        let number = raised(self.lines, 1)?;
+        if self.cluster.is_none() {
+            return self.open(alloc, number, line);
+        }
+        if is_passed_over(line) {
+            self.lines = number;
+            return Ok(Vec::new(alloc));
+        }
+        self.take(alloc, number, line)
+    }
+}
+
+impl Teller for Replayer {
+    ghost use Rattle.replays.specs.Replays as replays;
+    ghost use Rattle.replays.specs.Laws as laws;
+
+    ghost told = { replays.told };
+
+    ghost after = { replays.after };
+
+    ghost goes_on = { replays.goes_on };
+
+    ghost ending = { replays.ending };
+
+    fn tell(&mut self, alloc: Global, line: &[u8]) -> Result<Vec<u8>, AllocError> {
+        self.tell_line(alloc, line)
+    }
+
+    fn goes_on(&self) -> bool {
+        self.fault.is_none()
+    }
+
+    #[tactic(auto, unfolding(crate::specs::Replays::ending))]
+    fn end(&self, alloc: Global) -> Result<Vec<u8>, AllocError> {
+        if self.fault.is_some() {
+            return Ok(Vec::new(alloc));
+        }
+        match &self.cluster {
+            Some(cluster) => table(alloc, cluster),
+            None => Ok(Vec::new(alloc)),
+        }
+    }
+
+    ghost stays = { laws.stays };
+
+    ghost enough = { laws.enough };
+}

@@ -1,0 +1,36 @@
+//! The replay of a text.
+
+ghost use Rattle.std.specs.Prelude.{◌≡◌, IfOk, IfSome, OnErr, OnOk};
+ghost use Rattle.std.specs.Io.KnownBytes.{Appends};
+ghost use Rattle.device_io.specs.Writes.{AppendsFront};
+ghost use Rattle.replays.specs.Replays.{replay_fault, replay_text};
+
+use crate::fault::{LineStop, ReplayStop};
+use crate::replayer::Replayer;
+use line_answers::{Stop, answer_lines};
+use std::alloc::Global;
+use std::io::{Read, Write};
+
+/// Replays the text that a reader gives: its first line says which agents there are, and each other one is a step of their cluster, all of whose calls and mails
+/// can be handed out for ever. Behind each line it writes what comes of it, and at the end the agents, their tasks, and the number of entries. It tells the line that
+/// ended it, if one did: `X1 NotAStep`, `X2 BadCall`, or `X3 BadConfig`.
+pub fn replay<R: Read, W: Write>(
+    alloc: Global,
+    reader: &mut R,
+    writer: &mut W,
+) -> Result<Option<LineStop>, ReplayStop>
+    // What is written is a function of what is read, and so is the line that ended it,
+    ensures text { OnOk result (IfSome (R.remaining reader.old) (λ input. Appends (W.contents writer.old) (W.contents writer.new) (replay_text input))) }
+    ensures fault { IfOk result (λ fault. IfSome (R.remaining reader.old) (λ input. fault ≡ replay_fault input)) }
+    // or a beginning of it is written, where memory, the reader or the writer fail.
+    ensures err { OnErr result (IfSome (R.remaining reader.old) (λ input. AppendsFront (W.contents writer.old) (W.contents writer.new) (replay_text input))) }
+{
+    let mut replayer = Replayer::new();
+    match answer_lines(alloc, reader, &mut replayer, writer) {
+        Ok(()) => Ok(replayer.fault()),
+        Err(Stop::Memory) => Err(ReplayStop::Memory {
+            line: replayer.lines().saturating_add(1),
+        }),
+        Err(Stop::Device(e)) => Err(ReplayStop::Device(e)),
+    }
+}
