@@ -13,8 +13,6 @@ mod record;
 mod room;
 mod same;
 mod state;
-#[cfg(test)]
-mod tests;
 
 pub use agent::Agent;
 pub use draft::Draft;

@@ -6,8 +6,6 @@ mod free;
 mod look;
 mod own;
 mod sides;
-#[cfg(test)]
-mod tests;
 mod told;
 
 pub use config::{Config, ConfigFault, ConfiguredAgent};

@@ -8,8 +8,6 @@ mod read;
 mod reconcile;
 mod subscribe;
 mod task;
-#[cfg(test)]
-mod tests;
 
 pub use call_members::{CallFault, Member, Refusal};
 pub use mails::{Call, ReconciledTask, TaskInfo};

@@ -14,6 +14,3 @@ pub use laws::{amounts_decide, picks_least, standing_is_order, sums_add, test_is
 pub use least::{better_client, pick};
 pub use shares::Shares;
 pub use sum::Sum;
-
-#[cfg(test)]
-mod tests;

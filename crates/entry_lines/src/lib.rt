@@ -4,8 +4,6 @@
 mod ends;
 mod entry;
 mod line;
-#[cfg(test)]
-mod tests;
 mod words;
 
 pub use ends::{agent_text, entries_text};

@@ -6,8 +6,6 @@ mod message;
 mod offer;
 mod offers;
 mod status;
-#[cfg(test)]
-mod tests;
 mod write;
 
 pub use event::Event;

@@ -5,8 +5,6 @@
 mod fault;
 mod first;
 mod reader;
-#[cfg(test)]
-mod tests;
 mod writing;
 
 pub use fault::FrameFault;

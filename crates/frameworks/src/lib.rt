@@ -7,8 +7,6 @@ mod filters;
 mod laws;
 mod look;
 mod table;
-#[cfg(test)]
-mod tests;
 
 pub use edit::is_due;
 pub use filters::is_eligible;

@@ -10,8 +10,6 @@ mod outlet;
 mod refusal;
 mod send;
 mod stream;
-#[cfg(test)]
-mod tests;
 
 pub use bench::{Answer, Bench};
 pub use conn::serve_conn;

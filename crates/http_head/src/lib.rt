@@ -7,8 +7,6 @@ mod fields;
 mod judge;
 mod line;
 mod plan;
-#[cfg(test)]
-mod tests;
 mod words;
 
 pub use cut::{MAX_PART, Place, Scan};

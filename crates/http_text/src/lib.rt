@@ -4,8 +4,6 @@
 mod chunk;
 mod response;
 mod status;
-#[cfg(test)]
-mod tests;
 
 pub use chunk::{chunk_front, event_chunk, last_chunk, one_chunk};
 pub use response::{accepted_response, continue_response, refusal_response, subscribed_response};

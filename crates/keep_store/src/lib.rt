@@ -3,15 +3,11 @@
 
 mod check;
 mod fault;
-#[cfg(test)]
-mod file_tests;
 mod keeper;
 mod open;
 mod record;
 mod shape;
 mod statements;
-#[cfg(test)]
-mod tests;
 
 pub use fault::KeepFault;
 pub use keeper::Keeper;

@@ -6,8 +6,6 @@ mod cause;
 mod mail;
 mod record;
 mod task;
-#[cfg(test)]
-mod tests;
 
 pub use call::copy_call;
 pub use cause::copy_cause;

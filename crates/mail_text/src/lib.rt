@@ -1,8 +1,6 @@
 //! Mails as texts.
 #![tactic(auto)]
 
-#[cfg(test)]
-mod tests;
 mod to_agent;
 mod to_master;
 

@@ -5,8 +5,6 @@ mod launch;
 mod on_accept;
 mod on_decline;
 mod take;
-#[cfg(test)]
-mod tests;
 
 pub use on_accept::accept;
 pub use on_decline::decline;

@@ -6,10 +6,6 @@ mod on_reconcile;
 mod on_revive;
 mod on_subscribe;
 mod on_teardown;
-#[cfg(test)]
-mod reconcile_tests;
-#[cfg(test)]
-mod tests;
 
 pub use on_kill::{acknowledge, kill};
 pub use on_reconcile::reconcile;

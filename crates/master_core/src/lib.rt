@@ -7,8 +7,6 @@ mod master;
 mod offered;
 mod refusal;
 mod settle;
-#[cfg(test)]
-mod tests;
 
 pub use agent_sides::{Config, ConfigFault};
 pub use master::{HeardMail, Master};

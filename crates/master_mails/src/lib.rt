@@ -9,8 +9,6 @@ mod on_tick;
 mod opening;
 mod reported;
 mod tell;
-#[cfg(test)]
-mod tests;
 
 pub use on_hang_up::hang_up;
 pub use on_loss::lose_agent;

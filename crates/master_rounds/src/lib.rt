@@ -3,8 +3,6 @@
 
 mod news;
 mod round;
-#[cfg(test)]
-mod tests;
 mod visit;
 
 pub use round::allocate;

@@ -8,8 +8,6 @@ mod greet;
 mod order;
 mod state;
 mod tell;
-#[cfg(test)]
-mod tests;
 
 pub use fault::MasterFault;
 pub use state::{Outs, State, StreamEvent};

@@ -13,8 +13,6 @@ mod run;
 mod state;
 mod stream;
 mod task;
-#[cfg(test)]
-mod tests;
 mod update;
 
 pub use agent::AgentName;

@@ -3,8 +3,6 @@
 
 mod number;
 mod piece;
-#[cfg(test)]
-mod tests;
 mod text;
 
 pub use text::{one_cut, trim};

@@ -19,6 +19,3 @@ pub use held::first_among;
 pub use laws::{ids_name_offers, rest_of_rest_is_sum};
 pub use offers::Offers;
 pub use tasks::{Heard, Tasks};
-
-#[cfg(test)]
-mod tests;

@@ -15,6 +15,3 @@ pub use laws::{
 pub use name::ResourceName;
 pub use resources::Resources;
 pub use rows::Row;
-
-#[cfg(test)]
-mod tests;

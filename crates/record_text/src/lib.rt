@@ -7,8 +7,6 @@ mod lists;
 mod members;
 mod read;
 mod task;
-#[cfg(test)]
-mod tests;
 mod write;
 
 pub use fault::RecordFault;

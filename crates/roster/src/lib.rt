@@ -4,8 +4,6 @@
 mod entry;
 mod fault;
 mod roster;
-#[cfg(test)]
-mod tests;
 
 pub use entry::RosterEntry;
 pub use fault::RosterFault;

@@ -4,8 +4,6 @@
 mod fill;
 mod laws;
 mod pick;
-#[cfg(test)]
-mod tests;
 
 pub use fill::shares_of;
 pub use laws::picks_alike;

@@ -9,8 +9,6 @@ mod fault;
 mod members;
 mod read;
 mod send;
-#[cfg(test)]
-mod tests;
 
 pub use config::read_config;
 pub use fault::{LineFault, LineRefusal};

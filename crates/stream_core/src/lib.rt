@@ -3,8 +3,6 @@
 
 mod fault;
 mod link;
-#[cfg(test)]
-mod tests;
 mod updates;
 
 pub use fault::StreamFault;
