@@ -52,9 +52,10 @@ fn run_replay(rt: &HostRuntime) -> ExitCode {
     status_of(rt, replay(rt.alloc(), &mut input, &mut output))
 }
 
-fn main(rt: HostRuntime) -> io::Result<ExitCode> {
+/// Does what the words of the command line name.
+fn run(rt: &HostRuntime) -> io::Result<ExitCode> {
     let mut words = Vec::new(rt.alloc());
-    for word in env::args(&rt)? {
+    for word in env::args(rt)? {
         words.push(word)?;
     }
     let mut texts = Vec::new(rt.alloc());
@@ -62,15 +63,25 @@ fn main(rt: HostRuntime) -> io::Result<ExitCode> {
         texts.push(word.as_str())?;
     }
     match command_of(rt.alloc(), &texts) {
-        Ok(Action::Calls) => Ok(run_calls(&rt)),
-        Ok(Action::Replay) => Ok(run_replay(&rt)),
+        Ok(Action::Calls) => Ok(run_calls(rt)),
+        Ok(Action::Replay) => Ok(run_replay(rt)),
         Err(fault) => {
-            fault.print(&rt)?;
+            fault.print(rt)?;
             Ok(match fault.kind() {
                 ErrorKind::DisplayHelp | ErrorKind::DisplayVersion => ExitCode::SUCCESS,
                 ErrorKind::OutOfMemory => ExitCode::from(FAILED),
                 _ => ExitCode::from(REFUSED),
             })
+        }
+    }
+}
+
+fn main(rt: HostRuntime) -> ExitCode {
+    match run(&rt) {
+        Ok(code) => code,
+        Err(fault) => {
+            let _ = eprintln!(rt; "{fault}");
+            ExitCode::from(FAILED)
         }
     }
 }
