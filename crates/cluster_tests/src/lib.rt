@@ -4,6 +4,8 @@
 #[cfg(test)]
 mod of_cluster_core_opening;
 #[cfg(test)]
+mod of_cluster_core_restarts;
+#[cfg(test)]
 mod of_cluster_core_steps;
 #[cfg(test)]
 mod of_recorded_cluster;
