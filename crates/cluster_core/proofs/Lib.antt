@@ -1,4 +1,6 @@
 pub mod Parting
+pub mod Puttings
+pub mod Mailing
 pub mod Telling
 pub mod FreshRecords
 pub mod SafeStories

@@ -1,5 +1,5 @@
 -- A story goes on by one entry.
-use Rattle.std.proofs.Common.{◌≡◌, ◌<◌, ◌≤◌, ◌+◌, ℕ, suc, Bool, true, false, List, [], ◌∷◌, ◌++◌, map, length, nat_le, Result, Ok, Err, inl, inr, refl, sym, ap, ◌∙◌, subst, arith, length-append}
+use Rattle.std.proofs.Common.{◌≡◌, ◌<◌, ◌≤◌, ◌+◌, ℕ, suc, Bool, true, false, List, [], ◌∷◌, ◌++◌, map, length, nat_le, Option, Result, Ok, Err, inl, inr, refl, sym, ap, ◌∙◌, subst, arith, length-append}
 use Rattle.std.specs.Prelude.{if◌then◌else◌}
 use Rattle.std.proofs.lemmas.Bool.Decides.{nat_tests}
 use Rattle.mails.specs.declared.record.Durable.{Durable}
@@ -7,7 +7,7 @@ use Rattle.cluster_model.specs.Clusters as model
 use Rattle.cluster_model.specs.Clusters.{Cluster, StepRefusal}
 use Rattle.cluster_model.specs.Ids.{last_number}
 use Rattle.cluster_model.specs.Steps.{Done, History, Marked, answer, extend_all, extended, fallen_answer, history, opening, step_marked, unmarked}
-use Rattle.cluster_laws.specs.Items.{StandIn}
+use Rattle.cluster_laws.specs.Items.{StandIn, new_items}
 use Rattle.cluster_laws.specs.Parts.{configured}
 use Rattle.cluster_laws.specs.Premises.{AreRecorded}
 use Rattle.cluster_model.specs.Openings.{GoodOpening}
@@ -21,11 +21,14 @@ use Rattle.cluster_steps.specs.declared.step.Step.{Step}
 use Rattle.cluster_steps.specs.Steps.{entry_of, marked_of, step_of}
 use Rattle.cluster_parts.specs.Handing.{MayRefuse}
 use Rattle.cluster_core.specs.Keeping.{IsKept, IsRefused, IsTaken, entry_made, taken_made}
+use Rattle.post_rules.specs.declared.direction.Direction.{Direction}
 use Rattle.cluster_parts.specs.Moves.{Reached}
 use Rattle.cluster_core.specs.Parts.{AreParts, PartsOf, Same, Stands, Takes, record_of}
+use Rattle.cluster_core.specs.Putting.{ArePut}
 use Rattle.cluster_core.specs.Stories.{IsLegal, Legal, Story, history_of, state_of, with_entry}
 use Rattle.cluster_parts.specs.declared.masters.Made.{Made}
 use Rattle.cluster_core.specs.declared.parts.Parts.{Parts}
+use Rattle.cluster_core.proofs.Puttings.{ItemsLaw, put_still, puts_on, stand_alike}
 use Rattle.cluster_parts.proofs.Committing.{if_it_is_down, if_it_is_up}
 use Rattle.cluster_parts.proofs.Mastering.{extended_more}
 
@@ -69,11 +72,11 @@ is_full law s l h = let e : (state_of s).entries ≡ suc (length s.entries) = st
 abbrev pub reached : CountLaw → (s : Story) → IsLegal s → length s.entries < 4294967294 → Reached (state_of s)
 reached law s l h = record { run = s.run; records = s.records; steps = map marked_of s.entries; good = l.good; recorded = l.recorded; is = refl; room = has_room law s l h }
 
-pub parts_of_story : CountLaw → (s : Story) (opened : Outputs) (p : Parts) (count : ℕ) → IsKept s opened p count → length s.entries < 4294967294 → PartsOf (state_of s) p
-parts_of_story law s opened p count k h = record { reached = reached law s k.legal h; config = k.config; stands = k.stands }
+pub parts_of_story : CountLaw → (s : Story) (opened : Outputs) (p : Parts) (count : ℕ) (ways : ℕ → Option Direction) → IsKept s opened p count ways → length s.entries < 4294967294 → PartsOf (state_of s) p
+parts_of_story law s opened p count ways k h = record { reached = reached law s k.legal h; config = k.config; stands = k.stands }
 
-pub are_parts : CountLaw → (s : Story) (opened : Outputs) (p : Parts) (count : ℕ) → IsKept s opened p count → length s.entries < 4294967294 → AreParts p
-are_parts law s opened p count k h = (state_of s, parts_of_story law s opened p count k h)
+pub are_parts : CountLaw → (s : Story) (opened : Outputs) (p : Parts) (count : ℕ) (ways : ℕ → Option Direction) → IsKept s opened p count ways → length s.entries < 4294967294 → AreParts p
+are_parts law s opened p count ways k h = (state_of s, parts_of_story law s opened p count ways k h)
 
 -- ---- refusals
 
@@ -102,9 +105,9 @@ refused_so c gives step faults.NoSuchAgent room (inl e) = marks c (unmarked step
 refused_so c gives step faults.NoSuchAgent room (inr w) = absurd (let clash : faults.NoSuchAgent ≡ faults.NoSuchMail = w.0 in cc)
 refused_so c gives step faults.OutOfMemory room h = tt
 
-pub step_refused : CountLaw → (s : Story) (opened : Outputs) (p : Parts) (count : ℕ) (gives : ℕ → Bool) (step : model.Step) (fault : ClusterFault) → IsKept s opened p count → length s.entries < 4294967294 →
+pub step_refused : CountLaw → (s : Story) (opened : Outputs) (p : Parts) (count : ℕ) (ways : ℕ → Option Direction) (gives : ℕ → Bool) (step : model.Step) (fault : ClusterFault) → IsKept s opened p count ways → length s.entries < 4294967294 →
     ((c : Cluster) → PartsOf c p → MayRefuse c gives step fault) → IsRefused (state_of s) gives step fault
-step_refused law s opened p count gives step fault k h why = refused_so (state_of s) gives step fault (has_room law s k.legal h) (why (state_of s) (parts_of_story law s opened p count k h))
+step_refused law s opened p count ways gives step fault k h why = refused_so (state_of s) gives step fault (has_room law s k.legal h) (why (state_of s) (parts_of_story law s opened p count ways k h))
 
 -- ---- one more entry
 
@@ -132,9 +135,10 @@ story_more s e d l step is = record {
 made_marks : CountLaw → (s : Story) (step : Step) (made : Made) (q : Parts) → IsLegal s → length s.entries < 4294967294 → (t : Takes (state_of s) (step_of step) made q) → step_marked (state_of s) (marked_of (entry_made step made)) ≡ Ok t.done
 made_marks law s step made q l h t = marks (state_of s) (marked_of (entry_made step made)) (has_room law s l h) ∙ t.answers
 
-pub keeps_on : CountLaw → (s : Story) (opened : Outputs) (p q : Parts) (count more : ℕ) (step : Step) (made : Made) → IsKept s opened p count → length s.entries < 4294967294 → Takes (state_of s) (step_of step) made q → q.config ≡ p.config → more ≡ length q.items →
-    IsKept (with_entry s (entry_made step made)) opened q more
-keeps_on law s opened p q count more step made k h t config counted =
+pub keeps_on : CountLaw → ItemsLaw → (s : Story) (opened : Outputs) (p q : Parts) (count before more : ℕ) (ways between news : ℕ → Option Direction) (step : Step) (made : Made) → IsKept s opened p count ways → length s.entries < 4294967294 →
+    Takes (state_of s) (step_of step) made q → q.config ≡ p.config → more ≡ length q.items → before ≡ length p.items → ((n : ℕ) → between n ≡ ways n) → ((n : ℕ) → n ≤ before → news n ≡ between n) → ArePut before q.config q.items news →
+    IsKept (with_entry s (entry_made step made)) opened q more news
+keeps_on law items_law s opened p q count before more ways between news step made k h t config counted there same older behind =
     let e = entry_made step made in
     let step_is : step_marked (state_of s) (marked_of e) ≡ Ok t.done = made_marks law s step made q k.legal h t in
     let is : e ≡ entry_of step t.done.entry = rw (t.ends, t.brings) refl in
@@ -145,6 +149,11 @@ keeps_on law s opened p q count more step made k h t config counted =
       config = config ∙ k.config;
       stands = subst (λ (c : Cluster). Stands c q) (sym (state_more s e t.done step_is)) t.stands;
       counted = counted;
+      put = (
+          let behind_all : StandIn t.done.after (p.items ++ new_items (step_of step) t.done) = items_law s.run s.records (map marked_of s.entries) (marked_of e) t.done p.items k.legal.good step_is k.stands.as_others.as_items in
+          let is : q.items ≡ p.items ++ new_items (step_of step) t.done = stand_alike t.done.after q.items (p.items ++ new_items (step_of step) t.done) t.stands.as_others.as_items behind_all in
+          puts_on p.config q.config p.items q.items (new_items (step_of step) t.done) before ways between news config is there k.put same older behind
+          );
     }
 
 pub takes_on : CountLaw → (s : Story) (q : Parts) (step : Step) (made : Made) → IsLegal s → length s.entries < 4294967294 → Takes (state_of s) (step_of step) made q → IsTaken s step (taken_made step made) (with_entry s (entry_made step made))
@@ -158,8 +167,8 @@ takes_on law s q step made l h t =
       tells = ap (with_entry s) given;
     }
 
-pub stays : (s : Story) (opened : Outputs) (p q : Parts) (count more : ℕ) → IsKept s opened p count → Same p q → more ≡ count → IsKept s opened q more
-stays s opened p q count more k same m = record {
+pub stays : (s : Story) (opened : Outputs) (p q : Parts) (count more : ℕ) (ways news : ℕ → Option Direction) → IsKept s opened p count ways → Same p q → more ≡ count → ((n : ℕ) → news n ≡ ways n) → IsKept s opened q more news
+stays s opened p q count more ways news k same m alike = record {
   legal = k.legal;
   short = k.short;
   begins = k.begins;
@@ -176,13 +185,14 @@ stays s opened p q count more k same m = record {
     as_run = k.stands.as_run ∙ sym same.run;
   };
   counted = m ∙ k.counted ∙ ap length (sym same.items_sent);
+  put = put_still p.config q.config p.items q.items ways news same.config same.items_sent alike k.put;
 }
 
 -- ---- the opening
 
-pub opens_so : (run : ℕ) (records : List Durable) (es : List Entry) (opened : Outputs) (p : Parts) (o : Opened) (count : ℕ) → es ≡ [] → GoodOpening run records → AreRecorded records → Opens run records o → p.config ≡ map configured records → p.agents.items ≡ o.agents.items →
-    p.master ≡ o.master → p.items ≡ o.items → p.streams ≡ o.streams → p.run ≡ run → p.last_tick ≡ 0 → opened ≡ o.outputs → count ≡ length p.items → IsKept (record { run = run; records = records; entries = es }) opened p count
-opens_so run records [] opened p o count none good recorded opens config agents master items streams in_run tick outputs counted = record {
+pub opens_so : (run : ℕ) (records : List Durable) (es : List Entry) (opened : Outputs) (p : Parts) (o : Opened) (count : ℕ) (ways : ℕ → Option Direction) → es ≡ [] → GoodOpening run records → AreRecorded records → Opens run records o → p.config ≡ map configured records → p.agents.items ≡ o.agents.items →
+    p.master ≡ o.master → p.items ≡ o.items → p.streams ≡ o.streams → p.run ≡ run → p.last_tick ≡ 0 → opened ≡ o.outputs → count ≡ length p.items → ArePut 0 p.config p.items ways → IsKept (record { run = run; records = records; entries = es }) opened p count ways
+opens_so run records [] opened p o count ways none good recorded opens config agents master items streams in_run tick outputs counted put = record {
   legal = record { good = good; recorded = recorded; legal = refl };
   short = omega arith;
   begins = outputs ∙ opens.outputs;
@@ -199,5 +209,6 @@ opens_so run records [] opened p o count none good recorded opens config agents 
     as_run = opens.in_run ∙ sym in_run;
   };
   counted = counted;
+  put = put;
 }
-opens_so run records (e ∷ es) opened p o count none good recorded opens config agents master items streams in_run tick outputs counted = absurd (let clash : e ∷ es ≡ [] = none in cc)
+opens_so run records (e ∷ es) opened p o count ways none good recorded opens config agents master items streams in_run tick outputs counted put = absurd (let clash : e ∷ es ≡ [] = none in cc)

@@ -4,6 +4,7 @@ use Rattle.cluster_model.specs.Clusters as model
 use Rattle.cluster_model.specs.Clusters.{Cluster}
 use Rattle.cluster_model.specs.Masters.{Master}
 use Rattle.master_core.specs.Steps.{offered_on}
+use Rattle.post_rules.specs.declared.direction.Direction.{Direction}
 use Rattle.quantity.specs.declared.rows.Row.{Row}
 use Rattle.cluster_model.specs.Steps.{Done, open_cluster, step_marked, unmarked}
 use Rattle.cluster_laws.specs.Parts.{configured}
@@ -16,6 +17,7 @@ use Rattle.cluster_steps.specs.declared.step.Step.{Step}
 use Rattle.cluster_parts.specs.Handing.{handed}
 use Rattle.cluster_parts.specs.Moves.{kept_agents}
 use Rattle.cluster_core.specs.Parts.{Stands, record_of}
+use Rattle.cluster_core.specs.Putting.{ArePut}
 use Rattle.cluster_core.specs.Stories.{IsLegal, Story, state_of, with_entry}
 use Rattle.cluster_parts.specs.declared.masters.Made.{Made}
 use Rattle.cluster_core.specs.declared.parts.Parts.{Parts}
@@ -34,14 +36,15 @@ taken_made step made = record { entry = record { step = step; verdict = made.ver
 abbrev pub story_of : History → Story
 story_of h = record { run = h.run; records = h.records.items; entries = h.entries.items }
 
--- its story is legal, its parts stand for the state in which the story ends, and the post has had all that was sent
-pub record IsKept (s : Story) (opened : Outputs) (p : Parts) (count : ℕ) : Type 0 where
+-- its story is legal, its parts stand for the state in which the story ends, and the post has had all that was sent, each item in its direction
+pub record IsKept (s : Story) (opened : Outputs) (p : Parts) (count : ℕ) (directions : ℕ → Option Direction) : Type 0 where
   pub legal : IsLegal s
   pub short : length s.entries < 4294967295
   pub begins : opened ≡ outputs_of (open_cluster s.run s.records).entry.outs
   pub config : p.config ≡ map configured s.records
   pub stands : Stands (state_of s) p
   pub counted : count ≡ length p.items
+  pub put : ArePut 0 p.config p.items directions
 
 -- a step was taken: its entry is the one that the model makes of it, and stands behind the others; with a Prepare goes the record of the draft that it opened
 pub record IsTaken (s : Story) (step : Step) (taken : Taken) (new : Story) : Type 0 where

@@ -1,23 +1,37 @@
 -- What is put into a post: which queue an item goes to, and how far the putting is.
-use Rattle.std.specs.Prelude.{◌≡◌, ◌≤◌, ◌+◌, ℕ, Bool, List, length, unwrap_or}
+use Rattle.std.specs.Prelude.{◌≡◌, ◌<◌, ◌≤◌, ◌+◌, ℕ, suc, Bool, List, length, Option, Some, IfSome, bytes_eq, position, slice_get, unwrap_or}
+use Rattle.agent_sides.specs.declared.config.ConfiguredAgent.{ConfiguredAgent}
 use Rattle.cluster_laws.specs.declared.item.Item.{Item}
 use Rattle.cluster_laws.specs.declared.item.Item.TheVariants as items
-use Rattle.cluster_parts.specs.Agents.{KeptAgent, place_in}
 use Rattle.post_rules.specs.declared.direction.Direction.{Direction}
 use Rattle.post_rules.specs.declared.direction.Direction.TheVariants.{Call, ToAgent, FromAgent}
 
--- the place of the agent of a name, or the one behind the last agent where none has it
-abbrev pub place_or_end : List ℕ → List KeptAgent → ℕ
+-- the place of the agent of a name in the configuration
+abbrev pub place_in : List ℕ → List ConfiguredAgent → Option ℕ
+place_in name agents = position (λ a. bytes_eq a.name name) agents
+
+-- the same, or the place behind the last agent where none has the name
+abbrev pub place_or_end : List ℕ → List ConfiguredAgent → ℕ
 place_or_end name agents = unwrap_or (place_in name agents) (length agents)
 
 -- a call goes to no agent's queue, a mail to an agent to that agent's, and a mail from it to that agent's other one
-abbrev pub direction_of : List KeptAgent → Item → Direction
+abbrev pub direction_of : List ConfiguredAgent → Item → Direction
 direction_of agents (items.Call stream call) = Call
 direction_of agents (items.ToAgent to) = ToAgent (place_or_end to.agent agents)
 direction_of agents (items.ToMaster to) = FromAgent (place_or_end to.agent agents)
 
--- so many were put behind those that were there before, and the rest has room
-pub record Puts (before all done count room : ℕ) (old_gives new_gives : ℕ → Bool) : Type 0 where
+-- the item at a place was put in its direction, where the post keeps directions
+abbrev pub IsPut : List ConfiguredAgent → (ℕ → Option Direction) → ℕ → Item → Type 0
+IsPut agents directions place item = IfSome (directions (suc place)) (λ d. d ≡ direction_of agents item)
+
+-- so was each item from a place on
+abbrev pub ArePut : ℕ → List ConfiguredAgent → List Item → (ℕ → Option Direction) → Type 0
+ArePut from agents sent directions = (place : ℕ) (item : Item) → from ≤ place → slice_get sent place ≡ Some item → IsPut agents directions place item
+
+-- of the items behind those that were there before so many were put, and the rest has room
+pub record Puts (agents : List ConfiguredAgent) (sent : List Item) (before done count room : ℕ) (old_gives new_gives : ℕ → Bool) (old_directions new_directions : ℕ → Option Direction) : Type 0 where
   pub counts : count ≡ before + done
-  pub fits : all ≤ (before + done) + room
+  pub fits : length sent ≤ (before + done) + room
   pub same : (n : ℕ) → n ≤ before → new_gives n ≡ old_gives n
+  pub same_directions : (n : ℕ) → n ≤ before → new_directions n ≡ old_directions n
+  pub put : (place : ℕ) (item : Item) → before ≤ place → place < before + done → slice_get sent place ≡ Some item → IsPut agents new_directions place item

@@ -1,8 +1,10 @@
--- What is read of a cluster's streams.
-use Rattle.std.specs.Prelude.{ℕ, Bool, false, if◌then◌else◌, Option, Some}
+-- What is read of a cluster's streams and mails.
+use Rattle.std.specs.Prelude.{◌≡◌, ℕ, Bool, true, false, if◌then◌else◌, List, Option, Some}
 use Rattle.names_core.specs.Ids.{Numbered}
-use Rattle.cluster_model.specs.Clusters.{Cluster, master_of}
+use Rattle.cluster_model.specs.Clusters.{Cluster, Down, Up, master_of}
+use Rattle.cluster_model.specs.Steps.{post_at}
 use Rattle.master_core.specs.Steps.{is_open}
+use Rattle.post_rules.specs.Queueing.{Item, hands_out}
 use Rattle.told_streams.specs.Kept.{kept_streams}
 use Rattle.told_streams.specs.Streams.{count_on}
 
@@ -13,3 +15,23 @@ waiting_in stream c = count_on stream (kept_streams c.streams)
 -- whether a stream is the open one of a framework, where a master serves
 abbrev pub is_open_in : Numbered → Cluster → Bool
 is_open_in stream c = if c.world.run.serves then is_open stream (Some (master_of c)) else false
+
+-- under this number stands a mail to an agent that can be handed out: of the mails to it the first that wasn't
+pub record IsNextTo (agent : List ℕ) (c : Cluster) (queued : List Item) (number : ℕ) : Type 0 where
+  pub place : ℕ
+  pub is : post_at c number ≡ Some (Down agent place)
+  pub waits : hands_out queued number ≡ true
+
+-- no mail to an agent can be handed out
+abbrev pub NoneTo : List ℕ → Cluster → List Item → Type 0
+NoneTo agent c queued = (number place : ℕ) → post_at c number ≡ Some (Down agent place) → hands_out queued number ≡ false
+
+-- under this number stands a mail from an agent that can be handed out: of the mails from it the first that wasn't
+pub record IsNextFrom (agent : List ℕ) (c : Cluster) (queued : List Item) (number : ℕ) : Type 0 where
+  pub place : ℕ
+  pub is : post_at c number ≡ Some (Up agent place)
+  pub waits : hands_out queued number ≡ true
+
+-- no mail from an agent can be handed out
+abbrev pub NoneFrom : List ℕ → Cluster → List Item → Type 0
+NoneFrom agent c queued = (number place : ℕ) → post_at c number ≡ Some (Up agent place) → hands_out queued number ≡ false

@@ -2,7 +2,7 @@
 
 ghost use Rattle.std.specs.Prelude.{◌≡◌, ◌<◌, ◌≤◌, ◌+◌, length, vec_capacity, vec_len, IfOk, IfErr, OnErr, ℕ};
 ghost use Rattle.cluster_core.specs.Keeping.{IsKept, IsRefused, IsTaken, entry_made, story_of, taken_made};
-ghost use Rattle.cluster_core.specs.Putting.{direction_of, place_or_end};
+ghost use Rattle.cluster_core.specs.Putting.{ArePut, direction_of, place_in, place_or_end};
 ghost use Rattle.cluster_core.specs.Stories.{state_of, with_entry};
 ghost use Rattle.cluster_parts.specs.Handing.{IsGiven, handed};
 ghost use Rattle.cluster_parts.specs.Posts.{Roomier};
@@ -10,8 +10,9 @@ ghost use Rattle.cluster_steps.specs.Steps.{step_of};
 
 use crate::parts::Parts;
 use crate::taken::{History, Taken};
-use cluster_laws::{Item, states_count_entries};
-use cluster_parts::{ClusterAgent, Made, place_of};
+use agent_sides::ConfiguredAgent;
+use cluster_laws::{Item, sent_items_stand, states_count_entries};
+use cluster_parts::Made;
 use cluster_steps::{ClusterFault, Entry, Step, StepCause};
 use names_core::AgentName;
 use post_rules::{Direction, Post};
@@ -20,18 +21,25 @@ use std::alloc::Global;
 /// With the opening's entry, which has the number 0, a history has 4,294,967,295 entries at most.
 const MOST_ENTRIES: u64 = 4_294_967_294;
 
+/// Where the agent of a name stands in the configuration, from 0; none where no agent has the name.
+pub fn place_in(agents: &[ConfiguredAgent], name: &AgentName) -> Option<usize>
+    ensures { result ≡ place_in name.now agents.now }
+{
+    agents.iter().position(|agent| agent.name.is(name))
+}
+
 /// Where the agent of a name stands; each mail's agent does.
-fn place_or_end(agents: &[ClusterAgent], name: &AgentName) -> usize
+fn place_or_end(agents: &[ConfiguredAgent], name: &AgentName) -> usize
     ensures { result ≡ place_or_end name.now agents.now }
 {
-    match place_of(agents, name) {
+    match place_in(agents, name) {
         Some(place) => place,
         None => agents.len(),
     }
 }
 
 /// Which way an item was sent.
-fn direction_of(agents: &[ClusterAgent], item: &Item) -> Direction
+fn direction_of(agents: &[ConfiguredAgent], item: &Item) -> Direction
     ensures { result ≡ direction_of agents.now item.now }
 {
     match item {
@@ -42,12 +50,14 @@ fn direction_of(agents: &[ClusterAgent], item: &Item) -> Direction
 }
 
 /// Puts all items into the post that were sent behind the first so many, which it has.
-pub fn put_all<P: Post>(post: &mut P, agents: &[ClusterAgent], items: &[Item], before: usize)
+pub fn put_all<P: Post>(post: &mut P, agents: &[ConfiguredAgent], items: &[Item], before: usize)
     requires counted { P.count post.old ≡ before }
     requires within { before ≤ length items.now }
     requires room { length items.now ≤ before + P.room post.old }
     ensures count { P.count post.new ≡ length items.now }
     ensures gives { (n : ℕ) → n ≤ before → P.gives post.new n ≡ P.gives post.old n }
+    ensures directions { (n : ℕ) → n ≤ before → P.direction_at post.new n ≡ P.direction_at post.old n }
+    ensures put { ArePut before agents.now items.now (P.direction_at post.new) }
 {
     let sent = &items[before..];
     for item in sent {
@@ -75,14 +85,11 @@ fn hand_on<P: Post>(post: &mut P, parts: &Parts, before: usize, step: &Step)
     requires within { before ≤ length parts.now.items }
     requires room { length parts.now.items ≤ before + P.room post.old }
     requires given { IsGiven (P.gives post.old) (step_of step.now) }
-    ensures { P.count post.new ≡ length parts.now.items }
+    ensures count { P.count post.new ≡ length parts.now.items }
+    ensures directions { (n : ℕ) → n ≤ before → P.direction_at post.new n ≡ P.direction_at post.old n }
+    ensures put { ArePut before parts.now.config parts.now.items (P.direction_at post.new) }
 {
-    put_all(
-        post,
-        parts.agents.as_slice(),
-        parts.items.as_slice(),
-        before,
-    );
+    put_all(post, parts.config.agents(), parts.items.as_slice(), before);
     if let Some(number) = handed(step) {
         post.given(number);
     }
@@ -120,14 +127,15 @@ pub fn advance<P: Post>(
     alloc: Global,
     step: Step,
 ) -> Result<Taken, ClusterFault>
-    requires { IsKept (story_of history.old) history.old.opened parts.old (P.count post.old) }
-    ensures kept { IsKept (story_of history.new) history.new.opened parts.new (P.count post.new) }
+    requires { IsKept (story_of history.old) history.old.opened parts.old (P.count post.old) (P.direction_at post.old) }
+    ensures kept { IsKept (story_of history.new) history.new.opened parts.new (P.count post.new) (P.direction_at post.new) }
     ensures taken { IfOk result (λ taken. IsTaken (story_of history.old) step taken (story_of history.new)) }
     ensures given { IfOk result (λ _. IsGiven (P.gives post.old) (step_of step)) }
     ensures refused { IfErr result (IsRefused (state_of (story_of history.old)) (P.gives post.old) (step_of step)) }
     ensures unchanged { OnErr result (story_of history.new ≡ story_of history.old) }
-    ensures post { OnErr result (Roomier (P.count post.old) (P.count post.new) (P.gives post.old) (P.gives post.new)) }
+    ensures post { OnErr result (Roomier (P.count post.old) (P.count post.new) (P.gives post.old) (P.gives post.new) (P.direction_at post.old) (P.direction_at post.new)) }
 {
+    sent_items_stand();
     states_count_entries();
     if history.entries.len() as u64 >= MOST_ENTRIES {
         return Err(ClusterFault::HistoryFull);

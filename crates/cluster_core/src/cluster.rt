@@ -50,7 +50,7 @@ impl<P: Post + Drop> Model for Cluster<P> {
 
     ghost view = { λ c. record { story = story_of c.history; post = c.post } };
 
-    ghost invariant = { λ c. IsKept (story_of c.history) c.history.opened c.parts (P.count c.post) };
+    ghost invariant = { λ c. IsKept (story_of c.history) c.history.opened c.parts (P.count c.post) (P.direction_at c.post) };
 }
 
 impl<P: Post + Drop> Cluster<P> {
@@ -70,12 +70,7 @@ impl<P: Post + Drop> Cluster<P> {
         records_are_recorded(records.as_slice());
         let mut post = P::empty();
         let opened = open_parts(&mut post, alloc, &config, records.as_slice(), run)?;
-        put_all(
-            &mut post,
-            opened.agents.as_slice(),
-            opened.items.as_slice(),
-            0,
-        );
+        put_all(&mut post, config.agents(), opened.items.as_slice(), 0);
         Ok(Cluster {
             history: History {
                 run,
@@ -104,7 +99,7 @@ impl<P: Post + Drop> Cluster<P> {
         ensures given { IfOk result (λ _. IsGiven (P.gives self.old.post) (step_of step)) }
         ensures refused { IfErr result (IsRefused (state_of self.old.story) (P.gives self.old.post) (step_of step)) }
         ensures unchanged { OnErr result (self.new.story ≡ self.old.story) }
-        ensures post { OnErr result (Roomier (P.count self.old.post) (P.count self.new.post) (P.gives self.old.post) (P.gives self.new.post)) }
+        ensures post { OnErr result (Roomier (P.count self.old.post) (P.count self.new.post) (P.gives self.old.post) (P.gives self.new.post) (P.direction_at self.old.post) (P.direction_at self.new.post)) }
         ensures safe { Safe self.new.story }
     {
         let taken = advance(

@@ -50,7 +50,7 @@ impl Parts {
         ensures refused { IfErr result (λ fault. (c : Cluster) → PartsOf c self.old → Refuses c (Send stream call.now) fault) }
         ensures unchanged { OnErr result (Same self.old self.new) }
         ensures config { self.new.config ≡ self.old.config }
-        ensures post { Roomier (P.count post.old) (P.count post.new) (P.gives post.old) (P.gives post.new) }
+        ensures post { Roomier (P.count post.old) (P.count post.new) (P.gives post.old) (P.gives post.new) (P.direction_at post.old) (P.direction_at post.new) }
         ensures room { Grows (length self.old.items) (length self.new.items) (P.room post.new) }
     {
         let copy = copy_call(alloc, call)?;
@@ -69,7 +69,7 @@ impl Parts {
         ensures refused { IfErr result (λ fault. (c : Cluster) → PartsOf c self.old → MayRefuse c (P.gives post.old) (Deliver number) fault) }
         ensures unchanged { OnErr result (Same self.old self.new) }
         ensures config { self.new.config ≡ self.old.config }
-        ensures post { Roomier (P.count post.old) (P.count post.new) (P.gives post.old) (P.gives post.new) }
+        ensures post { Roomier (P.count post.old) (P.count post.new) (P.gives post.old) (P.gives post.new) (P.direction_at post.old) (P.direction_at post.new) }
         ensures room { Grows (length self.old.items) (length self.new.items) (P.room post.new) }
         ensures given { IfOk result (λ _. P.gives post.old number ≡ true) }
     {
@@ -97,7 +97,7 @@ impl Parts {
         ensures refused { IfErr result (λ fault. (c : Cluster) → PartsOf c self.old → Refuses c Allocate fault) }
         ensures unchanged { OnErr result (Same self.old self.new) }
         ensures config { self.new.config ≡ self.old.config }
-        ensures post { Roomier (P.count post.old) (P.count post.new) (P.gives post.old) (P.gives post.new) }
+        ensures post { Roomier (P.count post.old) (P.count post.new) (P.gives post.old) (P.gives post.new) (P.direction_at post.old) (P.direction_at post.new) }
         ensures room { Grows (length self.old.items) (length self.new.items) (P.room post.new) }
     {
         cluster_parts::allocate(
@@ -116,7 +116,7 @@ impl Parts {
         ensures refused { IfErr result (λ fault. (c : Cluster) → PartsOf c self.old → Refuses c (Tick now) fault) }
         ensures unchanged { OnErr result (Same self.old self.new) }
         ensures config { self.new.config ≡ self.old.config }
-        ensures post { Roomier (P.count post.old) (P.count post.new) (P.gives post.old) (P.gives post.new) }
+        ensures post { Roomier (P.count post.old) (P.count post.new) (P.gives post.old) (P.gives post.new) (P.direction_at post.old) (P.direction_at post.new) }
         ensures room { Grows (length self.old.items) (length self.new.items) (P.room post.new) }
     {
         let items = &mut self.items;
@@ -146,7 +146,7 @@ impl Parts {
         ensures refused { IfErr result (λ fault. (c : Cluster) → PartsOf c self.old → Refuses c (LoseAgent name.now) fault) }
         ensures unchanged { OnErr result (Same self.old self.new) }
         ensures config { self.new.config ≡ self.old.config }
-        ensures post { Roomier (P.count post.old) (P.count post.new) (P.gives post.old) (P.gives post.new) }
+        ensures post { Roomier (P.count post.old) (P.count post.new) (P.gives post.old) (P.gives post.new) (P.direction_at post.old) (P.direction_at post.new) }
         ensures room { Grows (length self.old.items) (length self.new.items) (P.room post.new) }
     {
         let agents = self.agents.as_slice();
@@ -174,7 +174,7 @@ impl Parts {
         ensures refused { IfErr result (λ fault. (c : Cluster) → PartsOf c self.old → Refuses c (HangUp stream) fault) }
         ensures unchanged { OnErr result (Same self.old self.new) }
         ensures config { self.new.config ≡ self.old.config }
-        ensures post { Roomier (P.count post.old) (P.count post.new) (P.gives post.old) (P.gives post.new) }
+        ensures post { Roomier (P.count post.old) (P.count post.new) (P.gives post.old) (P.gives post.new) (P.direction_at post.old) (P.direction_at post.new) }
         ensures room { Grows (length self.old.items) (length self.new.items) (P.room post.new) }
     {
         let items = &mut self.items;
@@ -195,7 +195,7 @@ impl Parts {
         ensures refused { IfErr result (λ fault. (c : Cluster) → PartsOf c self.old → Refuses c StopMaster fault) }
         ensures unchanged { OnErr result (Same self.old self.new) }
         ensures config { self.new.config ≡ self.old.config }
-        ensures post { Roomier (P.count post.old) (P.count post.new) (P.gives post.old) (P.gives post.new) }
+        ensures post { Roomier (P.count post.old) (P.count post.new) (P.gives post.old) (P.gives post.new) (P.direction_at post.old) (P.direction_at post.new) }
         ensures room { Grows (length self.old.items) (length self.new.items) (P.room post.new) }
     {
         let items = &mut self.items;
@@ -262,7 +262,7 @@ impl Parts {
         ensures refused { IfErr result (λ fault. (c : Cluster) → PartsOf c self.old → Refuses c (Commit name.now) fault) }
         ensures unchanged { OnErr result (Same self.old self.new) }
         ensures config { self.new.config ≡ self.old.config }
-        ensures post { Roomier (P.count post.old) (P.count post.new) (P.gives post.old) (P.gives post.new) }
+        ensures post { Roomier (P.count post.old) (P.count post.new) (P.gives post.old) (P.gives post.new) (P.direction_at post.old) (P.direction_at post.new) }
         ensures room { Grows (length self.old.items) (length self.new.items) (P.room post.new) }
     {
         cluster_parts::commit(
@@ -312,7 +312,7 @@ impl Parts {
         ensures refused { IfErr result (λ fault. (c : Cluster) → PartsOf c self.old → MayRefuse c (P.gives post.old) (step_of step.now) fault) }
         ensures unchanged { OnErr result (Same self.old self.new) }
         ensures config { self.new.config ≡ self.old.config }
-        ensures post { Roomier (P.count post.old) (P.count post.new) (P.gives post.old) (P.gives post.new) }
+        ensures post { Roomier (P.count post.old) (P.count post.new) (P.gives post.old) (P.gives post.new) (P.direction_at post.old) (P.direction_at post.new) }
         ensures room { Grows (length self.old.items) (length self.new.items) (P.room post.new) }
         ensures given { IfOk result (λ _. IsGiven (P.gives post.old) (step_of step.now)) }
     {

@@ -109,7 +109,7 @@ fn send_draft<P: Post>(
     ensures given { IfOk result (λ told. told.given ≡ told.sent) }
     ensures refused { IfErr result (λ fault. (c : Cluster) → agents.old ≡ kept_agents c → Refuses c (Commit name.now) fault) }
     ensures unchanged { OnErr result ((agents.new ≡ agents.old) × (items.new ≡ items.old)) }
-    ensures post { Roomier (P.count post.old) (P.count post.new) (P.gives post.old) (P.gives post.new) }
+    ensures post { Roomier (P.count post.old) (P.count post.new) (P.gives post.old) (P.gives post.new) (P.direction_at post.old) (P.direction_at post.new) }
     ensures room { Grows (length items.old) (length items.new) (P.room post.new) }
 {
     commits_are_made();
@@ -139,7 +139,7 @@ pub fn commit<P: Post>(
     ensures durable { IfOk result (λ made. made.durable ≡ None) }
     ensures refused { IfErr result (λ fault. (c : Cluster) → agents.old ≡ kept_agents c → Refuses c (Commit name.now) fault) }
     ensures unchanged { OnErr result ((agents.new ≡ agents.old) × (items.new ≡ items.old)) }
-    ensures post { Roomier (P.count post.old) (P.count post.new) (P.gives post.old) (P.gives post.new) }
+    ensures post { Roomier (P.count post.old) (P.count post.new) (P.gives post.old) (P.gives post.new) (P.direction_at post.old) (P.direction_at post.new) }
     ensures room { Grows (length items.old) (length items.new) (P.room post.new) }
 {
     let told = send_draft(agents, items, post, alloc, name)?;

@@ -104,7 +104,7 @@ pub fn open_parts<P: Post>(
     requires configured { config.now ≡ map configured records.now }
     ensures opens { IfOk result (Opens run records.now) }
     ensures refused { IfErr result (λ fault. fault ≡ OutOfMemory) }
-    ensures post { Roomier (P.count post.old) (P.count post.new) (P.gives post.old) (P.gives post.new) }
+    ensures post { Roomier (P.count post.old) (P.count post.new) (P.gives post.old) (P.gives post.new) (P.direction_at post.old) (P.direction_at post.new) }
     ensures room { IfOk result (λ opened. length opened.items ≤ P.room post.new) }
 {
     openings_are_made();

@@ -79,7 +79,7 @@ pub fn stop_master<P: Post>(
 ) -> Made
     requires { StandingOver config.now run.old master.old items.old streams.old }
     ensures made { (c : Cluster) (r : Reached c) → config.now ≡ map configured r.records → c.world.run.number ≡ run.old → StandsFor c master.old items.old streams.old → Restarts c result run.new master.new items.new streams.new }
-    ensures post { Roomier (P.count post.old) (P.count post.new) (P.gives post.old) (P.gives post.new) }
+    ensures post { Roomier (P.count post.old) (P.count post.new) (P.gives post.old) (P.gives post.new) (P.direction_at post.old) (P.direction_at post.new) }
     ensures room { Grows (length items.old) (length items.new) (P.room post.new) }
 {
     restarts_are_made();

@@ -68,7 +68,7 @@ pub fn send<P: Post>(
     ensures durable { IfOk result (λ made. made.durable ≡ None) }
     ensures memory { IfErr result (λ fault. fault ≡ OutOfMemory) }
     ensures unchanged { OnErr result (items.new ≡ items.old) }
-    ensures post { Roomier (P.count post.old) (P.count post.new) (P.gives post.old) (P.gives post.new) }
+    ensures post { Roomier (P.count post.old) (P.count post.new) (P.gives post.old) (P.gives post.new) (P.direction_at post.old) (P.direction_at post.new) }
     ensures room { Grows (length items.old) (length items.new) (P.room post.new) }
 {
     sends_are_made();

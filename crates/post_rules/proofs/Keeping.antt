@@ -12,7 +12,7 @@ use Rattle.post_rules.specs.declared.direction.Direction.{Direction}
 use Rattle.post_rules.specs.declared.direction.Direction.TheVariants.{Call, ToAgent, FromAgent}
 use Rattle.post_rules.specs.declared.stores.Lasts.{Lasts}
 use Rattle.post_rules.specs.declared.stores.Sent.{Sent}
-use Rattle.post_rules.specs.Queueing.{Item, handed_over, hands_out, is_next, nothing_waits, same_queue}
+use Rattle.post_rules.specs.Queueing.{Item, direction_in, handed_over, hands_out, is_next, nothing_waits, same_queue}
 use Rattle.post_rules.specs.Stores.{AreInOrder, AreLasts, IsLast, LastsByAgent, given_sent, item_of, items_of, last_in}
 use Rattle.post_rules.proofs.Lists.{each_passes, get_of_one_more, get_of_set, take_of_get}
 
@@ -145,6 +145,26 @@ newest_can_go xs d =
     let le : length xs ≤ length xs = omega arith in
     let some : nat_lt 0 (suc (length xs)) ≡ true = grind (arith, nat_tests) in
     rw (e, take-append-le (length xs) xs (y ∷ []) le, take_all (length xs) xs le, get_last xs y, some) refl
+
+-- ---- the directions
+
+pub older_directions_stay : (xs : List Item) (y : Item) (n : ℕ) → n ≤ length xs → direction_in (xs ++ y ∷ []) n ≡ direction_in xs n
+older_directions_stay xs y zero le = refl
+older_directions_stay xs y (suc i) le = ap (option_map (λ (x : Item). x.direction)) (get_in_front xs y i (omega (arith, le)))
+
+pub newest_direction : (xs : List Item) (y : Item) → direction_in (xs ++ y ∷ []) (suc (length xs)) ≡ Some y.direction
+newest_direction xs y = ap (option_map (λ (x : Item). x.direction)) (get_last xs y)
+
+direction_after : (xs : List Item) (k : ℕ) (x : Item) → slice_get xs k ≡ Some x → (i : ℕ) → option_map (λ (y : Item). y.direction) (slice_get (set xs k (handed_over x)) i) ≡ option_map (λ (y : Item). y.direction) (slice_get xs i)
+direction_after [] k x at i = refl
+direction_after (y ∷ ys) zero x at zero = let same : y ≡ x = cc in rw same refl
+direction_after (y ∷ ys) zero x at (suc i) = refl
+direction_after (y ∷ ys) (suc k) x at zero = refl
+direction_after (y ∷ ys) (suc k) x at (suc i) = direction_after ys k x at i
+
+pub directions_stay : (xs : List Item) (k : ℕ) (x : Item) → slice_get xs k ≡ Some x → (n : ℕ) → direction_in (set xs k (handed_over x)) n ≡ direction_in xs n
+directions_stay xs k x at zero = refl
+directions_stay xs k x at (suc i) = direction_after xs k x at i
 
 -- ---- the one that is handed out
 

@@ -1,17 +1,17 @@
 -- The first that waits in a queue is found from its last.
-use Rattle.std.proofs.Common.{◌≡◌, ◌<◌, ◌≤◌, ℕ, suc, zero, ◌-◌, true, false, not, ◌&&◌, List, nat_lt, length, take, map, get_or, Some, refl, sym, ap, ◌∙◌, arith}
+use Rattle.std.proofs.Common.{◌≡◌, ◌<◌, ◌≤◌, ℕ, suc, zero, ◌-◌, true, false, List, nat_lt, length, take, get_or, Some, refl, ap, arith}
 use Rattle.std.specs.List.{slice_get}
 use Rattle.std.proofs.lemmas.Bool.{eqb-true}
 use Rattle.std.proofs.lemmas.Bool.Decides.{nat_tests}
 use Rattle.std.proofs.lemmas.List.{length-map, length-take, take_all}
-use Rattle.std.proofs.lemmas.Option.{slice_get-get_or, slice_get_within}
+use Rattle.std.proofs.lemmas.Option.{slice_get-get_or}
 use Rattle.post_rules.specs.declared.direction.Direction.{Direction}
 use Rattle.post_rules.specs.declared.direction.Direction.TheVariants.{Call, ToAgent, FromAgent}
 use Rattle.post_rules.specs.declared.stores.Sent.{Sent}
-use Rattle.post_rules.specs.Queueing.{IsFirstWaiting, hands_out, nothing_waits, same_queue}
+use Rattle.post_rules.specs.Queueing.{nothing_waits, same_queue}
 use Rattle.post_rules.specs.Stores.{AreInOrder, IsFirstOrNone, IsLast, IsSought, before, item_of, items_of}
 use Rattle.post_rules.proofs.Handing.{item_at, none_waits}
-use Rattle.post_rules.proofs.Lists.{get_of_take, take_of_get}
+use Rattle.post_rules.proofs.Lists.{take_of_get}
 
 abbrev pub nothing : Sent
 nothing = record { direction = Call; previous = 0; given = false }

@@ -1,5 +1,5 @@
 -- Calls and queues of mails, of which each is handed out once.
-use Rattle.std.specs.Prelude.{◌≡◌, IfSome, ℕ, ◌-◌, List, [], Bool, true, false, ◌&&◌, ◌||◌, not, ◌==◌, nat_lt, take, Option, None, Some}
+use Rattle.std.specs.Prelude.{◌≡◌, IfSome, ℕ, zero, suc, ◌-◌, List, [], Bool, true, false, ◌&&◌, ◌||◌, not, ◌==◌, nat_lt, take, Option, None, Some, option_map}
 use Rattle.std.specs.List.{slice_get, list_all}
 use Rattle.post_rules.specs.declared.direction.Direction.{Direction}
 use Rattle.post_rules.specs.declared.direction.Direction.TheVariants.{ToAgent, FromAgent}
@@ -27,6 +27,11 @@ is_next before (Some item) = not item.given && nothing_waits item.direction befo
 -- what is handed out next: each call, and of each queue the first that waits; numbers are from 1
 abbrev pub hands_out : List Item → ℕ → Bool
 hands_out items n = nat_lt 0 n && is_next (take (n - 1) items) (slice_get items (n - 1))
+
+-- the direction in which a number was put
+abbrev pub direction_in : List Item → ℕ → Option Direction
+direction_in items zero = None
+direction_in items (suc place) = option_map (λ i. i.direction) (slice_get items place)
 
 -- this number is that of the first that waits in the queue of a direction
 abbrev pub IsFirstWaiting : Direction → List Item → ℕ → Type 0

@@ -1,6 +1,6 @@
 //! What was ever sent.
 
-ghost use Rattle.std.specs.Prelude.{◌≡◌, ◌-◌, ◌≤◌, ℕ};
+ghost use Rattle.std.specs.Prelude.{◌≡◌, ◌-◌, ◌≤◌, ℕ, None};
 ghost use Rattle.post_rules.specs.Numbers.{is_number, numbers_are_from_one};
 
 use crate::direction::Direction;
@@ -19,6 +19,8 @@ impl Post for EverSent {
     ghost gives = { λ p n. is_number p.count n };
 
     ghost room = { λ p. 18446744073709551615 - p.count };
+
+    ghost direction_at = { λ p n. None };
 
     ghost was_put = { λ p n e. numbers_are_from_one p.count n e };
 

@@ -1,7 +1,7 @@
 //! Queues of what was put.
 
 ghost use Rattle.std.specs.Prelude.{◌≡◌, ◌<◌, ◌≤◌, ◌-◌, ◌++◌, ◌∷◌, [], ℕ, suc, true, false, length, set, slice_get, IfNone, IfSome, Some};
-ghost use Rattle.post_rules.specs.Queueing.{IsFirstWaiting, Item, handed_over, hands_out, nothing_waits};
+ghost use Rattle.post_rules.specs.Queueing.{IsFirstWaiting, Item, direction_in, handed_over, hands_out, nothing_waits};
 
 use crate::direction::Direction;
 use crate::post::Post;
@@ -27,7 +27,7 @@ impl Model for Queues {
 
 impl Post for Queues {
     ghost use Rattle.std.specs.Prelude.{length};
-    ghost use Rattle.post_rules.specs.Queueing.{hands_out};
+    ghost use Rattle.post_rules.specs.Queueing.{direction_in, hands_out};
     ghost use Rattle.post_rules.specs.Numbers.{handed_out_was_put};
 
     ghost count = { λ p. length p.items };
@@ -35,6 +35,8 @@ impl Post for Queues {
     ghost gives = { λ p n. hands_out p.items n };
 
     ghost room = { λ p. p.room };
+
+    ghost direction_at = { λ p n. direction_in p.items n };
 
     ghost was_put = { λ p n e. handed_out_was_put p.items n e };
 
@@ -61,6 +63,9 @@ impl Post for Queues {
         ensures older { (n : ℕ) → n ≤ length self.old.items → hands_out self.new.items n ≡ hands_out self.old.items n }
         // and can be handed out at once if nothing in its queue waits.
         ensures newest { hands_out self.new.items (suc (length self.old.items)) ≡ nothing_waits direction self.old.items }
+        // Its direction is kept, and so are those before.
+        ensures direction { direction_in self.new.items (suc (length self.old.items)) ≡ Some direction }
+        ensures directions { (n : ℕ) → n ≤ length self.old.items → direction_in self.new.items n ≡ direction_in self.old.items n }
     {
         if let Some(stores) = &mut self.stores {
             stores.put(direction);
@@ -81,6 +86,7 @@ impl Post for Queues {
         ensures items { (i : Item) → slice_get self.old.items (n - 1) ≡ Some i → self.new.items ≡ set self.old.items (n - 1) (handed_over i) }
         ensures room { self.new.room ≡ self.old.room }
         ensures once { hands_out self.new.items n ≡ false }
+        ensures directions { (m : ℕ) → direction_in self.new.items m ≡ direction_in self.old.items m }
     {
         if let Some(stores) = &mut self.stores {
             stores.given(n);

@@ -2,7 +2,7 @@
 
 ghost use Rattle.std.specs.Prelude.{◌≡◌, ◌<◌, ◌≤◌, ◌-◌, ◌+◌, ◌++◌, ◌∷◌, [], ℕ, suc, Bool, true, false, length, not, ◌||◌, nat_eq, if◌then◌else◌, set, slice_get, take, vec_capacity, IfNone, IfSome, OnOk, Some};
 ghost use Rattle.std.specs.HashMap.{spare};
-ghost use Rattle.post_rules.specs.Queueing.{IsFirstWaiting, Item, handed_over, hands_out, is_next, nothing_waits, same_queue};
+ghost use Rattle.post_rules.specs.Queueing.{IsFirstWaiting, Item, direction_in, handed_over, hands_out, is_next, nothing_waits, same_queue};
 ghost use Rattle.post_rules.specs.Stores.{AreInOrder, IsFirstOrNone, IsLast, given_sent, items_of, lasts_of, last_in};
 
 use crate::direction::Direction;
@@ -161,6 +161,8 @@ impl Stores {
         ensures room { self.old.room ≤ suc self.new.room }
         ensures older { (n : ℕ) → n ≤ length self.old.items → hands_out self.new.items n ≡ hands_out self.old.items n }
         ensures newest { hands_out self.new.items (suc (length self.old.items)) ≡ nothing_waits direction self.old.items }
+        ensures direction { direction_in self.new.items (suc (length self.old.items)) ≡ Some direction }
+        ensures directions { (n : ℕ) → n ≤ length self.old.items → direction_in self.new.items n ≡ direction_in self.old.items n }
     {
         let previous = last_in(&self.lasts, direction);
         self.sent.push_reserved(Sent {
@@ -196,6 +198,7 @@ impl Stores {
         ensures items { (i : Item) → slice_get self.old.items (n - 1) ≡ Some i → self.new.items ≡ set self.old.items (n - 1) (handed_over i) }
         ensures room { self.new.room ≡ self.old.room }
         ensures once { hands_out self.new.items n ≡ false }
+        ensures directions { (m : ℕ) → direction_in self.new.items m ≡ direction_in self.old.items m }
     {
         hand_out(&mut self.sent, (n - 1) as usize);
     }

@@ -12,7 +12,7 @@ use Rattle.cluster_parts.specs.Handing.{IsGiven}
 use Rattle.cluster_parts.specs.Posts.{Roomier}
 use Rattle.desk_lock.specs.declared.fault.FaultKind.{FaultKind}
 use Rattle.desk_lock.specs.declared.fault.FaultKind.TheVariants as kinds
-use Rattle.post_rules.specs.Queueing.{Post, hands_out}
+use Rattle.post_rules.specs.Queueing.{Post, direction_in, hands_out}
 use Rattle.recorded_cluster.specs.declared.given.Given.{Given}
 
 abbrev pub Recorded : Type 0
@@ -42,7 +42,7 @@ MayRefuse c step fault = IsRefused (state_of c.story) (hands_out c.post.items) (
 -- they tell the same story, and hand out the same
 pub record AreAlike (old new : Recorded) : Type 0 where
   pub story : new.story ≡ old.story
-  pub post : Roomier (length old.post.items) (length new.post.items) (hands_out old.post.items) (hands_out new.post.items)
+  pub post : Roomier (length old.post.items) (length new.post.items) (hands_out old.post.items) (hands_out new.post.items) (direction_in old.post.items) (direction_in new.post.items)
 
 pub alike_itself : (c : Recorded) → AreAlike c c
-alike_itself c = record { story = refl; post = record { same_count = refl; same_gives = λ n. refl } }
+alike_itself c = record { story = refl; post = record { same_count = refl; same_gives = λ n. refl; same_directions = λ n. refl } }

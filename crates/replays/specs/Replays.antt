@@ -134,3 +134,7 @@ replay_text input = answer told after ending beginning input
 
 abbrev pub replay_fault : List ℕ → Option LineStop
 replay_fault input = fault (after_all after beginning (all_lines input))
+
+-- the story of its cluster at the end, where a first line said which agents there are
+abbrev pub replay_story : List ℕ → Option Story
+replay_story input = (after_all after beginning (all_lines input)).story

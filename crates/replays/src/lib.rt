@@ -15,3 +15,4 @@ mod tests;
 pub use fault::{LineStop, ReplayStop};
 pub use replayer::Replayer;
 pub use replaying::replay;
+pub use table::end_table;

@@ -1,23 +1,20 @@
 //! The cluster that is replayed.
 
-ghost use Rattle.std.specs.Prelude.{◌≡◌, ◌⊎◌, Ok, Err, false, length, slice_get, option_map, IfOk, IfErr};
+ghost use Rattle.std.specs.Prelude.{◌≡◌, ◌⊎◌, Ok, Err, false, IfOk, IfErr};
 ghost use Rattle.cluster_core.specs.Keeping.{IsRefused};
+ghost use Rattle.cluster_core.specs.Safety.{Safe};
 ghost use Rattle.cluster_core.specs.Stories.{state_of, with_entry};
 ghost use Rattle.cluster_steps.specs.Steps.{fell, step_of};
 ghost use Rattle.cluster_steps.specs.declared.fault.ClusterFault.{ClusterFault};
 ghost use Rattle.cluster_steps.specs.declared.fault.ClusterFault.TheVariants.{OutOfMemory};
 ghost use Rattle.cluster_steps.specs.declared.step.Step.{Step};
 ghost use Rattle.post_rules.specs.Numbers.{is_number};
-ghost use Rattle.replays.specs.Stories.{count, due, entry_in, fresh_story, greetings, offered_now, records_now};
+ghost use Rattle.replays.specs.Stories.{due, entry_in, fresh_story, greetings};
 
-use crate::numbers::raised;
 use agent_sides::Config;
 use cluster_core::{Cluster, Taken, open_fresh};
 use cluster_steps::{ClusterFault, Entry, Sent, Step, Verdict};
-use mails::Durable;
-use names_core::AgentName;
 use post_rules::EverSent;
-use quantity::Resources;
 use std::alloc::{AllocError, Global};
 use std::marker::Model;
 
@@ -86,35 +83,17 @@ impl Replayed {
         unless_fell(taken)
     }
 
-    /// How many entries its history has, with the opening.
-    pub(crate) fn count(&self) -> Result<u64, AllocError>
-        ensures { IfOk result (λ entries. entries ≡ count self.now) }
+    /// Whatever was replayed, the cluster is safe.
+    pub(crate) fn is_safe(&self)
+        ensures { Safe self.now }
     {
-        raised(self.cluster.history().len() as u64, 1)
+        self.cluster.is_safe();
     }
 
-    /// How many agents there are.
-    pub(crate) fn agent_count(&self) -> usize
-        ensures { result ≡ length (records_now self.now) }
+    /// The cluster itself.
+    pub(crate) fn cluster(&self) -> &Cluster<EverSent>
+        ensures { result.now.story ≡ self.now }
     {
-        self.cluster.agent_count()
-    }
-
-    /// The record of the agent at a place.
-    pub(crate) fn record_at(&self, place: usize) -> Option<&Durable>
-        ensures { option_map (λ d. d.now) result ≡ slice_get (records_now self.now) place }
-    {
-        self.cluster.durable_at(place)
-    }
-
-    /// The sum of the current offers on an agent.
-    pub(crate) fn offered(&self, alloc: Global, name: &AgentName) -> Result<Resources, AllocError>
-        ensures { IfOk result (λ sum. sum ≡ offered_now self.now name.now) }
-    {
-        match self.cluster.offered_on(alloc, name) {
-            Ok(Some(sum)) => Ok(sum),
-            Ok(None) => Ok(Resources::new(alloc)),
-            Err(_) => Err(AllocError),
-        }
+        &self.cluster
     }
 }

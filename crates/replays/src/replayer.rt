@@ -2,6 +2,7 @@
 
 ghost use Rattle.std.specs.Prelude.{◌≡◌, ◌+◌, IfOk, IfSome};
 ghost use Rattle.std.specs.List.{list_all};
+ghost use Rattle.cluster_core.specs.Safety.{Safe};
 ghost use Rattle.step_lines.specs.Configs.{read_config};
 ghost use Rattle.step_lines.specs.Lines.{read_step};
 ghost use Rattle.replays.specs.Replays as replays;
@@ -10,7 +11,7 @@ use crate::fault::LineStop;
 use crate::numbers::raised;
 use crate::replayed::Replayed;
 use crate::steps::{take_step, tell_opening};
-use crate::table::table;
+use crate::table::end_table;
 use line_answers::Teller;
 use std::alloc::{AllocError, Global};
 use std::marker::Model;
@@ -88,6 +89,15 @@ impl Replayer {
                 line: 1,
                 refusal: LineRefusal::BadConfig,
             }),
+        }
+    }
+
+    /// Whatever was replayed, the cluster is safe.
+    pub fn is_safe(&self)
+        ensures { IfSome self.now.story Safe }
+    {
+        if let Some(cluster) = &self.cluster {
+            cluster.is_safe();
         }
     }
 
@@ -191,7 +201,7 @@ impl Teller for Replayer {
             return Ok(Vec::new(alloc));
         }
         match &self.cluster {
-            Some(cluster) => table(alloc, cluster),
+            Some(replayed) => end_table(alloc, replayed.cluster()),
             None => Ok(Vec::new(alloc)),
         }
     }

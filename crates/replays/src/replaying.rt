@@ -3,7 +3,8 @@
 ghost use Rattle.std.specs.Prelude.{◌≡◌, IfOk, IfSome, OnErr, OnOk};
 ghost use Rattle.std.specs.Io.KnownBytes.{Appends};
 ghost use Rattle.device_io.specs.Writes.{AppendsFront};
-ghost use Rattle.replays.specs.Replays.{replay_fault, replay_text};
+ghost use Rattle.cluster_core.specs.Safety.{Safe};
+ghost use Rattle.replays.specs.Replays.{replay_fault, replay_story, replay_text};
 
 use crate::fault::{LineStop, ReplayStop};
 use crate::replayer::Replayer;
@@ -22,12 +23,17 @@ pub fn replay<R: Read, W: Write>(
     // What is written is a function of what is read, and so is the line that ended it,
     ensures text { OnOk result (IfSome (R.remaining reader.old) (λ input. Appends (W.contents writer.old) (W.contents writer.new) (replay_text input))) }
     ensures fault { IfOk result (λ fault. IfSome (R.remaining reader.old) (λ input. fault ≡ replay_fault input)) }
+    // and the cluster is safe at the end;
+    ensures safe { IfOk result (λ _. IfSome (R.remaining reader.old) (λ input. IfSome (replay_story input) Safe)) }
     // or a beginning of it is written, where memory, the reader or the writer fail.
     ensures err { OnErr result (IfSome (R.remaining reader.old) (λ input. AppendsFront (W.contents writer.old) (W.contents writer.new) (replay_text input))) }
 {
     let mut replayer = Replayer::new();
     match answer_lines(alloc, reader, &mut replayer, writer) {
-        Ok(()) => Ok(replayer.fault()),
+        Ok(()) => {
+            replayer.is_safe();
+            Ok(replayer.fault())
+        }
         Err(Stop::Memory) => Err(ReplayStop::Memory {
             line: replayer.lines().saturating_add(1),
         }),

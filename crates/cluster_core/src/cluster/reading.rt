@@ -1,12 +1,12 @@
 //! What is read of a cluster beside its history.
 
-ghost use Rattle.std.specs.Prelude.{◌≡◌, ◌≤◌, true, length, IfSome};
-ghost use Rattle.cluster_core.specs.Reading.{is_open_in, waiting_in};
+ghost use Rattle.std.specs.Prelude.{◌≡◌, ◌≤◌, length, IfNone, IfSome};
+ghost use Rattle.cluster_core.specs.Reading.{IsNextFrom, IsNextTo, NoneFrom, NoneTo, is_open_in, waiting_in};
 ghost use Rattle.cluster_core.specs.Stories.{state_of};
-ghost use Rattle.post_rules.specs.Queueing.{hands_out};
 
+use crate::advancing::place_in;
 use crate::cluster::Cluster;
-use cluster_parts::place_of;
+use cluster_laws::{agents_keep_their_names, items_are_posts};
 use names_core::{AgentName, StreamId};
 use post_rules::{Direction, Post, Queues};
 
@@ -45,11 +45,26 @@ impl<P: Post + Drop> Cluster<P> {
 }
 
 impl Cluster<Queues> {
-    /// The number of the first mail that waits in the queue to an agent, None where none waits. It takes time for each that waits.
+    /// The number of the first mail to an agent that wasn't handed out, None where there is none. It takes time for each that waits.
     pub fn first_mail(&self, agent: &AgentName) -> Option<u64>
-        ensures { IfSome result (λ number. hands_out self.now.post.items number ≡ true) }
+        ensures first { IfSome result (IsNextTo agent.now (state_of self.now.story) self.now.post.items) }
+        ensures none { IfNone result (NoneTo agent.now (state_of self.now.story) self.now.post.items) }
     {
-        let place = place_of(self.parts.agents.as_slice(), agent)?;
+        agents_keep_their_names();
+        items_are_posts();
+        let place = place_in(self.parts.config.agents(), agent)?;
         self.post.first_waiting(Direction::ToAgent(place))
+    }
+
+    /// The number of the first mail from an agent to the master that wasn't handed out, None where there is none. It takes time for each
+    /// that waits.
+    pub fn first_mail_from(&self, agent: &AgentName) -> Option<u64>
+        ensures first { IfSome result (IsNextFrom agent.now (state_of self.now.story) self.now.post.items) }
+        ensures none { IfNone result (NoneFrom agent.now (state_of self.now.story) self.now.post.items) }
+    {
+        agents_keep_their_names();
+        items_are_posts();
+        let place = place_in(self.parts.config.agents(), agent)?;
+        self.post.first_waiting(Direction::FromAgent(place))
     }
 }

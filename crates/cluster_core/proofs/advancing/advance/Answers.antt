@@ -5,7 +5,7 @@ use Rattle.cluster_steps.specs.declared.entry.Outputs.{Outputs}
 use Rattle.cluster_core.specs.Keeping.{IsKept, IsTaken, entry_made, story_of, taken_made}
 use Rattle.cluster_core.specs.Stories.{Story, state_of, with_entry}
 use Rattle.cluster_core.specs.declared.taken.Taken.{Taken}
-use Rattle.cluster_core.proofs.Telling.{are_parts, full_refused, keeps_on, parts_of_story, step_refused, takes_on}
+use Rattle.cluster_core.proofs.Telling.{are_parts, full_refused, keeps_on, parts_of_story, stays, step_refused, takes_on}
 use Rattle.cluster_core.proofs.advancing.advance.Goals as goal
 
 pub returns-then-len-ge-MOST_ENTRIES-clause-refused : goal.returns-then-len-ge-MOST_ENTRIES-clause-refused
@@ -16,7 +16,7 @@ returns-then-len-ge-MOST_ENTRIES-clause-refused g c =
 pub take_step-requires : goal.take_step-requires
 take_step-requires g c =
     let h : length c.args.history.now.entries.items < 4294967294 = omega arith in
-    are_parts c.states_count_entries.ensures (story_of c.args.history.now) c.args.history.now.opened c.args.parts.now (g.P.Post.count c.args.post.now) c.requires h
+    are_parts c.states_count_entries.ensures (story_of c.args.history.now) c.args.history.now.opened c.args.parts.now (g.P.Post.count c.args.post.now) (g.P.Post.direction_at c.args.post.now) c.requires h
 
 pub returns-in-Ok-clause-kept : goal.returns-in-Ok-clause-kept
 returns-in-Ok-clause-kept g c =
@@ -24,12 +24,15 @@ returns-in-Ok-clause-kept g c =
     let h : length c.args.history.now.entries.items < 4294967294 = omega arith in
     let law = c.states_count_entries.ensures in
     let e = entry_made c.args.step c.in-Ok.made in
-    let t = c.in-Ok.ensures.made (state_of s) (parts_of_story law s c.args.history.now.opened c.args.parts.now (g.P.Post.count c.args.post.now) c.requires h) in
-    let kept = keeps_on law s c.args.history.now.opened c.args.parts.now c.take_step.new.self (g.P.Post.count c.args.post.now) (g.P.Post.count c.hand_on.new.post) c.args.step c.in-Ok.made c.requires h t c.take_step.ensures.config c.hand_on.ensures in
+    let t = c.in-Ok.ensures.made (state_of s) (parts_of_story law s c.args.history.now.opened c.args.parts.now (g.P.Post.count c.args.post.now) (g.P.Post.direction_at c.args.post.now) c.requires h) in
+    let there : length c.as_slice-before.result.now ≡ length c.args.parts.now.items = ap length c.as_slice-before.ensures in
+    let kept = keeps_on law c.sent_items_stand.ensures s c.args.history.now.opened c.args.parts.now c.take_step.new.self (g.P.Post.count c.args.post.now) (length c.as_slice-before.result.now) (g.P.Post.count c.hand_on.new.post)
+    (g.P.Post.direction_at c.args.post.now) (g.P.Post.direction_at c.take_step.new.post) (g.P.Post.direction_at c.hand_on.new.post) c.args.step c.in-Ok.made c.requires h t c.take_step.ensures.config c.hand_on.ensures.count
+    there c.take_step.ensures.post.same_directions c.hand_on.ensures.directions c.hand_on.ensures.put in
     let told : story_of c.write_down.new.history ≡ with_entry s e =
     c.write_down.ensures.told ∙ ap (λ (xs : List Entry). with_entry (record { run = c.args.history.now.run; records = c.args.history.now.records.items; entries = xs }) e) c.reserve.ensures.items in
-    subst (λ (o : Outputs). IsKept (story_of c.write_down.new.history) o c.take_step.new.self (g.P.Post.count c.hand_on.new.post)) (sym c.write_down.ensures.opened)
-    (subst (λ (x : Story). IsKept x c.args.history.now.opened c.take_step.new.self (g.P.Post.count c.hand_on.new.post)) (sym told) kept)
+    subst (λ (o : Outputs). IsKept (story_of c.write_down.new.history) o c.take_step.new.self (g.P.Post.count c.hand_on.new.post) (g.P.Post.direction_at c.hand_on.new.post)) (sym c.write_down.ensures.opened)
+    (subst (λ (x : Story). IsKept x c.args.history.now.opened c.take_step.new.self (g.P.Post.count c.hand_on.new.post) (g.P.Post.direction_at c.hand_on.new.post)) (sym told) kept)
 
 pub returns-in-Ok-clause-taken : goal.returns-in-Ok-clause-taken
 returns-in-Ok-clause-taken g c =
@@ -37,7 +40,7 @@ returns-in-Ok-clause-taken g c =
     let h : length c.args.history.now.entries.items < 4294967294 = omega arith in
     let law = c.states_count_entries.ensures in
     let e = entry_made c.args.step c.in-Ok.made in
-    let t = c.in-Ok.ensures.made (state_of s) (parts_of_story law s c.args.history.now.opened c.args.parts.now (g.P.Post.count c.args.post.now) c.requires h) in
+    let t = c.in-Ok.ensures.made (state_of s) (parts_of_story law s c.args.history.now.opened c.args.parts.now (g.P.Post.count c.args.post.now) (g.P.Post.direction_at c.args.post.now) c.requires h) in
     let told : story_of c.write_down.new.history ≡ with_entry s e =
     c.write_down.ensures.told ∙ ap (λ (xs : List Entry). with_entry (record { run = c.args.history.now.run; records = c.args.history.now.records.items; entries = xs }) e) c.reserve.ensures.items in
     subst (λ (x : Taken). IsTaken s c.args.step x (story_of c.write_down.new.history)) (sym c.write_down.ensures.taken)
@@ -46,4 +49,14 @@ returns-in-Ok-clause-taken g c =
 pub returns-in-Err-clause-refused : goal.returns-in-Err-clause-refused
 returns-in-Err-clause-refused g c =
     let h : length c.args.history.now.entries.items < 4294967294 = omega arith in
-    step_refused c.states_count_entries.ensures (story_of c.args.history.now) c.args.history.now.opened c.args.parts.now (g.P.Post.count c.args.post.now) (g.P.Post.gives c.args.post.now) (step_of c.args.step) c.in-Err.fault c.requires h c.in-Err.ensures.refused
+    step_refused c.states_count_entries.ensures (story_of c.args.history.now) c.args.history.now.opened c.args.parts.now (g.P.Post.count c.args.post.now) (g.P.Post.direction_at c.args.post.now) (g.P.Post.gives c.args.post.now) (step_of c.args.step) c.in-Err.fault c.requires h c.in-Err.ensures.refused
+
+pub returns-in-Err-clause-kept : goal.returns-in-Err-clause-kept
+returns-in-Err-clause-kept g c =
+    let p = c.args.parts.now in
+    let q = c.take_step.new.self in
+    let opened = c.args.history.now.opened in
+    let count = g.P.Post.count c.take_step.new.post in
+    let ways = g.P.Post.direction_at c.take_step.new.post in
+    let kept = stays (story_of c.args.history.now) opened p q (g.P.Post.count c.args.post.now) count (g.P.Post.direction_at c.args.post.now) ways c.requires c.in-Err.ensures.unchanged c.take_step.ensures.post.same_count c.take_step.ensures.post.same_directions in
+    subst (λ (xs : List Entry). IsKept (record { run = c.args.history.now.run; records = c.args.history.now.records.items; entries = xs }) opened q count ways) (sym {A = List Entry} c.reserve.ensures.items) kept

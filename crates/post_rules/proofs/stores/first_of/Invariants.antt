@@ -1,4 +1,3 @@
-use Rattle.std.proofs.Common.{◌≡◌}
 use Rattle.post_rules.specs.Stores.{IsSought}
 use Rattle.post_rules.proofs.stores.first_of.Given as goal
 

@@ -1,8 +1,9 @@
 use Rattle.std.proofs.Common.{◌≡◌, ◌-◌, true, length, refl, ap, ◌∙◌}
 use Rattle.std.proofs.lemmas.List.{length-set}
-use Rattle.post_rules.specs.Queueing.{hands_out}
-use Rattle.post_rules.specs.Stores.{given_sent, items_of}
-use Rattle.post_rules.proofs.Keeping.{as_many, given_once, hands_out_front, items_with_given, lasts_there, lasts_with_given, order_after_front, order_along}
+use Rattle.post_rules.specs.Queueing.{direction_in, hands_out}
+use Rattle.post_rules.specs.Stores.{given_sent, item_of, items_of}
+use Rattle.post_rules.proofs.Handing.{item_at}
+use Rattle.post_rules.proofs.Keeping.{as_many, directions_stay, given_once, hands_out_front, items_with_given, lasts_there, lasts_with_given, order_after_front, order_along}
 use Rattle.post_rules.proofs.stores.Stores.given.Goals as goal
 
 pub invariant_of-self : goal.invariant_of-self
@@ -48,3 +49,13 @@ returns-clause-room c =
     let is = c.hand_out.ensures.items front.0 front.1.at in
     let many : length c.hand_out.new.sent.items ≡ length xs = ap length is ∙ length-set xs (c.args.n - 1) (given_sent front.0) in
     rw (c.hand_out.ensures.room, many) (ap (λ p. p.room) c.self.view_is)
+
+pub returns-clause-directions : goal.returns-clause-directions
+returns-clause-directions c m =
+    let xs = c.self.inside.sent.items in
+    let gives : hands_out (items_of xs) c.args.n ≡ true = ap (λ p. hands_out p.items c.args.n) c.self.view_is ∙ c.requires in
+    let front = hands_out_front xs c.args.n gives in
+    let is = c.hand_out.ensures.items front.0 front.1.at in
+    let at = item_at xs (c.args.n - 1) front.0 front.1.at in
+    let then = ap items_of is ∙ items_with_given xs (c.args.n - 1) front.0 (item_of front.0) front.1.at at in
+    ap (λ items. direction_in items m) then ∙ (directions_stay (items_of xs) (c.args.n - 1) (item_of front.0) at m ∙ ap (λ p. direction_in p.items m) c.self.view_is)

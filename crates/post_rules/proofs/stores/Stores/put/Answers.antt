@@ -3,7 +3,7 @@ use Rattle.std.proofs.lemmas.List.{length-append, map-append}
 use Rattle.post_rules.specs.declared.stores.Sent.{Sent}
 use Rattle.post_rules.specs.Queueing.{Item}
 use Rattle.post_rules.specs.Stores.{item_of, items_of}
-use Rattle.post_rules.proofs.Keeping.{lasts_there, lasts_with_more, newest_can_go, older_stay, order_along, order_with_more}
+use Rattle.post_rules.proofs.Keeping.{lasts_there, lasts_with_more, newest_can_go, newest_direction, older_directions_stay, older_stay, order_along, order_with_more}
 use Rattle.post_rules.proofs.stores.Stores.put.Goals as goal
 
 pub invariant_of-self : goal.invariant_of-self
@@ -28,3 +28,9 @@ returns-clause-older c n le = rw (items_then c.self.inside.sent.items _ _ c.args
 
 pub returns-clause-newest : goal.returns-clause-newest
 returns-clause-newest c = rw (items_then c.self.inside.sent.items _ _ c.args.self.now.items c.push_reserved.ensures.items (ap (λ p. p.items) c.self.view_is)) (newest_can_go c.args.self.now.items c.args.direction)
+
+pub returns-clause-direction : goal.returns-clause-direction
+returns-clause-direction c = rw (items_then c.self.inside.sent.items _ _ c.args.self.now.items c.push_reserved.ensures.items (ap (λ p. p.items) c.self.view_is)) (newest_direction c.args.self.now.items _)
+
+pub returns-clause-directions : goal.returns-clause-directions
+returns-clause-directions c n le = rw (items_then c.self.inside.sent.items _ _ c.args.self.now.items c.push_reserved.ensures.items (ap (λ p. p.items) c.self.view_is)) (older_directions_stay c.args.self.now.items _ n le)

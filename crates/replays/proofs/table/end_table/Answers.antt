@@ -2,10 +2,10 @@ use Rattle.std.proofs.Common.{◌<◌, length, subst, sym}
 use Rattle.replays.specs.Replays.{agent_lines}
 use Rattle.replays.specs.Stories.{records_now}
 use Rattle.replays.proofs.Tables.{lines_more}
-use Rattle.replays.proofs.table.table.Goals as goal
+use Rattle.replays.proofs.table.end_table.Goals as goal
 
 pub loop-place-preserved : goal.loop-place-preserved
-loop-place-preserved c =
-    let cluster = c.args.cluster.now in
+loop-place-preserved g c =
+    let cluster = c.args.cluster.now.story in
     let there : c.loop-place.place < length (records_now cluster) = subst (λ n. c.loop-place.place < n) c.agent_count-place-end.ensures c.loop-place-test.true in
     rw (c.in_ok-extend_from_slice.ensures.items, c.loop-place.invariant, c.deref.ensures.value) (sym (lines_more (agent_lines cluster) (records_now cluster) c.loop-place.place c.in_ok-lines_at.field-0.items there c.in_ok-lines_at.ensures))
