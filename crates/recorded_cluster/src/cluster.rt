@@ -93,7 +93,7 @@ impl Recorded for RecordedCluster {
     }
 
     fn frees(given: &Given) -> u64 {
-        groups_of(&given.taken.entry.outputs)
+        groups_of(&given.taken.entry)
     }
 
     fn is_sound(&self) {

@@ -1,6 +1,6 @@
 //! Who waits for what a step brings out, in 64 groups: those of streams, and those of agents.
 
-use cluster_core::{Outputs, Sent};
+use cluster_core::{Entry, Sent, Step, Verdict};
 use master_state::StreamEvent;
 use names_core::{AgentName, StreamId};
 
@@ -48,8 +48,17 @@ fn groups_sent(sent: &[Sent]) -> u64 {
     bits
 }
 
+/// Whether a step ended a master or an agent: a master's streams close then, and the outputs don't name them.
+fn ends_a_part(entry: &Entry) -> bool {
+    matches!(entry.step, Step::StopMaster) || matches!(entry.verdict, Verdict::OutOfMemory)
+}
+
 /// The groups of those who wait for what a step brought out, a bit for each.
-pub(crate) fn groups_of(outputs: &Outputs) -> u64 {
+pub(crate) fn groups_of(entry: &Entry) -> u64 {
+    if ends_a_part(entry) {
+        return u64::MAX;
+    }
+    let outputs = &entry.outputs;
     groups_told(outputs.events.as_slice())
         | groups_closed(outputs.closed.as_slice())
         | groups_sent(outputs.sent.as_slice())

@@ -1,4 +1,4 @@
-//! Whether two entries of a history are the same, step, verdict and outputs.
+//! Whether two entries of a history are the same, step, verdict and outputs, and whether two records of agents are.
 #![tactic(auto)]
 
 mod call;
@@ -6,6 +6,7 @@ mod entry;
 mod event;
 mod mail;
 mod name;
+mod record;
 mod same;
 mod step;
 

@@ -1,0 +1,5 @@
+use Rattle.activities.specs.Saved.{Keeps}
+use Rattle.activities.proofs.turns.activity.Given as goal
+
+abbrev pub invariant-loop : goal.invariant-loop
+invariant-loop g l = Keeps (g.C.Cabinet.saved l.fn.cabinet) (g.C.Cabinet.saved l.cabinet) l.fn.pass l.pass

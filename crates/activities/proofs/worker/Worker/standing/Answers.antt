@@ -1,0 +1,17 @@
+use Rattle.activities.proofs.Saves.{keeps_more}
+use Rattle.activities.proofs.worker.Worker.standing.Goals as goal
+
+pub returns-then-is_last_draft-clause-keeps : goal.returns-then-is_last_draft-clause-keeps
+returns-then-is_last_draft-clause-keeps g c = keeps_more _ _ c.args.pass.now c.in-Ok.ensures.before
+
+pub returns-in_err-owns-clause-keeps : goal.returns-in_err-owns-clause-keeps
+returns-in_err-owns-clause-keeps g c = keeps_more _ _ c.args.pass.now c.in-Ok.ensures.before
+
+pub returns-then-branch-clause-keeps : goal.returns-then-branch-clause-keeps
+returns-then-branch-clause-keeps g c = keeps_more _ _ c.args.pass.now c.in-Ok.ensures.before
+
+pub returns-clause-keeps : goal.returns-clause-keeps
+returns-clause-keeps g c = keeps_more _ _ c.args.pass.now c.in-Ok.ensures.before
+
+pub returns-in-Err-clause-keeps : goal.returns-in-Err-clause-keeps
+returns-in-Err-clause-keeps g c = keeps_more _ _ c.args.pass.now c.in-Err.ensures.before

@@ -1,0 +1,141 @@
+//! Each draft is saved before it is committed.
+
+ghost use Rattle.std.specs.Prelude.{◌≡◌, IsTrue, IfOk};
+ghost use Rattle.activities.specs.Saved.{IsLastDraft, IsLastSaved, Keeps};
+ghost use Rattle.activities.specs.declared.keeping.Saving.TheVariants.{Kept};
+ghost use Rattle.cluster_steps.specs.declared.step.Keep.TheVariants.{After};
+
+use crate::cabinet::Cabinet;
+use crate::fault::{ActivityFault, Stop, stop_of};
+use crate::receipts::{has_stopped, last_draft};
+use crate::records::is_own;
+use crate::worker::Worker;
+use cluster_core::{ClusterFault, Keep, StepCause};
+use desk_lock::{Pass, Waited};
+use mails::Durable;
+use names_core::AgentName;
+use recorded_cluster::{Given, RecordedCluster, agent_group};
+use same_entries::Same;
+use std::sync::{Wait, ledger};
+use std::time::Clock;
+
+/// What became of the draft that the last answer of a pass opened.
+#[derive(Clone, Copy, Drop)]
+pub(crate) enum Saving {
+    /// It opened none.
+    NoDraft,
+    Kept,
+    Failed,
+}
+
+/// Whether what a cabinet keeps is the record of the draft that the last answer of a pass opened.
+fn is_last_draft<L: ledger::Ledger>(
+    pass: &Pass<Given, L>,
+    agent: &AgentName,
+    kept: &Option<Durable>,
+) -> bool
+    ensures { IsTrue result → IsLastDraft agent.now kept.now pass.now }
+{
+    match (last_draft(pass, agent), kept) {
+        (Some(draft), Some(kept)) => kept.is_same(draft),
+        _ => false,
+    }
+}
+
+impl<'a, L: ledger::Ledger, R: Wait + Clock> Worker<'a, L, R> {
+    /// Saves the draft that the last answer opened.
+    #[tactic(auto, using(crate::proofs::Saves::keeps_itself, crate::proofs::Saves::keeps_more, crate::proofs::Saves::just_saved))]
+    fn save<C: Cabinet>(&self, pass: &Pass<Given, L>, cabinet: &mut C) -> Saving
+        ensures kept { result ≡ Kept → IsLastSaved (C.saved cabinet.new) self.now.agent.now pass.now }
+        ensures keeps { Keeps (C.saved cabinet.old) (C.saved cabinet.new) pass.now pass.now }
+    {
+        let Some(draft) = last_draft(pass, self.agent) else {
+            return Saving::NoDraft;
+        };
+        match cabinet.save(self.alloc, draft) {
+            Ok(()) => Saving::Kept,
+            Err(_) => Saving::Failed,
+        }
+    }
+
+    /// Whether what a cabinet keeps is the agent's own record.
+    fn owns<F>(&self, pass: &Pass<Given, L>, kept: &Option<Durable>) -> Result<bool, Stop<F>> {
+        let agent = self.agent;
+        let look = |recorded: &RecordedCluster| match recorded.cluster().durable(agent) {
+            Some(own) => Ok(Some(is_own(kept, own))),
+            None => Err(ClusterFault::NoSuchAgent),
+        };
+        match self
+            .office
+            .wait_for(self.rt, pass, agent_group(agent), 0, look)
+        {
+            Ok(Waited::Found(owns)) => Ok(owns),
+            Ok(_) => Err(Stop::Ended),
+            Err(fault) => Err(stop_of(fault)),
+        }
+    }
+
+    /// Opens the cabinet again after a save that failed, and tells which record stands there.
+    #[tactic(auto, using(crate::proofs::Saves::keeps_itself, crate::proofs::Saves::keeps_more, crate::proofs::Saves::found_saved))]
+    fn standing<C: Cabinet>(
+        &self,
+        pass: &Pass<Given, L>,
+        cabinet: &mut C,
+    ) -> Result<Keep, Stop<C::Fault>>
+        ensures after { IfOk result (λ keep. keep ≡ After → IsLastSaved (C.saved cabinet.new) self.now.agent.now pass.now) }
+        ensures keeps { Keeps (C.saved cabinet.old) (C.saved cabinet.new) pass.now pass.now }
+    {
+        let kept = match cabinet.reopen(self.alloc) {
+            Ok(kept) => kept,
+            Err(fault) => return Err(Stop::Failed(ActivityFault::Cabinet(fault))),
+        };
+        if is_last_draft(pass, self.agent, &kept) {
+            return Ok(Keep::After);
+        }
+        if self.owns(pass, &kept)? {
+            return Ok(Keep::Before);
+        }
+        Err(Stop::Failed(ActivityFault::Damaged))
+    }
+
+    /// After a save that failed the agent stops, and comes up over the record that stands in the cabinet.
+    #[tactic(auto, using(crate::proofs::Saves::keeps_itself, crate::proofs::Saves::keeps_then))]
+    fn reopen<C: Cabinet>(
+        &self,
+        pass: &mut Pass<Given, L>,
+        cabinet: &mut C,
+    ) -> Result<(), Stop<C::Fault>>
+        ensures { Keeps (C.saved cabinet.old) (C.saved cabinet.new) pass.old pass.new }
+    {
+        match self.standing(pass, cabinet)? {
+            Keep::After => self.stop_after(pass),
+            Keep::Before => self.stop_before(pass),
+        }
+    }
+
+    /// Does what the last answer leaves to be done, and tells whether there was something: a draft is saved and committed, and an agent that
+    /// stopped starts.
+    #[tactic(auto, using(crate::proofs::Saves::keeps_itself, crate::proofs::Saves::keeps_then))]
+    pub fn settle<C: Cabinet>(
+        &self,
+        pass: &mut Pass<Given, L>,
+        cabinet: &mut C,
+    ) -> Result<bool, Stop<C::Fault>>
+        ensures { Keeps (C.saved cabinet.old) (C.saved cabinet.new) pass.old pass.new }
+    {
+        match self.save(pass, cabinet) {
+            Saving::Kept => self.commit(pass)?,
+            Saving::Failed => {
+                self.reopen(pass, cabinet)?;
+                return Err(Stop::Later);
+            }
+            Saving::NoDraft => {
+                if !has_stopped(pass) {
+                    return Ok(false);
+                }
+                self.prepare(pass, StepCause::Start)?;
+            }
+        }
+        Ok(true)
+    }
+}

@@ -1,0 +1,17 @@
+//! What keeps an agent going in a thread of its own, and what lets the master's time pass.
+#![tactic(auto)]
+
+mod cabinet;
+mod executor;
+mod fault;
+mod keeping;
+mod receipts;
+mod records;
+mod ticks;
+mod turns;
+mod worker;
+
+pub use cabinet::Cabinet;
+pub use fault::ActivityFault;
+pub use ticks::ticker;
+pub use turns::activity;

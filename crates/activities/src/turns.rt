@@ -1,0 +1,134 @@
+//! What an agent does in a thread of its own.
+
+ghost use Rattle.activities.specs.Saved.{CommitsSaved, IsGrown, Keeps};
+
+use crate::cabinet::Cabinet;
+use crate::executor::{Executors, Sight, sights_of};
+use crate::fault::{ActivityFault, Stop, stop_of};
+use crate::worker::Worker;
+use cluster_core::{ClusterFault, StepCause};
+use desk_lock::{Office, Pass, Waited};
+use names_core::AgentName;
+use recorded_cluster::{Given, RecordedCluster, agent_group};
+use std::alloc::Global;
+use std::sync::{Wait, ledger};
+use std::time::{Clock, Instant};
+
+/// How long an agent waits for a mail before its turn, in seconds.
+const WAIT: u64 = 1;
+
+impl<'a, L: ledger::Ledger, R: Wait + Clock> Worker<'a, L, R> {
+    /// What is seen of the agent's tasks.
+    fn sights<F>(&self, pass: &Pass<Given, L>) -> Result<Vec<Sight>, Stop<F>> {
+        let (agent, alloc) = (self.agent, self.alloc);
+        let look = |recorded: &RecordedCluster| match recorded.cluster().durable(agent) {
+            Some(durable) => match sights_of(alloc, durable.tasks.as_slice()) {
+                Ok(sights) => Ok(Some(sights)),
+                Err(_) => Err(ClusterFault::OutOfMemory),
+            },
+            None => Err(ClusterFault::NoSuchAgent),
+        };
+        match self
+            .office
+            .wait_for(self.rt, pass, agent_group(agent), 0, look)
+        {
+            Ok(Waited::Found(sights)) => Ok(sights),
+            Ok(_) => Err(Stop::Ended),
+            Err(fault) => Err(stop_of(fault)),
+        }
+    }
+
+    /// Begins a turn of the executors.
+    fn begin_turn<F>(
+        &self,
+        pass: &Pass<Given, L>,
+        executors: &mut Executors,
+    ) -> Result<(), Stop<F>> {
+        let sights = self.sights(pass)?;
+        let Ok(now) = Instant::now(self.rt) else {
+            return Err(Stop::Later);
+        };
+        match executors.begin_turn(&sights, now) {
+            Ok(()) => Ok(()),
+            Err(_) => Err(Stop::Later),
+        }
+    }
+
+    /// What the agent acts on next: the first mail, or what is due in this turn. Where no mail came within a second a turn begins.
+    fn next_cause<F>(
+        &self,
+        pass: &Pass<Given, L>,
+        executors: &mut Executors,
+    ) -> Result<Option<StepCause>, Stop<F>> {
+        let seconds = if executors.is_due() { 0 } else { WAIT };
+        if let Some(number) = self.first_mail(pass, seconds)? {
+            return Ok(Some(StepCause::Mail(number)));
+        }
+        if !executors.is_due() {
+            self.begin_turn(pass, executors)?;
+        }
+        Ok(executors.pop())
+    }
+
+    /// Takes the agent on by a step or two: what the last answer leaves to be done, or else its mails are delivered and the next cause is prepared.
+    #[tactic(auto, using(crate::proofs::Saves::keeps_itself, crate::proofs::Saves::keeps_then))]
+    fn go_on<C: Cabinet>(
+        &self,
+        pass: &mut Pass<Given, L>,
+        cabinet: &mut C,
+        executors: &mut Executors,
+    ) -> Result<(), Stop<C::Fault>>
+        ensures { Keeps (C.saved cabinet.old) (C.saved cabinet.new) pass.old pass.new }
+    {
+        if self.settle(pass, cabinet)? {
+            return Ok(());
+        }
+        self.deliver(pass)?;
+        match self.next_cause(pass, executors)? {
+            Some(cause) => self.prepare(pass, cause),
+            None => Ok(()),
+        }
+    }
+}
+
+/// Keeps an agent going until the office is finished: it takes the mails to the agent, tells what the executors of its tasks tell, and saves each draft
+/// in the cabinet before it commits it. `pace` is after how many seconds a task has finished, 0 for never. It ends before by O1 and C8, and by a
+/// fault that it gives, for which it finishes the office; after other refusals it does the same again a second later.
+#[tactic(auto, using(crate::proofs::Saves::keeps_itself, crate::proofs::Saves::keeps_then))]
+pub fn activity<L: ledger::Ledger, R: Wait + Clock, C: Cabinet>(
+    rt: &R,
+    alloc: Global,
+    office: &Office<RecordedCluster, L>,
+    mut pass: Pass<Given, L>,
+    agent: &AgentName,
+    cabinet: &mut C,
+    pace: u64,
+) -> (Pass<Given, L>, Option<ActivityFault<C::Fault>>)
+    requires { CommitsSaved (C.saved cabinet.old) pass }
+    ensures saved { CommitsSaved (C.saved cabinet.new) result.0 }
+    ensures grown { IsGrown pass result.0 }
+{
+    let worker = Worker {
+        rt,
+        alloc,
+        office,
+        agent,
+    };
+    let mut executors = Executors::new(alloc, pace);
+    for _ in rt.forever() {
+        match worker.go_on(&mut pass, cabinet, &mut executors) {
+            Ok(()) => {}
+            Err(Stop::Later) => {
+                if !worker.pause(&pass) {
+                    return (pass, None);
+                }
+            }
+            Err(Stop::Ended) => return (pass, None),
+            Err(Stop::Failed(fault)) => {
+                office.finish(rt);
+                return (pass, Some(fault));
+            }
+        }
+    }
+    unreachable!()
+}

@@ -1,0 +1,181 @@
+//! The steps that an activity takes, each at the office.
+
+ghost use Rattle.std.specs.Prelude.{◌≡◌, Bool, None, IfOk};
+ghost use Rattle.mails.specs.declared.record.Durable.{Durable as Record};
+ghost use Rattle.activities.specs.Saved.{IsBehindSave, IsLastSaved, Keeps, last_of};
+
+use crate::fault::{Stop, stop_of};
+use cluster_core::{ClusterFault, Keep, Step, StepCause};
+use desk_lock::{Office, OfficeFault, Pass, Waited};
+use names_core::AgentName;
+use recorded_cluster::{Given, RecordedCluster, agent_group};
+use std::alloc::Global;
+use std::sync::{Wait, ledger};
+use std::time::Clock;
+
+/// What is left for the next turn stops nothing else.
+fn unless_later<F>(stop: Stop<F>) -> Result<(), Stop<F>> {
+    match stop {
+        Stop::Later => Ok(()),
+        stop => Err(stop),
+    }
+}
+
+/// What an activity works with.
+#[derive(Drop)]
+pub(crate) struct Worker<'a, L: ledger::Ledger, R: Wait + Clock> {
+    pub rt: &'a R,
+    pub alloc: Global,
+    pub office: &'a Office<RecordedCluster, L>,
+    pub agent: &'a AgentName,
+}
+
+impl<'a, L: ledger::Ledger, R: Wait + Clock> Worker<'a, L, R> {
+    /// A copy of the agent's name.
+    fn name<F>(&self) -> Result<AgentName, Stop<F>>
+        ensures { IfOk result (λ name. name ≡ self.now.agent.now) }
+    {
+        match self.agent.copy(self.alloc) {
+            Ok(name) => Ok(name),
+            Err(_) => Err(Stop::Later),
+        }
+    }
+
+    /// Takes a step at the office.
+    fn call(&self, pass: &mut Pass<Given, L>, step: Step) -> Result<(), OfficeFault<ClusterFault>>
+        ensures { (saved : Record → Bool) → IsBehindSave saved (last_of None pass.old.receipts) step → Keeps saved saved pass.old pass.new }
+    {
+        self.office.call(self.rt, self.alloc, pass, step)
+    }
+
+    /// The agent stops, and comes up over its record.
+    #[tactic(auto, using(crate::proofs::Saves::keeps_itself))]
+    pub fn stop_before<F>(&self, pass: &mut Pass<Given, L>) -> Result<(), Stop<F>>
+        ensures { (saved : Record → Bool) → Keeps saved saved pass.old pass.new }
+    {
+        let step = Step::StopAgent {
+            agent: self.name()?,
+            keep: Keep::Before,
+        };
+        match self.call(pass, step) {
+            Ok(()) => Ok(()),
+            Err(fault) => Err(stop_of(fault)),
+        }
+    }
+
+    /// The agent stops, and comes up over the record of its open draft, which was saved.
+    #[tactic(auto, using(crate::proofs::Saves::keeps_itself))]
+    pub fn stop_after<F>(&self, pass: &mut Pass<Given, L>) -> Result<(), Stop<F>>
+        ensures { (saved : Record → Bool) → IsLastSaved saved self.now.agent.now pass.old → Keeps saved saved pass.old pass.new }
+    {
+        let step = Step::StopAgent {
+            agent: self.name()?,
+            keep: Keep::After,
+        };
+        match self.call(pass, step) {
+            Ok(()) => Ok(()),
+            Err(fault) => Err(stop_of(fault)),
+        }
+    }
+
+    /// The agent stops, and is to start at the next turn.
+    #[tactic(auto, using(crate::proofs::Saves::keeps_then))]
+    fn restart<F>(&self, pass: &mut Pass<Given, L>) -> Result<(), Stop<F>>
+        ensures { (saved : Record → Bool) → Keeps saved saved pass.old pass.new }
+    {
+        self.stop_before(pass)?;
+        Err(Stop::Later)
+    }
+
+    /// The record of the agent's open draft, which was saved, becomes its own. An agent that is down or has no draft stops, and comes up.
+    #[tactic(auto, using(crate::proofs::Saves::keeps_itself, crate::proofs::Saves::keeps_then))]
+    pub fn commit<F>(&self, pass: &mut Pass<Given, L>) -> Result<(), Stop<F>>
+        ensures { (saved : Record → Bool) → IsLastSaved saved self.now.agent.now pass.old → Keeps saved saved pass.old pass.new }
+    {
+        let step = Step::Commit(self.name()?);
+        match self.call(pass, step) {
+            Ok(()) => Ok(()),
+            Err(OfficeFault::Core(ClusterFault::AgentDown | ClusterFault::NoDraft)) => {
+                self.restart(pass)
+            }
+            Err(fault) => Err(stop_of(fault)),
+        }
+    }
+
+    /// Opens a draft of what a cause makes of the agent. An agent that is down stops, and comes up.
+    #[tactic(auto, using(crate::proofs::Saves::keeps_itself, crate::proofs::Saves::keeps_then))]
+    pub fn prepare<F>(&self, pass: &mut Pass<Given, L>, cause: StepCause) -> Result<(), Stop<F>>
+        ensures { (saved : Record → Bool) → Keeps saved saved pass.old pass.new }
+    {
+        let step = Step::Prepare {
+            agent: self.name()?,
+            cause,
+        };
+        match self.call(pass, step) {
+            Ok(()) => Ok(()),
+            Err(OfficeFault::Core(ClusterFault::AgentDown)) => self.restart(pass),
+            Err(fault) => Err(stop_of(fault)),
+        }
+    }
+
+    /// The first mail from the agent that waits; none where the office is finished.
+    fn first_sent<F>(&self, pass: &Pass<Given, L>) -> Result<Option<u64>, Stop<F>> {
+        let agent = self.agent;
+        let look = |recorded: &RecordedCluster| Ok(recorded.cluster().first_mail(agent));
+        let group = agent_group(agent);
+        match self.office.wait_for(self.rt, pass, group, 0, look) {
+            Ok(Waited::Found(number)) => Ok(Some(number)),
+            Ok(_) => Ok(None),
+            Err(fault) => Err(stop_of(fault)),
+        }
+    }
+
+    /// The master takes the agent's mails, in their order. Behind one that is refused the others wait with it.
+    #[tactic(auto, using(crate::proofs::Saves::keeps_itself, crate::proofs::Saves::keeps_then))]
+    pub fn deliver<F>(&self, pass: &mut Pass<Given, L>) -> Result<(), Stop<F>>
+        ensures { (saved : Record → Bool) → Keeps saved saved pass.old pass.new }
+    {
+        for _ in self.rt.forever() {
+            let Some(number) = self.first_sent(pass)? else {
+                return Ok(());
+            };
+            match self.call(pass, Step::Deliver(number)) {
+                Ok(()) => {}
+                Err(fault) => return unless_later(stop_of(fault)),
+            }
+        }
+        unreachable!()
+    }
+
+    /// Waits for the first mail to the agent, for so many seconds at most.
+    pub fn first_mail<F>(
+        &self,
+        pass: &Pass<Given, L>,
+        seconds: u64,
+    ) -> Result<Option<u64>, Stop<F>> {
+        let agent = self.agent;
+        let look = |recorded: &RecordedCluster| match recorded.cluster().durable(agent) {
+            Some(_) => Ok(recorded.cluster().first_mail(agent)),
+            None => Err(ClusterFault::NoSuchAgent),
+        };
+        let group = agent_group(agent);
+        match self.office.wait_for(self.rt, pass, group, seconds, look) {
+            Ok(Waited::Found(number)) => Ok(Some(number)),
+            Ok(Waited::Elapsed) => Ok(None),
+            Ok(Waited::Finished) => Err(Stop::Ended),
+            Err(fault) => Err(stop_of(fault)),
+        }
+    }
+
+    /// Waits for a second, and tells whether the activity goes on.
+    pub fn pause(&self, pass: &Pass<Given, L>) -> bool {
+        let look = |_: &RecordedCluster| -> Result<Option<()>, ClusterFault> { Ok(None) };
+        match self
+            .office
+            .wait_for(self.rt, pass, agent_group(self.agent), 1, look)
+        {
+            Ok(Waited::Finished) | Err(_) => false,
+            Ok(_) => true,
+        }
+    }
+}

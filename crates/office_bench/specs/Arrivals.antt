@@ -1,0 +1,17 @@
+-- The connections of a listener.
+use Rattle.std.specs.Prelude.{◌≡◌, ◌⊎◌, ◌<◌, ◌≤◌, ℕ, Bool, true}
+use Rattle.desk_lock.specs.Receipts.{PassState}
+use Rattle.recorded_cluster.specs.declared.given.Given.{Given}
+
+-- the pass by which the office is asked, how many connections are taken at most (0 is no limit), how many were taken, how many failed since the last
+-- that was taken, and whether the office is finished
+pub record ArrivalsState : Type 0 where
+  pub pass : PassState Given
+  pub limit : ℕ
+  pub taken : ℕ
+  pub failures : ℕ
+  pub finished : Bool
+
+-- no more connections come: as many were taken as may be, 64 in a row failed, or the office is finished
+abbrev pub HasEnded : ArrivalsState → Type 0
+HasEnded a = ((0 < a.limit) × (a.limit ≤ a.taken)) ⊎ (64 ≤ a.failures) ⊎ (a.finished ≡ true)

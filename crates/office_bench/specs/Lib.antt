@@ -1,0 +1,4 @@
+pub mod Answers
+pub mod Arrivals
+pub mod Deeds
+pub mod Seated

@@ -1,0 +1,34 @@
+//! An office's refusals, as a client is told them.
+
+ghost use Rattle.std.specs.Prelude.{◌≡◌};
+ghost use Rattle.office_bench.specs.Answers.{IsOfOffice, bench_fault, step_fault};
+
+use cluster_core::ClusterFault;
+use desk_lock::OfficeFault;
+use http_door::BenchFault;
+
+fn step_fault(fault: ClusterFault) -> BenchFault
+    ensures same { result ≡ step_fault fault }
+    ensures of_office { IsOfOffice result }
+{
+    match fault {
+        ClusterFault::MasterDown => BenchFault::MasterDown,
+        ClusterFault::HistoryFull => BenchFault::HistoryFull,
+        ClusterFault::OutOfMemory => BenchFault::OutOfMemory,
+        _ => BenchFault::NoSuchMail,
+    }
+}
+
+/// What an office's refusal of a call means to a client. The refusals of agents and of moments, which no call meets, are C1 too.
+pub fn bench_fault(fault: OfficeFault<ClusterFault>) -> BenchFault
+    ensures same { result ≡ bench_fault fault }
+    ensures of_office { IsOfOffice result }
+{
+    match fault {
+        OfficeFault::ForeignPass(_) => BenchFault::ForeignPass,
+        OfficeFault::HistoryFull => BenchFault::HistoryFull,
+        OfficeFault::OutOfMemory => BenchFault::OutOfMemory,
+        OfficeFault::Core(fault) => step_fault(fault),
+        OfficeFault::SeatsSpent => BenchFault::SeatsSpent,
+    }
+}

@@ -1,0 +1,85 @@
+//! What is read in entries, and in the cluster.
+
+ghost use Rattle.std.specs.Prelude.{◌≡◌, ℕ, List, Option, Some, None, option_map, IfOk};
+ghost use Rattle.cluster_core.specs.Stories.{state_of};
+ghost use Rattle.cluster_model.specs.Calls.{called};
+ghost use Rattle.cluster_model.specs.Masters.{Master};
+ghost use Rattle.mails.specs.declared.call.Call.TheVariants.{Subscribe};
+ghost use Rattle.names_core.specs.Ids.{Numbered};
+ghost use Rattle.office_bench.specs.Answers.{EndsOnOpened, accepted, answer_of, is_subscribe, turn_on};
+
+use cluster_core::{Entry, Verdict};
+use cluster_steps::copy_stream_event;
+use desk_lock::Turn;
+use event_json::Event;
+use http_door::{Answer, BenchFault};
+use mails::Call;
+use master_state::StreamEvent;
+use names_core::StreamId;
+use recorded_cluster::RecordedCluster;
+use std::alloc::{AllocError, Global};
+
+pub(crate) fn is_subscribe(call: &Call) -> bool
+    ensures { result ≡ is_subscribe call.now }
+{
+    matches!(call, Call::Subscribe { .. })
+}
+
+/// The answer to an accepted call.
+fn accepted(subscribes: bool, events: &[StreamEvent]) -> Answer
+    ensures { result ≡ accepted subscribes events.now }
+{
+    if !subscribes {
+        return Answer::Accepted;
+    }
+    match events.last() {
+        Some(event) => Answer::Opened(event.stream),
+        None => Answer::Accepted,
+    }
+}
+
+/// How the delivery of a call answers the call.
+pub(crate) fn answer_of(subscribes: bool, entry: &Entry) -> Answer
+    ensures { result ≡ answer_of subscribes entry.now }
+{
+    match entry.verdict {
+        Verdict::Ok => accepted(subscribes, entry.outputs.events.as_slice()),
+        Verdict::MasterRefused(refusal) => Answer::Refused(BenchFault::Master(refusal)),
+        Verdict::AgentRefused(_) => Answer::Refused(BenchFault::NoSuchMail),
+        Verdict::OutOfMemory => Answer::Refused(BenchFault::MasterOutOfMemory),
+    }
+}
+
+/// The event that a Take's entry hands out.
+pub(crate) fn taken_event(alloc: Global, entry: &Entry) -> Result<Event, AllocError>
+    ensures { IfOk result (λ event. option_map (λ told. told.event) entry.now.outputs.taken ≡ Some event) }
+{
+    match &entry.outputs.taken {
+        Some(told) => {
+            let copy = copy_stream_event(alloc, told)?;
+            Ok(copy.event)
+        }
+        None => Err(AllocError),
+    }
+}
+
+/// What who waits for a stream's events does.
+pub(crate) fn turn_on(recorded: &RecordedCluster, stream: StreamId) -> Turn
+    ensures { result ≡ turn_on stream (state_of recorded.now.story) }
+{
+    let cluster = recorded.cluster();
+    if cluster.waiting_on(stream).unwrap_or(0) > 0 {
+        return Turn::Answer;
+    }
+    if cluster.is_open(stream) {
+        Turn::Wait
+    } else {
+        Turn::End
+    }
+}
+
+/// The last event of an accepted SUBSCRIBE stands on the one stream that the call opened: it is SUBSCRIBED, or ERROR for a framework that was
+/// torn down.
+pub fn subscriptions_end_on_their_stream()
+    ensures { (m : Master) (given : Option Numbered) (framework : Option Numbered) (role : List ℕ) → (called m given (Subscribe framework role)).refusal ≡ None → EndsOnOpened (called m given (Subscribe framework role)) }
+{}

@@ -1,0 +1,60 @@
+//! What a connection got for a bench.
+
+ghost use Rattle.std.specs.Prelude.{◌≡◌};
+ghost use Rattle.office_bench.specs.Seated.{SeatingDoes, pass_of};
+
+use crate::bench::SeatBench;
+use desk_lock::Pass;
+use event_json::Event;
+use http_door::{Answer, Bench, BenchFault};
+use mails::Call;
+use names_core::StreamId;
+use recorded_cluster::Given;
+use std::alloc::AllocError;
+use std::sync::{Wait, ledger};
+
+/// The bench of a connection: a seat, or, where none could be opened, one that refuses every call.
+#[derive(Drop)]
+pub enum Seating<'a, L: ledger::Ledger, R: Wait> {
+    Seat(SeatBench<'a, L, R>),
+    Refusing(BenchFault),
+}
+
+impl<'a, L: ledger::Ledger, R: Wait> Seating<'a, L, R> {
+    /// The pass of the seat.
+    pub fn into_pass(self) -> Option<Pass<Given, L>>
+        ensures { result ≡ pass_of self.entry }
+    {
+        match self {
+            Seating::Seat(bench) => Some(bench.into_pass()),
+            Seating::Refusing(_) => None,
+        }
+    }
+}
+
+impl<'a, L: ledger::Ledger, R: Wait> Bench for Seating<'a, L, R> {
+    ghost does = { SeatingDoes };
+
+    fn call(&mut self, stream: Option<StreamId>, call: Call) -> Answer {
+        match self {
+            Seating::Seat(bench) => bench.call(stream, call),
+            Seating::Refusing(fault) => {
+                drop(call);
+                Answer::Refused(*fault)
+            }
+        }
+    }
+
+    fn next_events(&mut self, stream: StreamId) -> Result<Option<Event>, AllocError> {
+        match self {
+            Seating::Seat(bench) => bench.next_events(stream),
+            Seating::Refusing(_) => Ok(None),
+        }
+    }
+
+    fn hang_up(&mut self, stream: StreamId) {
+        if let Seating::Seat(bench) = self {
+            bench.hang_up(stream);
+        }
+    }
+}
