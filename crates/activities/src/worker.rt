@@ -121,7 +121,7 @@ impl<'a, L: ledger::Ledger, R: Wait + Clock> Worker<'a, L, R> {
     /// The first mail from the agent that waits; none where the office is finished.
     fn first_sent<F>(&self, pass: &Pass<Given, L>) -> Result<Option<u64>, Stop<F>> {
         let agent = self.agent;
-        let look = |recorded: &RecordedCluster| Ok(recorded.cluster().first_mail(agent));
+        let look = |recorded: &RecordedCluster| Ok(recorded.cluster().first_mail_from(agent));
         let group = agent_group(agent);
         match self.office.wait_for(self.rt, pass, group, 0, look) {
             Ok(Waited::Found(number)) => Ok(Some(number)),
