@@ -1,0 +1,28 @@
+-- What the words of a command line ask for.
+use Rattle.std.specs.Prelude.{◌≡◌, true, List, codes, Option, Some}
+use Rattle.clap.specs.Words.{App, Row, Text, new_app, subcommand_of, with_subcommand}
+use Rattle.command_line.specs.declared.command.Action.{Action}
+use Rattle.command_line.specs.declared.command.Action.TheVariants.{Calls, Replay, Serve}
+use Rattle.command_line.specs.Options.{HasOptions, serve_command}
+
+-- a command has to be named
+abbrev pub asks_for_command : App → App
+asks_for_command a = record a { top = record a.top { subcommand_required = true } }
+
+-- the program's commands: `calls` and `replay`, without arguments, and `serve`
+abbrev pub command_line : App
+command_line =
+    with_subcommand (with_subcommand (with_subcommand (asks_for_command (new_app (codes "mesos_node"))) (new_app (codes "calls")).top) (new_app (codes "replay")).top) serve_command.top
+
+-- the name of a command, and the options that were given, are this action's
+abbrev pub IsAction : Text → List Row → Action → Type 0
+IsAction name rows Calls = name ≡ codes "calls"
+IsAction name rows Replay = name ≡ codes "replay"
+IsAction name rows (Serve options) = (name ≡ codes "serve") × HasOptions rows options
+
+-- the words, the program's name first, ask for this action
+pub record AsksFor (words : List Text) (action : Action) : Type 0 where
+  pub name : Text
+  pub rows : List Row
+  pub command : subcommand_of command_line words ≡ Some (name, rows)
+  pub named : IsAction name rows action

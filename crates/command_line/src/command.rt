@@ -1,0 +1,155 @@
+//! The command line.
+
+ghost use Rattle.std.specs.Prelude.{◌≡◌, ◌⊎◌, [], List, Some, map, IfOk, IfErr, IfSome, IfNone};
+ghost use Rattle.command_line.specs.declared.command.Action.{Action as Asked};
+ghost use Rattle.clap.specs.Words.{FailsBy, HasKind, Row, Text, app_of, fault_of, found_of, rows_of, subcommand_of, subcommand_rows_of};
+ghost use Rattle.command_line.specs.Commands.{AsksFor, IsAction, command_line};
+
+use crate::options::{ServeOptions, serve_command, serve_options};
+use clap::error::ErrorKind;
+use clap::{ArgMatches, Command, Error};
+use std::alloc::{AllocError, Global};
+
+/// What the program is asked to do.
+#[derive(Clone, Copy, Debug, Drop, PartialEq, Eq)]
+pub enum Action<'a> {
+    /// `calls`: answer the calls on standard input.
+    Calls,
+    /// `replay`: take the steps on standard input.
+    Replay,
+    /// `serve`: serve a cluster.
+    Serve(ServeOptions<'a>),
+}
+
+const ABOUT: &str =
+    "A cluster manager by resource offers that speaks the Mesos scheduler HTTP API.";
+
+const CALLS_ABOUT: &str =
+    "Answers calls without agents: reads RecordIO frames of calls in JSON from standard input, and writes the frames of all events to standard output.";
+
+const CALLS_HELP: &str =
+    "Each call is a record: its size in bytes in decimal digits, a line feed, and a JSON object, as
+
+  75
+  {\"type\":\"SUBSCRIBE\",\"subscribe\":{\"framework_info\":{\"user\":\"u\",\"name\":\"n\"}}}
+
+A record has at most 1048576 bytes. A record that is no call, or whose call is refused, is answered by an ERROR event.
+The status is 0 where the input ends behind a record, 2 where a frame is wrong (F1 BadSize, F2 TooLong, F3 Cut), and 3 where
+memory, the input or the output fails.";
+
+const REPLAY_ABOUT: &str =
+    "Replays a history of a cluster: reads the agents and then the steps, one JSON object a line, from standard input, and writes what comes of each step to standard output.";
+
+const REPLAY_HELP: &str =
+    "The first line says which agents there are, and what each owns in whole amounts:
+
+  {\"agents\":{\"a1\":{\"cpus\":4,\"mem\":4096}}}
+
+Each other line is a step. Its members, of which only `stream` of a send may lack:
+
+  {\"step\":\"send\",\"stream\":\"S1-1\",\"call\":CALL}      a framework sends a call of the Mesos scheduler API
+  {\"step\":\"deliver\",\"mail\":2}                       the master takes the call or mail of this number
+  {\"step\":\"allocate\"}                               the master makes a round of offers
+  {\"step\":\"tick\",\"now\":15}                          the time is so many seconds after the start
+  {\"step\":\"lose\",\"agent\":\"a1\"}                      the master takes the agent for lost
+  {\"step\":\"hangup\",\"stream\":\"S1-1\"}                 a stream of events is closed
+  {\"step\":\"take\",\"stream\":\"S1-1\"}                   a framework takes the next event of a stream
+  {\"step\":\"prepare\",\"agent\":\"a1\",\"mail\":1}          the agent drafts what it does at the mail of this number,
+  {\"step\":\"prepare\",\"agent\":\"a1\",\"cause\":\"start\"}   .. when it has come up (\"again\": at its next turn),
+  {\"step\":\"prepare\",\"agent\":\"a1\",\"launch\":\"L1-1\",\"state\":\"TASK_RUNNING\"}
+                                                    .. at its task's new state (or TASK_FINISHED, TASK_FAILED)
+  {\"step\":\"commit\",\"agent\":\"a1\"}                    the draft is the agent's record, and its mails are sent
+  {\"step\":\"stop_agent\",\"agent\":\"a1\",\"keep\":\"after\"}  the agent stops and comes up over its draft's record (\"before\": without it)
+  {\"step\":\"stop_master\"}                            the master stops, and a new one begins the next run
+
+Calls and mails have numbers from 1 on, in the order in which they are sent, and each can be delivered again and again. A line of
+spaces, tabs and carriage returns alone is passed over.
+
+For the opening, number 0, and each step a line says `NUMBER ok`, or why it was refused, as `7 C1 NoSuchMail`. Behind it stands what
+the step brought out: `> STREAM EVENT`, `x STREAM` for a stream that was closed, `# NUMBER RECEIVER MAIL` (of a call its type), and
+`< STREAM EVENT` for an event that was taken. At the end stands what each agent owns, what of it is offered, what its live tasks
+hold, and its tasks; then the number of entries of the history.
+
+Here the agent greets the master, and is seen to be there:
+
+  {\"agents\":{\"a1\":{\"cpus\":4,\"mem\":4096}}}
+  {\"step\":\"prepare\",\"agent\":\"a1\",\"mail\":1}
+  {\"step\":\"commit\",\"agent\":\"a1\"}
+  {\"step\":\"deliver\",\"mail\":2}
+
+The status is 0 where the input ends, 2 where a line is wrong (X1 NotAStep, X2 BadCall, X3 BadConfig, with the line's number before
+it), and 3 where memory, the input or the output fails.";
+
+fn app<'a>(alloc: Global) -> Result<Command<'a>, AllocError>
+    ensures { IfOk result (λ app. app_of app ≡ command_line) }
+{
+    let calls = Command::new(alloc, "calls")
+        .about(CALLS_ABOUT)
+        .after_help(CALLS_HELP);
+    let replay = Command::new(alloc, "replay")
+        .about(REPLAY_ABOUT)
+        .after_help(REPLAY_HELP);
+    let top = Command::new(alloc, "mesos_node")
+        .about(ABOUT)
+        .subcommand_required(true);
+    let with_calls = top.subcommand(calls)?;
+    let with_replay = with_calls.subcommand(replay)?;
+    let serve = serve_command(alloc)?;
+    let app = with_replay.subcommand(serve)?;
+    Ok(app)
+}
+
+fn action_named<'a>(name: &str, found: &ArgMatches<'a>) -> Option<Action<'a>>
+    ensures named { IfSome result (IsAction name.now (rows_of (found_of found.now))) }
+    ensures none { IfNone result ((a : Asked) → IsAction name.now (rows_of (found_of found.now)) a → ⊥) }
+{
+    match name {
+        "calls" => Some(Action::Calls),
+        "replay" => Some(Action::Replay),
+        "serve" => Some(Action::Serve(serve_options(found)?)),
+        _ => None,
+    }
+}
+
+/// What was found to be asked for.
+fn action_in<'a>(matches: &ArgMatches<'a>) -> Option<Action<'a>>
+    ensures found { IfSome result (λ action. (name : Text) × (rows : List Row) × (subcommand_rows_of matches.now ≡ Some (name, rows)) × IsAction name rows action) }
+    ensures none { IfNone result ((name : Text) (rows : List Row) (a : Asked) → subcommand_rows_of matches.now ≡ Some (name, rows) → IsAction name rows a → ⊥) }
+{
+    let (name, found) = matches.subcommand()?;
+    action_named(name, found)
+}
+
+/// What the words of a command line are, the program's name first.
+fn matches_of<'a>(alloc: Global, words: &'a [&'a str]) -> Result<ArgMatches<'a>, Error>
+    ensures matches { IfOk result (λ matches. subcommand_rows_of matches ≡ subcommand_of command_line (map (λ w. w.now) words.entry.now)) }
+    ensures faults { FailsBy (fault_of command_line (map (λ w. w.now) words.entry.now)) result }
+{
+    let app = app(alloc)?;
+    app.try_get_matches_from(words)
+}
+
+fn no_command(alloc: Global) -> Error {
+    let Ok(mut app) = app(alloc) else {
+        return Error::from(AllocError);
+    };
+    match app.error(ErrorKind::MissingSubcommand, "a command is missing") {
+        Ok(fault) => fault,
+        Err(_) => Error::from(AllocError),
+    }
+}
+
+/// The action that the words of a command line ask for, the program's name first. A fault tells what is wrong with them, or holds
+/// the help that they ask for.
+pub fn command_of<'a>(alloc: Global, words: &'a [&'a str]) -> Result<Action<'a>, Error>
+    ensures asked { IfOk result (AsksFor (map (λ w. w.now) words.entry.now)) }
+    ensures taken { IfOk result (λ _. fault_of command_line (map (λ w. w.now) words.entry.now) ≡ []) }
+    ensures refused { IfErr result (λ e. HasKind (fault_of command_line (map (λ w. w.now) words.entry.now)) e
+        ⊎ ((a : Asked) → AsksFor (map (λ w. w.now) words.entry.now) a → ⊥)) }
+{
+    let matches = matches_of(alloc, words)?;
+    match action_in(&matches) {
+        Some(action) => Ok(action),
+        None => Err(no_command(alloc)),
+    }
+}

@@ -1,0 +1,10 @@
+//! What the words of the program's command line ask for.
+#![tactic(auto)]
+
+mod command;
+mod options;
+#[cfg(test)]
+mod tests;
+
+pub use command::{Action, command_of};
+pub use options::ServeOptions;

@@ -1,0 +1,193 @@
+//! The command `serve` and its options.
+
+ghost use Rattle.std.specs.Prelude.{◌≡◌, ℕ, option_map, IfOk, IfSome, IfNone};
+ghost use Rattle.command_line.specs.declared.options.ServeOptions.{ServeOptions as Options};
+ghost use Rattle.clap.specs.Words.{app_of, first_of, found_of, rows_of, rule_of};
+ghost use Rattle.command_line.specs.Options as options;
+
+use clap::builder::ValueParser;
+use clap::{Arg, ArgMatches, Command};
+use std::alloc::{AllocError, Global};
+
+/// What a cluster is served with.
+#[derive(Clone, Copy, Debug, Drop, PartialEq, Eq)]
+pub struct ServeOptions<'a> {
+    /// The port, from 1 to 65,535.
+    pub port: u16,
+    /// The path of the file that says which agents there are.
+    pub agents: &'a str,
+    /// The path of the folder of the records.
+    pub state: &'a str,
+    /// So many seconds lie between two rounds of offers, from 1 to 3,600.
+    pub interval: u64,
+    /// So many seconds a task runs, from 0 to 86,400; with 0 until it is killed.
+    pub task_seconds: u64,
+    /// So many connections are accepted; with 0 there is no limit.
+    pub connections: u64,
+}
+
+const SERVE_ABOUT: &str =
+    "Serves a cluster: frameworks speak to its master at http://127.0.0.1:PORT/api/v1/scheduler, and its agents run tasks by simulated executors.";
+
+const SERVE_HELP: &str =
+    "FILE is one line that says which agents there are, and what each owns in whole amounts:
+
+  {\"agents\":{\"a1\":{\"cpus\":4,\"mem\":4096}}}
+
+DIR is a folder that is there. Each agent keeps its record in `agent-NAME.db` in it, and the master the number of its run in
+`master.db`; both are SQLite stores. Started again on the same folder, the agents come up over their records, with their tasks,
+and frameworks resubscribe by their ids. One process at a time can have a folder.
+
+The master makes a round of offers each `--interval` seconds. A task runs at its agent's next turn (TASK_RUNNING), and ends by
+itself `--task-seconds` later (TASK_FINISHED); with 0 it runs until it is killed. Updates are sent again until they are
+acknowledged. A framework whose connection is gone is noticed when its next HEARTBEAT can't be written, 15 to 30 seconds later;
+its offers come back then.
+
+With `--conns` N no more than N connections are accepted, and when all have ended each agent is written with its tasks, as
+`replay` does at its end.
+
+  mesos_node serve --port 5050 --agents agents.json --state state
+
+The status is 0 where all connections have ended, 2 where the command line, FILE (X3 BadConfig) or a record's total (Z1 TotalDiffers)
+is wrong, and 3 where a store (K1 to K4), FILE or the port (Z2 DeviceFault), a thread (H9 NoThread) or memory (H8 OutOfMemory) fails.";
+
+/// An option that takes a value.
+fn option<'a>(alloc: Global, name: &'a str, value: &'a str, help: &'a str) -> Arg<'a>
+    ensures { rule_of result ≡ options.option name.entry.now }
+{
+    Arg::new(alloc, name)
+        .long(name)
+        .value_name(value)
+        .help(help)
+}
+
+/// An option that takes a whole number, from the least to the most.
+fn number_option<'a>(alloc: Global, name: &'a str, help: &'a str, least: u64, most: u64) -> Arg<'a>
+    ensures { rule_of result ≡ options.number_in least most (options.option name.entry.now) }
+{
+    option(alloc, name, "N", help).value_parser(ValueParser::unsigned(least, most))
+}
+
+fn port<'a>(alloc: Global) -> Arg<'a>
+    ensures { rule_of result ≡ options.port }
+{
+    number_option(
+        alloc,
+        "port",
+        "the port on 127.0.0.1, from 1 to 65535",
+        1,
+        65_535,
+    )
+    .required(true)
+}
+
+fn agents<'a>(alloc: Global) -> Arg<'a>
+    ensures { rule_of result ≡ options.agents }
+{
+    option(
+        alloc,
+        "agents",
+        "FILE",
+        "the file that says which agents there are",
+    )
+    .required(true)
+}
+
+fn state<'a>(alloc: Global) -> Arg<'a>
+    ensures { rule_of result ≡ options.state }
+{
+    option(alloc, "state", "DIR", "the folder of the records").required(true)
+}
+
+fn interval<'a>(alloc: Global) -> Arg<'a>
+    ensures { rule_of result ≡ options.interval }
+{
+    number_option(
+        alloc,
+        "interval",
+        "seconds between two rounds of offers, from 1 to 3600",
+        1,
+        3_600,
+    )
+    .default_value("1")
+}
+
+fn task_seconds<'a>(alloc: Global) -> Arg<'a>
+    ensures { rule_of result ≡ options.task_seconds }
+{
+    number_option(
+        alloc,
+        "task-seconds",
+        "seconds that a task runs, from 0 to 86400; 0 is until it is killed",
+        0,
+        86_400,
+    )
+    .default_value("10")
+}
+
+fn connections<'a>(alloc: Global) -> Arg<'a>
+    ensures { rule_of result ≡ options.connections }
+{
+    number_option(
+        alloc,
+        "conns",
+        "connections that are accepted; 0 is no limit",
+        0,
+        u64::MAX,
+    )
+    .default_value("0")
+}
+
+/// The command `serve` and its options.
+pub(crate) fn serve_command<'a>(alloc: Global) -> Result<Command<'a>, AllocError>
+    ensures { IfOk result (λ serve. app_of serve ≡ options.serve_command) }
+{
+    let serve = Command::new(alloc, "serve")
+        .about(SERVE_ABOUT)
+        .after_help(SERVE_HELP);
+    let with_port = serve.arg(port(alloc))?;
+    let with_agents = with_port.arg(agents(alloc))?;
+    let with_state = with_agents.arg(state(alloc))?;
+    let with_interval = with_state.arg(interval(alloc))?;
+    let with_task_seconds = with_interval.arg(task_seconds(alloc))?;
+    let app = with_task_seconds.arg(connections(alloc))?;
+    Ok(app)
+}
+
+/// The text of an option.
+fn text_in<'a>(found: &ArgMatches<'a>, name: &str) -> Option<&'a str>
+    ensures { option_map (λ t. t.now) result ≡ first_of name.now (rows_of (found_of found.now)) }
+{
+    found.get_str(name)
+}
+
+/// The port of an option.
+fn port_in(found: &ArgMatches, name: &str) -> Option<u16>
+    ensures found { IfSome result (options.HasNumber 16 (rows_of (found_of found.now)) name.now) }
+    ensures none { IfNone result ((n : ℕ) → options.HasNumber 16 (rows_of (found_of found.now)) name.now n → ⊥) }
+{
+    found.get_one::<u16>(name)
+}
+
+/// The number of an option.
+fn number_in(found: &ArgMatches, name: &str) -> Option<u64>
+    ensures found { IfSome result (options.HasNumber 64 (rows_of (found_of found.now)) name.now) }
+    ensures none { IfNone result ((n : ℕ) → options.HasNumber 64 (rows_of (found_of found.now)) name.now n → ⊥) }
+{
+    found.get_one::<u64>(name)
+}
+
+/// What a cluster is served with, by the options that were found.
+pub(crate) fn serve_options<'a>(found: &ArgMatches<'a>) -> Option<ServeOptions<'a>>
+    ensures found { IfSome result (options.HasOptions (rows_of (found_of found.now))) }
+    ensures none { IfNone result ((o : Options) → options.HasOptions (rows_of (found_of found.now)) o → ⊥) }
+{
+    Some(ServeOptions {
+        port: port_in(found, "port")?,
+        agents: text_in(found, "agents")?,
+        state: text_in(found, "state")?,
+        interval: number_in(found, "interval")?,
+        task_seconds: number_in(found, "task-seconds")?,
+        connections: number_in(found, "conns")?,
+    })
+}

@@ -1,0 +1,112 @@
+//! A folder of stores.
+
+ghost use Rattle.std.specs.Prelude.{◌≡◌, map, IfOk, OnOk};
+ghost use Rattle.cluster_laws.specs.Parts.{configured};
+ghost use Rattle.cluster_model.specs.Openings.{GoodOpening};
+
+use crate::cabinet::FileCabinet;
+use crate::fault::FolderFault;
+use agent_core::fresh;
+use agent_sides::{Config, ConfiguredAgent};
+use cluster_core::good_opening;
+use keep_store::{KeepFault, Keeper};
+use mails::Durable;
+use names_core::Run;
+use quantity::Resources;
+use std::alloc::Global;
+
+/// What a folder keeps of a cluster.
+#[derive(Drop)]
+pub struct Folder<'a> {
+    /// The master's run, which was taken for it.
+    pub run: Run,
+    /// The agents' records, in the order of the configuration.
+    pub records: Vec<Durable>,
+    /// Where they are kept, in the same order.
+    pub cabinets: Vec<FileCabinet<'a>>,
+}
+
+/// The next run of the master, from the store of its runs in a folder.
+fn next_run(rt: &HostRuntime, folder: &str) -> Result<Run, FolderFault> {
+    let path = format!(in rt.alloc(); "{folder}/master.db")?;
+    match run_at(rt, path.as_str()) {
+        Ok(run) => Ok(run),
+        Err(fault) => Err(FolderFault::Store { path, fault }),
+    }
+}
+
+/// The next run, from the store at a path.
+fn run_at(rt: &HostRuntime, path: &str) -> Result<Run, KeepFault> {
+    let mut keeper = Keeper::open(rt, path)?;
+    match u16::try_from(keeper.next_run()?) {
+        Ok(run) if run > 0 => Ok(Run::new(run)),
+        _ => Err(KeepFault::Damaged),
+    }
+}
+
+fn is_same_total(total: &Resources, other: &Resources) -> bool {
+    total.covers(other) && other.covers(total)
+}
+
+/// The record of an agent that has one of this total, else a fresh one.
+fn record_of(
+    alloc: Global,
+    agent: &ConfiguredAgent,
+    found: Option<Durable>,
+) -> Result<Durable, FolderFault> {
+    let Some(record) = found else {
+        return Ok(fresh(alloc, agent.name.copy(alloc)?, agent.total.copy(alloc)?));
+    };
+    if !is_same_total(&record.total, &agent.total) {
+        return Err(FolderFault::TotalDiffers {
+            agent: String::from_str(alloc, agent.name.as_text())?,
+        });
+    }
+    Ok(record)
+}
+
+/// The record of an agent, with where it is kept.
+fn open_agent<'a>(
+    rt: &'a HostRuntime,
+    folder: &str,
+    agent: &ConfiguredAgent,
+) -> Result<(Durable, FileCabinet<'a>), FolderFault> {
+    let name = agent.name.as_text();
+    let path = format!(in rt.alloc(); "{folder}/agent-{name}.db")?;
+    match FileCabinet::open(rt, agent.name.copy(rt.alloc())?, path) {
+        Ok((cabinet, found)) => Ok((record_of(rt.alloc(), agent, found)?, cabinet)),
+        Err(refused) => {
+            let (path, fault) = refused;
+            Err(FolderFault::Store { path, fault })
+        }
+    }
+}
+
+/// Opens the stores of a folder, or makes those that lack: takes the master's next run, and reads the agents' records, a fresh one where there is none.
+/// The folder itself is to be there. Refusals come in the order: the store of runs, each agent's store and its total (Z1) in the order of their names, and
+/// then K2 where the records are those of no cluster.
+pub fn open_folder<'a>(
+    rt: &'a HostRuntime,
+    folder: &str,
+    config: &Config,
+) -> Result<Folder<'a>, FolderFault>
+    ensures good { IfOk result (λ opened. GoodOpening opened.run opened.records.items) }
+    ensures configured { IfOk result (λ opened. config.now ≡ map configured opened.records.items) }
+{
+    let run = next_run(rt, folder)?;
+    let mut records = Vec::new(rt.alloc());
+    let mut cabinets = Vec::new(rt.alloc());
+    for agent in config.agents() {
+        let (record, cabinet) = open_agent(rt, folder, agent)?;
+        records.push(record)?;
+        cabinets.push(cabinet)?;
+    }
+    if !good_opening(config, records.as_slice(), run) {
+        return Err(FolderFault::NoCluster);
+    }
+    Ok(Folder {
+        run,
+        records,
+        cabinets,
+    })
+}

@@ -1,0 +1,10 @@
+//! What a folder keeps of a cluster: the record of each agent, and the number of the master's last run, each in a SQLite store of its own.
+#![tactic(auto)]
+
+mod cabinet;
+mod fault;
+mod folder;
+
+pub use cabinet::FileCabinet;
+pub use fault::FolderFault;
+pub use folder::{Folder, open_folder};

@@ -1,0 +1,44 @@
+//! Why a cluster stops running.
+
+use activities::ActivityFault;
+use cluster_core::ClusterFault;
+use desk_lock::OfficeFault;
+use http_workers::HttpFault;
+use names_core::AgentName;
+use std::fmt;
+
+/// Why a cluster stops running before its last connection was taken. What was answered by then stands.
+#[derive(Drop)]
+pub enum ServingFault<F> {
+    /// An agent's record couldn't be kept.
+    Agent {
+        agent: AgentName,
+        fault: ActivityFault<F>,
+    },
+    /// A thread or memory was refused: `H8 OutOfMemory` or `H9 NoThread`.
+    Http(HttpFault),
+    /// `Z2 DeviceFault`: connection after connection failed.
+    Listener,
+    /// The office refused a seat, or its close.
+    Office(OfficeFault<ClusterFault>),
+}
+
+impl<F: fmt::Debug + fmt::Display> fmt::Display for ServingFault<F> {
+    fn fmt<W: fmt::Write>(&self, f: &mut fmt::Formatter<W>) -> fmt::Result {
+        match self {
+            ServingFault::Agent { agent, fault } => {
+                let agent = agent.as_text();
+                write!(f, "{fault}: the record of {agent}")
+            }
+            ServingFault::Http(fault) => {
+                let fault = *fault;
+                write!(f, "{fault}")
+            }
+            ServingFault::Listener => f.write_str("Z2 DeviceFault: no connection can be taken"),
+            ServingFault::Office(fault) => {
+                let fault = *fault;
+                write!(f, "{fault}")
+            }
+        }
+    }
+}

@@ -1,0 +1,187 @@
+//! A cluster that runs until its connections have ended.
+
+ghost use Rattle.std.specs.Prelude.{◌≡◌, [], IfOk};
+ghost use Rattle.recorded_cluster.specs.Recording.{IsSound};
+
+use crate::fault::ServingFault;
+use crate::staff::{Kept, Leaver, Pace, start_all};
+use activities::Cabinet;
+use cluster_core::Cluster;
+use desk_lock::{Desk, Office, Pass, Passes, SeatedHistory};
+use http_door::NoGate;
+use http_workers::{HttpFault, serve_all};
+use office_bench::TcpArrivals;
+use post_rules::Queues;
+use recorded_cluster::{Given, RecordedCluster};
+use std::alloc::Global;
+use std::net::TcpListener;
+use std::sync::ledger::Blank;
+use std::sync::{Wait, ledger};
+use std::thread;
+use std::thread::{JoinHandle, Scope, Threads};
+use std::time::Clock;
+
+/// Serves the connections of a listener, each with a seat of its own, until no more come and all have ended. The passes of their seats are handed in.
+fn serve_connections<L: ledger::Ledger + Send + Sync, F, R: Threads + Wait + Clock + Sync>(
+    rt: &R,
+    alloc: Global,
+    office: &Office<RecordedCluster, L>,
+    listener: &TcpListener,
+    connections: u64,
+    passes: &mut Passes<Given, L>,
+) -> Result<(), ServingFault<F>> {
+    let pass = match office.open_seat(rt, alloc) {
+        Ok(pass) => pass,
+        Err(fault) => return Err(ServingFault::Office(fault)),
+    };
+    let mut arrivals = TcpArrivals::new(rt, alloc, office, pass, listener, connections);
+    let (benches, fault) = serve_all(rt, alloc, &mut arrivals, &NoGate);
+    let failed = arrivals.has_failed();
+    let _ = passes.push(arrivals.into_pass());
+    for bench in benches {
+        if let Some(pass) = bench.into_pass() {
+            let _ = passes.push(pass);
+        }
+    }
+    match fault {
+        Some(fault) => Err(ServingFault::Http(fault)),
+        None if failed => Err(ServingFault::Listener),
+        None => Ok(()),
+    }
+}
+
+/// Waits for the threads to end, and hands their passes in. It gives the first fault that one left.
+fn join_all<L: ledger::Ledger, F: Drop, R: Threads>(
+    rt: &R,
+    threads: Vec<JoinHandle<Leaver<L, F>>>,
+    passes: &mut Passes<Given, L>,
+) -> Result<(), ServingFault<F>> {
+    let mut ended = Ok(());
+    for thread in threads {
+        let Leaver { pass, fault } = thread.join(rt);
+        let _ = passes.push(pass);
+        if let Some((agent, fault)) = fault {
+            if ended.is_ok() {
+                ended = Err(ServingFault::Agent { agent, fault });
+            }
+        }
+    }
+    ended
+}
+
+/// Runs a cluster in a scope of threads: serves its connections while its agents and its master's time go on, and ends all of them then.
+fn run<
+    's,
+    E,
+    L: ledger::Ledger + Send + Sync + 's,
+    C: Cabinet + Send + Drop + 's,
+    R: Threads + Wait + Clock + Sync + 's,
+>(
+    scope: &Scope<'s, E>,
+    rt: &'s R,
+    alloc: Global,
+    office: &'s Office<RecordedCluster, L>,
+    kept: Vec<Kept<C>>,
+    listener: &TcpListener,
+    pace: Pace,
+) -> (Passes<Given, L>, Result<(), ServingFault<C::Fault>>)
+where
+    C::Fault: Send,
+{
+    let mut passes = Passes::new(alloc);
+    let mut threads = Vec::new(alloc);
+    let started = start_all(scope, rt, alloc, office, kept, pace, &mut threads);
+    let served = match started {
+        Ok(()) => serve_connections(rt, alloc, office, listener, pace.connections, &mut passes),
+        Err(fault) => Err(fault),
+    };
+    office.finish(rt);
+    let ended = join_all(rt, threads, &mut passes);
+    match ended {
+        Ok(()) => (passes, served),
+        Err(fault) => (passes, Err(fault)),
+    }
+}
+
+/// An office over a cluster, in a scope of threads.
+fn run_office<
+    L: ledger::Ledger + Send + Sync,
+    C: Cabinet + Send + Drop,
+    R: Threads + Wait + Clock + Sync,
+>(
+    rt: &R,
+    alloc: Global,
+    office: &Office<RecordedCluster, L>,
+    kept: Vec<Kept<C>>,
+    listener: &TcpListener,
+    pace: Pace,
+) -> (Passes<Given, L>, Result<(), ServingFault<C::Fault>>)
+where
+    C::Fault: Send,
+{
+    thread::scope(thread::scope_env(), rt, |scope| {
+        run(scope, rt, alloc, office, kept, listener, pace)
+    })
+}
+
+/// What an office recorded, where the passes of its seats account for them.
+fn close<L: ledger::Ledger, F>(
+    office: Office<RecordedCluster, L>,
+    passes: Passes<Given, L>,
+) -> Result<SeatedHistory<RecordedCluster>, ServingFault<F>>
+    ensures { IfOk result (λ history. IsSound history.recorded) }
+{
+    match office.close(passes) {
+        Ok(history) => Ok(history),
+        Err(refused) => {
+            let (_desk, _passes, fault) = refused;
+            Err(ServingFault::Office(fault))
+        }
+    }
+}
+
+/// An office over a cluster that was just opened.
+fn opened<L: ledger::Ledger>(
+    alloc: Global,
+    cluster: Cluster<Queues>,
+    blank: Blank,
+) -> Office<RecordedCluster, L>
+    requires opening { cluster.story.entries ≡ [] }
+    requires name { blank.name ≡ L.name }
+    requires parts { (blank.parts ≡ L.parts) × (blank.parts ≡ 4294967296) }
+{
+    let desk: Desk<RecordedCluster, L> = Desk::new(alloc, RecordedCluster::new(cluster), blank);
+    Office::new(desk)
+}
+
+/// Runs a cluster of agents whose records are kept, until so many connections as its pace says have come and ended, and gives its whole history, with the
+/// seat of each entry. Each connection has a seat, as has each agent and the master's time. Where an agent's record can't be kept any more, where memory
+/// or a thread is refused, or where connection after connection fails, it ends too, once the connections that there are have ended; the fault tells why.
+pub fn serve_cluster<
+    L: ledger::Ledger + Send + Sync,
+    C: Cabinet + Send + Drop,
+    R: Threads + Wait + Clock + Sync,
+>(
+    rt: &R,
+    alloc: Global,
+    blank: Blank,
+    cluster: Cluster<Queues>,
+    kept: Vec<Kept<C>>,
+    listener: &TcpListener,
+    pace: Pace,
+) -> Result<SeatedHistory<RecordedCluster>, ServingFault<C::Fault>>
+where
+    C::Fault: Send,
+    requires opening { cluster.story.entries ≡ [] }
+    requires name { blank.name ≡ L.name }
+    requires parts { (blank.parts ≡ L.parts) × (blank.parts ≡ 4294967296) }
+    ensures { IfOk result (λ history. IsSound history.recorded) }
+{
+    let office: Office<RecordedCluster, L> = opened(alloc, cluster, blank);
+    let (passes, ended) = run_office(rt, alloc, &office, kept, listener, pace);
+    let closed = close(office, passes);
+    match ended {
+        Ok(()) => closed,
+        Err(fault) => Err(fault),
+    }
+}
