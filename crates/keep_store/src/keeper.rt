@@ -7,7 +7,7 @@ ghost use Rattle.sqlite.specs.Held.{state};
 ghost use Rattle.mails.specs.declared.record.Durable.{Durable};
 ghost use Rattle.record_text.specs.Texts.{record_form};
 ghost use Rattle.record_text.specs.Written.{IsDurable};
-ghost use Rattle.keep_store.specs.Kept.{Kept, kept_in, nothing, with_record, with_run, HoldsText, IsDamaged, IsLoaded, IsRecordText, shown_body, shown_last};
+ghost use Rattle.keep_store.specs.Kept.{Kept, kept_in, nothing, with_record, with_run, HoldsText, IsDamaged, IsLoaded, shown_body, shown_last};
 ghost use Rattle.keep_store.specs.Stops.{LeavesEither, Stands};
 ghost use Rattle.keep_store.specs.Tables.{IsReady, Stays, no_schema};
 ghost use Rattle.keep_store.specs.declared.fault.KeepFault.TheVariants as faults;
@@ -107,7 +107,7 @@ impl<S: Alter> Keeper<S> {
     pub fn load(&mut self, alloc: Global) -> Result<Option<Durable>, KeepFault>
         ensures clean { HasCleanDisk (state S.Store self.new) → HasCleanDisk (state S.Store self.old) }
         ensures loaded { IsReady (state S.Store self.old) → HasCleanDisk (state S.Store self.new) → IfOk result (IsLoaded (kept_in (state S.Store self.old).now.trees).body) }
-        ensures saved { (d : Durable) → IsReady (state S.Store self.old) → HasCleanDisk (state S.Store self.new) → IsRecordText d (record_form d) → HoldsText (kept_in (state S.Store self.old).now.trees).body (record_form d) → IfOk result (λ found. found ≡ Some d) }
+        ensures saved { (d : Durable) → IsReady (state S.Store self.old) → HasCleanDisk (state S.Store self.new) → IsDurable d → HoldsText (kept_in (state S.Store self.old).now.trees).body (record_form d) → IfOk result (λ found. found ≡ Some d) }
         ensures damaged { IsReady (state S.Store self.old) → HasCleanDisk (state S.Store self.new) → IsErrOf result KeepFault.Damaged → IsDamaged (kept_in (state S.Store self.old).now.trees).body }
         ensures stays { IsReady (state S.Store self.old) → HasCleanDisk (state S.Store self.new) → Stays (state S.Store self.old) (state S.Store self.new) }
         ensures up { IsReady (state S.Store self.old) → HasCleanDisk (state S.Store self.new) → OnOk result (IsReady (state S.Store self.new)) }

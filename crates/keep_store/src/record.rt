@@ -4,6 +4,7 @@ ghost use Rattle.std.specs.Prelude.{◌≡◌, true, false, Some, IfOk, IsErrOf,
 ghost use Rattle.sqlite.specs.declared.types.Value.TheVariants.{Text};
 ghost use Rattle.mails.specs.declared.record.Durable.{Durable};
 ghost use Rattle.record_text.specs.Texts.{record_form};
+ghost use Rattle.record_text.specs.Written.{IsDurable, IsWritten};
 ghost use Rattle.agent_core.specs.Records.{is_record};
 ghost use Rattle.keep_store.specs.Kept.{IsDamaged, IsLoaded, IsRecordText};
 
@@ -28,7 +29,7 @@ fn of_an_agent(alloc: Global, durable: Durable) -> Result<Durable, KeepFault>
 /// The record of a text.
 fn record_at(alloc: Global, text: &str) -> Result<Durable, KeepFault>
     ensures ok { IfOk result (λ found. IsRecordText found text.now) }
-    ensures only { (d : Durable) → IsRecordText d text.now → IfOk result (λ found. found ≡ d) }
+    ensures only { (d : Durable) → IsWritten d text.now → IfOk result (λ found. found ≡ d) }
     ensures damaged { IsErrOf result KeepFault.Damaged → (d : Durable) → IsRecordText d text.now → ⊥ }
 {
     match record_of(alloc, text) {
@@ -41,7 +42,7 @@ fn record_at(alloc: Global, text: &str) -> Result<Durable, KeepFault>
 /// The record of the text of a row, if there is one.
 pub fn record_in(alloc: Global, text: Option<String>) -> Result<Option<Durable>, KeepFault>
     ensures loaded { IfOk result (IsLoaded (option_map (λ text. Text (string_bytes text)) text)) }
-    ensures saved { (d : Durable) → IsRecordText d (record_form d) → option_map (λ text. Text (string_bytes text)) text ≡ Some (Text (record_form d)) → IfOk result (λ found. found ≡ Some d) }
+    ensures saved { (d : Durable) → IsDurable d → option_map (λ text. Text (string_bytes text)) text ≡ Some (Text (record_form d)) → IfOk result (λ found. found ≡ Some d) }
     ensures damaged { IsErrOf result KeepFault.Damaged → IsDamaged (option_map (λ text. Text (string_bytes text)) text) }
 {
     let Some(text) = text else {
