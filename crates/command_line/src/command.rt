@@ -1,6 +1,6 @@
 //! The command line.
 
-ghost use Rattle.std.specs.Prelude.{◌≡◌, ◌⊎◌, [], List, Some, map, IfOk, IfErr, IfSome, IfNone};
+ghost use Rattle.std.specs.Prelude.{◌≡◌, ◌⊎◌, [], ◌∷◌, List, Some, map, IfOk, IfErr, IfSome, IfNone};
 ghost use Rattle.command_line.specs.declared.command.Action.{Action as Asked};
 ghost use Rattle.clap.specs.Words.{FailsBy, HasKind, Row, Text, app_of, fault_of, found_of, rows_of, subcommand_of, subcommand_rows_of};
 ghost use Rattle.command_line.specs.Commands.{AsksFor, IsAction, command_line};
@@ -129,7 +129,9 @@ fn matches_of<'a>(alloc: Global, words: &'a [&'a str]) -> Result<ArgMatches<'a>,
     app.try_get_matches_from(words)
 }
 
-fn no_command(alloc: Global) -> Error {
+fn no_command(alloc: Global) -> Error
+    ensures { HasKind (ErrorKind.MissingSubcommand ∷ []) result }
+{
     let Ok(mut app) = app(alloc) else {
         return Error::from(AllocError);
     };
@@ -145,7 +147,7 @@ pub fn command_of<'a>(alloc: Global, words: &'a [&'a str]) -> Result<Action<'a>,
     ensures asked { IfOk result (AsksFor (map (λ w. w.now) words.entry.now)) }
     ensures taken { IfOk result (λ _. fault_of command_line (map (λ w. w.now) words.entry.now) ≡ []) }
     ensures refused { IfErr result (λ e. HasKind (fault_of command_line (map (λ w. w.now) words.entry.now)) e
-        ⊎ ((a : Asked) → AsksFor (map (λ w. w.now) words.entry.now) a → ⊥)) }
+        ⊎ (HasKind (ErrorKind.MissingSubcommand ∷ []) e × ((a : Asked) → AsksFor (map (λ w. w.now) words.entry.now) a → ⊥))) }
 {
     let matches = matches_of(alloc, words)?;
     match action_in(&matches) {
