@@ -4,54 +4,39 @@ use activities::Cabinet;
 use keep_store::{KeepFault, Keeper};
 use mails::Durable;
 use names_core::AgentName;
-use sqlite::{ErrorCode, FileFrom, FileStore, Unknown};
+use sqlite::{FileFrom, FileStore, Unknown};
 use std::alloc::Global;
 
 /// A store over files, whatever they hold.
-pub(crate) type FileKeeper = Keeper<FileStore<FileFrom<Unknown>>>;
+type FileKeeper = Keeper<FileStore<FileFrom<Unknown>>>;
 
-/// The store of an agent's record, at a path. It is opened again after it failed.
+/// The file of an agent's record. It can go to another thread, and becomes a cabinet there.
 #[derive(Drop)]
-pub struct FileCabinet<'a> {
+pub struct RecordFile<'a> {
     rt: &'a HostRuntime,
     agent: AgentName,
     path: String,
-    /// None where it couldn't be opened again.
-    keeper: Option<FileKeeper>,
 }
 
-impl<'a> FileCabinet<'a> {
-    /// Opens the store at a path, or makes it, and gives what it keeps.
-    pub(crate) fn open(
-        rt: &'a HostRuntime,
-        agent: AgentName,
-        path: String,
-    ) -> Result<(FileCabinet<'a>, Option<Durable>), (String, KeepFault)> {
-        let mut cabinet = FileCabinet {
-            rt,
-            agent,
-            path,
-            keeper: None,
-        };
-        match cabinet.load() {
-            Ok(record) => Ok((cabinet, record)),
-            Err(fault) => Err((cabinet.path, fault)),
-        }
+impl<'a> RecordFile<'a> {
+    pub(crate) fn new(rt: &'a HostRuntime, agent: AgentName, path: String) -> RecordFile<'a> {
+        RecordFile { rt, agent, path }
     }
 
-    /// Whose record it is.
-    pub fn agent(&self) -> &AgentName {
-        &self.agent
+    /// Whose record it is, and the store over the file.
+    pub fn into_cabinet(self) -> (AgentName, FileCabinet<'a>) {
+        let RecordFile { rt, agent, path } = self;
+        let keeper = None;
+        (agent, FileCabinet { rt, path, keeper })
     }
+}
 
-    /// Opens the store anew, and reads what it keeps.
-    fn load(&mut self) -> Result<Option<Durable>, KeepFault> {
-        self.keeper = None;
-        let mut keeper = Keeper::open(self.rt, self.path.as_str())?;
-        let record = keeper.load(self.rt.alloc())?;
-        self.keeper = Some(keeper);
-        Ok(record)
-    }
+/// The store of an agent's record, over the file at a path. It is opened when it is first needed, and again after it failed.
+#[derive(Drop)]
+pub struct FileCabinet<'a> {
+    rt: &'a HostRuntime,
+    path: String,
+    keeper: Option<FileKeeper>,
 }
 
 impl<'a> Cabinet for FileCabinet<'a> {
@@ -63,13 +48,26 @@ impl<'a> Cabinet for FileCabinet<'a> {
     ghost saved = { λ _ _. true };
 
     fn save(&mut self, alloc: Global, record: &Durable) -> Result<(), KeepFault> {
-        match &mut self.keeper {
-            Some(keeper) => keeper.save(alloc, record),
-            None => Err(KeepFault::Store(sqlite::Error::SqliteFailure(ErrorCode::CannotOpen))),
-        }
+        let mut keeper = match self.keeper.take() {
+            Some(keeper) => keeper,
+            None => Keeper::open(self.rt, self.path.as_str())?,
+        };
+        keeper.save(alloc, record)?;
+        self.keeper = Some(keeper);
+        Ok(())
     }
 
-    fn reopen(&mut self, _alloc: Global) -> Result<Option<Durable>, KeepFault> {
-        self.load()
+    fn reopen(&mut self, alloc: Global) -> Result<Option<Durable>, KeepFault> {
+        self.keeper = None;
+        let mut keeper = Keeper::open(self.rt, self.path.as_str())?;
+        let record = keeper.load(alloc)?;
+        self.keeper = Some(keeper);
+        Ok(record)
     }
+}
+
+/// The record that the store at a path keeps. A store is made where there is none.
+pub(crate) fn load_at(rt: &HostRuntime, path: &str) -> Result<Option<Durable>, KeepFault> {
+    let mut keeper = Keeper::open(rt, path)?;
+    keeper.load(rt.alloc())
 }

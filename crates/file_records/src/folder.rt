@@ -4,7 +4,7 @@ ghost use Rattle.std.specs.Prelude.{◌≡◌, map, IfOk, OnOk};
 ghost use Rattle.cluster_laws.specs.Parts.{configured};
 ghost use Rattle.cluster_model.specs.Openings.{GoodOpening};
 
-use crate::cabinet::FileCabinet;
+use crate::cabinet::{RecordFile, load_at};
 use crate::fault::FolderFault;
 use agent_core::fresh;
 use agent_sides::{Config, ConfiguredAgent};
@@ -23,7 +23,7 @@ pub struct Folder<'a> {
     /// The agents' records, in the order of the configuration.
     pub records: Vec<Durable>,
     /// Where they are kept, in the same order.
-    pub cabinets: Vec<FileCabinet<'a>>,
+    pub files: Vec<RecordFile<'a>>,
 }
 
 /// The next run of the master, from the store of its runs in a folder.
@@ -65,21 +65,21 @@ fn record_of(
     Ok(record)
 }
 
-/// The record of an agent, with where it is kept.
+/// The record of an agent, with the file where it is kept.
 fn open_agent<'a>(
     rt: &'a HostRuntime,
     folder: &str,
     agent: &ConfiguredAgent,
-) -> Result<(Durable, FileCabinet<'a>), FolderFault> {
+) -> Result<(Durable, RecordFile<'a>), FolderFault> {
     let name = agent.name.as_text();
     let path = format!(in rt.alloc(); "{folder}/agent-{name}.db")?;
-    match FileCabinet::open(rt, agent.name.copy(rt.alloc())?, path) {
-        Ok((cabinet, found)) => Ok((record_of(rt.alloc(), agent, found)?, cabinet)),
-        Err(refused) => {
-            let (path, fault) = refused;
-            Err(FolderFault::Store { path, fault })
-        }
-    }
+    let found = match load_at(rt, path.as_str()) {
+        Ok(found) => found,
+        Err(fault) => return Err(FolderFault::Store { path, fault }),
+    };
+    let record = record_of(rt.alloc(), agent, found)?;
+    let name = agent.name.copy(rt.alloc())?;
+    Ok((record, RecordFile::new(rt, name, path)))
 }
 
 /// Opens the stores of a folder, or makes those that lack: takes the master's next run, and reads the agents' records, a fresh one where there is none.
@@ -95,11 +95,11 @@ pub fn open_folder<'a>(
 {
     let run = next_run(rt, folder)?;
     let mut records = Vec::new(rt.alloc());
-    let mut cabinets = Vec::new(rt.alloc());
+    let mut files = Vec::new(rt.alloc());
     for agent in config.agents() {
-        let (record, cabinet) = open_agent(rt, folder, agent)?;
+        let (record, file) = open_agent(rt, folder, agent)?;
         records.push(record)?;
-        cabinets.push(cabinet)?;
+        files.push(file)?;
     }
     if !good_opening(config, records.as_slice(), run) {
         return Err(FolderFault::NoCluster);
@@ -107,6 +107,6 @@ pub fn open_folder<'a>(
     Ok(Folder {
         run,
         records,
-        cabinets,
+        files,
     })
 }

@@ -5,6 +5,6 @@ mod cabinet;
 mod fault;
 mod folder;
 
-pub use cabinet::FileCabinet;
+pub use cabinet::{FileCabinet, RecordFile};
 pub use fault::FolderFault;
 pub use folder::{Folder, open_folder};

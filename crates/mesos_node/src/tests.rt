@@ -1,6 +1,4 @@
 use crate::calls::calls;
-use crate::command::{Action, command_of};
-use clap::error::ErrorKind;
 use frame_record::FrameFault;
 use std::alloc::Global;
 use std::io::{self, Read, Write};
@@ -217,40 +215,5 @@ fn where_a_write_fails_a_beginning_was_written(rt: HostRuntime) -> Result<(), Fa
     };
     assert!(rt; calls(rt.alloc(), &mut reader, &mut writer).is_err());
     assert!(rt; writer.text.as_slice() == &SUBSCRIBED[..10]);
-    Ok(())
-}
-
-#[test]
-fn the_command_line_is_read(rt: HostRuntime) -> Result<(), Fail> {
-    assert_eq!(rt;
-        command_of(rt.alloc(), &["mesos_node", "calls"])?,
-        Action::Calls
-    );
-    assert_eq!(rt;
-        command_of(rt.alloc(), &["mesos_node", "replay"])?,
-        Action::Replay
-    );
-    let kinds = [
-        (["mesos_node", "--help"].as_slice(), ErrorKind::DisplayHelp),
-        (
-            ["mesos_node", "calls", "--help"].as_slice(),
-            ErrorKind::DisplayHelp,
-        ),
-        (
-            ["mesos_node", "fly"].as_slice(),
-            ErrorKind::InvalidSubcommand,
-        ),
-        (
-            ["mesos_node", "calls", "now"].as_slice(),
-            ErrorKind::UnknownArgument,
-        ),
-        (["mesos_node"].as_slice(), ErrorKind::MissingSubcommand),
-    ];
-    for (words, kind) in kinds {
-        match command_of(rt.alloc(), words) {
-            Ok(_) => return Err(Fail::new("taken")),
-            Err(fault) => assert_eq!(rt; fault.kind(), kind),
-        }
-    }
     Ok(())
 }

@@ -4,16 +4,17 @@ use activities::ActivityFault;
 use cluster_core::ClusterFault;
 use desk_lock::OfficeFault;
 use http_workers::HttpFault;
+use keep_store::KeepFault;
 use names_core::AgentName;
 use std::fmt;
 
 /// Why a cluster stops running before its last connection was taken. What was answered by then stands.
 #[derive(Drop)]
-pub enum ServingFault<F> {
+pub enum ServingFault {
     /// An agent's record couldn't be kept.
     Agent {
         agent: AgentName,
-        fault: ActivityFault<F>,
+        fault: ActivityFault<KeepFault>,
     },
     /// A thread or memory was refused: `H8 OutOfMemory` or `H9 NoThread`.
     Http(HttpFault),
@@ -23,7 +24,7 @@ pub enum ServingFault<F> {
     Office(OfficeFault<ClusterFault>),
 }
 
-impl<F: fmt::Debug + fmt::Display> fmt::Display for ServingFault<F> {
+impl fmt::Display for ServingFault {
     fn fmt<W: fmt::Write>(&self, f: &mut fmt::Formatter<W>) -> fmt::Result {
         match self {
             ServingFault::Agent { agent, fault } => {

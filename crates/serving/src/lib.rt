@@ -7,4 +7,4 @@ mod staff;
 
 pub use fault::ServingFault;
 pub use serve::serve_cluster;
-pub use staff::{Kept, Pace};
+pub use staff::Pace;

@@ -4,10 +4,10 @@ ghost use Rattle.std.specs.Prelude.{◌≡◌, [], IfOk};
 ghost use Rattle.recorded_cluster.specs.Recording.{IsSound};
 
 use crate::fault::ServingFault;
-use crate::staff::{Kept, Leaver, Pace, start_all};
-use activities::Cabinet;
+use crate::staff::{Leaver, Pace, start_all};
 use cluster_core::Cluster;
 use desk_lock::{Desk, Office, Pass, Passes, SeatedHistory};
+use file_records::RecordFile;
 use http_door::NoGate;
 use http_workers::{HttpFault, serve_all};
 use office_bench::TcpArrivals;
@@ -22,14 +22,14 @@ use std::thread::{JoinHandle, Scope, Threads};
 use std::time::Clock;
 
 /// Serves the connections of a listener, each with a seat of its own, until no more come and all have ended. The passes of their seats are handed in.
-fn serve_connections<L: ledger::Ledger + Send + Sync, F, R: Threads + Wait + Clock + Sync>(
+fn serve_connections<L: ledger::Ledger + Send + Sync, R: Threads + Wait + Clock + Sync>(
     rt: &R,
     alloc: Global,
     office: &Office<RecordedCluster, L>,
     listener: &TcpListener,
     connections: u64,
     passes: &mut Passes<Given, L>,
-) -> Result<(), ServingFault<F>> {
+) -> Result<(), ServingFault> {
     let pass = match office.open_seat(rt, alloc) {
         Ok(pass) => pass,
         Err(fault) => return Err(ServingFault::Office(fault)),
@@ -51,11 +51,11 @@ fn serve_connections<L: ledger::Ledger + Send + Sync, F, R: Threads + Wait + Clo
 }
 
 /// Waits for the threads to end, and hands their passes in. It gives the first fault that one left.
-fn join_all<L: ledger::Ledger, F: Drop, R: Threads>(
+fn join_all<L: ledger::Ledger, R: Threads>(
     rt: &R,
-    threads: Vec<JoinHandle<Leaver<L, F>>>,
+    threads: Vec<JoinHandle<Leaver<L>>>,
     passes: &mut Passes<Given, L>,
-) -> Result<(), ServingFault<F>> {
+) -> Result<(), ServingFault> {
     let mut ended = Ok(());
     for thread in threads {
         let Leaver { pass, fault } = thread.join(rt);
@@ -70,27 +70,18 @@ fn join_all<L: ledger::Ledger, F: Drop, R: Threads>(
 }
 
 /// Runs a cluster in a scope of threads: serves its connections while its agents and its master's time go on, and ends all of them then.
-fn run<
-    's,
-    E,
-    L: ledger::Ledger + Send + Sync + 's,
-    C: Cabinet + Send + Drop + 's,
-    R: Threads + Wait + Clock + Sync + 's,
->(
+fn run<'s, E, L: ledger::Ledger + Send + Sync + 's, R: Threads + Wait + Clock + Sync + 's>(
     scope: &Scope<'s, E>,
     rt: &'s R,
     alloc: Global,
     office: &'s Office<RecordedCluster, L>,
-    kept: Vec<Kept<C>>,
+    files: Vec<RecordFile<'s>>,
     listener: &TcpListener,
     pace: Pace,
-) -> (Passes<Given, L>, Result<(), ServingFault<C::Fault>>)
-where
-    C::Fault: Send,
-{
+) -> (Passes<Given, L>, Result<(), ServingFault>) {
     let mut passes = Passes::new(alloc);
     let mut threads = Vec::new(alloc);
-    let started = start_all(scope, rt, alloc, office, kept, pace, &mut threads);
+    let started = start_all(scope, rt, alloc, office, files, pace, &mut threads);
     let served = match started {
         Ok(()) => serve_connections(rt, alloc, office, listener, pace.connections, &mut passes),
         Err(fault) => Err(fault),
@@ -104,31 +95,24 @@ where
 }
 
 /// An office over a cluster, in a scope of threads.
-fn run_office<
-    L: ledger::Ledger + Send + Sync,
-    C: Cabinet + Send + Drop,
-    R: Threads + Wait + Clock + Sync,
->(
+fn run_office<L: ledger::Ledger + Send + Sync, R: Threads + Wait + Clock + Sync>(
     rt: &R,
     alloc: Global,
     office: &Office<RecordedCluster, L>,
-    kept: Vec<Kept<C>>,
+    files: Vec<RecordFile<'_>>,
     listener: &TcpListener,
     pace: Pace,
-) -> (Passes<Given, L>, Result<(), ServingFault<C::Fault>>)
-where
-    C::Fault: Send,
-{
+) -> (Passes<Given, L>, Result<(), ServingFault>) {
     thread::scope(thread::scope_env(), rt, |scope| {
-        run(scope, rt, alloc, office, kept, listener, pace)
+        run(scope, rt, alloc, office, files, listener, pace)
     })
 }
 
 /// What an office recorded, where the passes of its seats account for them.
-fn close<L: ledger::Ledger, F>(
+fn close<L: ledger::Ledger>(
     office: Office<RecordedCluster, L>,
     passes: Passes<Given, L>,
-) -> Result<SeatedHistory<RecordedCluster>, ServingFault<F>>
+) -> Result<SeatedHistory<RecordedCluster>, ServingFault>
     ensures { IfOk result (λ history. IsSound history.recorded) }
 {
     match office.close(passes) {
@@ -154,31 +138,25 @@ fn opened<L: ledger::Ledger>(
     Office::new(desk)
 }
 
-/// Runs a cluster of agents whose records are kept, until so many connections as its pace says have come and ended, and gives its whole history, with the
+/// Runs a cluster of agents whose records are kept in files, until so many connections as its pace says have come and ended, and gives its whole history, with the
 /// seat of each entry. Each connection has a seat, as has each agent and the master's time. Where an agent's record can't be kept any more, where memory
 /// or a thread is refused, or where connection after connection fails, it ends too, once the connections that there are have ended; the fault tells why.
-pub fn serve_cluster<
-    L: ledger::Ledger + Send + Sync,
-    C: Cabinet + Send + Drop,
-    R: Threads + Wait + Clock + Sync,
->(
+pub fn serve_cluster<L: ledger::Ledger + Send + Sync, R: Threads + Wait + Clock + Sync>(
     rt: &R,
     alloc: Global,
     blank: Blank,
     cluster: Cluster<Queues>,
-    kept: Vec<Kept<C>>,
+    files: Vec<RecordFile<'_>>,
     listener: &TcpListener,
     pace: Pace,
-) -> Result<SeatedHistory<RecordedCluster>, ServingFault<C::Fault>>
-where
-    C::Fault: Send,
+) -> Result<SeatedHistory<RecordedCluster>, ServingFault>
     requires opening { cluster.story.entries ≡ [] }
     requires name { blank.name ≡ L.name }
     requires parts { (blank.parts ≡ L.parts) × (blank.parts ≡ 4294967296) }
     ensures { IfOk result (λ history. IsSound history.recorded) }
 {
     let office: Office<RecordedCluster, L> = opened(alloc, cluster, blank);
-    let (passes, ended) = run_office(rt, alloc, &office, kept, listener, pace);
+    let (passes, ended) = run_office(rt, alloc, &office, files, listener, pace);
     let closed = close(office, passes);
     match ended {
         Ok(()) => closed,

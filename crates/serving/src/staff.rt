@@ -3,9 +3,11 @@
 ghost use Rattle.std.specs.Prelude.{◌≡◌, []};
 
 use crate::fault::ServingFault;
-use activities::{ActivityFault, Cabinet, activity, ticker};
+use activities::{ActivityFault, activity, ticker};
 use desk_lock::{Office, Pass};
+use file_records::RecordFile;
 use http_workers::HttpFault;
+use keep_store::KeepFault;
 use names_core::AgentName;
 use recorded_cluster::{Given, RecordedCluster};
 use std::alloc::Global;
@@ -24,32 +26,25 @@ pub struct Pace {
     pub connections: u64,
 }
 
-/// An agent, and where its record is kept.
-#[derive(Drop)]
-pub struct Kept<C: Drop> {
-    pub agent: AgentName,
-    pub cabinet: C,
-}
-
 /// What a thread leaves: its pass, and why an agent's activity ended.
 #[derive(Drop)]
-pub(crate) struct Leaver<L: ledger::Ledger, F> {
+pub(crate) struct Leaver<L: ledger::Ledger> {
     pub pass: Pass<Given, L>,
-    pub fault: Option<(AgentName, ActivityFault<F>)>,
+    pub fault: Option<(AgentName, ActivityFault<KeepFault>)>,
 }
 
 /// An agent's activity.
-fn keep_going<L: ledger::Ledger, C: Cabinet + Drop, R: Wait + Clock>(
+fn keep_going<L: ledger::Ledger, R: Wait + Clock>(
     rt: &R,
     alloc: Global,
     office: &Office<RecordedCluster, L>,
     pass: Pass<Given, L>,
-    kept: Kept<C>,
+    file: RecordFile<'_>,
     task_seconds: u64,
-) -> Leaver<L, C::Fault>
+) -> Leaver<L>
     requires { pass.receipts ≡ [] }
 {
-    let Kept { agent, mut cabinet } = kept;
+    let (agent, mut cabinet) = file.into_cabinet();
     let (pass, fault) = activity(rt, alloc, office, pass, &agent, &mut cabinet, task_seconds);
     match fault {
         Some(fault) => Leaver {
@@ -61,13 +56,13 @@ fn keep_going<L: ledger::Ledger, C: Cabinet + Drop, R: Wait + Clock>(
 }
 
 /// The master's time.
-fn keep_time<L: ledger::Ledger, F, R: Wait + Clock>(
+fn keep_time<L: ledger::Ledger, R: Wait + Clock>(
     rt: &R,
     alloc: Global,
     office: &Office<RecordedCluster, L>,
     pass: Pass<Given, L>,
     interval: u64,
-) -> Leaver<L, F> {
+) -> Leaver<L> {
     Leaver {
         pass: ticker(rt, alloc, office, pass, interval),
         fault: None,
@@ -75,48 +70,33 @@ fn keep_time<L: ledger::Ledger, F, R: Wait + Clock>(
 }
 
 /// Starts an agent's thread.
-fn start_agent<
-    's,
-    E,
-    L: ledger::Ledger + Send + Sync + 's,
-    C: Cabinet + Send + Drop + 's,
-    R: Threads + Wait + Clock + Sync + 's,
->(
+fn start_agent<'s, E, L: ledger::Ledger + Send + Sync + 's, R: Threads + Wait + Clock + Sync + 's>(
     scope: &Scope<'s, E>,
     rt: &'s R,
     alloc: Global,
     office: &'s Office<RecordedCluster, L>,
-    kept: Kept<C>,
+    file: RecordFile<'s>,
     pace: Pace,
-) -> Result<JoinHandle<Leaver<L, C::Fault>>, ServingFault<C::Fault>>
-where
-    C::Fault: Send,
-{
+) -> Result<JoinHandle<Leaver<L>>, ServingFault> {
     let pass = match office.open_seat(rt, alloc) {
         Ok(pass) => pass,
         Err(fault) => return Err(ServingFault::Office(fault)),
     };
     let seconds = pace.task_seconds;
-    match scope.spawn(move || keep_going(rt, alloc, office, pass, kept, seconds)) {
+    match scope.spawn(move || keep_going(rt, alloc, office, pass, file, seconds)) {
         Ok(thread) => Ok(thread),
         Err(_) => Err(ServingFault::Http(HttpFault::NoThread)),
     }
 }
 
 /// Starts the thread of the master's time.
-fn start_ticker<
-    's,
-    E,
-    L: ledger::Ledger + Send + Sync + 's,
-    F: Send + Drop + 's,
-    R: Threads + Wait + Clock + Sync + 's,
->(
+fn start_ticker<'s, E, L: ledger::Ledger + Send + Sync + 's, R: Threads + Wait + Clock + Sync + 's>(
     scope: &Scope<'s, E>,
     rt: &'s R,
     alloc: Global,
     office: &'s Office<RecordedCluster, L>,
     pace: Pace,
-) -> Result<JoinHandle<Leaver<L, F>>, ServingFault<F>> {
+) -> Result<JoinHandle<Leaver<L>>, ServingFault> {
     let pass = match office.open_seat(rt, alloc) {
         Ok(pass) => pass,
         Err(fault) => return Err(ServingFault::Office(fault)),
@@ -133,25 +113,21 @@ pub(crate) fn start_all<
     's,
     E,
     L: ledger::Ledger + Send + Sync + 's,
-    C: Cabinet + Send + Drop + 's,
     R: Threads + Wait + Clock + Sync + 's,
 >(
     scope: &Scope<'s, E>,
     rt: &'s R,
     alloc: Global,
     office: &'s Office<RecordedCluster, L>,
-    kept: Vec<Kept<C>>,
+    files: Vec<RecordFile<'s>>,
     pace: Pace,
-    threads: &mut Vec<JoinHandle<Leaver<L, C::Fault>>>,
-) -> Result<(), ServingFault<C::Fault>>
-where
-    C::Fault: Send,
-{
-    if threads.reserve(kept.len()).is_err() || threads.reserve(1).is_err() {
+    threads: &mut Vec<JoinHandle<Leaver<L>>>,
+) -> Result<(), ServingFault> {
+    if threads.reserve(files.len()).is_err() || threads.reserve(1).is_err() {
         return Err(ServingFault::Http(HttpFault::OutOfMemory));
     }
-    for one in kept {
-        let thread = start_agent(scope, rt, alloc, office, one, pace)?;
+    for file in files {
+        let thread = start_agent(scope, rt, alloc, office, file, pace)?;
         let _ = threads.push(thread);
     }
     let thread = start_ticker(scope, rt, alloc, office, pace)?;

@@ -1,0 +1,11 @@
+-- The status that the program ends with.
+use Rattle.std.specs.Prelude.{◌≡◌, ◌⊎◌, ℕ, Option, None, Some, Result, Ok, Err}
+
+-- 0 where the work ended, 2 where its input was refused, 3 where memory, the input or the output failed
+abbrev pub status_for : {F S : Type 0} → Result (Option F) S → ℕ
+status_for (Ok None) = 0
+status_for (Ok (Some fault)) = 2
+status_for (Err stop) = 3
+
+abbrev pub IsStatus : ℕ → Type 0
+IsStatus n = (n ≡ 0) ⊎ ((n ≡ 2) ⊎ (n ≡ 3))

@@ -1,0 +1,161 @@
+//! The command `serve`: a cluster that runs over a folder of records.
+
+ghost use Rattle.std.specs.Prelude.{◌≡◌, map};
+ghost use Rattle.cluster_laws.specs.Parts.{configured};
+ghost use Rattle.cluster_model.specs.Openings.{GoodOpening};
+
+use agent_sides::Config;
+use cluster_core::Cluster;
+use command_line::ServeOptions;
+use file_records::{Folder, FolderFault, open_folder};
+use post_rules::Queues;
+use replays::end_table;
+use serving::{Pace, ServingFault, serve_cluster};
+use std::alloc::AllocError;
+use std::marker::Brand;
+use std::net::{Net, TcpListener, TcpStream};
+use std::sync::Wait;
+use std::sync::ledger::Blank;
+use std::thread::Threads;
+use std::time::Clock;
+use std::{fmt, fs, io};
+use step_lines::{LineFault, read_config};
+
+/// One part for each seat, and one for the desk.
+const PARTS: u64 = 1 << 32;
+
+/// Why a cluster isn't served, or stops being served.
+#[derive(Drop)]
+pub enum ServeFault {
+    /// `Z2 DeviceFault`: the file of the agents can't be read.
+    File(io::Error),
+    /// `X3 BadConfig`: the file of the agents isn't one configuration line.
+    Config,
+    Folder(FolderFault),
+    /// `Z2 DeviceFault`: the port can't be had.
+    Port { port: u16, error: io::Error },
+    Serving(ServingFault),
+    /// Memory ran out before the cluster was open, or after its end.
+    Memory,
+}
+
+impl ServeFault {
+    /// Whether the input is refused, and no store, port, thread or memory failed.
+    pub fn is_refusal(&self) -> bool {
+        match self {
+            ServeFault::Config => true,
+            ServeFault::Folder(FolderFault::TotalDiffers { .. }) => true,
+            _ => false,
+        }
+    }
+}
+
+impl From<AllocError> for ServeFault {
+    fn from(_e: AllocError) -> ServeFault {
+        ServeFault::Memory
+    }
+}
+
+impl From<FolderFault> for ServeFault {
+    fn from(fault: FolderFault) -> ServeFault {
+        ServeFault::Folder(fault)
+    }
+}
+
+impl fmt::Display for ServeFault {
+    fn fmt<W: fmt::Write>(&self, f: &mut fmt::Formatter<W>) -> fmt::Result {
+        match self {
+            ServeFault::File(error) => write!(f, "Z2 DeviceFault: the file of the agents: {error}"),
+            ServeFault::Config => f.write_str(
+                "X3 BadConfig: the file of the agents is to be one line",
+            ),
+            ServeFault::Folder(fault) => write!(f, "{fault}"),
+            ServeFault::Port { port, error } => {
+                let port = *port;
+                write!(f, "Z2 DeviceFault: port {port}: {error}")
+            }
+            ServeFault::Serving(fault) => write!(f, "{fault}"),
+            ServeFault::Memory => f.write_str("C9 OutOfMemory"),
+        }
+    }
+}
+
+/// The text of one line, whose end may lack.
+fn only_line(text: &[u8]) -> Option<&[u8]> {
+    let line = match text.strip_suffix(b"\n") {
+        Some(line) => line,
+        None => text,
+    };
+    if line.contains(&b'\n') {
+        return None;
+    }
+    Some(line)
+}
+
+/// The agents that a file says.
+fn read_agents(rt: &HostRuntime, path: &str) -> Result<Config, ServeFault> {
+    let text = match fs::read(rt, path) {
+        Ok(text) => text,
+        Err(error) => return Err(ServeFault::File(error)),
+    };
+    let Some(line) = only_line(text.as_slice()) else {
+        return Err(ServeFault::Config);
+    };
+    match read_config(rt.alloc(), line) {
+        Ok(config) => Ok(config),
+        Err(LineFault::OutOfMemory) => Err(ServeFault::Memory),
+        Err(LineFault::Refused(_)) => Err(ServeFault::Config),
+    }
+}
+
+/// Serves the cluster of a folder, and gives the table at its end.
+fn serve_folder<R: Threads + Wait + Clock + Sync>(
+    rt: &HostRuntime,
+    threads: &R,
+    options: &ServeOptions,
+    config: Config,
+    folder: Folder,
+    listener: &TcpListener,
+) -> Result<Vec<u8>, ServeFault>
+    requires good { GoodOpening folder.run folder.records.items }
+    requires configured { config ≡ map configured folder.records.items }
+{
+    let Folder {
+        run,
+        records,
+        files,
+    } = folder;
+    let cluster: Cluster<Queues> = match Cluster::open(rt.alloc(), config, records, run) {
+        Ok(cluster) => cluster,
+        Err(_) => return Err(ServeFault::Memory),
+    };
+    let pace = Pace {
+        interval: options.interval,
+        task_seconds: options.task_seconds,
+        connections: options.connections,
+    };
+    let blank = Blank::new(PARTS);
+    match serve_cluster::<Brand, _>(threads, rt.alloc(), blank, cluster, files, listener, pace) {
+        Ok(history) => Ok(end_table(rt.alloc(), history.recorded().cluster())?),
+        Err(fault) => Err(ServeFault::Serving(fault)),
+    }
+}
+
+/// Serves a cluster until its connections have ended, and gives the table at its end: each agent with its tasks, and the number of entries of the history.
+/// It says on standard error where it serves, once it does. `threads` is the runtime too, by what only `main` may do.
+pub fn serve<R: Net<Listener = TcpListener, Stream = TcpStream> + Threads + Wait + Clock + Sync>(
+    rt: &HostRuntime,
+    threads: &R,
+    options: &ServeOptions,
+) -> Result<Vec<u8>, ServeFault> {
+    let config = read_agents(rt, options.agents)?;
+    let folder = open_folder(rt, options.state, &config)?;
+    let port = options.port;
+    let listener = match TcpListener::bind(threads, ("127.0.0.1", port)) {
+        Ok(listener) => listener,
+        Err(error) => return Err(ServeFault::Port { port, error }),
+    };
+    let run = folder.run.number();
+    let _ = eprintln!(rt; "run {run} serves at http://127.0.0.1:{port}/api/v1/scheduler");
+    serve_folder(rt, threads, options, config, folder, &listener)
+}

@@ -1,0 +1,71 @@
+#!/usr/bin/env python3
+"""A framework of the Mesos scheduler HTTP API: examples/framework.py [PORT] [TASKS]
+
+It subscribes to the master at 127.0.0.1:PORT (5050), launches TASKS tasks (3) of one cpu each as offers come, acknowledges every
+update, prints how each task goes on, and tears itself down when all have finished.
+"""
+import http.client
+import json
+import sys
+
+PORT = int(sys.argv[1]) if len(sys.argv) > 1 else 5050
+TASKS = int(sys.argv[2]) if len(sys.argv) > 2 else 3
+
+
+def post(body, stream=None):
+    """Sends a call on a connection of its own, and gives the answer."""
+    connection = http.client.HTTPConnection("127.0.0.1", PORT)
+    fields = {"Content-Type": "application/json"}
+    if stream:
+        fields["Mesos-Stream-Id"] = stream
+    connection.request("POST", "/api/v1/scheduler", json.dumps(body), fields)
+    return connection.getresponse()
+
+
+def events(answer):
+    """The events of a stream: each is its size in decimal digits, a line feed, and so many bytes of JSON."""
+    while size := answer.readline():
+        yield json.loads(answer.read(int(size)))
+
+
+def task(name, offer):
+    cpu = {"name": "cpus", "type": "SCALAR", "scalar": {"value": 1}}
+    return {"name": name, "task_id": {"value": name}, "agent_id": offer["agent_id"], "resources": [cpu]}
+
+
+def main():
+    subscribe = {"type": "SUBSCRIBE", "subscribe": {"framework_info": {"user": "me", "name": "example"}}}
+    answer = post(subscribe)
+    stream = answer.getheader("Mesos-Stream-Id")
+    framework, launched, finished = None, 0, set()
+
+    def call(kind, **members):
+        told = post({"type": kind, "framework_id": framework, **members}, stream)
+        if told.status != 202:
+            raise SystemExit(f"{kind} is answered {told.status} {told.read().decode()}")
+
+    for event in events(answer):
+        if event["type"] == "SUBSCRIBED":
+            framework = event["subscribed"]["framework_id"]
+            print("subscribed as", framework["value"])
+        elif event["type"] == "OFFERS":
+            for offer in event["offers"]["offers"]:
+                cpus = sum(it["scalar"]["value"] for it in offer["resources"] if it["name"] == "cpus")
+                tasks = [task(f"task-{launched + i}", offer) for i in range(min(cpus, TASKS - launched))]
+                launched += len(tasks)
+                launch = [{"type": "LAUNCH", "launch": {"task_infos": tasks}}] if tasks else []
+                call("ACCEPT", accept={"offer_ids": [offer["id"]], "operations": launch})
+        elif event["type"] == "UPDATE":
+            status = event["update"]["status"]
+            name, state = status["task_id"]["value"], status["state"]
+            print(name, state)
+            if "uuid" in status:
+                call("ACKNOWLEDGE", acknowledge={it: status[it] for it in ("agent_id", "task_id", "uuid")})
+            if state == "TASK_FINISHED":
+                finished.add(name)
+            if len(finished) == TASKS:
+                call("TEARDOWN")
+    print(len(finished), "tasks finished")
+
+
+main()

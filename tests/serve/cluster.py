@@ -1,0 +1,189 @@
+"""A served cluster and its frameworks, for the scripts of this folder (Python's standard library alone)."""
+import json
+import os
+import queue
+import shutil
+import signal
+import socket
+import subprocess
+import tempfile
+import threading
+import time
+
+HERE = os.path.dirname(os.path.abspath(__file__))
+PROGRAM = os.environ.get("PROGRAM") or os.path.join(HERE, "..", "..", "crates", "mesos_node", "out", "mesos_node")
+PATH = "/api/v1/scheduler"
+
+
+def check(fact, text):
+    """Ends the script where the fact is false."""
+    if not fact:
+        raise SystemExit(f"failed: {text}")
+
+
+def free_port():
+    with socket.socket() as it:
+        it.bind(("127.0.0.1", 0))
+        return it.getsockname()[1]
+
+
+class Folder:
+    """A folder of records with a file of agents, gone at the end."""
+
+    def __init__(self, agents):
+        self.path = tempfile.mkdtemp(prefix="gashemul-")
+        self.state = os.path.join(self.path, "state")
+        os.mkdir(self.state)
+        self.agents = os.path.join(self.path, "agents.json")
+        self.write({"agents": agents})
+
+    def write(self, config):
+        with open(self.agents, "w", encoding="utf-8") as it:
+            it.write(config if isinstance(config, str) else json.dumps(config) + "\n")
+
+    def __enter__(self):
+        return self
+
+    def __exit__(self, *_):
+        shutil.rmtree(self.path, ignore_errors=True)
+
+
+class Server:
+    """`mesos_node serve` over a folder."""
+
+    def __init__(self, folder, *options, port=None):
+        self.port = port or free_port()
+        words = [PROGRAM, "serve", "--port", str(self.port), "--agents", folder.agents, "--state", folder.state, *options]
+        self.process = subprocess.Popen(words, stdout=subprocess.PIPE, stderr=subprocess.PIPE, stdin=subprocess.DEVNULL)
+        said = self.process.stderr.readline().decode()
+        check("serves at" in said, f"serve says: {said.strip()}")
+
+    def kill(self):
+        self.process.send_signal(signal.SIGKILL)
+        self.process.wait()
+
+    def __enter__(self):
+        return self
+
+    def __exit__(self, *_):
+        if self.process.poll() is None:
+            self.kill()
+
+
+def send_raw(port, data, timeout=10, end=False):
+    """All that is answered to these bytes until the connection ends."""
+    with socket.create_connection(("127.0.0.1", port), timeout) as it:
+        it.sendall(data)
+        if end:
+            it.shutdown(socket.SHUT_WR)
+        answer = b""
+        while piece := it.recv(65536):
+            answer += piece
+        return answer
+
+
+def request(body, *fields):
+    head = [f"POST {PATH} HTTP/1.1", "Host: 127.0.0.1", "Content-Type: application/json", f"Content-Length: {len(body)}", *fields]
+    return "\r\n".join(head).encode() + b"\r\n\r\n" + body
+
+
+class Framework:
+    """A framework that is subscribed: its events come one after another, and it makes calls."""
+
+    def __init__(self, port, role=None, framework=None):
+        self.port = port
+        info = {"user": "tests", "name": "tests"}
+        if role:
+            info["roles"] = [role]
+        if framework:
+            info["id"] = {"value": framework}
+        body = json.dumps({"type": "SUBSCRIBE", "subscribe": {"framework_info": info}}).encode()
+        self.socket = socket.create_connection(("127.0.0.1", port), 30)
+        self.socket.settimeout(None)
+        self.socket.sendall(request(body))
+        self.file = self.socket.makefile("rb")
+        self.status = int(self.file.readline().split()[1])
+        self.fields = {}
+        while line := self.file.readline().strip():
+            name, _, value = line.decode().partition(":")
+            self.fields[name.lower()] = value.strip()
+        check(self.status == 200, f"SUBSCRIBE is answered {self.status}")
+        self.stream = self.fields["mesos-stream-id"]
+        self.events, self.before = queue.Queue(), []
+        threading.Thread(target=self._read, daemon=True).start()
+        first = self.next("SUBSCRIBED")
+        self.id = first["subscribed"]["framework_id"]["value"]
+
+    def _read(self):
+        data = b""
+        try:
+            while size := int(self.file.readline() or b"0", 16):
+                data += self.file.read(size)
+                self.file.readline()
+                while b"\n" in data:
+                    length, _, rest = data.partition(b"\n")
+                    if len(rest) < int(length):
+                        break
+                    self.events.put(json.loads(rest[: int(length)]))
+                    data = rest[int(length) :]
+        except (OSError, ValueError):
+            pass
+        self.events.put(None)
+
+    def next(self, kind=None, seconds=20):
+        """The next event, of a kind where one is named (those before it stay); None at the stream's end, and where none comes in time."""
+        for i, event in enumerate(self.before):
+            if kind in (None, event["type"]):
+                return self.before.pop(i)
+        end = time.monotonic() + seconds
+        while (left := end - time.monotonic()) > 0:
+            try:
+                event = self.events.get(timeout=left)
+            except queue.Empty:
+                return None
+            if event is None or kind in (None, event["type"]):
+                return event
+            self.before.append(event)
+        return None
+
+    def call(self, kind, members=None, stream=True):
+        """The status of a call, and the text of its answer."""
+        body = {"type": kind, "framework_id": {"value": self.id}}
+        if members is not None:
+            body[kind.lower()] = members
+        fields = [f"Mesos-Stream-Id: {self.stream}"] if stream else []
+        answer = send_raw(self.port, request(json.dumps(body).encode(), "Connection: close", *fields))
+        head, _, text = answer.partition(b"\r\n\r\n")
+        return int(head.split()[1]), text.decode().strip()
+
+    def accept(self, offer, tasks, refuse_seconds=0):
+        """Launches tasks, each a name with its resources, on an offer."""
+        infos = [
+            {
+                "name": name,
+                "task_id": {"value": name},
+                "agent_id": offer["agent_id"],
+                "resources": [{"name": n, "type": "SCALAR", "scalar": {"value": v}} for n, v in resources.items()],
+            }
+            for name, resources in tasks
+        ]
+        operations = [{"type": "LAUNCH", "launch": {"task_infos": infos}}] if infos else []
+        members = {"offer_ids": [offer["id"]], "operations": operations, "filters": {"refuse_seconds": refuse_seconds}}
+        status, text = self.call("ACCEPT", members)
+        check(status == 202, f"ACCEPT is answered {status} {text}")
+
+    def acknowledge(self, update):
+        status = update["update"]["status"]
+        if "uuid" not in status:
+            return
+        members = {"agent_id": status["agent_id"], "task_id": status["task_id"], "uuid": status["uuid"]}
+        answer, text = self.call("ACKNOWLEDGE", members)
+        check(answer == 202, f"ACKNOWLEDGE is answered {answer} {text}")
+
+    def close(self):
+        self.socket.shutdown(socket.SHUT_RDWR)
+        self.socket.close()
+
+
+def amounts(resources):
+    return {it["name"]: it["scalar"]["value"] for it in resources}
