@@ -1,0 +1,141 @@
+//! Cabinets in memory.
+
+use activities::Cabinet;
+use mail_copies::copy_record;
+use mails::Durable;
+use std::alloc::{AllocError, Global};
+use std::hint::spin_loop;
+use std::sync::atomic::{AtomicBool, Ordering};
+
+/// Which record a cabinet keeps after a save that failed.
+#[derive(Clone, Copy, Debug, Drop, PartialEq, Eq)]
+pub enum Kept {
+    /// The one that was to be saved.
+    After,
+    /// The one before, of which there is none yet.
+    Before,
+    /// One of another session.
+    Neither,
+}
+
+/// A cabinet whose first save may fail.
+#[derive(Drop)]
+pub struct Shelf {
+    /// How many saves were asked for.
+    pub saves: u32,
+    /// What the first save leaves where it fails; None where it succeeds.
+    keeps: Option<Kept>,
+    /// What that save was to keep.
+    lost: Option<Durable>,
+}
+
+impl Shelf {
+    pub fn new(keeps: Option<Kept>) -> Shelf {
+        Shelf {
+            saves: 0,
+            keeps,
+            lost: None,
+        }
+    }
+}
+
+impl Cabinet for Shelf {
+    ghost use Rattle.std.specs.Prelude.{true};
+
+    type Fault = AllocError;
+
+    ghost saved = { λ _ _. true };
+
+    fn save(&mut self, alloc: Global, durable: &Durable) -> Result<(), AllocError> {
+        self.saves = self.saves.saturating_add(1);
+        if self.saves > 1 || self.keeps.is_none() {
+            return Ok(());
+        }
+        self.lost = Some(copy_record(alloc, durable)?);
+        Err(AllocError)
+    }
+
+    fn reopen(&mut self, _alloc: Global) -> Result<Option<Durable>, AllocError> {
+        let mut lost = self.lost.take();
+        match self.keeps {
+            Some(Kept::After) => {}
+            Some(Kept::Neither) => {
+                if let Some(record) = &mut lost {
+                    record.session = 77;
+                }
+            }
+            _ => lost = None,
+        }
+        Ok(lost)
+    }
+}
+
+/// Whether the save of each of two cabinets is open.
+#[derive(Drop)]
+pub struct Flags {
+    first: AtomicBool,
+    second: AtomicBool,
+}
+
+impl Flags {
+    pub fn new() -> Flags {
+        Flags {
+            first: AtomicBool::new(false),
+            second: AtomicBool::new(false),
+        }
+    }
+}
+
+/// Waits for a flag, for some seconds of turns at most.
+fn wait_for(flag: &AtomicBool) -> bool {
+    for _ in 0..u32::MAX {
+        if flag.load(Ordering::SeqCst) {
+            return true;
+        }
+        spin_loop();
+    }
+    false
+}
+
+/// A cabinet that holds its save until the other's is open, and then fails.
+#[derive(Drop)]
+pub struct Held<'a> {
+    flags: &'a Flags,
+    is_first: bool,
+    /// Whether the two saves were open at once.
+    pub has_overlapped: bool,
+}
+
+impl<'a> Held<'a> {
+    pub fn new(flags: &'a Flags, is_first: bool) -> Held<'a> {
+        Held {
+            flags,
+            is_first,
+            has_overlapped: false,
+        }
+    }
+}
+
+impl<'a> Cabinet for Held<'a> {
+    ghost use Rattle.std.specs.Prelude.{true};
+
+    type Fault = AllocError;
+
+    ghost saved = { λ _ _. true };
+
+    fn save(&mut self, _alloc: Global, _durable: &Durable) -> Result<(), AllocError> {
+        let Flags { first, second } = self.flags;
+        let (mine, other) = if self.is_first {
+            (first, second)
+        } else {
+            (second, first)
+        };
+        mine.store(true, Ordering::SeqCst);
+        self.has_overlapped = wait_for(other);
+        Err(AllocError)
+    }
+
+    fn reopen(&mut self, _alloc: Global) -> Result<Option<Durable>, AllocError> {
+        Err(AllocError)
+    }
+}

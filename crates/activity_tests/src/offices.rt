@@ -1,0 +1,75 @@
+//! Offices over a cluster of agents of 4 cpus.
+
+ghost use Rattle.std.specs.Prelude.{◌≡◌, [], IfSome};
+
+use cluster_core::{Cluster, fresh_agents_open, fresh_records};
+use desk_lock::{Desk, Office, Pass};
+use master_core::Config;
+use names_core::{AgentName, Run};
+use post_rules::Queues;
+use quantity::Resources;
+use recorded_cluster::{Given, RecordedCluster};
+use std::alloc::Global;
+use std::sync::ledger::Blank;
+use std::sync::{Wait, ledger};
+use std::test::Fail;
+
+/// One part for each seat, and one for the desk.
+pub const PARTS: u64 = 1 << 32;
+
+pub fn named(alloc: Global, name: &str) -> Result<AgentName, Fail> {
+    Ok(AgentName::from_text(alloc, name)?)
+}
+
+fn cpus(alloc: Global, amount: u64) -> Result<Resources, Fail> {
+    let mut cpus = Resources::new(alloc);
+    cpus.add(alloc, "cpus", amount)?;
+    Ok(cpus)
+}
+
+/// Agents of these names, of 4 cpus each.
+fn config(alloc: Global, names: &[&str]) -> Result<Config, Fail> {
+    let mut config = Config::new(alloc);
+    for name in names {
+        config.add(named(alloc, name)?, cpus(alloc, 4)?)?;
+    }
+    Ok(config)
+}
+
+fn recorded(alloc: Global, config: Config) -> Option<RecordedCluster>
+    ensures { IfSome result (λ recorded. recorded.story.entries ≡ []) }
+{
+    fresh_agents_open(&config);
+    let Ok(records) = fresh_records(alloc, &config) else {
+        return None;
+    };
+    match Cluster::<Queues>::open(alloc, config, records, Run::new(1)) {
+        Ok(cluster) => Some(RecordedCluster::new(cluster)),
+        Err(_) => None,
+    }
+}
+
+/// An office over agents of these names, each of which is greeted by a mail.
+pub fn office<L: ledger::Ledger>(
+    alloc: Global,
+    blank: Blank,
+    names: &[&str],
+) -> Result<Office<RecordedCluster, L>, Fail>
+    requires name { blank.name ≡ L.name }
+    requires parts { (blank.parts ≡ L.parts) × (blank.parts ≡ 4294967296) }
+{
+    let Some(recorded) = recorded(alloc, config(alloc, names)?) else {
+        return Err(Fail::new("cluster"));
+    };
+    Ok(Office::new(Desk::<_, L>::new(alloc, recorded, blank)))
+}
+
+pub fn seat<L: ledger::Ledger, R: Wait>(
+    rt: &R,
+    alloc: Global,
+    office: &Office<RecordedCluster, L>,
+) -> Option<Pass<Given, L>>
+    ensures { IfSome result (λ pass. pass.receipts ≡ []) }
+{
+    office.open_seat(rt, alloc).ok()
+}
