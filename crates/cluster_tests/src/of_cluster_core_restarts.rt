@@ -1,8 +1,10 @@
-//! A cluster that is opened over a record of run 1, and one in the last run.
+//! A cluster that is opened over a record of run 1, one in the last run, and one whose agent stops.
 
 ghost use Rattle.std.specs.Prelude.{◌<◌};
 
-use cluster_core::{Cluster, ClusterFault, Entry, Step, StepCause, fresh_records, good_opening};
+use cluster_core::{
+    Cluster, ClusterFault, Entry, Keep, Step, StepCause, Verdict, fresh_records, good_opening,
+};
 use entry_lines::{entry_text, opening_text};
 use listed::Listed;
 use mails::{Call, Durable, Job, RecordedTask};
@@ -13,6 +15,9 @@ use quantity::Resources;
 use std::alloc::Global;
 use std::test::Fail;
 use stream_core::Updates;
+
+/// Why each step is refused; none where it is taken.
+type Faults = Vec<Option<ClusterFault>>;
 
 fn amounts(alloc: Global, cpus: u64, mem: u64) -> Result<Resources, Fail> {
     let mut made = Resources::new(alloc);
@@ -72,13 +77,18 @@ fn open(alloc: Global, config: Config, records: Vec<Durable>, run: u16) -> Optio
     }
 }
 
+/// The agent prepares what a cause makes of it.
+fn prepare(alloc: Global, cause: StepCause) -> Result<Step, Fail> {
+    Ok(Step::Prepare {
+        agent: AgentName::from_text(alloc, "a1")?,
+        cause,
+    })
+}
+
 /// The agent reports, a framework subscribes, and offers are made.
 fn up_to_offers(alloc: Global) -> Result<Vec<Step>, Fail> {
     let mut steps = Vec::new(alloc);
-    steps.push(Step::Prepare {
-        agent: AgentName::from_text(alloc, "a1")?,
-        cause: StepCause::Mail(1),
-    })?;
+    steps.push(prepare(alloc, StepCause::Mail(1))?)?;
     steps.push(Step::Commit(AgentName::from_text(alloc, "a1")?))?;
     steps.push(Step::Deliver(2))?;
     steps.push(Step::Send {
@@ -93,20 +103,61 @@ fn up_to_offers(alloc: Global) -> Result<Vec<Step>, Fail> {
     Ok(steps)
 }
 
-/// Why each step is refused; none where it is taken.
-fn take_all(
-    alloc: Global,
-    cluster: &mut Cluster<EverSent>,
-    steps: Vec<Step>,
-) -> Result<Vec<Option<ClusterFault>>, Fail> {
+// These have no clause, so that the proof of a test doesn't carry the cluster.
+
+/// Why a step is refused; none where it is taken.
+fn refusal(cluster: &mut Cluster<EverSent>, alloc: Global, step: Step) -> Option<ClusterFault> {
+    match cluster.step(alloc, step) {
+        Ok(_) => None,
+        Err(fault) => Some(fault),
+    }
+}
+
+/// Why each step is refused; none where it is taken. There is no answer where memory is refused.
+fn take_all(alloc: Global, cluster: &mut Cluster<EverSent>, steps: Vec<Step>) -> Option<Faults> {
     let mut faults = Vec::new(alloc);
     for step in steps {
-        faults.push(match cluster.step(alloc, step) {
-            Ok(_) => None,
-            Err(fault) => Some(fault),
-        })?;
+        let fault = refusal(cluster, alloc, step);
+        if fault == Some(ClusterFault::OutOfMemory) {
+            return None;
+        }
+        faults.push(fault).ok()?;
     }
-    Ok(faults)
+    Some(faults)
+}
+
+/// Whether the first step's part ran out of memory.
+fn first_fell(cluster: &Cluster<EverSent>) -> bool {
+    match cluster.history().first() {
+        Some(entry) => match entry.verdict {
+            Verdict::OutOfMemory => true,
+            _ => false,
+        },
+        None => false,
+    }
+}
+
+/// Why each step is refused, and whether memory was refused in the first step's part.
+fn faults_of(
+    alloc: Global,
+    mut cluster: Cluster<EverSent>,
+    steps: Vec<Step>,
+) -> (Option<Faults>, bool) {
+    let faults = take_all(alloc, &mut cluster, steps);
+    let fell = first_fell(&cluster);
+    (faults, fell)
+}
+
+/// The same of a cluster of one agent without tasks.
+fn faults_in(alloc: Global, run: u16, steps: Vec<Step>) -> Result<(Faults, bool), Fail>
+    requires { 0 < run }
+{
+    let config = one_agent(alloc)?;
+    let fresh = fresh_records(alloc, &config)?;
+    let cluster = open(alloc, config, fresh, run).ok_or("it doesn't open")?;
+    let (faults, fell) = faults_of(alloc, cluster, steps);
+    let faults = faults.ok_or("a step wants memory")?;
+    Ok((faults, fell))
 }
 
 /// The lines of an entry whose first call or mail has this number.
@@ -133,6 +184,13 @@ fn greets(alloc: Global, cluster: &Cluster<EverSent>, text: &str) -> bool {
     }
 }
 
+/// Whether the second entry tells of the report, and the sixth of the offers.
+fn tells(alloc: Global, cluster: &Cluster<EverSent>) -> bool {
+    let entries = cluster.history();
+    is_text(lines(alloc, entries.get(1), 2, 2), REPORTED)
+        && is_text(lines(alloc, entries.get(5), 6, 4), OFFERED)
+}
+
 const GREETED: &str = "0 ok
 # 1 a1 {\"hello\":{\"dead\":0,\"run\":2}}
 ";
@@ -145,18 +203,29 @@ const OFFERED: &str = "6 ok
 > S2-1 {\"offers\":{\"offers\":[{\"agent_id\":{\"value\":\"a1\"},\"framework_id\":{\"value\":\"F2-1\"},\"hostname\":\"a1\",\"id\":{\"value\":\"O2-1\"},\"resources\":[{\"name\":\"cpus\",\"role\":\"*\",\"scalar\":{\"value\":2},\"type\":\"SCALAR\"},{\"name\":\"mem\",\"role\":\"*\",\"scalar\":{\"value\":3072},\"type\":\"SCALAR\"}]}]},\"type\":\"OFFERS\"}
 ";
 
+/// Whether the cluster greets its agent, why each step is refused, and whether the entries tell of the report and of the offers.
+fn told_by(
+    alloc: Global,
+    mut cluster: Cluster<EverSent>,
+    steps: Vec<Step>,
+) -> (bool, Option<Faults>, bool) {
+    let greets = greets(alloc, &cluster, GREETED);
+    let faults = take_all(alloc, &mut cluster, steps);
+    let tells = tells(alloc, &cluster);
+    (greets, faults, tells)
+}
+
 #[test]
 fn a_record_is_opened_over(rt: HostRuntime) -> Result<(), Fail> {
     let alloc = rt.alloc();
-    let Some(mut cluster) = open(alloc, one_agent(alloc)?, records(alloc)?, 2) else {
-        return Err(Fail::new("it doesn't open"));
-    };
-    assert!(rt; greets(alloc, &cluster, GREETED));
-    let faults = take_all(alloc, &mut cluster, up_to_offers(alloc)?)?;
+    let (config, records) = (one_agent(alloc)?, records(alloc)?);
+    let steps = up_to_offers(alloc)?;
+    let cluster = open(alloc, config, records, 2).ok_or("it doesn't open")?;
+    let (greets, faults, tells) = told_by(alloc, cluster, steps);
+    assert!(rt; greets);
+    let faults = faults.ok_or("a step wants memory")?;
     assert!(rt; faults.iter().all(|fault| fault.is_none()));
-    let entries = cluster.history();
-    assert!(rt; is_text(lines(alloc, entries.get(1), 2, 2), REPORTED));
-    assert!(rt; is_text(lines(alloc, entries.get(5), 6, 4), OFFERED));
+    assert!(rt; tells);
     Ok(())
 }
 
@@ -173,13 +242,37 @@ fn stops(alloc: Global) -> Result<Vec<Step>, Fail> {
 #[test]
 fn behind_the_last_run_no_master_serves(rt: HostRuntime) -> Result<(), Fail> {
     let alloc = rt.alloc();
-    let config = one_agent(alloc)?;
-    let fresh = fresh_records(alloc, &config)?;
-    let Some(mut cluster) = open(alloc, config, fresh, 65_535) else {
-        return Err(Fail::new("it doesn't open"));
-    };
-    let faults = take_all(alloc, &mut cluster, stops(alloc)?)?;
+    let (faults, _fell) = faults_in(alloc, 65_535, stops(alloc)?)?;
     let down = Some(ClusterFault::MasterDown);
     assert!(rt; faults.as_slice() == [None, down, down, None, down].as_slice());
+    Ok(())
+}
+
+/// The agent prepares twice, commits, stops and starts.
+fn stops_and_starts(alloc: Global) -> Result<Vec<Step>, Fail> {
+    let mut steps = Vec::new(alloc);
+    steps.push(prepare(alloc, StepCause::Mail(1))?)?;
+    steps.push(prepare(alloc, StepCause::Again)?)?;
+    steps.push(Step::Commit(AgentName::from_text(alloc, "a1")?))?;
+    steps.push(Step::StopAgent {
+        agent: AgentName::from_text(alloc, "a1")?,
+        keep: Keep::Before,
+    })?;
+    steps.push(prepare(alloc, StepCause::Start)?)?;
+    Ok(steps)
+}
+
+/// Where the memory of its first draft is refused, the agent is down until it stops and is recovered.
+#[test]
+fn an_agent_that_fell_is_down(rt: HostRuntime) -> Result<(), Fail> {
+    let alloc = rt.alloc();
+    let (faults, fell) = faults_in(alloc, 1, stops_and_starts(alloc)?)?;
+    let (down, open) = (Some(ClusterFault::AgentDown), Some(ClusterFault::DraftOpen));
+    let expected = if fell {
+        [None, down, down, None, None]
+    } else {
+        [None, open, None, None, None]
+    };
+    assert!(rt; faults.as_slice() == expected.as_slice());
     Ok(())
 }

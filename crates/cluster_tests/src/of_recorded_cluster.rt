@@ -38,6 +38,31 @@ fn reports(alloc: Global) -> Result<Vec<Step>, Fail> {
     Ok(steps)
 }
 
+// These have no clause, so that the proof of what follows them doesn't carry the office.
+
+fn seat<L: ledger::Ledger, R: Wait>(
+    rt: &R,
+    alloc: Global,
+    office: &Office<RecordedCluster, L>,
+) -> Option<Pass<Given, L>> {
+    office.open_seat(rt, alloc).ok()
+}
+
+/// Whether the call of a step is answered.
+fn is_answered<L: ledger::Ledger, R: Wait>(
+    rt: &R,
+    alloc: Global,
+    office: &Office<RecordedCluster, L>,
+    pass: &mut Pass<Given, L>,
+    step: Step,
+) -> bool {
+    office.call(rt, alloc, pass, step).is_ok()
+}
+
+fn seen_and_received<L: ledger::Ledger>(pass: &Pass<Given, L>) -> (u32, usize) {
+    (pass.seen(), pass.receipts().len())
+}
+
 /// Whether the call of each step is answered.
 fn call_all<L: ledger::Ledger, R: Wait>(
     rt: &R,
@@ -48,24 +73,28 @@ fn call_all<L: ledger::Ledger, R: Wait>(
 ) -> bool {
     let mut all = true;
     for step in steps {
-        if office.call(rt, alloc, pass, step).is_err() {
-            all = false;
-        }
+        all &= is_answered(rt, alloc, office, pass, step);
     }
     all
 }
 
-/// The history's length at the close, the opening counted.
-fn close_both<L: ledger::Ledger>(
+fn both<L: ledger::Ledger>(
     alloc: Global,
-    office: Office<RecordedCluster, L>,
     one: Pass<Given, L>,
     two: Pass<Given, L>,
-) -> Option<u32> {
+) -> Option<Passes<Given, L>> {
     let mut passes = Passes::new(alloc);
     if passes.push(one).is_err() || passes.push(two).is_err() {
         return None;
     }
+    Some(passes)
+}
+
+/// The history's length at the close, the opening counted.
+fn length_at_close<L: ledger::Ledger>(
+    office: Office<RecordedCluster, L>,
+    passes: Passes<Given, L>,
+) -> Option<u32> {
     match office.close(passes) {
         Ok(history) => Some(history.len()),
         Err(_) => None,
@@ -78,19 +107,16 @@ fn seats_of<L: ledger::Ledger, R: Wait>(
     office: Office<RecordedCluster, L>,
     steps: Vec<Step>,
 ) -> Option<Seats> {
-    let (Ok(mut one), Ok(mut two)) = (office.open_seat(rt, alloc), office.open_seat(rt, alloc))
-    else {
-        return None;
-    };
-    if !call_all(rt, alloc, &office, &mut one, steps) {
-        return None;
-    }
-    if office.call(rt, alloc, &mut two, Step::Allocate).is_err() {
+    let mut one = seat(rt, alloc, &office)?;
+    let mut two = seat(rt, alloc, &office)?;
+    if !call_all(rt, alloc, &office, &mut one, steps)
+        || !is_answered(rt, alloc, &office, &mut two, Step::Allocate)
+    {
         return None;
     }
-    let (seen, receipts) = (one.seen(), one.receipts().len());
-    let (others_seen, others) = (two.seen(), two.receipts().len());
-    let length = close_both(alloc, office, one, two)?;
+    let (seen, receipts) = seen_and_received(&one);
+    let (others_seen, others) = seen_and_received(&two);
+    let length = length_at_close(office, both(alloc, one, two)?)?;
     Some((seen, receipts, others_seen, others, length))
 }
 

@@ -4,8 +4,8 @@ use agent_sides::Config;
 use event_json::write_event;
 use listed::Listed;
 use mails::{Booked, Job, ReconciledTask};
-use master_calls::{reconcile, subscribe};
-use master_state::{State, StreamEvent};
+use master_calls::reconcile;
+use master_state::{Outs, State, StreamEvent};
 use names_core::{AgentName, FrameworkId, LaunchKey, RoleName, Run, StreamId, TaskName, TaskState};
 use quantity::Resources;
 use std::alloc::Global;
@@ -48,21 +48,31 @@ fn book(
     Ok(())
 }
 
-/// A framework on a stream, and agents of which the first has opened its session and runs a task, and the second hasn't.
-fn open(alloc: Global) -> Result<State, Fail> {
+// These have no clause, so that the proof of what follows them doesn't carry the state.
+
+/// The state of a master of two agents, and its first stream.
+fn of_two_agents(alloc: Global) -> Result<(State, StreamId), Fail> {
     let mut config = Config::new(alloc);
     config.add(AgentName::from_text(alloc, "a1")?, Resources::new(alloc))?;
     config.add(AgentName::from_text(alloc, "a2")?, Resources::new(alloc))?;
     let mut state = State::new(alloc, Run::new(1), &config)?;
+    let opened = state.open_stream()?;
+    Ok((state, opened))
+}
+
+fn report(alloc: Global, state: &mut State) -> Result<(), Fail> {
     state
         .sides
         .report(alloc, 0, Run::new(1), 1, 1, Listed::new(alloc))?;
-    let opened = state.open_stream()?;
+    Ok(())
+}
+
+fn subscribe(alloc: Global, state: &mut State, opened: StreamId) -> Result<(), Fail> {
     let role = RoleName::from_text(alloc, "*")?;
     state
         .frameworks
         .subscribe(alloc, framework(), role, opened, 0)?;
-    Ok(state)
+    Ok(())
 }
 
 fn write_told(alloc: Global, text: &mut String, told: &StreamEvent) -> Result<(), Fail> {
@@ -73,11 +83,21 @@ fn write_told(alloc: Global, text: &mut String, told: &StreamEvent) -> Result<()
     Ok(())
 }
 
+fn reconciled(alloc: Global, state: &mut State, tasks: &[ReconciledTask]) -> Result<(), Fail> {
+    reconcile(state, alloc, stream(), framework(), tasks)?;
+    Ok(())
+}
+
+fn taken(alloc: Global, state: &mut State) -> Outs {
+    state.take_outs(alloc)
+}
+
 /// The events that come of a RECONCILE.
 fn told(alloc: Global, state: &mut State, tasks: &[ReconciledTask]) -> Result<String, Fail> {
-    reconcile(state, alloc, stream(), framework(), tasks)?;
+    reconciled(alloc, state, tasks)?;
+    let outs = taken(alloc, state);
     let mut text = String::new(alloc);
-    for told in state.take_outs(alloc).events.as_slice() {
+    for told in outs.events.as_slice() {
         write_told(alloc, &mut text, told)?;
     }
     Ok(text)
@@ -89,15 +109,32 @@ fn text_of(alloc: Global, first: &str, second: &str) -> Result<String, Fail> {
     Ok(text)
 }
 
+/// The first agent opens its session, a framework subscribes, and reconciles once t1 runs and t3 has ended, and again once t2 runs, too.
+fn told_twice(
+    alloc: Global,
+    state: &mut State,
+    opened: StreamId,
+) -> Result<(String, String), Fail> {
+    report(alloc, state)?;
+    subscribe(alloc, state, opened)?;
+    book(alloc, state, "t1", LaunchKey::new(1, 7), false)?;
+    book(alloc, state, "t3", LaunchKey::new(1, 1), true)?;
+    let one = told(alloc, state, &[])?;
+    book(alloc, state, "t2", LaunchKey::new(1, 2), false)?;
+    let both = told(alloc, state, &[])?;
+    Ok((one, both))
+}
+
+fn told_of_one_and_of_both(alloc: Global) -> Result<(String, String), Fail> {
+    let (mut state, opened) = of_two_agents(alloc)?;
+    told_twice(alloc, &mut state, opened)
+}
+
 #[test]
 fn all_live_tasks_are_told_by_launch_key(rt: HostRuntime) -> Result<(), Fail> {
     let alloc = rt.alloc();
-    let mut state = open(alloc)?;
-    book(alloc, &mut state, "t1", LaunchKey::new(1, 7), false)?;
-    book(alloc, &mut state, "t3", LaunchKey::new(1, 1), true)?;
-    assert_eq!(rt; told(alloc, &mut state, &[])?.as_str(), T1_RUNS);
-    book(alloc, &mut state, "t2", LaunchKey::new(1, 2), false)?;
-    let both = text_of(alloc, T2_RUNS, T1_RUNS)?;
-    assert_eq!(rt; told(alloc, &mut state, &[])?.as_str(), both.as_str());
+    let (one, both) = told_of_one_and_of_both(alloc)?;
+    assert_eq!(rt; one.as_str(), T1_RUNS);
+    assert_eq!(rt; both.as_str(), text_of(alloc, T2_RUNS, T1_RUNS)?.as_str());
     Ok(())
 }

@@ -133,32 +133,35 @@ fn subscribe(alloc: Global, framework: Option<FrameworkId>) -> Result<Call, Fail
 }
 
 /// A master of run 1 over agent a1, which owns 4 cpus and 4096 of mem.
-fn started(alloc: Global) -> Result<(Master, String), Fail> {
+fn started(alloc: Global) -> Result<(Master, Outs), Fail> {
     let mut config = Config::new(alloc);
     config.add(named(alloc, "a1")?, of(alloc, 4, 4096)?)?;
-    let (master, outs) = Master::start(alloc, Run::new(1), &config)?;
-    let text = lines(alloc, &outs)?;
-    Ok((master, text))
+    Ok(Master::start(alloc, Run::new(1), &config)?)
 }
 
-/// The framework F1-1 on S1-1, to which all of agent a1 is offered as O1-1.
-fn offered(alloc: Global) -> Result<Master, Fail> {
+/// What a second round of offers brings out, the framework's stream, and how much it is offered.
+type Offered = (String, Option<StreamId>, (u64, u64));
+
+/// All of agent a1 is offered to the framework F1-1 on S1-1 as O1-1.
+fn offered_by(master: &mut Master, alloc: Global) -> Result<Offered, Fail> {
+    let _opened = report(master, alloc, 1, 1)?;
+    let _subscribed = call(master, alloc, None, subscribe(alloc, None)?)?;
+    let _offered = allocate(master, alloc)?;
+    let again = allocate(master, alloc)?;
+    let offered = offered_on(master, alloc)?;
+    Ok((again, stream_of(master, FrameworkId::new(1, 1)), offered))
+}
+
+fn offered(alloc: Global) -> Result<Offered, Fail> {
     let (mut master, _hello) = started(alloc)?;
-    let _opened = report(&mut master, alloc, 1, 1)?;
-    let _subscribed = call(&mut master, alloc, None, subscribe(alloc, None)?)?;
-    let _offered = allocate(&mut master, alloc)?;
-    Ok(master)
+    offered_by(&mut master, alloc)
 }
 
 #[test]
 fn what_is_offered_is_told(rt: HostRuntime) -> Result<(), Fail> {
-    let alloc = rt.alloc();
-    let mut master = offered(alloc)?;
-    assert_eq!(rt; allocate(&mut master, alloc)?.as_str(), "");
-    assert_eq!(rt;
-        stream_of(&master, FrameworkId::new(1, 1)),
-        Some(StreamId::new(1, 1))
-    );
-    assert_eq!(rt; offered_on(&master, alloc)?, (4, 4096));
+    let (again, stream, offered) = offered(rt.alloc())?;
+    assert_eq!(rt; again.as_str(), "");
+    assert_eq!(rt; stream, Some(StreamId::new(1, 1)));
+    assert_eq!(rt; offered, (4, 4096));
     Ok(())
 }

@@ -5,7 +5,7 @@ use event_json::write_event;
 use listed::Listed;
 use mails::{AgentMail, Booked, Command, Job, MasterMail, MasterRefusal, Offer, ToAgent};
 use master_mails::{mail, tick};
-use master_state::State;
+use master_state::{Outs, State};
 use names_core::{
     AgentName, FrameworkId, LaunchKey, OfferId, RoleName, Run, StreamId, TaskName, TaskState,
 };
@@ -55,9 +55,13 @@ fn mail_line(alloc: Global, mail: &ToAgent) -> Result<String, Fail> {
     })
 }
 
+fn taken(alloc: Global, state: &mut State) -> Outs {
+    state.take_outs(alloc)
+}
+
 /// What went out so far, a line each: events, then closed streams, then mails.
 fn lines(alloc: Global, state: &mut State) -> Result<String, Fail> {
-    let outs = state.take_outs(alloc);
+    let outs = taken(alloc, state);
     let mut text = String::new(alloc);
     for event in outs.events.as_slice() {
         let stream = event.stream.to_text(alloc)?;
@@ -73,12 +77,6 @@ fn lines(alloc: Global, state: &mut State) -> Result<String, Fail> {
         text.push_str(&mail_line(alloc, mail)?)?;
     }
     Ok(text)
-}
-
-/// Whether this, and no more, went out.
-fn tells(alloc: Global, state: &mut State, text: &str) -> Result<bool, Fail> {
-    let told = lines(alloc, state)?;
-    Ok(told.as_str() == text)
 }
 
 fn cpus(alloc: Global, amount: u64) -> Result<Resources, Fail> {
@@ -142,54 +140,91 @@ fn report(
     Ok(mail(state, alloc, &agent, mail_of)?)
 }
 
-/// Session 1 of a1 is open, F1-1 is subscribed on S1-1, and t1 is booked on a1 under L1-1.
-fn running(alloc: Global) -> Result<State, Fail> {
-    let mut state = two_agents(alloc)?;
-    report(alloc, &mut state, 1, 1, Listed::new(alloc))?;
-    subscribe(alloc, &mut state)?;
+/// Session 1 of a1 is opened, F1-1 subscribes on S1-1, and t1 is booked on a1 under L1-1.
+fn run(alloc: Global, state: &mut State) -> Result<(), Fail> {
+    report(alloc, state, 1, 1, Listed::new(alloc))?;
+    subscribe(alloc, state)?;
     state.sides.book_at(0, task(alloc)?)?;
-    Ok(state)
+    Ok(())
 }
 
-#[test]
-fn a_stream_beats_and_the_oldest_command_goes_again(rt: HostRuntime) -> Result<(), Fail> {
-    let alloc = rt.alloc();
-    let mut state = running(alloc)?;
-    tick(&mut state, alloc, 14)?;
-    assert!(rt; tells(alloc, &mut state, "a2 Hello(1, 0)\n")?);
+/// What goes out at a tick. (It has no clause, so that the proof of a test doesn't carry the state.)
+fn ticked(alloc: Global, state: &mut State, now: u32) -> Result<String, Fail> {
+    tick(state, alloc, now)?;
+    lines(alloc, state)
+}
+
+/// Agent a1 is asked to kill L1-1, and then told of an acknowledgement.
+fn kill_and_acknowledge(alloc: Global, state: &mut State) -> Result<(), Fail> {
     let key = LaunchKey::new(1, 1);
     let agent = named(alloc, "a1")?;
     state.order(alloc, &agent, Command::Kill(key), Command::Kill(key))?;
     state.order(alloc, &agent, Command::Ack(key, 0), Command::Ack(key, 0))?;
-    let _sent = lines(alloc, &mut state)?;
-    tick(&mut state, alloc, 15)?;
-    let beat = "S1-1 {\"type\":\"HEARTBEAT\"}\na1 Cmd(1, 1, Kill L1-1)\na2 Hello(1, 0)\n";
-    assert!(rt; tells(alloc, &mut state, beat)?);
-    tick(&mut state, alloc, 20)?;
-    assert!(rt;
-        tells(
-            alloc,
-            &mut state,
-            "a1 Cmd(1, 1, Kill L1-1)\na2 Hello(1, 0)\n"
-        )?
-    );
     Ok(())
 }
 
+/// What goes out at moment 14, and, once commands were sent, at 15 and 20.
+fn ticks(alloc: Global, state: &mut State) -> Result<(String, String, String), Fail> {
+    run(alloc, state)?;
+    let first = ticked(alloc, state, 14)?;
+    kill_and_acknowledge(alloc, state)?;
+    let _sent = lines(alloc, state)?;
+    let beat = ticked(alloc, state, 15)?;
+    let again = ticked(alloc, state, 20)?;
+    Ok((first, beat, again))
+}
+
+fn ticks_of_two_agents(alloc: Global) -> Result<(String, String, String), Fail> {
+    let mut state = two_agents(alloc)?;
+    ticks(alloc, &mut state)
+}
+
 #[test]
-fn a_new_session_loses_what_is_not_reported(rt: HostRuntime) -> Result<(), Fail> {
-    let alloc = rt.alloc();
-    let mut state = running(alloc)?;
+fn a_stream_beats_and_the_oldest_command_goes_again(rt: HostRuntime) -> Result<(), Fail> {
+    let (first, beat, again) = ticks_of_two_agents(rt.alloc())?;
+    assert_eq!(rt; first.as_str(), "a2 Hello(1, 0)\n");
+    assert_eq!(rt;
+        beat.as_str(),
+        "S1-1 {\"type\":\"HEARTBEAT\"}\na1 Cmd(1, 1, Kill L1-1)\na2 Hello(1, 0)\n"
+    );
+    assert_eq!(rt; again.as_str(), "a1 Cmd(1, 1, Kill L1-1)\na2 Hello(1, 0)\n");
+    Ok(())
+}
+
+fn offer_two_cpus(alloc: Global, state: &mut State) -> Result<(), Fail> {
     let offer = Offer {
         id: OfferId::new(1, 1),
         framework: FrameworkId::new(1, 1),
         resources: cpus(alloc, 2)?,
     };
     state.sides.offer_at(alloc, 0, offer)?;
-    assert!(rt; report(alloc, &mut state, 2, 1, Listed::new(alloc))? == None);
+    Ok(())
+}
+
+/// Why a Report of session 2 without tasks is refused, what goes out by then, and how many tasks stay booked.
+type NewSession = (Option<MasterRefusal>, String, u128);
+
+fn new_session(alloc: Global, state: &mut State) -> Result<NewSession, Fail> {
+    run(alloc, state)?;
+    offer_two_cpus(alloc, state)?;
+    let refusal = report(alloc, state, 2, 1, Listed::new(alloc))?;
+    let told = lines(alloc, state)?;
+    Ok((refusal, told, state.sides.booked_count()))
+}
+
+fn new_session_of_two_agents(alloc: Global) -> Result<NewSession, Fail> {
+    let mut state = two_agents(alloc)?;
+    new_session(alloc, &mut state)
+}
+
+#[test]
+fn a_new_session_loses_what_is_not_reported(rt: HostRuntime) -> Result<(), Fail> {
+    let alloc = rt.alloc();
+    let (refusal, told, booked) = new_session_of_two_agents(alloc)?;
+    assert!(rt; refusal == None);
     let rescind = "S1-1 {\"rescind\":{\"offer_id\":{\"value\":\"O1-1\"}},\"type\":\"RESCIND\"}\n";
     let text = format!(in alloc; "{}{}", rescind, LOST)?;
-    assert!(rt; tells(alloc, &mut state, text.as_str())?);
-    assert!(rt; state.sides.booked_count() == 0);
+    assert_eq!(rt; told.as_str(), text.as_str());
+    assert_eq!(rt; booked, 0);
     Ok(())
 }

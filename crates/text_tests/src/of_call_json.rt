@@ -5,13 +5,24 @@ mod limits;
 
 use call_json::{Call, call_of, read_call};
 use serde_json::Value;
+use std::alloc::Global;
 use std::test::Fail;
+
+// These have no clause, so that the proof of a test doesn't carry what the text reads as.
+fn read(alloc: Global, text: &[u8]) -> Result<Call, Fail> {
+    Ok(read_call(alloc, text)?)
+}
+
+fn call_in(alloc: Global, text: &str) -> Result<Call, Fail> {
+    let value = Value::from_str(alloc, text)?;
+    Ok(call_of(alloc, &value)?)
+}
 
 #[test]
 fn subscribes(rt: HostRuntime) -> Result<(), Fail> {
     let text = r#"{"type":"SUBSCRIBE","subscribe":{"framework_info":{"user":"u","name":"n"}}}"#;
     assert_eq!(rt; text.len(), 75);
-    let call = read_call(rt.alloc(), text.as_bytes())?;
+    let call = read(rt.alloc(), text.as_bytes())?;
     let Call::Subscribe { role, framework } = &call else {
         return Err(Fail::new("no SUBSCRIBE"));
     };
@@ -27,7 +38,7 @@ fn subscribes_again_with_a_role(rt: HostRuntime) -> Result<(), Fail> {
             "roles": ["web/shop"], "role": "x", "user": "", "name": "", "id": {"value": "F1-7"} } },
           "framework_id": {"value": "F1-7"}, "type": "SUBSCRIBE" }
     "#;
-    let call = read_call(rt.alloc(), text.as_bytes())?;
+    let call = read(rt.alloc(), text.as_bytes())?;
     let Call::Subscribe { role, framework } = &call else {
         return Err(Fail::new("no SUBSCRIBE"));
     };
@@ -44,7 +55,7 @@ fn subscribes_again_with_a_role(rt: HostRuntime) -> Result<(), Fail> {
 fn takes_members_of_another_kind_as_absent(rt: HostRuntime) -> Result<(), Fail> {
     let text = r#"{"type":"SUBSCRIBE","framework_id":"F1-7","subscribe":{"framework_info":
         {"user":"u","name":"n","id":{"value":5},"role":5,"roles":"a"}}}"#;
-    let call = read_call(rt.alloc(), text.as_bytes())?;
+    let call = read(rt.alloc(), text.as_bytes())?;
     let Call::Subscribe { role, framework } = &call else {
         return Err(Fail::new("no SUBSCRIBE"));
     };
@@ -52,7 +63,7 @@ fn takes_members_of_another_kind_as_absent(rt: HostRuntime) -> Result<(), Fail> 
     assert!(rt; framework.is_none());
     let text = r#"{"type":"SUBSCRIBE","subscribe":{"framework_info":
         {"user":"u","name":"n","role":"b","roles":[]}}}"#;
-    let call = read_call(rt.alloc(), text.as_bytes())?;
+    let call = read(rt.alloc(), text.as_bytes())?;
     let Call::Subscribe { role, .. } = &call else {
         return Err(Fail::new("no SUBSCRIBE"));
     };
@@ -60,31 +71,35 @@ fn takes_members_of_another_kind_as_absent(rt: HostRuntime) -> Result<(), Fail> 
     Ok(())
 }
 
+fn torn_down(call: &Call) -> Option<u32> {
+    match call {
+        Call::Teardown { framework } => Some(framework.number()),
+        _ => None,
+    }
+}
+
+fn revived(call: &Call) -> Option<u32> {
+    match call {
+        Call::Revive { framework } => Some(framework.number()),
+        _ => None,
+    }
+}
+
+fn suppressed(call: &Call) -> Option<u32> {
+    match call {
+        Call::Suppress { framework } => Some(framework.number()),
+        _ => None,
+    }
+}
+
 #[test]
 fn reads_calls_of_a_framework_alone(rt: HostRuntime) -> Result<(), Fail> {
     let text = r#"{"framework_id":{"value":"F1-9"},"type":"TEARDOWN"}"#;
-    let value = Value::from_str(rt.alloc(), text)?;
-    let call = call_of(rt.alloc(), &value)?;
-    let Call::Teardown { framework } = &call else {
-        return Err(Fail::new("no TEARDOWN"));
-    };
-    assert_eq!(rt; framework.number(), 9);
-    let call = read_call(
-        rt.alloc(),
-        br#"{"framework_id":{"value":"F2-8"},"type":"REVIVE"}"#,
-    )?;
-    let Call::Revive { framework } = &call else {
-        return Err(Fail::new("no REVIVE"));
-    };
-    assert_eq!(rt; framework.number(), 8);
-    let call = read_call(
-        rt.alloc(),
-        br#"{"framework_id":{"value":"F2-7"},"type":"SUPPRESS"}"#,
-    )?;
-    let Call::Suppress { framework } = &call else {
-        return Err(Fail::new("no SUPPRESS"));
-    };
-    assert_eq!(rt; framework.number(), 7);
+    assert_eq!(rt; torn_down(&call_in(rt.alloc(), text)?), Some(9));
+    let text = br#"{"framework_id":{"value":"F2-8"},"type":"REVIVE"}"#;
+    assert_eq!(rt; revived(&read(rt.alloc(), text)?), Some(8));
+    let text = br#"{"framework_id":{"value":"F2-7"},"type":"SUPPRESS"}"#;
+    assert_eq!(rt; suppressed(&read(rt.alloc(), text)?), Some(7));
     Ok(())
 }
 
@@ -114,7 +129,7 @@ const ACCEPT: &str = r#"{
 
 #[test]
 fn accepts(rt: HostRuntime) -> Result<(), Fail> {
-    let call = read_call(rt.alloc(), ACCEPT.as_bytes())?;
+    let call = read(rt.alloc(), ACCEPT.as_bytes())?;
     let Call::Accept {
         framework,
         offers,
@@ -157,7 +172,7 @@ fn accepts_without_operations_and_filters(rt: HostRuntime) -> Result<(), Fail> {
         let text = format!(in rt.alloc();
             "{{\"type\":\"ACCEPT\",\"framework_id\":{{\"value\":\"F1-1\"}},\"accept\":{body}}}"
         )?;
-        let call = read_call(rt.alloc(), text.as_bytes())?;
+        let call = read(rt.alloc(), text.as_bytes())?;
         let Call::Accept {
             offers,
             tasks,
@@ -185,7 +200,7 @@ fn declines(rt: HostRuntime) -> Result<(), Fail> {
         let text = format!(in rt.alloc();
             "{{\"type\":\"DECLINE\",\"framework_id\":{{\"value\":\"F1-1\"}},\"decline\":{{\"offer_ids\":[{{\"value\":\"O65535-4294967295\"}}],\"filters\":{{\"refuse_seconds\":{seconds}}}}}}}"
         )?;
-        let call = read_call(rt.alloc(), text.as_bytes())?;
+        let call = read(rt.alloc(), text.as_bytes())?;
         let Call::Decline {
             framework,
             offers,
@@ -208,7 +223,7 @@ fn declines(rt: HostRuntime) -> Result<(), Fail> {
 fn kills(rt: HostRuntime) -> Result<(), Fail> {
     let text =
         br#"{"type":"KILL","framework_id":{"value":"F1-1"},"kill":{"task_id":{"value":"\u00e9\ud83d\ude00"},"agent_id":{"value":"a1"}}}"#;
-    let call = read_call(rt.alloc(), text)?;
+    let call = read(rt.alloc(), text)?;
     let Call::Kill {
         framework,
         task,
@@ -225,7 +240,7 @@ fn kills(rt: HostRuntime) -> Result<(), Fail> {
     assert_eq!(rt; agent.as_text(), "a1");
     let text =
         br#"{"type":"KILL","framework_id":{"value":"F1-1"},"kill":{"task_id":{"value":"t1"},"agent_id":{}}}"#;
-    let call = read_call(rt.alloc(), text)?;
+    let call = read(rt.alloc(), text)?;
     let Call::Kill { agent, .. } = &call else {
         return Err(Fail::new("no KILL"));
     };
@@ -237,7 +252,7 @@ fn kills(rt: HostRuntime) -> Result<(), Fail> {
 fn acknowledges(rt: HostRuntime) -> Result<(), Fail> {
     let text = br#"{"type":"ACKNOWLEDGE","framework_id":{"value":"F1-1"},"acknowledge":
         {"uuid":"AQIAAAADgACAAAAAAAAAAQ==","task_id":{"value":"t1"},"agent_id":{"value":"a1"}}}"#;
-    let call = read_call(rt.alloc(), text)?;
+    let call = read(rt.alloc(), text)?;
     let Call::Acknowledge {
         framework,
         agent,
@@ -260,7 +275,7 @@ fn acknowledges(rt: HostRuntime) -> Result<(), Fail> {
 fn reconciles(rt: HostRuntime) -> Result<(), Fail> {
     let text = br#"{"type":"RECONCILE","framework_id":{"value":"F1-1"},"reconcile":
         {"tasks":[{"task_id":{"value":"t1"}},{"agent_id":{"value":"a2"},"task_id":{"value":"t2"}}]}}"#;
-    let call = read_call(rt.alloc(), text)?;
+    let call = read(rt.alloc(), text)?;
     let Call::Reconcile { framework, tasks } = &call else {
         return Err(Fail::new("no RECONCILE"));
     };
