@@ -6,8 +6,6 @@ mod entry;
 mod events;
 mod fault;
 mod step;
-#[cfg(test)]
-mod tests;
 
 pub use entry::{Entry, Outputs, Sent, Verdict};
 pub use events::copy_stream_event;

@@ -8,4 +8,8 @@ mod of_cluster_core_restarts;
 #[cfg(test)]
 mod of_cluster_core_steps;
 #[cfg(test)]
+mod of_cluster_steps;
+#[cfg(test)]
 mod of_recorded_cluster;
+#[cfg(test)]
+mod of_told_streams;

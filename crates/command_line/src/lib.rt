@@ -3,8 +3,6 @@
 
 mod command;
 mod options;
-#[cfg(test)]
-mod tests;
 
 pub use command::{Action, command_of};
 pub use options::ServeOptions;

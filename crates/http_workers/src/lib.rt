@@ -6,8 +6,6 @@ mod fault;
 mod floor;
 mod job;
 mod serve;
-#[cfg(test)]
-mod tests;
 
 pub use arrivals::Arrivals;
 pub use fault::HttpFault;

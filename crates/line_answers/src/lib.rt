@@ -3,8 +3,6 @@
 
 mod answers;
 mod teller;
-#[cfg(test)]
-mod tests;
 
 pub use answers::{Stop, answer_lines};
 pub use teller::Teller;

@@ -5,14 +5,9 @@ ghost use Rattle.std.specs.Prelude.{◌≡◌, IfOk};
 ghost use Rattle.std.specs.Process.{exit_status};
 ghost use Rattle.mesos_node.specs.Statuses.{IsStatus, status_for};
 
-mod calls;
-mod fault;
-mod reply;
 mod serve;
-#[cfg(test)]
-mod tests;
 
-use calls::calls;
+use call_replies::calls;
 use clap::error::ErrorKind;
 use command_line::{Action, ServeOptions, command_of};
 use device_io::put;

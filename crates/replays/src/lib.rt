@@ -9,8 +9,6 @@ mod replayer;
 mod replaying;
 mod steps;
 mod table;
-#[cfg(test)]
-mod tests;
 
 pub use fault::{LineStop, ReplayStop};
 pub use replayer::Replayer;

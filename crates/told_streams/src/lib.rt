@@ -5,8 +5,6 @@ mod kept;
 mod laws;
 mod places;
 mod streams;
-#[cfg(test)]
-mod tests;
 
 pub use kept::{KeptStream, Waiting};
 pub use laws::{

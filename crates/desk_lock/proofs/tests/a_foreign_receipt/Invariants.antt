@@ -1,5 +1,0 @@
-use Rattle.desk_lock.proofs.tests.a_foreign_receipt.Given as goal
-
--- the ledger of the blank that was just made
-abbrev pub ghosts-foreign : goal.ghosts-foreign
-ghosts-foreign a = record { name = a.blank.name; parts = a.blank.parts }

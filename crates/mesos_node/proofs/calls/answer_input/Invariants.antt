@@ -1,5 +1,0 @@
-use Rattle.mesos_node.proofs.Progress.{Progress}
-use Rattle.mesos_node.proofs.calls.answer_input.Given as goal
-
-abbrev pub invariant-loop : goal.invariant-loop
-invariant-loop g l = Progress (g.R.Read.remaining l.initial.reader) (g.R.Read.remaining l.reader) (g.W.Write.contents l.initial.writer) (g.W.Write.contents l.writer) l.frames l.master

@@ -1,6 +1,0 @@
-use Rattle.std.proofs.Common.{◌≡◌, map, take}
-use Rattle.mesos_node.specs.Replies.{event_in, frames}
-use Rattle.mesos_node.proofs.reply.event_frames.Given as goal
-
-abbrev pub invariant-loop-told : goal.invariant-loop-told
-invariant-loop-told l = l.text.items ≡ frames (map event_in (take l.told-index l.events))

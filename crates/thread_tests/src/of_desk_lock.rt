@@ -1,0 +1,329 @@
+ghost use Rattle.std.specs.Prelude.{◌≡◌, ◌≤◌, ⊤, length, vec_len, refl};
+
+use desk_lock::{Desk, FaultKind, Office, OfficeFault, Pass, Passes, Recorded, Turn, Waited};
+use std::alloc::Global;
+use std::marker::Brand;
+use std::sync::ledger::Blank;
+use std::sync::{Wait, ledger};
+use std::test::*;
+use std::thread;
+use std::thread::Threads;
+use std::time::Clock;
+
+/// One part for each seat, and one for the desk.
+const PARTS: u64 = 1 << 32;
+
+/// The group of those who wait for a sum.
+const SUMS: u32 = 5;
+
+/// A number that was added, and the sum with it.
+#[derive(Clone, Copy, Drop)]
+struct Added {
+    number: u32,
+    sum: u64,
+}
+
+/// Adds up numbers. It refuses 0.
+#[derive(Drop)]
+struct Adder {
+    sum: u64,
+    history: Vec<Added>,
+    ghost short: { vec_len history ≤ 4294967294 },
+}
+
+impl Adder {
+    fn new(alloc: Global) -> Adder
+        ensures { vec_len result.history ≡ 0 }
+    {
+        Adder {
+            sum: 0,
+            history: Vec::new(alloc),
+        }
+    }
+}
+
+impl Recorded for Adder {
+    type Step = u32;
+
+    type Entry = Added;
+
+    type Given = Added;
+
+    type Fault = FaultKind;
+
+    ghost history = { λ a. a.history.items };
+
+    ghost step_of = { λ added. added.number };
+
+    ghost entry_of = { λ added. added };
+
+    ghost kind_of = { λ kind. kind };
+
+    ghost sound = { λ a. length a.history.items ≤ 4294967294 };
+
+    ghost takes = { λ _ _ _ _. ⊤ };
+
+    ghost may_refuse = { λ _ _ _. ⊤ };
+
+    ghost alike = { λ one other. one.history.items ≡ other.history.items };
+
+    fn step(&mut self, _alloc: Global, step: u32) -> Result<Added, FaultKind> {
+        if self.history.len() >= 4_294_967_294 {
+            return Err(FaultKind::HistoryFull);
+        }
+        if step == 0 {
+            return Err(FaultKind::Step);
+        }
+        let added = Added {
+            number: step,
+            sum: self.sum.saturating_add(step as u64),
+        };
+        if self.history.push(added).is_err() {
+            return Err(FaultKind::OutOfMemory);
+        }
+        self.sum = added.sum;
+        Ok(added)
+    }
+
+    fn len(&self) -> u32 {
+        self.history.len() as u32
+    }
+
+    fn is_entry(&self, index: usize, given: &Added) -> bool {
+        if index >= self.history.len() {
+            return false;
+        }
+        let entry = self.history[index];
+        entry.number == given.number && entry.sum == given.sum
+    }
+
+    fn kind(fault: &FaultKind) -> FaultKind {
+        *fault
+    }
+
+    fn frees(_given: &Added) -> u64 {
+        1 << SUMS
+    }
+
+    fn is_sound(&self) {
+        let _history = &self.history;
+    }
+
+    ghost alike_itself = { λ _. refl };
+}
+
+/// How many entries there are at the close, the opening counted.
+fn close_two<L: ledger::Ledger>(
+    alloc: Global,
+    office: Office<Adder, L>,
+    one: Pass<Added, L>,
+    two: Pass<Added, L>,
+) -> Option<u32> {
+    let mut passes = Passes::new(alloc);
+    if passes.push(one).is_err() || passes.push(two).is_err() {
+        return None;
+    }
+    match office.close(passes) {
+        Ok(history) => Some(history.len()),
+        Err(_) => None,
+    }
+}
+
+/// 100 calls of one seat. A refused call leaves fewer receipts.
+fn make_calls<L: ledger::Ledger, R: Wait>(
+    rt: &R,
+    alloc: Global,
+    office: &Office<Adder, L>,
+    mut pass: Pass<Added, L>,
+) -> Pass<Added, L> {
+    for number in 1..=100u32 {
+        let _ = office.call(rt, alloc, &mut pass, number);
+    }
+    pass
+}
+
+/// Two threads of a scope, each with 100 calls.
+fn both<L: ledger::Ledger + Send + Sync, R: Threads + Wait + Sync>(
+    rt: &R,
+    alloc: Global,
+    office: &Office<Adder, L>,
+    one: Pass<Added, L>,
+    two: Pass<Added, L>,
+) -> Option<(Pass<Added, L>, Pass<Added, L>)> {
+    thread::scope(thread::scope_env(), rt, |scope| {
+        let Ok(child) = scope.spawn(move || make_calls(rt, alloc, office, one)) else {
+            return None;
+        };
+        let two = make_calls(rt, alloc, office, two);
+        Some((child.join(rt), two))
+    })
+}
+
+fn two_threads<L: ledger::Ledger + Send + Sync, R: Threads + Wait + Sync>(
+    rt: &R,
+    alloc: Global,
+    blank: Blank,
+) -> Result<(), Fail>
+    requires name { blank.name ≡ L.name }
+    requires parts { (blank.parts ≡ L.parts) × (blank.parts ≡ 4294967296) }
+{
+    let office: Office<Adder, L> = Office::new(Desk::new(alloc, Adder::new(alloc), blank));
+    let one = office.open_seat(rt, alloc).map_err(|_| "seat")?;
+    let two = office.open_seat(rt, alloc).map_err(|_| "seat")?;
+    let (one, two) = both(rt, alloc, &office, one, two).ok_or("a thread")?;
+    if one.receipts().len() != 100 || two.receipts().len() != 100 {
+        return Err(Fail::new("receipts"));
+    }
+    if close_two(alloc, office, one, two) != Some(201) {
+        return Err(Fail::new("close"));
+    }
+    Ok(())
+}
+
+#[test]
+fn two_threads_of_100_calls(rt: HostRuntime) -> Result<(), Fail> {
+    two_threads::<Brand, _>(&rt, rt.alloc(), Blank::new(PARTS))
+}
+
+/// An entry of a seat that its pass has no receipt of.
+fn foreign<L: ledger::Ledger>(alloc: Global, blank: Blank) -> Result<(), Fail>
+    requires name { blank.name ≡ L.name }
+    requires parts { (blank.parts ≡ L.parts) × (blank.parts ≡ 4294967296) }
+{
+    let mut desk: Desk<Adder, L> = Desk::new(alloc, Adder::new(alloc), blank);
+    let pass = desk.open_seat(alloc).map_err(|_| "seat")?;
+    if desk.apply(alloc, 2, 1).err() != Some(OfficeFault::ForeignPass(1)) {
+        return Err(Fail::new("an unopened seat"));
+    }
+    if desk.apply(alloc, 1, 0).err() != Some(OfficeFault::Core(FaultKind::Step)) {
+        return Err(Fail::new("a refused step"));
+    }
+    if desk.apply(alloc, pass.seat(), 1).is_err() {
+        return Err(Fail::new("apply"));
+    }
+    let mut passes = Passes::new(alloc);
+    if passes.push(pass).is_err() {
+        return Err(Fail::new("memory"));
+    }
+    match Office::new(desk).close(passes) {
+        Ok(_) => Err(Fail::new("closed")),
+        Err(refused) => {
+            let (desk, passes, fault) = refused;
+            if fault != OfficeFault::ForeignPass(2) || desk.len() != 2 || passes.len() != 1 {
+                return Err(Fail::new("refusal"));
+            }
+            Ok(())
+        }
+    }
+}
+
+#[test]
+fn a_foreign_receipt(rt: HostRuntime) -> Result<(), Fail> {
+    foreign::<Brand>(rt.alloc(), Blank::new(PARTS))
+}
+
+/// Waits until the sum is 7, and adds 1.
+fn wait_and_add<L: ledger::Ledger, R: Wait>(
+    rt: &R,
+    alloc: Global,
+    office: &Office<Adder, L>,
+    mut pass: Pass<Added, L>,
+) -> (Pass<Added, L>, bool) {
+    let look = |adder: &Adder| {
+        if adder.sum < 7 {
+            Turn::Wait
+        } else {
+            Turn::Answer
+        }
+    };
+    let answered = office.wait_call(rt, alloc, &mut pass, SUMS, look, 1);
+    (pass, answered == Ok(true))
+}
+
+/// Adds 7.
+fn add<L: ledger::Ledger, R: Wait>(
+    rt: &R,
+    alloc: Global,
+    office: &Office<Adder, L>,
+    mut pass: Pass<Added, L>,
+) -> (Pass<Added, L>, bool) {
+    let answered = office.call(rt, alloc, &mut pass, 7);
+    (pass, answered.is_ok())
+}
+
+/// The sum, where it is above so much; it is looked for within no time.
+fn sum_above<L: ledger::Ledger, R: Wait + Clock>(
+    rt: &R,
+    office: &Office<Adder, L>,
+    pass: &Pass<Added, L>,
+    least: u64,
+) -> Result<Waited<u64>, OfficeFault<FaultKind>> {
+    office.wait_for(rt, pass, SUMS, 0, |adder: &Adder| {
+        if adder.sum > least {
+            Ok(Some(adder.sum))
+        } else {
+            Ok(None)
+        }
+    })
+}
+
+fn waiting<L: ledger::Ledger + Send + Sync, R: Threads + Wait + Clock + Sync>(
+    rt: &R,
+    alloc: Global,
+    blank: Blank,
+) -> Result<(), Fail>
+    requires name { blank.name ≡ L.name }
+    requires parts { (blank.parts ≡ L.parts) × (blank.parts ≡ 4294967296) }
+{
+    let office: Office<Adder, L> = Office::new(Desk::new(alloc, Adder::new(alloc), blank));
+    let one = office.open_seat(rt, alloc).map_err(|_| "seat")?;
+    let two = office.open_seat(rt, alloc).map_err(|_| "seat")?;
+    let ((one, woken), (two, added)) = thread::join(
+        rt,
+        || wait_and_add(rt, alloc, &office, one),
+        || add(rt, alloc, &office, two),
+    );
+    if !woken || !added || one.seen() != 3 || two.seen() != 2 {
+        return Err(Fail::new("answers"));
+    }
+    if sum_above(rt, &office, &one, 7) != Ok(Waited::Found(8)) {
+        return Err(Fail::new("the sum"));
+    }
+    if sum_above(rt, &office, &one, 8) != Ok(Waited::Elapsed) {
+        return Err(Fail::new("no time"));
+    }
+    office.finish(rt);
+    if sum_above(rt, &office, &one, 7) != Ok(Waited::Finished) {
+        return Err(Fail::new("finished"));
+    }
+    let (one, answered) = wait_and_add(rt, alloc, &office, one);
+    if answered || close_two(alloc, office, one, two) != Some(3) {
+        return Err(Fail::new("close"));
+    }
+    Ok(())
+}
+
+#[test]
+fn a_waiting_call(rt: HostRuntime) -> Result<(), Fail> {
+    waiting::<Brand, _>(&rt, rt.alloc(), Blank::new(PARTS))
+}
+
+/// A fault of a step, with a text.
+#[derive(Debug, Drop)]
+struct Cause;
+
+impl std::fmt::Display for Cause {
+    fn fmt<W: std::fmt::Write>(&self, f: &mut std::fmt::Formatter<W>) -> std::fmt::Result {
+        f.write_str("C7 TimeBack")
+    }
+}
+
+#[test]
+fn texts(rt: HostRuntime) -> Result<(), Fail> {
+    let foreign: OfficeFault<Cause> = OfficeFault::ForeignPass(2);
+    let text = format!(in rt.alloc(); "{foreign}, {}", OfficeFault::Core(Cause))?;
+    if text.as_str() != "O1 ForeignPass 2, O4 Core C7 TimeBack" {
+        return Err(Fail::new("text"));
+    }
+    Ok(())
+}
