@@ -1,0 +1,39 @@
+-- Each Ack that was ever sent is of an update that its task's framework acknowledged.
+use Rattle.std.proofs.Common.{◌≡◌, ℕ, List, [], ◌++◌, sym, ap, ◌∙◌, subst}
+use Rattle.std.specs.Prelude.{◌⊎◌}
+use Rattle.std.specs.List.{AllByRecursion as Each}
+use Rattle.mails.specs.declared.mail.MasterMail.{MasterMail}
+use Rattle.mails.specs.declared.record.Durable.{Durable}
+use Rattle.mails.specs.declared.task.Job.{Job}
+use Rattle.cluster_model.specs.Channels.{Channel, open_world}
+use Rattle.cluster_model.specs.Clusters.{Post}
+use Rattle.cluster_model.specs.Openings.{recorded_jobs, KeysOnce, GoodOpening}
+use Rattle.cluster_model.specs.Steps.{History, Marked, history}
+use Rattle.cluster_safe.specs.Acknowledged.{WasSent, WasCounted, recorded_tasks}
+use Rattle.cluster_safe.specs.Origin.{Mark, jobs_of, trail}
+use Rattle.cluster_safe.proofs.Orders.{each_map}
+use Rattle.cluster_safe.proofs.Told.{Carried, DownTold}
+use Rattle.cluster_safe.proofs.Acks.{Always}
+use Rattle.cluster_safe.proofs.Histories.{AckedBy, HistoryOk, history_ok, once_same}
+use Rattle.cluster_origin.specs.Acks.{IsOwnersAck, AcksAreOwners}
+
+owners_ack : (records : List Durable) (marks : List Mark) (posts : List Post) → KeysOnce (jobs_of marks ++ recorded_jobs records) → (mail : MasterMail) → DownTold Always (AckedBy records marks posts) mail → IsOwnersAck records (jobs_of marks ++ recorded_jobs records) posts mail
+owners_ack records marks posts once mail told = λ session number framework key k is of.
+    let a : AckedBy records marks posts key k = subst (DownTold Always (AckedBy records marks posts)) is told in
+    let same : a.0 ≡ of.0 = once_same (jobs_of marks ++ recorded_jobs records) a.0 of.0 once a.1 of.1 (a.2 ∙ sym of.2) in
+    subst (λ f. WasSent f key k posts ⊎ WasCounted key k (recorded_tasks records)) (ap (λ (j : Job). j.framework) same ∙ of.3) a.3
+
+pub history_acks : (run : ℕ) (records : List Durable) (steps : List Marked) → GoodOpening run records →
+    AcksAreOwners records (jobs_of (trail (history run records steps).happenings (open_world run records) []) ++ recorded_jobs records) (history run records steps).state.world (history run records steps).state.posts
+history_acks run records steps good = each_map (Carried Always (AckedBy records marks h.state.posts)) (λ (c : Channel). Each (IsOwnersAck records (jobs_of marks ++ recorded_jobs records) h.state.posts) c.to_agent)
+    (λ c k. each_map (DownTold Always (AckedBy records marks h.state.posts)) (IsOwnersAck records (jobs_of marks ++ recorded_jobs records) h.state.posts) (owners_ack records marks h.state.posts all.origin.keys.once) c.to_agent k.downs)
+    h.state.world.channels all.acked
+  where
+    h : History
+    h = history run records steps
+
+    marks : List Mark
+    marks = trail (history run records steps).happenings (open_world run records) []
+
+    all : HistoryOk records (open_world run records) (history run records steps)
+    all = history_ok run records steps good

@@ -1,0 +1,261 @@
+-- Each mark comes from an entry: what every step of a history leaves.
+use Rattle.std.proofs.Common.{◌≡◌, ℕ, Bool, true, false, List, [], ◌∷◌, ◌++◌, map, refl, sym, ap, ◌∙◌, subst, inl, inr, bytes_eq, nat_lt, nat_le, slice_get, Option, Some, None, Result, Ok, Err}
+use Rattle.std.specs.Prelude.{⊤, if◌then◌else◌}
+use Rattle.std.specs.List.{AllByRecursion as Each}
+use Rattle.names_core.specs.Ids.{Numbered}
+use Rattle.mails.specs.declared.call.Call.{Call}
+use Rattle.mails.specs.declared.call.Call.TheVariants.{Subscribe, Teardown, Accept, Decline, Revive, Suppress, Acknowledge, Reconcile}
+use Rattle.mails.specs.declared.call.Call.TheVariants as calls
+use Rattle.mails.specs.declared.call.TaskInfo.{TaskInfo}
+use Rattle.mails.specs.declared.cause.Cause.TheVariants.{Start, Executor, Again}
+use Rattle.mails.specs.declared.mail.AgentMail.{AgentMail}
+use Rattle.mails.specs.declared.mail.MasterMail.{MasterMail}
+use Rattle.mails.specs.declared.record.Durable.{Durable}
+use Rattle.mails.specs.declared.refusal.AgentRefusal.{AgentRefusal}
+use Rattle.mails.specs.declared.refusal.AgentRefusal.TheVariants.{NotForMe}
+use Rattle.mails.specs.declared.task.Job.{Job}
+use Rattle.cluster_model.specs.Ids.{last_number, last_run}
+use Rattle.cluster_model.specs.Agents.{Draft, hears_mail, next_of}
+use Rattle.cluster_model.specs.Sides.{LaunchFrom}
+use Rattle.cluster_model.specs.Channels.{Channel, AgentStep, Draw, DrawMail, Adopt, StopWithout, StopWith, ByMaster, Hear, ByAgent, World, Happening, At, Restart, Halt, after, after_all, open_world}
+use Rattle.cluster_model.specs.Events.{Event}
+use Rattle.cluster_model.specs.Masters.{Doing, new_registers}
+use Rattle.cluster_model.specs.Calls.{called}
+use Rattle.cluster_model.specs.Mails.{mailed, ticked, agent_lost, hung_up}
+use Rattle.cluster_model.specs.Rounds.{allocated}
+use Rattle.cluster_model.specs.Clusters.{Stream, Post, Called, Down, Up, Cluster, master_of, StepCause, ByStart, ByAgain, ByExecutor, ByMail, Step, Send, Deliver, Allocate, Tick, LoseAgent, HangUp, Prepare, Commit, StopBefore, StopAfter, StopMaster, Take, StepRefusal, MasterDown, AgentDown, DraftOpen, NoDraft, HistoryFull, TimeBack, Fine, AgentRefused, Fell}
+use Rattle.cluster_model.specs.Steps.{Effect, Done, done, does, happening, happening_of, verdict_of, effect_of, master_does, master_hears, channel_of, delivers_up, delivers, post_at, with_tick, ticks_at, stream_at, hangs_up, loses_agent, hello_to, drafts, draws_mail_at, draws_mail, prepares, commits, up_again, stops, with_master, at_channel, is_fallen, if_up, by_draft, without_draft, with_draft, takes_event, takes, answer, master_falls, new_master_falls, fallen_too, agent_falls, instead, fallen_answer, Marked, step_marked, History, opening, extended, extend_all, history}
+use Rattle.cluster_safe.specs.Listed.{IsListed, MoveFrom, IsAcceptOf}
+use Rattle.cluster_safe.specs.Origin.{Mark, Made, Used, marks_in, trail}
+use Rattle.cluster_safe.proofs.Histories.{trail_append}
+use Rattle.cluster_safe.proofs.Orders.{each_append, each_map}
+use Rattle.cluster_safe.proofs.Sources.{called_from}
+use Rattle.cluster_origin.specs.Entries.{Moment, noted, moments_from, moments}
+use Rattle.cluster_origin.specs.Sources.{IsCurrent, IsSource, Traced}
+use Rattle.cluster_origin.proofs.Silent.{Silent, hears_silent, agent_silent, moves_silent, hellos_silent, trail_silent, trail_onto}
+use Rattle.cluster_origin.proofs.Quiet.{mailed_quiet, ticked_quiet, lost_quiet, hung_quiet}
+use Rattle.cluster_origin.proofs.Calls.{OneLaunch, LaunchesAlone, called_alone, StandsIn, IsUseOf, launch_marks_in}
+use Rattle.cluster_origin.proofs.Offers.{IsToldBy, round_told}
+
+-- what a step that isn't refused leaves: the channels go on, and its marks come from its entry
+abbrev Sourced : Cluster → Marked → Result Done StepRefusal → Type 0
+Sourced c s (Ok d) = (d.after.world ≡ after_all d.happenings c.world) × Each (IsSource (record { before = c; step = s; did = d })) (trail d.happenings c.world [])
+Sourced c s (Err refusal) = ⊤
+
+silent : (c now : Cluster) (s : Marked) (e : Effect) → now.world ≡ c.world → Each Silent e.happenings → Sourced c s (does now e)
+silent c now s e is h = (ap (after_all e.happenings) is, subst (Each (IsSource (record { before = c; step = s; did = done now e }))) (sym (trail_silent e.happenings h c.world [])) tt)
+
+by_test : (c : Cluster) (s : Marked) (b : Bool) (x y : Result Done StepRefusal) → Sourced c s x → Sourced c s y → Sourced c s (if b then x else y)
+by_test c s true x y p q = p
+by_test c s false x y p q = q
+
+-- a call
+
+record AcceptOf (agent : List ℕ) (framework : Numbered) (ids : List Numbered) (jobs : List Job) (call : Call) : Type 0 where
+  pub tasks : List TaskInfo
+  pub seconds : ℕ
+  pub is : call ≡ Accept framework ids tasks seconds
+  pub listed : Each (IsListed agent tasks) jobs
+
+accept_of : (agent : List ℕ) (framework : Numbered) (ids : List Numbered) (jobs : List Job) (call : Call) → IsAcceptOf agent framework ids jobs call → AcceptOf agent framework ids jobs call
+accept_of agent framework ids jobs (Subscribe id role) h = absurd h
+accept_of agent framework ids jobs (Teardown f) h = absurd h
+accept_of agent framework ids jobs (Accept f offers tasks seconds) h = record { tasks = tasks; seconds = seconds; is = ap (λ g. Accept g offers tasks seconds) h.0 ∙ ap (λ os. Accept framework os tasks seconds) h.1; listed = h.2 }
+accept_of agent framework ids jobs (Decline f offers seconds) h = absurd h
+accept_of agent framework ids jobs (Revive f) h = absurd h
+accept_of agent framework ids jobs (Suppress f) h = absurd h
+accept_of agent framework ids jobs (calls.Kill f task a) h = absurd h
+accept_of agent framework ids jobs (Acknowledge f a task uuid) h = absurd h
+accept_of agent framework ids jobs (Reconcile f tasks) h = absurd h
+
+is_current : (c : Cluster) (agent : List ℕ) (os : List Rattle.mails.specs.declared.task.Offer.Offer) → Each (StandsIn c.world.channels agent) os → Each (IsCurrent c agent) os
+is_current c agent [] h = tt
+is_current c agent (o ∷ os) h = (record { channel = h.0.channel; among = h.0.among; name = h.0.name; offer = h.0.offer }, is_current c agent os h.1)
+
+launch_sourced : (c : Cluster) (s : Marked) (number : ℕ) (stream : Option Numbered) (call : Call) → s.step ≡ Deliver number → post_at c number ≡ Some (Called stream call) → OneLaunch (called (master_of c) stream call) → Sourced c s (master_does c (called (master_of c) stream call))
+launch_sourced c s number stream call e at one = (
+  refl,
+  subst (λ ms. Each (IsSource (record { before = c; step = s; did = done c (effect_of [] d) })) (trail (map happening_of ms) c.world [])) (sym one.alone)
+      (each_append (IsSource moment) (marks_in one.agent (ByMaster (LaunchFrom one.framework one.ids one.jobs)) c.world.run c.world.channels) [] (each_map (IsUseOf c.world.channels one.agent one.framework one.ids (IsListed one.agent accept.tasks)) (IsSource moment) source (marks_in one.agent (ByMaster (LaunchFrom one.framework one.ids one.jobs)) c.world.run c.world.channels)
+      (launch_marks_in c.world.channels one.agent one.framework one.ids one.jobs (IsListed one.agent accept.tasks) accept.listed c.world.run c.world.channels (λ x k. k))) tt),
+)
+  where
+    d : Doing
+    d = called (master_of c) stream call
+
+    moment : Moment
+    moment = record { before = c; step = s; did = done c (effect_of [] (called (master_of c) stream call)) }
+
+    accept : AcceptOf one.agent one.framework one.ids one.jobs call
+    accept = accept_of one.agent one.framework one.ids one.jobs call (subst (Each (MoveFrom call)) one.alone (called_from (master_of c) stream call)).0
+
+    source : (mark : Mark) → IsUseOf c.world.channels one.agent one.framework one.ids (IsListed one.agent accept.tasks) mark → IsSource (record { before = c; step = s; did = done c (effect_of [] (called (master_of c) stream call)) }) mark
+    source (Made g) h = absurd h
+    source (Used u) h = record {
+      number = number;
+      stream = stream;
+      tasks = accept.tasks;
+      seconds = accept.seconds;
+      step = e;
+      call = at ∙ (ap (λ q. Some (Called stream q)) accept.is ∙ (ap (λ f. Some (Called stream (Accept f one.ids accept.tasks accept.seconds))) (sym h.framework_is) ∙ ap (λ ids. Some (Called stream (Accept u.framework ids accept.tasks accept.seconds))) (sym h.ids_are)));
+      fine = ap verdict_of one.taken;
+      listed = subst (λ agent. Each (IsListed agent accept.tasks) u.jobs) (sym h.agent_is) h.jobs;
+      current = is_current c u.agent u.offers h.offers;
+    }
+
+called_sourced : (c : Cluster) (s : Marked) (number : ℕ) (stream : Option Numbered) (call : Call) → s.step ≡ Deliver number → post_at c number ≡ Some (Called stream call) → LaunchesAlone (called (master_of c) stream call) → Sourced c s (master_does c (called (master_of c) stream call))
+called_sourced c s number stream call e at (inl quiet) = silent c c s (effect_of [] (called (master_of c) stream call)) refl (moves_silent (called (master_of c) stream call).moves quiet)
+called_sourced c s number stream call e at (inr one) = launch_sourced c s number stream call e at one
+
+-- a mail of an agent
+
+hears_sourced : (c : Cluster) (s : Marked) (x : Channel) (place : ℕ) (mail : Option AgentMail) → Sourced c s (master_hears c x place mail)
+hears_sourced c s x place None = tt
+hears_sourced c s x place (Some mail) = silent c c s (effect_of (At x.side.name (Hear place) ∷ []) (mailed (master_of c) x.side mail)) refl (hears_silent x.side.name place, moves_silent (mailed (master_of c) x.side mail).moves (mailed_quiet (master_of c) x.side mail))
+
+up_sourced : (c : Cluster) (s : Marked) (place : ℕ) (x : Option Channel) → Sourced c s (delivers_up c place x)
+up_sourced c s place None = tt
+up_sourced c s place (Some x) = hears_sourced c s x place (slice_get x.to_master place)
+
+delivers_sourced : (c : Cluster) (s : Marked) (number : ℕ) → s.step ≡ Deliver number → (p : Option Post) → post_at c number ≡ p → Sourced c s (delivers c p)
+delivers_sourced c s number e None at = tt
+delivers_sourced c s number e (Some (Called stream call)) at = called_sourced c s number stream call e at (called_alone (master_of c) stream call)
+delivers_sourced c s number e (Some (Down agent place)) at = tt
+delivers_sourced c s number e (Some (Up agent place)) at = up_sourced c s place (channel_of c agent)
+
+-- the master's other steps
+
+with_master_sourced : (c : Cluster) (s : Marked) (r : Result Done StepRefusal) → Sourced c s r → Sourced c s (with_master c r)
+with_master_sourced c s r p = by_test c s c.world.run.serves r (Err MasterDown) p tt
+
+round_sourced : (c : Cluster) (s : Marked) → s.step ≡ Allocate → Sourced c s (master_does c (allocated (master_of c)))
+round_sourced c s e = (refl, each_map (IsToldBy (master_of c)) (IsSource (record { before = c; step = s; did = done c (effect_of [] (allocated (master_of c))) })) source (trail (map happening_of (allocated (master_of c)).moves) c.world []) (round_told c))
+  where
+    source : (mark : Mark) → IsToldBy (master_of c) mark → IsSource (record { before = c; step = s; did = done c (effect_of [] (allocated (master_of c))) }) mark
+    source (Made g) h = record { step = e; told = h }
+    source (Used u) h = absurd h
+
+hangs_up_sourced : (c : Cluster) (s : Marked) (id : Numbered) (x : Option Stream) → Sourced c s (hangs_up c id x)
+hangs_up_sourced c s id None = tt
+hangs_up_sourced c s id (Some x) = silent c c s (effect_of [] (hung_up (master_of c) id)) refl (moves_silent (hung_up (master_of c) id).moves (hung_quiet (master_of c) id))
+
+-- the agents' steps
+
+drafts_sourced : (c : Cluster) (s : Marked) (x : Channel) (step : AgentStep) (r : Result Draft AgentRefusal) → Sourced c s (drafts c x step r)
+drafts_sourced c s x step (Ok draft) = silent c c s (happening c Fine (At x.side.name (ByAgent step) ∷ [])) refl (agent_silent x.side.name step, tt)
+drafts_sourced c s x step (Err refusal) = silent c c s (happening c (AgentRefused refusal) []) refl tt
+
+draws_mail_at_sourced : (c : Cluster) (s : Marked) (x : Channel) (place : ℕ) (o : Option MasterMail) → Sourced c s (draws_mail_at c x place o)
+draws_mail_at_sourced c s x place None = tt
+draws_mail_at_sourced c s x place (Some mail) = drafts_sourced c s x (DrawMail place) (hears_mail x.agent mail)
+
+draws_mail_sourced : (c : Cluster) (s : Marked) (x : Channel) (p : Option Post) → Sourced c s (draws_mail c x p)
+draws_mail_sourced c s x None = tt
+draws_mail_sourced c s x (Some (Called stream call)) = tt
+draws_mail_sourced c s x (Some (Up agent place)) = tt
+draws_mail_sourced c s x (Some (Down agent place)) = by_test c s (bytes_eq agent x.side.name) (draws_mail_at c x place (slice_get x.to_agent place)) (does c (happening c (AgentRefused NotForMe) [])) (draws_mail_at_sourced c s x place (slice_get x.to_agent place)) (silent c c s (happening c (AgentRefused NotForMe) []) refl tt)
+
+prepares_sourced : (c : Cluster) (s : Marked) (cause : StepCause) (x : Channel) → Sourced c s (prepares c cause x)
+prepares_sourced c s ByStart x = drafts_sourced c s x (Draw Start) (next_of x.agent Start)
+prepares_sourced c s ByAgain x = drafts_sourced c s x (Draw Again) (next_of x.agent Again)
+prepares_sourced c s (ByExecutor key state) x = drafts_sourced c s x (Draw (Executor key state)) (next_of x.agent (Executor key state))
+prepares_sourced c s (ByMail number) x = draws_mail_sourced c s x (post_at c number)
+
+by_draft_sourced : (c : Cluster) (s : Marked) (d : Option Draft) (without with_one : Result Done StepRefusal) → Sourced c s without → Sourced c s with_one → Sourced c s (by_draft d without with_one)
+by_draft_sourced c s None without with_one p q = p
+by_draft_sourced c s (Some d) without with_one p q = q
+
+if_up_sourced : (c : Cluster) (s : Marked) (step : Channel → Result Done StepRefusal) (x : Channel) → Sourced c s (step x) → Sourced c s (if_up c step x)
+if_up_sourced c s step x p = by_test c s (is_fallen c x) (Err AgentDown) (step x) tt p
+
+at_channel_sourced : (c : Cluster) (s : Marked) (o : Option Channel) (step : Channel → Result Done StepRefusal) → ((x : Channel) → Sourced c s (step x)) → Sourced c s (at_channel o step)
+at_channel_sourced c s None step p = tt
+at_channel_sourced c s (Some x) step p = p x
+
+-- Take
+
+takes_event_sourced : (c : Cluster) (s : Marked) (id : Numbered) (e : Option Event) → Sourced c s (takes_event c id e)
+takes_event_sourced c s id None = tt
+takes_event_sourced c s id (Some e) = (refl, tt)
+
+takes_sourced : (c : Cluster) (s : Marked) (id : Numbered) (x : Option Stream) → Sourced c s (takes c id x)
+takes_sourced c s id None = tt
+takes_sourced c s id (Some x) = takes_event_sourced c s id (slice_get x.events x.taken)
+
+-- all steps
+
+answer_sourced : (c : Cluster) (s : Marked) (step : Step) → s.step ≡ step → Sourced c s (answer c step)
+answer_sourced c s (Send stream call) e = (refl, tt)
+answer_sourced c s (Deliver number) e = with_master_sourced c s (delivers c (post_at c number)) (delivers_sourced c s number e (post_at c number) refl)
+answer_sourced c s Allocate e = with_master_sourced c s (master_does c (allocated (master_of c))) (round_sourced c s e)
+answer_sourced c s (Tick now) e = with_master_sourced c s (ticks_at c now) (by_test c s (nat_lt now c.last_tick) (Err TimeBack) (master_does (with_tick c now) (ticked (master_of c) now)) tt (silent c (with_tick c now) s (effect_of [] (ticked (master_of c) now)) refl (moves_silent (ticked (master_of c) now).moves (ticked_quiet (master_of c) now))))
+answer_sourced c s (LoseAgent agent) e = at_channel_sourced c s (channel_of c agent) (λ x. with_master c (loses_agent c x)) (λ x. with_master_sourced c s (loses_agent c x) (silent c c s (effect_of [] (agent_lost (master_of c) x.side)) refl (moves_silent (agent_lost (master_of c) x.side).moves (lost_quiet (master_of c) x.side))))
+answer_sourced c s (HangUp stream) e = with_master_sourced c s (hangs_up c stream (stream_at c stream)) (hangs_up_sourced c s stream (stream_at c stream))
+answer_sourced c s (Prepare agent cause) e = at_channel_sourced c s (channel_of c agent) (if_up c (without_draft (prepares c cause))) (λ x. if_up_sourced c s (without_draft (prepares c cause)) x (by_draft_sourced c s x.draft (prepares c cause x) (Err DraftOpen) (prepares_sourced c s cause x) tt))
+answer_sourced c s (Commit agent) e = at_channel_sourced c s (channel_of c agent) (if_up c (with_draft (commits c))) (λ x. if_up_sourced c s (with_draft (commits c)) x (by_draft_sourced c s x.draft (Err NoDraft) (commits c x) tt (silent c c s (happening c Fine (At x.side.name (ByAgent Adopt) ∷ [])) refl (agent_silent x.side.name Adopt, tt))))
+answer_sourced c s (StopBefore agent) e = at_channel_sourced c s (channel_of c agent) (stops c StopWithout) (λ x. silent c (up_again c x.side.name) s (happening c Fine (At x.side.name (ByAgent StopWithout) ∷ [])) refl (agent_silent x.side.name StopWithout, tt))
+answer_sourced c s (StopAfter agent) e = at_channel_sourced c s (channel_of c agent) (with_draft (stops c StopWith)) (λ x. by_draft_sourced c s x.draft (Err NoDraft) (stops c StopWith x) tt (silent c (up_again c x.side.name) s (happening c Fine (At x.side.name (ByAgent StopWith) ∷ [])) refl (agent_silent x.side.name StopWith, tt)))
+answer_sourced c s StopMaster e = stops_sourced (nat_lt c.world.run.number last_run)
+  where
+    stops_sourced : (b : Bool) → Sourced c s (does c (if b then record (happening c Fine (Restart ∷ map hello_to c.world.channels)) { registers = new_registers } else record (happening c Fine (Halt ∷ [])) { registers = new_registers }))
+    stops_sourced true = silent c c s (record (happening c Fine (Restart ∷ map hello_to c.world.channels)) { registers = new_registers }) refl ((λ w. refl), hellos_silent c.world.channels)
+    stops_sourced false = silent c c s (record (happening c Fine (Halt ∷ [])) { registers = new_registers }) refl ((λ w. refl), tt)
+answer_sourced c s (Take stream) e = takes_sourced c s stream (stream_at c stream)
+
+instead_sourced : (c : Cluster) (s : Marked) (r : Result Done StepRefusal) (d : Done) → Sourced c s (Ok d) → Sourced c s (instead r d)
+instead_sourced c s (Ok done) d m = m
+instead_sourced c s (Err e) d m = tt
+
+master_fell : (c now : Cluster) (s : Marked) (r : Result Done StepRefusal) → now.world ≡ c.world → Sourced c s (instead r (master_falls now))
+master_fell c now s r is = instead_sourced c s r (master_falls now) (silent c now s (record (happening now Fell (Halt ∷ [])) { registers = new_registers }) is ((λ w. refl), tt))
+
+agent_fell : (c : Cluster) (s : Marked) (r : Result Done StepRefusal) (agent : List ℕ) (stop : AgentStep) → Sourced c s (instead r (agent_falls c agent stop))
+agent_fell c s r agent stop = instead_sourced c s r (agent_falls c agent stop) (silent c (fallen_too c agent) s (happening c Fell (At agent (ByAgent stop) ∷ [])) refl (agent_silent agent stop, tt))
+
+fallen_sourced : (c : Cluster) (s : Marked) (step : Step) → s.step ≡ step → Sourced c s (fallen_answer c step)
+fallen_sourced c s (Send stream call) e = answer_sourced c s (Send stream call) e
+fallen_sourced c s (Deliver number) e = master_fell c c s (answer c (Deliver number)) refl
+fallen_sourced c s Allocate e = master_fell c c s (answer c Allocate) refl
+fallen_sourced c s (Tick now) e = master_fell c (with_tick c now) s (answer c (Tick now)) refl
+fallen_sourced c s (LoseAgent agent) e = master_fell c c s (answer c (LoseAgent agent)) refl
+fallen_sourced c s (HangUp stream) e = master_fell c c s (answer c (HangUp stream)) refl
+fallen_sourced c s (Prepare agent cause) e = agent_fell c s (answer c (Prepare agent cause)) agent StopWithout
+fallen_sourced c s (Commit agent) e = answer_sourced c s (Commit agent) e
+fallen_sourced c s (StopBefore agent) e = agent_fell c s (answer c (StopBefore agent)) agent StopWithout
+fallen_sourced c s (StopAfter agent) e = agent_fell c s (answer c (StopAfter agent)) agent StopWith
+fallen_sourced c s StopMaster e = by_test c s (nat_lt c.world.run.number last_run) (Ok (new_master_falls c)) (answer c StopMaster) (silent c c s (record (happening c Fell (Restart ∷ Halt ∷ [])) { registers = new_registers }) refl ((λ w. refl), ((λ w. refl), tt))) (answer_sourced c s StopMaster e)
+fallen_sourced c s (Take stream) e = answer_sourced c s (Take stream) e
+
+step_sourced : (c : Cluster) (s : Marked) → Sourced c s (step_marked c s)
+step_sourced c s = by_test c s (nat_le last_number c.entries) (Err HistoryFull) (if s.fell then fallen_answer c s.step else answer c s.step) tt
+    (by_test c s s.fell (fallen_answer c s.step) (answer c s.step) (fallen_sourced c s s.step refl) (answer_sourced c s s.step refl))
+
+-- histories
+
+after_append : (hs more : List Happening) (w : World) → after_all (hs ++ more) w ≡ after_all more (after_all hs w)
+after_append [] more w = refl
+after_append (h ∷ hs) more w = after_append hs more (after w h)
+
+record Goes (start : World) (h : History) (older : List Moment) : Type 0 where
+  pub path : h.state.world ≡ after_all h.happenings start
+  pub traced : Traced older (trail h.happenings start [])
+
+goes_on : (start : World) (h : History) (older : List Moment) (s : Marked) (r : Result Done StepRefusal) → Sourced h.state s r → Goes start h older → Goes start (extended h r) (noted h.state s r older)
+goes_on start h older s (Err refusal) src goes = goes
+goes_on start h older s (Ok d) src goes = record {
+  path = src.0 ∙ (ap (after_all d.happenings) goes.path ∙ sym (after_append h.happenings d.happenings start));
+  traced = (
+    trail d.happenings h.state.world [],
+    trail h.happenings start [],
+    trail_append h.happenings d.happenings start [] ∙ (ap (λ w. trail d.happenings w (trail h.happenings start [])) (sym goes.path) ∙ trail_onto d.happenings h.state.world [] (trail h.happenings start [])),
+    src.1,
+    goes.traced,
+  );
+}
+
+all_go : (start : World) (ss : List Marked) (h : History) (older : List Moment) → Goes start h older → Goes start (extend_all h ss) (moments_from h ss older)
+all_go start [] h older goes = goes
+all_go start (s ∷ ss) h older goes = all_go start ss (extended h (step_marked h.state s)) (noted h.state s (step_marked h.state s) older) (goes_on start h older s (step_marked h.state s) (step_sourced h.state s) goes)
+
+pub history_traced : (run : ℕ) (records : List Durable) (steps : List Marked) → Traced (moments run records steps) (trail (history run records steps).happenings (open_world run records) [])
+history_traced run records steps = (all_go (open_world run records) steps (opening run records) [] (record { path = refl; traced = trail_silent (map hello_to (open_world run records).channels) (hellos_silent (open_world run records).channels) (open_world run records) [] })).traced
