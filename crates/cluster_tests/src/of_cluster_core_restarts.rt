@@ -262,7 +262,8 @@ fn stops_and_starts(alloc: Global) -> Result<Vec<Step>, Fail> {
     Ok(steps)
 }
 
-/// Where the memory of its first draft is refused, the agent is down until it stops and is recovered.
+/// Where the memory of its first draft is refused, the agent is down until it stops and is recovered. It says so, since no run with ample memory shows it:
+/// `tests/refused_allocations/commands.py` looks for it.
 #[test]
 fn an_agent_that_fell_is_down(rt: HostRuntime) -> Result<(), Fail> {
     let alloc = rt.alloc();
@@ -274,5 +275,8 @@ fn an_agent_that_fell_is_down(rt: HostRuntime) -> Result<(), Fail> {
         [None, open, None, None, None]
     };
     assert!(rt; faults.as_slice() == expected.as_slice());
+    if fell {
+        println!(rt; "an agent fell")?;
+    }
     Ok(())
 }

@@ -1,0 +1,96 @@
+#!/usr/bin/env python3
+"""Runs the built program's `calls` and `replay` with each of their allocations refused in turn, and the test of an agent that falls.
+
+What is written must be a beginning of what is due, the status 3 where something is lacking, and the message must tell of memory: of `replay` with the
+number of the line. In one run at least an agent must fall, and be down until it is stopped. A C compiler is asked for. It prints what it checked, and
+ends within a minute. PROGRAM=.. and TESTS=.. name other programs than crates/mesos_node/out/mesos_node and crates/cluster_tests/out/cluster_tests_tests.
+"""
+
+import os
+import re
+import subprocess
+import sys
+import tempfile
+
+HERE = os.path.dirname(os.path.abspath(__file__))
+HISTORIES = f"{HERE}/../histories"
+PROGRAM = os.environ.get("PROGRAM", f"{HERE}/../../crates/mesos_node/out/mesos_node")
+TESTS = os.environ.get("TESTS", f"{HERE}/../../crates/cluster_tests/out/cluster_tests_tests")
+FALLS = "of_cluster_core_restarts::an_agent_that_fell_is_down"
+
+
+def run(shim, words, given, refuse, count_to="/dev/null"):
+    how = dict(os.environ, LD_PRELOAD=shim, REFUSE=str(refuse), COUNT_TO=count_to)
+    return subprocess.run(words, input=given, capture_output=True, env=how, timeout=20)
+
+
+def allocations(shim, words, given):
+    """How many allocations a run with ample memory makes, and what it writes."""
+    with tempfile.NamedTemporaryFile() as count:
+        ran = run(shim, words, given, 0, count.name)
+        return int(count.read()), ran
+
+
+def answered(out):
+    """How many lines of a replay's input are answered in what it wrote: the configuration, and each numbered step."""
+    return len(re.findall(rb"^\d+ ", out, re.M))
+
+
+def check_line(given, out, said):
+    """The number of the line whose memory was refused: each line before it is answered, and it isn't."""
+    line = int(re.fullmatch(rb"(\d+) C9 OutOfMemory\n", said)[1])
+    assert 1 <= line <= given.count(b"\n") + 1, line
+    assert answered(out) == line - 1, (line, out)
+
+
+def check_refused(command, given, due, ran):
+    """Whether a run was refused memory, and stopped as it should."""
+    assert ran.returncode in (0, 3), ran
+    if ran.returncode == 0:
+        assert ran.stdout == due and not ran.stderr, ran
+        return False
+    assert due.startswith(ran.stdout), ran
+    if ran.stderr.endswith(b" C9 OutOfMemory\n"):
+        check_line(given, ran.stdout, ran.stderr)
+    elif command == "calls" and re.fullmatch(rb"(F4|J10|M5) OutOfMemory\n", ran.stderr):
+        pass
+    else:
+        # (memory was refused before the command was known)
+        assert not ran.stdout and b"memory" in ran.stderr.lower(), ran
+    return True
+
+
+def sweep_command(shim, command, name):
+    with open(f"{HISTORIES}/{name}.in", "rb") as given, open(f"{HISTORIES}/{name}.out", "rb") as due:
+        given, due = given.read(), due.read()
+    words = [PROGRAM, command]
+    total, ample = allocations(shim, words, given)
+    assert (ample.returncode, ample.stdout, ample.stderr) == (0, due, b""), ample
+    refused = sum(check_refused(command, given, due, run(shim, words, given, n)) for n in range(1, total + 1))
+    assert refused, f"{command} needed none of its {total} allocations"
+    print(f"{command} over {name}: {total} allocations refused in turn, {refused} runs stopped for it")
+
+
+def sweep_fall(shim):
+    words = [TESTS, FALLS]
+    total, ample = allocations(shim, words, b"")
+    assert ample.returncode == 0 and b"an agent fell" not in ample.stdout, ample
+    ran = [run(shim, words, b"", n) for n in range(1, total + 1)]
+    fell = [it for it in ran if b"an agent fell" in it.stdout]
+    assert fell and all(it.returncode == 0 for it in fell), (total, fell)
+    print(f"an agent fell in {len(fell)} of {total} runs, and was down until it was stopped")
+
+
+def main():
+    with tempfile.TemporaryDirectory() as work:
+        shim = f"{work}/refuse.so"
+        compiler = os.environ.get("CC", "cc")
+        subprocess.run([compiler, "-O1", "-shared", "-fPIC", "-o", shim, f"{HERE}/refuse.c", "-ldl"], check=True)
+        sweep_command(shim, "calls", "calls_subscribe")
+        sweep_command(shim, "replay", "first_offer")
+        sweep_command(shim, "replay", "a_launch")
+        sweep_fall(shim)
+
+
+if __name__ == "__main__":
+    sys.exit(main())
