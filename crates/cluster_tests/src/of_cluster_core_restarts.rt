@@ -236,15 +236,18 @@ fn stops(alloc: Global) -> Result<Vec<Step>, Fail> {
     steps.push(Step::Deliver(9))?;
     steps.push(Step::StopMaster)?;
     steps.push(Step::Allocate)?;
+    steps.push(Step::LoseAgent(AgentName::from_text(alloc, "a9")?))?;
     Ok(steps)
 }
 
+/// Without a master its steps are C2; a step at an agent that there isn't stays C8.
 #[test]
 fn behind_the_last_run_no_master_serves(rt: HostRuntime) -> Result<(), Fail> {
     let alloc = rt.alloc();
     let (faults, _fell) = faults_in(alloc, 65_535, stops(alloc)?)?;
     let down = Some(ClusterFault::MasterDown);
-    assert!(rt; faults.as_slice() == [None, down, down, None, down].as_slice());
+    let strange = Some(ClusterFault::NoSuchAgent);
+    assert!(rt; faults.as_slice() == [None, down, down, None, down, strange].as_slice());
     Ok(())
 }
 
