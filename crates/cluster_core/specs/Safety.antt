@@ -4,6 +4,9 @@ use Rattle.names_core.specs.Ids.{Numbered}
 use Rattle.cluster_model.specs.Channels.{AllFit, open_world}
 use Rattle.cluster_model.specs.Openings.{recorded_jobs}
 use Rattle.cluster_model.specs.Steps.{opening}
+use Rattle.cluster_origin.specs.Acks.{AcksAreOwners}
+use Rattle.cluster_origin.specs.Entries.{Moment, moments}
+use Rattle.cluster_origin.specs.Sources.{HaveSources, Traced}
 use Rattle.cluster_safe.specs.Acknowledged.{AcknowledgedByOwner}
 use Rattle.cluster_safe.specs.Honest.{Honest, IsBeginningOf, IsKeyOf, acknowledged_by}
 use Rattle.cluster_safe.specs.Origin.{HasOrigin, Mark, jobs_of, trail}
@@ -15,6 +18,10 @@ use Rattle.cluster_core.specs.Stories.{Story, history_of, state_of}
 -- the offers that were made and the accepted ones that were used, over a whole story
 abbrev pub trail_of : Story → List Mark
 trail_of s = trail (history_of s).happenings (open_world s.run s.records) []
+
+-- all entries of a story since its opening, the newest first, each with the state before it
+abbrev pub moments_of : Story → List Moment
+moments_of s = moments s.run s.records (map marked_of s.entries)
 
 -- the framework acknowledges only updates that were handed out before
 abbrev pub IsHonest : Numbered → Story → Type 0
@@ -28,11 +35,15 @@ IsKeyIn s framework key = IsKeyOf framework key (jobs_of (trail_of s) ++ recorde
 abbrev pub AcknowledgesInOrder : Story → Numbered → Numbered → Type 0
 AcknowledgesInOrder s framework key = IsBeginningOf (updates_of key (history_of s).happenings (open_world s.run s.records)) (acknowledged_by s.records framework key (state_of s).posts)
 
--- on every agent current offers and live tasks fit what it owns, each task came from one accepted offer or from a record, each update counts as
--- acknowledged by the task's own framework alone, an honest framework acknowledges in order, and no agent ever lacked room
+-- on every agent current offers and live tasks fit what it owns; each task came from one accepted offer, which was told in an older entry, or from a record; each
+-- update counts as acknowledged by the task's own framework alone, also the last one, whose Ack takes the task out of its record; an honest framework
+-- acknowledges in order; and no agent ever lacked room
 pub record Safe (s : Story) : Type 0 where
   pub fits : AllFit (state_of s).world
   pub origin : HasOrigin s.records (state_of s).world (trail_of s)
+  pub traced : Traced (moments_of s) (trail_of s)
+  pub sources : HaveSources s.records (state_of s).world (moments_of s)
   pub acknowledged : AcknowledgedByOwner s.records (state_of s).world (state_of s).posts
+  pub acks : AcksAreOwners s.records (jobs_of (trail_of s) ++ recorded_jobs s.records) (state_of s).world (state_of s).posts
   pub in_order : (framework key : Numbered) → IsHonest framework s → IsKeyIn s framework key → AcknowledgesInOrder s framework key
   pub room : NeverLacksRoom (history_of s)
