@@ -1,5 +1,5 @@
 -- What a store keeps: an agent's record, and the last run of the master that was given out.
-use Rattle.std.specs.Prelude.{◌≡◌, ◌≢◌, ℕ, suc, true, List, [], ◌∷◌, Option, Some, None, pos}
+use Rattle.std.specs.Prelude.{◌≡◌, ◌≢◌, ◌<◌, ◌^◌, ℕ, suc, true, List, [], ◌∷◌, Option, Some, None, pos}
 use Rattle.std.specs.Str.{IsUtf8}
 use Rattle.std.specs.Option.{MatchOption}
 use Rattle.sqlite.specs.declared.types.Value.{Value}
@@ -64,6 +64,19 @@ IsLoaded body found = MatchOption found (body ≡ None) (λ d. (text : List ℕ)
 -- there is a row, and in it no UTF-8 text (RFC 3629) that is a record's
 abbrev pub IsDamaged : Option Value → Type 0
 IsDamaged body = (body ≢ None) × ((d : Durable) (text : List ℕ) → HoldsText body text → IsUtf8 text → IsRecordText d text → ⊥)
+
+-- what stands in the row of the table run_number, if there is one
+abbrev pub run_in : Trees → Option Value
+run_in db = body_in (db 1)
+
+-- the last run that a row tells, 0 where there is no row
+abbrev pub TellsRun : Option Value → ℕ → Type 0
+TellsRun None n = n ≡ 0
+TellsRun (Some value) n = value ≡ Int (pos n)
+
+-- there is a row, and in it no whole number from 0 to 4,294,967,295
+abbrev pub TellsNoRun : Option Value → Type 0
+TellsNoRun held = (n : ℕ) → n < 2 ^ 32 → TellsRun held n → ⊥
 
 -- a want of memory is named, and another fault of the store is carried
 abbrev pub fault_for : Error → KeepFault

@@ -1,6 +1,6 @@
 //! Whether a connection shows the two tables.
 
-ghost use Rattle.std.specs.Prelude.{◌≡◌, ◌≢◌, IsTrue, IfOk, OnOk};
+ghost use Rattle.std.specs.Prelude.{◌≡◌, ◌≢◌, IsTrue, IfOk, IfErr, OnOk};
 ghost use Rattle.sqlite.specs.State.{HasCleanDisk};
 ghost use Rattle.sqlite.specs.Held.{state};
 ghost use Rattle.keep_store.specs.Kept.{kept_in, nothing};
@@ -29,6 +29,7 @@ fn check_tables<S: Alter>(conn: &mut Connection<S>) -> Result<bool, KeepFault>
     ensures ready { HasCleanDisk (state S.Store conn.new) → OnOk result (IsReady (state S.Store conn.new)) }
     ensures found { HasCleanDisk (state S.Store conn.new) → OnOk result ((state S.Store conn.new).now ≡ (state S.Store conn.old).now) }
     ensures empty { HasCleanDisk (state S.Store conn.new) → IfOk result (λ empty. IsTrue empty → kept_in (state S.Store conn.new).now.trees ≡ nothing) }
+    ensures unspent { IfErr result (λ e. e ≢ KeepFault.RunsSpent) }
 {
     if !conn.is_autocommit() || !is_ours(conn.schema()) {
         return Err(KeepFault::Damaged);
@@ -48,6 +49,7 @@ pub fn prepare<S: Alter>(conn: &mut Connection<S>) -> Result<(), KeepFault>
     ensures ready { HasCleanDisk (state S.Store conn.new) → OnOk result (IsReady (state S.Store conn.new)) }
     ensures found { HasCleanDisk (state S.Store conn.new) → (state S.Store conn.old).now.schema ≢ no_schema → OnOk result ((state S.Store conn.new).now ≡ (state S.Store conn.old).now) }
     ensures fresh { HasCleanDisk (state S.Store conn.new) → (state S.Store conn.old).now.schema ≡ no_schema → OnOk result (kept_in (state S.Store conn.new).now.trees ≡ nothing) }
+    ensures unspent { IfErr result (λ e. e ≢ KeepFault.RunsSpent) }
 {
     let is_new = is_new(conn.schema());
     if is_new && conn.is_autocommit() {

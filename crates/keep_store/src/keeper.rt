@@ -7,7 +7,7 @@ ghost use Rattle.sqlite.specs.Held.{state};
 ghost use Rattle.mails.specs.declared.record.Durable.{Durable};
 ghost use Rattle.record_text.specs.Texts.{record_form};
 ghost use Rattle.record_text.specs.Written.{IsDurable};
-ghost use Rattle.keep_store.specs.Kept.{Kept, kept_in, nothing, with_record, with_run, HoldsText, IsDamaged, IsLoaded, shown_body, shown_last};
+ghost use Rattle.keep_store.specs.Kept.{Kept, kept_in, nothing, with_record, with_run, HoldsText, IsDamaged, IsLoaded, TellsRun, TellsNoRun, run_in, shown_body, shown_last};
 ghost use Rattle.keep_store.specs.Stops.{LeavesEither, Stands};
 ghost use Rattle.keep_store.specs.Tables.{IsReady, Stays, no_schema};
 ghost use Rattle.keep_store.specs.declared.fault.KeepFault.TheVariants as faults;
@@ -51,6 +51,7 @@ impl<S: Alter + Drop> Drop for Keeper<S> {
 fn first_body(rows: &[Row]) -> Result<Option<String>, KeepFault>
     ensures text { IfOk result (λ found. option_map (λ text. Text (string_bytes text)) found ≡ shown_body rows.now) }
     ensures damaged { IsErrOf result KeepFault.Damaged → IsDamaged (shown_body rows.now) }
+    ensures unspent { IfErr result (λ e. e ≢ KeepFault.RunsSpent) }
 {
     let Some(row) = rows.first() else {
         return Ok(None);
@@ -65,6 +66,8 @@ fn first_body(rows: &[Row]) -> Result<Option<String>, KeepFault>
 /// The number in the first row, or 0.
 fn first_number(rows: &[Row]) -> Result<u32, KeepFault>
     ensures value { IfOk result (λ n. n ≡ shown_last rows.now) }
+    ensures told { IfOk result (TellsRun (shown_body rows.now)) }
+    ensures damaged { IsErrOf result KeepFault.Damaged → TellsNoRun (shown_body rows.now) }
     ensures unspent { IfErr result (λ e. e ≢ KeepFault.RunsSpent) }
 {
     let Some(row) = rows.first() else {
@@ -85,6 +88,7 @@ impl<S: Alter + Drop> Keeper<S> {
         ensures ready { IfOk result (λ keeper. HasCleanDisk (state S.Store keeper) → IsReady (state S.Store keeper)) }
         ensures found { IfOk result (λ keeper. HasCleanDisk (state S.Store keeper) → (state S.Store conn).now.schema ≢ no_schema → (state S.Store keeper).now ≡ (state S.Store conn).now) }
         ensures fresh { IfOk result (λ keeper. HasCleanDisk (state S.Store keeper) → (state S.Store conn).now.schema ≡ no_schema → kept_in (state S.Store keeper).now.trees ≡ nothing) }
+        ensures unspent { IfErr result (λ refused. refused.0 ≢ KeepFault.RunsSpent) }
     {
         match prepare(&mut conn) {
             Ok(()) => Ok(Keeper { conn }),
@@ -109,6 +113,7 @@ impl<S: Alter> Keeper<S> {
         ensures loaded { IsReady (state S.Store self.old) → HasCleanDisk (state S.Store self.new) → IfOk result (IsLoaded (kept_in (state S.Store self.old).now.trees).body) }
         ensures saved { (d : Durable) → IsReady (state S.Store self.old) → HasCleanDisk (state S.Store self.new) → IsDurable d → HoldsText (kept_in (state S.Store self.old).now.trees).body (record_form d) → IfOk result (λ found. found ≡ Some d) }
         ensures damaged { IsReady (state S.Store self.old) → HasCleanDisk (state S.Store self.new) → IsErrOf result KeepFault.Damaged → IsDamaged (kept_in (state S.Store self.old).now.trees).body }
+        ensures unspent { IfErr result (λ e. e ≢ KeepFault.RunsSpent) }
         ensures stays { IsReady (state S.Store self.old) → HasCleanDisk (state S.Store self.new) → Stays (state S.Store self.old) (state S.Store self.new) }
         ensures up { IsReady (state S.Store self.old) → HasCleanDisk (state S.Store self.new) → OnOk result (IsReady (state S.Store self.new)) }
         ensures stop { IsReady (state S.Store self.old) → Survives (state S.Store self.old) (state S.Store self.new) (λ _. ⊥) }
@@ -125,6 +130,8 @@ impl<S: Alter> Keeper<S> {
         ensures failed { IsReady (state S.Store self.old) → HasCleanDisk (state S.Store self.new) → OnErr result (Stays (state S.Store self.old) (state S.Store self.new)) }
         ensures stop { IsReady (state S.Store self.old) → LeavesEither (state S.Store self.old) (state S.Store self.new) (λ kept. record { body = Some (Text body.now); last = kept.last }) }
         ensures stands { Stands (state S.Store self.new) }
+        ensures undamaged { IfErr result (λ e. e ≢ KeepFault.Damaged) }
+        ensures unspent { IfErr result (λ e. e ≢ KeepFault.RunsSpent) }
     {
         write_body(&mut self.conn, body).map_err(fault_of)?;
         Ok(())
@@ -139,6 +146,8 @@ impl<S: Alter> Keeper<S> {
         ensures failed { IsReady (state S.Store self.old) → HasCleanDisk (state S.Store self.new) → OnErr result (Stays (state S.Store self.old) (state S.Store self.new)) }
         ensures stop { IsReady (state S.Store self.old) → LeavesEither (state S.Store self.old) (state S.Store self.new) (with_record durable.now) }
         ensures stands { Stands (state S.Store self.new) }
+        ensures undamaged { IfErr result (λ e. e ≢ KeepFault.Damaged) }
+        ensures unspent { IfErr result (λ e. e ≢ KeepFault.RunsSpent) }
     {
         let text = record_text(alloc, durable)?;
         self.put(text.as_str())
@@ -149,6 +158,8 @@ impl<S: Alter> Keeper<S> {
         ensures clean { HasCleanDisk (state S.Store self.new) → HasCleanDisk (state S.Store self.old) }
         ensures unspent { IfErr result (λ e. e ≢ KeepFault.RunsSpent) }
         ensures value { IsReady (state S.Store self.old) → HasCleanDisk (state S.Store self.new) → IfOk result (λ n. n ≡ (kept_in (state S.Store self.old).now.trees).last) }
+        ensures told { IsReady (state S.Store self.old) → HasCleanDisk (state S.Store self.new) → IfOk result (TellsRun (run_in (state S.Store self.old).now.trees)) }
+        ensures damaged { IsReady (state S.Store self.old) → HasCleanDisk (state S.Store self.new) → IsErrOf result KeepFault.Damaged → TellsNoRun (run_in (state S.Store self.old).now.trees) }
         ensures stays { IsReady (state S.Store self.old) → HasCleanDisk (state S.Store self.new) → Stays (state S.Store self.old) (state S.Store self.new) }
         ensures up { IsReady (state S.Store self.old) → HasCleanDisk (state S.Store self.new) → OnOk result (IsReady (state S.Store self.new)) }
         ensures stop { IsReady (state S.Store self.old) → Survives (state S.Store self.old) (state S.Store self.new) (λ _. ⊥) }
@@ -166,6 +177,8 @@ impl<S: Alter> Keeper<S> {
         ensures failed { IsReady (state S.Store self.old) → HasCleanDisk (state S.Store self.new) → OnErr result (Stays (state S.Store self.old) (state S.Store self.new)) }
         ensures stop { IsReady (state S.Store self.old) → LeavesEither (state S.Store self.old) (state S.Store self.new) with_run }
         ensures stands { Stands (state S.Store self.new) }
+        ensures told { IsReady (state S.Store self.old) → HasCleanDisk (state S.Store self.new) → OnOk result (TellsRun (run_in (state S.Store self.old).now.trees) (kept_in (state S.Store self.old).now.trees).last) }
+        ensures damaged { IsReady (state S.Store self.old) → HasCleanDisk (state S.Store self.new) → IsErrOf result KeepFault.Damaged → TellsNoRun (run_in (state S.Store self.old).now.trees) }
         ensures spent { IsReady (state S.Store self.old) → HasCleanDisk (state S.Store self.new) → IsErrOf result KeepFault.RunsSpent → 65535 ≤ (kept_in (state S.Store self.old).now.trees).last }
     {
         let last = self.last_run()?;

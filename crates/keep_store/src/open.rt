@@ -1,6 +1,6 @@
 //! Keepers of files.
 
-ghost use Rattle.std.specs.Prelude.{◌≡◌, IfOk};
+ghost use Rattle.std.specs.Prelude.{◌≡◌, ◌≢◌, IfOk, IfErr};
 ghost use Rattle.sqlite.specs.State.{HasCleanDisk};
 ghost use Rattle.sqlite.specs.Files.{file_state, HoldsDatabase};
 ghost use Rattle.sqlite.specs.WalFiles.{image_at};
@@ -20,6 +20,7 @@ impl<S: Start> Keeper<FileStore<FileFrom<S>>> {
     ) -> Result<Keeper<FileStore<FileFrom<S>>>, KeepFault>
         ensures ready { IfOk result (λ keeper. HasCleanDisk (file_state keeper) → IsReady (file_state keeper)) }
         ensures found { IfOk result (λ keeper. HasCleanDisk (file_state keeper) → (db : _) → HoldsDatabase (image_at S.Start) db → IsSound keeper_schema db → (file_state keeper).now.trees ≡ db) }
+        ensures unspent { IfErr result (λ e. e ≢ KeepFault.RunsSpent) }
     {
         let conn = match Connection::open_from(rt, path, false, start) {
             Ok(conn) => conn,
@@ -38,7 +39,8 @@ impl Keeper<FileStore<FileFrom<Unknown>>> {
         rt: &HostRuntime,
         path: &str,
     ) -> Result<Keeper<FileStore<FileFrom<Unknown>>>, KeepFault>
-        ensures { IfOk result (λ keeper. HasCleanDisk (file_state keeper) → IsReady (file_state keeper)) }
+        ensures ready { IfOk result (λ keeper. HasCleanDisk (file_state keeper) → IsReady (file_state keeper)) }
+        ensures unspent { IfErr result (λ e. e ≢ KeepFault.RunsSpent) }
     {
         Keeper::open_from(rt, path, Unknown)
     }

@@ -1,6 +1,6 @@
 //! The record that a kept text is.
 
-ghost use Rattle.std.specs.Prelude.{◌≡◌, true, false, Some, IfOk, IsErrOf, option_map, string_bytes};
+ghost use Rattle.std.specs.Prelude.{◌≡◌, ◌≢◌, true, false, Some, IfOk, IfErr, IsErrOf, option_map, string_bytes};
 ghost use Rattle.sqlite.specs.declared.types.Value.TheVariants.{Text};
 ghost use Rattle.mails.specs.declared.record.Durable.{Durable};
 ghost use Rattle.record_text.specs.Texts.{record_form};
@@ -18,6 +18,7 @@ use std::alloc::Global;
 fn of_an_agent(alloc: Global, durable: Durable) -> Result<Durable, KeepFault>
     ensures ok { IfOk result (λ found. (found ≡ durable) × (is_record durable ≡ true)) }
     ensures damaged { IsErrOf result KeepFault.Damaged → is_record durable ≡ false }
+    ensures unspent { IfErr result (λ e. e ≢ KeepFault.RunsSpent) }
 {
     match rebuild(alloc, durable) {
         Ok(Some(durable)) => Ok(durable),
@@ -31,6 +32,7 @@ fn record_at(alloc: Global, text: &str) -> Result<Durable, KeepFault>
     ensures ok { IfOk result (λ found. IsRecordText found text.now) }
     ensures only { (d : Durable) → IsWritten d text.now → IfOk result (λ found. found ≡ d) }
     ensures damaged { IsErrOf result KeepFault.Damaged → (d : Durable) → IsRecordText d text.now → ⊥ }
+    ensures unspent { IfErr result (λ e. e ≢ KeepFault.RunsSpent) }
 {
     match record_of(alloc, text) {
         Ok(durable) => of_an_agent(alloc, durable),
@@ -44,6 +46,7 @@ pub fn record_in(alloc: Global, text: Option<String>) -> Result<Option<Durable>,
     ensures loaded { IfOk result (IsLoaded (option_map (λ text. Text (string_bytes text)) text)) }
     ensures saved { (d : Durable) → IsDurable d → option_map (λ text. Text (string_bytes text)) text ≡ Some (Text (record_form d)) → IfOk result (λ found. found ≡ Some d) }
     ensures damaged { IsErrOf result KeepFault.Damaged → IsDamaged (option_map (λ text. Text (string_bytes text)) text) }
+    ensures unspent { IfErr result (λ e. e ≢ KeepFault.RunsSpent) }
 {
     let Some(text) = text else {
         return Ok(None);
