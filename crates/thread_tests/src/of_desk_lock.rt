@@ -1,14 +1,15 @@
-ghost use Rattle.std.specs.Prelude.{◌≡◌, ◌≤◌, ⊤, length, vec_len, refl};
+ghost use Rattle.std.specs.Prelude.{◌≡◌, ◌≤◌, [], ⊤, length, vec_len, refl};
 
 use desk_lock::{Desk, FaultKind, Office, OfficeFault, Pass, Passes, Recorded, Turn, Waited};
 use std::alloc::Global;
 use std::marker::Brand;
+use std::sync::atomic::{AtomicBool, Ordering};
 use std::sync::ledger::Blank;
 use std::sync::{Wait, ledger};
 use std::test::*;
 use std::thread;
 use std::thread::Threads;
-use std::time::Clock;
+use std::time::{Clock, Duration};
 
 /// One part for each seat, and one for the desk.
 const PARTS: u64 = 1 << 32;
@@ -222,15 +223,17 @@ fn a_foreign_receipt(rt: HostRuntime) -> Result<(), Fail> {
     foreign::<Brand>(rt.alloc(), Blank::new(PARTS))
 }
 
-/// Waits until the sum is 7, and adds 1.
+/// Waits until the sum is 7, and adds 1. Once it was told to wait, the flag says so.
 fn wait_and_add<L: ledger::Ledger, R: Wait>(
     rt: &R,
     alloc: Global,
     office: &Office<Adder, L>,
     mut pass: Pass<Added, L>,
+    waits: &AtomicBool,
 ) -> (Pass<Added, L>, bool) {
     let look = |adder: &Adder| {
         if adder.sum < 7 {
+            waits.store(true, Ordering::SeqCst);
             Turn::Wait
         } else {
             Turn::Answer
@@ -240,15 +243,29 @@ fn wait_and_add<L: ledger::Ledger, R: Wait>(
     (pass, answered == Ok(true))
 }
 
-/// Adds 7.
-fn add<L: ledger::Ledger, R: Wait>(
+/// Whether somebody waits, within 30 seconds.
+fn is_waited_for<R: Clock>(rt: &R, waits: &AtomicBool) -> bool {
+    for _ in 0..300_000u32 {
+        if waits.load(Ordering::SeqCst) {
+            return true;
+        }
+        thread::sleep(rt, Duration::from_micros(100));
+    }
+    false
+}
+
+/// Adds 7 once the other waits: who is told to wait has the lock until it does. Where it doesn't wait in time the 7 is added all the same, so that
+/// both end.
+fn add<L: ledger::Ledger, R: Wait + Clock>(
     rt: &R,
     alloc: Global,
     office: &Office<Adder, L>,
     mut pass: Pass<Added, L>,
+    waits: &AtomicBool,
 ) -> (Pass<Added, L>, bool) {
+    let waited = is_waited_for(rt, waits);
     let answered = office.call(rt, alloc, &mut pass, 7);
-    (pass, answered.is_ok())
+    (pass, waited && answered.is_ok())
 }
 
 /// The sum, where it is above so much; it is looked for within no time.
@@ -278,10 +295,11 @@ fn waiting<L: ledger::Ledger + Send + Sync, R: Threads + Wait + Clock + Sync>(
     let office: Office<Adder, L> = Office::new(Desk::new(alloc, Adder::new(alloc), blank));
     let one = office.open_seat(rt, alloc).map_err(|_| "seat")?;
     let two = office.open_seat(rt, alloc).map_err(|_| "seat")?;
+    let waits = AtomicBool::new(false);
     let ((one, woken), (two, added)) = thread::join(
         rt,
-        || wait_and_add(rt, alloc, &office, one),
-        || add(rt, alloc, &office, two),
+        || wait_and_add(rt, alloc, &office, one, &waits),
+        || add(rt, alloc, &office, two, &waits),
     );
     if !woken || !added || one.seen() != 3 || two.seen() != 2 {
         return Err(Fail::new("answers"));
@@ -296,7 +314,7 @@ fn waiting<L: ledger::Ledger + Send + Sync, R: Threads + Wait + Clock + Sync>(
     if sum_above(rt, &office, &one, 7) != Ok(Waited::Finished) {
         return Err(Fail::new("finished"));
     }
-    let (one, answered) = wait_and_add(rt, alloc, &office, one);
+    let (one, answered) = wait_and_add(rt, alloc, &office, one, &waits);
     if answered || close_two(alloc, office, one, two) != Some(3) {
         return Err(Fail::new("close"));
     }
@@ -306,6 +324,110 @@ fn waiting<L: ledger::Ledger + Send + Sync, R: Threads + Wait + Clock + Sync>(
 #[test]
 fn a_waiting_call(rt: HostRuntime) -> Result<(), Fail> {
     waiting::<Brand, _>(&rt, rt.alloc(), Blank::new(PARTS))
+}
+
+/// Refuses each step by a fault of the kind that the step names.
+#[derive(Drop)]
+struct Refuser;
+
+impl Recorded for Refuser {
+    type Step = FaultKind;
+
+    type Entry = FaultKind;
+
+    type Given = FaultKind;
+
+    type Fault = FaultKind;
+
+    ghost history = { λ _. [] };
+
+    ghost step_of = { λ kind. kind };
+
+    ghost entry_of = { λ kind. kind };
+
+    ghost kind_of = { λ kind. kind };
+
+    ghost sound = { λ _. ⊤ };
+
+    ghost takes = { λ _ _ _ _. ⊥ };
+
+    ghost may_refuse = { λ _ step fault. fault ≡ step };
+
+    ghost alike = { λ _ _. ⊤ };
+
+    fn step(&mut self, _alloc: Global, step: FaultKind) -> Result<FaultKind, FaultKind> {
+        Err(step)
+    }
+
+    fn len(&self) -> u32 {
+        0
+    }
+
+    fn is_entry(&self, _index: usize, _given: &FaultKind) -> bool {
+        false
+    }
+
+    fn kind(fault: &FaultKind) -> FaultKind {
+        *fault
+    }
+
+    fn frees(_given: &FaultKind) -> u64 {
+        0
+    }
+
+    fn is_sound(&self) {}
+
+    ghost alike_itself = { λ _. tt };
+}
+
+/// How a call of a step of each kind is refused: without waiting, after a wait, and for a look.
+type Refusals = [Option<OfficeFault<FaultKind>>; 3];
+
+/// How the office refuses a step of a kind.
+fn refusals<L: ledger::Ledger, R: Wait + Clock>(
+    rt: &R,
+    alloc: Global,
+    office: &Office<Refuser, L>,
+    pass: &mut Pass<FaultKind, L>,
+    kind: FaultKind,
+) -> Refusals {
+    let called = office.call(rt, alloc, pass, kind).err();
+    let answers = |_: &Refuser| Turn::Answer;
+    let waited = office.wait_call(rt, alloc, pass, 0, answers, kind).err();
+    let look = |_: &Refuser| -> Result<Option<()>, FaultKind> { Err(kind) };
+    let looked = office.wait_for(rt, pass, 0, 0, look).err();
+    [called, waited, looked]
+}
+
+/// That each kind of fault is refused by its own refusal, and the pass stays as it was opened.
+fn refusing<L: ledger::Ledger, R: Wait + Clock>(
+    rt: &R,
+    alloc: Global,
+    blank: Blank,
+) -> Result<(), Fail>
+    requires name { blank.name ≡ L.name }
+    requires parts { (blank.parts ≡ L.parts) × (blank.parts ≡ 4294967296) }
+{
+    let office: Office<Refuser, L> = Office::new(Desk::new(alloc, Refuser, blank));
+    let mut pass = office.open_seat(rt, alloc).map_err(|_| "seat")?;
+    for (kind, fault) in [
+        (FaultKind::HistoryFull, OfficeFault::HistoryFull),
+        (FaultKind::OutOfMemory, OfficeFault::OutOfMemory),
+        (FaultKind::Step, OfficeFault::Core(FaultKind::Step)),
+    ] {
+        if refusals(rt, alloc, &office, &mut pass, kind) != [Some(fault); 3] {
+            return Err(Fail::new("refusals"));
+        }
+    }
+    if pass.seat() != 1 || pass.seen() != 0 || !pass.receipts().is_empty() {
+        return Err(Fail::new("the pass"));
+    }
+    Ok(())
+}
+
+#[test]
+fn refused_steps(rt: HostRuntime) -> Result<(), Fail> {
+    refusing::<Brand, _>(&rt, rt.alloc(), Blank::new(PARTS))
 }
 
 /// A fault of a step, with a text.
