@@ -1,7 +1,12 @@
 //! Whether mails are the same.
 
+ghost use Rattle.std.specs.Prelude.{◌≡◌, ◌↔◌, IsTrue};
+ghost use Rattle.mails.specs.declared.mail.AgentMail.TheVariants.{Applied, Report, Update};
+
 use crate::same::Same;
+use listed::Listed;
 use mails::{AgentMail, Booked, Command, Job, MasterMail, ToAgent, ToMaster};
+use names_core::{LaunchKey, TaskState};
 
 impl Same for Job {
     fn is_same(&self, other: &Job) -> bool {
@@ -68,51 +73,77 @@ impl Same for MasterMail {
     }
 }
 
+// Whether an agent's mail is the one of these parts.
+
+fn is_report(mail: &AgentMail, session: u32, run: u32, tasks: &Listed<Booked>) -> bool
+    ensures { IsTrue result ↔ (mail.now ≡ Report session run tasks.now) }
+{
+    match mail {
+        AgentMail::Report {
+            session: other,
+            run: other_run,
+            tasks: other_tasks,
+        } => session == *other && run == *other_run && tasks.is_same(other_tasks),
+        _ => false,
+    }
+}
+
+fn is_applied(mail: &AgentMail, session: u32, count: u32) -> bool
+    ensures { IsTrue result ↔ (mail.now ≡ Applied session count) }
+{
+    match mail {
+        AgentMail::Applied {
+            session: other,
+            count: other_count,
+        } => session == *other && count == *other_count,
+        _ => false,
+    }
+}
+
+fn is_update(
+    mail: &AgentMail,
+    session: u32,
+    key: &LaunchKey,
+    k: u32,
+    state: &TaskState,
+    ended: bool,
+) -> bool
+    ensures { IsTrue result ↔ (mail.now ≡ Update session key.now k state.now ended) }
+{
+    match mail {
+        AgentMail::Update {
+            session: other,
+            key: other_key,
+            k: other_k,
+            state: other_state,
+            ended: other_ended,
+        } => {
+            session == *other
+                && key.is_same(other_key)
+                && k == *other_k
+                && state.is_same(other_state)
+                && ended == *other_ended
+        }
+        _ => false,
+    }
+}
+
 impl Same for AgentMail {
     fn is_same(&self, other: &AgentMail) -> bool {
-        match (self, other) {
-            (
-                AgentMail::Report {
-                    session,
-                    run,
-                    tasks,
-                },
-                AgentMail::Report {
-                    session: other,
-                    run: other_run,
-                    tasks: other_tasks,
-                },
-            ) => *session == *other && *run == *other_run && tasks.is_same(other_tasks),
-            (
-                AgentMail::Applied { session, count },
-                AgentMail::Applied {
-                    session: other,
-                    count: other_count,
-                },
-            ) => *session == *other && *count == *other_count,
-            (
-                AgentMail::Update {
-                    session,
-                    key,
-                    k,
-                    state,
-                    ended,
-                },
-                AgentMail::Update {
-                    session: other,
-                    key: other_key,
-                    k: other_k,
-                    state: other_state,
-                    ended: other_ended,
-                },
-            ) => {
-                *session == *other
-                    && key.is_same(other_key)
-                    && *k == *other_k
-                    && state.is_same(other_state)
-                    && *ended == *other_ended
-            }
-            _ => false,
+        match self {
+            AgentMail::Report {
+                session,
+                run,
+                tasks,
+            } => is_report(other, *session, *run, tasks),
+            AgentMail::Applied { session, count } => is_applied(other, *session, *count),
+            AgentMail::Update {
+                session,
+                key,
+                k,
+                state,
+                ended,
+            } => is_update(other, *session, key, *k, state, *ended),
         }
     }
 }
