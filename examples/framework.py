@@ -2,7 +2,7 @@
 """A framework of the Mesos scheduler HTTP API: examples/framework.py [PORT] [TASKS]
 
 It subscribes to the master at 127.0.0.1:PORT (5050), launches TASKS tasks (3) of one cpu each as offers come, acknowledges every
-update, prints how each task goes on, and tears itself down when all have finished.
+update, prints how each task goes on, and tears itself down when all have finished, or when one ended otherwise.
 """
 import http.client
 import json
@@ -13,13 +13,17 @@ TASKS = int(sys.argv[2]) if len(sys.argv) > 2 else 3
 
 
 def post(body, stream=None):
-    """Sends a call on a connection of its own, and gives the answer."""
-    connection = http.client.HTTPConnection("127.0.0.1", PORT)
-    fields = {"Content-Type": "application/json"}
-    if stream:
-        fields["Mesos-Stream-Id"] = stream
-    connection.request("POST", "/api/v1/scheduler", json.dumps(body), fields)
-    return connection.getresponse()
+    """Sends a call on a connection of its own, and gives the answer if the master takes the call."""
+    fields = {"Content-Type": "application/json", **({"Mesos-Stream-Id": stream} if stream else {})}
+    try:
+        connection = http.client.HTTPConnection("127.0.0.1", PORT)
+        connection.request("POST", "/api/v1/scheduler", json.dumps(body), fields)
+        answer = connection.getresponse()
+    except OSError as fault:
+        raise SystemExit(f"{body['type']} can't be sent to port {PORT}: {fault}") from fault
+    if answer.status not in (200, 202):
+        raise SystemExit(f"{body['type']} is refused: {answer.status} {answer.read().decode().strip()}")
+    return answer
 
 
 def events(answer):
@@ -34,15 +38,11 @@ def task(name, offer):
 
 
 def main():
-    subscribe = {"type": "SUBSCRIBE", "subscribe": {"framework_info": {"user": "me", "name": "example"}}}
-    answer = post(subscribe)
-    stream = answer.getheader("Mesos-Stream-Id")
-    framework, launched, finished = None, 0, set()
+    answer = post({"type": "SUBSCRIBE", "subscribe": {"framework_info": {"user": "me", "name": "example"}}})
+    stream, framework, launched, told = answer.getheader("Mesos-Stream-Id"), None, 0, {}
 
     def call(kind, **members):
-        told = post({"type": kind, "framework_id": framework, **members}, stream)
-        if told.status != 202:
-            raise SystemExit(f"{kind} is answered {told.status} {told.read().decode()}")
+        post({"type": kind, "framework_id": framework, **members}, stream)
 
     for event in events(answer):
         if event["type"] == "SUBSCRIBED":
@@ -51,21 +51,26 @@ def main():
         elif event["type"] == "OFFERS":
             for offer in event["offers"]["offers"]:
                 cpus = sum(it["scalar"]["value"] for it in offer["resources"] if it["name"] == "cpus")
-                tasks = [task(f"task-{launched + i}", offer) for i in range(min(cpus, TASKS - launched))]
+                tasks = [task(f"task-{launched + i}", offer) for i in range(min(int(cpus), TASKS - launched))]
                 launched += len(tasks)
                 launch = [{"type": "LAUNCH", "launch": {"task_infos": tasks}}] if tasks else []
                 call("ACCEPT", accept={"offer_ids": [offer["id"]], "operations": launch})
         elif event["type"] == "UPDATE":
             status = event["update"]["status"]
             name, state = status["task_id"]["value"], status["state"]
-            print(name, state)
-            if "uuid" in status:
+            if "uuid" in status:  # an update is sent again until it is acknowledged
                 call("ACKNOWLEDGE", acknowledge={it: status[it] for it in ("agent_id", "task_id", "uuid")})
-            if state == "TASK_FINISHED":
-                finished.add(name)
-            if len(finished) == TASKS:
+            if told.get(name) != state:
+                print(name, state)
+            told[name] = state
+            if state not in ("TASK_STAGING", "TASK_RUNNING", "TASK_FINISHED"):
                 call("TEARDOWN")
-    print(len(finished), "tasks finished")
+                raise SystemExit(f"{name} ended as {state}, and the framework with it")
+            if list(told.values()).count("TASK_FINISHED") == TASKS:
+                call("TEARDOWN")
+                print(TASKS, "tasks finished")
+                return
+    raise SystemExit("the stream ended before all tasks had finished")
 
 
 main()

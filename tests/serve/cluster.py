@@ -54,7 +54,8 @@ class Server:
     def __init__(self, folder, *options, port=None):
         self.port = port or free_port()
         words = [PROGRAM, "serve", "--port", str(self.port), "--agents", folder.agents, "--state", folder.state, *options]
-        self.process = subprocess.Popen(words, stdout=subprocess.PIPE, stderr=subprocess.PIPE, stdin=subprocess.DEVNULL)
+        # It ignores SIGXFSZ, as Python does: a write past the limit of a file's size fails, and doesn't end it.
+        self.process = subprocess.Popen(words, stdout=subprocess.PIPE, stderr=subprocess.PIPE, stdin=subprocess.DEVNULL, restore_signals=False)
         said = self.process.stderr.readline().decode()
         check("serves at" in said, f"serve says: {said.strip()}")
 
@@ -109,15 +110,17 @@ class Framework:
             self.fields[name.lower()] = value.strip()
         check(self.status == 200, f"SUBSCRIBE is answered {self.status}")
         self.stream = self.fields["mesos-stream-id"]
-        self.events, self.before = queue.Queue(), []
-        threading.Thread(target=self._read, daemon=True).start()
+        self.events, self.before, self.is_whole = queue.Queue(), [], False
+        self.reader = threading.Thread(target=self._read, daemon=True)
+        self.reader.start()
         first = self.next("SUBSCRIBED")
         self.id = first["subscribed"]["framework_id"]["value"]
 
     def _read(self):
+        """Reads events until the stream ends: by its last chunk, an empty line and the connection's end, or cut off anywhere else."""
         data = b""
         try:
-            while size := int(self.file.readline() or b"0", 16):
+            while size := int(self.file.readline(), 16):
                 data += self.file.read(size)
                 self.file.readline()
                 while b"\n" in data:
@@ -126,12 +129,18 @@ class Framework:
                         break
                     self.events.put(json.loads(rest[: int(length)]))
                     data = rest[int(length) :]
+            self.is_whole = data == b"" and self.file.read() == b"\r\n"
         except (OSError, ValueError):
             pass
         self.events.put(None)
 
+    def ends(self, seconds=20):
+        """Whether the stream comes to its last chunk in time, and the connection ends there. Where none comes in time, or the connection breaks off, it doesn't."""
+        self.reader.join(seconds)
+        return not self.reader.is_alive() and self.is_whole
+
     def next(self, kind=None, seconds=20):
-        """The next event, of a kind where one is named (those before it stay); None at the stream's end, and where none comes in time."""
+        """The next event, of a kind where one is named (those before it stay); None where none comes in time, and at the stream's end (`ends` tells which)."""
         for i, event in enumerate(self.before):
             if kind in (None, event["type"]):
                 return self.before.pop(i)
@@ -141,7 +150,10 @@ class Framework:
                 event = self.events.get(timeout=left)
             except queue.Empty:
                 return None
-            if event is None or kind in (None, event["type"]):
+            if event is None:
+                self.events.put(None)
+                return None
+            if kind in (None, event["type"]):
                 return event
             self.before.append(event)
         return None
@@ -180,9 +192,35 @@ class Framework:
         answer, text = self.call("ACKNOWLEDGE", members)
         check(answer == 202, f"ACKNOWLEDGE is answered {answer} {text}")
 
+    def end_input(self):
+        """Shuts down the sending half of the stream's connection."""
+        self.socket.shutdown(socket.SHUT_WR)
+
     def close(self):
         self.socket.shutdown(socket.SHUT_RDWR)
         self.socket.close()
+
+
+def note(tally, update):
+    """Notes an UPDATE: of each task the states that were told, each with its uuid. The last one told once more was sent again, and counts once."""
+    status = update["update"]["status"]
+    told = tally.setdefault(status["task_id"]["value"], [])
+    check("uuid" in status, f"{status} has a uuid")
+    if told[-1:] != [(status["state"], status["uuid"])]:
+        told.append((status["state"], status["uuid"]))
+
+
+def states(told):
+    """The states of a task that were told, in their order."""
+    return [state for state, _ in told]
+
+
+def check_finished(tally):
+    """Each task is told to run, once, and then to have finished, once."""
+    for name, told in tally.items():
+        check(states(told) == ["TASK_RUNNING", "TASK_FINISHED"], f"{name} had {told}")
+    uuids = [uuid for told in tally.values() for _, uuid in told]
+    check(len(set(uuids)) == len(uuids), f"no two updates have one uuid: {uuids}")
 
 
 def amounts(resources):

@@ -17,11 +17,11 @@ def main():
         first.close()
         gone = time.monotonic()
         second = Framework(server.port)
-        offer = second.next("OFFERS", seconds=40)
+        offer = second.next("OFFERS", seconds=45)
         seconds = time.monotonic() - gone
         check(offer, "the second framework gets the first one's offer")
         check(amounts(offer["offers"]["offers"][0]["resources"]) == {"cpus": 1}, "of what t1 doesn't hold")
-        check(seconds < 32, f"after {seconds:.0f} seconds")
+        check(seconds < 40, f"after {seconds:.0f} seconds")
         status, _ = second.call("TEARDOWN")
         check(status == 202, "TEARDOWN is taken")
         out, err = server.process.communicate(timeout=15)

@@ -57,7 +57,7 @@ def main():
             it.close()
         status, _ = framework.call("TEARDOWN")
         check(status == 202, "TEARDOWN is taken")
-        check(framework.next(kind="none") is None, "and the stream ends")
+        check(framework.ends(), "and the stream ends by its last chunk")
         again = Framework(server.port)
         check(again.next("OFFERS"), "and another framework is served")
         print(f"{len(REQUESTS)} hostile requests got their answers to the byte; calls beside them went on")

@@ -1,12 +1,14 @@
 #!/usr/bin/env python3
-"""kill -9 in mid-run, and a restart on the same folder: the framework resubscribes by its id, and no task is lost or runs twice."""
+"""kill -9 in mid-run, and a restart on the same folder: the framework resubscribes by its id, no task is lost or runs twice, and no CPU that a task holds is offered."""
 import glob
 import json
 import sqlite3
 from contextlib import closing
 
-from cluster import Folder, Framework, Server, amounts, check
+from cluster import Folder, Framework, Server, amounts, check, check_finished, note, states
 
+# Six tasks of one cpu each on seven cpus, so that one cpu is free while all run.
+AGENTS = {"a1": {"cpus": 4}, "a2": {"cpus": 3}}
 TASKS = 6
 
 
@@ -21,20 +23,39 @@ def launch_all(framework):
             launched += count
 
 
-def updates(framework, done, tally):
-    """Acknowledges updates until `done` holds of the states told of each task."""
-    while not done(tally):
+def run_all(framework, tally):
+    """Acknowledges updates until each task was told to run."""
+    while len(tally) < TASKS:
         event = framework.next("UPDATE", seconds=30)
         check(event, f"an update comes while {tally} stand")
-        status = event["update"]["status"]
-        seen = tally.setdefault(status["task_id"]["value"], [])
-        if status["state"] not in seen:
-            seen.append(status["state"])
+        note(tally, event)
         framework.acknowledge(event)
 
 
+def finish_all(framework, tally, places):
+    """Acknowledges updates and keeps offers until each task has finished and all is offered. Each offer has to fit, beside those before, what its agent owns less what
+    the tasks there hold that weren't told to have finished: a CPU is free only once an update that is told before its offer says so."""
+    offered = dict.fromkeys(AGENTS, 0)
+    early = 0
+    while any(states(it)[-1] != "TASK_FINISHED" for it in tally.values()) or offered != {name: total["cpus"] for name, total in AGENTS.items()}:
+        event = framework.next(seconds=30)
+        check(event, f"an event comes while {tally} stand and {offered} are offered")
+        if event["type"] == "UPDATE":
+            note(tally, event)
+            framework.acknowledge(event)
+        elif event["type"] == "OFFERS":
+            live = [places[name] for name, told in tally.items() if states(told)[-1] != "TASK_FINISHED"]
+            for offer in event["offers"]["offers"]:
+                agent = offer["agent_id"]["value"]
+                offered[agent] += amounts(offer["resources"])["cpus"]
+                fits = offered[agent] + live.count(agent) <= AGENTS[agent]["cpus"]
+                check(fits, f"of {agent}'s {AGENTS[agent]['cpus']} cpus {offered[agent]} are offered, and {live.count(agent)} tasks hold one each")
+            early += len(live) == TASKS
+    check(early, "what is free is offered before the first task has finished")
+
+
 def recorded(folder):
-    """The tasks in the agents' records, as sqlite3 reads them."""
+    """On which agent each task stands, by the agents' records as sqlite3 reads them."""
     tasks = {}
     for path in sorted(glob.glob(f"{folder.state}/agent-*.db")):
         with closing(sqlite3.connect(path)) as it:
@@ -44,33 +65,32 @@ def recorded(folder):
                 for row in it.execute(f"SELECT * FROM {name}"):
                     for value in row:
                         if isinstance(value, str) and value.startswith("{"):
-                            for task in json.loads(value)["tasks"]:
+                            record = json.loads(value)
+                            for task in record["tasks"]:
                                 check(task["name"] not in tasks, f"{task['name']} stands in one record")
-                                tasks[task["name"]] = task["updates"]
+                                tasks[task["name"]] = record["name"]
     return tasks
 
 
 def main():
-    with Folder({"a1": {"cpus": 3}, "a2": {"cpus": 3}}) as folder:
+    with Folder(AGENTS) as folder:
         tally = {}
-        with Server(folder, "--task-seconds", "6") as server:
+        with Server(folder, "--task-seconds", "600") as server:
             framework = Framework(server.port)
             launch_all(framework)
-            updates(framework, lambda t: len(t) == TASKS, tally)
+            run_all(framework, tally)
             server.kill()
-        before = recorded(folder)
-        check(len(before) == TASKS, f"the records hold {len(before)} of {TASKS} tasks")
-        with Server(folder, "--task-seconds", "2") as server:
+        places = recorded(folder)
+        check(len(places) == TASKS, f"the records hold {len(places)} of {TASKS} tasks")
+        with Server(folder, "--task-seconds", "5") as server:
             again = Framework(server.port, framework=framework.id)
             check(again.id == framework.id, "the framework has its id again")
             check(again.stream != framework.stream, "on a new stream")
-            updates(again, lambda t: all(it[-1] == "TASK_FINISHED" for it in t.values()), tally)
-            event = again.next("OFFERS")
-            check(event, "what the tasks held is offered again")
+            finish_all(again, tally, places)
         check(len(tally) == TASKS, f"{len(tally)} tasks were told of")
-        for name, seen in tally.items():
-            check(seen == ["TASK_RUNNING", "TASK_FINISHED"], f"{name} had {seen}")
-        print(f"{TASKS} tasks ran when it was killed; started again, each went on to TASK_FINISHED, once; the records are sound in sqlite3")
+        check_finished(tally)
+        print(f"{TASKS} tasks ran when it was killed; started again, each went on to TASK_FINISHED, once, each state with one uuid")
+        print("no cpu was offered while a task held it, and all were in the end; the records are sound in sqlite3")
 
 
 main()

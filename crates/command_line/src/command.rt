@@ -41,16 +41,20 @@ const REPLAY_ABOUT: &str =
     "Replays a history of a cluster: reads the agents and then the steps, one JSON object a line, from standard input, and writes what comes of each step to standard output.";
 
 const REPLAY_HELP: &str =
-    "The first line says which agents there are, and what each owns in whole amounts:
+    "The first line says which agents there are, and what each owns:
 
   {\"agents\":{\"a1\":{\"cpus\":4,\"mem\":4096}}}
+
+It has 1 to 256 agents, whose names have 1 to 64 ASCII letters, digits, `-`, `_` and `.`; an agent owns amounts of up to 8 names, each a
+whole number from 1 to 1099511627776 (2^40).
 
 Each other line is a step. Its members, of which only `stream` of a send may lack:
 
   {\"step\":\"send\",\"stream\":\"S1-1\",\"call\":CALL}      a framework sends a call of the Mesos scheduler API
   {\"step\":\"deliver\",\"mail\":2}                       the master takes the call or mail of this number
   {\"step\":\"allocate\"}                               the master makes a round of offers
-  {\"step\":\"tick\",\"now\":15}                          the time is so many seconds after the start
+  {\"step\":\"tick\",\"now\":15}                          so many seconds have passed since the start, from 0 to
+                                                    .. 4294967295 and no fewer than before
   {\"step\":\"lose\",\"agent\":\"a1\"}                      the master takes the agent for lost
   {\"step\":\"hangup\",\"stream\":\"S1-1\"}                 a stream of events is closed
   {\"step\":\"take\",\"stream\":\"S1-1\"}                   a framework takes the next event of a stream

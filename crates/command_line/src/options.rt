@@ -30,18 +30,28 @@ const SERVE_ABOUT: &str =
     "Serves a cluster: frameworks speak to its master at http://127.0.0.1:PORT/api/v1/scheduler, and its agents run tasks by simulated executors.";
 
 const SERVE_HELP: &str =
-    "FILE is one line that says which agents there are, and what each owns in whole amounts:
+    "FILE is one line that says which agents there are, and what each owns:
 
   {\"agents\":{\"a1\":{\"cpus\":4,\"mem\":4096}}}
 
+It has 1 to 256 agents, whose names have 1 to 64 ASCII letters, digits, `-`, `_` and `.`; an agent owns amounts of up to 8 names, each a
+whole number from 1 to 1099511627776 (2^40).
+
 DIR is a folder that is there. Each agent keeps its record in `agent-NAME.db` in it, and the master the number of its run in
 `master.db`; both are SQLite stores. Started again on the same folder, the agents come up over their records, with their tasks,
-and frameworks resubscribe by their ids. One process at a time can have a folder.
+and frameworks resubscribe by their ids. Have one process at a time on a folder: from an agent's first save on, soon after the
+start, its store is locked, and a process that finds it so ends (K1 Store); before that nothing keeps a second one away.
 
 The master makes a round of offers each `--interval` seconds. A task runs at its agent's next turn (TASK_RUNNING), and ends by
 itself `--task-seconds` later (TASK_FINISHED); with 0 it runs until it is killed. Updates are sent again until they are
-acknowledged. A framework whose connection is gone is noticed when its next HEARTBEAT can't be written, 15 to 30 seconds later;
-its offers come back then.
+acknowledged.
+
+At most 64 connections are served at once, and the stream of each subscribed framework holds one; another connection waits until
+one of them ends. So have at most 63 frameworks, or no call is answered.
+
+A HEARTBEAT goes out on each stream every 15 seconds, rounded up to a multiple of `--interval`. A framework whose connection is gone
+is noticed when a write to it fails, no later than at its second HEARTBEAT from then on: with `--interval` 1 after at most some 30
+seconds, and with one over 15 after at most twice `--interval`. Its offers come back then.
 
 With `--conns` N no more than N connections are accepted, and when all have ended each agent is written with its tasks, as
 `replay` does at its end.
@@ -131,7 +141,7 @@ fn connections<'a>(alloc: Global) -> Arg<'a>
     number_option(
         alloc,
         "conns",
-        "connections that are accepted; 0 is no limit",
+        "connections that are accepted, from 0 to 18446744073709551615; 0 is no limit",
         0,
         u64::MAX,
     )

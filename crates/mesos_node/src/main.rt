@@ -3,7 +3,8 @@
 
 ghost use Rattle.std.specs.Prelude.{◌≡◌, IfOk};
 ghost use Rattle.std.specs.Process.{exit_status};
-ghost use Rattle.mesos_node.specs.Statuses.{IsStatus, status_for};
+ghost use Rattle.clap.specs.Words.{kind_of};
+ghost use Rattle.mesos_node.specs.Statuses.{IsStatus, status_for, status_of_kind};
 
 mod serve;
 
@@ -20,7 +21,9 @@ use std::thread::Threads;
 use std::time::Clock;
 use std::{env, fmt, io};
 
-/// The statuses: refused input, and a fault of memory, of the input or of the output.
+/// The statuses: the work ended, its input was refused, and memory, the input or the output failed.
+const ENDED: u8 = 0;
+
 const REFUSED: u8 = 2;
 
 const FAILED: u8 = 3;
@@ -86,6 +89,37 @@ fn run_serve<R: Net<Listener = TcpListener, Stream = TcpStream> + Threads + Wait
     }
 }
 
+/// The status where the words of the command line name no action: they ask for help, memory is refused, or they are wrong.
+fn status_of_kind(kind: ErrorKind) -> u8
+    ensures { result ≡ status_of_kind kind }
+{
+    match kind {
+        ErrorKind::DisplayHelp | ErrorKind::DisplayVersion => ENDED,
+        ErrorKind::OutOfMemory => FAILED,
+        _ => REFUSED,
+    }
+}
+
+/// Tells why the words of the command line name no action, or the help that they ask for.
+fn tell_words(rt: &HostRuntime, fault: &clap::Error) -> io::Result<ExitCode>
+    ensures { IfOk result (λ code. exit_status code ≡ status_of_kind (kind_of fault.now)) }
+{
+    fault.print(rt)?;
+    Ok(ExitCode::from(status_of_kind(fault.kind())))
+}
+
+/// Tells why the words of the command line can't be had: one isn't UTF-8, or memory is refused.
+fn tell_unread(rt: &HostRuntime, fault: &io::Error) -> ExitCode
+    ensures { IsStatus (exit_status result) }
+{
+    if fault.kind() == io::ErrorKind::InvalidData {
+        let _ = eprintln!(rt; "error: a word of the command line isn't UTF-8");
+        return ExitCode::from(REFUSED);
+    }
+    let _ = eprintln!(rt; "{fault}");
+    ExitCode::from(FAILED)
+}
+
 /// Does what the words of the command line name.
 fn run<R: Net<Listener = TcpListener, Stream = TcpStream> + Threads + Wait + Clock + Sync>(
     rt: &HostRuntime,
@@ -93,8 +127,12 @@ fn run<R: Net<Listener = TcpListener, Stream = TcpStream> + Threads + Wait + Clo
 ) -> io::Result<ExitCode>
     ensures { IfOk result (λ code. IsStatus (exit_status code)) }
 {
+    let given = match env::args(rt) {
+        Ok(given) => given,
+        Err(fault) => return Ok(tell_unread(rt, &fault)),
+    };
     let mut words = Vec::new(rt.alloc());
-    for word in env::args(rt)? {
+    for word in given {
         words.push(word)?;
     }
     let mut texts = Vec::new(rt.alloc());
@@ -105,14 +143,7 @@ fn run<R: Net<Listener = TcpListener, Stream = TcpStream> + Threads + Wait + Clo
         Ok(Action::Calls) => Ok(run_calls(rt)),
         Ok(Action::Replay) => Ok(run_replay(rt)),
         Ok(Action::Serve(options)) => Ok(run_serve(rt, threads, &options)),
-        Err(fault) => {
-            fault.print(rt)?;
-            Ok(match fault.kind() {
-                ErrorKind::DisplayHelp | ErrorKind::DisplayVersion => ExitCode::SUCCESS,
-                ErrorKind::OutOfMemory => ExitCode::from(FAILED),
-                _ => ExitCode::from(REFUSED),
-            })
-        }
+        Err(fault) => tell_words(rt, &fault),
     }
 }
 

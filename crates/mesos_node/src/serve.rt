@@ -24,12 +24,18 @@ use step_lines::{LineFault, read_config};
 /// One part for each seat, and one for the desk.
 const PARTS: u64 = 1 << 32;
 
+/// What a line is told that is no configuration.
+const CONFIG: &str =
+    "X3 BadConfig: the line of the file of the agents is to be as {\"agents\":{\"a1\":{\"cpus\":4,\"mem\":4096}}}, with 1 to 256 agents, names of 1 to 64 ASCII letters, digits, -, _ and ., and up to 8 amounts for each, whole numbers from 1 to 2^40";
+
 /// Why a cluster isn't served, or stops being served.
 #[derive(Drop)]
 pub enum ServeFault {
     /// `Z2 DeviceFault`: the file of the agents can't be read.
     File(io::Error),
-    /// `X3 BadConfig`: the file of the agents isn't one configuration line.
+    /// `X3 BadConfig`: the file of the agents isn't one line.
+    Lines,
+    /// `X3 BadConfig`: the one line of the file of the agents is no configuration.
     Config,
     Folder(FolderFault),
     /// `Z2 DeviceFault`: the port can't be had.
@@ -43,7 +49,7 @@ impl ServeFault {
     /// Whether the input is refused, and no store, port, thread or memory failed.
     pub fn is_refusal(&self) -> bool {
         match self {
-            ServeFault::Config => true,
+            ServeFault::Lines | ServeFault::Config => true,
             ServeFault::Folder(FolderFault::TotalDiffers { .. }) => true,
             _ => false,
         }
@@ -66,9 +72,10 @@ impl fmt::Display for ServeFault {
     fn fmt<W: fmt::Write>(&self, f: &mut fmt::Formatter<W>) -> fmt::Result {
         match self {
             ServeFault::File(error) => write!(f, "Z2 DeviceFault: the file of the agents: {error}"),
-            ServeFault::Config => f.write_str(
+            ServeFault::Lines => f.write_str(
                 "X3 BadConfig: the file of the agents is to be one line",
             ),
+            ServeFault::Config => f.write_str(CONFIG),
             ServeFault::Folder(fault) => write!(f, "{fault}"),
             ServeFault::Port { port, error } => {
                 let port = *port;
@@ -99,7 +106,7 @@ fn read_agents(rt: &HostRuntime, path: &str) -> Result<Config, ServeFault> {
         Err(error) => return Err(ServeFault::File(error)),
     };
     let Some(line) = only_line(text.as_slice()) else {
-        return Err(ServeFault::Config);
+        return Err(ServeFault::Lines);
     };
     match read_config(rt.alloc(), line) {
         Ok(config) => Ok(config),
