@@ -48,6 +48,28 @@ class Folder:
         shutil.rmtree(self.path, ignore_errors=True)
 
 
+def run(*words):
+    """The status of the program on these words, and what it writes to standard output and standard error."""
+    done = subprocess.run([PROGRAM, *words], stdin=subprocess.DEVNULL, capture_output=True, timeout=30)
+    return done.returncode, done.stdout.decode(), done.stderr.decode()
+
+
+def run_serve(folder, *options, state=None, port=None):
+    """The same of `serve` on a folder, which has to end by itself."""
+    return run("serve", "--port", str(port or free_port()), "--agents", folder.agents, "--state", state or folder.state, *options)
+
+
+TOLD = []
+
+
+def tell(case, got, status, text):
+    """A fault, which has to be told by one line that begins with a text, with nothing else written."""
+    check(got[0] == status, f"{case}: the status is {got[0]}, and {status} is due: {got[2]}")
+    check(got[1] == "", f"{case}: {got[1]!r} is written")
+    check(got[2].startswith(text) and got[2].count("\n") == 1 and got[2].endswith("\n"), f"{case}: standard error is {got[2]!r}")
+    TOLD.append(case)
+
+
 class Server:
     """`mesos_node serve` over a folder."""
 
@@ -110,7 +132,7 @@ class Framework:
             self.fields[name.lower()] = value.strip()
         check(self.status == 200, f"SUBSCRIBE is answered {self.status}")
         self.stream = self.fields["mesos-stream-id"]
-        self.events, self.before, self.is_whole = queue.Queue(), [], False
+        self.events, self.before, self.told, self.is_whole = queue.Queue(), [], set(), False
         self.reader = threading.Thread(target=self._read, daemon=True)
         self.reader.start()
         first = self.next("SUBSCRIBED")
@@ -157,6 +179,25 @@ class Framework:
                 return event
             self.before.append(event)
         return None
+
+    def next_offer(self, resources):
+        """The next offer, which has to be of these resources."""
+        event = self.next("OFFERS")
+        check(event, f"an offer of {resources} comes")
+        (offer,) = event["offers"]["offers"]
+        check(amounts(offer["resources"]) == resources, f"{resources} are offered: {offer}")
+        return offer
+
+    def next_state(self):
+        """The state that the next update tells, which is acknowledged. One that was sent again is acknowledged again, and passed over."""
+        while update := self.next("UPDATE"):
+            self.acknowledge(update)
+            status = update["update"]["status"]
+            uuid = status.get("uuid")
+            if uuid is None or uuid not in self.told:
+                self.told.add(uuid)
+                return status["state"]
+        raise SystemExit("failed: an update comes")
 
     def call(self, kind, members=None, stream=True):
         """The status of a call, and the text of its answer."""

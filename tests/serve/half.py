@@ -8,13 +8,10 @@ def main():
         framework = Framework(server.port)
         framework.end_input()
         for name in ("t1", "t2"):
-            event = framework.next("OFFERS")
-            check(event, f"an offer comes before {name}")
-            framework.accept(event["offers"]["offers"][0], [(name, {"cpus": 2})])
-            for state in ("TASK_RUNNING", "TASK_FINISHED"):
-                update = framework.next("UPDATE")
-                check(update and update["update"]["status"]["state"] == state, f"{name} is told {state}: {update}")
-                framework.acknowledge(update)
+            framework.accept(framework.next_offer({"cpus": 2}), [(name, {"cpus": 2})])
+            for due in ("TASK_RUNNING", "TASK_FINISHED"):
+                state = framework.next_state()
+                check(state == due, f"{name} is {state}, and {due} is due")
         check(not framework.ends(seconds=0), "the stream is open")
         status, text = framework.call("TEARDOWN")
         check(status == 202, f"TEARDOWN is answered {status} {text}")

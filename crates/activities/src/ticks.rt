@@ -46,8 +46,8 @@ fn round<L: ledger::Ledger, R: Wait>(
         && goes_on(office.call(rt, alloc, pass, Step::Allocate))
 }
 
-/// Lets the master's time pass until the office is finished: at once, and then every so many seconds, it sends a Tick of the seconds since its start
-/// and has offers made. It ends before by O1 and C8. It doesn't start a master that is down.
+/// Lets the master's time pass until the office is finished: at once, and then every `interval` seconds (any number; at 0 without a pause), it sends a Tick of the whole
+/// seconds since its start, 2^32 - 1 at most, and has offers made. It ends before by O1 and C8. It doesn't start a master that is down.
 #[tactic(auto, using(crate::proofs::Rounds::rounds_then, crate::proofs::Rounds::rounds_itself))]
 pub fn ticker<L: ledger::Ledger, R: Wait + Clock>(
     rt: &R,

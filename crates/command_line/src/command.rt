@@ -40,8 +40,7 @@ memory, the input or the output fails.";
 const REPLAY_ABOUT: &str =
     "Replays a history of a cluster: reads the agents and then the steps, one JSON object a line, from standard input, and writes what comes of each step to standard output.";
 
-const REPLAY_HELP: &str =
-    "The first line says which agents there are, and what each owns:
+const REPLAY_HELP: &str = "The first line says which agents there are, and what each owns:
 
   {\"agents\":{\"a1\":{\"cpus\":4,\"mem\":4096}}}
 

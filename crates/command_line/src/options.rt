@@ -29,8 +29,7 @@ pub struct ServeOptions<'a> {
 const SERVE_ABOUT: &str =
     "Serves a cluster: frameworks speak to its master at http://127.0.0.1:PORT/api/v1/scheduler, and its agents run tasks by simulated executors.";
 
-const SERVE_HELP: &str =
-    "FILE is one line that says which agents there are, and what each owns:
+const SERVE_HELP: &str = "FILE is one line that says which agents there are, and what each owns:
 
   {\"agents\":{\"a1\":{\"cpus\":4,\"mem\":4096}}}
 

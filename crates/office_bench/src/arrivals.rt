@@ -90,6 +90,7 @@ impl<'a, L: ledger::Ledger, R: Wait + Clock> TcpArrivals<'a, L, R> {
         }
     }
 
+    /// The pass of its seat, to be handed in at the office's close.
     pub fn into_pass(self) -> Pass<Given, L>
         ensures { result ≡ self.entry.pass }
     {

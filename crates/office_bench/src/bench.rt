@@ -39,6 +39,7 @@ impl<'a, L: ledger::Ledger, R: Wait> Model for SeatBench<'a, L, R> {
 }
 
 impl<'a, L: ledger::Ledger, R: Wait> SeatBench<'a, L, R> {
+    /// The bench of a connection whose steps the office takes on this pass.
     pub fn new(
         rt: &'a R,
         alloc: Global,
@@ -55,6 +56,7 @@ impl<'a, L: ledger::Ledger, R: Wait> SeatBench<'a, L, R> {
         }
     }
 
+    /// The pass of its seat, to be handed in at the office's close.
     pub fn into_pass(self) -> Pass<Given, L>
         ensures { result ≡ self.entry }
     {

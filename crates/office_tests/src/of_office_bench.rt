@@ -1,4 +1,4 @@
-//! The worked rows over loopback, with an office behind.
+//! Connections over loopback to an office: what each sends, and what it is answered.
 
 use crate::client::{Client, expect, expect_last, send};
 use crate::requests::*;

@@ -1,6 +1,6 @@
 //! What clients send, and what they are answered.
 
-/// The worked row of a SUBSCRIBE.
+/// A SUBSCRIBE of a new framework.
 pub const SUBSCRIBE: &str =
     "POST /api/v1/scheduler HTTP/1.1\r\nHost: 127.0.0.1\r\nContent-Type: application/json\r\nContent-Length: 75\r\n\r\n{\"type\":\"SUBSCRIBE\",\"subscribe\":{\"framework_info\":{\"user\":\"u\",\"name\":\"n\"}}}";
 

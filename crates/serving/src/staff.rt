@@ -18,11 +18,11 @@ use std::time::Clock;
 /// How fast a cluster runs.
 #[derive(Clone, Copy, Debug, Drop)]
 pub struct Pace {
-    /// So many seconds lie between two rounds of offers.
+    /// So many seconds lie between two rounds of offers: 1 or more, since at 0 rounds follow without a pause.
     pub interval: u64,
-    /// So many seconds a task runs; with 0 until it is killed.
+    /// So many seconds a task runs, any number; with 0 until it is killed.
     pub task_seconds: u64,
-    /// So many connections are taken; with 0 there is no limit.
+    /// So many connections are taken, any number; with 0 there is no limit.
     pub connections: u64,
 }
 

@@ -1,0 +1,63 @@
+#!/usr/bin/env python3
+"""A wrong folder at the start is told by one line on standard error with its status, and what stands in it stays as it is."""
+import os
+import shutil
+import sqlite3
+from contextlib import closing
+
+from cluster import TOLD, Folder, Framework, Server, check, run_serve, tell
+
+AGENTS = {"a1": {"cpus": 2}}
+
+
+def files(path):
+    """What each file of a folder holds."""
+    return {it.name: open(it.path, "rb").read() for it in os.scandir(path)}
+
+
+def try_no_folders(folder):
+    tell("no folder", run_serve(folder, state=os.path.join(folder.path, "nowhere")), 3, "K1 Store ")
+    tell("a file in the folder's place", run_serve(folder, state=folder.agents), 3, "K1 Store ")
+    tell("a folder that can't be written", run_serve(folder, state="/proc"), 3, "K1 Store ")
+
+
+def try_foreign_store(folder):
+    foreign = os.path.join(folder.path, "foreign")
+    os.mkdir(foreign)
+    path = os.path.join(foreign, "agent-a1.db")
+    with closing(sqlite3.connect(path)) as it:
+        it.execute("CREATE TABLE notes (text TEXT)")
+        it.execute("INSERT INTO notes VALUES ('mine')")
+        it.commit()
+    before = files(foreign)
+    tell("a store of another program", run_serve(folder, state=foreign), 3, f"K2 Damaged: {path}")
+    check(files(foreign)["agent-a1.db"] == before["agent-a1.db"], "the other program's store is as it was, byte by byte")
+    with closing(sqlite3.connect(path)) as it:
+        check(it.execute("SELECT text FROM notes").fetchall() == [("mine",)], "and can be read as before")
+
+
+def try_foreign_record(folder):
+    """A copy of a1's record stands as that of a2."""
+    twice = shutil.copytree(folder.state, os.path.join(folder.path, "twice"))
+    for name in list(files(twice)):
+        if name.startswith("agent-a1"):
+            shutil.copy(os.path.join(twice, name), os.path.join(twice, name.replace("a1", "a2", 1)))
+    folder.write({"agents": {**AGENTS, "a2": AGENTS["a1"]}})
+    before = files(twice)
+    tell("a record of another agent", run_serve(folder, state=twice), 3, "K2 Damaged: the records are of no one cluster")
+    after = files(twice)
+    check(all(after[it] == data for it, data in before.items() if it.startswith("agent-")), "the records are as they were, byte by byte")
+
+
+def main():
+    with Folder(AGENTS) as folder:
+        try_no_folders(folder)
+        try_foreign_store(folder)
+        with Server(folder) as server:
+            check(Framework(server.port).next_offer({"cpus": 2}), "a1 has a record")
+            tell("a folder in use", run_serve(folder), 3, "K1 Store ")
+        try_foreign_record(folder)
+        print(f"{len(TOLD)} faults, each told by one line, with its status; the other program's store and the records are as they were, byte by byte: {', '.join(TOLD)}")
+
+
+main()
