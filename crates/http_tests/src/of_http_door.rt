@@ -135,7 +135,7 @@ fn heads(rt: HostRuntime) -> Result<(), Fail> {
 }
 
 #[test]
-fn bodies(rt: HostRuntime) -> Result<(), Fail> {
+fn bodies_by_their_length(rt: HostRuntime) -> Result<(), Fail> {
     let alloc = rt.alloc();
     let bad_body = refusal(alloc, "400 Bad Request", "H6 BadBody")?;
     check(
@@ -152,6 +152,34 @@ fn bodies(rt: HostRuntime) -> Result<(), Fail> {
     )?;
     let whole = post(alloc, "Content-Length: 49\r\nConnection: Close\r\n", REVIVE)?;
     check(alloc, &format!(in alloc; "{whole}left")?, ACCEPTED, true)?;
+    let not_subscribed = refusal(alloc, "403 Forbidden", "M1 NotSubscribed")?;
+    check(
+        alloc,
+        &post(alloc, "Content-Length: 49\r\n", REVIVE)?,
+        &not_subscribed,
+        false,
+    )
+}
+
+#[test]
+fn a_body_that_is_waited_for(rt: HostRuntime) -> Result<(), Fail> {
+    let alloc = rt.alloc();
+    let waits = post(
+        alloc,
+        "Expect: 100-continue\r\nContent-Length: 49\r\n",
+        REVIVE,
+    )?;
+    check(
+        alloc,
+        &waits,
+        &format!(in alloc; "HTTP/1.1 100 Continue\r\n\r\n{ACCEPTED}")?,
+        true,
+    )
+}
+
+#[test]
+fn bodies_in_chunks(rt: HostRuntime) -> Result<(), Fail> {
+    let alloc = rt.alloc();
     let chunks =
         "1\r\n{\r\n2f;x\r\n\"type\":\"REVIVE\",\"framework_id\":{\"value\":\"F1-1\"}\r\n1\r\n}\r\n000\r\na: b\n\r\n";
     let chunked = post(alloc, "Transfer-Encoding: chunked\r\n", chunks)?;
@@ -169,10 +197,9 @@ fn bodies(rt: HostRuntime) -> Result<(), Fail> {
             "Transfer-Encoding: chunked\r\n",
             "1\r\n{x\r\n0\r\n\r\n",
         )?,
-        &bad_body,
+        &refusal(alloc, "400 Bad Request", "H6 BadBody")?,
         true,
     )?;
-    let over = refusal(alloc, "413 Content Too Large", "H5 TooLong")?;
     check(
         alloc,
         &post(
@@ -180,26 +207,8 @@ fn bodies(rt: HostRuntime) -> Result<(), Fail> {
             "Transfer-Encoding: chunked\r\n",
             "1\r\n{\r\nffffffffffffffff\r\n",
         )?,
-        &over,
+        &refusal(alloc, "413 Content Too Large", "H5 TooLong")?,
         true,
-    )?;
-    let waits = post(
-        alloc,
-        "Expect: 100-continue\r\nContent-Length: 49\r\n",
-        REVIVE,
-    )?;
-    check(
-        alloc,
-        &waits,
-        &format!(in alloc; "HTTP/1.1 100 Continue\r\n\r\n{ACCEPTED}")?,
-        true,
-    )?;
-    let not_subscribed = refusal(alloc, "403 Forbidden", "M1 NotSubscribed")?;
-    check(
-        alloc,
-        &post(alloc, "Content-Length: 49\r\n", REVIVE)?,
-        &not_subscribed,
-        false,
     )
 }
 
