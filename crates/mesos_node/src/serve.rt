@@ -25,7 +25,7 @@ use step_lines::{LineFault, read_config};
 const PARTS: u64 = 1 << 32;
 
 /// What a line is told that is no configuration.
-const CONFIG: &str =
+const WANTED_LINE: &str =
     "X3 BadConfig: the line of the file of the agents is to be as {\"agents\":{\"a1\":{\"cpus\":4,\"mem\":4096}}}, with 1 to 256 agents, names of 1 to 64 ASCII letters, digits, -, _ and ., and up to 8 amounts for each, whole numbers from 1 to 2^40";
 
 /// Why a cluster isn't served, or stops being served.
@@ -75,7 +75,7 @@ impl fmt::Display for ServeFault {
             ServeFault::Lines => f.write_str(
                 "X3 BadConfig: the file of the agents is to be one line",
             ),
-            ServeFault::Config => f.write_str(CONFIG),
+            ServeFault::Config => f.write_str(WANTED_LINE),
             ServeFault::Folder(fault) => write!(f, "{fault}"),
             ServeFault::Port { port, error } => {
                 let port = *port;
