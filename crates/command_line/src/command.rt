@@ -44,8 +44,8 @@ const REPLAY_HELP: &str = "The first line says which agents there are, and what 
 
   {\"agents\":{\"a1\":{\"cpus\":4,\"mem\":4096}}}
 
-It has 1 to 256 agents, whose names have 1 to 64 ASCII letters, digits, `-`, `_` and `.`; an agent owns amounts of up to 8 names, each a
-whole number from 1 to 1099511627776 (2^40).
+It has 1 to 256 agents, whose names have 1 to 64 ASCII letters, digits, `-`, `_` and `.`. An agent owns up to 8 resources: each has a name
+of 1 to 64 bytes without control characters, spaces, `/` and `\\`, and an amount that is a whole number from 1 to 1099511627776 (2^40).
 
 Each other line is a step. Its members, of which only `stream` of a send may lack:
 

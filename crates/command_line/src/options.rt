@@ -33,8 +33,8 @@ const SERVE_HELP: &str = "FILE is one line that says which agents there are, and
 
   {\"agents\":{\"a1\":{\"cpus\":4,\"mem\":4096}}}
 
-It has 1 to 256 agents, whose names have 1 to 64 ASCII letters, digits, `-`, `_` and `.`; an agent owns amounts of up to 8 names, each a
-whole number from 1 to 1099511627776 (2^40).
+It has 1 to 256 agents, whose names have 1 to 64 ASCII letters, digits, `-`, `_` and `.`. An agent owns up to 8 resources: each has a name
+of 1 to 64 bytes without control characters, spaces, `/` and `\\`, and an amount that is a whole number from 1 to 1099511627776 (2^40).
 
 DIR is a folder that is there. Each agent keeps its record in `agent-NAME.db` in it, and the master the number of its run in
 `master.db`; both are SQLite stores. Started again on the same folder, the agents come up over their records, with their tasks,
