@@ -9,6 +9,7 @@ from cluster import Folder, Framework, Server, amounts, check, check_finished, n
 
 # Six tasks of one cpu each on seven cpus, so that one cpu is free while all run.
 AGENTS = {"a1": {"cpus": 4}, "a2": {"cpus": 3}}
+CPUS = 7
 TASKS = 6
 
 
@@ -33,24 +34,25 @@ def run_all(framework, tally):
 
 
 def finish_all(framework, tally, places):
-    """Acknowledges updates and keeps offers until each task has finished and all is offered. Each offer has to fit, beside those before, what its agent owns less what
-    the tasks there hold that weren't told to have finished: a CPU is free only once an update that is told before its offer says so."""
-    offered = dict.fromkeys(AGENTS, 0)
-    early = 0
-    while any(states(it)[-1] != "TASK_FINISHED" for it in tally.values()) or offered != {name: total["cpus"] for name, total in AGENTS.items()}:
+    """Acknowledges updates and keeps offers until each task has finished and all is offered. Each offer has to fit, beside the others, what its agent owns less what the
+    tasks there hold that weren't told to have finished: a CPU is free only once an update that is told before its offer says so."""
+    offers, early = {}, False
+    while any(states(it)[-1] != "TASK_FINISHED" for it in tally.values()) or sum(cpus for _, cpus in offers.values()) < CPUS:
         event = framework.next(seconds=30)
-        check(event, f"an event comes while {tally} stand and {offered} are offered")
+        check(event, f"an event comes while {tally} stand and {offers} are offered")
         if event["type"] == "UPDATE":
             note(tally, event)
             framework.acknowledge(event)
+        elif event["type"] == "RESCIND":
+            offers.pop(event["rescind"]["offer_id"]["value"], None)
         elif event["type"] == "OFFERS":
-            live = [places[name] for name, told in tally.items() if states(told)[-1] != "TASK_FINISHED"]
             for offer in event["offers"]["offers"]:
-                agent = offer["agent_id"]["value"]
-                offered[agent] += amounts(offer["resources"])["cpus"]
-                fits = offered[agent] + live.count(agent) <= AGENTS[agent]["cpus"]
-                check(fits, f"of {agent}'s {AGENTS[agent]['cpus']} cpus {offered[agent]} are offered, and {live.count(agent)} tasks hold one each")
-            early += len(live) == TASKS
+                offers[offer["id"]["value"]] = offer["agent_id"]["value"], amounts(offer["resources"])["cpus"]
+            live = [places[name] for name, told in tally.items() if states(told)[-1] != "TASK_FINISHED"]
+            early = early or len(live) == TASKS
+            for agent, total in AGENTS.items():
+                offered, held = sum(cpus for it, cpus in offers.values() if it == agent), live.count(agent)
+                check(offered + held <= total["cpus"], f"of {agent}'s {total['cpus']} cpus {offered} are offered, and {held} tasks hold one each")
     check(early, "what is free is offered before the first task has finished")
 
 
