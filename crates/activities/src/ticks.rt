@@ -9,7 +9,8 @@ use std::alloc::Global;
 use std::sync::{Wait, ledger};
 use std::time::{Clock, Instant};
 
-/// A group in which nobody is woken often.
+/// Where a ticker waits. No group is free of callers: in this one those wait too who take events of the streams whose numbers are divisible by 32,
+/// and a step that tells such a stream something wakes the ticker, which waits on.
 const GROUP: u32 = 0;
 
 /// Whether the ticker goes on after a step.

@@ -118,12 +118,8 @@ pub fn activity<L: ledger::Ledger, R: Wait + Clock, C: Cabinet>(
     for _ in rt.forever() {
         match worker.go_on(&mut pass, cabinet, &mut executors) {
             Ok(()) => {}
-            Err(Stop::Later) => {
-                if !worker.pause(&pass) {
-                    return (pass, None);
-                }
-            }
-            Err(Stop::Ended) => return (pass, None),
+            Err(Stop::Later) if worker.pause(&pass) => {}
+            Err(Stop::Later | Stop::Ended) => return (pass, None),
             Err(Stop::Failed(fault)) => {
                 office.finish(rt);
                 return (pass, Some(fault));
