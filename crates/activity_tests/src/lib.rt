@@ -4,6 +4,8 @@
 #[cfg(test)]
 mod cabinets;
 #[cfg(test)]
+mod launches;
+#[cfg(test)]
 mod offices;
 #[cfg(test)]
 mod parts;
