@@ -3,20 +3,26 @@
 ghost use Rattle.std.specs.Prelude.{◌≡◌, [], IfSome};
 
 use cluster_core::{Cluster, Step, StepCause, fresh_agents_open, fresh_records};
-use desk_lock::{Desk, Office, Pass, Passes};
+use desk_lock::{Desk, Office, Pass, Passes, Recorded};
 use master_core::Config;
 use names_core::{AgentName, Run};
 use post_rules::Queues;
 use quantity::Resources;
-use recorded_cluster::{Given, RecordedCluster};
+use recorded_cluster::RecordedCluster;
 use std::alloc::Global;
 use std::marker::Brand;
 use std::sync::ledger::Blank;
 use std::sync::{Wait, ledger};
 use std::test::*;
 
-/// What the seats have: how much the first saw of the history and how many receipts it has, as much of the second, and the history's length at the close.
-type Seats = (u32, usize, u32, usize, u32);
+/// How much a pass saw of the history, and the numbers of its receipts.
+type Seen = (u32, Vec<u32>);
+
+/// The history's length at the close, the opening counted, and the seat of each entry since.
+type Closed = (u32, Vec<u32>);
+
+/// What the two passes have, and what is left at the close.
+type Seats = (Option<Seen>, Option<Seen>, Option<Closed>);
 
 fn one_agent(alloc: Global) -> Result<Config, Fail> {
     let mut cpus = Resources::new(alloc);
@@ -38,86 +44,85 @@ fn reports(alloc: Global) -> Result<Vec<Step>, Fail> {
     Ok(steps)
 }
 
-// These have no clause, so that the proof of what follows them doesn't carry the office.
+// These have no clause, so that the proof of what follows them doesn't carry the office. What is recorded is a parameter of theirs: at each exit of a function
+// that owns an office the proof goes through all that the office is made of, and of a parameter it knows nothing.
 
-fn seat<L: ledger::Ledger, R: Wait>(
+/// The pass of a new seat that took all steps.
+fn pass_of<C: Recorded, L: ledger::Ledger, R: Wait>(
     rt: &R,
     alloc: Global,
-    office: &Office<RecordedCluster, L>,
-) -> Option<Pass<Given, L>> {
-    office.open_seat(rt, alloc).ok()
-}
-
-/// Whether the call of a step is answered.
-fn is_answered<L: ledger::Ledger, R: Wait>(
-    rt: &R,
-    alloc: Global,
-    office: &Office<RecordedCluster, L>,
-    pass: &mut Pass<Given, L>,
-    step: Step,
-) -> bool {
-    office.call(rt, alloc, pass, step).is_ok()
-}
-
-fn seen_and_received<L: ledger::Ledger>(pass: &Pass<Given, L>) -> (u32, usize) {
-    (pass.seen(), pass.receipts().len())
-}
-
-/// Whether the call of each step is answered.
-fn call_all<L: ledger::Ledger, R: Wait>(
-    rt: &R,
-    alloc: Global,
-    office: &Office<RecordedCluster, L>,
-    pass: &mut Pass<Given, L>,
-    steps: Vec<Step>,
-) -> bool {
-    let mut all = true;
+    office: &Office<C, L>,
+    steps: Vec<C::Step>,
+) -> Option<Pass<C::Given, L>> {
+    let mut pass = office.open_seat(rt, alloc).ok()?;
     for step in steps {
-        all &= is_answered(rt, alloc, office, pass, step);
+        office.call(rt, alloc, &mut pass, step).ok()?;
     }
-    all
+    Some(pass)
 }
 
-fn both<L: ledger::Ledger>(
+/// The passes of two seats that took these steps one after the other.
+fn passes_of<C: Recorded, L: ledger::Ledger, R: Wait>(
+    rt: &R,
     alloc: Global,
-    one: Pass<Given, L>,
-    two: Pass<Given, L>,
-) -> Option<Passes<Given, L>> {
-    let mut passes = Passes::new(alloc);
-    if passes.push(one).is_err() || passes.push(two).is_err() {
-        return None;
+    office: &Office<C, L>,
+    first: Vec<C::Step>,
+    others: Vec<C::Step>,
+) -> Option<(Pass<C::Given, L>, Pass<C::Given, L>)> {
+    let one = pass_of(rt, alloc, office, first)?;
+    let two = pass_of(rt, alloc, office, others)?;
+    Some((one, two))
+}
+
+fn seen_by<G, L: ledger::Ledger>(alloc: Global, pass: &Pass<G, L>) -> Option<Seen> {
+    let mut numbers = Vec::new(alloc);
+    for receipt in pass.receipts() {
+        numbers.push(receipt.number).ok()?;
     }
+    Some((pass.seen(), numbers))
+}
+
+fn both<G: Drop, L: ledger::Ledger>(
+    alloc: Global,
+    one: Pass<G, L>,
+    two: Pass<G, L>,
+) -> Option<Passes<G, L>> {
+    let mut passes = Passes::new(alloc);
+    passes.push(one).ok()?;
+    passes.push(two).ok()?;
     Some(passes)
 }
 
-/// The history's length at the close, the opening counted.
-fn length_at_close<L: ledger::Ledger>(
-    office: Office<RecordedCluster, L>,
-    passes: Passes<Given, L>,
-) -> Option<u32> {
-    match office.close(passes) {
-        Ok(history) => Some(history.len()),
+fn closed<C: Recorded, L: ledger::Ledger>(
+    alloc: Global,
+    office: Office<C, L>,
+    passes: Option<Passes<C::Given, L>>,
+) -> Option<Closed> {
+    match office.close(passes?) {
+        Ok(history) => {
+            let seats = Vec::from_slice(alloc, history.seats()).ok()?;
+            Some((history.len(), seats))
+        }
         Err(_) => None,
     }
 }
 
-fn seats_of<L: ledger::Ledger, R: Wait>(
+/// What two seats have that took these steps one after the other.
+fn seats_of<C: Recorded, L: ledger::Ledger, R: Wait>(
     rt: &R,
     alloc: Global,
-    office: Office<RecordedCluster, L>,
-    steps: Vec<Step>,
+    office: Office<C, L>,
+    first: Vec<C::Step>,
+    others: Vec<C::Step>,
 ) -> Option<Seats> {
-    let mut one = seat(rt, alloc, &office)?;
-    let mut two = seat(rt, alloc, &office)?;
-    if !call_all(rt, alloc, &office, &mut one, steps)
-        || !is_answered(rt, alloc, &office, &mut two, Step::Allocate)
-    {
-        return None;
+    match passes_of(rt, alloc, &office, first, others) {
+        Some((one, two)) => {
+            let (seen, other_seen) = (seen_by(alloc, &one), seen_by(alloc, &two));
+            let closed = closed(alloc, office, both(alloc, one, two));
+            Some((seen, other_seen, closed))
+        }
+        None => None,
     }
-    let (seen, receipts) = seen_and_received(&one);
-    let (others_seen, others) = seen_and_received(&two);
-    let length = length_at_close(office, both(alloc, one, two)?)?;
-    Some((seen, receipts, others_seen, others, length))
 }
 
 fn recorded(alloc: Global, config: Config) -> Option<RecordedCluster>
@@ -138,20 +143,28 @@ fn two_seats<L: ledger::Ledger, R: Wait>(
     alloc: Global,
     blank: Blank,
     config: Config,
-    steps: Vec<Step>,
+    first: Vec<Step>,
+    others: Vec<Step>,
 ) -> Option<Seats>
     requires name { blank.name ≡ L.name }
     requires parts { (blank.parts ≡ L.parts) × (blank.parts ≡ 4294967296) }
 {
     let desk = Desk::<_, L>::new(alloc, recorded(alloc, config)?, blank);
-    seats_of(rt, alloc, Office::new(desk), steps)
+    seats_of(rt, alloc, Office::new(desk), first, others)
 }
 
 #[test]
 fn two_seats_have_their_entries(rt: HostRuntime) -> Result<(), Fail> {
     let alloc = rt.alloc();
-    let (config, steps) = (one_agent(alloc)?, reports(alloc)?);
-    let seats = two_seats::<Brand, _>(&rt, alloc, Blank::new(1 << 32), config, steps);
-    assert!(rt; seats == Some((4, 3, 5, 1, 5)));
+    let (config, first) = (one_agent(alloc)?, reports(alloc)?);
+    let others = vec![in alloc; Step::Allocate]?;
+    let seats = two_seats::<Brand, _>(&rt, alloc, Blank::new(1 << 32), config, first, others);
+    let (one, two, closed) = seats.ok_or("a step is refused")?;
+    let (seen, numbers) = one.ok_or("memory")?;
+    assert!(rt; seen == 4 && numbers.as_slice() == [1, 2, 3].as_slice());
+    let (seen, numbers) = two.ok_or("memory")?;
+    assert!(rt; seen == 5 && numbers.as_slice() == [4].as_slice());
+    let (length, seats) = closed.ok_or("it doesn't close")?;
+    assert!(rt; length == 5 && seats.as_slice() == [1, 1, 1, 2].as_slice());
     Ok(())
 }
