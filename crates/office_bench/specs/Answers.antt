@@ -1,5 +1,5 @@
 -- How calls are answered.
-use Rattle.std.specs.Prelude.{◌≡◌, ◌-◌, Bool, true, false, nat_lt, if◌then◌else◌, List, [], ◌∷◌, length, slice_get, Option, Some, None, unwrap_or, ⊤}
+use Rattle.std.specs.Prelude.{◌≡◌, ◌-◌, ℕ, Bool, true, false, nat_lt, if◌then◌else◌, List, [], ◌∷◌, length, slice_get, Option, Some, None, ⊤}
 use Rattle.names_core.specs.Ids.{Numbered}
 use Rattle.mails.specs.declared.call.Call.{Call}
 use Rattle.mails.specs.declared.call.Call.TheVariants.{Subscribe, Teardown, Accept, Decline, Revive, Suppress, Kill, Acknowledge, Reconcile}
@@ -85,9 +85,14 @@ answered subscribes events verdicts.OutOfMemory = answers.Refused faults.MasterO
 abbrev pub answer_of : Bool → Entry → Answer
 answer_of subscribes e = answered subscribes e.outputs.events e.verdict
 
--- who waits for a stream's events is answered where one waits, and waits while the stream is open
+-- of a stream that was opened one event is taken where one waits, and who takes it waits while the stream is open. The Take of a stream that was never
+-- opened is refused at once
+abbrev pub turn_of : Option ℕ → Bool → Turn
+turn_of None is_open = turns.Answer
+turn_of (Some waiting) is_open = if nat_lt 0 waiting then turns.Answer else (if is_open then turns.Wait else turns.End)
+
 abbrev pub turn_on : Numbered → Cluster → Turn
-turn_on stream c = if nat_lt 0 (unwrap_or (waiting_in stream c) 0) then turns.Answer else (if is_open_in stream c then turns.Wait else turns.End)
+turn_on stream c = turn_of (waiting_in stream c) (is_open_in stream c)
 
 -- a call of the model opened one stream, and its last event stands on it
 abbrev pub EndsOnOpened : Doing → Type 0

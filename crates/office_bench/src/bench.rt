@@ -106,7 +106,9 @@ impl<'a, L: ledger::Ledger, R: Wait> SeatBench<'a, L, R> {
         Ok(answer_of(subscribes, &self.last().given.taken.entry))
     }
 
-    /// Waits until an event of a stream can be taken, and takes it. It says whether it did; otherwise no event comes.
+    /// Waits until an event of a stream can be taken, and takes it. It says whether it did; otherwise no event comes, since the stream is closed and
+    /// all its events were taken, or the office is finished. A bench has one word for an event that it can't give, want of memory, at which the
+    /// connection breaks off: each refusal is told so, that none passes for the end of a stream.
     fn wait(&mut self, stream: StreamId) -> Result<bool, AllocError>
         ensures taken { IfOk result (λ taken. MatchBool taken (Steps self.old (Take stream) self.new) (self.new ≡ self.old)) }
         ensures unchanged { OnErr result (self.new ≡ self.old) }

@@ -14,11 +14,8 @@ fn write_some(stream: &mut TcpStream, piece: &[u8]) -> Option<usize>
         match stream.write(piece) {
             Ok(0) => return None,
             Ok(count) => return Some(count),
-            Err(e) => {
-                if e.kind() != ErrorKind::Interrupted {
-                    return None;
-                }
-            }
+            Err(e) if e.kind() == ErrorKind::Interrupted => {}
+            Err(_) => return None,
         }
     }
     None

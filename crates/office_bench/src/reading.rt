@@ -63,18 +63,15 @@ pub(crate) fn taken_event(alloc: Global, entry: &Entry) -> Result<Event, AllocEr
     }
 }
 
-/// What who waits for a stream's events does.
+/// What who waits for a stream's events does. A stream that was never opened isn't waited for: its Take is refused.
 pub(crate) fn turn_on(recorded: &RecordedCluster, stream: StreamId) -> Turn
     ensures { result ≡ turn_on stream (state_of recorded.now.story) }
 {
     let cluster = recorded.cluster();
-    if cluster.waiting_on(stream).unwrap_or(0) > 0 {
-        return Turn::Answer;
-    }
-    if cluster.is_open(stream) {
-        Turn::Wait
-    } else {
-        Turn::End
+    match cluster.waiting_on(stream) {
+        Some(0) if cluster.is_open(stream) => Turn::Wait,
+        Some(0) => Turn::End,
+        _ => Turn::Answer,
     }
 }
 
