@@ -2,7 +2,7 @@
 
 use crate::client::{Client, expect, expect_last, send};
 use crate::requests::*;
-use crate::served::{Closed, served};
+use crate::served::{Closed, refuses_unopened, served};
 use cluster_core::Step;
 use event_json::write_event;
 use http_door::{Bench, BenchFault, NoGate, Sink, Source, serve_conn};
@@ -303,6 +303,14 @@ fn refuse<'x, L: ledger::Ledger + 'x, R: Wait + 'x>(
 fn no_seat_is_left(rt: HostRuntime) -> Result<(), Fail> {
     if refuse::<Brand, _>(&rt, rt.alloc())?.as_slice() != SEATS_SPENT.as_bytes() {
         return Err(Fail::new("another answer"));
+    }
+    Ok(())
+}
+
+#[test]
+fn a_stream_never_opened(rt: HostRuntime) -> Result<(), Fail> {
+    if !refuses_unopened::<Brand, _>(&rt, rt.alloc(), Blank::new(PARTS))? {
+        return Err(Fail::new("it isn't refused"));
     }
     Ok(())
 }

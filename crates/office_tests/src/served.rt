@@ -7,10 +7,11 @@ use crate::gate::Overlap;
 use crate::of_office_bench::{Script, play};
 use cluster_core::{Cluster, Entry, Step, StepCause, Verdict, fresh_agents_open, fresh_records};
 use desk_lock::{Desk, Office, Pass, Passes};
+use http_door::Bench;
 use http_workers::serve_all;
 use master_core::Config;
-use names_core::{AgentName, Run};
-use office_bench::{Seating, TcpArrivals};
+use names_core::{AgentName, Run, StreamId};
+use office_bench::{SeatBench, Seating, TcpArrivals};
 use post_rules::Queues;
 use quantity::Resources;
 use recorded_cluster::{Given, RecordedCluster};
@@ -230,4 +231,32 @@ pub fn served<
     let office = Office::new(desk);
     let left = serve(rt, alloc, &office, script)?;
     close(office, left)
+}
+
+/// Whether who waits on a stream that was never opened is refused: no step is taken, and the stream isn't told to have ended.
+fn is_refused<L: ledger::Ledger, R: Wait>(
+    rt: &R,
+    alloc: Global,
+    office: &Office<RecordedCluster, L>,
+) -> bool {
+    let Ok(pass) = office.open_seat(rt, alloc) else {
+        return false;
+    };
+    let mut bench = SeatBench::new(rt, alloc, office, pass);
+    let told = bench.next_events(StreamId::new(1, 9));
+    told.is_err() && bench.into_pass().receipts().is_empty()
+}
+
+/// The same at an office that opened no stream.
+pub fn refuses_unopened<L: ledger::Ledger, R: Wait>(
+    rt: &R,
+    alloc: Global,
+    blank: Blank,
+) -> Result<bool, Fail>
+    requires name { blank.name ≡ L.name }
+    requires parts { (blank.parts ≡ L.parts) × (blank.parts ≡ 4294967296) }
+{
+    let recorded = recorded(alloc, one_agent(alloc)?).ok_or("a cluster")?;
+    let office = Office::new(Desk::<_, L>::new(alloc, recorded, blank));
+    Ok(is_refused(rt, alloc, &office))
 }
