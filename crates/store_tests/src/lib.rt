@@ -5,3 +5,5 @@
 mod of_keep_store;
 #[cfg(test)]
 mod of_keep_store_file;
+#[cfg(test)]
+mod of_keep_store_stops;
