@@ -6,7 +6,7 @@ ghost use Rattle.recorded_cluster.specs.Recording.{IsSound};
 use crate::fault::ServingFault;
 use crate::staff::{Leaver, Pace, start_all};
 use cluster_core::Cluster;
-use desk_lock::{Desk, Office, Pass, Passes, SeatedHistory};
+use desk_lock::{Desk, Office, OfficeFault, Pass, Passes, SeatedHistory};
 use file_records::RecordFile;
 use http_door::NoGate;
 use http_workers::{HttpFault, serve_all};
@@ -20,6 +20,28 @@ use std::sync::{Wait, ledger};
 use std::thread;
 use std::thread::{JoinHandle, Scope, Threads};
 use std::time::Clock;
+
+/// Hands a pass in. Where memory is refused for it, the entries of its seat aren't accounted for.
+fn hand_in<L: ledger::Ledger>(
+    passes: &mut Passes<Given, L>,
+    pass: Pass<Given, L>,
+) -> Result<(), ServingFault> {
+    match passes.push(pass) {
+        Ok(()) => Ok(()),
+        Err(_) => Err(ServingFault::Office(OfficeFault::OutOfMemory)),
+    }
+}
+
+/// The first of two faults.
+fn first_fault(
+    one: Result<(), ServingFault>,
+    other: Result<(), ServingFault>,
+) -> Result<(), ServingFault> {
+    match one {
+        Ok(()) => other,
+        Err(fault) => Err(fault),
+    }
+}
 
 /// Serves the connections of a listener, each with a seat of its own, until no more come and all have ended. The passes of their seats are handed in.
 fn serve_connections<L: ledger::Ledger + Send + Sync, R: Threads + Wait + Clock + Sync>(
@@ -37,16 +59,16 @@ fn serve_connections<L: ledger::Ledger + Send + Sync, R: Threads + Wait + Clock 
     let mut arrivals = TcpArrivals::new(rt, alloc, office, pass, listener, connections);
     let (benches, fault) = serve_all(rt, alloc, &mut arrivals, &NoGate);
     let failed = arrivals.has_failed();
-    let _ = passes.push(arrivals.into_pass());
+    let mut handed = hand_in(passes, arrivals.into_pass());
     for bench in benches {
         if let Some(pass) = bench.into_pass() {
-            let _ = passes.push(pass);
+            handed = first_fault(handed, hand_in(passes, pass));
         }
     }
     match fault {
         Some(fault) => Err(ServingFault::Http(fault)),
         None if failed => Err(ServingFault::Listener),
-        None => Ok(()),
+        None => handed,
     }
 }
 
@@ -59,12 +81,11 @@ fn join_all<L: ledger::Ledger, R: Threads>(
     let mut ended = Ok(());
     for thread in threads {
         let Leaver { pass, fault } = thread.join(rt);
-        let _ = passes.push(pass);
-        if let Some((agent, fault)) = fault {
-            if ended.is_ok() {
-                ended = Err(ServingFault::Agent { agent, fault });
-            }
-        }
+        let left = match fault {
+            Some((agent, fault)) => Err(ServingFault::Agent { agent, fault }),
+            None => Ok(()),
+        };
+        ended = first_fault(ended, first_fault(left, hand_in(passes, pass)));
     }
     ended
 }
@@ -88,10 +109,7 @@ fn run<'s, E, L: ledger::Ledger + Send + Sync + 's, R: Threads + Wait + Clock + 
     };
     office.finish(rt);
     let ended = join_all(rt, threads, &mut passes);
-    match ended {
-        Ok(()) => (passes, served),
-        Err(fault) => (passes, Err(fault)),
-    }
+    (passes, first_fault(ended, served))
 }
 
 /// An office over a cluster, in a scope of threads.
