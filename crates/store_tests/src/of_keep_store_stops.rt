@@ -6,16 +6,12 @@ use listed::Listed;
 use mails::Durable;
 use names_core::AgentName;
 use quantity::Resources;
-use sqlite::{Connection, FileStore, Files, Options};
+use sqlite::{Alter, Connection, FileStore, Files, Options};
 use sqlite_disk::{Crash, Disk, Fuse, Memory};
 use std::alloc::Global;
 use std::test::Fail;
 
 type Disks = Files<Fuse<Memory>>;
-
-type StoppingConnection = Connection<FileStore<Fuse<Memory>>>;
-
-type StoppingKeeper = Keeper<FileStore<Fuse<Memory>>>;
 
 /// What two files hold.
 #[derive(Drop)]
@@ -90,7 +86,10 @@ fn options() -> Options {
     }
 }
 
-fn connected(alloc: Global, disks: Disks) -> Result<StoppingConnection, Disks> {
+fn connected<D: Disk + Drop>(
+    alloc: Global,
+    disks: Files<D>,
+) -> Result<Connection<FileStore<D>>, Files<D>> {
     if !disks.may_be_used() {
         return Err(disks);
     }
@@ -100,7 +99,9 @@ fn connected(alloc: Global, disks: Disks) -> Result<StoppingConnection, Disks> {
     }
 }
 
-fn adopted(conn: StoppingConnection) -> Result<StoppingKeeper, Disks> {
+fn adopted<D: Disk + Drop>(
+    conn: Connection<FileStore<D>>,
+) -> Result<Keeper<FileStore<D>>, Files<D>> {
     match Keeper::adopt(conn) {
         Ok(keeper) => Ok(keeper),
         Err((_, conn)) => Err(conn.into_store().close()),
@@ -108,11 +109,14 @@ fn adopted(conn: StoppingConnection) -> Result<StoppingKeeper, Disks> {
 }
 
 /// The keeper over these disks, or what is left of them.
-fn opened(alloc: Global, disks: Disks) -> Result<StoppingKeeper, Disks> {
+fn opened<D: Disk + Drop>(
+    alloc: Global,
+    disks: Files<D>,
+) -> Result<Keeper<FileStore<D>>, Files<D>> {
     adopted(connected(alloc, disks)?)
 }
 
-fn closed(keeper: StoppingKeeper) -> Disks {
+fn closed<D: Disk + Drop>(keeper: Keeper<FileStore<D>>) -> Files<D> {
     keeper.into_connection().into_store().close()
 }
 
@@ -127,11 +131,11 @@ fn record(alloc: Global, session: u32) -> Option<Durable> {
 }
 
 /// The session of the record that is kept.
-fn load(alloc: Global, keeper: &mut StoppingKeeper) -> Option<u32> {
+fn load<S: Alter>(alloc: Global, keeper: &mut Keeper<S>) -> Option<u32> {
     Some(keeper.load(alloc).ok()??.session)
 }
 
-fn save(alloc: Global, keeper: &mut StoppingKeeper, session: Option<u32>) -> bool {
+fn save<S: Alter>(alloc: Global, keeper: &mut Keeper<S>, session: Option<u32>) -> bool {
     match session.and_then(|session| record(alloc, session)) {
         Some(record) => keeper.save(alloc, &record).is_ok(),
         None => false,
@@ -139,7 +143,7 @@ fn save(alloc: Global, keeper: &mut StoppingKeeper, session: Option<u32>) -> boo
 }
 
 /// What the keeper answers to a load, to a save of this session, if there is one, and to a call for the next run.
-fn answers_of(alloc: Global, keeper: &mut StoppingKeeper, session: Option<u32>) -> Answers {
+fn answers_of<S: Alter>(alloc: Global, keeper: &mut Keeper<S>, session: Option<u32>) -> Answers {
     Answers {
         session: load(alloc, keeper),
         is_saved: save(alloc, keeper, session),
@@ -148,7 +152,11 @@ fn answers_of(alloc: Global, keeper: &mut StoppingKeeper, session: Option<u32>) 
 }
 
 /// What a keeper over these disks answers, and the disks behind it.
-fn visited(alloc: Global, disks: Disks, session: Option<u32>) -> (Answers, Disks) {
+fn visited<D: Disk + Drop>(
+    alloc: Global,
+    disks: Files<D>,
+    session: Option<u32>,
+) -> (Answers, Files<D>) {
     match opened(alloc, disks) {
         Ok(mut keeper) => {
             let answers = answers_of(alloc, &mut keeper, session);
@@ -220,7 +228,6 @@ fn stops(alloc: Global, is_journal: bool, is_lossy: bool) -> Result<u64, Fail> {
 fn a_journal_stops(rt: HostRuntime) -> Result<(), Fail> {
     let whole = stops(rt.alloc(), true, false)?;
     let lossy = stops(rt.alloc(), true, true)?;
-    println!(rt; "journal {whole} {lossy}")?;
     assert!(rt; whole > 0 && lossy > 0);
     Ok(())
 }
@@ -229,7 +236,6 @@ fn a_journal_stops(rt: HostRuntime) -> Result<(), Fail> {
 fn a_database_file_stops(rt: HostRuntime) -> Result<(), Fail> {
     let whole = stops(rt.alloc(), false, false)?;
     let lossy = stops(rt.alloc(), false, true)?;
-    println!(rt; "database {whole} {lossy}")?;
     assert!(rt; whole > 0 && lossy > 0);
     Ok(())
 }

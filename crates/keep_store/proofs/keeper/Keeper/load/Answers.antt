@@ -1,4 +1,4 @@
-use Rattle.std.proofs.Common.{rules, ◌≡◌, ◌∙◌, Some, option_map, string_bytes, ap}
+use Rattle.std.proofs.Common.{rules, ◌≡◌, ◌∙◌, option_map, string_bytes, ap}
 use Rattle.sqlite.specs.declared.types.Value.TheVariants.{Text}
 use Rattle.keep_store.specs.Kept.{shown_body}
 use Rattle.keep_store.specs.Tables.{values_of}
