@@ -4,9 +4,8 @@ use activities::Cabinet;
 use mail_copies::copy_record;
 use mails::Durable;
 use std::alloc::{AllocError, Global};
+use std::hint::spin_loop;
 use std::sync::atomic::{AtomicBool, Ordering};
-use std::thread;
-use std::time::{Clock, Duration};
 
 /// Which record a cabinet keeps after a save that failed.
 #[derive(Clone, Copy, Debug, Drop, PartialEq, Eq)]
@@ -71,34 +70,53 @@ impl Cabinet for Shelf {
     }
 }
 
-/// Waits for a flag, for 30 seconds at most, so that a test ends by itself.
-fn wait_for<R: Clock>(rt: &R, flag: &AtomicBool) -> bool {
-    for _ in 0..300_000u32 {
+/// Whether the save of each of two cabinets is open.
+#[derive(Drop)]
+pub struct Flags {
+    first: AtomicBool,
+    second: AtomicBool,
+}
+
+impl Flags {
+    pub fn new() -> Flags {
+        Flags {
+            first: AtomicBool::new(false),
+            second: AtomicBool::new(false),
+        }
+    }
+}
+
+/// Waits for a flag, for some seconds of turns at most.
+fn wait_for(flag: &AtomicBool) -> bool {
+    for _ in 0..u32::MAX {
         if flag.load(Ordering::SeqCst) {
             return true;
         }
-        thread::sleep(rt, Duration::from_micros(100));
+        spin_loop();
     }
     false
 }
 
-/// A cabinet that holds its saves behind the first so many until they are let go.
+/// A cabinet that holds its save until the other's is open, and then fails.
 #[derive(Drop)]
-pub struct Held<'a, R: Clock> {
-    pub rt: &'a R,
-    /// How many saves it doesn't hold.
-    pub before: u32,
-    /// Whether the others fail once they are let go.
-    pub fails: bool,
-    /// It says that a save is held.
-    pub holds: &'a AtomicBool,
-    /// It lets the saves go.
-    pub lets_go: &'a AtomicBool,
-    /// Whether the last save that was held was let go, and didn't go by itself.
-    pub was_let_go: bool,
+pub struct Held<'a> {
+    flags: &'a Flags,
+    is_first: bool,
+    /// Whether the two saves were open at once.
+    pub has_overlapped: bool,
 }
 
-impl<'a, R: Clock> Cabinet for Held<'a, R> {
+impl<'a> Held<'a> {
+    pub fn new(flags: &'a Flags, is_first: bool) -> Held<'a> {
+        Held {
+            flags,
+            is_first,
+            has_overlapped: false,
+        }
+    }
+}
+
+impl<'a> Cabinet for Held<'a> {
     ghost use Rattle.std.specs.Prelude.{true};
 
     type Fault = AllocError;
@@ -106,13 +124,15 @@ impl<'a, R: Clock> Cabinet for Held<'a, R> {
     ghost saved = { λ _ _. true };
 
     fn save(&mut self, _alloc: Global, _durable: &Durable) -> Result<(), AllocError> {
-        if self.before > 0 {
-            self.before -= 1;
-            return Ok(());
-        }
-        self.holds.store(true, Ordering::SeqCst);
-        self.was_let_go = wait_for(self.rt, self.lets_go);
-        if self.fails { Err(AllocError) } else { Ok(()) }
+        let Flags { first, second } = self.flags;
+        let (mine, other) = if self.is_first {
+            (first, second)
+        } else {
+            (second, first)
+        };
+        mine.store(true, Ordering::SeqCst);
+        self.has_overlapped = wait_for(other);
+        Err(AllocError)
     }
 
     fn reopen(&mut self, _alloc: Global) -> Result<Option<Durable>, AllocError> {

@@ -4,8 +4,6 @@
 #[cfg(test)]
 mod cabinets;
 #[cfg(test)]
-mod launches;
-#[cfg(test)]
 mod offices;
 #[cfg(test)]
 mod parts;

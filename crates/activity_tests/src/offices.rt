@@ -21,7 +21,7 @@ pub fn named(alloc: Global, name: &str) -> Result<AgentName, Fail> {
     Ok(AgentName::from_text(alloc, name)?)
 }
 
-pub fn cpus(alloc: Global, amount: u64) -> Result<Resources, Fail> {
+fn cpus(alloc: Global, amount: u64) -> Result<Resources, Fail> {
     let mut cpus = Resources::new(alloc);
     cpus.add(alloc, "cpus", amount)?;
     Ok(cpus)

@@ -5,50 +5,27 @@ ghost use Rattle.std.specs.Prelude.{◌≡◌, []};
 use crate::cabinets::{Held, Shelf};
 use crate::offices::seat;
 use activities::{ActivityFault, activity, ticker};
-use cluster_core::{Keep, Step, StepCause};
+use cluster_core::{Keep, Step};
 use desk_lock::{Office, Pass, Waited};
 use names_core::AgentName;
 use recorded_cluster::{Given, RecordedCluster};
 use std::alloc::{AllocError, Global};
-use std::sync::atomic::{AtomicBool, Ordering};
 use std::sync::{Wait, ledger};
-use std::test::Fail;
 use std::thread;
 use std::thread::Threads;
 use std::time::{Clock, Duration};
 
-/// What is done beside an agent.
-#[derive(Drop)]
-pub struct Plan<'a> {
-    /// The steps to take, each once the history has so many entries.
-    pub steps: Vec<(usize, Step)>,
-    /// What is set then.
-    pub done: &'a AtomicBool,
-    /// At so many entries the office is finished.
-    pub end: usize,
-}
-
-impl<'a> Plan<'a> {
-    pub fn without_steps(alloc: Global, done: &'a AtomicBool, end: usize) -> Plan<'a> {
-        Plan {
-            steps: Vec::new(alloc),
-            done,
-            end,
-        }
-    }
-}
-
 /// What a thread does.
 #[derive(Drop)]
-pub enum Part<'a, R: Clock> {
+pub enum Part<'a> {
     /// An agent whose tasks run for one second.
     Agent(AgentName, Shelf),
-    /// The same, some of whose saves are held.
-    Held(AgentName, Held<'a, R>),
+    /// An agent whose save waits for the other's.
+    Held(AgentName, Held<'a>),
     /// A ticker with a round each second.
     Ticker,
-    /// It follows a plan. Where the history hasn't as many entries within 20 seconds, it finishes the office at once.
-    Caller(Plan<'a>),
+    /// It finishes the office once the history has so many entries, and after 20 seconds at the latest.
+    Finisher(usize),
 }
 
 /// How a thread's part ended.
@@ -58,22 +35,20 @@ pub enum End {
     Finished,
     Damaged,
     Cabinet,
-    /// A save that was held was let go.
-    LetGo,
-    /// The history hasn't so many entries, or refuses a step of the plan.
+    /// The saves of two agents were open at once.
+    Overlapped,
+    /// The history hasn't so many entries.
     Late,
 }
 
 /// What a thread did.
 #[derive(Drop)]
 pub struct Played {
-    /// A letter for each of its steps: P, C and D for Prepare, Commit and Deliver, B and A for a stop before and after a draft's save, T and O for
-    /// a Tick and a round of offers, and S for Send.
+    /// A letter for each of its steps: P, C and D for Prepare, Commit and Deliver, B and A for a stop before and after a draft's save, and T and O
+    /// for a Tick and a round of offers.
     pub letters: Vec<u8>,
     /// The moments of its Ticks.
     pub moments: Vec<u32>,
-    /// The causes that it prepared.
-    pub causes: Vec<StepCause>,
     pub end: End,
 }
 
@@ -88,7 +63,6 @@ fn letter(step: &Step) -> u8 {
         },
         Step::Tick(_) => b'T',
         Step::Allocate => b'O',
-        Step::Send { .. } => b'S',
         _ => b'?',
     }
 }
@@ -98,22 +72,19 @@ fn played_from<L: ledger::Ledger>(
     pass: &Pass<Given, L>,
     end: End,
 ) -> Result<Played, AllocError> {
-    let mut played = Played {
-        letters: Vec::new(alloc),
-        moments: Vec::new(alloc),
-        causes: Vec::new(alloc),
-        end,
-    };
+    let (mut letters, mut moments) = (Vec::new(alloc), Vec::new(alloc));
     for receipt in pass.receipts() {
         let step = &receipt.given.taken.entry.step;
-        played.letters.push(letter(step))?;
-        match step {
-            Step::Tick(moment) => played.moments.push(*moment)?,
-            Step::Prepare { cause, .. } => played.causes.push(*cause)?,
-            _ => {}
+        letters.push(letter(step))?;
+        if let Step::Tick(moment) = step {
+            moments.push(*moment)?;
         }
     }
-    Ok(played)
+    Ok(Played {
+        letters,
+        moments,
+        end,
+    })
 }
 
 fn end_of(fault: Option<ActivityFault<AllocError>>) -> End {
@@ -160,47 +131,13 @@ fn wait_for_entries<L: ledger::Ledger, R: Wait + Clock>(
     false
 }
 
-/// Takes the steps of a plan, each once the history has so many entries, and tells whether all were taken in time.
-fn take_all<L: ledger::Ledger, R: Wait + Clock>(
-    rt: &R,
-    alloc: Global,
-    office: &Office<RecordedCluster, L>,
-    pass: &mut Pass<Given, L>,
-    steps: Vec<(usize, Step)>,
-) -> bool {
-    for (count, step) in steps {
-        if !wait_for_entries(rt, office, pass, count)
-            || office.call(rt, alloc, pass, step).is_err()
-        {
-            return false;
-        }
-    }
-    true
-}
-
-/// Follows a plan, and finishes the office.
-fn follow<L: ledger::Ledger, R: Wait + Clock>(
-    rt: &R,
-    alloc: Global,
-    office: &Office<RecordedCluster, L>,
-    pass: &mut Pass<Given, L>,
-    plan: Plan<'_>,
-) -> End {
-    let Plan { steps, done, end } = plan;
-    let taken = take_all(rt, alloc, office, pass, steps);
-    done.store(true, Ordering::SeqCst);
-    let in_time = taken && wait_for_entries(rt, office, pass, end);
-    office.finish(rt);
-    if in_time { End::Finished } else { End::Late }
-}
-
 /// Does a part from a seat, and says what it did.
 fn play_from<L: ledger::Ledger, R: Wait + Clock>(
     rt: &R,
     alloc: Global,
     office: &Office<RecordedCluster, L>,
-    mut pass: Pass<Given, L>,
-    part: Part<'_, R>,
+    pass: Pass<Given, L>,
+    part: Part<'_>,
 ) -> Result<Played, AllocError>
     requires { pass.receipts ≡ [] }
 {
@@ -211,8 +148,8 @@ fn play_from<L: ledger::Ledger, R: Wait + Clock>(
         }
         Part::Held(agent, mut held) => {
             let (pass, fault) = activity(rt, alloc, office, pass, &agent, &mut held, 1);
-            let end = if held.was_let_go {
-                End::LetGo
+            let end = if held.has_overlapped {
+                End::Overlapped
             } else {
                 end_of(fault)
             };
@@ -222,9 +159,10 @@ fn play_from<L: ledger::Ledger, R: Wait + Clock>(
             let pass = ticker(rt, alloc, office, pass, 1);
             played_from(alloc, &pass, End::Finished)
         }
-        Part::Caller(plan) => {
-            let end = follow(rt, alloc, office, &mut pass, plan);
-            played_from(alloc, &pass, end)
+        Part::Finisher(count) => {
+            let there = wait_for_entries(rt, office, &pass, count);
+            office.finish(rt);
+            played_from(alloc, &pass, if there { End::Finished } else { End::Late })
         }
     }
 }
@@ -234,7 +172,7 @@ pub fn play<L: ledger::Ledger, R: Wait + Clock>(
     rt: &R,
     alloc: Global,
     office: &Office<RecordedCluster, L>,
-    part: Part<'_, R>,
+    part: Part<'_>,
 ) -> Option<Played> {
     match seat(rt, alloc, office) {
         Some(pass) => play_from(rt, alloc, office, pass, part).ok(),
@@ -250,17 +188,12 @@ pub fn both<L: ledger::Ledger + Send + Sync, R: Threads + Wait + Clock + Sync>(
     rt: &R,
     alloc: Global,
     office: &Office<RecordedCluster, L>,
-    one: Part<'_, R>,
-    two: Part<'_, R>,
+    one: Part<'_>,
+    two: Part<'_>,
 ) -> (Option<Played>, Option<Played>) {
     thread::join(
         rt,
         || play(rt, alloc, office, one),
         || play(rt, alloc, office, two),
     )
-}
-
-/// What each of two threads did that both began.
-pub fn both_played(one: Option<Played>, two: Option<Played>) -> Result<(Played, Played), Fail> {
-    Ok((one.ok_or("a thread")?, two.ok_or("a thread")?))
 }

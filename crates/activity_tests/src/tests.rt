@@ -2,15 +2,14 @@
 
 ghost use Rattle.std.specs.Prelude.{◌≡◌};
 
-use crate::cabinets::{Held, Kept, Shelf};
+use crate::cabinets::{Flags, Held, Kept, Shelf};
 use crate::offices::{PARTS, named, office, seat};
-use crate::parts::{End, Part, Plan, Played, both, both_played, play};
+use crate::parts::{End, Part, Played, both, play};
 use cluster_core::Step;
 use desk_lock::{Office, Turn};
 use recorded_cluster::RecordedCluster;
 use std::alloc::Global;
 use std::marker::Brand;
-use std::sync::atomic::AtomicBool;
 use std::sync::ledger::Blank;
 use std::sync::{Wait, ledger};
 use std::test::*;
@@ -36,11 +35,9 @@ fn failed_save<L: ledger::Ledger + Send + Sync, R: Threads + Wait + Clock + Sync
     requires name { blank.name ≡ L.name }
     requires parts { (blank.parts ≡ L.parts) × (blank.parts ≡ 4294967296) }
 {
-    let done = AtomicBool::new(false);
     let part = Part::Agent(named(alloc, "a1")?, Shelf::new(Some(keeps)));
-    let plan = Part::Caller(Plan::without_steps(alloc, &done, count));
     let office: Office<RecordedCluster, L> = office(alloc, blank, &["a1"])?;
-    let (worked, finisher) = both(rt, alloc, &office, part, plan);
+    let (worked, finisher) = both(rt, alloc, &office, part, Part::Finisher(count));
     in_time(worked, finisher)
 }
 
@@ -67,7 +64,7 @@ fn the_new_record_stands(rt: HostRuntime) -> Result<(), Fail> {
     Ok(())
 }
 
-/// Two agents, each of which holds its save until the other's is open. Both saves fail then.
+/// Two agents, each of which holds its save until the other's is open.
 fn two_saves<L: ledger::Ledger + Send + Sync, R: Threads + Wait + Clock + Sync>(
     rt: &R,
     alloc: Global,
@@ -76,34 +73,18 @@ fn two_saves<L: ledger::Ledger + Send + Sync, R: Threads + Wait + Clock + Sync>(
     requires name { blank.name ≡ L.name }
     requires parts { (blank.parts ≡ L.parts) × (blank.parts ≡ 4294967296) }
 {
-    let (first, second) = (AtomicBool::new(false), AtomicBool::new(false));
-    let one = Held {
-        rt,
-        before: 0,
-        fails: true,
-        holds: &first,
-        lets_go: &second,
-        was_let_go: false,
-    };
-    let two = Held {
-        rt,
-        before: 0,
-        fails: true,
-        holds: &second,
-        lets_go: &first,
-        was_let_go: false,
-    };
-    let one = Part::Held(named(alloc, "a1")?, one);
-    let two = Part::Held(named(alloc, "a2")?, two);
+    let flags = Flags::new();
+    let one = Part::Held(named(alloc, "a1")?, Held::new(&flags, true));
+    let two = Part::Held(named(alloc, "a2")?, Held::new(&flags, false));
     let office: Office<RecordedCluster, L> = office(alloc, blank, &["a1", "a2"])?;
     let (one, two) = both(rt, alloc, &office, one, two);
-    both_played(one, two)
+    Ok((one.ok_or("a thread")?, two.ok_or("a thread")?))
 }
 
 #[test]
 fn two_saves_overlap(rt: HostRuntime) -> Result<(), Fail> {
     let (one, two) = two_saves::<Brand, _>(&rt, rt.alloc(), Blank::new(PARTS))?;
-    assert!(rt; one.end == End::LetGo && two.end == End::LetGo);
+    assert!(rt; one.end == End::Overlapped && two.end == End::Overlapped);
     assert!(rt;
         one.letters.as_slice() == b"P".as_slice() && two.letters.as_slice() == b"P".as_slice()
     );
@@ -119,10 +100,8 @@ fn rounds<L: ledger::Ledger + Send + Sync, R: Threads + Wait + Clock + Sync>(
     requires name { blank.name ≡ L.name }
     requires parts { (blank.parts ≡ L.parts) × (blank.parts ≡ 4294967296) }
 {
-    let done = AtomicBool::new(false);
-    let plan = Part::Caller(Plan::without_steps(alloc, &done, 4));
     let office: Office<RecordedCluster, L> = office(alloc, blank, &["a1"])?;
-    let (ticked, finisher) = both(rt, alloc, &office, Part::Ticker, plan);
+    let (ticked, finisher) = both(rt, alloc, &office, Part::Ticker, Part::Finisher(4));
     in_time(ticked, finisher)
 }
 

@@ -1,5 +1,0 @@
-use Rattle.activity_tests.proofs.launches.a_stop_in_a_save.Given as goal
-
--- the ledger of the blank that was just made
-abbrev pub ghosts-beside : goal.ghosts-beside
-ghosts-beside g a = record { name = a.blank.name; parts = a.blank.parts }
