@@ -84,6 +84,11 @@ impl Flags {
             second: AtomicBool::new(false),
         }
     }
+
+    /// Lets the save of the first cabinet go.
+    pub fn open_second(&self) {
+        self.second.store(true, Ordering::SeqCst);
+    }
 }
 
 /// Waits for a flag, for some seconds of turns at most.
@@ -97,20 +102,38 @@ fn wait_for(flag: &AtomicBool) -> bool {
     false
 }
 
-/// A cabinet that holds its save until the other's is open, and then fails.
+/// A cabinet that holds its saves until the other's is open.
 #[derive(Drop)]
 pub struct Held<'a> {
     flags: &'a Flags,
     is_first: bool,
-    /// Whether the two saves were open at once.
+    /// How many saves it doesn't hold, before all others.
+    passes: u32,
+    /// Whether a save fails that was held.
+    fails: bool,
+    /// Whether the last save that it held was open beside the other's.
     pub has_overlapped: bool,
 }
 
 impl<'a> Held<'a> {
+    /// It holds each save, which then fails.
     pub fn new(flags: &'a Flags, is_first: bool) -> Held<'a> {
         Held {
             flags,
             is_first,
+            passes: 0,
+            fails: true,
+            has_overlapped: false,
+        }
+    }
+
+    /// The first of the two, which holds no save before so many. Each succeeds.
+    pub fn behind(flags: &'a Flags, passes: u32) -> Held<'a> {
+        Held {
+            flags,
+            is_first: true,
+            passes,
+            fails: false,
             has_overlapped: false,
         }
     }
@@ -124,6 +147,10 @@ impl<'a> Cabinet for Held<'a> {
     ghost saved = { λ _ _. true };
 
     fn save(&mut self, _alloc: Global, _durable: &Durable) -> Result<(), AllocError> {
+        if self.passes > 0 {
+            self.passes -= 1;
+            return Ok(());
+        }
         let Flags { first, second } = self.flags;
         let (mine, other) = if self.is_first {
             (first, second)
@@ -132,7 +159,7 @@ impl<'a> Cabinet for Held<'a> {
         };
         mine.store(true, Ordering::SeqCst);
         self.has_overlapped = wait_for(other);
-        Err(AllocError)
+        if self.fails { Err(AllocError) } else { Ok(()) }
     }
 
     fn reopen(&mut self, _alloc: Global) -> Result<Option<Durable>, AllocError> {

@@ -4,6 +4,10 @@
 #[cfg(test)]
 mod cabinets;
 #[cfg(test)]
+mod launches;
+#[cfg(test)]
+mod launching;
+#[cfg(test)]
 mod offices;
 #[cfg(test)]
 mod parts;

@@ -3,7 +3,7 @@
 ghost use Rattle.std.specs.Prelude.{◌≡◌, [], IfSome};
 
 use cluster_core::{Cluster, fresh_agents_open, fresh_records};
-use desk_lock::{Desk, Office, Pass};
+use desk_lock::{Desk, Office, Pass, Waited};
 use master_core::Config;
 use names_core::{AgentName, Run};
 use post_rules::Queues;
@@ -13,6 +13,8 @@ use std::alloc::Global;
 use std::sync::ledger::Blank;
 use std::sync::{Wait, ledger};
 use std::test::Fail;
+use std::thread;
+use std::time::{Clock, Duration};
 
 /// One part for each seat, and one for the desk.
 pub const PARTS: u64 = 1 << 32;
@@ -72,4 +74,40 @@ pub fn seat<L: ledger::Ledger, R: Wait>(
     ensures { IfSome result (λ pass. pass.receipts ≡ []) }
 {
     office.open_seat(rt, alloc).ok()
+}
+
+/// Whether the history has so many entries, or the office is finished.
+fn has_entries<L: ledger::Ledger, R: Wait + Clock>(
+    rt: &R,
+    office: &Office<RecordedCluster, L>,
+    pass: &Pass<Given, L>,
+    count: usize,
+) -> bool {
+    let look = |recorded: &RecordedCluster| {
+        if recorded.cluster().entry_count() < count {
+            Ok(None)
+        } else {
+            Ok(Some(()))
+        }
+    };
+    match office.wait_for(rt, pass, 0, 0, look) {
+        Ok(Waited::Found(()) | Waited::Finished) => true,
+        _ => false,
+    }
+}
+
+/// Waits until the history has so many entries or the office is finished, for 20 seconds at most.
+pub fn wait_for_entries<L: ledger::Ledger, R: Wait + Clock>(
+    rt: &R,
+    office: &Office<RecordedCluster, L>,
+    pass: &Pass<Given, L>,
+    count: usize,
+) -> bool {
+    for _ in 0..200u32 {
+        if has_entries(rt, office, pass, count) {
+            return true;
+        }
+        thread::sleep(rt, Duration::from_millis(100));
+    }
+    false
 }

@@ -2,26 +2,33 @@
 
 ghost use Rattle.std.specs.Prelude.{◌≡◌, []};
 
-use crate::cabinets::{Held, Shelf};
-use crate::offices::seat;
+use crate::cabinets::{Flags, Held, Shelf};
+use crate::launching::{launch, stop};
+use crate::offices::{seat, wait_for_entries};
 use activities::{ActivityFault, activity, ticker};
-use cluster_core::{Keep, Step};
-use desk_lock::{Office, Pass, Waited};
-use names_core::AgentName;
+use cluster_core::{Keep, Step, StepCause};
+use desk_lock::{Office, Pass};
+use names_core::{AgentName, TaskState};
 use recorded_cluster::{Given, RecordedCluster};
 use std::alloc::{AllocError, Global};
 use std::sync::{Wait, ledger};
 use std::thread;
 use std::thread::Threads;
-use std::time::{Clock, Duration};
+use std::time::Clock;
 
 /// What a thread does.
 #[derive(Drop)]
 pub enum Part<'a> {
     /// An agent whose tasks run for one second.
     Agent(AgentName, Shelf),
-    /// An agent whose save waits for the other's.
+    /// An agent whose saves wait for the other's.
     Held(AgentName, Held<'a>),
+    /// A framework launches a task, the agent is stopped behind it if so, and the agent's saves are let go. It finishes the office as a finisher does.
+    Launcher {
+        flags: &'a Flags,
+        stops: bool,
+        end: usize,
+    },
     /// A ticker with a round each second.
     Ticker,
     /// It finishes the office once the history has so many entries, and after 20 seconds at the latest.
@@ -37,16 +44,19 @@ pub enum End {
     Cabinet,
     /// The saves of two agents were open at once.
     Overlapped,
-    /// The history hasn't so many entries.
+    /// The history hasn't so many entries, or a step was refused.
     Late,
 }
 
 /// What a thread did.
 #[derive(Drop)]
 pub struct Played {
-    /// A letter for each of its steps: P, C and D for Prepare, Commit and Deliver, B and A for a stop before and after a draft's save, and T and O
-    /// for a Tick and a round of offers.
+    /// A letter for each of its steps: P, C and D for Prepare, Commit and Deliver, B and A for a stop before and after a draft's save, T and O for
+    /// a Tick and a round of offers, and S for a call that is sent.
     pub letters: Vec<u8>,
+    /// A letter for each cause that it prepared: M for a mail, R and F for a task that runs and that has finished, A for what is sent again, and S
+    /// for a start.
+    pub causes: Vec<u8>,
     /// The moments of its Ticks.
     pub moments: Vec<u32>,
     pub end: End,
@@ -63,7 +73,19 @@ fn letter(step: &Step) -> u8 {
         },
         Step::Tick(_) => b'T',
         Step::Allocate => b'O',
+        Step::Send { .. } => b'S',
         _ => b'?',
+    }
+}
+
+fn cause_letter(cause: StepCause) -> u8 {
+    match cause {
+        StepCause::Mail(_) => b'M',
+        StepCause::Executor(_, TaskState::Running) => b'R',
+        StepCause::Executor(_, TaskState::Finished) => b'F',
+        StepCause::Executor(..) => b'?',
+        StepCause::Again => b'A',
+        StepCause::Start => b'S',
     }
 }
 
@@ -72,16 +94,20 @@ fn played_from<L: ledger::Ledger>(
     pass: &Pass<Given, L>,
     end: End,
 ) -> Result<Played, AllocError> {
-    let (mut letters, mut moments) = (Vec::new(alloc), Vec::new(alloc));
+    let (mut letters, mut causes) = (Vec::new(alloc), Vec::new(alloc));
+    let mut moments = Vec::new(alloc);
     for receipt in pass.receipts() {
         let step = &receipt.given.taken.entry.step;
         letters.push(letter(step))?;
-        if let Step::Tick(moment) = step {
-            moments.push(*moment)?;
+        match step {
+            Step::Tick(moment) => moments.push(*moment)?,
+            Step::Prepare { cause, .. } => causes.push(cause_letter(*cause))?,
+            _ => {}
         }
     }
     Ok(Played {
         letters,
+        causes,
         moments,
         end,
     })
@@ -95,40 +121,24 @@ fn end_of(fault: Option<ActivityFault<AllocError>>) -> End {
     }
 }
 
-/// Whether the history has so many entries, or the office is finished.
-fn has_entries<L: ledger::Ledger, R: Wait + Clock>(
+/// Launches a task and stops the agent if so, and finishes the office once the history has so many entries.
+fn lead<L: ledger::Ledger, R: Wait + Clock>(
     rt: &R,
+    alloc: Global,
     office: &Office<RecordedCluster, L>,
-    pass: &Pass<Given, L>,
+    pass: &mut Pass<Given, L>,
+    flags: &Flags,
+    stops: bool,
     count: usize,
-) -> bool {
-    let look = |recorded: &RecordedCluster| {
-        if recorded.cluster().entry_count() < count {
-            Ok(None)
-        } else {
-            Ok(Some(()))
-        }
-    };
-    match office.wait_for(rt, pass, 0, 0, look) {
-        Ok(Waited::Found(()) | Waited::Finished) => true,
-        _ => false,
+) -> End {
+    let mut there = launch(rt, alloc, office, pass).is_some();
+    if there && stops {
+        there = stop(rt, alloc, office, pass).is_some();
     }
-}
-
-/// Waits until the history has so many entries or the office is finished, for 20 seconds at most.
-fn wait_for_entries<L: ledger::Ledger, R: Wait + Clock>(
-    rt: &R,
-    office: &Office<RecordedCluster, L>,
-    pass: &Pass<Given, L>,
-    count: usize,
-) -> bool {
-    for _ in 0..200u32 {
-        if has_entries(rt, office, pass, count) {
-            return true;
-        }
-        thread::sleep(rt, Duration::from_millis(100));
-    }
-    false
+    flags.open_second();
+    there = there && wait_for_entries(rt, office, pass, count);
+    office.finish(rt);
+    if there { End::Finished } else { End::Late }
 }
 
 /// Does a part from a seat, and says what it did.
@@ -136,7 +146,7 @@ fn play_from<L: ledger::Ledger, R: Wait + Clock>(
     rt: &R,
     alloc: Global,
     office: &Office<RecordedCluster, L>,
-    pass: Pass<Given, L>,
+    mut pass: Pass<Given, L>,
     part: Part<'_>,
 ) -> Result<Played, AllocError>
     requires { pass.receipts ≡ [] }
@@ -158,6 +168,10 @@ fn play_from<L: ledger::Ledger, R: Wait + Clock>(
         Part::Ticker => {
             let pass = ticker(rt, alloc, office, pass, 1);
             played_from(alloc, &pass, End::Finished)
+        }
+        Part::Launcher { flags, stops, end } => {
+            let end = lead(rt, alloc, office, &mut pass, flags, stops, end);
+            played_from(alloc, &pass, end)
         }
         Part::Finisher(count) => {
             let there = wait_for_entries(rt, office, &pass, count);

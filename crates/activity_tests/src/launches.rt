@@ -1,0 +1,70 @@
+//! An agent that launches a task: what it tells of the task, and a stop while the draft of the launch is saved.
+
+ghost use Rattle.std.specs.Prelude.{◌≡◌};
+
+use crate::cabinets::{Flags, Held};
+use crate::offices::{PARTS, named, office};
+use crate::parts::{End, Part, Played, both};
+use desk_lock::Office;
+use recorded_cluster::RecordedCluster;
+use std::alloc::Global;
+use std::marker::Brand;
+use std::sync::ledger::Blank;
+use std::sync::{Wait, ledger};
+use std::test::*;
+use std::thread::Threads;
+use std::time::Clock;
+
+/// What an agent does that holds no save before so many, and what the framework does that launches a task there.
+fn launched<L: ledger::Ledger + Send + Sync, R: Threads + Wait + Clock + Sync>(
+    rt: &R,
+    alloc: Global,
+    blank: Blank,
+    passes: u32,
+    stops: bool,
+    end: usize,
+) -> Result<(Played, Played), Fail>
+    requires name { blank.name ≡ L.name }
+    requires parts { (blank.parts ≡ L.parts) × (blank.parts ≡ 4294967296) }
+{
+    let flags = Flags::new();
+    let one = Part::Held(named(alloc, "a1")?, Held::behind(&flags, passes));
+    let two = Part::Launcher {
+        flags: &flags,
+        stops,
+        end,
+    };
+    let office: Office<RecordedCluster, L> = office(alloc, blank, &["a1"])?;
+    let (one, two) = both(rt, alloc, &office, one, two);
+    Ok((one.ok_or("a thread")?, two.ok_or("a thread")?))
+}
+
+/// The agent hears the greeting and the launch, tells that the task runs, sends that again as long as nobody acknowledges it, and tells the end a second
+/// after it saw the task run, again behind what isn't acknowledged. Each of the six causes makes three entries, Prepare, Commit and Deliver, and the
+/// framework has five.
+#[test]
+fn what_is_unacknowledged_goes_first(rt: HostRuntime) -> Result<(), Fail> {
+    let (agent, framework) = launched::<Brand, _>(
+        &rt,
+        rt.alloc(),
+        Blank::new(PARTS),
+        u32::MAX,
+        false,
+        23,
+    )?;
+    assert!(rt; framework.end == End::Finished);
+    assert!(rt; agent.causes.as_slice().starts_with(b"MMRAAF"));
+    Ok(())
+}
+
+/// The agent is stopped while its second save is held, so its Commit is refused by C5: it stops, and starts. The two have all entries of the history, and
+/// nobody commits the launch's draft.
+#[test]
+fn a_stop_in_a_save(rt: HostRuntime) -> Result<(), Fail> {
+    let (agent, framework) = launched::<Brand, _>(&rt, rt.alloc(), Blank::new(PARTS), 1, true, 14)?;
+    assert!(rt; agent.end == End::Overlapped && framework.end == End::Finished);
+    assert!(rt; framework.letters.as_slice() == b"SDOSDB".as_slice());
+    assert!(rt; agent.letters.as_slice().starts_with(b"PCDPBPCD"));
+    assert!(rt; agent.causes.as_slice().starts_with(b"MMS"));
+    Ok(())
+}
