@@ -4,7 +4,7 @@
 ghost use Rattle.std.specs.Prelude.{◌≡◌, IfOk};
 ghost use Rattle.std.specs.Process.{exit_status};
 ghost use Rattle.clap.specs.Words.{kind_of};
-ghost use Rattle.mesos_node.specs.Statuses.{IsStatus, status_for, status_of_kind};
+ghost use Rattle.mesos_node.specs.Statuses.{IsStatus, status_for, status_of_fault, status_of_kind};
 
 mod serve;
 
@@ -13,7 +13,7 @@ use clap::error::ErrorKind;
 use command_line::{Action, ServeOptions, command_of};
 use device_io::put;
 use replays::replay;
-use serve::serve;
+use serve::{ServeFault, serve};
 use std::net::{Net, TcpListener, TcpStream};
 use std::process::ExitCode;
 use std::sync::Wait;
@@ -66,6 +66,14 @@ fn run_replay(rt: &HostRuntime) -> ExitCode
     status_of(rt, replay(rt.alloc(), &mut input, &mut output))
 }
 
+/// Tells why a cluster isn't served, or isn't any more.
+fn tell_fault(rt: &HostRuntime, fault: &ServeFault) -> ExitCode
+    ensures { exit_status result ≡ status_of_fault fault.now }
+{
+    let _ = eprintln!(rt; "{fault}");
+    ExitCode::from(if fault.is_refusal() { REFUSED } else { FAILED })
+}
+
 /// Serves a cluster, and writes the table at its end.
 fn run_serve<R: Net<Listener = TcpListener, Stream = TcpStream> + Threads + Wait + Clock + Sync>(
     rt: &HostRuntime,
@@ -82,10 +90,7 @@ fn run_serve<R: Net<Listener = TcpListener, Stream = TcpStream> + Threads + Wait
                 ExitCode::from(FAILED)
             }
         },
-        Err(fault) => {
-            let _ = eprintln!(rt; "{fault}");
-            ExitCode::from(if fault.is_refusal() { REFUSED } else { FAILED })
-        }
+        Err(fault) => tell_fault(rt, &fault),
     }
 }
 

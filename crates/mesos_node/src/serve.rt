@@ -1,8 +1,10 @@
 //! The command `serve`: a cluster that runs over a folder of records.
 
-ghost use Rattle.std.specs.Prelude.{◌≡◌, map};
+ghost use Rattle.std.specs.Prelude.{◌≡◌, map, MatchOption};
 ghost use Rattle.cluster_laws.specs.Parts.{configured};
 ghost use Rattle.cluster_model.specs.Openings.{GoodOpening};
+ghost use Rattle.mesos_node.specs.Agents.{IsLine, IsNoLine, Says};
+ghost use Rattle.mesos_node.specs.Statuses.{is_refusal};
 
 use agent_sides::Config;
 use cluster_core::Cluster;
@@ -11,7 +13,7 @@ use file_records::{Folder, FolderFault, open_folder};
 use post_rules::Queues;
 use replays::end_table;
 use serving::{Pace, ServingFault, serve_cluster};
-use std::alloc::AllocError;
+use std::alloc::{AllocError, Global};
 use std::marker::Brand;
 use std::net::{Net, TcpListener, TcpStream};
 use std::sync::Wait;
@@ -47,7 +49,9 @@ pub enum ServeFault {
 
 impl ServeFault {
     /// Whether the input is refused, and no store, port, thread or memory failed.
-    pub fn is_refusal(&self) -> bool {
+    pub fn is_refusal(&self) -> bool
+        ensures { result ≡ is_refusal self.now }
+    {
         match self {
             ServeFault::Lines | ServeFault::Config => true,
             ServeFault::Folder(FolderFault::TotalDiffers { .. }) => true,
@@ -88,10 +92,12 @@ impl fmt::Display for ServeFault {
 }
 
 /// The text of one line, whose end may lack.
-fn only_line(text: &[u8]) -> Option<&[u8]> {
-    let line = match text.strip_suffix(b"\n") {
-        Some(line) => line,
-        None => text,
+fn only_line(text: &[u8]) -> Option<&[u8]>
+    ensures { MatchOption result (IsNoLine text.now) (λ line. IsLine text.now line.now) }
+{
+    let line = match text.split_last() {
+        Some((b'\n', line)) => line,
+        _ => text,
     };
     if line.contains(&b'\n') {
         return None;
@@ -99,19 +105,25 @@ fn only_line(text: &[u8]) -> Option<&[u8]> {
     Some(line)
 }
 
-/// The agents that a file says.
-fn read_agents(rt: &HostRuntime, path: &str) -> Result<Config, ServeFault> {
-    let text = match fs::read(rt, path) {
-        Ok(text) => text,
-        Err(error) => return Err(ServeFault::File(error)),
-    };
-    let Some(line) = only_line(text.as_slice()) else {
+/// The agents that a text says.
+fn agents_in(alloc: Global, text: &[u8]) -> Result<Config, ServeFault>
+    ensures { Says text.now result }
+{
+    let Some(line) = only_line(text) else {
         return Err(ServeFault::Lines);
     };
-    match read_config(rt.alloc(), line) {
+    match read_config(alloc, line) {
         Ok(config) => Ok(config),
         Err(LineFault::OutOfMemory) => Err(ServeFault::Memory),
         Err(LineFault::Refused(_)) => Err(ServeFault::Config),
+    }
+}
+
+/// The agents that a file says.
+fn read_agents(rt: &HostRuntime, path: &str) -> Result<Config, ServeFault> {
+    match fs::read(rt, path) {
+        Ok(text) => agents_in(rt.alloc(), text.as_slice()),
+        Err(error) => Err(ServeFault::File(error)),
     }
 }
 

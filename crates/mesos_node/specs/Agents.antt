@@ -1,0 +1,28 @@
+-- What the file of the agents says.
+use Rattle.std.specs.Prelude.{◌≡◌, ◌⊎◌, ◌++◌, ◌==◌, ℕ, List, [], ◌∷◌, false, Result, Ok, Err, ⊤}
+use Rattle.std.specs.List.{list_any}
+use Rattle.agent_sides.specs.declared.config.ConfiguredAgent.{ConfiguredAgent}
+use Rattle.step_lines.specs.Configs.{read_config}
+use Rattle.step_lines.specs.declared.fault.LineRefusal.{LineRefusal}
+use Rattle.mesos_node.specs.declared.serve.ServeFault.{ServeFault}
+use Rattle.mesos_node.specs.declared.serve.ServeFault.TheVariants.{Lines, Config, Memory}
+
+-- the text is this one line, whose line feed may lack
+abbrev pub IsLine : List ℕ → List ℕ → Type 0
+IsLine text line = ((text ≡ line) ⊎ (text ≡ line ++ 10 ∷ [])) × (list_any (λ b. b == 10) line ≡ false)
+
+-- no line is the text's only one
+abbrev pub IsNoLine : List ℕ → Type 0
+IsNoLine text = (line : List ℕ) → IsLine text line → ⊥
+
+-- the text is one line, which the replayer reads so
+abbrev pub ReadsAs : List ℕ → Result (List ConfiguredAgent) LineRefusal → Type 0
+ReadsAs text due = (line : List ℕ) × IsLine text line × (read_config line ≡ due)
+
+-- what is said of a text: the agents that its one line configures, or that it isn't one line, or that its line is no configuration
+abbrev pub Says : List ℕ → Result (List ConfiguredAgent) ServeFault → Type 0
+Says text (Ok agents) = ReadsAs text (Ok agents)
+Says text (Err Lines) = IsNoLine text
+Says text (Err Config) = (refusal : LineRefusal) × ReadsAs text (Err refusal)
+Says text (Err Memory) = ⊤
+Says text (Err f) = ⊥
