@@ -7,7 +7,6 @@ mod causes;
 mod commits;
 mod delivering;
 mod doings;
-mod event_copies;
 mod items;
 mod laws;
 mod master_laws;

@@ -19,11 +19,10 @@ ghost use Rattle.names_core.specs.Ids.{Numbered};
 ghost use Rattle.told_streams.specs.Kept.{kept_streams};
 ghost use Rattle.told_streams.specs.Streams.{next_on, taken};
 
-use crate::event_copies::copy_event;
 use crate::items::Items;
 use crate::masters::{Made, sending_twice};
 use cluster_laws::{Item, sent_items_stand, streams_rise};
-use cluster_steps::{ClusterFault, Outputs, Sent, Verdict};
+use cluster_steps::{ClusterFault, Outputs, Sent, Verdict, copy_event};
 use event_json::Event;
 use listed::Listed;
 use mails::Call as SentCall;

@@ -56,7 +56,8 @@ fn copy_status(alloc: Global, status: &TaskStatus) -> Result<TaskStatus, AllocEr
     })
 }
 
-fn copy_event(alloc: Global, event: &Event) -> Result<Event, AllocError>
+/// A copy of an event.
+pub fn copy_event(alloc: Global, event: &Event) -> Result<Event, AllocError>
     ensures { IfOk result (λ copy. copy ≡ event.now) }
 {
     match event {

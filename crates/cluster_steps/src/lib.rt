@@ -8,6 +8,6 @@ mod fault;
 mod step;
 
 pub use entry::{Entry, Outputs, Sent, Verdict};
-pub use events::copy_stream_event;
+pub use events::{copy_event, copy_stream_event};
 pub use fault::ClusterFault;
 pub use step::{Keep, Step, StepCause};
