@@ -4,9 +4,9 @@
 #[cfg(test)]
 mod cabinets;
 #[cfg(test)]
-mod launches;
+mod framework;
 #[cfg(test)]
-mod launching;
+mod launches;
 #[cfg(test)]
 mod offices;
 #[cfg(test)]

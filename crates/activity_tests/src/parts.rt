@@ -3,7 +3,7 @@
 ghost use Rattle.std.specs.Prelude.{◌≡◌, []};
 
 use crate::cabinets::{Flags, Held, Shelf};
-use crate::launching::{launch, stop};
+use crate::framework::{launch, stop};
 use crate::offices::{seat, wait_for_entries};
 use activities::{ActivityFault, activity, ticker};
 use cluster_core::{Keep, Step, StepCause};
