@@ -5,7 +5,7 @@ use listed::Listed;
 use mails::Durable;
 use names_core::AgentName;
 use quantity::Resources;
-use sqlite::{Connection, FileFrom, FileStore, Unknown};
+use sqlite::{Alter, Connection, FileFrom, FileStore, Unknown};
 use std::alloc::Global;
 use std::fs;
 use std::test::Fail;
@@ -25,33 +25,63 @@ fn record(alloc: Global, session: u32) -> Result<Durable, Fail> {
     })
 }
 
+/// What a look at something gives that was opened and is dropped behind the look.
+fn seen<K: Drop, T, F: FnOnce(&mut K) -> T>(mut opened: K, look: F) -> T
+    requires { F.IsAlwaysCallable look }
+{
+    look(&mut opened)
+}
+
+/// Something that was opened, once it is filled.
+fn filled<K: Drop, F: FnOnce(&mut K) -> Result<(), Fail>>(mut opened: K, fill: F) -> Result<K, Fail>
+    requires { F.IsAlwaysCallable fill }
+{
+    fill(&mut opened)?;
+    Ok(opened)
+}
+
+/// Run 1 is given out, and a record of this session is saved.
+fn fill<S: Alter>(alloc: Global, keeper: &mut Keeper<S>, session: u32) -> Result<(), Fail> {
+    let record = record(alloc, session)?;
+    keeper.next_run().ok().ok_or("run")?;
+    keeper.save(alloc, &record).ok().ok_or("save")?;
+    Ok(())
+}
+
+/// The session of the record that a keeper has, None where it has none.
+fn session_in<S: Alter>(alloc: Global, keeper: &mut Keeper<S>) -> Result<Option<u32>, KeepFault> {
+    Ok(keeper.load(alloc)?.map(|record| record.session))
+}
+
 /// A file in which run 1 was given out and a record of this session is kept, without a journal that says more.
 fn make(rt: &HostRuntime, path: &str, session: u32) -> Result<(), Fail> {
-    let record = record(rt.alloc(), session)?;
-    let mut keeper = FileKeeper::open(rt, path).ok().ok_or("open")?;
-    keeper.next_run().ok().ok_or("run")?;
-    keeper.save(rt.alloc(), &record).ok().ok_or("save")?;
-    keeper.into_connection().close()?;
+    let opened = FileKeeper::open(rt, path).ok().ok_or("open")?;
+    filled(opened, |keeper| fill(rt.alloc(), keeper, session))?
+        .into_connection()
+        .close()?;
     Ok(())
 }
 
 /// A file that another program made by these statements.
 fn make_other(rt: &HostRuntime, path: &str, statements: &str) -> Result<(), Fail> {
-    let mut conn = Connection::open(rt, path)?;
-    conn.execute_batch(statements)?;
-    conn.close()?;
+    filled(
+        Connection::open(rt, path)?,
+        |conn| Ok(conn.execute_batch(statements)?),
+    )?
+    .close()?;
     Ok(())
 }
 
 /// The session of the record that is kept, None where none is.
 fn load(rt: &HostRuntime, path: &str) -> Result<Option<u32>, KeepFault> {
-    let mut keeper = FileKeeper::open(rt, path)?;
-    let found = keeper.load(rt.alloc())?;
-    Ok(found.map(|record| record.session))
+    seen(
+        FileKeeper::open(rt, path)?,
+        |keeper| session_in(rt.alloc(), keeper),
+    )
 }
 
 fn next(rt: &HostRuntime, path: &str) -> Result<u32, KeepFault> {
-    FileKeeper::open(rt, path)?.next_run()
+    seen(FileKeeper::open(rt, path)?, |keeper| keeper.next_run())
 }
 
 /// The session that is kept, and the next run.
