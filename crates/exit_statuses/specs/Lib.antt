@@ -1,2 +1,1 @@
-pub mod Agents
 pub mod Statuses

@@ -4,8 +4,8 @@ use Rattle.std.specs.List.{list_any}
 use Rattle.agent_sides.specs.declared.config.ConfiguredAgent.{ConfiguredAgent}
 use Rattle.step_lines.specs.Configs.{read_config}
 use Rattle.step_lines.specs.declared.fault.LineRefusal.{LineRefusal}
-use Rattle.mesos_node.specs.declared.serve.ServeFault.{ServeFault}
-use Rattle.mesos_node.specs.declared.serve.ServeFault.TheVariants.{Lines, Config, Memory}
+use Rattle.agents_file.specs.declared.fault.AgentsFault.{AgentsFault}
+use Rattle.agents_file.specs.declared.fault.AgentsFault.TheVariants.{File, Lines, Config, Memory}
 
 -- the text is this one line, whose line feed may lack
 abbrev pub IsLine : List ℕ → List ℕ → Type 0
@@ -20,9 +20,14 @@ abbrev pub ReadsAs : List ℕ → Result (List ConfiguredAgent) LineRefusal → 
 ReadsAs text due = (line : List ℕ) × IsLine text line × (read_config line ≡ due)
 
 -- what is said of a text: the agents that its one line configures, or that it isn't one line, or that its line is no configuration
-abbrev pub Says : List ℕ → Result (List ConfiguredAgent) ServeFault → Type 0
+abbrev pub Says : List ℕ → Result (List ConfiguredAgent) AgentsFault → Type 0
 Says text (Ok agents) = ReadsAs text (Ok agents)
 Says text (Err Lines) = IsNoLine text
 Says text (Err Config) = (refusal : LineRefusal) × ReadsAs text (Err refusal)
 Says text (Err Memory) = ⊤
 Says text (Err f) = ⊥
+
+-- what is said of a file: what is said of some text, or that the file can't be read
+abbrev pub IsRead : Result (List ConfiguredAgent) AgentsFault → Type 0
+IsRead (Err (File error)) = ⊤
+IsRead due = (text : List ℕ) × Says text due

@@ -1,0 +1,50 @@
+//! The agents that a text says, and a file.
+
+ghost use Rattle.std.specs.Prelude.{MatchOption};
+ghost use Rattle.agents_file.specs.Agents.{IsLine, IsNoLine, IsRead, Says};
+
+use crate::fault::AgentsFault;
+use agent_sides::Config;
+use std::alloc::Global;
+use std::fs;
+use step_lines::{LineFault, read_config};
+
+/// The text of one line, whose end may lack.
+fn only_line(text: &[u8]) -> Option<&[u8]>
+    ensures { MatchOption result (IsNoLine text.now) (λ line. IsLine text.now line.now) }
+{
+    let line = match text.split_last() {
+        Some((b'\n', line)) => line,
+        _ => text,
+    };
+    if line.contains(&b'\n') {
+        return None;
+    }
+    Some(line)
+}
+
+/// The agents that a text says: one line, whose line feed may lack, and which is a configuration as the replayer reads it, with 1 to 256 agents.
+/// `X3 BadConfig` where it isn't one line, and where its line is no configuration; `C9 OutOfMemory` may come before that is known.
+pub fn agents_in(alloc: Global, text: &[u8]) -> Result<Config, AgentsFault>
+    ensures { Says text.now result }
+{
+    let Some(line) = only_line(text) else {
+        return Err(AgentsFault::Lines);
+    };
+    match read_config(alloc, line) {
+        Ok(config) => Ok(config),
+        Err(LineFault::OutOfMemory) => Err(AgentsFault::Memory),
+        Err(LineFault::Refused(_)) => Err(AgentsFault::Config),
+    }
+}
+
+/// The agents that the text of the file at this path says (see `agents_in`); `Z2 DeviceFault` where the file can't be read. Which text a file has no
+/// clause says.
+pub fn read_agents(rt: &HostRuntime, path: &str) -> Result<Config, AgentsFault>
+    ensures { IsRead result }
+{
+    match fs::read(rt, path) {
+        Ok(text) => agents_in(rt.alloc(), text.as_slice()),
+        Err(error) => Err(AgentsFault::File(error)),
+    }
+}
