@@ -78,8 +78,8 @@ class Server:
         words = [PROGRAM, "serve", "--port", str(self.port), "--agents", folder.agents, "--state", folder.state, *options]
         # It ignores SIGXFSZ, as Python does: a write past the limit of a file's size fails, and doesn't end it.
         self.process = subprocess.Popen(words, stdout=subprocess.PIPE, stderr=subprocess.PIPE, stdin=subprocess.DEVNULL, restore_signals=False)
-        said = self.process.stderr.readline().decode()
-        check("serves at" in said, f"serve says: {said.strip()}")
+        self.said = self.process.stderr.readline().decode().strip()
+        check("serves at" in self.said, f"serve says: {self.said}")
 
     def kill(self):
         self.process.send_signal(signal.SIGKILL)
