@@ -3,7 +3,7 @@
 
 What is written must be a beginning of what is due, the status 3 where something is lacking, and the message must tell of memory: of `replay` with the
 number of the line. In one run at least an agent must fall, and be down until it is stopped. A C compiler is asked for. It prints what it checked, and
-ends within a minute. PROGRAM=.. and TESTS=.. name other programs than crates/mesos_node/out/mesos_node and crates/cluster_tests/out/cluster_tests_tests.
+ends within two minutes. PROGRAM=.. and TESTS=.. name other programs than crates/mesos_node/out/mesos_node and crates/cluster_tests/out/cluster_tests_tests.
 """
 
 import os
@@ -88,7 +88,8 @@ def main():
         subprocess.run([compiler, "-O1", "-shared", "-fPIC", "-o", shim, f"{HERE}/refuse.c", "-ldl"], check=True)
         sweep_command(shim, "calls", "calls_subscribe")
         sweep_command(shim, "replay", "first_offer")
-        sweep_command(shim, "replay", "a_launch")
+        for name in ("a_launch", "torn_down", "mails_of_other_sessions"):
+            sweep_command(shim, "replay", name)
         sweep_fall(shim)
 
 

@@ -5,17 +5,17 @@ ghost use Rattle.activities.specs.Saved.{IsLastDraft, IsLastSaved, Keeps};
 ghost use Rattle.activities.specs.declared.keeping.Saving.TheVariants.{Kept};
 ghost use Rattle.cluster_steps.specs.declared.step.Keep.TheVariants.{After};
 
-use crate::cabinet::Cabinet;
 use crate::fault::{ActivityFault, Stop, stop_of};
 use crate::receipts::{has_stopped, last_draft};
 use crate::records::is_own;
 use crate::worker::Worker;
+use agent_core::Cabinet;
 use cluster_core::{ClusterFault, Keep, StepCause};
 use desk_lock::{Pass, Waited};
 use mails::Durable;
 use names_core::AgentName;
+use plain_data::Plain;
 use recorded_cluster::{Given, RecordedCluster, agent_group};
-use same_entries::Same;
 use std::sync::{Wait, ledger};
 use std::time::Clock;
 

@@ -1,7 +1,6 @@
 //! What keeps an agent going in a thread of its own, and what lets the master's time pass.
 #![tactic(auto)]
 
-mod cabinet;
 mod executor;
 mod fault;
 mod keeping;
@@ -11,7 +10,7 @@ mod ticks;
 mod turns;
 mod worker;
 
-pub use cabinet::Cabinet;
+pub use agent_core::Cabinet;
 pub use fault::ActivityFault;
 pub use ticks::ticker;
 pub use turns::activity;

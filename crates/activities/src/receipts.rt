@@ -7,8 +7,8 @@ use cluster_core::Step;
 use desk_lock::{Pass, Receipt};
 use mails::Durable;
 use names_core::AgentName;
+use plain_data::Plain;
 use recorded_cluster::Given;
-use same_entries::Same;
 use std::sync::ledger;
 
 /// The record of the draft that a receipt's step opened, where the step is a Prepare of the agent.

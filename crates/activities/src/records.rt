@@ -1,7 +1,7 @@
 //! Which record a cabinet kept.
 
 use mails::Durable;
-use same_entries::Same;
+use plain_data::Plain;
 
 /// Whether a record is that of an agent that never opened a session.
 fn is_fresh(durable: &Durable) -> bool {

@@ -2,10 +2,10 @@
 
 ghost use Rattle.activities.specs.Saved.{CommitsSaved, IsGrown, Keeps};
 
-use crate::cabinet::Cabinet;
 use crate::executor::{Executors, Sight, sights_of};
 use crate::fault::{ActivityFault, Stop, stop_of};
 use crate::worker::Worker;
+use agent_core::Cabinet;
 use cluster_core::{ClusterFault, StepCause};
 use desk_lock::{Office, Pass, Waited};
 use names_core::AgentName;

@@ -8,6 +8,7 @@ use crate::fault::{Stop, stop_of};
 use cluster_core::{ClusterFault, Keep, Step, StepCause};
 use desk_lock::{Office, OfficeFault, Pass, Waited};
 use names_core::AgentName;
+use plain_data::Plain;
 use recorded_cluster::{Given, RecordedCluster, agent_group};
 use std::alloc::Global;
 use std::sync::{Wait, ledger};
@@ -35,7 +36,7 @@ impl<'a, L: ledger::Ledger, R: Wait + Clock> Worker<'a, L, R> {
     fn name<F>(&self) -> Result<AgentName, Stop<F>>
         ensures { IfOk result (λ name. name ≡ self.now.agent.now) }
     {
-        match self.agent.copy(self.alloc) {
+        match self.agent.copy() {
             Ok(name) => Ok(name),
             Err(_) => Err(Stop::Later),
         }

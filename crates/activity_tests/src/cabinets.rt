@@ -1,8 +1,8 @@
 //! Cabinets in memory.
 
 use activities::Cabinet;
-use mail_copies::copy_record;
 use mails::Durable;
+use plain_data::Plain;
 use std::alloc::{AllocError, Global};
 use std::hint::spin_loop;
 use std::sync::atomic::{AtomicBool, Ordering};
@@ -46,12 +46,12 @@ impl Cabinet for Shelf {
 
     ghost saved = { λ _ _. true };
 
-    fn save(&mut self, alloc: Global, durable: &Durable) -> Result<(), AllocError> {
+    fn save(&mut self, _alloc: Global, durable: &Durable) -> Result<(), AllocError> {
         self.saves = self.saves.saturating_add(1);
         if self.saves > 1 || self.keeps.is_none() {
             return Ok(());
         }
-        self.lost = Some(copy_record(alloc, durable)?);
+        self.lost = Some(durable.copy()?);
         Err(AllocError)
     }
 

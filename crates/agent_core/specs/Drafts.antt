@@ -20,11 +20,11 @@ use Rattle.agent_core.specs.declared.fault.AgentFault.TheVariants.{Refused, Stal
 use Rattle.agent_core.specs.declared.state.State.{State}
 
 abbrev pub agent_of : State → Agent
-agent_of s = record { durable = s.durable; in_session = s.in_session; applied = s.applied }
+agent_of s = record { durable = s.durable; in_session = s.in_session; applied = s.link }
 
 -- with no tasks
 abbrev pub without_tasks : State → Agent
-without_tasks s = with_tasks (agent_of s) [] s.applied
+without_tasks s = with_tasks (agent_of s) [] s.link
 
 abbrev pub next_draft : Next → Draft
 next_draft n = record { after = agent_of n.after; mails = n.mails.items }

@@ -11,6 +11,7 @@ use crate::state::State;
 use mails::{AgentMail, Cause, Durable};
 use std::alloc::Global;
 use std::marker::Model;
+use stream_core::LinkIn;
 
 /// An agent that runs over its record. It changes by a commit alone.
 #[derive(Drop)]
@@ -36,7 +37,7 @@ impl Agent {
             state: State {
                 durable,
                 in_session: false,
-                applied: 0,
+                link: LinkIn::new(),
             },
         }
     }
@@ -48,19 +49,12 @@ impl Agent {
         &self.state.durable
     }
 
-    /// The record of an agent that stops. It takes no memory.
-    pub fn into_durable(self) -> Durable
-        ensures { result ≡ self.durable }
-    {
-        self.state.durable
-    }
-
     /// Stops, and comes up again over its record, with no open session. It takes no memory.
     pub fn stop(&mut self)
         ensures { self.new ≡ recovered self.old }
     {
         self.state.in_session = false;
-        self.state.applied = 0;
+        self.state.link = LinkIn::new();
     }
 
     /// Stops once a draft's record was saved, and comes up again over that, with no open session. It takes no memory.

@@ -90,7 +90,7 @@ impl State {
         ensures { IfOk result (λ n. next_draft n ≡ after_state (agent_of self.now) key state) }
     {
         let tasks = stated_all(alloc, key, state, self.tasks())?;
-        let after = self.with_tasks(alloc, tasks, self.applied)?;
+        let after = self.with_tasks(alloc, tasks, self.link)?;
         let mut mails = Vec::new(alloc);
         if self.in_session {
             push_fronts_at(&mut mails, self.durable.session, key, after.tasks())?;
@@ -136,7 +136,7 @@ impl State {
                 self.in_session
                     && *session == self.durable.session
                     && *number > 0
-                    && *number - 1 == self.applied
+                    && *number - 1 == self.link.count()
                     && self.launches_again(command)
             }
         }

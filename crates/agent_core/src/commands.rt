@@ -1,6 +1,6 @@
 //! What an agent prepares at a command.
 
-ghost use Rattle.std.specs.Prelude.{◌≡◌, ◌<◌, ◌^◌, ◌-◌, Ok, IfOk};
+ghost use Rattle.std.specs.Prelude.{◌≡◌, Ok, IfOk, suc};
 ghost use Rattle.cluster_model.specs.Agents.{has_room, hears_command, applies, tasks_after};
 ghost use Rattle.mails.specs.declared.mail.Command.TheVariants.{Launch};
 ghost use Rattle.agent_core.specs.Drafts.{agent_of, applied_with, next_draft, Prepares, told_again};
@@ -9,12 +9,13 @@ use crate::edits::{acknowledged_all, stated_all, without_framework};
 use crate::fault::AgentFault;
 use crate::mails_out::push_fronts_at;
 use crate::room;
-use crate::state::{State, push_copies};
+use crate::state::State;
 use listed::Listed;
 use mails::{AgentMail, AgentRefusal, Command, Job, RecordedTask};
 use names_core::{LaunchKey, OfferId, TaskState};
+use plain_data::push_copies;
 use std::alloc::{AllocError, Global};
-use stream_core::Updates;
+use stream_core::{LinkIn, Updates};
 
 /// What an agent would be, and the mails that it would send.
 #[derive(Drop)]
@@ -32,7 +33,7 @@ fn launched(
     ensures { IfOk result (λ v. v.items ≡ tasks_after (Launch job offers) tasks.now) }
 {
     let mut all = Vec::new(alloc);
-    push_copies(alloc, &mut all, tasks)?;
+    push_copies(&mut all, tasks)?;
     all.push(RecordedTask {
         job,
         offers,
@@ -46,17 +47,18 @@ impl State {
     fn applied_with(
         &self,
         alloc: Global,
+        link: LinkIn,
         tasks: Vec<RecordedTask>,
         told: Option<LaunchKey>,
     ) -> Result<Next, AllocError>
-        requires { self.now.applied < 2 ^ 32 - 1 }
+        requires { link ≡ suc self.now.link }
         ensures { IfOk result (λ n. next_draft n ≡ applied_with (agent_of self.now) tasks.items told) }
     {
-        let after = self.with_tasks(alloc, tasks, self.applied + 1)?;
+        let after = self.with_tasks(alloc, tasks, link)?;
         let mut mails = Vec::new(alloc);
         mails.push(AgentMail::Applied {
             session: self.durable.session,
-            count: self.applied + 1,
+            count: link.count(),
         })?;
         if let Some(key) = told {
             push_fronts_at(&mut mails, self.durable.session, key, after.tasks())?;
@@ -64,26 +66,27 @@ impl State {
         Ok(Next { after, mails })
     }
 
-    fn apply(&self, alloc: Global, command: Command) -> Result<Next, AllocError>
-        requires { self.now.applied < 2 ^ 32 - 1 }
+    /// The next command is applied; the link has taken it.
+    fn apply(&self, alloc: Global, link: LinkIn, command: Command) -> Result<Next, AllocError>
+        requires { link ≡ suc self.now.link }
         ensures { IfOk result (λ n. next_draft n ≡ applies (agent_of self.now) command) }
     {
         match command {
             Command::Launch(job, offers) => {
                 let tasks = launched(alloc, self.tasks(), job, offers)?;
-                self.applied_with(alloc, tasks, None)
+                self.applied_with(alloc, link, tasks, None)
             }
             Command::Kill(key) => {
                 let tasks = stated_all(alloc, key, TaskState::Killed, self.tasks())?;
-                self.applied_with(alloc, tasks, Some(key))
+                self.applied_with(alloc, link, tasks, Some(key))
             }
             Command::Ack(key, k) => {
                 let tasks = acknowledged_all(alloc, key, k, self.tasks())?;
-                self.applied_with(alloc, tasks, Some(key))
+                self.applied_with(alloc, link, tasks, Some(key))
             }
             Command::EndFramework(framework) => {
                 let tasks = without_framework(alloc, framework, self.tasks())?;
-                self.applied_with(alloc, tasks, None)
+                self.applied_with(alloc, link, tasks, None)
             }
         }
     }
@@ -107,7 +110,7 @@ impl State {
         let mut mails = Vec::new(alloc);
         mails.push(AgentMail::Applied {
             session: self.durable.session,
-            count: self.applied,
+            count: self.link.count(),
         })?;
         Ok(Next { after, mails })
     }
@@ -125,15 +128,16 @@ impl State {
         if !(self.in_session && session == self.durable.session) {
             return Err(AgentFault::Refused(AgentRefusal::OldSession));
         }
-        if number <= self.applied {
+        if number <= self.link.count() {
             return Ok(self.tell_again(alloc)?);
         }
-        if number - 1 != self.applied {
+        let mut link = self.link;
+        if link.take(number).is_err() {
             return Err(AgentFault::Refused(AgentRefusal::NotNext));
         }
         if !self.has_room(alloc, &command)? {
             return Err(AgentFault::Refused(AgentRefusal::NoRoom));
         }
-        Ok(self.apply(alloc, command)?)
+        Ok(self.apply(alloc, link, command)?)
     }
 }

@@ -1,11 +1,11 @@
 //! Where the tasks of two records differ. These calls take no memory.
 
-ghost use Rattle.std.specs.Prelude.{◌≡◌, ◌↔◌, ◌≤◌, ◌-◌, ◌++◌, IsTrue, length, take, drop};
+ghost use Rattle.std.specs.Prelude.{◌≡◌, ◌↔◌, ◌≤◌, ◌-◌, IsTrue, length, take, drop};
 ghost use Rattle.std.specs.List.{slice_range};
 ghost use Rattle.agent_core.specs.Prepared.{spliced};
 
-use crate::same::{are_same_tasks, is_same_task};
 use mails::RecordedTask;
+use plain_data::{Plain, are_same};
 
 /// Two lists of tasks are the same up to `from`, and from `end` of the one and `to` of the other on.
 #[derive(Clone, Copy, Drop)]
@@ -22,7 +22,7 @@ fn common_front(tasks: &[RecordedTask], others: &[RecordedTask]) -> usize
 {
     let most = tasks.len().min(others.len());
     for i in 0..most {
-        if !is_same_task(&tasks[i], &others[i]) {
+        if !tasks[i].is_same(&others[i]) {
             return i;
         }
     }
@@ -37,7 +37,7 @@ fn common_back(tasks: &[RecordedTask], others: &[RecordedTask]) -> usize
     let most = tasks.len().min(others.len());
     for i in 0..most {
         let task = &tasks[tasks.len() - i - 1];
-        if !is_same_task(task, &others[others.len() - i - 1]) {
+        if !task.is_same(&others[others.len() - i - 1]) {
             return i;
         }
     }
@@ -78,7 +78,5 @@ pub fn is_spliced(
     }
     let (front, behind) = tasks.split_at(from);
     let (middle, back) = behind.split_at(part.len());
-    are_same_tasks(front, &others[..from])
-        && are_same_tasks(middle, part)
-        && are_same_tasks(back, &others[to..])
+    are_same(front, &others[..from]) && are_same(middle, part) && are_same(back, &others[to..])
 }

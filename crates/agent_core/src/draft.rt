@@ -5,8 +5,9 @@ ghost use Rattle.agent_core.specs.Drafts.{agent_of, next_draft};
 
 use crate::commands::Next;
 use crate::differences::{difference_of, is_spliced};
-use crate::state::{State, copies_of};
+use crate::state::State;
 use mails::{AgentMail, Durable};
+use plain_data::copies_of;
 use std::alloc::{AllocError, Global};
 use std::marker::Model;
 
@@ -30,7 +31,7 @@ impl Model for Draft {
 
     ghost Value = { Prepared };
 
-    ghost view = { λ d. record { before = with_tasks (agent_of d.before) (spliced d.from d.to d.after.durable.tasks d.before.durable.tasks) d.before.applied; draft = record { after = agent_of d.after; mails = d.mails.items } } };
+    ghost view = { λ d. record { before = with_tasks (agent_of d.before) (spliced d.from d.to d.after.durable.tasks d.before.durable.tasks) d.before.link; draft = record { after = agent_of d.after; mails = d.mails.items } } };
 
     ghost invariant = { λ d. (d.from ≤ d.to) × (d.to ≤ length d.after.durable.tasks) };
 }
@@ -43,7 +44,7 @@ impl Draft {
         let difference = difference_of(tasks, next.after.tasks());
         let part = copies_of(alloc, &tasks[difference.from..difference.end])?;
         Ok(Draft {
-            before: state.with_tasks(alloc, part, state.applied)?,
+            before: state.with_tasks(alloc, part, state.link)?,
             from: difference.from,
             to: difference.to,
             after: next.after,
@@ -87,12 +88,5 @@ impl Draft {
         ensures { result.now ≡ self.now.draft.mails }
     {
         self.mails.as_slice()
-    }
-
-    /// The draft's record, for an agent that stopped once it was saved. It takes no memory.
-    pub fn into_durable(self) -> Durable
-        ensures { result ≡ self.draft.after.durable }
-    {
-        self.after.durable
     }
 }

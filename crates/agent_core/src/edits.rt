@@ -6,9 +6,10 @@ ghost use Rattle.stream_core.specs.Updates.{is_done, is_full};
 ghost use Rattle.cluster_model.specs.Agents.{is_task, has_ended, stated, acknowledged, needs_place};
 ghost use Rattle.cluster_model.specs.Ids.{same};
 
-use crate::state::{copy_task, is_same_framework, is_same_key};
+use crate::state::{is_same_framework, is_same_key};
 use mails::RecordedTask;
 use names_core::{FrameworkId, LaunchKey, TaskState};
+use plain_data::Plain;
 use std::alloc::{AllocError, Global};
 
 pub fn is_of_key(key: LaunchKey, task: &RecordedTask) -> bool
@@ -18,14 +19,13 @@ pub fn is_of_key(key: LaunchKey, task: &RecordedTask) -> bool
 }
 
 fn stated_one(
-    alloc: Global,
     key: LaunchKey,
     state: TaskState,
     task: &RecordedTask,
 ) -> Result<RecordedTask, AllocError>
     ensures { IfOk result (λ t. t ≡ stated key state task.now) }
 {
-    let mut copy = copy_task(alloc, task)?;
+    let mut copy = task.copy()?;
     if is_of_key(key, task) && !task.updates.has_ended() {
         match copy.updates.push(state) {
             Ok(()) => {}
@@ -46,20 +46,15 @@ pub fn stated_all(
 {
     let mut changed = Vec::with_capacity(alloc, tasks.len())?;
     for task in tasks {
-        changed.push(stated_one(alloc, key, state, task)?)?;
+        changed.push(stated_one(key, state, task)?)?;
     }
     Ok(changed)
 }
 
-fn acknowledged_one(
-    alloc: Global,
-    key: LaunchKey,
-    k: u32,
-    task: &RecordedTask,
-) -> Result<RecordedTask, AllocError>
+fn acknowledged_one(key: LaunchKey, k: u32, task: &RecordedTask) -> Result<RecordedTask, AllocError>
     ensures { IfOk result (λ t. t ≡ acknowledged key k task.now) }
 {
-    let mut copy = copy_task(alloc, task)?;
+    let mut copy = task.copy()?;
     if is_of_key(key, task) {
         let _taken = copy.updates.acknowledge(k);
     }
@@ -83,7 +78,7 @@ pub fn acknowledged_all(
 {
     let mut changed = Vec::with_capacity(alloc, tasks.len())?;
     for task in tasks {
-        changed.push(acknowledged_one(alloc, key, k, task)?)?;
+        changed.push(acknowledged_one(key, k, task)?)?;
     }
     drop_done(&mut changed);
     Ok(changed)
@@ -100,7 +95,7 @@ pub fn without_framework(
     let mut kept = Vec::new(alloc);
     for task in tasks {
         if !is_same_framework(task.job.framework, framework) {
-            kept.push(copy_task(alloc, task)?)?;
+            kept.push(task.copy()?)?;
         }
     }
     Ok(kept)

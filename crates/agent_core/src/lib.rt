@@ -2,6 +2,7 @@
 #![tactic(auto)]
 
 mod agent;
+mod cabinet;
 mod causes;
 mod commands;
 mod differences;
@@ -11,10 +12,10 @@ mod fault;
 mod mails_out;
 mod record;
 mod room;
-mod same;
 mod state;
 
 pub use agent::Agent;
+pub use cabinet::Cabinet;
 pub use draft::Draft;
 pub use fault::AgentFault;
 pub use mails::Durable;

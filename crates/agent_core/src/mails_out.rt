@@ -5,10 +5,11 @@ ghost use Rattle.cluster_model.specs.Agents.{state_at, sent_count, reported, fro
 ghost use Rattle.agent_core.specs.Drafts.{agent_of};
 
 use crate::edits::is_of_key;
-use crate::state::{State, copy_job};
+use crate::state::State;
 use listed::Listed;
 use mails::{AgentMail, Booked, RecordedTask};
 use names_core::{LaunchKey, TaskState};
+use plain_data::Plain;
 use std::alloc::{AllocError, Global};
 
 /// The last of the first so many states, TASK_STAGING for none.
@@ -37,12 +38,12 @@ fn sent_count(task: &RecordedTask) -> u32
     }
 }
 
-fn reported(alloc: Global, task: &RecordedTask) -> Result<Booked, AllocError>
+fn reported(task: &RecordedTask) -> Result<Booked, AllocError>
     ensures { IfOk result (λ booked. booked ≡ reported task.now) }
 {
     let sent = sent_count(task);
     Ok(Booked {
-        job: copy_job(alloc, &task.job)?,
+        job: task.job.copy()?,
         ended: task.updates.has_ended(),
         heard: sent,
         state: state_at(task.updates.states(), sent),
@@ -54,7 +55,7 @@ fn all_reported(alloc: Global, tasks: &[RecordedTask]) -> Result<Vec<Booked>, Al
 {
     let mut booked = Vec::with_capacity(alloc, tasks.len())?;
     for task in tasks {
-        booked.push(reported(alloc, task)?)?;
+        booked.push(reported(task)?)?;
     }
     Ok(booked)
 }

@@ -6,6 +6,7 @@ ghost use Rattle.quantity.specs.declared.rows.Row.{Row};
 ghost use Rattle.cluster_model.specs.Agents.{live_tasks, task_rows};
 
 use mails::RecordedTask;
+use plain_data::Plain;
 use quantity::Resources;
 use std::alloc::{AllocError, Global};
 
@@ -44,6 +45,6 @@ pub fn has_room(
 ) -> Result<bool, AllocError>
     ensures { IfOk result (λ has. has ≡ covers total.now (resources.now ++ task_rows (live_tasks tasks.now))) }
 {
-    let mut rest = total.copy(alloc)?;
+    let mut rest = total.copy()?;
     Ok(take(&mut rest, resources) && take_live(&mut rest, tasks))
 }

@@ -1,21 +1,23 @@
 //! What an agent is: its record, and how far it is in its session.
 
-ghost use Rattle.std.specs.Prelude.{◌≡◌, ◌++◌, ◌==◌, IfOk, OnOk};
+ghost use Rattle.std.specs.Prelude.{◌≡◌, ◌↔◌, IfOk, IsTrue};
 ghost use Rattle.cluster_model.specs.Agents.{reopened, with_tasks};
 ghost use Rattle.cluster_model.specs.Ids.{same};
-ghost use Rattle.agent_core.specs.Drafts.{agent_of};
+ghost use Rattle.agent_core.specs.Drafts.{agent_of, without_tasks};
 
 use listed::Listed;
-use mails::{Durable, Job, RecordedTask};
+use mails::{Durable, RecordedTask};
 use names_core::{FrameworkId, LaunchKey};
+use plain_data::{Plain, copies_of};
 use std::alloc::{AllocError, Global};
+use stream_core::LinkIn;
 
 #[derive(Drop)]
 pub struct State {
     pub durable: Durable,
     pub in_session: bool,
     /// How many commands of the open session are applied.
-    pub applied: u32,
+    pub link: LinkIn,
 }
 
 pub fn is_same_key(a: LaunchKey, b: LaunchKey) -> bool
@@ -30,49 +32,6 @@ pub fn is_same_framework(a: FrameworkId, b: FrameworkId) -> bool
     a.number() == b.number() && a.run() == b.run()
 }
 
-pub fn copy_job(alloc: Global, job: &Job) -> Result<Job, AllocError>
-    ensures { IfOk result (λ copy. copy ≡ job.now) }
-{
-    Ok(Job {
-        key: job.key,
-        framework: job.framework,
-        name: job.name.copy(alloc)?,
-        resources: job.resources.copy(alloc)?,
-    })
-}
-
-pub fn copy_task(alloc: Global, task: &RecordedTask) -> Result<RecordedTask, AllocError>
-    ensures { IfOk result (λ copy. copy ≡ task.now) }
-{
-    let offers = Vec::from_slice(alloc, task.offers.as_slice())?;
-    Ok(RecordedTask {
-        job: copy_job(alloc, &task.job)?,
-        offers: Listed::from_vec(offers),
-        updates: task.updates.copy(alloc)?,
-    })
-}
-
-pub fn push_copies(
-    alloc: Global,
-    copies: &mut Vec<RecordedTask>,
-    tasks: &[RecordedTask],
-) -> Result<(), AllocError>
-    ensures { OnOk result (copies.new.items ≡ copies.old.items ++ tasks.now) }
-{
-    for task in tasks {
-        copies.push(copy_task(alloc, task)?)?;
-    }
-    Ok(())
-}
-
-pub fn copies_of(alloc: Global, tasks: &[RecordedTask]) -> Result<Vec<RecordedTask>, AllocError>
-    ensures { IfOk result (λ copies. copies.items ≡ tasks.now) }
-{
-    let mut copies = Vec::with_capacity(alloc, tasks.len())?;
-    push_copies(alloc, &mut copies, tasks)?;
-    Ok(copies)
-}
-
 impl State {
     pub fn tasks(&self) -> &[RecordedTask]
         ensures { result.now ≡ self.now.durable.tasks }
@@ -85,20 +44,20 @@ impl State {
         &self,
         alloc: Global,
         tasks: Vec<RecordedTask>,
-        applied: u32,
+        link: LinkIn,
     ) -> Result<State, AllocError>
-        ensures { IfOk result (λ s. agent_of s ≡ with_tasks (agent_of self.now) tasks.items applied) }
+        ensures { IfOk result (λ s. agent_of s ≡ with_tasks (agent_of self.now) tasks.items link) }
     {
         Ok(State {
             durable: Durable {
-                name: self.durable.name.copy(alloc)?,
-                total: self.durable.total.copy(alloc)?,
+                name: self.durable.name.copy()?,
+                total: self.durable.total.copy()?,
                 session: self.durable.session,
                 run: self.durable.run,
                 tasks: Listed::from_vec(tasks),
             },
             in_session: self.in_session,
-            applied,
+            link,
         })
     }
 
@@ -106,7 +65,7 @@ impl State {
         ensures { IfOk result (λ s. agent_of s ≡ agent_of self.now) }
     {
         let tasks = copies_of(alloc, self.tasks())?;
-        self.with_tasks(alloc, tasks, self.applied)
+        self.with_tasks(alloc, tasks, self.link)
     }
 
     /// With this session opened with the master of a run.
@@ -117,7 +76,19 @@ impl State {
         state.durable.session = session;
         state.durable.run = run;
         state.in_session = true;
-        state.applied = 0;
+        state.link = LinkIn::new();
         Ok(state)
+    }
+
+    /// Whether both are the same in all but their tasks.
+    pub fn is_same_but_for_tasks(&self, other: &State) -> bool
+        ensures { IsTrue result ↔ (without_tasks self.now ≡ without_tasks other.now) }
+    {
+        self.in_session == other.in_session
+            && self.link.count() == other.link.count()
+            && self.durable.session == other.durable.session
+            && self.durable.run == other.durable.run
+            && self.durable.name.is_same(&other.durable.name)
+            && self.durable.total.is_same(&other.durable.total)
     }
 }

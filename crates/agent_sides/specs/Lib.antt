@@ -1,7 +1,8 @@
-pub mod Configs
-pub mod Joined
 pub mod Changes
-pub mod Looks
-pub mod Told
-pub mod Own
+pub mod Configs
 pub mod Free
+pub mod Joined
+pub mod Looks
+pub mod Named
+pub mod Own
+pub mod Told

@@ -16,6 +16,7 @@ use listed::Listed;
 use mails::Booked;
 use names_core::{AgentName, FrameworkId, OfferId};
 use offer_book::Account;
+use plain_data::Plain;
 use quantity::Resources;
 use roster::RosterEntry;
 use std::alloc::{AllocError, Global};
@@ -73,7 +74,7 @@ fn push_if_has_tasks(
     ensures { OnOk result (names.new ≡ names.old ++ names_with_tasks framework (account.now ∷ [])) }
 {
     if account.booked.has_tasks_of(framework) {
-        names.push(account.name.copy(alloc)?)?;
+        names.push(account.name.copy()?)?;
     }
     Ok(())
 }
@@ -115,7 +116,7 @@ impl Sides {
         let Some(account) = good_account(self.roster.entries(), accounts, framework, ids) else {
             return Ok(None);
         };
-        let agent = account.name.copy(alloc)?;
+        let agent = account.name.copy()?;
         let sum = account.named_sum(alloc, framework, ids)?;
         let _rows = sum.rows();
         Ok(Some(GoodOffers { agent, sum }))

@@ -3,7 +3,7 @@
 ghost use Rattle.std.specs.Prelude.{◌≡◌, ◌<◌, [], Some, None, Ok, Err, true, false, not, ◌&&◌, bytes_eq, map, length, option_map, OnOk, OnErr, IfOk, IfErr};
 ghost use Rattle.std.specs.List.{find, list_any};
 ghost use Rattle.mails.specs.declared.mail.AgentMail.TheVariants.{Applied, Update};
-ghost use Rattle.cluster_model.specs.Sides.{Run as ModelRun, heard, lost, withdrawn};
+ghost use Rattle.cluster_model.specs.Sides.{Run as ModelRun, heard, lost};
 ghost use Rattle.cluster_model.specs.Masters.{has_returned, held_among, is_of, may_have_numbers};
 ghost use Rattle.cluster_model.specs.Mails.{in_session};
 ghost use Rattle.cluster_model.specs.Sides.{is_named};
@@ -22,6 +22,7 @@ use listed::Listed;
 use mails::{Booked, Command, MasterRefusal, Offer};
 use names_core::{AgentName, FrameworkId, LaunchKey, OfferId, Run, TaskName};
 use offer_book::{Heard, OfferBook, ids_name_offers};
+use plain_data::Plain;
 use roster::{Roster, RosterFault};
 use std::alloc::{AllocError, Global};
 use std::marker::Model;
@@ -59,8 +60,8 @@ fn enter_all(
     ensures book { OnOk result (book.new ≡ map account_of agents.now) }
 {
     for agent in agents {
-        roster.add_agent(alloc, agent.name.copy(alloc)?, agent.total.copy(alloc)?)?;
-        book.add_agent(alloc, agent.name.copy(alloc)?, agent.total.copy(alloc)?)?;
+        roster.add_agent(alloc, agent.name.copy()?, agent.total.copy()?)?;
+        book.add_agent(alloc, agent.name.copy()?, agent.total.copy()?)?;
     }
     Ok(())
 }
@@ -97,13 +98,6 @@ impl Sides {
     {
         ids_name_offers();
         self.book.withdraw_named(framework, ids);
-    }
-
-    /// Withdraws the offers of these ids on an agent. It takes no memory.
-    pub fn withdraw_at(&mut self, place: usize, ids: &[OfferId])
-        ensures { self.new ≡ at_place place (λ s. withdrawn s ids.now) self.old }
-    {
-        self.book.withdraw_at(place, ids);
     }
 
     /// Makes an offer, if no current one on the agent has its id and with it all that is taken of the agent still fits its total.

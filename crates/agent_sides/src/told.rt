@@ -12,9 +12,10 @@ ghost use Rattle.agent_sides.specs.Told.{again_of, mails_at_tick, told_by};
 
 use crate::sides::Sides;
 use listed::Listed;
-use mails::{Booked, Command, Job, MasterMail, MasterRefusal, Offer, ToAgent};
-use names_core::{AgentName, OfferId, Run};
+use mails::{Booked, MasterMail, MasterRefusal, Offer, ToAgent};
+use names_core::{AgentName, Run};
 use offer_book::{Account, Heard};
+use plain_data::Plain;
 use roster::{RosterEntry, RosterFault};
 use std::alloc::{AllocError, Global};
 
@@ -137,43 +138,8 @@ fn tasks_of<'a>(accounts: &'a [Account], name: &AgentName) -> &'a [Booked]
     &[]
 }
 
-fn copy_job(alloc: Global, job: &Job) -> Result<Job, AllocError>
-    ensures { IfOk result (λ copy. copy ≡ job.now) }
-{
-    Ok(Job {
-        key: job.key,
-        framework: job.framework,
-        name: job.name.copy(alloc)?,
-        resources: job.resources.copy(alloc)?,
-    })
-}
-
-fn copy_ids(alloc: Global, ids: &Listed<OfferId>) -> Result<Listed<OfferId>, AllocError>
-    ensures { IfOk result (λ copy. copy ≡ ids.now) }
-{
-    Ok(Listed::from_vec(Vec::from_slice(alloc, ids.as_slice())?))
-}
-
-fn copy_command(alloc: Global, command: &Command) -> Result<Command, AllocError>
-    ensures { IfOk result (λ copy. copy ≡ command.now) }
-{
-    match command {
-        Command::Launch(job, offers) => Ok(Command::Launch(
-            copy_job(alloc, job)?,
-            copy_ids(alloc, offers)?,
-        )),
-        Command::Kill(key) => Ok(Command::Kill(*key)),
-        Command::Ack(key, k) => Ok(Command::Ack(*key, *k)),
-        Command::EndFramework(framework) => Ok(Command::EndFramework(*framework)),
-    }
-}
-
 /// What is sent to an agent at a tick, if anything.
-fn mail_at_tick(
-    alloc: Global,
-    run: Run,
-    entry: &RosterEntry,
-) -> Result<Option<MasterMail>, AllocError>
+fn mail_at_tick(run: Run, entry: &RosterEntry) -> Result<Option<MasterMail>, AllocError>
     ensures { IfOk result (λ mail. mail ≡ again_of run entry.now) }
 {
     if !entry.is_open() {
@@ -187,7 +153,7 @@ fn mail_at_tick(
         Some((number, command)) => Ok(Some(MasterMail::Issued {
             session: entry.session(),
             number,
-            command: copy_command(alloc, command)?,
+            command: command.copy()?,
         })),
     }
 }
@@ -200,10 +166,10 @@ fn send_one(
 ) -> Result<(), AllocError>
     ensures { OnOk result (mails.new ≡ mails.old ++ mails_at_tick run entry.now) }
 {
-    match mail_at_tick(alloc, run, entry)? {
+    match mail_at_tick(run, entry)? {
         None => Ok(()),
         Some(mail) => {
-            let agent = entry.name().copy(alloc)?;
+            let agent = entry.name().copy()?;
             mails.push(ToAgent { agent, mail })
         }
     }

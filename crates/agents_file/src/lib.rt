@@ -3,8 +3,6 @@
 
 mod agents;
 mod fault;
-#[cfg(test)]
-mod tests;
 
 pub use agents::{agents_in, read_agents};
 pub use fault::AgentsFault;

@@ -15,6 +15,7 @@ use cluster_laws::{Item, sent_items_stand, states_count_entries};
 use cluster_parts::Made;
 use cluster_steps::{ClusterFault, Entry, Step, StepCause};
 use names_core::AgentName;
+use plain_data::Plain;
 use post_rules::{Direction, Post};
 use std::alloc::Global;
 
@@ -141,7 +142,7 @@ pub fn advance<P: Post>(
         return Err(ClusterFault::HistoryFull);
     }
     history.entries.reserve(1)?;
-    let copy = step.copy(alloc)?;
+    let copy = step.copy()?;
     let before = parts.items.as_slice().len();
     match parts.take_step(post, alloc, &step) {
         Ok(made) => {

@@ -24,7 +24,6 @@ use crate::parts::Parts;
 use crate::recorded::records_are_recorded;
 use crate::safety::stories_are_safe;
 use crate::taken::{History, Taken};
-use cluster_laws::states_count_entries;
 use cluster_parts::{ClusterAgent, open_parts};
 use cluster_steps::{ClusterFault, Entry, Outputs, Step};
 use mails::Durable;
@@ -140,14 +139,6 @@ impl<P: Post + Drop> Cluster<P> {
         ensures { (gives : ℕ → Bool) (step : model.Step) → ((n : ℕ) → 0 < n → n ≤ P.count self.now.post → gives n ≡ true) → WithheldFrom (state_of self.now.story) gives step → ⊥ }
     {
         self.has_all_sent();
-    }
-
-    /// The state counts the entries, and the opening.
-    pub fn has_counted(&self)
-        ensures { (state_of self.now.story).entries ≡ length self.now.story.entries + 1 }
-    {
-        states_count_entries();
-        self.is_legal();
     }
 
     /// The entries since the opening, the oldest first.

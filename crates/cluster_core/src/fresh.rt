@@ -9,6 +9,7 @@ ghost use Rattle.cluster_model.specs.Openings.{GoodOpening};
 use agent_core::fresh;
 use mails::Durable;
 use master_core::Config;
+use plain_data::Plain;
 use std::alloc::{AllocError, Global};
 
 /// A cluster may be opened in any run over configured agents that never ran, and they are those of the configuration.
@@ -27,7 +28,7 @@ pub fn fresh_records(alloc: Global, config: &Config) -> Result<Vec<Durable>, All
     let agents = config.agents();
     let mut records = Vec::with_capacity(alloc, agents.len())?;
     for agent in agents {
-        records.push(fresh(alloc, agent.name.copy(alloc)?, agent.total.copy(alloc)?))?;
+        records.push(fresh(alloc, agent.name.copy()?, agent.total.copy()?))?;
     }
     Ok(records)
 }

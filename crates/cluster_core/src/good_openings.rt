@@ -16,6 +16,7 @@ use agent_sides::ConfiguredAgent;
 use mails::{Durable, RecordedTask};
 use master_core::Config;
 use names_core::{LaunchKey, OfferId, Run};
+use plain_data::Plain;
 use quantity::{Resources, Row, amounts_add_up, covers_is_at_least};
 
 /// Takes what resources have of a name out of a rest, and tells whether there was as much.

@@ -12,10 +12,10 @@ use cluster_laws::mails_to_agents_launch_anew;
 use cluster_parts::{ClusterAgent, Items, Made, ends_with, sending};
 use cluster_steps::{ClusterFault, Keep, Step, StepCause, Verdict};
 use listed::Listed;
-use mail_copies::copy_call;
 use mails::Call;
 use master_core::{Config, Master};
 use names_core::{AgentName, Run, StreamId};
+use plain_data::Plain;
 use post_rules::Post;
 use std::alloc::Global;
 use told_streams::Streams;
@@ -53,7 +53,7 @@ impl Parts {
         ensures post { Roomier (P.count post.old) (P.count post.new) (P.gives post.old) (P.gives post.new) (P.direction_at post.old) (P.direction_at post.new) }
         ensures room { Grows (length self.old.items) (length self.new.items) (P.room post.new) }
     {
-        let copy = copy_call(alloc, call)?;
+        let copy = call.copy()?;
         cluster_parts::send(&mut self.items, post, alloc, stream, copy)
     }
 

@@ -13,6 +13,7 @@ use crate::taken::Taken;
 use cluster_steps::{ClusterFault, Step};
 use master_core::Config;
 use names_core::Run;
+use plain_data::Plain;
 use post_rules::EverSent;
 use std::alloc::Global;
 
@@ -43,7 +44,7 @@ fn pass(cluster: &mut Cluster<EverSent>, alloc: Global, step: &Step) -> Result<(
     ensures memory { IfErr result (λ fault. fault ≡ OutOfMemory) }
 {
     cluster.has_all_sent();
-    let copy = step.copy(alloc)?;
+    let copy = step.copy()?;
     let taken = cluster.step(alloc, copy);
     unless_memory(&taken)
 }

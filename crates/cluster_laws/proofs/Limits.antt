@@ -29,7 +29,7 @@ use Rattle.cluster_model.specs.Channels.{Channel, is_own, World}
 use Rattle.cluster_model.specs.Clusters.{Post}
 use Rattle.cluster_model.specs.Steps.{Marked, history}
 use Rattle.cluster_safe.specs.Acknowledged.{recorded_tasks}
-use Rattle.master_mails.specs.Steps.{FitsRecord}
+use Rattle.cluster_model.specs.Mails.{FitsRecord}
 use Rattle.cluster_laws.specs.Items.{channel_at, item_of}
 use Rattle.cluster_laws.specs.declared.item.Item.TheVariants as items
 use Rattle.cluster_laws.specs.Premises.{AreRecorded}

@@ -10,7 +10,7 @@ use Rattle.cluster_model.specs.Clusters.{Cluster, master_of, sides_of}
 use Rattle.cluster_model.specs.Mails.{agent_lost, mailed}
 use Rattle.cluster_model.specs.Masters.{new_registers, nothing}
 use Rattle.cluster_model.specs.Steps.{channel_of, opened_over}
-use Rattle.master_mails.specs.Steps.{lost_by, mailed_by}
+use Rattle.agent_sides.specs.Named.{lost_by, mailed_by}
 use Rattle.master_state.specs.States.{fresh}
 use Rattle.master_state.specs.Works.{master_of as master_in}
 use Rattle.cluster_laws.specs.Items.{channel_at}

@@ -14,7 +14,7 @@ ghost use Rattle.mails.specs.declared.cause.Cause.TheVariants.{Mail};
 ghost use Rattle.mails.specs.declared.mail.ToAgent.{ToAgent};
 ghost use Rattle.mails.specs.declared.mail.ToMaster.{ToMaster};
 ghost use Rattle.mails.specs.declared.record.Durable.{Durable};
-ghost use Rattle.master_mails.specs.Steps.{FitsRecord};
+ghost use Rattle.cluster_model.specs.Mails.{FitsRecord};
 ghost use Rattle.names_core.specs.Ids.{Numbered};
 ghost use Rattle.side_fits.specs.Fits.{MailFitsAt};
 

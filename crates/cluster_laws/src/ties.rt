@@ -1,6 +1,6 @@
 //! The words of the master's contracts are those of the model.
 
-ghost use Rattle.std.specs.Prelude.{◌≡◌, List, map, slice_get, Option, Some, ℕ};
+ghost use Rattle.std.specs.Prelude.{◌≡◌, List, map, Option, Some, ℕ};
 ghost use Rattle.cluster_laws.specs.Parts.{configured};
 ghost use Rattle.cluster_model.specs.Channels.{Channel};
 ghost use Rattle.cluster_model.specs.Clusters.{Cluster, master_of};
@@ -15,7 +15,7 @@ ghost use Rattle.names_core.specs.Ids.{Numbered};
 ghost use Rattle.cluster_model.specs.Steps.{channel_of, opened_over};
 ghost use Rattle.mails.specs.declared.mail.AgentMail.{AgentMail};
 ghost use Rattle.mails.specs.declared.record.Durable.{Durable};
-ghost use Rattle.master_mails.specs.Steps.{lost_by, mailed_by};
+ghost use Rattle.agent_sides.specs.Named.{lost_by, mailed_by};
 ghost use Rattle.master_state.specs.States.{fresh};
 ghost use Rattle.master_state.specs.Works.{master_of as master_in};
 

@@ -1,5 +1,5 @@
 -- What the master does at an agent's mail, at a Tick, when it loses an agent, and at a hang-up.
-use Rattle.std.specs.Prelude.{ℕ, suc, ◌+◌, Bool, not, ◌&&◌, ◌==◌, nat_lt, nat_le, if◌then◌else◌, List, [], ◌∷◌, ◌++◌, map, filter, flat_map, Option, Some, None, bytes_eq}
+use Rattle.std.specs.Prelude.{◌<◌, ⊤, ℕ, suc, ◌+◌, Bool, not, ◌&&◌, ◌==◌, nat_lt, nat_le, if◌then◌else◌, List, [], ◌∷◌, ◌++◌, map, filter, flat_map, Option, Some, None, bytes_eq}
 use Rattle.std.specs.List.{list_any, find}
 use Rattle.names_core.specs.Ids.{Numbered}
 use Rattle.names_core.specs.declared.state.TaskState.{TaskState}
@@ -10,6 +10,7 @@ use Rattle.mails.specs.declared.mail.AgentMail.{AgentMail}
 use Rattle.mails.specs.declared.mail.AgentMail.TheVariants.{Report, Applied, Update}
 use Rattle.mails.specs.declared.refusal.MasterRefusal.{MasterRefusal}
 use Rattle.mails.specs.declared.refusal.MasterRefusal.TheVariants.{OtherRun, OldSession, Closed, NotOpen}
+use Rattle.stream_core.specs.Updates.{most_updates}
 use Rattle.cluster_model.specs.Ids.{same}
 use Rattle.cluster_model.specs.Sides.{Run, Side, SendEnd, SendHello, SendAgain, Lose, opens, heard}
 use Rattle.cluster_model.specs.Events.{Told, UPDATE, RESCIND, FAILURE, HEARTBEAT}
@@ -17,6 +18,12 @@ use Rattle.cluster_model.specs.Masters.{Master, Framework, Doing, Move, AtSide, 
 use Rattle.cluster_model.specs.Calls.{is_stream}
 
 -- an agent's mail
+
+-- an update has a number that an agent's record has room for
+abbrev pub FitsRecord : AgentMail → Type 0
+FitsRecord (Report session number tasks) = ⊤
+FitsRecord (Applied session count) = ⊤
+FitsRecord (Update session key k state ended) = k < most_updates
 
 -- a session that isn't above the last one
 abbrev pub judged_session : Side → ℕ → Option MasterRefusal → Option MasterRefusal

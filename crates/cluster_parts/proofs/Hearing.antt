@@ -31,7 +31,8 @@ use Rattle.cluster_steps.specs.declared.fault.ClusterFault.TheVariants as faults
 use Rattle.cluster_steps.specs.Steps.{fell, sent_of, verdict_of}
 use Rattle.master_core.specs.declared.master.HeardMail.{HeardMail}
 use Rattle.master_core.specs.Steps.{Hears, outs_of}
-use Rattle.master_mails.specs.Steps.{FitsRecord, mailed_by}
+use Rattle.agent_sides.specs.Named.{mailed_by}
+use Rattle.cluster_model.specs.Mails.{FitsRecord}
 use Rattle.master_state.specs.Works.{written}
 use Rattle.master_state.specs.declared.fault.MasterFault.{MasterFault}
 use Rattle.master_state.specs.declared.fault.MasterFault.TheVariants as fault

@@ -1,7 +1,7 @@
 -- What a master that serves does in each step.
 use Rattle.std.proofs.Common.{◌≡◌, ℕ, true, false, List, Option, Some, Result, Err, refl, sym, ap, ◌∙◌, subst, nat_lt}
 use Rattle.mails.specs.declared.call.Call.{Call}
-use Rattle.master_mails.specs.Steps.{lost_by}
+use Rattle.agent_sides.specs.Named.{lost_by}
 use Rattle.names_core.specs.Ids.{Numbered}
 use Rattle.cluster_model.specs.Calls.{called}
 use Rattle.cluster_model.specs.Channels.{Channel}

@@ -9,6 +9,7 @@ ghost use Rattle.cluster_parts.specs.Agents.{AdoptsOne, Draws, comes_up_with, co
 use agent_core::{Agent, AgentFault, Draft};
 use mails::{AgentMail, AgentRefusal, Cause, Durable};
 use names_core::AgentName;
+use plain_data::Plain;
 use std::alloc::{AllocError, Global};
 use std::marker::Model;
 
@@ -38,7 +39,7 @@ impl ClusterAgent {
         ensures { IfOk result (λ a. a ≡ record { part = recovered_part durable; is_down = false }) }
     {
         Ok(ClusterAgent {
-            name: durable.name.copy(alloc)?,
+            name: durable.name.copy()?,
             agent: Agent::recover(durable),
             draft: None,
             is_down: false,

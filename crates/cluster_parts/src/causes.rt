@@ -5,9 +5,9 @@ ghost use Rattle.cluster_parts.specs.Causes.{Causes, ForIt, cause_due, for_it, i
 
 use cluster_laws::Item;
 use cluster_steps::{ClusterFault, StepCause};
-use mail_copies::copy_to_agent;
 use mails::{Cause, ToAgent};
 use names_core::AgentName;
+use plain_data::Plain;
 use std::alloc::Global;
 
 /// The item of a number, from 1.
@@ -21,13 +21,13 @@ pub fn item_at(items: &[Item], number: u64) -> Option<&Item>
 }
 
 /// A mail, if it is for the agent of this name.
-fn mail_for(alloc: Global, to: &ToAgent, name: &AgentName) -> Result<Option<Cause>, ClusterFault>
+fn mail_for(to: &ToAgent, name: &AgentName) -> Result<Option<Cause>, ClusterFault>
     ensures { ForIt result (for_it name.now to.now) }
 {
     if !to.agent.is(name) {
         return Ok(None);
     }
-    Ok(Some(Cause::Mail(copy_to_agent(alloc, to)?)))
+    Ok(Some(Cause::Mail(to.copy()?)))
 }
 
 /// The cause that an agent acts on; none where it is a mail for another agent.
@@ -44,7 +44,7 @@ pub fn cause_due(
         StepCause::Again => Ok(Some(Cause::Again)),
         StepCause::Executor(key, state) => Ok(Some(Cause::Executor(key, state))),
         StepCause::Mail(number) => match item_at(items, number) {
-            Some(Item::ToAgent(to)) => mail_for(alloc, to, name),
+            Some(Item::ToAgent(to)) => mail_for(to, name),
             _ => Err(ClusterFault::NoSuchMail),
         },
     }

@@ -16,9 +16,9 @@ use crate::stops::found;
 use cluster_laws::Item;
 use cluster_steps::{ClusterFault, Sent};
 use listed::Listed;
-use mail_copies::copy_agent_mail;
 use mails::{AgentMail, ToMaster};
 use names_core::AgentName;
+use plain_data::Plain;
 use post_rules::Post;
 use std::alloc::{AllocError, Global};
 
@@ -36,12 +36,12 @@ struct Outgoing {
     items: Listed<Item>,
 }
 
-fn to_master(alloc: Global, name: &AgentName, mail: &AgentMail) -> Result<ToMaster, AllocError>
+fn to_master(name: &AgentName, mail: &AgentMail) -> Result<ToMaster, AllocError>
     ensures { IfOk result (λ to. to ≡ record { agent = name.now; mail = mail.now }) }
 {
     Ok(ToMaster {
-        agent: name.copy(alloc)?,
-        mail: copy_agent_mail(alloc, mail)?,
+        agent: name.copy()?,
+        mail: mail.copy()?,
     })
 }
 
@@ -55,7 +55,7 @@ fn sent_from(
 {
     let mut sent = Listed::from_vec(Vec::with_capacity(alloc, mails.len())?);
     for mail in mails {
-        sent.push(Sent::ToMaster(to_master(alloc, name, mail)?))?;
+        sent.push(Sent::ToMaster(to_master(name, mail)?))?;
     }
     Ok(sent)
 }
@@ -70,7 +70,7 @@ fn items_from(
 {
     let mut items = Listed::from_vec(Vec::with_capacity(alloc, mails.len())?);
     for mail in mails {
-        items.push(Item::ToMaster(to_master(alloc, name, mail)?))?;
+        items.push(Item::ToMaster(to_master(name, mail)?))?;
     }
     Ok(items)
 }

@@ -16,7 +16,7 @@ ghost use Rattle.cluster_steps.specs.declared.fault.ClusterFault.{ClusterFault a
 ghost use Rattle.mails.specs.declared.mail.ToMaster.{ToMaster as SentMail};
 ghost use Rattle.master_core.specs.Steps.{Hears};
 ghost use Rattle.master_core.specs.declared.master.HeardMail.{HeardMail as HeardSo};
-ghost use Rattle.master_mails.specs.Steps.{FitsRecord};
+ghost use Rattle.cluster_model.specs.Mails.{FitsRecord};
 ghost use Rattle.master_state.specs.declared.fault.MasterFault.{MasterFault as Fault};
 ghost use Rattle.side_fits.specs.Fits.{MailFitsAt};
 ghost use Rattle.told_streams.specs.Streams.{kept_ids};
@@ -32,10 +32,10 @@ use cluster_laws::{
 };
 use cluster_safe::masters_step_alone;
 use cluster_steps::{ClusterFault, Verdict};
-use mail_copies::{copy_call, copy_to_master};
 use mails::{Call as SentCall, MasterRefusal, ToMaster};
 use master_core::{HeardMail, Master, MasterFault};
 use names_core::StreamId;
+use plain_data::Plain;
 use post_rules::Post;
 use std::alloc::Global;
 use told_streams::{Streams, kept_streams_follow, no_more_is_taken};
@@ -74,12 +74,12 @@ fn mails_are_heard()
 }
 
 /// What was sent under a number, if it is for the master.
-fn for_master(alloc: Global, items: &[Item], number: u64) -> Result<ForMaster, ClusterFault>
+fn for_master(items: &[Item], number: u64) -> Result<ForMaster, ClusterFault>
     ensures { IsForMaster result (item_at number items.now) }
 {
     match item_at(items, number) {
-        Some(Item::Call(stream, call)) => Ok(ForMaster::Call(*stream, copy_call(alloc, call)?)),
-        Some(Item::ToMaster(to)) => Ok(ForMaster::Mail(copy_to_master(alloc, to)?)),
+        Some(Item::Call(stream, call)) => Ok(ForMaster::Call(*stream, call.copy()?)),
+        Some(Item::ToMaster(to)) => Ok(ForMaster::Mail(to.copy()?)),
         _ => Err(ClusterFault::NoSuchMail),
     }
 }
@@ -166,7 +166,7 @@ pub fn deliver<P: Post>(
     if master.is_none() {
         return Err(ClusterFault::MasterDown);
     }
-    match for_master(alloc, items.as_slice(), number) {
+    match for_master(items.as_slice(), number) {
         Ok(ForMaster::Call(stream, call)) => {
             deliver_call(master, items, streams, post, alloc, number, stream, call)
         }

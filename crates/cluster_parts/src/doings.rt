@@ -9,7 +9,7 @@ ghost use Rattle.cluster_model.specs.Mails.{hung_up, ticked};
 ghost use Rattle.cluster_model.specs.Rounds.{allocated};
 ghost use Rattle.cluster_model.specs.Steps.{channel_of, post_at, stream_at};
 ghost use Rattle.mails.specs.declared.call.Call.{Call};
-ghost use Rattle.master_mails.specs.Steps.{lost_by};
+ghost use Rattle.agent_sides.specs.Named.{lost_by};
 ghost use Rattle.names_core.specs.Ids.{Numbered};
 
 use cluster_laws::{masters_stay_in_their_run, named_agents_are_found, refusals_stand_alone};

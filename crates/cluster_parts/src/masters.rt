@@ -12,10 +12,10 @@ use crate::items::Items;
 use cluster_laws::Item;
 use cluster_steps::{Outputs, Sent, Verdict};
 use listed::Listed;
-use mail_copies::copy_to_agent;
 use mails::{Durable, ToAgent};
 use master_core::{Master, MasterFault, Outs, StreamEvent};
 use names_core::StreamId;
+use plain_data::Plain;
 use post_rules::Post;
 use std::alloc::{AllocError, Global};
 use told_streams::Streams;
@@ -72,7 +72,7 @@ fn sent_to(alloc: Global, mails: &[ToAgent]) -> Result<Listed<Sent>, AllocError>
 {
     let mut sent = Listed::from_vec(Vec::with_capacity(alloc, mails.len())?);
     for to in mails {
-        sent.push(Sent::ToAgent(copy_to_agent(alloc, to)?))?;
+        sent.push(Sent::ToAgent(to.copy()?))?;
     }
     Ok(sent)
 }
@@ -83,7 +83,7 @@ fn items_to(alloc: Global, mails: &[ToAgent]) -> Result<Listed<Item>, AllocError
 {
     let mut items = Listed::from_vec(Vec::with_capacity(alloc, mails.len())?);
     for to in mails {
-        items.push(Item::ToAgent(copy_to_agent(alloc, to)?))?;
+        items.push(Item::ToAgent(to.copy()?))?;
     }
     Ok(items)
 }
@@ -137,7 +137,7 @@ fn tell<P: Post>(
         sent: sent_to(alloc, outs.mails.as_slice())?,
         taken: None,
     };
-    let given = outputs.copy(alloc)?;
+    let given = outputs.copy()?;
     let mails = outs.mails.as_slice();
     keep(
         items,

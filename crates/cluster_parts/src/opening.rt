@@ -29,10 +29,10 @@ use cluster_laws::{
 };
 use cluster_safe::masters_step_alone;
 use cluster_steps::{ClusterFault, Outputs, Verdict};
-use mail_copies::copy_record;
 use mails::Durable;
 use master_core::{Config, Master, MasterFault, Outs};
 use names_core::Run;
+use plain_data::Plain;
 use post_rules::Post;
 use std::alloc::{AllocError, Global};
 use told_streams::Streams;
@@ -86,7 +86,7 @@ fn recover_all(alloc: Global, records: &[Durable]) -> Result<Vec<ClusterAgent>, 
 {
     let mut agents = Vec::with_capacity(alloc, records.len())?;
     for durable in records {
-        agents.push(ClusterAgent::recover(alloc, copy_record(alloc, durable)?)?)?;
+        agents.push(ClusterAgent::recover(alloc, durable.copy()?)?)?;
     }
     Ok(agents)
 }

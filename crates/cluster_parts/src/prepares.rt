@@ -17,9 +17,9 @@ use crate::causes::cause_due;
 use crate::laws::prepares_are_made;
 use cluster_laws::Item;
 use cluster_steps::{ClusterFault, StepCause, Verdict};
-use mail_copies::copy_record;
 use mails::{AgentRefusal, Cause, Durable};
 use names_core::AgentName;
+use plain_data::Plain;
 use post_rules::Post;
 use std::alloc::{AllocError, Global};
 
@@ -31,11 +31,11 @@ pub struct Prepared {
 }
 
 /// A copy of the record of an agent's open draft.
-fn draft_record(alloc: Global, agent: &ClusterAgent) -> Result<Option<Durable>, AllocError>
+fn draft_record(agent: &ClusterAgent) -> Result<Option<Durable>, AllocError>
     ensures { IfOk result (λ durable. durable ≡ drafted agent.now) }
 {
     match agent.draft() {
-        Some(draft) => Ok(Some(copy_record(alloc, draft.durable())?)),
+        Some(draft) => Ok(Some(draft.durable().copy()?)),
         None => Ok(None),
     }
 }
@@ -62,7 +62,7 @@ fn draw(agent: &mut ClusterAgent, alloc: Global, cause: Cause) -> Prepared
     ensures name { agent.new.part.name ≡ agent.old.part.name }
 {
     match agent.prepare(alloc, cause) {
-        Ok(None) => match draft_record(alloc, agent) {
+        Ok(None) => match draft_record(agent) {
             Ok(durable) => Prepared {
                 verdict: Verdict::Ok,
                 durable,

@@ -22,12 +22,13 @@ ghost use Rattle.told_streams.specs.Streams.{next_on, taken};
 use crate::items::Items;
 use crate::masters::{Made, sending_twice};
 use cluster_laws::{Item, sent_items_stand, streams_rise};
-use cluster_steps::{ClusterFault, Outputs, Sent, Verdict, copy_event};
+use cluster_steps::{ClusterFault, Outputs, Sent, Verdict};
 use event_json::Event;
 use listed::Listed;
 use mails::Call as SentCall;
 use master_core::StreamEvent;
 use names_core::StreamId;
+use plain_data::Plain;
 use post_rules::Post;
 use std::alloc::Global;
 use told_streams::{Streams, kept_streams_are_found, kept_streams_follow, no_more_is_taken};
@@ -95,12 +96,12 @@ fn taking(alloc: Global, stream: StreamId, event: Event) -> Outputs
 }
 
 /// A copy of the first event that waits on a stream, or `C1 NoSuchMail` where none waits.
-fn first_waiting(streams: &Streams, alloc: Global, id: StreamId) -> Result<Event, ClusterFault>
+fn first_waiting(streams: &Streams, id: StreamId) -> Result<Event, ClusterFault>
     ensures event { IfOk result (λ event. next_on id streams.now ≡ Some event) }
     ensures none { IfErr result (MayLackEvent (next_on id streams.now)) }
 {
     match streams.next(id) {
-        Some(event) => Ok(copy_event(alloc, event)?),
+        Some(event) => Ok(event.copy()?),
         None => Err(ClusterFault::NoSuchMail),
     }
 }
@@ -113,7 +114,7 @@ pub fn take(streams: &mut Streams, alloc: Global, id: StreamId) -> Result<Made, 
     ensures unchanged { OnErr result (streams.new ≡ streams.old) }
 {
     takes_are_made();
-    let copy = first_waiting(streams, alloc, id)?;
+    let copy = first_waiting(streams, id)?;
     match streams.take(id) {
         Some(event) => Ok(Made {
             verdict: Verdict::Ok,

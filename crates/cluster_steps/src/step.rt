@@ -1,10 +1,13 @@
 //! The steps.
 
+ghost use Rattle.std.proofs.Common.{rules};
+
 use mails::Call;
 use names_core::{AgentName, LaunchKey, StreamId, TaskState};
+use plain_data::Plain;
 
 /// What an agent acts on; a mail from the master is named by its number.
-#[derive(Clone, Copy, Debug, Drop)]
+#[derive(Clone, Copy, Debug, Drop, PartialEq, Eq)]
 pub enum StepCause {
     /// It starts, and opens a new session with the master of its last run.
     Start,
@@ -15,8 +18,14 @@ pub enum StepCause {
     Mail(u64),
 }
 
+impl Plain for StepCause {
+    ghost cloned = { Prim.search rules };
+
+    ghost decided = { Prim.search rules };
+}
+
 /// What an agent that stops is recovered from.
-#[derive(Clone, Copy, Debug, Drop)]
+#[derive(Clone, Copy, Debug, Drop, PartialEq, Eq)]
 pub enum Keep {
     /// Its record, without an open draft.
     Before,
@@ -24,8 +33,14 @@ pub enum Keep {
     After,
 }
 
+impl Plain for Keep {
+    ghost cloned = { Prim.search rules };
+
+    ghost decided = { Prim.search rules };
+}
+
 /// What happens in a cluster. Calls and mails have numbers from 1, in the order of their sending.
-#[derive(Debug, Drop)]
+#[derive(Clone, Debug, Drop, PartialEq)]
 pub enum Step {
     /// A framework sends a call on a stream, or on none.
     Send {
@@ -58,4 +73,31 @@ pub enum Step {
     StopMaster,
     /// A framework takes the next event of a stream, open or closed.
     Take(StreamId),
+}
+
+impl Plain for Step {
+    ghost use Rattle.cluster_steps.specs.contracts.step.KeepPlain.TheImpl.Laws.{decided-law as keep_decided};
+    ghost use Rattle.cluster_steps.specs.contracts.step.StepCausePlain.TheImpl.Laws.{decided-law as cause_decided};
+    ghost use Rattle.cluster_steps.specs.declared.step.Step.TheVariants.{Allocate, Commit, Deliver, HangUp, LoseAgent, Prepare, Send, StopAgent, StopMaster, Take, Tick};
+    ghost use Rattle.mails.specs.contracts.call.CallPlain.TheImpl.Laws.{decided-law as call_decided};
+    ghost use Rattle.names_core.specs.contracts.agent.AgentNamePlain.TheImpl.Laws.{decided-law as agent_decided};
+    ghost use Rattle.plain_data.specs.Deciding.{and_decides};
+    ghost use Rattle.std.specs.Bool.{Decides};
+    ghost use Rattle.std.specs.Prelude.{◌≡◌};
+
+    ghost cloned = { Prim.search rules };
+
+    ghost decided = { elim [
+      | Send s c ↦ elim [ Send t d ↦ (let stream : Decides (⟦<Option<StreamId> as PartialEq>⟧.eq s t) (s ≡ t) = Prim.search rules in (let d = and_decides (stream) (call_decided c d) in ((λ h. let e = d.0 h in Prim.search rules), (λ e. d.1 (Prim.search rules))))) | _ ↦ Prim.search rules ]
+      | Deliver n ↦ elim [ Deliver m ↦ Prim.search rules | _ ↦ Prim.search rules ]
+      | Allocate ↦ elim [ Allocate ↦ Prim.search rules | _ ↦ Prim.search rules ]
+      | Tick n ↦ elim [ Tick m ↦ Prim.search rules | _ ↦ Prim.search rules ]
+      | LoseAgent a ↦ elim [ LoseAgent b ↦ Prim.search rules | _ ↦ Prim.search rules ]
+      | HangUp s ↦ elim [ HangUp t ↦ Prim.search rules | _ ↦ Prim.search rules ]
+      | Prepare a c ↦ elim [ Prepare b d ↦ (let d = and_decides (agent_decided a b) (cause_decided c d) in ((λ h. let e = d.0 h in Prim.search rules), (λ e. d.1 (Prim.search rules)))) | _ ↦ Prim.search rules ]
+      | Commit a ↦ elim [ Commit b ↦ Prim.search rules | _ ↦ Prim.search rules ]
+      | StopAgent a k ↦ elim [ StopAgent b l ↦ (let d = and_decides (agent_decided a b) (keep_decided k l) in ((λ h. let e = d.0 h in Prim.search rules), (λ e. d.1 (Prim.search rules)))) | _ ↦ Prim.search rules ]
+      | StopMaster ↦ elim [ StopMaster ↦ Prim.search rules | _ ↦ Prim.search rules ]
+      | Take s ↦ elim [ Take t ↦ Prim.search rules | _ ↦ Prim.search rules ]
+    ] };
 }

@@ -6,9 +6,7 @@ mod of_cluster_core_opening;
 #[cfg(test)]
 mod of_cluster_core_restarts;
 #[cfg(test)]
-mod of_cluster_core_steps;
-#[cfg(test)]
-mod of_cluster_steps;
+mod of_post_rules;
 #[cfg(test)]
 mod of_recorded_cluster;
 #[cfg(test)]

@@ -1,98 +1,97 @@
-//! Which records of two agents, of 4 cpus each, are a good opening.
+//! Which records of two agents, a and b, of 4 cpus each, are a good opening.
 
 ghost use Rattle.std.specs.Prelude.{◌<◌};
 
 use cluster_core::good_opening;
-use listed::Listed;
-use mails::{Durable, Job, RecordedTask};
+use mails::Durable;
 use master_core::Config;
-use names_core::{AgentName, FrameworkId, LaunchKey, OfferId, Run, TaskName};
-use quantity::Resources;
+use names_core::Run;
+use record_text::record_of;
 use std::alloc::Global;
-use std::test::Fail;
-use stream_core::Updates;
+use step_lines::read_config;
 
-fn cpus(alloc: Global, amount: u64) -> Result<Resources, Fail> {
-    let mut made = Resources::new(alloc);
-    made.add(alloc, "cpus", amount)?;
-    Ok(made)
+const AGENTS: &str = r#"{"agents":{"a":{"cpus":4},"b":{"cpus":4}}}"#;
+
+const A: &str = r#"{"name":"a","run":0,"session":0,"tasks":[],"total":{"cpus":4},"version":1}"#;
+
+const B: &str = r#"{"name":"b","run":0,"session":0,"tasks":[],"total":{"cpus":4},"version":1}"#;
+
+const A_IN_RUN_2: &str =
+    r#"{"name":"a","run":2,"session":2,"tasks":[],"total":{"cpus":4},"version":1}"#;
+
+const A_IN_RUN_3: &str =
+    r#"{"name":"a","run":3,"session":3,"tasks":[],"total":{"cpus":4},"version":1}"#;
+
+/// Its task is of run 2, and so is its record.
+const BUSY_A: &str =
+    r#"{"name":"a","run":2,"session":2,"tasks":[{"acked":0,"framework":"F1-1","key":"L2-1","name":"t","offers":["O2-1"],"resources":{"cpus":4},"updates":[]}],"total":{"cpus":4},"version":1}"#;
+
+/// The same, but that the record is of run 1.
+const BUSY_A_IN_RUN_1: &str =
+    r#"{"name":"a","run":1,"session":1,"tasks":[{"acked":0,"framework":"F1-1","key":"L2-1","name":"t","offers":["O2-1"],"resources":{"cpus":4},"updates":[]}],"total":{"cpus":4},"version":1}"#;
+
+/// The same, but that the task has 5 cpus.
+const OVERFULL_A: &str =
+    r#"{"name":"a","run":2,"session":2,"tasks":[{"acked":0,"framework":"F1-1","key":"L2-1","name":"t","offers":["O2-1"],"resources":{"cpus":5},"updates":[]}],"total":{"cpus":4},"version":1}"#;
+
+/// Its task is another than that of a.
+const BUSY_B: &str =
+    r#"{"name":"b","run":2,"session":2,"tasks":[{"acked":0,"framework":"F1-1","key":"L2-2","name":"t","offers":["O2-2"],"resources":{"cpus":4},"updates":[]}],"total":{"cpus":4},"version":1}"#;
+
+/// Its task has the launch key of that of a.
+const B_WITH_THE_KEY_OF_A: &str =
+    r#"{"name":"b","run":2,"session":2,"tasks":[{"acked":0,"framework":"F1-1","key":"L2-1","name":"t","offers":["O2-1"],"resources":{"cpus":4},"updates":[]}],"total":{"cpus":4},"version":1}"#;
+
+/// The first record, the second one, the run, and whether they are a good opening.
+const OPENINGS: [(&str, &str, u16, bool); 9] = [
+    (A, B, 1, true),
+    (B, A, 1, false),
+    (A, A, 1, false),
+    (A_IN_RUN_2, B, 3, true),
+    (A_IN_RUN_3, B, 3, false),
+    (BUSY_A_IN_RUN_1, B, 2, false),
+    (BUSY_A, BUSY_B, 3, true),
+    (BUSY_A, B_WITH_THE_KEY_OF_A, 3, false),
+    (OVERFULL_A, B, 3, false),
+];
+
+fn push_record(records: &mut Vec<Durable>, alloc: Global, text: &str) -> Option<()> {
+    records.push(record_of(alloc, text).ok()?).ok()
 }
 
-/// A task of run 2.
-fn task(alloc: Global, key: u32, amount: u64) -> Result<RecordedTask, Fail>
-    requires { 0 < key }
-{
-    let mut offers = Listed::new(alloc);
-    offers.push(OfferId::new(2, key))?;
-    Ok(RecordedTask {
-        job: Job {
-            key: LaunchKey::new(2, key),
-            framework: FrameworkId::new(1, 1),
-            name: TaskName::from_text(alloc, "t")?,
-            resources: cpus(alloc, amount)?,
-        },
-        offers,
-        updates: Updates::new(alloc),
-    })
+fn configured(alloc: Global) -> Option<Config> {
+    read_config(alloc, AGENTS.as_bytes()).ok()
 }
 
-/// The record of an agent whose last session was in this run.
-fn idle(alloc: Global, name: &str, run: u32) -> Result<Durable, Fail> {
-    Ok(Durable {
-        name: AgentName::from_text(alloc, name)?,
-        total: cpus(alloc, 4)?,
-        session: run,
-        run,
-        tasks: Listed::new(alloc),
-    })
-}
-
-/// The same with one task.
-fn busy(alloc: Global, name: &str, run: u32, task: RecordedTask) -> Result<Durable, Fail> {
-    let mut durable = idle(alloc, name, run)?;
-    durable.tasks.push(task)?;
-    Ok(durable)
-}
-
-fn is_good(alloc: Global, first: Durable, second: Durable, run: u16) -> Result<bool, Fail>
+fn is_good(alloc: Global, records: &[Durable], run: u16) -> Option<bool>
     requires { 0 < run }
 {
-    let mut config = Config::new(alloc);
-    config.add(AgentName::from_text(alloc, "b")?, cpus(alloc, 4)?)?;
-    config.add(AgentName::from_text(alloc, "a")?, cpus(alloc, 4)?)?;
+    let config = configured(alloc)?;
+    Some(good_opening(&config, records, Run::new(run)))
+}
+
+fn push_both(records: &mut Vec<Durable>, alloc: Global, first: &str, second: &str) -> Option<()> {
+    push_record(records, alloc, first)?;
+    push_record(records, alloc, second)
+}
+
+/// Whether two records are a good opening in a run; none where memory was refused.
+fn opens(alloc: Global, first: &str, second: &str, run: u16) -> Option<bool> {
+    if run == 0 {
+        return None;
+    }
     let mut records = Vec::new(alloc);
-    records.push(first)?;
-    records.push(second)?;
-    Ok(good_opening(&config, &records, Run::new(run)))
+    push_both(&mut records, alloc, first, second)?;
+    is_good(alloc, records.as_slice(), run)
 }
 
 #[test]
-fn records_are_those_of_the_agents(rt: HostRuntime) -> Result<(), Fail> {
-    let alloc = rt.alloc();
-    assert!(rt; is_good(alloc, idle(alloc, "a", 0)?, idle(alloc, "b", 0)?, 1)?);
-    assert!(rt; !is_good(alloc, idle(alloc, "b", 0)?, idle(alloc, "a", 0)?, 1)?);
-    assert!(rt; !is_good(alloc, idle(alloc, "a", 0)?, idle(alloc, "a", 0)?, 1)?);
-    Ok(())
-}
-
-#[test]
-fn runs_lie_before_the_opening(rt: HostRuntime) -> Result<(), Fail> {
-    let alloc = rt.alloc();
-    assert!(rt; is_good(alloc, idle(alloc, "a", 2)?, idle(alloc, "b", 0)?, 3)?);
-    assert!(rt; !is_good(alloc, idle(alloc, "a", 3)?, idle(alloc, "b", 0)?, 3)?);
-    let first = busy(alloc, "a", 1, task(alloc, 1, 4)?)?;
-    assert!(rt; !is_good(alloc, first, idle(alloc, "b", 0)?, 2)?);
-    Ok(())
-}
-
-#[test]
-fn tasks_fit_and_have_keys_of_their_own(rt: HostRuntime) -> Result<(), Fail> {
-    let alloc = rt.alloc();
-    let first = busy(alloc, "a", 2, task(alloc, 1, 4)?)?;
-    assert!(rt; is_good(alloc, first, busy(alloc, "b", 2, task(alloc, 2, 4)?)?, 3)?);
-    let first = busy(alloc, "a", 2, task(alloc, 1, 4)?)?;
-    assert!(rt; !is_good(alloc, first, busy(alloc, "b", 2, task(alloc, 1, 4)?)?, 3)?);
-    let first = busy(alloc, "a", 2, task(alloc, 1, 5)?)?;
-    assert!(rt; !is_good(alloc, first, idle(alloc, "b", 0)?, 3)?);
-    Ok(())
+fn records_are_a_good_opening(rt: HostRuntime) {
+    for i in 0..OPENINGS.len() {
+        let (first, second, run, is) = OPENINGS[i];
+        assert!(rt;
+            opens(rt.alloc(), first, second, run) == Some(is),
+            "opening {i}"
+        );
+    }
 }

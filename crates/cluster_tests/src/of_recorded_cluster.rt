@@ -2,18 +2,20 @@
 
 ghost use Rattle.std.specs.Prelude.{◌≡◌, [], IfSome};
 
-use cluster_core::{Cluster, Step, StepCause, fresh_agents_open, fresh_records};
+use cluster_core::{Cluster, Step, fresh_agents_open, fresh_records};
 use desk_lock::{Desk, Office, Pass, Passes, Recorded};
 use master_core::Config;
-use names_core::{AgentName, Run};
+use names_core::Run;
 use post_rules::Queues;
-use quantity::Resources;
 use recorded_cluster::RecordedCluster;
 use std::alloc::Global;
 use std::marker::Brand;
 use std::sync::ledger::Blank;
 use std::sync::{Wait, ledger};
 use std::test::*;
+use std::thread;
+use std::thread::Threads;
+use step_lines::{read_config, read_step};
 
 /// How much a pass saw of the history, and the numbers of its receipts.
 type Seen = (u32, Vec<u32>);
@@ -24,24 +26,34 @@ type Closed = (u32, Vec<u32>);
 /// What the two passes have, and what is left at the close.
 type Seats = (Option<Seen>, Option<Seen>, Option<Closed>);
 
-fn one_agent(alloc: Global) -> Result<Config, Fail> {
-    let mut cpus = Resources::new(alloc);
-    cpus.add(alloc, "cpus", 4)?;
-    let mut config = Config::new(alloc);
-    config.add(AgentName::from_text(alloc, "a1")?, cpus)?;
-    Ok(config)
+fn one_agent(alloc: Global) -> Option<Config> {
+    read_config(alloc, br#"{"agents":{"a1":{"cpus":4}}}"#).ok()
 }
 
 /// The agent answers the master's Hello, which has the number 1, by a Report, which has the number 2.
-fn reports(alloc: Global) -> Result<Vec<Step>, Fail> {
+const REPORTS: [&str; 3] = [
+    r#"{"step":"prepare","agent":"a1","mail":1}"#,
+    r#"{"step":"commit","agent":"a1"}"#,
+    r#"{"step":"deliver","mail":2}"#,
+];
+
+const OFFERS: [&str; 1] = [r#"{"step":"allocate"}"#];
+
+fn push_step(steps: &mut Vec<Step>, alloc: Global, line: &str) -> Option<()> {
+    steps.push(read_step(alloc, line.as_bytes()).ok()?).ok()
+}
+
+fn push_steps(steps: &mut Vec<Step>, alloc: Global, lines: &[&str]) -> Option<()> {
+    for line in lines {
+        push_step(steps, alloc, line)?;
+    }
+    Some(())
+}
+
+fn steps_of(alloc: Global, lines: &[&str]) -> Option<Vec<Step>> {
     let mut steps = Vec::new(alloc);
-    steps.push(Step::Prepare {
-        agent: AgentName::from_text(alloc, "a1")?,
-        cause: StepCause::Mail(1),
-    })?;
-    steps.push(Step::Commit(AgentName::from_text(alloc, "a1")?))?;
-    steps.push(Step::Deliver(2))?;
-    Ok(steps)
+    push_steps(&mut steps, alloc, lines)?;
+    Some(steps)
 }
 
 // These have no clause, so that the proof of what follows them doesn't carry the office. What is recorded is a parameter of theirs: at each exit of a function
@@ -72,6 +84,27 @@ fn passes_of<C: Recorded, L: ledger::Ledger, R: Wait>(
     let one = pass_of(rt, alloc, office, first)?;
     let two = pass_of(rt, alloc, office, others)?;
     Some((one, two))
+}
+
+/// The passes of two seats that took these steps in two threads of a scope.
+fn passes_at_once<C: Recorded + Send, L: ledger::Ledger + Send + Sync, R: Threads + Wait + Sync>(
+    rt: &R,
+    alloc: Global,
+    office: &Office<C, L>,
+    first: Vec<C::Step>,
+    others: Vec<C::Step>,
+) -> Option<(Pass<C::Given, L>, Pass<C::Given, L>)>
+where
+    C::Step: Send,
+    C::Given: Send,
+{
+    thread::scope(thread::scope_env(), rt, |scope| {
+        let Ok(child) = scope.spawn(move || pass_of(rt, alloc, office, first)) else {
+            return None;
+        };
+        let two = pass_of(rt, alloc, office, others);
+        child.join(rt).zip(two)
+    })
 }
 
 fn seen_by<G, L: ledger::Ledger>(alloc: Global, pass: &Pass<G, L>) -> Option<Seen> {
@@ -107,15 +140,25 @@ fn closed<C: Recorded, L: ledger::Ledger>(
     }
 }
 
-/// What two seats have that took these steps one after the other.
-fn seats_of<C: Recorded, L: ledger::Ledger, R: Wait>(
+/// What two seats have that took these steps, at once or one after the other.
+fn seats_of<C: Recorded + Send, L: ledger::Ledger + Send + Sync, R: Threads + Wait + Sync>(
     rt: &R,
     alloc: Global,
     office: Office<C, L>,
     first: Vec<C::Step>,
     others: Vec<C::Step>,
-) -> Option<Seats> {
-    match passes_of(rt, alloc, &office, first, others) {
+    at_once: bool,
+) -> Option<Seats>
+where
+    C::Step: Send,
+    C::Given: Send,
+{
+    let passes = if at_once {
+        passes_at_once(rt, alloc, &office, first, others)
+    } else {
+        passes_of(rt, alloc, &office, first, others)
+    };
+    match passes {
         Some((one, two)) => {
             let (seen, other_seen) = (seen_by(alloc, &one), seen_by(alloc, &two));
             let closed = closed(alloc, office, both(alloc, one, two));
@@ -138,33 +181,83 @@ fn recorded(alloc: Global, config: Config) -> Option<RecordedCluster>
     }
 }
 
-fn two_seats<L: ledger::Ledger, R: Wait>(
+fn two_seats<L: ledger::Ledger + Send + Sync, R: Threads + Wait + Sync>(
     rt: &R,
     alloc: Global,
     blank: Blank,
     config: Config,
     first: Vec<Step>,
     others: Vec<Step>,
+    at_once: bool,
 ) -> Option<Seats>
     requires name { blank.name ≡ L.name }
     requires parts { (blank.parts ≡ L.parts) × (blank.parts ≡ 4294967296) }
 {
     let desk = Desk::<_, L>::new(alloc, recorded(alloc, config)?, blank);
-    seats_of(rt, alloc, Office::new(desk), first, others)
+    seats_of(rt, alloc, Office::new(desk), first, others, at_once)
+}
+
+/// Whether the first three entries are the first seat's, and the fourth the second's.
+fn have_their_entries(seats: &Option<Seats>) -> bool {
+    match seats {
+        Some((Some((4, one)), Some((5, two)), Some((5, seats)))) => {
+            one.as_slice() == [1, 2, 3].as_slice()
+                && two.as_slice() == [4].as_slice()
+                && seats.as_slice() == [1, 1, 1, 2].as_slice()
+        }
+        _ => false,
+    }
 }
 
 #[test]
 fn two_seats_have_their_entries(rt: HostRuntime) -> Result<(), Fail> {
     let alloc = rt.alloc();
-    let (config, first) = (one_agent(alloc)?, reports(alloc)?);
-    let others = vec![in alloc; Step::Allocate]?;
-    let seats = two_seats::<Brand, _>(&rt, alloc, Blank::new(1 << 32), config, first, others);
-    let (one, two, closed) = seats.ok_or("a step is refused")?;
-    let (seen, numbers) = one.ok_or("memory")?;
-    assert!(rt; seen == 4 && numbers.as_slice() == [1, 2, 3].as_slice());
-    let (seen, numbers) = two.ok_or("memory")?;
-    assert!(rt; seen == 5 && numbers.as_slice() == [4].as_slice());
-    let (length, seats) = closed.ok_or("it doesn't close")?;
-    assert!(rt; length == 5 && seats.as_slice() == [1, 1, 1, 2].as_slice());
+    let config = one_agent(alloc).ok_or("memory")?;
+    let first = steps_of(alloc, &REPORTS).ok_or("memory")?;
+    let others = steps_of(alloc, &OFFERS).ok_or("memory")?;
+    let blank = Blank::new(1 << 32);
+    let seats = two_seats::<Brand, _>(&rt, alloc, blank, config, first, others, false);
+    assert!(rt; have_their_entries(&seats));
+    Ok(())
+}
+
+/// 100 steps, in which a second goes by each time.
+fn seconds(alloc: Global) -> Option<Vec<Step>> {
+    let mut steps = Vec::new(alloc);
+    for second in 1..=100u32 {
+        steps.push(Step::Tick(second)).ok()?;
+    }
+    Some(steps)
+}
+
+/// 100 rounds of offers.
+fn rounds(alloc: Global) -> Option<Vec<Step>> {
+    let mut steps = Vec::new(alloc);
+    for _ in 0..100u32 {
+        steps.push(Step::Allocate).ok()?;
+    }
+    Some(steps)
+}
+
+/// Whether each of two seats has 100 receipts, and the close accounts for the entries of both.
+fn have_100_entries_each(seats: &Option<Seats>) -> bool {
+    match seats {
+        Some((Some((_, one)), Some((_, two)), Some((201, seats)))) => {
+            one.len() == 100 && two.len() == 100 && seats.len() == 200
+        }
+        _ => false,
+    }
+}
+
+/// The master's time passes in one thread, and rounds of offers are made in the other.
+#[test]
+fn two_threads_of_100_calls(rt: HostRuntime) -> Result<(), Fail> {
+    let alloc = rt.alloc();
+    let config = one_agent(alloc).ok_or("memory")?;
+    let first = seconds(alloc).ok_or("memory")?;
+    let others = rounds(alloc).ok_or("memory")?;
+    let blank = Blank::new(1 << 32);
+    let seats = two_seats::<Brand, _>(&rt, alloc, blank, config, first, others, true);
+    assert!(rt; have_100_entries_each(&seats));
     Ok(())
 }

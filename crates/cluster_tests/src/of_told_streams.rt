@@ -6,7 +6,6 @@ use event_json::Event;
 use master_state::StreamEvent;
 use names_core::{OfferId, StreamId};
 use std::alloc::Global;
-use std::test::Fail;
 use told_streams::Streams;
 
 fn rescind(run: u16, stream: u32, offer: u32) -> StreamEvent
@@ -21,7 +20,7 @@ fn rescind(run: u16, stream: u32, offer: u32) -> StreamEvent
 }
 
 /// Three streams of two runs; offers 1 and 3 are told on the first one, 2 on the last one, and 4 on one that was never opened.
-fn three_streams(alloc: Global) -> Result<Streams, Fail> {
+fn three_streams(alloc: Global) -> Option<Streams> {
     let mut streams = Streams::new(alloc);
     let opened = [
         StreamId::new(1, 1),
@@ -34,8 +33,8 @@ fn three_streams(alloc: Global) -> Result<Streams, Fail> {
         rescind(1, 1, 3),
         rescind(2, 2, 4),
     ];
-    streams.hear(alloc, &opened, &told)?;
-    Ok(streams)
+    streams.hear(alloc, &opened, &told).ok()?;
+    Some(streams)
 }
 
 /// The number of the offer that an event names.
@@ -71,26 +70,48 @@ fn has(streams: &Streams, run: u16, stream: u32) -> bool
     streams.has(StreamId::new(run, stream))
 }
 
-#[test]
-fn events_wait_on_their_streams(rt: HostRuntime) -> Result<(), Fail> {
-    let streams = three_streams(rt.alloc())?;
-    assert!(rt; count(&streams, 1, 1) == Some(2));
-    assert!(rt; count(&streams, 1, 2) == Some(0));
-    assert!(rt; count(&streams, 2, 1) == Some(1));
-    assert!(rt; count(&streams, 2, 2).is_none());
-    assert!(rt; has(&streams, 1, 2) && !has(&streams, 2, 2));
-    assert!(rt; next(&streams, 2, 1) == Some(2));
-    Ok(())
+/// How many events wait on each stream, and on one that was never opened.
+fn counts(streams: &Streams) -> [Option<usize>; 4] {
+    [
+        count(streams, 1, 1),
+        count(streams, 1, 2),
+        count(streams, 2, 1),
+        count(streams, 2, 2),
+    ]
+}
+
+/// The next events of two streams, those that are taken of the first one until none is left, the next one of the other, and none of one that was never opened.
+fn taken(streams: &mut Streams) -> [Option<u32>; 7] {
+    [
+        next(streams, 2, 1),
+        next(streams, 1, 1),
+        take(streams, 1, 1),
+        take(streams, 1, 1),
+        take(streams, 1, 1),
+        next(streams, 2, 1),
+        take(streams, 2, 2),
+    ]
+}
+
+fn has_opened(streams: &Streams) -> bool {
+    has(streams, 1, 2) && !has(streams, 2, 2)
+}
+
+/// What waits on the streams, whether they are those that were opened, and what is taken.
+type Waiting = ([Option<usize>; 4], bool, [Option<u32>; 7]);
+
+fn waiting(alloc: Global) -> Option<Waiting> {
+    let mut streams = three_streams(alloc)?;
+    Some((counts(&streams), has_opened(&streams), taken(&mut streams)))
 }
 
 #[test]
-fn events_are_taken_in_order(rt: HostRuntime) -> Result<(), Fail> {
-    let mut streams = three_streams(rt.alloc())?;
-    assert!(rt; next(&streams, 1, 1) == Some(1));
-    assert!(rt; take(&mut streams, 1, 1) == Some(1));
-    assert!(rt; take(&mut streams, 1, 1) == Some(3));
-    assert!(rt; take(&mut streams, 1, 1).is_none());
-    assert!(rt; next(&streams, 2, 1) == Some(2));
-    assert!(rt; take(&mut streams, 2, 2).is_none());
-    Ok(())
+fn events_wait_on_their_streams_in_order(rt: HostRuntime) {
+    let waiting = waiting(rt.alloc());
+    let counts = [Some(2), Some(0), Some(1), None];
+    let taken = [Some(2), Some(1), Some(1), Some(3), None, Some(2), None];
+    assert!(rt;
+        waiting == Some((counts, true, taken)),
+        "a stream wants memory, or has others"
+    );
 }

@@ -89,13 +89,13 @@ fn app<'a>(alloc: Global) -> Result<Command<'a>, AllocError>
     let calls = Command::new(alloc, "calls")
         .about(CALLS_ABOUT)
         .after_help(CALLS_HELP);
-    let replay = Command::new(alloc, "replay")
-        .about(REPLAY_ABOUT)
-        .after_help(REPLAY_HELP);
     let top = Command::new(alloc, "mesos_node")
         .about(ABOUT)
         .subcommand_required(true);
     let with_calls = top.subcommand(calls)?;
+    let replay = Command::new(alloc, "replay")
+        .about(REPLAY_ABOUT)
+        .after_help(REPLAY_HELP);
     let with_replay = with_calls.subcommand(replay)?;
     let serve = serve_command(alloc)?;
     let app = with_replay.subcommand(serve)?;

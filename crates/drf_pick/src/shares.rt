@@ -9,6 +9,7 @@ use crate::fault::SharesFault;
 use crate::holder::{Holder, RoleSum, is_before};
 use crate::sum::Sum;
 use names_core::{FrameworkId, RoleName};
+use plain_data::Plain;
 use quantity::Resources;
 use std::alloc::{AllocError, Global};
 use std::marker::Model;
@@ -195,7 +196,7 @@ fn push_role(roles: &mut Vec<RoleSum>, alloc: Global, role: &RoleName) -> Result
     ensures ok { OnOk result (roles.new.items ≡ roles.old.items ++ role_sum_of role.now ∷ []) }
     ensures err { OnErr result (roles.new.items ≡ roles.old.items) }
 {
-    roles.push(RoleSum::new(alloc, role.copy(alloc)?))?;
+    roles.push(RoleSum::new(alloc, role.copy()?))?;
     Ok(())
 }
 
@@ -242,7 +243,7 @@ fn add_holder(
 {
     let count = holders.len();
     make_room(role_places, count)?;
-    holders.push(Holder::new(alloc, framework, role.copy(alloc)?))?;
+    holders.push(Holder::new(alloc, framework, role.copy()?))?;
     match add_role(roles, alloc, role) {
         Ok(place) => {
             keep_place(role_places, count, place);

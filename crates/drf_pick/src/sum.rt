@@ -1,12 +1,13 @@
 //! Sums of amounts by name.
 
-ghost use Rattle.std.specs.Prelude.{◌≡◌, ◌+◌, ◌++◌, [], true, false, Err, OnOk, IfOk};
+ghost use Rattle.std.specs.Prelude.{◌≡◌, ◌+◌, [], true, false, Err, OnOk, IfOk};
 ghost use Rattle.std.specs.List.{list_any};
 ghost use Rattle.quantity.specs.Rows.{amount, covers, rest_of};
 ghost use Rattle.cluster_model.specs.Rounds.{is_at_most_at, stands_at_most_at};
 ghost use Rattle.drf_pick.specs.Sums.{capped, with_more, summed, first_amount, IsSum};
 
 use crate::fault::SharesFault;
+use plain_data::{Plain, push_copies};
 use quantity::{Resources, Row};
 use std::alloc::{AllocError, Global};
 use std::cmp::Ordering;
@@ -41,22 +42,13 @@ fn capped(amount: u64, more: u64) -> u64
     }
 }
 
-fn copied(alloc: Global, row: &Row) -> Result<Row, AllocError>
-    ensures { IfOk result (λ copy. copy ≡ row.now) }
-{
-    Ok(Row {
-        name: row.name.copy(alloc)?,
-        amount: row.amount,
-    })
-}
-
-fn raise(rows: &mut Vec<Row>, alloc: Global, more: &Row) -> Result<(), AllocError>
+fn raise(rows: &mut Vec<Row>, more: &Row) -> Result<(), AllocError>
     ensures { OnOk result (rows.new.items ≡ with_more more.now.name more.now.amount rows.old.items) }
 {
     for i in 0..rows.len() {
         match more.name.as_str().cmp(rows[i].name.as_str()) {
             Ordering::Less => {
-                rows.insert(i, copied(alloc, more)?)?;
+                rows.insert(i, more.copy()?)?;
                 return Ok(());
             }
             Ordering::Equal => {
@@ -66,16 +58,7 @@ fn raise(rows: &mut Vec<Row>, alloc: Global, more: &Row) -> Result<(), AllocErro
             Ordering::Greater => {}
         }
     }
-    rows.push(copied(alloc, more)?)?;
-    Ok(())
-}
-
-fn push_copies(rows: &mut Vec<Row>, alloc: Global, more: &[Row]) -> Result<(), AllocError>
-    ensures { OnOk result (rows.new.items ≡ rows.old.items ++ more.now) }
-{
-    for row in more {
-        rows.push(copied(alloc, row)?)?;
-    }
+    rows.push(more.copy()?)?;
     Ok(())
 }
 
@@ -83,9 +66,9 @@ fn with_rows(alloc: Global, rows: &[Row], more: &[Row]) -> Result<Vec<Row>, Allo
     ensures { IfOk result (λ sum. sum.items ≡ summed rows.now more.now) }
 {
     let mut sum = Vec::new(alloc);
-    push_copies(&mut sum, alloc, rows)?;
+    push_copies(&mut sum, rows)?;
     for row in more {
-        raise(&mut sum, alloc, row)?;
+        raise(&mut sum, row)?;
     }
     Ok(sum)
 }
@@ -122,7 +105,7 @@ fn without(alloc: Global, rows: &[Row], less: &Resources) -> Result<Vec<Row>, Al
         let taken = less.get(row.name.as_str());
         if taken < row.amount {
             rest.push(Row {
-                name: row.name.copy(alloc)?,
+                name: row.name.copy()?,
                 amount: row.amount - taken,
             })?;
         }

@@ -1,12 +1,15 @@
 //! The events.
 
+ghost use Rattle.std.proofs.Common.{rules};
+
 use crate::message::Message;
 use crate::offers::Offers;
 use crate::status::TaskStatus;
 use names_core::{AgentName, FrameworkId, OfferId};
+use plain_data::Plain;
 
 /// What the master tells a framework, as in the events of the Mesos scheduler HTTP API.
-#[derive(Debug, Drop)]
+#[derive(Clone, Debug, Drop, PartialEq)]
 pub enum Event {
     /// The stream is open, for the framework of this id.
     Subscribed { framework: FrameworkId },
@@ -22,4 +25,23 @@ pub enum Event {
     Error { message: Message },
     /// Nothing, so that the stream isn't silent.
     Heartbeat,
+}
+
+impl Plain for Event {
+    ghost use Rattle.event_json.specs.contracts.message.MessagePlain.TheImpl.Laws.{decided-law as message_decided};
+    ghost use Rattle.event_json.specs.contracts.offers.OffersPlain.TheImpl.Laws.{decided-law as offers_decided};
+    ghost use Rattle.event_json.specs.contracts.status.TaskStatusPlain.TheImpl.Laws.{decided-law as status_decided};
+    ghost use Rattle.event_json.specs.declared.event.Event.TheVariants.{Error, Failure, Heartbeat, Offers, Rescind, Subscribed, Update};
+
+    ghost cloned = { Prim.search rules };
+
+    ghost decided = { elim [
+      | Subscribed f ↦ elim [ Subscribed g ↦ Prim.search rules | _ ↦ Prim.search rules ]
+      | Offers o ↦ elim [ Offers p ↦ (let d = offers_decided o p in ((λ h. let e = d.0 h in Prim.search rules), (λ e. d.1 (Prim.search rules)))) | _ ↦ Prim.search rules ]
+      | Rescind o ↦ elim [ Rescind p ↦ Prim.search rules | _ ↦ Prim.search rules ]
+      | Update s ↦ elim [ Update t ↦ (let d = status_decided s t in ((λ h. let e = d.0 h in Prim.search rules), (λ e. d.1 (Prim.search rules)))) | _ ↦ Prim.search rules ]
+      | Failure a ↦ elim [ Failure b ↦ Prim.search rules | _ ↦ Prim.search rules ]
+      | Error m ↦ elim [ Error n ↦ (let d = message_decided m n in ((λ h. let e = d.0 h in Prim.search rules), (λ e. d.1 (Prim.search rules)))) | _ ↦ Prim.search rules ]
+      | Heartbeat ↦ elim [ Heartbeat ↦ Prim.search rules | _ ↦ Prim.search rules ]
+    ] };
 }

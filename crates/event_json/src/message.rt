@@ -2,6 +2,7 @@
 
 ghost use Rattle.std.specs.Prelude.{◌≡◌, ◌≤◌, length, IfOk};
 
+use plain_data::Plain;
 use std::alloc::{AllocError, Global};
 use std::marker::Model;
 
@@ -37,12 +38,37 @@ impl Message {
     {
         self.text.as_str()
     }
+}
 
-    pub fn copy(&self, alloc: Global) -> Result<Message, AllocError>
-        ensures { IfOk result (λ message. message ≡ self.now) }
-    {
+impl Clone for Message {
+    ghost is_clone = { λ one other. other ≡ one };
+
+    fn clone(&self) -> Result<Message, AllocError> {
         Ok(Message {
-            text: String::from_str(alloc, self.text.as_str())?,
+            text: self.text.clone()?,
         })
     }
+}
+
+impl PartialEq for Message {
+    ghost use Rattle.std.specs.Prelude.{nat_eq};
+    ghost use Rattle.std.specs.Cmp.{partial_equiv_from_equiv};
+    ghost use Rattle.std.specs.Cmp.Lexicographic.{nat_list_eq_equiv, pointwise};
+
+    ghost eq = { pointwise nat_eq };
+
+    ghost laws = { partial_equiv_from_equiv nat_list_eq_equiv };
+
+    fn eq(&self, other: &Message) -> bool {
+        self.text == other.text
+    }
+}
+
+impl Plain for Message {
+    ghost use Rattle.std.specs.Cmp.{unsigned_Decides};
+    ghost use Rattle.std.specs.Cmp.Lexicographic.{pointwise_decides};
+
+    ghost cloned = { λ _ _ same. same };
+
+    ghost decided = { pointwise_decides unsigned_Decides };
 }

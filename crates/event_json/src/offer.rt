@@ -1,22 +1,33 @@
 //! An offer.
 
-ghost use Rattle.std.specs.Prelude.{◌≡◌, map, take, IfOk};
-ghost use Rattle.serde_json.specs.Data.{array};
+ghost use Rattle.std.proofs.Common.{rules};
+ghost use Rattle.std.specs.Prelude.{◌≡◌, map, IfOk};
+ghost use Rattle.names_core.specs.Ids.{id_text};
+ghost use Rattle.serde_json.specs.Data.{array, string};
 ghost use Rattle.serde_json.specs.View.{view, items_of};
 ghost use Rattle.event_json.specs.Offers.{row_data, offer_data};
 
 use names_core::{AgentName, FrameworkId, OfferId};
+use plain_data::Plain;
 use quantity::{Resources, Row};
 use serde_json::{Value, json};
 use std::alloc::{AllocError, Global};
 
 /// Resources of an agent that a framework may use.
-#[derive(Debug, Drop)]
+#[derive(Clone, Debug, Drop, PartialEq)]
 pub struct Offer {
     pub id: OfferId,
     pub framework: FrameworkId,
     pub agent: AgentName,
     pub resources: Resources,
+}
+
+impl Plain for Offer {
+    ghost use Rattle.quantity.specs.contracts.resources.ResourcesPlain.TheImpl.Laws.{decided-law as resources_decided};
+
+    ghost cloned = { Prim.search rules };
+
+    ghost decided = { Prim.search (rules, resources_decided) };
 }
 
 #[tactic(auto, unfolding(crate::specs::Offers::row_data))]
@@ -38,22 +49,36 @@ fn rows_value(alloc: Global, rows: &[Row]) -> Result<Value, AllocError>
     Ok(Value::Array(values))
 }
 
+/// The id of a framework as a text.
+fn framework_value(alloc: Global, id: &FrameworkId) -> Result<Value, AllocError>
+    ensures { IfOk result (λ v. view v ≡ string (id_text 70 id.now)) }
+{
+    match id.to_text(alloc) {
+        Ok(text) => Ok(Value::String(text)),
+        Err(_) => Err(AllocError),
+    }
+}
+
+/// The id of an offer as a text.
+fn offer_id_value(alloc: Global, id: &OfferId) -> Result<Value, AllocError>
+    ensures { IfOk result (λ v. view v ≡ string (id_text 79 id.now)) }
+{
+    match id.to_text(alloc) {
+        Ok(text) => Ok(Value::String(text)),
+        Err(_) => Err(AllocError),
+    }
+}
+
 #[tactic(auto, unfolding(crate::specs::Offers::offer_data))]
 pub fn offer_value(alloc: Global, offer: &Offer) -> Result<Value, AllocError>
     ensures { IfOk result (λ v. view v ≡ offer_data offer.now) }
 {
-    let (Ok(id), Ok(framework)) = (offer.id.to_text(alloc), offer.framework.to_text(alloc)) else {
-        return Err(AllocError);
-    };
-    let id = id.as_str();
-    let framework = framework.as_str();
     let agent = offer.agent.as_text();
-    let resources = rows_value(alloc, offer.resources.rows())?;
     json!(in alloc; {
         "agent_id": {"value": agent},
-        "framework_id": {"value": framework},
+        "framework_id": {"value": framework_value(alloc, &offer.framework)?},
         "hostname": agent,
-        "id": {"value": id},
-        "resources": resources
+        "id": {"value": offer_id_value(alloc, &offer.id)?},
+        "resources": rows_value(alloc, offer.resources.rows())?
     })
 }

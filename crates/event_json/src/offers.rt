@@ -6,6 +6,7 @@ ghost use Rattle.serde_json.specs.View.{view, items_of};
 ghost use Rattle.event_json.specs.Offers.{offer_data};
 
 use crate::offer::{Offer, offer_value};
+use plain_data::Plain;
 use serde_json::Value;
 use std::alloc::{AllocError, Global};
 use std::marker::Model;
@@ -47,6 +48,39 @@ impl Offers {
     {
         self.offers.as_slice()
     }
+}
+
+impl Clone for Offers {
+    ghost is_clone = { λ one other. other ≡ one };
+
+    fn clone(&self) -> Result<Offers, AllocError> {
+        Ok(Offers {
+            offers: self.offers.clone()?,
+        })
+    }
+}
+
+impl PartialEq for Offers {
+    ghost use Rattle.event_json.specs.contracts.offer.OfferPlain.TheImpl.Laws.{decided-law as offer_decided};
+    ghost use Rattle.plain_data.specs.Deciding.{per_from_decides};
+    ghost use Rattle.std.specs.Cmp.Lexicographic.{pointwise, pointwise_decides};
+
+    ghost eq = { pointwise ⟦<Offer as PartialEq>⟧.eq };
+
+    ghost laws = { per_from_decides (pointwise_decides offer_decided) };
+
+    fn eq(&self, other: &Offers) -> bool {
+        self.offers == other.offers
+    }
+}
+
+impl Plain for Offers {
+    ghost use Rattle.event_json.specs.contracts.offer.OfferPlain.TheImpl.Laws.{decided-law as offer_decided};
+    ghost use Rattle.std.specs.Cmp.Lexicographic.{pointwise_decides};
+
+    ghost cloned = { λ _ _ same. same };
+
+    ghost decided = { pointwise_decides offer_decided };
 }
 
 pub fn offers_value(alloc: Global, offers: &[Offer]) -> Result<Value, AllocError>

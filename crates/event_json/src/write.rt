@@ -63,14 +63,17 @@ fn value_of(alloc: Global, event: &Event) -> Result<Value, AllocError>
     match event {
         Event::Subscribed { framework } => subscribed(alloc, framework),
         Event::Offers { offers } => {
-            let offers = offers_value(alloc, offers.as_slice())?;
-            json!(in alloc; {"offers": {"offers": offers}, "type": "OFFERS"})
+            let offers = offers.as_slice();
+            json!(in alloc; {
+                "offers": {"offers": offers_value(alloc, offers)?},
+                "type": "OFFERS"
+            })
         }
         Event::Rescind { offer } => rescind(alloc, offer),
-        Event::Update { status } => {
-            let status = status_value(alloc, status)?;
-            json!(in alloc; {"type": "UPDATE", "update": {"status": status}})
-        }
+        Event::Update { status } => json!(in alloc; {
+            "type": "UPDATE",
+            "update": {"status": status_value(alloc, status)?}
+        }),
         Event::Failure { agent } => failure(alloc, agent.as_text()),
         Event::Error { message } => error(alloc, message.as_text()),
         Event::Heartbeat => json!(in alloc; {"type": "HEARTBEAT"}),

@@ -1,6 +1,6 @@
 //! The store of an agent's record.
 
-use activities::Cabinet;
+use agent_core::Cabinet;
 use keep_store::{KeepFault, Keeper};
 use mails::Durable;
 use names_core::AgentName;

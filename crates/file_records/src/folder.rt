@@ -1,6 +1,6 @@
 //! A folder of stores.
 
-ghost use Rattle.std.specs.Prelude.{◌≡◌, map, IfOk, OnOk};
+ghost use Rattle.std.specs.Prelude.{◌≡◌, map, IfOk};
 ghost use Rattle.cluster_laws.specs.Parts.{configured};
 ghost use Rattle.cluster_model.specs.Openings.{GoodOpening};
 
@@ -12,6 +12,7 @@ use cluster_core::good_opening;
 use keep_store::{KeepFault, Keeper};
 use mails::Durable;
 use names_core::Run;
+use plain_data::Plain;
 use quantity::Resources;
 use std::alloc::Global;
 
@@ -55,7 +56,7 @@ fn record_of(
     found: Option<Durable>,
 ) -> Result<Durable, FolderFault> {
     let Some(record) = found else {
-        return Ok(fresh(alloc, agent.name.copy(alloc)?, agent.total.copy(alloc)?));
+        return Ok(fresh(alloc, agent.name.copy()?, agent.total.copy()?));
     };
     if !is_same_total(&record.total, &agent.total) {
         return Err(FolderFault::TotalDiffers {
@@ -78,7 +79,7 @@ fn open_agent<'a>(
         Err(fault) => return Err(FolderFault::Store { path, fault }),
     };
     let record = record_of(rt.alloc(), agent, found)?;
-    let name = agent.name.copy(rt.alloc())?;
+    let name = agent.name.copy()?;
     Ok((record, RecordFile::new(rt, name, path)))
 }
 

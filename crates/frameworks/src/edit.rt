@@ -10,6 +10,7 @@ use crate::look::{is_at, place_in};
 use listed::Listed;
 use mails::Framework;
 use names_core::{AgentName, FrameworkId};
+use plain_data::Plain;
 use quantity::Resources;
 use std::alloc::{AllocError, Global};
 
@@ -93,7 +94,7 @@ fn refuse_one(
     ensures id { framework.new.id ≡ framework.old.id }
 {
     if framework.id == id {
-        let refused = refused.copy(alloc)?;
+        let refused = refused.copy()?;
         filters::add_filter(&mut framework.filters, alloc, now, seconds, agent, refused)?;
     }
     Ok(())

@@ -1,6 +1,6 @@
 //! Filters: resources of an agent that a framework refused for some seconds.
 
-ghost use Rattle.std.specs.Prelude.{◌≡◌, ◌++◌, filter, not, bytes_eq, drop, take, OnOk};
+ghost use Rattle.std.specs.Prelude.{◌≡◌, filter, not, bytes_eq, OnOk};
 ghost use Rattle.std.specs.List.{list_any};
 ghost use Rattle.cluster_model.specs.Masters.{add_filter, clear_on, count_on, drop_oldest};
 ghost use Rattle.cluster_model.specs.Rounds.{refuses, may_be_offered};
@@ -8,6 +8,7 @@ ghost use Rattle.cluster_model.specs.Rounds.{refuses, may_be_offered};
 use listed::Listed;
 use mails::{Filter, Framework};
 use names_core::AgentName;
+use plain_data::Plain;
 use quantity::Resources;
 use std::alloc::{AllocError, Global};
 
@@ -52,7 +53,7 @@ pub fn add_filter(
     if refused.is_empty() || seconds == 0 {
         return Ok(());
     }
-    let agent_name = agent.copy(alloc)?;
+    let agent_name = agent.copy()?;
     if count_on(filters.as_slice(), agent) >= MOST_FILTERS {
         drop_oldest(filters, agent);
     }

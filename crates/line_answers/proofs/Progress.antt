@@ -7,7 +7,7 @@ use Rattle.std.specs.Io.KnownBytes.{Appends, Consumes, IsAtEnd}
 use Rattle.device_io.specs.Read.{all_consumed, consumes_more, consumes_nothing, if_known, some_left}
 use Rattle.device_io.specs.Writes.{AppendsFront}
 use Rattle.device_io.specs.Written.{appends_more, appends_nothing, front_after, front_longer}
-use Rattle.text_lines.specs.Texts.{Reads, all_lines, kept, last_line, lines_of, longest}
+use Rattle.line_answers.specs.Texts.{Reads, all_lines, kept, last_line, lines_of, longest}
 use Rattle.line_answers.specs.Answers.{after_all, answer, told_all}
 use Rattle.line_answers.proofs.Telling.{after-append, after_first, after_none, told-append, told_first, told_none}
 

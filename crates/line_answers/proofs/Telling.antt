@@ -4,7 +4,7 @@ use Rattle.std.proofs.lemmas.List.{take_more, drop_more, map-append, take-append
 use Rattle.std.specs.Io.KnownBytes.{Appends}
 use Rattle.device_io.specs.Writes.{AppendsFront}
 use Rattle.device_io.specs.Written.{front_after, front_longer}
-use Rattle.text_lines.specs.Texts.{bodies}
+use Rattle.line_answers.specs.Texts.{bodies}
 use Rattle.line_answers.specs.Answers.{after_all, told_all}
 
 module _ {S : Type 0} (told : S → List ℕ → List ℕ) (after : S → List ℕ → S) where

@@ -1,6 +1,6 @@
 -- What is told on lines, one after another.
 use Rattle.std.specs.Prelude.{◌≡◌, true, false, ℕ, List, [], ◌∷◌, ◌++◌}
-use Rattle.text_lines.specs.Texts.{all_lines}
+use Rattle.line_answers.specs.Texts.{all_lines}
 
 -- what is told on each line, each behind the lines before it
 unfoldable pub told_all : {S : Type 0} → (S → List ℕ → List ℕ) → (S → List ℕ → S) → S → List (List ℕ) → List ℕ

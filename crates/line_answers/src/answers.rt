@@ -1,16 +1,16 @@
 //! The answer to a text.
 
-ghost use Rattle.std.specs.Prelude.{◌≡◌, ◌<◌, ◌++◌, List, ℕ, length, vec_len, IfOk, IfSome, OnOk, OnErr};
+ghost use Rattle.std.specs.Prelude.{◌≡◌, ◌<◌, ◌++◌, length, vec_len, IfOk, IfSome, OnOk, OnErr};
 ghost use Rattle.std.specs.Io.KnownBytes.{Appends};
 ghost use Rattle.device_io.specs.Writes.{AppendsFront};
-ghost use Rattle.text_lines.specs.Texts.{all_lines, bodies, last_line};
+ghost use Rattle.line_answers.specs.Texts.{all_lines, bodies, last_line};
 ghost use Rattle.line_answers.specs.Answers.{after_all, answer, told_all};
 
+use crate::reader::{Reader, first_lines_stay};
 use crate::teller::Teller;
 use device_io::{put, read_some};
 use std::alloc::{AllocError, Global};
 use std::io::{self, ErrorKind, Read, Write};
-use text_lines::{Reader, first_lines_stay};
 
 /// How many bytes are read at a time, at most.
 const PIECE: usize = 65_536;

@@ -1,8 +1,10 @@
-//! A text that is answered line by line, as it comes.
+//! The lines of a text that comes in pieces, and a text that is answered line by line, as it comes.
 #![tactic(auto)]
 
 mod answers;
+mod reader;
 mod teller;
 
 pub use answers::{Stop, answer_lines};
+pub use reader::{LONGEST_LINE, Reader, first_lines_stay};
 pub use teller::Teller;

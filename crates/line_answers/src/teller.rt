@@ -1,7 +1,7 @@
 //! What answers lines.
 
 ghost use Rattle.std.specs.Prelude.{◌≡◌, [], List, ℕ, Bool, false, IfOk, OnOk};
-ghost use Rattle.text_lines.specs.Texts.{kept};
+ghost use Rattle.line_answers.specs.Texts.{kept};
 
 use std::alloc::{AllocError, Global};
 

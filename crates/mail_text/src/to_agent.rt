@@ -6,7 +6,7 @@ ghost use Rattle.mail_text.specs.Mails.{ack_data, command_data, hello_data, issu
 
 use mails::{Command, Job, MasterMail, ToAgent};
 use names_core::{FrameworkId, LaunchKey, OfferId};
-use record_text::{amounts_value, offers_value};
+use record_text::{amounts_value, framework_value, key_value, offers_value};
 use serde_json::{Value, json};
 use std::alloc::{AllocError, Global};
 
@@ -14,21 +14,14 @@ use std::alloc::{AllocError, Global};
 fn launch_value(alloc: Global, job: &Job, offers: &[OfferId]) -> Result<Value, AllocError>
     ensures { IfOk result (λ v. view v ≡ launch_data job.now offers.now) }
 {
-    let (Ok(framework), Ok(key)) = (job.framework.to_text(alloc), job.key.to_text(alloc)) else {
-        return Err(AllocError);
-    };
-    let framework = framework.as_str();
-    let key = key.as_str();
     let name = job.name.as_text();
-    let offers = offers_value(alloc, offers)?;
-    let resources = amounts_value(alloc, &job.resources)?;
     json!(in alloc; {
         "launch": {
-            "framework": framework,
-            "key": key,
+            "framework": framework_value(alloc, &job.framework)?,
+            "key": key_value(alloc, &job.key)?,
             "name": name,
-            "offers": offers,
-            "resources": resources
+            "offers": offers_value(alloc, offers)?,
+            "resources": amounts_value(alloc, &job.resources)?
         }
     })
 }

@@ -7,7 +7,7 @@ ghost use Rattle.mail_text.specs.Mails.{agent_mail_data, applied_data, booked_da
 
 use mails::{AgentMail, Booked, ToMaster};
 use names_core::{LaunchKey, TaskState};
-use record_text::amounts_value;
+use record_text::{amounts_value, framework_value, key_value};
 use serde_json::{Value, json};
 use std::alloc::{AllocError, Global};
 
@@ -15,25 +15,16 @@ use std::alloc::{AllocError, Global};
 fn booked_value(alloc: Global, task: &Booked) -> Result<Value, AllocError>
     ensures { IfOk result (λ v. view v ≡ booked_data task.now) }
 {
-    let (Ok(framework), Ok(key)) = (
-        task.job.framework.to_text(alloc),
-        task.job.key.to_text(alloc),
-    ) else {
-        return Err(AllocError);
-    };
     let ended = task.ended;
-    let framework = framework.as_str();
-    let key = key.as_str();
     let name = task.job.name.as_text();
-    let resources = amounts_value(alloc, &task.job.resources)?;
     let sent = task.heard;
     let state = task.state.as_text();
     json!(in alloc; {
         "ended": ended,
-        "framework": framework,
-        "key": key,
+        "framework": framework_value(alloc, &task.job.framework)?,
+        "key": key_value(alloc, &task.job.key)?,
         "name": name,
-        "resources": resources,
+        "resources": amounts_value(alloc, &task.job.resources)?,
         "sent": sent,
         "state": state
     })

@@ -1,10 +1,13 @@
 //! What moves an agent.
 
+ghost use Rattle.std.proofs.Common.{rules};
+
 use crate::mail::ToAgent;
 use names_core::{LaunchKey, TaskState};
+use plain_data::Plain;
 
 /// What an agent acts on.
-#[derive(Debug, Drop)]
+#[derive(Clone, Debug, Drop, PartialEq)]
 pub enum Cause {
     /// It starts, and opens a new session with the master of its last run.
     Start,
@@ -14,4 +17,18 @@ pub enum Cause {
     Executor(LaunchKey, TaskState),
     /// It sends again what isn't acknowledged.
     Again,
+}
+
+impl Plain for Cause {
+    ghost use Rattle.mails.specs.contracts.mail.ToAgentPlain.TheImpl.Laws.{decided-law as mail_decided};
+    ghost use Rattle.mails.specs.declared.cause.Cause.TheVariants.{Again, Executor, Mail, Start};
+
+    ghost cloned = { Prim.search rules };
+
+    ghost decided = { elim [
+      | Start ↦ elim [ Start ↦ Prim.search rules | _ ↦ Prim.search rules ]
+      | Mail m ↦ elim [ Mail n ↦ (let d = mail_decided m n in ((λ h. let e = d.0 h in Prim.search rules), (λ e. d.1 (Prim.search rules)))) | _ ↦ Prim.search rules ]
+      | Executor k s ↦ elim [ Executor l t ↦ Prim.search rules | _ ↦ Prim.search rules ]
+      | Again ↦ elim [ Again ↦ Prim.search rules | _ ↦ Prim.search rules ]
+    ] };
 }

@@ -1,5 +1,8 @@
 //! What agents and the master refuse.
 
+ghost use Rattle.std.proofs.Common.{rules};
+
+use plain_data::Plain;
 use thiserror::Error;
 
 /// Why an agent doesn't act on a cause.
@@ -31,6 +34,12 @@ pub enum AgentRefusal {
     SessionsSpent,
 }
 
+impl Plain for AgentRefusal {
+    ghost cloned = { Prim.search rules };
+
+    ghost decided = { Prim.search rules };
+}
+
 /// Why the master doesn't do what a mail or a call asks.
 #[derive(Clone, Copy, Debug, Drop, PartialEq, Eq, Error)]
 pub enum MasterRefusal {
@@ -58,4 +67,10 @@ pub enum MasterRefusal {
     /// A count is at its limit, or a number at its last value.
     #[error("M4 LimitExceeded")]
     LimitExceeded,
+}
+
+impl Plain for MasterRefusal {
+    ghost cloned = { Prim.search rules };
+
+    ghost decided = { Prim.search rules };
 }

@@ -1,10 +1,13 @@
 //! Offers, and what is launched from them.
 
+ghost use Rattle.std.proofs.Common.{rules};
+
 use names_core::{FrameworkId, LaunchKey, OfferId, TaskName, TaskState};
+use plain_data::Plain;
 use quantity::Resources;
 
 /// What is launched under a launch key.
-#[derive(Debug, Drop)]
+#[derive(Clone, Debug, Drop, PartialEq)]
 pub struct Job {
     pub key: LaunchKey,
     pub framework: FrameworkId,
@@ -12,16 +15,32 @@ pub struct Job {
     pub resources: Resources,
 }
 
+impl Plain for Job {
+    ghost use Rattle.quantity.specs.contracts.resources.ResourcesPlain.TheImpl.Laws.{decided-law as resources_decided};
+
+    ghost cloned = { Prim.search rules };
+
+    ghost decided = { Prim.search (rules, resources_decided) };
+}
+
 /// Resources of one agent that are offered to a framework.
-#[derive(Debug, Drop)]
+#[derive(Clone, Debug, Drop, PartialEq)]
 pub struct Offer {
     pub id: OfferId,
     pub framework: FrameworkId,
     pub resources: Resources,
 }
 
+impl Plain for Offer {
+    ghost use Rattle.quantity.specs.contracts.resources.ResourcesPlain.TheImpl.Laws.{decided-law as resources_decided};
+
+    ghost cloned = { Prim.search rules };
+
+    ghost decided = { Prim.search (rules, resources_decided) };
+}
+
 /// A task in the master's books, and in the report of an agent.
-#[derive(Debug, Drop)]
+#[derive(Clone, Debug, Drop, PartialEq)]
 pub struct Booked {
     pub job: Job,
     /// Whether it has ended for good.
@@ -30,4 +49,15 @@ pub struct Booked {
     pub heard: u32,
     /// The state of the last update that was heard of, or TASK_STAGING.
     pub state: TaskState,
+}
+
+impl Plain for Booked {
+    ghost use Rattle.mails.specs.contracts.task.JobPlain.TheImpl.Laws.{decided-law as job_decided};
+    ghost use Rattle.names_core.specs.contracts.state.TaskStatePlain.TheImpl.Laws.{decided-law as state_decided};
+    ghost use Rattle.plain_data.specs.Deciding.{and_decides};
+    ghost use Rattle.std.specs.Cmp.{booleans_Decides, unsigned_Decides};
+
+    ghost cloned = { Prim.search rules };
+
+    ghost decided = { λ x y. (let d = and_decides (job_decided x.job y.job) (and_decides (booleans_Decides x.ended y.ended) (and_decides (unsigned_Decides x.heard y.heard) (state_decided x.state y.state))) in ((λ h. let e = d.0 h in Prim.search rules), (λ e. d.1 (Prim.search rules)))) };
 }

@@ -2,52 +2,20 @@
 
 ghost use Rattle.std.specs.Prelude.{◌≡◌, fold, IfOk, OnOk};
 ghost use Rattle.mails.specs.declared.mail.Command.TheVariants.{Launch};
-ghost use Rattle.master_state.specs.States.{ordered};
 ghost use Rattle.master_accept.specs.Launches.{booked_on, launched_one};
 
 use listed::Listed;
 use mails::{Booked, Command, Job};
 use master_state::State;
 use names_core::{AgentName, OfferId};
+use plain_data::{Plain, copies_of};
 use std::alloc::{AllocError, Global};
-
-fn copy_job(alloc: Global, job: &Job) -> Result<Job, AllocError>
-    ensures { IfOk result (λ copy. copy ≡ job.now) }
-{
-    Ok(Job {
-        key: job.key,
-        framework: job.framework,
-        name: job.name.copy(alloc)?,
-        resources: job.resources.copy(alloc)?,
-    })
-}
-
-fn copy_task(alloc: Global, task: &Booked) -> Result<Booked, AllocError>
-    ensures { IfOk result (λ copy. copy ≡ task.now) }
-{
-    Ok(Booked {
-        job: copy_job(alloc, &task.job)?,
-        ended: task.ended,
-        heard: task.heard,
-        state: task.state,
-    })
-}
-
-fn copy_ids(alloc: Global, ids: &[OfferId]) -> Result<Listed<OfferId>, AllocError>
-    ensures { IfOk result (λ copy. copy ≡ ids.now) }
-{
-    let mut copy = Listed::new(alloc);
-    for id in ids {
-        copy.push(*id)?;
-    }
-    Ok(copy)
-}
 
 fn launch_of(alloc: Global, job: &Job, ids: &[OfferId]) -> Result<Command, AllocError>
     ensures { IfOk result (λ command. command ≡ Launch job.now ids.now) }
 {
-    let job = copy_job(alloc, job)?;
-    let offers = copy_ids(alloc, ids)?;
+    let job = job.copy()?;
+    let offers = Listed::from_vec(copies_of(alloc, ids)?);
     Ok(Command::Launch(job, offers))
 }
 
@@ -59,7 +27,7 @@ fn book(
 ) -> Result<(), AllocError>
     ensures { OnOk result (state.new ≡ booked_on agent.now task.now state.old) }
 {
-    let task = copy_task(alloc, task)?;
+    let task = task.copy()?;
     state.last_key = task.job.key.number();
     state.sides.book_on(agent, task)
 }

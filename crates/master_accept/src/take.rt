@@ -14,6 +14,7 @@ use mails::{Booked, Job, TaskInfo};
 use master_state::State;
 use names_core::{AgentName, FrameworkId, LaunchKey, Run, StreamId, TaskName, TaskState};
 use offer_book::first_among;
+use plain_data::Plain;
 use quantity::Resources;
 use std::alloc::{AllocError, Global};
 
@@ -43,12 +44,12 @@ pub struct HeldTask {
     pub state: TaskState,
 }
 
-fn copy_held(alloc: Global, agent: &AgentName, task: &Booked) -> Result<HeldTask, AllocError>
+fn copy_held(agent: &AgentName, task: &Booked) -> Result<HeldTask, AllocError>
     ensures { IfOk result (λ copy. copy ≡ held_task (place agent.now task.now)) }
 {
     Ok(HeldTask {
-        name: task.job.name.copy(alloc)?,
-        agent: agent.copy(alloc)?,
+        name: task.job.name.copy()?,
+        agent: agent.copy()?,
         state: task.state,
     })
 }
@@ -67,7 +68,7 @@ fn held_of(
     let booked = sides.held(framework, name);
     match first_among(booked, agent, launched, framework, name) {
         None => Ok(None),
-        Some((agent, task)) => Ok(Some(copy_held(alloc, agent, task)?)),
+        Some((agent, task)) => Ok(Some(copy_held(agent, task)?)),
     }
 }
 
@@ -86,8 +87,8 @@ fn tell_asked(
 ) -> Result<(), AllocError>
     ensures { OnOk result (state.new ≡ told_of_task stream task.now.name what (Some task.now.agent) state.old) }
 {
-    let name = task.name.copy(alloc)?;
-    let agent = task.agent.copy(alloc)?;
+    let name = task.name.copy()?;
+    let agent = task.agent.copy()?;
     state.tell_task(stream, name, what, Some(agent))
 }
 
@@ -128,19 +129,14 @@ fn is_covered(agent: &AgentName, rest: &Resources, task: &TaskInfo) -> bool
     task.agent.is(agent) && !task.resources.is_empty() && rest.covers(&task.resources)
 }
 
-fn new_task(
-    alloc: Global,
-    framework: FrameworkId,
-    key: LaunchKey,
-    task: &TaskInfo,
-) -> Result<Booked, AllocError>
+fn new_task(framework: FrameworkId, key: LaunchKey, task: &TaskInfo) -> Result<Booked, AllocError>
     ensures { IfOk result (λ booked. booked ≡ new_task framework key task.now) }
 {
     let job = Job {
         key,
         framework,
-        name: task.name.copy(alloc)?,
-        resources: task.resources.copy(alloc)?,
+        name: task.name.copy()?,
+        resources: task.resources.copy()?,
     };
     Ok(Booked {
         job,
@@ -162,9 +158,7 @@ fn launch(
 {
     progress.last_key += 1;
     let key = LaunchKey::new(run.number(), progress.last_key);
-    progress
-        .launched
-        .push(new_task(alloc, framework, key, task)?)?;
+    progress.launched.push(new_task(framework, key, task)?)?;
     progress.rest.reduce_by(&task.resources);
     Ok(())
 }

@@ -5,7 +5,6 @@ ghost use Rattle.mails.specs.declared.call.Call.TheVariants as calls;
 ghost use Rattle.cluster_model.specs.Sides.{SendAck, SendKill};
 ghost use Rattle.cluster_model.specs.Masters.{AtSide, held, side_of};
 ghost use Rattle.cluster_model.specs.Calls.{called, commanding};
-ghost use Rattle.master_state.specs.States.{told_of_task};
 ghost use Rattle.master_state.specs.Works.{Gave, master_of};
 ghost use Rattle.offer_book.specs.Held.{place};
 ghost use Rattle.master_calls.specs.Tasks.{held_task, kills};
@@ -13,6 +12,7 @@ ghost use Rattle.master_calls.specs.Tasks.{held_task, kills};
 use mails::{Booked, Command, MasterRefusal};
 use master_state::{MasterFault, State};
 use names_core::{AgentName, FrameworkId, LaunchKey, StreamId, TaskName, TaskState, UpdateId};
+use plain_data::Plain;
 use std::alloc::{AllocError, Global};
 
 /// What an answer tells of a booked task.
@@ -33,8 +33,8 @@ pub(crate) fn copy_held(
     ensures { IfOk result (λ copy. copy ≡ held_task (place agent.now task.now)) }
 {
     Ok(HeldTask {
-        name: task.job.name.copy(alloc)?,
-        agent: agent.copy(alloc)?,
+        name: task.job.name.copy()?,
+        agent: agent.copy()?,
         key: task.job.key,
         ended: task.ended,
         state: task.state,

@@ -15,6 +15,7 @@ use mails::{Booked, ReconciledTask};
 use master_state::{MasterFault, State};
 use names_core::{AgentName, FrameworkId, LaunchKey, StreamId, TaskState};
 use offer_book::Account;
+use plain_data::Plain;
 use std::alloc::{AllocError, Global};
 use std::collections::BTreeMap;
 
@@ -33,7 +34,7 @@ fn copy_agent(alloc: Global, agent: &Option<AgentName>) -> Result<Option<AgentNa
 {
     match agent {
         None => Ok(None),
-        Some(agent) => Ok(Some(agent.copy(alloc)?)),
+        Some(agent) => Ok(Some(agent.copy()?)),
     }
 }
 
@@ -53,7 +54,7 @@ fn reconcile_as(
     if is_awaited(state, &asked.agent) {
         return Ok(());
     }
-    let name = asked.name.copy(alloc)?;
+    let name = asked.name.copy()?;
     let agent = copy_agent(alloc, &asked.agent)?;
     state.tell_task(stream, name, TaskState::Lost, agent)
 }

@@ -6,7 +6,7 @@ use Rattle.cluster_model.specs.Sides.{Side}
 use Rattle.cluster_model.specs.Masters.{Doing, Master, nothing}
 use Rattle.cluster_model.specs.Mails.{agent_lost}
 use Rattle.agent_sides.specs.Looks.{told_of}
-use Rattle.master_mails.specs.Steps.{lost_by}
+use Rattle.agent_sides.specs.Named.{lost_by}
 
 abbrev NotRefused : Doing → Type 0
 NotRefused d = d.refusal ≡ None

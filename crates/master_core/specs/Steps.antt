@@ -18,7 +18,7 @@ use Rattle.master_state.specs.declared.state.Outs.{Outs}
 use Rattle.master_state.specs.declared.state.State.{State}
 use Rattle.master_state.specs.States.{cleared, no_outs}
 use Rattle.master_state.specs.Works.{master_of, run_of, written}
-use Rattle.master_mails.specs.Steps.{mailed_by}
+use Rattle.agent_sides.specs.Named.{mailed_by}
 use Rattle.side_fits.specs.Fits.{SidesFit}
 pub use Rattle.master_core.specs.declared.master.HeardMail.{HeardMail}
 

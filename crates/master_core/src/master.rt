@@ -8,7 +8,8 @@ ghost use Rattle.cluster_model.specs.Mails.{hung_up, ticked};
 ghost use Rattle.cluster_model.specs.Rounds.{allocated};
 ghost use Rattle.master_state.specs.States.{fresh};
 ghost use Rattle.master_state.specs.Works.{Gave, master_of};
-ghost use Rattle.master_mails.specs.Steps.{FitsRecord, lost_by};
+ghost use Rattle.agent_sides.specs.Named.{lost_by};
+ghost use Rattle.cluster_model.specs.Mails.{FitsRecord};
 ghost use Rattle.side_fits.specs.Fits.{MailFitsAt};
 ghost use Rattle.master_core.specs.Steps.{Answers, Hears, greeting, is_open, of_memory, offered_on, outs_of};
 

@@ -13,7 +13,8 @@ use Rattle.master_state.specs.declared.state.StreamEvent.{StreamEvent}
 use Rattle.master_state.specs.Works.{Work, done, master_of, registers_of, work_of, written}
 use Rattle.master_state.proofs.Doings.{none_more, nothing_done, with_moves}
 use Rattle.master_state.proofs.Greeting.{changes_silently, greets}
-use Rattle.master_mails.specs.Steps.{left, lost_by, rescinded, with_failures, with_losses, with_lost, with_told, without_filters}
+use Rattle.master_mails.specs.Steps.{left, rescinded, with_failures, with_losses, with_lost, with_told, without_filters}
+use Rattle.agent_sides.specs.Named.{lost_by}
 use Rattle.master_mails.proofs.Naming.{found_in, found_named, told_as, told_in}
 
 -- events that are told one list after the other

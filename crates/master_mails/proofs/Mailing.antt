@@ -20,7 +20,8 @@ use Rattle.master_state.specs.Greetings.{greeted}
 use Rattle.master_state.specs.Works.{Work, done, master_of, run_of, work_of}
 use Rattle.master_state.proofs.Doings.{none_more, nothing_done, says}
 use Rattle.master_state.proofs.Greeting.{greets}
-use Rattle.master_mails.specs.Steps.{Answered, having_heard, mailed_by, turned_away, with_told}
+use Rattle.master_mails.specs.Steps.{Answered, having_heard, turned_away, with_told}
+use Rattle.agent_sides.specs.Named.{mailed_by}
 use Rattle.master_mails.specs.Tells.{news}
 use Rattle.master_mails.proofs.Naming.{found_in, found_named, hears_at, told_as, told_in}
 

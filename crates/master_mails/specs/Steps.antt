@@ -12,32 +12,18 @@ use Rattle.cluster_model.specs.Events.{Told, FAILURE}
 use Rattle.cluster_model.specs.Masters.{Doing, Master, clear_on, nothing, tells_all}
 use Rattle.cluster_model.specs.Mails.{agent_lost, hear_at, is_to_end, mailed}
 use Rattle.cluster_model.specs.Sides.{lost}
-use Rattle.stream_core.specs.Updates.{most_updates}
 use Rattle.agent_sides.specs.Changes.{reporting}
 use Rattle.agent_sides.specs.Looks.{at_name, told_of}
+use Rattle.agent_sides.specs.Named.{mailed_by}
 use Rattle.master_state.specs.Greetings.{greeted}
 use Rattle.master_state.specs.declared.state.State.{State}
 use Rattle.master_state.specs.States.{ordered}
 use Rattle.master_state.specs.Works.{Work, done, master_of, work_of, written}
 use Rattle.master_mails.specs.Tells.{loss_of, rescind_of}
 
--- what is done when the agent of this name is lost; nothing where it isn't configured
-abbrev pub lost_by : Master → List ℕ → Doing
-lost_by m agent = told_of agent (agent_lost m) (nothing m) m.sides
-
--- what goes with a mail of the agent of this name; nothing where it isn't configured
-abbrev pub mailed_by : Master → List ℕ → AgentMail → Doing
-mailed_by m agent mail = told_of agent (λ s. mailed m s mail) (nothing m) m.sides
-
 -- what a master holds, once the side of an agent has heard a mail
 abbrev pub having_heard : List ℕ → AgentMail → Work → Work
 having_heard agent mail w = record w { moved = record w.moved { sides = hear_at agent w.moved.run mail w.moved.sides } }
-
--- an update has a number that an agent's record has room for
-abbrev pub FitsRecord : AgentMail → Type 0
-FitsRecord (Report session number tasks) = ⊤
-FitsRecord (Applied session count) = ⊤
-FitsRecord (Update session key k state ended) = k < most_updates
 
 -- an agent's mail was heard, with what goes with it, and why it is refused is told; where memory was refused nothing is told
 abbrev pub Answered : Result (Option MasterRefusal) AllocError → State → State → List ℕ → AgentMail → Type 0

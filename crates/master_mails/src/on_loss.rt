@@ -2,7 +2,8 @@
 
 ghost use Rattle.std.specs.Prelude.{◌≡◌, OnOk};
 ghost use Rattle.master_state.specs.Works.{done, master_of, work_of};
-ghost use Rattle.master_mails.specs.Steps.{left, lost_by};
+ghost use Rattle.master_mails.specs.Steps.{left};
+ghost use Rattle.agent_sides.specs.Named.{lost_by};
 
 use crate::reported::Reported;
 use crate::tell;

@@ -3,7 +3,8 @@
 ghost use Rattle.std.specs.Prelude.{◌≡◌, ◌<◌, Some, IfOk, OnOk};
 ghost use Rattle.stream_core.specs.Updates.{most_updates};
 ghost use Rattle.mails.specs.declared.mail.AgentMail.TheVariants.{Applied, Report, Update};
-ghost use Rattle.master_mails.specs.Steps.{Answered, FitsRecord, turned_away};
+ghost use Rattle.master_mails.specs.Steps.{Answered, turned_away};
+ghost use Rattle.cluster_model.specs.Mails.{FitsRecord};
 
 use crate::opening::open_session;
 use crate::tell;

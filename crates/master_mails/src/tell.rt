@@ -18,6 +18,7 @@ use mails::{Booked, Framework, Offer};
 use master_state::StreamEvent;
 use names_core::{AgentName, FrameworkId, LaunchKey, StreamId, TaskState, UpdateId};
 use offer_book::Heard;
+use plain_data::Plain;
 use std::alloc::{AllocError, Global};
 
 fn open_stream_of(frameworks: &Frameworks, framework: FrameworkId) -> Option<StreamId>
@@ -76,9 +77,9 @@ fn lost(alloc: Global, agent: &AgentName, task: &Booked) -> Result<Event, AllocE
 {
     Ok(Event::Update {
         status: TaskStatus {
-            task: task.job.name.copy(alloc)?,
+            task: task.job.name.copy()?,
             state: TaskState::Lost,
-            agent: Some(agent.copy(alloc)?),
+            agent: Some(agent.copy()?),
             update: None,
         },
     })
@@ -134,7 +135,7 @@ fn tell_failure(
     match framework.stream {
         None => Ok(()),
         Some(stream) => {
-            let agent = agent.copy(alloc)?;
+            let agent = agent.copy()?;
             events.push(StreamEvent {
                 stream,
                 event: Event::Failure { agent },
@@ -209,9 +210,9 @@ fn updated(
 {
     Ok(Event::Update {
         status: TaskStatus {
-            task: task.job.name.copy(alloc)?,
+            task: task.job.name.copy()?,
             state: update.state,
-            agent: Some(agent.copy(alloc)?),
+            agent: Some(agent.copy()?),
             update: Some(UpdateId::new(update.key, update.k as u16)),
         },
     })

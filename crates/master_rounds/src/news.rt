@@ -2,7 +2,7 @@
 
 ghost use Rattle.std.specs.Prelude.{◌≡◌, ◌++◌, ◌≤◌, filter, flat_map, length, IfOk, OnOk};
 ghost use Rattle.cluster_model.specs.Ids.{same};
-ghost use Rattle.master_rounds.specs.News.{event_on, news_of, offers_all, offers_event, plain};
+ghost use Rattle.master_rounds.specs.News.{news_of, offers_all, offers_event, plain};
 
 use agent_sides::Sides;
 use event_json::{Event, Offer, Offers};
@@ -10,15 +10,16 @@ use listed::Listed;
 use mails::Framework;
 use master_state::StreamEvent;
 use names_core::{FrameworkId, StreamId};
+use plain_data::Plain;
 use std::alloc::{AllocError, Global};
 
-fn plain(alloc: Global, offer: &Offer) -> Result<mails::Offer, AllocError>
+fn plain(offer: &Offer) -> Result<mails::Offer, AllocError>
     ensures { IfOk result (λ copy. copy ≡ plain offer.now) }
 {
     Ok(mails::Offer {
         id: offer.id,
         framework: offer.framework,
-        resources: offer.resources.copy(alloc)?,
+        resources: offer.resources.copy()?,
     })
 }
 
@@ -27,7 +28,7 @@ pub fn offer_all(sides: &mut Sides, alloc: Global, offers: &[Offer]) -> Result<(
     ensures { OnOk result (sides.new ≡ offers_all offers.now sides.old) }
 {
     for offer in offers {
-        let made = plain(alloc, offer)?;
+        let made = plain(offer)?;
         sides.offer_to(alloc, &offer.agent, made)?;
     }
     Ok(())
@@ -39,14 +40,14 @@ fn is_for(offer: &Offer, framework: FrameworkId) -> bool
     offer.framework.number() == framework.number() && offer.framework.run() == framework.run()
 }
 
-fn copied(alloc: Global, offer: &Offer) -> Result<Offer, AllocError>
+fn copied(offer: &Offer) -> Result<Offer, AllocError>
     ensures { IfOk result (λ copy. copy ≡ offer.now) }
 {
     Ok(Offer {
         id: offer.id,
         framework: offer.framework,
-        agent: offer.agent.copy(alloc)?,
-        resources: offer.resources.copy(alloc)?,
+        agent: offer.agent.copy()?,
+        resources: offer.resources.copy()?,
     })
 }
 
@@ -63,7 +64,7 @@ fn offers_for(
     let mut copies = Vec::new(alloc);
     for offer in offers {
         if is_for(offer, framework) {
-            copies.push(copied(alloc, offer)?)?;
+            copies.push(copied(offer)?)?;
         }
     }
     Ok(copies)

@@ -14,6 +14,7 @@ use listed::Listed;
 use mails::Framework;
 use master_state::State;
 use names_core::{AgentName, FrameworkId, OfferId, Run};
+use plain_data::Plain;
 use quantity::Resources;
 use round_shares::{picked, shares_of};
 use std::alloc::{AllocError, Global};
@@ -60,7 +61,7 @@ fn go_to(
     ensures ok { OnOk result (progress.new ≡ goes_to run agent.now free progress.old (Some framework)) }
 {
     give(&mut progress.shares, alloc, framework, &free)?;
-    let agent = agent.copy(alloc)?;
+    let agent = agent.copy()?;
     let id = OfferId::new(run.number(), progress.next as u32);
     progress.made.push(Offer {
         id,

@@ -6,6 +6,7 @@ ghost use Rattle.master_state.specs.Greetings.{greeted};
 use crate::state::State;
 use mails::{MasterMail, ToAgent};
 use names_core::AgentName;
+use plain_data::Plain;
 use std::alloc::{AllocError, Global};
 
 impl State {
@@ -16,7 +17,7 @@ impl State {
         let Some(dead) = self.sides.closed(agent) else {
             return Ok(());
         };
-        let name = agent.copy(alloc)?;
+        let name = agent.copy()?;
         let run = u32::from(self.run.number());
         self.send(ToAgent {
             agent: name,

@@ -1,6 +1,6 @@
 //! Commands to agents, and offers that are withdrawn.
 
-ghost use Rattle.std.specs.Prelude.{◌≡◌, map, OnOk};
+ghost use Rattle.std.specs.Prelude.{◌≡◌, OnOk};
 ghost use Rattle.cluster_model.specs.Masters.{is_of};
 ghost use Rattle.cluster_model.specs.Sides.{is_named};
 ghost use Rattle.master_state.specs.States.{ordered, without_offers};
@@ -8,6 +8,7 @@ ghost use Rattle.master_state.specs.States.{ordered, without_offers};
 use crate::state::State;
 use mails::{Command, MasterMail, ToAgent};
 use names_core::{AgentName, FrameworkId, OfferId};
+use plain_data::Plain;
 use std::alloc::{AllocError, Global};
 
 impl State {
@@ -22,7 +23,7 @@ impl State {
         requires { copy ≡ command }
         ensures { OnOk result (self.new ≡ ordered agent.now command self.old) }
     {
-        let name = agent.copy(alloc)?;
+        let name = agent.copy()?;
         match self.sides.issue_to(agent, command) {
             Err(_) => Err(AllocError),
             Ok(None) => Ok(()),

@@ -1,7 +1,7 @@
 //! What the master knows.
 
+ghost use Rattle.std.proofs.Common.{rules};
 ghost use Rattle.std.specs.Prelude.{◌≡◌, IfOk};
-ghost use Rattle.agent_sides.specs.Changes.{side_of};
 ghost use Rattle.master_state.specs.States.{cleared, fresh, no_outs};
 
 use agent_sides::{Config, Sides};
@@ -10,14 +10,23 @@ use frameworks::Frameworks;
 use listed::Listed;
 use mails::ToAgent;
 use names_core::{FrameworkId, Run, StreamId};
+use plain_data::Plain;
 use std::alloc::{AllocError, Global};
 use std::mem;
 
 /// An event on a stream.
-#[derive(Debug, Drop)]
+#[derive(Clone, Debug, Drop, PartialEq)]
 pub struct StreamEvent {
     pub stream: StreamId,
     pub event: Event,
+}
+
+impl Plain for StreamEvent {
+    ghost use Rattle.event_json.specs.contracts.event.EventPlain.TheImpl.Laws.{decided-law as event_decided};
+
+    ghost cloned = { Prim.search rules };
+
+    ghost decided = { Prim.search (rules, event_decided) };
 }
 
 /// What a step brings out.

@@ -3,18 +3,25 @@
 
 ghost use Rattle.std.specs.Prelude.{IfOk};
 ghost use Rattle.std.specs.Process.{exit_status};
-ghost use Rattle.exit_statuses.specs.Statuses.{IsStatus};
+ghost use Rattle.mesos_node.specs.Statuses.{IsStatus};
+
+mod ends;
+mod fault;
+mod serve;
+mod streams;
+mod words;
 
 use command_line::{Action, command_of};
-use exit_statuses::{tell, tell_unread, tell_words};
-use serve_command::run_serve;
+use ends::tell;
+use serve::run_serve;
 use std::net::{Net, TcpListener, TcpStream};
 use std::process::ExitCode;
 use std::sync::Wait;
 use std::thread::Threads;
 use std::time::Clock;
 use std::{env, io};
-use stream_commands::{run_calls, run_replay};
+use streams::{run_calls, run_replay};
+use words::{tell_unread, tell_words};
 
 /// Does what the words of the command line name.
 fn run<R: Net<Listener = TcpListener, Stream = TcpStream> + Threads + Wait + Clock + Sync>(

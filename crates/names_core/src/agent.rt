@@ -5,6 +5,7 @@ ghost use Rattle.names_core.specs.Names.{is_name, is_configured};
 
 use crate::fault::NameFault;
 use crate::name::{is_configured_name, is_plain_name};
+use plain_data::Plain;
 use std::alloc::{AllocError, Global};
 use std::marker::Model;
 
@@ -53,18 +54,43 @@ impl AgentName {
         self.as_text() == other.as_text()
     }
 
-    pub fn copy(&self, alloc: Global) -> Result<AgentName, AllocError>
-        ensures { IfOk result (λ name. name ≡ self.now) }
-    {
-        Ok(AgentName {
-            text: String::from_str(alloc, self.text.as_str())?,
-        })
-    }
-
     /// Whether a configuration may have an agent of this name: 1 to 64 ASCII letters, digits, `-`, `_` and `.`.
     pub fn can_be_configured(&self) -> bool
         ensures { result ≡ is_configured self.now }
     {
         is_configured_name(self.text.as_str())
     }
+}
+
+impl Clone for AgentName {
+    ghost is_clone = { λ one other. other ≡ one };
+
+    fn clone(&self) -> Result<AgentName, AllocError> {
+        Ok(AgentName {
+            text: self.text.clone()?,
+        })
+    }
+}
+
+impl PartialEq for AgentName {
+    ghost use Rattle.std.specs.Prelude.{nat_eq};
+    ghost use Rattle.std.specs.Cmp.{partial_equiv_from_equiv};
+    ghost use Rattle.std.specs.Cmp.Lexicographic.{nat_list_eq_equiv, pointwise};
+
+    ghost eq = { pointwise nat_eq };
+
+    ghost laws = { partial_equiv_from_equiv nat_list_eq_equiv };
+
+    fn eq(&self, other: &AgentName) -> bool {
+        self.text == other.text
+    }
+}
+
+impl Plain for AgentName {
+    ghost use Rattle.std.specs.Cmp.{unsigned_Decides};
+    ghost use Rattle.std.specs.Cmp.Lexicographic.{pointwise_decides};
+
+    ghost cloned = { λ _ _ same. same };
+
+    ghost decided = { pointwise_decides unsigned_Decides };
 }

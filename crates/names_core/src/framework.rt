@@ -6,6 +6,7 @@ ghost use Rattle.names_core.specs.Ids.{InRange, id_text, id_of};
 
 use crate::fault::NameFault;
 use crate::numbered::{numbers_of, text_of};
+use plain_data::Plain;
 use std::alloc::Global;
 use std::marker::Model;
 
@@ -27,6 +28,14 @@ impl Model for FrameworkId {
     ghost invariant = { λ i. (0 < i.run) × (0 < i.n) };
 
     ghost inverse = { λ i. record { run = i.run; n = i.n } };
+}
+
+impl Plain for FrameworkId {
+    ghost use Rattle.std.proofs.Common.{rules};
+
+    ghost cloned = { Prim.search rules };
+
+    ghost decided = { Prim.search rules };
 }
 
 impl FrameworkId {

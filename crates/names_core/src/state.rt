@@ -4,6 +4,8 @@ ghost use Rattle.std.specs.Prelude.{◌≡◌, Some};
 ghost use Rattle.names_core.specs.States.{state_text, state_of, is_terminal};
 ghost use Rattle.names_core.specs.declared.state.TaskState.{TaskState};
 
+use plain_data::Plain;
+
 /// The task states of the Mesos scheduler HTTP API that this cluster manager tells.
 #[derive(Clone, Copy, Debug, Drop, PartialEq, Eq)]
 pub enum TaskState {
@@ -20,6 +22,14 @@ pub enum TaskState {
     Lost,
     /// Never launched, because what was asked can't be had.
     Error,
+}
+
+impl Plain for TaskState {
+    ghost use Rattle.std.proofs.Common.{rules};
+
+    ghost cloned = { Prim.search rules };
+
+    ghost decided = { Prim.search rules };
 }
 
 impl TaskState {

@@ -5,6 +5,7 @@ ghost use Rattle.names_core.specs.Names.{is_name};
 
 use crate::fault::NameFault;
 use crate::name::is_plain_name;
+use plain_data::Plain;
 use std::alloc::{AllocError, Global};
 use std::marker::Model;
 
@@ -53,12 +54,37 @@ impl TaskName {
     {
         self.as_text() == other.as_text()
     }
+}
 
-    pub fn copy(&self, alloc: Global) -> Result<TaskName, AllocError>
-        ensures { IfOk result (λ name. name ≡ self.now) }
-    {
+impl Clone for TaskName {
+    ghost is_clone = { λ one other. other ≡ one };
+
+    fn clone(&self) -> Result<TaskName, AllocError> {
         Ok(TaskName {
-            text: String::from_str(alloc, self.text.as_str())?,
+            text: self.text.clone()?,
         })
     }
+}
+
+impl PartialEq for TaskName {
+    ghost use Rattle.std.specs.Prelude.{nat_eq};
+    ghost use Rattle.std.specs.Cmp.{partial_equiv_from_equiv};
+    ghost use Rattle.std.specs.Cmp.Lexicographic.{nat_list_eq_equiv, pointwise};
+
+    ghost eq = { pointwise nat_eq };
+
+    ghost laws = { partial_equiv_from_equiv nat_list_eq_equiv };
+
+    fn eq(&self, other: &TaskName) -> bool {
+        self.text == other.text
+    }
+}
+
+impl Plain for TaskName {
+    ghost use Rattle.std.specs.Cmp.{unsigned_Decides};
+    ghost use Rattle.std.specs.Cmp.Lexicographic.{pointwise_decides};
+
+    ghost cloned = { λ _ _ same. same };
+
+    ghost decided = { pointwise_decides unsigned_Decides };
 }

@@ -1,7 +1,6 @@
 //! The ids of status updates.
 
-ghost use Rattle.std.specs.Prelude.{◌≡◌, ◌↔◌, ◌<◌, ◌⊎◌, IfOk, IfErr, IfSome, Some, List, ℕ, length, string_bytes};
-ghost use Rattle.std.specs.Result.{result_ok};
+ghost use Rattle.std.specs.Prelude.{◌≡◌, ◌↔◌, ◌<◌, ◌⊎◌, IfOk, IfErr, Some, List, ℕ, string_bytes};
 ghost use Rattle.base64.specs.GeneralPurpose.{IsBytes};
 ghost use Rattle.names_core.specs.Updates.{Update, IsUpdate, update_bytes, update_in, update_text, update_of};
 
@@ -9,6 +8,7 @@ use crate::fault::NameFault;
 use crate::launch::LaunchKey;
 use base64::DecodeAllocError;
 use base64::engine::general_purpose::STANDARD;
+use plain_data::Plain;
 use std::alloc::Global;
 use std::marker::Model;
 use uuid::Uuid;
@@ -34,6 +34,14 @@ impl Model for UpdateId {
     ghost invariant = { λ u. u.index < 4096 };
 
     ghost inverse = { λ u. record { key = u.key; index = u.k } };
+}
+
+impl Plain for UpdateId {
+    ghost use Rattle.std.proofs.Common.{rules};
+
+    ghost cloned = { Prim.search rules };
+
+    ghost decided = { Prim.search rules };
 }
 
 impl UpdateId {

@@ -54,10 +54,6 @@ unended_rows b = if b.ended then [] else b.job.resources
 abbrev pub named_offers : Account → Numbered → List Numbered → List Offer
 named_offers a framework ids = filter (is_named framework ids) a.offers
 
--- the part of the total that a framework's offers of these ids take
-abbrev pub named_part : Account → Numbered → List Numbered → List Row
-named_part a framework ids = rest_of a.total (rest_of a.total (offer_rows (named_offers a framework ids)))
-
 abbrev pub with_offer : Offer → Account → Account
 with_offer o a = record a { offers = a.offers ++ o ∷ [] }
 

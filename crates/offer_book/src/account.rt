@@ -2,7 +2,7 @@
 
 ghost use Rattle.std.specs.Prelude.{◌≡◌, ◌-◌, List, ℕ, IfOk, OnOk, OnErr};
 ghost use Rattle.quantity.specs.Rows.{amount};
-ghost use Rattle.offer_book.specs.Accounts.{new_account, dropped, taken, free, fits, named_part, offering, reopened};
+ghost use Rattle.offer_book.specs.Accounts.{new_account, dropped, taken, free, fits, offering, reopened};
 ghost use Rattle.offer_book.specs.Books.{is_agent};
 
 use crate::offers::Offers;
@@ -10,7 +10,8 @@ use crate::rest;
 use crate::tasks::Tasks;
 use listed::Listed;
 use mails::{Booked, Offer};
-use names_core::{AgentName, FrameworkId, OfferId};
+use names_core::AgentName;
+use plain_data::Plain;
 use quantity::Resources;
 use std::alloc::{AllocError, Global};
 
@@ -58,7 +59,8 @@ impl Account {
         ensures rest { IfOk result (λ rest. rest ≡ free self.now) }
         ensures less { IfOk result (λ rest. (name : List ℕ) → amount name rest ≡ amount name self.now.total - amount name (taken self.now)) }
     {
-        let mut rest = self.total.copy(alloc)?;
+        let _ordered = self.total.rows();
+        let mut rest = self.total.copy()?;
         rest::take_offers(&mut rest, self.offers.as_slice());
         rest::take_tasks(&mut rest, self.booked.as_slice());
         Ok(rest)
@@ -68,7 +70,8 @@ impl Account {
     pub fn fits(&self, alloc: Global, more: &Resources) -> Result<bool, AllocError>
         ensures { IfOk result (λ is_within. is_within ≡ fits self.now more.now) }
     {
-        let mut rest = self.total.copy(alloc)?;
+        let _ordered = self.total.rows();
+        let mut rest = self.total.copy()?;
         if !rest::cover_part(&mut rest, more) {
             return Ok(false);
         }
@@ -76,22 +79,6 @@ impl Account {
             return Ok(false);
         }
         Ok(rest::cover_tasks(&mut rest, self.booked.as_slice()))
-    }
-
-    /// The part of the total that a framework's offers of these ids take together.
-    pub fn named_part(
-        &self,
-        alloc: Global,
-        framework: FrameworkId,
-        ids: &[OfferId],
-    ) -> Result<Resources, AllocError>
-        ensures { IfOk result (λ part. part ≡ named_part self.now framework ids.now) }
-    {
-        let mut others = self.total.copy(alloc)?;
-        rest::take_named(&mut others, self.offers.as_slice(), framework, ids);
-        let mut part = self.total.copy(alloc)?;
-        part.reduce_by(&others);
-        Ok(part)
     }
 
     /// Makes an offer, if no current one has its id and with it all that is taken still fits the total.

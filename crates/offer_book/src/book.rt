@@ -3,8 +3,8 @@
 ghost use Rattle.std.specs.Prelude.{◌≡◌, ◌<◌, ◌++◌, ◌∷◌, [], Ok, map, option_map, OnOk, OnErr, IfOk, IfErr};
 ghost use Rattle.std.specs.List.{position};
 ghost use Rattle.quantity.specs.Rows.{covers};
-ghost use Rattle.offer_book.specs.Accounts.{new_account, dropped, with_offer, without_offer, with_task, with_ended, without_key, offering, without_ids, without_offers_of, without_named, reopened, hearing, after_commands, free};
-ghost use Rattle.offer_book.specs.Books.{is_agent, is_named_so, is_offered, is_booked, at_place, at_first, booked_count, entered, dropped_from, free_of, offered, booked, withdrawn, task_ended, forgotten};
+ghost use Rattle.offer_book.specs.Accounts.{new_account, without_offer, with_task, with_ended, without_key, offering, without_ids, without_offers_of, without_named, reopened, hearing, after_commands, free};
+ghost use Rattle.offer_book.specs.Books.{is_agent, is_named_so, is_offered, is_booked, at_place, booked_count, entered, dropped_from, free_of, offered, booked, withdrawn, task_ended, forgotten};
 ghost use Rattle.offer_book.specs.Held.{place, held};
 ghost use Rattle.offer_book.specs.Found.{made, offer_of, task_of};
 ghost use Rattle.offer_book.specs.Faults.{IsRefusal};
@@ -448,13 +448,6 @@ impl OfferBook {
         ensures err { OnErr result (self.new ≡ self.old) }
     {
         book_at(&mut self.accounts, place, task)
-    }
-
-    /// Withdraws the offers of these ids.
-    pub fn withdraw_at(&mut self, place: usize, ids: &[OfferId])
-        ensures { self.new ≡ at_place place (without_ids ids.now) self.old }
-    {
-        withdraw_ids_at(&mut self.accounts, place, ids);
     }
 
     /// Withdraws all offers to a framework.

@@ -1,14 +1,12 @@
 //! What offers and tasks leave of a total.
 
-ghost use Rattle.std.specs.Prelude.{◌≡◌, filter};
+ghost use Rattle.std.specs.Prelude.{◌≡◌};
 ghost use Rattle.std.specs.Bool.{OnTrue};
 ghost use Rattle.quantity.specs.Rows.{covers, rest_of, AreRows};
-ghost use Rattle.cluster_model.specs.Sides.{offer_rows, job_rows, unended, is_named};
-ghost use Rattle.offer_book.specs.Accounts.{named_rows, unended_rows};
+ghost use Rattle.cluster_model.specs.Sides.{offer_rows, job_rows, unended};
+ghost use Rattle.offer_book.specs.Accounts.{unended_rows};
 
-use crate::offers::is_named;
 use mails::{Booked, Offer};
-use names_core::{FrameworkId, OfferId};
 use quantity::Resources;
 
 /// Takes away what offers have.
@@ -19,32 +17,6 @@ pub(crate) fn take_offers(rest: &mut Resources, offers: &[Offer])
 {
     for offer in offers {
         rest.reduce_by(&offer.resources);
-    }
-}
-
-fn take_if_named(rest: &mut Resources, offer: &Offer, framework: FrameworkId, ids: &[OfferId])
-    requires { AreRows rest.old }
-    ensures rest { rest.new ≡ rest_of rest.old (named_rows framework ids.now offer.now) }
-    ensures rows { AreRows rest.new }
-{
-    if is_named(offer, framework, ids) {
-        rest.reduce_by(&offer.resources);
-    }
-}
-
-/// Takes away what a framework's offers of these ids have.
-pub(crate) fn take_named(
-    rest: &mut Resources,
-    offers: &[Offer],
-    framework: FrameworkId,
-    ids: &[OfferId],
-)
-    requires { AreRows rest.old }
-    ensures rest { rest.new ≡ rest_of rest.old (offer_rows (filter (is_named framework ids.now) offers.now)) }
-    ensures rows { AreRows rest.new }
-{
-    for offer in offers {
-        take_if_named(rest, offer, framework, ids);
     }
 }
 

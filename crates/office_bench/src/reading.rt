@@ -9,13 +9,13 @@ ghost use Rattle.names_core.specs.Ids.{Numbered};
 ghost use Rattle.office_bench.specs.Answers.{EndsOnOpened, accepted, answer_of, is_subscribe, turn_on};
 
 use cluster_core::{Entry, Verdict};
-use cluster_steps::copy_stream_event;
 use desk_lock::Turn;
 use event_json::Event;
 use http_door::{Answer, BenchFault};
 use mails::Call;
 use master_state::StreamEvent;
 use names_core::StreamId;
+use plain_data::Plain;
 use recorded_cluster::RecordedCluster;
 use std::alloc::{AllocError, Global};
 
@@ -56,7 +56,7 @@ pub(crate) fn taken_event(alloc: Global, entry: &Entry) -> Result<Event, AllocEr
 {
     match &entry.outputs.taken {
         Some(told) => {
-            let copy = copy_stream_event(alloc, told)?;
+            let copy = told.copy()?;
             Ok(copy.event)
         }
         None => Err(AllocError),

@@ -1,25 +1,54 @@
 //! A client of the endpoint.
 
 use crate::gate::Overlap;
-use cluster_core::{Entry, Step};
+use crate::scripts::Move;
+use cluster_core::{Step, StepCause};
 use desk_lock::{Office, Pass};
+use names_core::{AgentName, StreamId};
 use recorded_cluster::{Given, RecordedCluster};
 use std::alloc::Global;
 use std::io::{Read, Write};
 use std::net::{Net, SocketAddr, TcpListener, TcpStream};
 use std::sync::{Wait, ledger};
-use std::test::*;
 use std::time::{Clock, Duration};
+
+/// Connects, and sends a request. A read on the connection waits for 20 seconds at most.
+fn connect<R: Net<Listener = TcpListener, Stream = TcpStream>>(
+    rt: &R,
+    to: SocketAddr,
+    request: &str,
+) -> Option<TcpStream> {
+    let mut stream = TcpStream::connect(rt, to).ok()?;
+    stream.set_read_timeout(Some(Duration::from_secs(20))).ok()?;
+    stream.write_all(request.as_bytes()).ok()?;
+    Some(stream)
+}
+
+/// Whether just this is read next.
+fn reads(alloc: Global, stream: &mut TcpStream, want: &str) -> bool {
+    let Ok(mut got) = Vec::from_slice(alloc, want.as_bytes()) else {
+        return false;
+    };
+    got.as_mut_slice().fill(0);
+    stream.read_exact(got.as_mut_slice()).is_ok() && got.as_slice() == want.as_bytes()
+}
+
+/// Whether just this is read up to the end of the connection.
+fn reads_last(alloc: Global, stream: &mut TcpStream, want: &str) -> bool {
+    let mut got = Vec::new(alloc);
+    stream.read_to_end(&mut got).is_ok() && got.as_slice() == want.as_bytes()
+}
 
 /// A client, with a seat of its own by which it moves the cluster.
 #[derive(Drop)]
 pub struct Client<'a, L: ledger::Ledger, R: Wait + Clock> {
-    pub rt: &'a R,
-    pub alloc: Global,
-    pub office: &'a Office<RecordedCluster, L>,
+    rt: &'a R,
+    alloc: Global,
+    office: &'a Office<RecordedCluster, L>,
     pass: Pass<Given, L>,
-    pub gate: &'a Overlap<'a, R>,
-    pub to: SocketAddr,
+    gate: &'a Overlap<'a, R>,
+    to: SocketAddr,
+    connections: Vec<TcpStream>,
 }
 
 impl<'a, L: ledger::Ledger, R: Wait + Clock> Client<'a, L, R> {
@@ -38,11 +67,32 @@ impl<'a, L: ledger::Ledger, R: Wait + Clock> Client<'a, L, R> {
             pass,
             gate,
             to,
+            connections: Vec::new(alloc),
         }
     }
 
-    pub fn into_pass(self) -> Pass<Given, L> {
-        self.pass
+    /// Has the office take a step.
+    fn step(&mut self, step: Step) -> bool {
+        self.office
+            .call(self.rt, self.alloc, &mut self.pass, step)
+            .is_ok()
+    }
+
+    /// Has the agent prepare its answer to the master's Hello, which has the number 1, and commit it.
+    fn answers(&mut self) -> bool {
+        let (Ok(agent), Ok(same)) = (
+            AgentName::from_text(self.alloc, "a1"),
+            AgentName::from_text(self.alloc, "a1"),
+        ) else {
+            return false;
+        };
+        let cause = StepCause::Mail(1);
+        self.step(Step::Prepare { agent, cause }) && self.step(Step::Commit(same))
+    }
+
+    /// Has the agent answer the master's Hello by a Report, which has the number 2.
+    fn reports(&mut self) -> bool {
+        self.answers() && self.step(Step::Deliver(2))
     }
 }
 
@@ -51,64 +101,66 @@ impl<
     L: ledger::Ledger,
     R: Net<Listener = TcpListener, Stream = TcpStream> + Wait + Clock,
 > Client<'a, L, R> {
-    /// Has the office take a step.
-    pub fn step(&mut self, step: Step) -> Result<(), Fail> {
-        match self.office.call(self.rt, self.alloc, &mut self.pass, step) {
-            Ok(()) => Ok(()),
-            Err(_) => Err(Fail::new("a step was refused")),
+    fn ask(&mut self, request: &str) -> bool {
+        match connect(self.rt, self.to, request) {
+            Some(stream) => self.connections.push(stream).is_ok(),
+            None => false,
         }
     }
 
-    /// The entry of its last step.
-    pub fn entry(&self) -> Result<&Entry, Fail> {
-        match self.pass.last() {
-            Some(receipt) => Ok(&receipt.given.taken.entry),
-            None => Err(Fail::new("no receipt")),
+    /// Does a move on one of its connections.
+    fn go_on(&mut self, number: usize, goes: Move) -> bool {
+        let alloc = self.alloc;
+        match (self.connections.get_mut(number), goes) {
+            (Some(stream), Move::Send(_, request)) => stream.write_all(request.as_bytes()).is_ok(),
+            (Some(stream), Move::Expect(_, want)) => reads(alloc, stream, want),
+            (Some(stream), Move::ExpectLast(_, want)) => reads_last(alloc, stream, want),
+            _ => false,
         }
     }
 
-    /// The number of the call that its last step sent.
-    pub fn number(&self) -> Result<u64, Fail> {
-        match self.pass.last() {
-            Some(receipt) => Ok((receipt.given.sent_before as u64).saturating_add(1)),
-            None => Err(Fail::new("no receipt")),
+    fn finish(&self) {
+        self.office.finish(self.rt);
+    }
+
+    /// Does a move, and says whether it went as it is to go.
+    fn goes(&mut self, goes: Move) -> bool {
+        match goes {
+            Move::Ask(request) => self.ask(request),
+            Move::Send(number, _) | Move::Expect(number, _) | Move::ExpectLast(number, _) => {
+                self.go_on(number, goes)
+            }
+            Move::WaitBegun(count) => self.gate.wait_begun(count),
+            Move::Allocate => self.step(Step::Allocate),
+            Move::HangUp => self.step(Step::HangUp(StreamId::new(1, 1))),
+            Move::StopMaster => self.step(Step::StopMaster),
+            Move::Finish => {
+                self.finish();
+                true
+            }
         }
     }
 
-    /// Connects, and sends a request. A read on the connection waits for 20 seconds at most.
-    pub fn ask(&self, request: &str) -> Result<TcpStream, Fail> {
-        let stream = TcpStream::connect(self.rt, self.to)?;
-        stream.set_read_timeout(Some(Duration::from_secs(20)))?;
-        send(stream, request)
+    /// Plays a script, once the agent has reported, and says how many moves of it went as they are to go before one didn't.
+    fn plays(&mut self, script: &[Move]) -> usize {
+        if !self.reports() {
+            return 0;
+        }
+        let mut count = 0usize;
+        for goes in script {
+            if !self.goes(*goes) {
+                break;
+            }
+            count = count.saturating_add(1);
+        }
+        count
     }
-}
 
-/// Sends a request on a connection.
-pub fn send(stream: TcpStream, request: &str) -> Result<TcpStream, Fail> {
-    let mut stream = stream;
-    stream.write_all(request.as_bytes())?;
-    Ok(stream)
-}
-
-/// Reads just what is wanted.
-pub fn expect(alloc: Global, stream: TcpStream, want: &str) -> Result<TcpStream, Fail> {
-    let mut stream = stream;
-    let mut got = Vec::from_slice(alloc, want.as_bytes())?;
-    got.as_mut_slice().fill(0);
-    stream.read_exact(got.as_mut_slice())?;
-    if got.as_slice() != want.as_bytes() {
-        return Err(Fail::new("another answer"));
+    /// Plays a script. Then it finishes the office, and is the one that is accepted after that.
+    pub fn play(mut self, script: &[Move]) -> (Pass<Given, L>, usize) {
+        let count = self.plays(script);
+        self.finish();
+        let _last = TcpStream::connect(self.rt, self.to);
+        (self.pass, count)
     }
-    Ok(stream)
-}
-
-/// Reads to the end of the connection, and compares.
-pub fn expect_last(alloc: Global, stream: TcpStream, want: &str) -> Result<(), Fail> {
-    let mut stream = stream;
-    let mut got = Vec::new(alloc);
-    stream.read_to_end(&mut got)?;
-    if got.as_slice() != want.as_bytes() {
-        return Err(Fail::new("another last answer"));
-    }
-    Ok(())
 }

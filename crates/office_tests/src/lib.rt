@@ -11,4 +11,6 @@ mod of_office_bench;
 #[cfg(test)]
 mod requests;
 #[cfg(test)]
+mod scripts;
+#[cfg(test)]
 mod served;

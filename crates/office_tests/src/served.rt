@@ -4,8 +4,8 @@ ghost use Rattle.std.specs.Prelude.{◌≡◌, [], IfSome};
 
 use crate::client::Client;
 use crate::gate::Overlap;
-use crate::of_office_bench::{Script, play};
-use cluster_core::{Cluster, Entry, Step, StepCause, Verdict, fresh_agents_open, fresh_records};
+use crate::scripts::Move;
+use cluster_core::{Cluster, Entry, Step, Verdict, fresh_agents_open, fresh_records};
 use desk_lock::{Desk, Office, Pass, Passes};
 use http_door::Bench;
 use http_workers::serve_all;
@@ -19,7 +19,6 @@ use std::alloc::Global;
 use std::net::{Net, TcpListener, TcpStream};
 use std::sync::ledger::Blank;
 use std::sync::{Wait, ledger};
-use std::test::*;
 use std::thread;
 use std::thread::Threads;
 use std::time::Clock;
@@ -27,39 +26,30 @@ use std::time::Clock;
 /// What is seen at the close.
 #[derive(Clone, Copy, Debug, Drop, PartialEq, Eq)]
 pub struct Closed {
-    /// Whether each entry but the opening has its receipt.
-    pub accounted: bool,
-    /// How many connections were served.
-    pub connections: usize,
+    /// How many moves of the script went as they are to go.
+    pub moves: usize,
+    /// Whether a call was held, and let go by the answer to the next.
+    pub overlapped: bool,
     /// How many streams were hung up.
     pub hang_ups: usize,
 }
 
 /// Agent a1, of 4 cpus and 4,096 of memory.
-pub fn one_agent(alloc: Global) -> Result<Config, Fail> {
+fn one_agent(alloc: Global) -> Option<Config> {
     let mut total = Resources::new(alloc);
-    total.add(alloc, "cpus", 4)?;
-    total.add(alloc, "mem", 4096)?;
+    total.add(alloc, "cpus", 4).ok()?;
+    total.add(alloc, "mem", 4096).ok()?;
     let mut config = Config::new(alloc);
-    config.add(AgentName::from_text(alloc, "a1")?, total)?;
-    Ok(config)
+    config
+        .add(AgentName::from_text(alloc, "a1").ok()?, total)
+        .ok()?;
+    Some(config)
 }
 
-/// The agent answers the master's Hello, which has the number 1, by a Report, which has the number 2.
-fn reports(alloc: Global) -> Result<Vec<Step>, Fail> {
-    let mut steps = Vec::new(alloc);
-    steps.push(Step::Prepare {
-        agent: AgentName::from_text(alloc, "a1")?,
-        cause: StepCause::Mail(1),
-    })?;
-    steps.push(Step::Commit(AgentName::from_text(alloc, "a1")?))?;
-    steps.push(Step::Deliver(2))?;
-    Ok(steps)
-}
-
-fn recorded(alloc: Global, config: Config) -> Option<RecordedCluster>
+fn recorded(alloc: Global) -> Option<RecordedCluster>
     ensures { IfSome result (λ recorded. recorded.story.entries ≡ []) }
 {
+    let config = one_agent(alloc)?;
     fresh_agents_open(&config);
     let Ok(records) = fresh_records(alloc, &config) else {
         return None;
@@ -85,107 +75,95 @@ fn count_hang_ups(entries: &[Entry]) -> usize {
     count
 }
 
-/// Hands a pass in, and counts its receipts.
-fn hand_in<L: ledger::Ledger>(
-    passes: &mut Passes<Given, L>,
-    pass: Pass<Given, L>,
-    receipts: u64,
-) -> Result<u64, Fail> {
-    let count = pass.receipts().len() as u64;
-    if passes.push(pass).is_err() {
-        return Err(Fail::new("memory"));
-    }
-    Ok(receipts.saturating_add(count))
-}
-
-/// Hands in the passes of all connections, and counts their receipts.
-fn hand_in_all<L: ledger::Ledger, R: Wait>(
-    passes: &mut Passes<Given, L>,
-    seats: Vec<Seating<'_, L, R>>,
-) -> Result<u64, Fail> {
-    let mut receipts = 0u64;
-    for seat in seats {
-        match seat.into_pass() {
-            Some(pass) => receipts = hand_in(passes, pass, receipts)?,
-            None => return Err(Fail::new("no seat")),
-        }
-    }
-    Ok(receipts)
-}
-
-fn close<L: ledger::Ledger>(
-    office: Office<RecordedCluster, L>,
-    left: Left<L>,
-) -> Result<Closed, Fail> {
-    let Left {
-        passes,
-        receipts,
-        connections,
-    } = left;
-    match office.close(passes) {
-        Ok(history) => Ok(Closed {
-            accounted: history.len() as u64 == receipts.saturating_add(1),
-            connections,
-            hang_ups: count_hang_ups(history.recorded().cluster().history()),
-        }),
-        Err(_) => Err(Fail::new("close")),
-    }
-}
-
-/// The agent reports, and then a script is played.
-fn report_and_play<
-    L: ledger::Ledger,
-    R: Net<Listener = TcpListener, Stream = TcpStream> + Wait + Clock,
->(script: Script, client: &mut Client<'_, L, R>) -> Result<(), Fail> {
-    for step in reports(client.alloc)? {
-        client.step(step)?;
-    }
-    play(script, client)
-}
-
-/// A client plays a script. Where its connections aren't limited it then finishes the office, and is the one that is accepted after that.
-fn play_to_the_end<
-    L: ledger::Ledger,
-    R: Net<Listener = TcpListener, Stream = TcpStream> + Wait + Clock,
->(script: Script, client: Client<'_, L, R>) -> Result<Pass<Given, L>, Fail> {
-    let mut client = client;
-    let played = report_and_play(script, &mut client);
-    if script.limit() == 0 || played.is_err() {
-        client.office.finish(client.rt);
-        let _last = TcpStream::connect(client.rt, client.to);
-    }
-    played?;
-    Ok(client.into_pass())
-}
-
-/// All passes, with the number of their receipts and that of the connections.
+/// What is left of a client and of the connections.
 #[derive(Drop)]
 struct Left<L: ledger::Ledger> {
     passes: Passes<Given, L>,
     receipts: u64,
-    connections: usize,
+    moves: usize,
+    /// Whether something failed: a thread, the listener, or memory for a pass.
+    failed: bool,
 }
 
-/// Hands in the passes of a client, of a listener and of the connections.
-fn hand_in_left<L: ledger::Ledger, R: Wait>(
+impl<L: ledger::Ledger> Left<L> {
+    fn new(alloc: Global) -> Left<L> {
+        Left {
+            passes: Passes::new(alloc),
+            receipts: 0,
+            moves: 0,
+            failed: false,
+        }
+    }
+
+    /// Hands a pass in, and counts its receipts.
+    fn hand_in(&mut self, pass: Pass<Given, L>) {
+        let count = pass.receipts().len() as u64;
+        self.receipts = self.receipts.saturating_add(count);
+        if self.passes.push(pass).is_err() {
+            self.failed = true;
+        }
+    }
+
+    /// Hands in the passes of all connections.
+    fn hand_in_all<R: Wait>(&mut self, seats: Vec<Seating<'_, L, R>>) {
+        for seat in seats {
+            match seat.into_pass() {
+                Some(pass) => self.hand_in(pass),
+                None => self.failed = true,
+            }
+        }
+    }
+}
+
+fn client_of<'x, L: ledger::Ledger, R: Wait + Clock>(
+    rt: &'x R,
     alloc: Global,
-    client: Pass<Given, L>,
-    listener: Pass<Given, L>,
-    seats: Vec<Seating<'_, L, R>>,
-) -> Result<Left<L>, Fail> {
-    let connections = seats.len();
-    let mut passes = Passes::new(alloc);
-    let receipts = hand_in_all(&mut passes, seats)?;
-    let receipts = hand_in(&mut passes, client, receipts)?;
-    let receipts = hand_in(&mut passes, listener, receipts)?;
-    Ok(Left {
-        passes,
-        receipts,
-        connections,
-    })
+    office: &'x Office<RecordedCluster, L>,
+    gate: &'x Overlap<'x, R>,
+    listener: &TcpListener,
+) -> Option<Client<'x, L, R>> {
+    let to = listener.local_addr().ok()?;
+    let pass = office.open_seat(rt, alloc).ok()?;
+    Some(Client::new(rt, alloc, office, pass, gate, to))
 }
 
-/// Serves a client, and hands in all passes.
+fn arrivals_at<'x, L: ledger::Ledger, R: Wait + Clock>(
+    rt: &'x R,
+    alloc: Global,
+    office: &'x Office<RecordedCluster, L>,
+    listener: &'x TcpListener,
+) -> Option<TcpArrivals<'x, L, R>> {
+    let pass = office.open_seat(rt, alloc).ok()?;
+    Some(TcpArrivals::new(rt, alloc, office, pass, listener, 0))
+}
+
+/// Serves a client that plays a script, in two threads.
+fn join<
+    'x,
+    L: ledger::Ledger + Send + Sync,
+    R: Net<Listener = TcpListener, Stream = TcpStream> + Threads + Wait + Clock + Sync,
+>(
+    rt: &'x R,
+    alloc: Global,
+    client: Client<'x, L, R>,
+    mut arrivals: TcpArrivals<'x, L, R>,
+    gate: &Overlap<'_, R>,
+    script: &[Move],
+    left: &mut Left<L>,
+) {
+    let ((pass, moves), (seats, fault)) = thread::join(
+        rt,
+        move || client.play(script),
+        || serve_all(rt, alloc, &mut arrivals, gate),
+    );
+    left.moves = moves;
+    left.failed = fault.is_some() || arrivals.has_failed();
+    left.hand_in(pass);
+    left.hand_in(arrivals.into_pass());
+    left.hand_in_all(seats);
+}
+
+/// Serves a client that plays a script, and says whether it could.
 fn serve<
     'x,
     L: ledger::Ledger + Send + Sync,
@@ -194,43 +172,55 @@ fn serve<
     rt: &'x R,
     alloc: Global,
     office: &'x Office<RecordedCluster, L>,
-    script: Script,
-) -> Result<Left<L>, Fail> {
-    let listener = TcpListener::bind(rt, "127.0.0.1:0")?;
-    let to = listener.local_addr()?;
-    let gate = Overlap::new(rt, script.held());
-    let pass = office.open_seat(rt, alloc).map_err(|_| "seat")?;
-    let asking = office.open_seat(rt, alloc).map_err(|_| "seat")?;
-    let client = Client::new(rt, alloc, office, pass, &gate, to);
-    let mut arrivals = TcpArrivals::new(rt, alloc, office, asking, &listener, script.limit());
-    let (played, (seats, fault)) = thread::join(
-        rt,
-        move || play_to_the_end(script, client),
-        || serve_all(rt, alloc, &mut arrivals, &gate),
-    );
-    let pass = played?;
-    if fault.is_some() || arrivals.has_failed() {
-        return Err(Fail::new("fault"));
-    }
-    if script.overlaps() && !gate.has_overlapped() {
-        return Err(Fail::new("they didn't overlap"));
-    }
-    hand_in_left(alloc, pass, arrivals.into_pass(), seats)
+    gate: &'x Overlap<'x, R>,
+    script: &[Move],
+    left: &mut Left<L>,
+) -> Option<()> {
+    let listener = TcpListener::bind(rt, "127.0.0.1:0").ok()?;
+    let client = client_of(rt, alloc, office, gate, &listener)?;
+    let arrivals = arrivals_at(rt, alloc, office, &listener)?;
+    join(rt, alloc, client, arrivals, gate, script, left);
+    Some(())
 }
 
-/// Serves a client that plays a script.
+/// What is seen where each entry but the opening has its receipt.
+fn closed<L: ledger::Ledger>(
+    office: Office<RecordedCluster, L>,
+    left: Left<L>,
+    overlapped: bool,
+) -> Option<Closed> {
+    let Left {
+        passes,
+        receipts,
+        moves,
+        failed,
+    } = left;
+    match office.close(passes) {
+        Ok(history) if !failed && history.len() as u64 == receipts.saturating_add(1) => {
+            Some(Closed {
+                moves,
+                overlapped,
+                hang_ups: count_hang_ups(history.recorded().cluster().history()),
+            })
+        }
+        _ => None,
+    }
+}
+
+/// Serves a client that plays a script, while the call of this number is held until the next is answered.
 pub fn served<
     L: ledger::Ledger + Send + Sync,
     R: Net<Listener = TcpListener, Stream = TcpStream> + Threads + Wait + Clock + Sync,
->(rt: &R, alloc: Global, blank: Blank, script: Script) -> Result<Closed, Fail>
+>(rt: &R, alloc: Global, blank: Blank, held: u64, script: &[Move]) -> Option<Closed>
     requires name { blank.name ≡ L.name }
     requires parts { (blank.parts ≡ L.parts) × (blank.parts ≡ 4294967296) }
 {
-    let recorded = recorded(alloc, one_agent(alloc)?).ok_or("a cluster")?;
-    let desk = Desk::<_, L>::new(alloc, recorded, blank);
-    let office = Office::new(desk);
-    let left = serve(rt, alloc, &office, script)?;
-    close(office, left)
+    let office = Office::new(Desk::<_, L>::new(alloc, recorded(alloc)?, blank));
+    let gate = Overlap::new(rt, held);
+    let mut left = Left::new(alloc);
+    let is_served = serve(rt, alloc, &office, &gate, script, &mut left).is_some();
+    left.failed = left.failed || !is_served;
+    closed(office, left, gate.has_overlapped())
 }
 
 /// Whether who waits on a stream that was never opened is refused: no step is taken, and the stream isn't told to have ended.
@@ -252,11 +242,10 @@ pub fn refuses_unopened<L: ledger::Ledger, R: Wait>(
     rt: &R,
     alloc: Global,
     blank: Blank,
-) -> Result<bool, Fail>
+) -> Option<bool>
     requires name { blank.name ≡ L.name }
     requires parts { (blank.parts ≡ L.parts) × (blank.parts ≡ 4294967296) }
 {
-    let recorded = recorded(alloc, one_agent(alloc)?).ok_or("a cluster")?;
-    let office = Office::new(Desk::<_, L>::new(alloc, recorded, blank));
-    Ok(is_refused(rt, alloc, &office))
+    let office = Office::new(Desk::<_, L>::new(alloc, recorded(alloc)?, blank));
+    Some(is_refused(rt, alloc, &office))
 }

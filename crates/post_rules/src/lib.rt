@@ -6,8 +6,6 @@ mod ever_sent;
 mod post;
 mod queues;
 mod stores;
-#[cfg(test)]
-mod tests;
 
 pub use direction::Direction;
 pub use ever_sent::EverSent;

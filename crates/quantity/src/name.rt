@@ -7,6 +7,7 @@ ghost use Rattle.quantity.specs.Faults.{IsRefusal};
 ghost use Rattle.quantity.specs.Names.{is_name_byte, is_resource_name, name_of};
 
 use crate::fault::QuantityFault;
+use plain_data::Plain;
 use std::alloc::{AllocError, Global};
 use std::marker::Model;
 
@@ -60,12 +61,37 @@ impl ResourceName {
     {
         self.text.as_str()
     }
+}
 
-    pub fn copy(&self, alloc: Global) -> Result<ResourceName, AllocError>
-        ensures { IfOk result (λ name. name ≡ self.now) }
-    {
+impl Clone for ResourceName {
+    ghost is_clone = { λ one other. other ≡ one };
+
+    fn clone(&self) -> Result<ResourceName, AllocError> {
         Ok(ResourceName {
-            text: String::from_str(alloc, self.text.as_str())?,
+            text: self.text.clone()?,
         })
     }
+}
+
+impl PartialEq for ResourceName {
+    ghost use Rattle.std.specs.Prelude.{nat_eq};
+    ghost use Rattle.std.specs.Cmp.{partial_equiv_from_equiv};
+    ghost use Rattle.std.specs.Cmp.Lexicographic.{nat_list_eq_equiv, pointwise};
+
+    ghost eq = { pointwise nat_eq };
+
+    ghost laws = { partial_equiv_from_equiv nat_list_eq_equiv };
+
+    fn eq(&self, other: &ResourceName) -> bool {
+        self.text == other.text
+    }
+}
+
+impl Plain for ResourceName {
+    ghost use Rattle.std.specs.Cmp.{unsigned_Decides};
+    ghost use Rattle.std.specs.Cmp.Lexicographic.{pointwise_decides};
+
+    ghost cloned = { λ _ _ same. same };
+
+    ghost decided = { pointwise_decides unsigned_Decides };
 }

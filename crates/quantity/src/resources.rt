@@ -8,6 +8,7 @@ ghost use Rattle.quantity.specs.Laws.{AtLeast};
 use crate::fault::QuantityFault;
 use crate::rows::Row;
 use crate::{name, rows};
+use plain_data::Plain;
 use std::alloc::{AllocError, Global};
 use std::marker::Model;
 
@@ -60,28 +61,12 @@ impl Resources {
         rows::amount_in(&self.rows, name)
     }
 
-    pub fn copy(&self, alloc: Global) -> Result<Resources, AllocError>
-        ensures copy { IfOk result (λ copy. copy ≡ self.now) }
-        ensures ordered { AreRows self.now }
-    {
-        let mut copies = Vec::new(alloc);
-        rows::push_copies(alloc, &mut copies, &self.rows)?;
-        Ok(Resources { rows: copies })
-    }
-
     /// Whether there is at least as much of each name as in `other`. It takes no memory.
     pub fn covers(&self, other: &Resources) -> bool
         ensures rows { result ≡ covers self.now other.now }
         ensures at_least { IsTrue result ↔ AtLeast self.now other.now }
     {
         rows::covers(&self.rows, &other.rows)
-    }
-
-    /// Whether both have the same amounts. It takes no memory.
-    pub fn is_same(&self, other: &Resources) -> bool
-        ensures { IsTrue result ↔ (self.now ≡ other.now) }
-    {
-        rows::are_same(&self.rows, &other.rows)
     }
 
     /// Adds an amount of one name; an amount of 0 adds nothing. What is wrong is told in this order:
@@ -122,7 +107,7 @@ impl Resources {
         if !self.covers(other) {
             return Err(QuantityFault::NotCovered);
         }
-        let mut rest = self.copy(alloc)?;
+        let mut rest = self.copy()?;
         rest.reduce_by(other);
         Ok(rest)
     }
@@ -134,4 +119,37 @@ impl Resources {
     {
         rows::reduce(&mut self.rows, &other.rows);
     }
+}
+
+impl Clone for Resources {
+    ghost is_clone = { λ one other. other ≡ one };
+
+    fn clone(&self) -> Result<Resources, AllocError> {
+        Ok(Resources {
+            rows: self.rows.clone()?,
+        })
+    }
+}
+
+impl PartialEq for Resources {
+    ghost use Rattle.plain_data.specs.Deciding.{per_from_decides};
+    ghost use Rattle.std.proofs.Common.{rules};
+    ghost use Rattle.std.specs.Cmp.Lexicographic.{pointwise, pointwise_decides};
+
+    ghost eq = { pointwise ⟦<Row as PartialEq>⟧.eq };
+
+    ghost laws = { per_from_decides (pointwise_decides (Prim.search rules)) };
+
+    fn eq(&self, other: &Resources) -> bool {
+        self.rows == other.rows
+    }
+}
+
+impl Plain for Resources {
+    ghost use Rattle.std.proofs.Common.{rules};
+    ghost use Rattle.std.specs.Cmp.Lexicographic.{pointwise_decides};
+
+    ghost cloned = { λ _ _ same. same };
+
+    ghost decided = { pointwise_decides (Prim.search rules) };
 }

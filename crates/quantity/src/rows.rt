@@ -1,7 +1,7 @@
 //! Rows of resources, in the byte order of their names.
 
-ghost use Rattle.std.specs.Prelude.{◌≡◌, ◌↔◌, ◌++◌, ◌∷◌, [], ◌≤◌, ◌<◌, ◌^◌, List, ℕ, nat_eq, nat_lt, length, map, filter, take, drop, OnOk, OnErr, IfOk, IfErr, IsTrue};
-ghost use Rattle.std.specs.List.{prefix_len, list_any, AllByRecursion};
+ghost use Rattle.std.specs.Prelude.{◌≡◌, ◌++◌, ◌≤◌, ◌<◌, List, nat_eq, nat_lt, length, map, filter, take, OnOk, OnErr, IfOk, IfErr, IsTrue};
+ghost use Rattle.std.specs.List.{list_any, AllByRecursion};
 ghost use Rattle.std.specs.Cmp.Lexicographic.{pointwise};
 ghost use Rattle.std.specs.List.Sorted.{IsStrictlySortedBy};
 ghost use Rattle.quantity.specs.Rows.{amount, covers, name_order, names_limit, greatest_amount, within_limits, IsRow, AreRows, left_of, rest_of, raised, plus_rows};
@@ -11,6 +11,7 @@ ghost use Rattle.quantity.specs.Merging.{is_below, count_below, rows_from, front
 
 use crate::fault::QuantityFault;
 use crate::name::ResourceName;
+use plain_data::{Plain, push_copies};
 use std::alloc::{AllocError, Global};
 
 /// No amount is greater.
@@ -20,22 +21,21 @@ const GREATEST_AMOUNT: u64 = 1 << 40;
 const NAMES_LIMIT: usize = 8;
 
 /// How much there is of one resource.
-#[derive(Debug, Drop)]
+#[derive(Clone, Debug, Drop, PartialEq)]
 pub struct Row {
     pub name: ResourceName,
     pub amount: u64,
 }
 
-impl Row {
-    fn copy(&self, alloc: Global) -> Result<Row, AllocError>
-        ensures { IfOk result (λ row. row ≡ self.now) }
-    {
-        Ok(Row {
-            name: self.name.copy(alloc)?,
-            amount: self.amount,
-        })
-    }
+impl Plain for Row {
+    ghost use Rattle.std.proofs.Common.{rules};
 
+    ghost cloned = { Prim.search rules };
+
+    ghost decided = { Prim.search rules };
+}
+
+impl Row {
     fn is_of(&self, name: &str) -> bool
         ensures { result ≡ pointwise nat_eq self.now.name name.now }
     {
@@ -84,19 +84,6 @@ fn rows_past<'a>(rows: &'a [Row], name: &str) -> &'a [Row]
     }
 }
 
-pub(crate) fn push_copies(
-    alloc: Global,
-    copies: &mut Vec<Row>,
-    rows: &[Row],
-) -> Result<(), AllocError>
-    ensures { OnOk result (copies.new.items ≡ copies.old.items ++ rows.now) }
-{
-    for row in rows {
-        copies.push(row.copy(alloc)?)?;
-    }
-    Ok(())
-}
-
 /// What rows in order have of a name.
 pub(crate) fn amount_in(rows: &[Row], name: &str) -> u64
     requires { AreRows rows.now }
@@ -121,15 +108,6 @@ pub(crate) fn covers(total: &[Row], rows: &[Row]) -> bool
         }
     }
     true
-}
-
-/// Whether rows in order are the same.
-pub(crate) fn are_same(rows: &[Row], others: &[Row]) -> bool
-    requires rows_are { AreRows rows.now }
-    requires others_are { AreRows others.now }
-    ensures { IsTrue result ↔ (rows.now ≡ others.now) }
-{
-    covers(rows, others) && covers(others, rows)
 }
 
 /// Takes away from each row what others have of its name; rows with nothing left stay.
@@ -164,9 +142,9 @@ fn push_sum<'a>(
     let name = other.name.as_str();
     let below = count_below(rest, name);
     let from = &rest[below..];
-    push_copies(alloc, sum, &rest[..below])?;
+    push_copies(sum, &rest[..below])?;
     sum.push(Row {
-        name: other.name.copy(alloc)?,
+        name: other.name.copy()?,
         amount: front_amount(from, name) + other.amount,
     })?;
     Ok(rows_past(from, name))
@@ -200,7 +178,7 @@ pub(crate) fn merged(alloc: Global, rows: &[Row], others: &[Row]) -> Result<Vec<
     for other in others {
         rest = push_sum(alloc, &mut sum, rest, other)?;
     }
-    push_copies(alloc, &mut sum, rest)?;
+    push_copies(&mut sum, rest)?;
     Ok(sum)
 }
 

@@ -1,9 +1,9 @@
 //! Records written as JSON.
 
-ghost use Rattle.std.specs.Prelude.{◌≡◌, true, map, IfOk, string_bytes, ◌<◌, ◌^◌};
+ghost use Rattle.std.specs.Prelude.{◌≡◌, IfOk, string_bytes, ◌<◌};
 ghost use Rattle.std.specs.List.{AllByRecursion};
 ghost use Rattle.serde_json.specs.Data.{array, string};
-ghost use Rattle.serde_json.specs.View.{view, items_of, members_view};
+ghost use Rattle.serde_json.specs.View.{view, members_view};
 ghost use Rattle.names_core.specs.Ids.{InRange, id_text};
 ghost use Rattle.names_core.specs.States.{state_text};
 ghost use Rattle.quantity.specs.Rows.{AreRows};
@@ -11,7 +11,7 @@ ghost use Rattle.record_text.specs.Texts.{row_members, amounts, list_data, task_
 ghost use Rattle.record_text.specs.Written.{IsTask, IsDurable};
 
 use mails::{Durable, RecordedTask};
-use names_core::{OfferId, TaskState};
+use names_core::{FrameworkId, LaunchKey, OfferId, TaskState};
 use quantity::{Resources, Row};
 use serde_json::{Map, Value, json};
 use std::alloc::{AllocError, Global};
@@ -61,32 +61,43 @@ fn states_value(alloc: Global, states: &[TaskState]) -> Result<Value, AllocError
     Ok(Value::Array(values))
 }
 
+/// The id of a framework as a text.
+pub fn framework_value(alloc: Global, framework: &FrameworkId) -> Result<Value, AllocError>
+    ensures value { IfOk result (λ v. view v ≡ string (id_text 70 framework.now)) }
+    ensures in_range { IfOk result (λ _. InRange framework.now) }
+{
+    match framework.to_text(alloc) {
+        Ok(text) => Ok(Value::String(text)),
+        Err(_) => Err(AllocError),
+    }
+}
+
+/// A launch key as a text.
+pub fn key_value(alloc: Global, key: &LaunchKey) -> Result<Value, AllocError>
+    ensures value { IfOk result (λ v. view v ≡ string (id_text 76 key.now)) }
+    ensures in_range { IfOk result (λ _. InRange key.now) }
+{
+    match key.to_text(alloc) {
+        Ok(text) => Ok(Value::String(text)),
+        Err(_) => Err(AllocError),
+    }
+}
+
 #[tactic(auto, unfolding(crate::specs::Texts::task_data))]
 fn task_value(alloc: Global, task: &RecordedTask) -> Result<Value, AllocError>
     ensures value { IfOk result (λ v. view v ≡ task_data task.now) }
     ensures is_task { IfOk result (λ _. IsTask task.now) }
 {
-    let (Ok(framework), Ok(key)) = (
-        task.job.framework.to_text(alloc),
-        task.job.key.to_text(alloc),
-    ) else {
-        return Err(AllocError);
-    };
-    let framework = framework.as_str();
-    let key = key.as_str();
-    let name = task.job.name.as_text();
-    let offers = offers_value(alloc, task.offers.as_slice())?;
-    let resources = amounts_value(alloc, &task.job.resources)?;
-    let updates = states_value(alloc, task.updates.states())?;
     let acked = task.updates.acknowledged();
+    let name = task.job.name.as_text();
     json!(in alloc; {
         "acked": acked,
-        "framework": framework,
-        "key": key,
+        "framework": framework_value(alloc, &task.job.framework)?,
+        "key": key_value(alloc, &task.job.key)?,
         "name": name,
-        "offers": offers,
-        "resources": resources,
-        "updates": updates
+        "offers": offers_value(alloc, task.offers.as_slice())?,
+        "resources": amounts_value(alloc, &task.job.resources)?,
+        "updates": states_value(alloc, task.updates.states())?
     })
 }
 
@@ -109,14 +120,12 @@ fn record_value(alloc: Global, durable: &Durable) -> Result<Value, AllocError>
     let name = durable.name.as_text();
     let run = durable.run;
     let session = durable.session;
-    let tasks = tasks_value(alloc, durable.tasks.as_slice())?;
-    let total = amounts_value(alloc, &durable.total)?;
     json!(in alloc; {
         "name": name,
         "run": run,
         "session": session,
-        "tasks": tasks,
-        "total": total,
+        "tasks": tasks_value(alloc, durable.tasks.as_slice())?,
+        "total": amounts_value(alloc, &durable.total)?,
         "version": 1u64
     })
 }

@@ -6,8 +6,8 @@ use crate::given::Given;
 use crate::groups::groups_of;
 use cluster_core::{Cluster, ClusterFault, Entry, Step};
 use desk_lock::{FaultKind, Recorded};
+use plain_data::Plain;
 use post_rules::Queues;
-use same_entries::Same;
 use std::alloc::Global;
 use std::marker::Model;
 

@@ -17,7 +17,7 @@ use Rattle.step_lines.specs.Lines.{longest_line, read_step}
 use Rattle.entry_lines.specs.Ends.{agent_text, entries_text}
 use Rattle.entry_lines.specs.Lines.{entry_text, opening_text, refused_text}
 use Rattle.line_answers.specs.Answers.{after_all, answer}
-use Rattle.text_lines.specs.Texts.{all_lines}
+use Rattle.line_answers.specs.Texts.{all_lines}
 use Rattle.replays.specs.declared.fault.LineStop.{LineStop}
 use Rattle.replays.specs.Stories.{count, due, fresh_story, greetings, offered_now, records_now}
 use Rattle.cluster_core.specs.Stories.{Story, with_entry}

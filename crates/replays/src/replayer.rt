@@ -6,17 +6,18 @@ ghost use Rattle.cluster_core.specs.Safety.{Safe};
 ghost use Rattle.step_lines.specs.Configs.{read_config};
 ghost use Rattle.step_lines.specs.Lines.{read_step};
 ghost use Rattle.replays.specs.Replays as replays;
+ghost use Rattle.replays.specs.Stories.{fresh_story};
 
 use crate::fault::LineStop;
 use crate::numbers::raised;
 use crate::replayed::Replayed;
 use crate::steps::{take_step, tell_opening};
 use crate::table::end_table;
-use line_answers::Teller;
+use agent_sides::Config;
+use line_answers::{LONGEST_LINE, Teller};
 use std::alloc::{AllocError, Global};
 use std::marker::Model;
 use step_lines::{LineFault, LineRefusal, read_config, read_step};
-use text_lines::LONGEST_LINE;
 
 /// Tells what comes of the lines of a replay: the first says which agents there are, and each other one is a step.
 #[derive(Drop)]
@@ -110,25 +111,34 @@ impl Replayer {
         self.fault = Some(LineStop { line, refusal });
     }
 
+    /// The cluster of these agents is opened.
+    fn begin(&mut self, alloc: Global, number: u64, config: Config) -> Result<Vec<u8>, AllocError>
+        requires { number ≡ self.old.lines + 1 }
+        ensures { IfOk result (λ text. replays.opened self.old (fresh_story config) ≡ record { text = text.items; after = self.new }) }
+    {
+        self.cluster = Some(Replayed::open(alloc, config)?);
+        let Some(cluster) = &self.cluster else {
+            return Err(AllocError);
+        };
+        let told = tell_opening(alloc, cluster)?;
+        self.lines = number;
+        self.sent = told.sent;
+        Ok(told.text)
+    }
+
     /// The first line, which is this one of the text.
     fn open(&mut self, alloc: Global, number: u64, line: &[u8]) -> Result<Vec<u8>, AllocError>
         requires { number ≡ self.old.lines + 1 }
         ensures { IfOk result (λ text. replays.opens self.old (read_config line.now) ≡ record { text = text.items; after = self.new }) }
     {
-        let config = match read_config(alloc, line) {
-            Ok(config) => config,
-            Err(LineFault::OutOfMemory) => return Err(AllocError),
+        match read_config(alloc, line) {
+            Ok(config) => self.begin(alloc, number, config),
+            Err(LineFault::OutOfMemory) => Err(AllocError),
             Err(LineFault::Refused(refusal)) => {
                 self.stop(number, refusal);
-                return Ok(Vec::new(alloc));
+                Ok(Vec::new(alloc))
             }
-        };
-        let cluster = Replayed::open(alloc, config)?;
-        let told = tell_opening(alloc, &cluster)?;
-        self.cluster = Some(cluster);
-        self.lines = number;
-        self.sent = told.sent;
-        Ok(told.text)
+        }
     }
 
     /// A step, on the line of this number.

@@ -4,6 +4,4 @@
 #[cfg(test)]
 mod of_keep_store;
 #[cfg(test)]
-mod of_keep_store_file;
-#[cfg(test)]
 mod of_keep_store_stops;

@@ -1,12 +1,13 @@
 //! The status updates of one task.
 
-ghost use Rattle.std.specs.Prelude.{◌≡◌, ◌⊎◌, ◌+◌, [], length, true, false, Err, Some, None, IfOk, IfErr, IfSome, IfNone, OnOk, OnErr, MatchOption};
+ghost use Rattle.std.specs.Prelude.{◌≡◌, ◌⊎◌, ◌+◌, [], true, false, Err, Some, None, IfErr, IfSome, IfNone, OnOk};
 ghost use Rattle.std.specs.List.{list_any};
 ghost use Rattle.names_core.specs.States.{is_terminal};
 ghost use Rattle.stream_core.specs.Updates.{acknowledged_one, are_updates, front, ends_last, has_ended, is_done, is_front, is_full, pushed};
 
 use crate::fault::StreamFault;
 use names_core::TaskState;
+use plain_data::Plain;
 use std::alloc::{AllocError, Global};
 use std::marker::Model;
 
@@ -125,16 +126,6 @@ impl Updates {
         Ok(())
     }
 
-    /// Another value with the same states and the same count.
-    pub fn copy(&self, alloc: Global) -> Result<Updates, AllocError>
-        ensures { IfOk result (λ updates. updates ≡ self.now) }
-    {
-        Ok(Updates {
-            states: Vec::from_slice(alloc, self.states.as_slice())?,
-            acknowledged: self.acknowledged,
-        })
-    }
-
     /// The value with these states and this count, where there is one.
     pub fn from_parts(states: Vec<TaskState>, acknowledged: u32) -> Option<Updates>
         ensures some { IfSome result (λ updates. (updates ≡ record { states = states.items; acknowledged = acknowledged }) × (are_updates states.items acknowledged ≡ true)) }
@@ -156,4 +147,42 @@ impl Updates {
             acknowledged,
         })
     }
+}
+
+impl Clone for Updates {
+    ghost is_clone = { λ one other. other ≡ one };
+
+    fn clone(&self) -> Result<Updates, AllocError> {
+        Ok(Updates {
+            states: self.states.clone()?,
+            acknowledged: self.acknowledged,
+        })
+    }
+}
+
+impl PartialEq for Updates {
+    ghost use Rattle.plain_data.specs.Deciding.{and_decides, per_from_decides};
+    ghost use Rattle.std.proofs.Common.{rules};
+    ghost use Rattle.std.specs.Prelude.{◌&&◌, ◌==◌};
+    ghost use Rattle.std.specs.Cmp.{unsigned_Decides};
+    ghost use Rattle.std.specs.Cmp.Lexicographic.{pointwise, pointwise_decides};
+
+    ghost eq = { λ x y. pointwise ⟦<TaskState as PartialEq>⟧.eq x.states y.states && x.acknowledged == y.acknowledged };
+
+    ghost laws = { per_from_decides (λ x y. let d = and_decides (pointwise_decides (Prim.search rules) x.states y.states) (unsigned_Decides x.acknowledged y.acknowledged) in ((λ h. let e = d.0 h in Prim.search rules), (λ e. d.1 (Prim.search rules)))) };
+
+    fn eq(&self, other: &Updates) -> bool {
+        self.states == other.states && self.acknowledged == other.acknowledged
+    }
+}
+
+impl Plain for Updates {
+    ghost use Rattle.plain_data.specs.Deciding.{and_decides};
+    ghost use Rattle.std.proofs.Common.{rules};
+    ghost use Rattle.std.specs.Cmp.{unsigned_Decides};
+    ghost use Rattle.std.specs.Cmp.Lexicographic.{pointwise_decides};
+
+    ghost cloned = { λ _ _ same. same };
+
+    ghost decided = { λ x y. let d = and_decides (pointwise_decides (Prim.search rules) x.states y.states) (unsigned_Decides x.acknowledged y.acknowledged) in ((λ h. let e = d.0 h in Prim.search rules), (λ e. d.1 (Prim.search rules))) };
 }

@@ -130,62 +130,6 @@ fn close_two<L: ledger::Ledger>(
     }
 }
 
-/// 100 calls of one seat. A refused call leaves fewer receipts.
-fn make_calls<L: ledger::Ledger, R: Wait>(
-    rt: &R,
-    alloc: Global,
-    office: &Office<Adder, L>,
-    mut pass: Pass<Added, L>,
-) -> Pass<Added, L> {
-    for number in 1..=100u32 {
-        let _ = office.call(rt, alloc, &mut pass, number);
-    }
-    pass
-}
-
-/// Two threads of a scope, each with 100 calls.
-fn both<L: ledger::Ledger + Send + Sync, R: Threads + Wait + Sync>(
-    rt: &R,
-    alloc: Global,
-    office: &Office<Adder, L>,
-    one: Pass<Added, L>,
-    two: Pass<Added, L>,
-) -> Option<(Pass<Added, L>, Pass<Added, L>)> {
-    thread::scope(thread::scope_env(), rt, |scope| {
-        let Ok(child) = scope.spawn(move || make_calls(rt, alloc, office, one)) else {
-            return None;
-        };
-        let two = make_calls(rt, alloc, office, two);
-        Some((child.join(rt), two))
-    })
-}
-
-fn two_threads<L: ledger::Ledger + Send + Sync, R: Threads + Wait + Sync>(
-    rt: &R,
-    alloc: Global,
-    blank: Blank,
-) -> Result<(), Fail>
-    requires name { blank.name ≡ L.name }
-    requires parts { (blank.parts ≡ L.parts) × (blank.parts ≡ 4294967296) }
-{
-    let office: Office<Adder, L> = Office::new(Desk::new(alloc, Adder::new(alloc), blank));
-    let one = office.open_seat(rt, alloc).map_err(|_| "seat")?;
-    let two = office.open_seat(rt, alloc).map_err(|_| "seat")?;
-    let (one, two) = both(rt, alloc, &office, one, two).ok_or("a thread")?;
-    if one.receipts().len() != 100 || two.receipts().len() != 100 {
-        return Err(Fail::new("receipts"));
-    }
-    if close_two(alloc, office, one, two) != Some(201) {
-        return Err(Fail::new("close"));
-    }
-    Ok(())
-}
-
-#[test]
-fn two_threads_of_100_calls(rt: HostRuntime) -> Result<(), Fail> {
-    two_threads::<Brand, _>(&rt, rt.alloc(), Blank::new(PARTS))
-}
-
 /// An entry of a seat that its pass has no receipt of.
 fn foreign<L: ledger::Ledger>(alloc: Global, blank: Blank) -> Result<(), Fail>
     requires name { blank.name ≡ L.name }

@@ -8,10 +8,10 @@ ghost use Rattle.cluster_model.specs.Ids.{before};
 ghost use Rattle.told_streams.specs.Streams.{KeptStream as Kept, heard, hearing, is_kept_as, kept_ids, next_on, opened_stream, stream_kept, taken};
 
 use crate::kept::KeptStream;
-use cluster_steps::copy_stream_event;
 use event_json::Event;
 use master_state::StreamEvent;
 use names_core::StreamId;
+use plain_data::Plain;
 use std::alloc::{AllocError, Global};
 
 /// Ids stand by run, and then by number.
@@ -41,11 +41,7 @@ pub(crate) fn stream_at(streams: &[KeptStream], id: StreamId) -> Option<&KeptStr
     Some(&streams[place])
 }
 
-fn push_one(
-    streams: &mut Vec<KeptStream>,
-    alloc: Global,
-    event: &StreamEvent,
-) -> Result<(), AllocError>
+fn push_one(streams: &mut Vec<KeptStream>, event: &StreamEvent) -> Result<(), AllocError>
     requires { AreRising (kept_ids streams.old.items) }
     ensures ok { OnOk result (streams.new.items ≡ map (hearing (event.now ∷ [])) streams.old.items) }
     ensures err { OnErr result (streams.new.items ≡ streams.old.items) }
@@ -53,7 +49,7 @@ fn push_one(
     let Some(place) = place_of(streams, event.stream) else {
         return Ok(());
     };
-    let copy = copy_stream_event(alloc, event)?;
+    let copy = event.copy()?;
     streams[place].waiting.push(copy.event)?;
     Ok(())
 }
@@ -76,7 +72,7 @@ fn push_some(streams: &mut Vec<KeptStream>, alloc: Global, events: &[StreamEvent
     ensures streams { streams.new.items ≡ map (hearing (take result events.now)) streams.old.items }
 {
     for i in 0..events.len() {
-        if push_one(streams, alloc, &events[i]).is_err() {
+        if push_one(streams, &events[i]).is_err() {
             return i;
         }
     }

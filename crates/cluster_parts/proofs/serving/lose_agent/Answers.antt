@@ -1,7 +1,7 @@
 use Rattle.std.proofs.Common.{◌∙◌, Option, sym, subst}
 use Rattle.cluster_model.specs.Clusters.{LoseAgent}
 use Rattle.cluster_model.specs.Masters.{Master}
-use Rattle.master_mails.specs.Steps.{lost_by}
+use Rattle.agent_sides.specs.Named.{lost_by}
 use Rattle.cluster_parts.specs.Masters.{StandsFor}
 use Rattle.cluster_parts.proofs.StepsServed.{known_agent, loses_without_master, unknown_agent, serve_made, serve_rise}
 use Rattle.cluster_parts.proofs.serving.lose_agent.Goals as goal

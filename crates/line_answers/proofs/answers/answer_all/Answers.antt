@@ -1,5 +1,5 @@
 use Rattle.std.proofs.Common.{take, sym, ◌∙◌}
-use Rattle.text_lines.specs.Texts.{bodies}
+use Rattle.line_answers.specs.Texts.{bodies}
 use Rattle.line_answers.specs.Answers.{after_all, told_all}
 use Rattle.line_answers.proofs.Telling.{after_more, after_none, front_at, told_more, told_none}
 use Rattle.device_io.specs.Written.{appends_more, appends_nothing}

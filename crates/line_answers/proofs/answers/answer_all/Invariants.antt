@@ -1,6 +1,6 @@
 use Rattle.std.proofs.Common.{◌≡◌, take}
 use Rattle.std.specs.Io.KnownBytes.{Appends}
-use Rattle.text_lines.specs.Texts.{bodies}
+use Rattle.line_answers.specs.Texts.{bodies}
 use Rattle.line_answers.specs.Answers.{after_all, told_all}
 use Rattle.line_answers.proofs.answers.answer_all.Given as goal
 

@@ -1,4 +1,4 @@
-use Rattle.text_lines.specs.Texts.{last_line}
+use Rattle.line_answers.specs.Texts.{last_line}
 use Rattle.line_answers.specs.Answers.{after_all, told_all}
 use Rattle.device_io.specs.Written.{appends_more, front_after, front_longer}
 use Rattle.line_answers.proofs.Progress.{on_err, on_ok}

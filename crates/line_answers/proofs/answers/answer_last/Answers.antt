@@ -1,7 +1,7 @@
 use Rattle.std.proofs.Common.{◌≡◌, ℕ, List, [], ◌∷◌, ◌++◌, length, eqb, false, refl, sym, ap, arith, ◌∙◌}
 use Rattle.std.proofs.lemmas.Bool.{eqb-true}
 use Rattle.std.proofs.lemmas.List.{append-nil}
-use Rattle.text_lines.specs.Texts.{last_line}
+use Rattle.line_answers.specs.Texts.{last_line}
 use Rattle.line_answers.specs.Answers.{after_all, told_all}
 use Rattle.device_io.specs.Written.{appends_nothing}
 use Rattle.line_answers.proofs.Telling.{after_first, after_none, told_first, told_none}

@@ -1,5 +1,5 @@
 use Rattle.std.proofs.Common.{take, sym, ◌∙◌, arith}
-use Rattle.text_lines.specs.Texts.{bodies}
+use Rattle.line_answers.specs.Texts.{bodies}
 use Rattle.line_answers.proofs.Progress.{begins, ends, ends_early, goes_nowhere, goes_on, on_err, on_ok, stands_at_end, stands_early, stops, stops_at_end, stops_early, stops_inside}
 use Rattle.line_answers.proofs.answers.answer_pieces.Goals as goal
 

@@ -1,0 +1,24 @@
+//! What is told of an answer.
+
+use std::alloc::Global;
+use std::fmt::Display;
+
+pub fn word(alloc: Global, text: &str) -> Option<String> {
+    text.to_string(alloc).ok()
+}
+
+pub fn yes_or_no(alloc: Global, is: bool) -> Option<String> {
+    word(alloc, if is { "yes" } else { "no" })
+}
+
+pub fn shown<T: Display>(alloc: Global, value: &T) -> Option<String> {
+    format!(in alloc; "{value}").ok()
+}
+
+/// `ok`, or the refusal.
+pub fn told<E: Display>(alloc: Global, answer: &Result<(), E>) -> Option<String> {
+    match answer {
+        Ok(()) => word(alloc, "ok"),
+        Err(fault) => shown(alloc, fault),
+    }
+}

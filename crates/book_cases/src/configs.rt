@@ -1,0 +1,14 @@
+//! A configuration.
+
+use crate::answers::told;
+use crate::words::{agent, amounts, first};
+use agent_sides::Config;
+use std::alloc::Global;
+
+/// An agent is configured.
+pub fn add(config: &mut Config, alloc: Global, text: &str) -> Option<String> {
+    let (name, rest) = first(text);
+    let total = amounts(alloc, rest)?;
+    let name = agent(alloc, name)?;
+    told(alloc, &config.add(name, total))
+}

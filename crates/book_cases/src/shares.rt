@@ -1,0 +1,67 @@
+//! Calls of shares.
+
+use crate::answers::{told, word};
+use crate::words::{amounts, first};
+use drf_pick::{Client, Shares, pick};
+use names_core::{FrameworkId, RoleName};
+use std::alloc::Global;
+
+fn enter(shares: &mut Shares, alloc: Global, text: &str) -> Option<String> {
+    let total = amounts(alloc, text)?;
+    told(alloc, &shares.enter(alloc, &total))
+}
+
+fn leave(shares: &mut Shares, alloc: Global, text: &str) -> Option<String> {
+    let total = amounts(alloc, text)?;
+    told(alloc, &shares.leave(alloc, &total))
+}
+
+fn role(shares: &mut Shares, alloc: Global, text: &str) -> Option<String> {
+    let (framework, role) = first(text);
+    let framework = FrameworkId::from_text(framework).ok()?;
+    let role = RoleName::from_text(alloc, role).ok()?;
+    told(alloc, &shares.role(alloc, framework, &role))
+}
+
+fn give(shares: &mut Shares, alloc: Global, text: &str) -> Option<String> {
+    let (framework, rest) = first(text);
+    let framework = FrameworkId::from_text(framework).ok()?;
+    let resources = amounts(alloc, rest)?;
+    told(alloc, &shares.give(alloc, framework, &resources))
+}
+
+fn back(shares: &mut Shares, alloc: Global, text: &str) -> Option<String> {
+    let (framework, rest) = first(text);
+    let framework = FrameworkId::from_text(framework).ok()?;
+    let resources = amounts(alloc, rest)?;
+    told(alloc, &shares.back(alloc, framework, &resources))
+}
+
+fn least(alloc: Global, picked: Option<FrameworkId>) -> Option<String> {
+    match picked {
+        Some(framework) => framework.to_text(alloc).ok(),
+        None => word(alloc, "none"),
+    }
+}
+
+/// Which of two frameworks stands least.
+fn least_of(shares: &Shares, alloc: Global, text: &str) -> Option<String> {
+    let (one, two) = first(text);
+    let one = FrameworkId::from_text(one).ok()?;
+    let two = FrameworkId::from_text(two).ok()?;
+    let clients = [Client { framework: one }, Client { framework: two }];
+    least(alloc, pick(shares, &clients))
+}
+
+pub fn answer(shares: &mut Shares, alloc: Global, kind: &str, text: &str) -> Option<String> {
+    match kind {
+        "enter" => enter(shares, alloc, text),
+        "leave" => leave(shares, alloc, text),
+        "role" => role(shares, alloc, text),
+        "give" => give(shares, alloc, text),
+        "back" => back(shares, alloc, text),
+        "pick" => least_of(shares, alloc, text),
+        "pick_none" => least(alloc, pick(shares, &[])),
+        _ => None,
+    }
+}

@@ -1,5 +1,0 @@
-use Rattle.std.proofs.Common.{◌≡◌, ◌++◌, take}
-use Rattle.cluster_steps.proofs.events.push_offers.Given as goal
-
-abbrev pub invariant-loop-offer : goal.invariant-loop-offer
-invariant-loop-offer l = l.copies.items ≡ l.initial.copies.items ++ take l.offer-index l.offers

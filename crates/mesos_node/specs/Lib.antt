@@ -1,0 +1,4 @@
+pub mod Commands
+pub mod Ends
+pub mod Refusals
+pub mod Statuses

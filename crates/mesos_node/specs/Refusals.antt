@@ -1,0 +1,13 @@
+-- Why a cluster isn't served.
+use Rattle.std.specs.Prelude.{Bool, true, false}
+use Rattle.agents_file.specs.declared.fault.AgentsFault.TheVariants.{Lines, Config}
+use Rattle.file_records.specs.declared.fault.FolderFault.TheVariants.{TotalDiffers}
+use Rattle.mesos_node.specs.declared.fault.ServeFault.{ServeFault}
+use Rattle.mesos_node.specs.declared.fault.ServeFault.TheVariants.{Agents, Folder}
+
+-- whether a cluster isn't served for what the files say: of the agents, which are no configuration, or of the records, one of which has another total
+abbrev pub is_refusal : ServeFault → Bool
+is_refusal (Agents Lines) = true
+is_refusal (Agents Config) = true
+is_refusal (Folder (TotalDiffers agent)) = true
+is_refusal f = false

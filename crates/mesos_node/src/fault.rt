@@ -1,0 +1,78 @@
+//! Why a cluster isn't served.
+
+ghost use Rattle.std.specs.Prelude.{◌≡◌};
+ghost use Rattle.mesos_node.specs.Refusals.{is_refusal};
+ghost use Rattle.mesos_node.specs.declared.fault.ServeFault.TheVariants.{Agents, Folder, Memory};
+
+use agents_file::AgentsFault;
+use file_records::FolderFault;
+use serving::ServingFault;
+use std::alloc::AllocError;
+use std::{fmt, io};
+
+/// Why a cluster isn't served, or stops being served.
+#[derive(Drop)]
+pub(crate) enum ServeFault {
+    Agents(AgentsFault),
+    Folder(FolderFault),
+    /// `Z2 DeviceFault`: the port can't be had.
+    Port { port: u16, error: io::Error },
+    Serving(ServingFault),
+    /// `Z2 DeviceFault`: the table at the end can't be written.
+    Output(io::Error),
+    /// Memory ran out before the cluster was open, or after its end.
+    Memory,
+}
+
+impl ServeFault {
+    /// Whether the input is refused, and no store, port, thread or memory failed.
+    pub(crate) fn is_refusal(&self) -> bool
+        ensures { result ≡ is_refusal self.now }
+    {
+        match self {
+            ServeFault::Agents(AgentsFault::Lines | AgentsFault::Config) => true,
+            ServeFault::Folder(FolderFault::TotalDiffers { .. }) => true,
+            _ => false,
+        }
+    }
+}
+
+impl From<AllocError> for ServeFault {
+    ghost from_gives = { λ _ fault. fault ≡ Memory };
+
+    fn from(_e: AllocError) -> ServeFault {
+        ServeFault::Memory
+    }
+}
+
+impl From<AgentsFault> for ServeFault {
+    ghost from_gives = { λ agents fault. fault ≡ Agents agents };
+
+    fn from(fault: AgentsFault) -> ServeFault {
+        ServeFault::Agents(fault)
+    }
+}
+
+impl From<FolderFault> for ServeFault {
+    ghost from_gives = { λ folder fault. fault ≡ Folder folder };
+
+    fn from(fault: FolderFault) -> ServeFault {
+        ServeFault::Folder(fault)
+    }
+}
+
+impl fmt::Display for ServeFault {
+    fn fmt<W: fmt::Write>(&self, f: &mut fmt::Formatter<W>) -> fmt::Result {
+        match self {
+            ServeFault::Agents(fault) => write!(f, "{fault}"),
+            ServeFault::Folder(fault) => write!(f, "{fault}"),
+            ServeFault::Port { port, error } => {
+                let port = *port;
+                write!(f, "Z2 DeviceFault: port {port}: {error}")
+            }
+            ServeFault::Serving(fault) => write!(f, "{fault}"),
+            ServeFault::Output(error) => write!(f, "Z2 DeviceFault: {error}"),
+            ServeFault::Memory => f.write_str("C9 OutOfMemory"),
+        }
+    }
+}

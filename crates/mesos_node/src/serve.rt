@@ -1,0 +1,117 @@
+//! The command `serve`: a cluster that runs over a folder of records, with what is said on standard error, and the exit status.
+
+ghost use Rattle.std.specs.Prelude.{◌≡◌, map, IfOk};
+ghost use Rattle.std.specs.Io.KnownBytes.{Keeps};
+ghost use Rattle.std.specs.Process.{exit_status};
+ghost use Rattle.cluster_laws.specs.Parts.{configured};
+ghost use Rattle.cluster_model.specs.Openings.{GoodOpening};
+ghost use Rattle.mesos_node.specs.Statuses.{IsStatus, status_of_fault};
+ghost use Rattle.mesos_node.specs.Ends.{AppendsTable, IsEndTable};
+ghost use Rattle.mesos_node.specs.Refusals.{is_refusal};
+
+use crate::ends::tell;
+use crate::fault::ServeFault;
+use agent_sides::Config;
+use agents_file::read_agents;
+use cluster_core::Cluster;
+use command_line::ServeOptions;
+use device_io::put;
+use file_records::{Folder, open_folder};
+use post_rules::Queues;
+use replays::end_table;
+use serving::{Pace, serve_cluster};
+use std::io::Write;
+use std::marker::Brand;
+use std::net::{Net, TcpListener, TcpStream};
+use std::process::ExitCode;
+use std::sync::Wait;
+use std::sync::ledger::Blank;
+use std::thread::Threads;
+use std::time::Clock;
+
+/// One part for each seat, and one for the desk.
+const PARTS: u64 = 1 << 32;
+
+/// Serves the cluster of a folder, and gives the table at its end.
+fn serve_folder<R: Threads + Wait + Clock + Sync>(
+    rt: &HostRuntime,
+    threads: &R,
+    options: &ServeOptions,
+    config: Config,
+    folder: Folder,
+    listener: &TcpListener,
+) -> Result<Vec<u8>, ServeFault>
+    requires good { GoodOpening folder.run folder.records.items }
+    requires configured { config ≡ map configured folder.records.items }
+    ensures { IfOk result (λ text. IsEndTable text.items) }
+{
+    let Folder {
+        run,
+        records,
+        files,
+    } = folder;
+    let cluster: Cluster<Queues> = match Cluster::open(rt.alloc(), config, records, run) {
+        Ok(cluster) => cluster,
+        Err(_) => return Err(ServeFault::Memory),
+    };
+    let pace = Pace {
+        interval: options.interval,
+        task_seconds: options.task_seconds,
+        connections: options.connections,
+    };
+    let blank = Blank::new(PARTS);
+    match serve_cluster::<Brand, _>(threads, rt.alloc(), blank, cluster, files, listener, pace) {
+        Ok(history) => Ok(end_table(rt.alloc(), history.recorded().cluster())?),
+        Err(fault) => Err(ServeFault::Serving(fault)),
+    }
+}
+
+/// Serves the cluster of the folder and the agents that the options name, and gives the table at its end. It says on standard error where it serves, once it
+/// does.
+fn serve<R: Net<Listener = TcpListener, Stream = TcpStream> + Threads + Wait + Clock + Sync>(
+    rt: &HostRuntime,
+    threads: &R,
+    options: &ServeOptions,
+) -> Result<Vec<u8>, ServeFault>
+    ensures { IfOk result (λ text. IsEndTable text.items) }
+{
+    let config = read_agents(rt, options.agents)?;
+    let folder = open_folder(rt, options.state, &config)?;
+    let port = options.port;
+    let listener = match TcpListener::bind(threads, ("127.0.0.1", port)) {
+        Ok(listener) => listener,
+        Err(error) => return Err(ServeFault::Port { port, error }),
+    };
+    let run = folder.run.number();
+    let _ = eprintln!(rt; "run {run} serves at http://127.0.0.1:{port}/api/v1/scheduler");
+    serve_folder(rt, threads, options, config, folder, &listener)
+}
+
+/// Tells on standard error why a cluster isn't served, or isn't any more.
+fn tell_fault(rt: &HostRuntime, fault: &ServeFault) -> ExitCode
+    ensures { exit_status result ≡ status_of_fault (is_refusal fault.now) }
+{
+    tell(rt, fault, fault.is_refusal())
+}
+
+/// Serves a cluster until its connections have ended, and writes the table at its end: each agent with its tasks, and the number of entries of the history.
+/// `threads` is the runtime too, by what only `main` may do. The status is 0 at that end, 2 where the files of the agents or of the records are refused (`X3
+/// BadConfig`, `Z1 TotalDiffers`), and 3 where a store, the port, a thread, the output or memory fails.
+pub(crate) fn run_serve<
+    R: Net<Listener = TcpListener, Stream = TcpStream> + Threads + Wait + Clock + Sync,
+    W: Write,
+>(rt: &HostRuntime, threads: &R, options: &ServeOptions, writer: &mut W) -> ExitCode
+    ensures status { IsStatus (exit_status result) }
+    // At 0 the table at the end of a cluster is written, which is safe, and whose history is legal.
+    ensures ended { exit_status result ≡ 0 → AppendsTable (W.contents writer.old) (W.contents writer.new) }
+    // At 2 nothing is written.
+    ensures refused { exit_status result ≡ 2 → Keeps (W.contents writer.old) (W.contents writer.new) }
+{
+    match serve(rt, threads, options) {
+        Ok(table) => match put(writer, table.as_slice()) {
+            Ok(()) => ExitCode::SUCCESS,
+            Err(error) => tell_fault(rt, &ServeFault::Output(error)),
+        },
+        Err(fault) => tell_fault(rt, &fault),
+    }
+}

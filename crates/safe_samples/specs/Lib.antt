@@ -1,0 +1,5 @@
+pub mod Agents
+pub mod Worlds
+pub mod Histories
+pub mod Booking
+pub mod Acknowledging

@@ -1,0 +1,75 @@
+//! Samples of the safety law: short runs of the model at one agent, of which the checker computes that the law holds. The step at
+//! issue goes through a word of its own, which is the model's; each wrong body of `must-fail` stands in the place of such a word,
+//! and then the law is false at the end of the run.
+#![tactic(auto)]
+
+ghost use Rattle.cluster_model.specs.Channels.{AllFit, open_world};
+ghost use Rattle.cluster_model.specs.Openings.{GoodOpening};
+ghost use Rattle.cluster_safe.specs.Acknowledged.{AcknowledgedByOwner};
+ghost use Rattle.cluster_safe.specs.Honest.{IsBeginningOf, acknowledged_by};
+ghost use Rattle.cluster_safe.specs.Updates.{updates_of};
+ghost use Rattle.cluster_samples.specs.Short.{id};
+ghost use Rattle.safe_samples.specs.Acknowledging.{acknowledgements, after_foreign, foreign_calls};
+ghost use Rattle.safe_samples.specs.Agents.{reporting};
+ghost use Rattle.safe_samples.specs.Booking.{after_accept, after_closed, after_kill, after_offer, after_repeat, after_teardown, after_update};
+ghost use Rattle.safe_samples.specs.Histories.{is_offered, launches, reports, updates, world_after};
+ghost use Rattle.safe_samples.specs.Worlds.{launched, launched_twice, no_task, offered, running, updated, with_task, with_two_launches, with_updates};
+ghost use Rattle.std.specs.Prelude.{◌≡◌, ◌++◌};
+
+/// The worlds in which the samples begin are those of histories, over good openings.
+pub fn worlds_are_of_histories()
+    ensures running { world_after 2 with_task reports ≡ running }
+    ensures launched_twice { world_after 2 with_two_launches reports ≡ launched_twice }
+    ensures offered { world_after 1 no_task (reports ++ is_offered) ≡ offered }
+    ensures launched { world_after 1 no_task (reports ++ is_offered ++ launches) ≡ launched }
+    ensures updated { world_after 2 with_updates (reports ++ updates) ≡ updated }
+    ensures of_tasks { GoodOpening 2 with_task × GoodOpening 2 with_two_launches × GoodOpening 2 with_updates }
+    ensures of_none { GoodOpening 1 no_task }
+{}
+
+/// A task that is to be killed keeps its resources until it has ended.
+pub fn kills_free_nothing()
+    ensures { AllFit after_kill }
+{}
+
+/// The tasks of a framework that is torn down keep their resources until their agent has ended them.
+pub fn teardowns_free_nothing()
+    ensures { AllFit after_teardown }
+{}
+
+/// The end of an old launch frees nothing of a new one, whose task has the same name.
+pub fn old_ends_free_no_new_task()
+    ensures { AllFit after_update }
+{}
+
+/// What is offered to one framework isn't offered to another.
+pub fn a_part_is_offered_once()
+    ensures { AllFit after_offer }
+{}
+
+/// An offer that was accepted isn't current beside the tasks that were launched out of it.
+pub fn accepted_offers_are_gone()
+    ensures { AllFit after_accept }
+{}
+
+/// The Report that opened a session, heard again in it, replaces no task that was launched since.
+pub fn repeated_reports_replace_nothing()
+    ensures { AllFit after_repeat }
+{}
+
+/// The Report of a session that was closed opens it no more.
+pub fn closed_sessions_stay_closed()
+    ensures { AllFit after_closed }
+{}
+
+/// A framework that acknowledges each update that is sent has acknowledged a beginning of its task's updates.
+#[tactic(auto, using(crate::proofs::Gapless::beginning))]
+pub fn updates_are_sent_in_turn()
+    ensures { IsBeginningOf (updates_of (id 1 1) reporting (open_world 2 with_updates))
+        (acknowledged_by with_updates (id 1 1) (id 1 1) acknowledgements) }
+{}
+
+/// An ACKNOWLEDGE of a framework that isn't the task's acknowledges nothing.
+pub fn only_owners_acknowledge()
+    ensures { AcknowledgedByOwner with_updates after_foreign foreign_calls }
+{}

@@ -1,4 +1,0 @@
-use Rattle.serve_command.proofs.serve.serve_folder.Given as goal
-
-abbrev pub ghosts-serve_cluster : goal.ghosts-serve_cluster
-ghosts-serve_cluster g a = record { name = a.blank.name; parts = a.blank.parts }

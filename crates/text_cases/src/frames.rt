@@ -1,0 +1,66 @@
+//! Records and their written forms.
+
+use frame_record::{FrameFault, Reader, encode};
+use std::alloc::{AllocError, Global};
+
+/// So many bytes at the front of a longer text are told.
+const TOLD: usize = 20;
+
+/// How many bytes there are, and the text of the first ones.
+fn front(bytes: &[u8]) -> (usize, &str) {
+    let front = bytes.get(..TOLD).unwrap_or(bytes);
+    (bytes.len(), std::str::from_utf8(front).unwrap_or("no text"))
+}
+
+/// The written form of a record with this text.
+pub fn frame(alloc: Global, text: &str) -> Result<String, AllocError> {
+    match encode(alloc, text.as_bytes()) {
+        Ok(written) => format!(in alloc; "{:?}", front(&written)),
+        Err(fault) => format!(in alloc; "{fault}"),
+    }
+}
+
+fn push_records(told: &mut String, records: &[Vec<u8>]) -> Result<(), AllocError> {
+    for record in records {
+        write!(told, "{:?}, ", front(record))?;
+    }
+    Ok(())
+}
+
+/// Gives a reader one more piece, and tells the records that come of it.
+fn push_fed(
+    told: &mut String,
+    alloc: Global,
+    reader: &mut Reader,
+    piece: &[u8],
+) -> Result<Option<FrameFault>, FrameFault> {
+    let fed = reader.feed(alloc, piece)?;
+    push_records(told, &fed.records)?;
+    Ok(fed.fault)
+}
+
+/// Gives a reader the text in pieces of this size, and tells the records; what the last piece is answered with.
+fn push_all(
+    told: &mut String,
+    alloc: Global,
+    reader: &mut Reader,
+    pieces: (usize, &str),
+) -> Result<Option<FrameFault>, FrameFault> {
+    let (size, text) = pieces;
+    let mut last = None;
+    for piece in text.as_bytes().chunks(size.max(1)) {
+        last = push_fed(told, alloc, reader, piece)?;
+    }
+    Ok(last)
+}
+
+/// The records of the text behind the first word, read in pieces of as many bytes as that word says; then what the last piece and the end are answered with.
+pub fn frames(alloc: Global, text: &str) -> Result<String, AllocError> {
+    let (size, text) = text.split_once(' ').unwrap_or((text, ""));
+    let size = size.parse().unwrap_or(1);
+    let mut reader = Reader::new(alloc);
+    let mut told = String::new(alloc);
+    let last = push_all(&mut told, alloc, &mut reader, (size, text));
+    write!(told, "{:?}", (last, reader.end()))?;
+    Ok(told)
+}

@@ -1,0 +1,35 @@
+//! Says of each line of its input, a kind and a text, what that text is read as.
+//!
+//! An empty line and a line that begins with `#` are written again as they are. In a text `~LF~` stands for a line feed, and so do
+//! `NUL`, `CR`, `US`, `DEL` and `BOM` (the byte order mark) for theirs, and `~COUNT*PART~` for so many copies of a part. The kinds are
+//!
+//! - `earlier`: whether the first of two launch keys stands before the other;
+//! - `add`, `plus`, `minus`, `reduce`, `compare`, `amount`: two lists of amounts, or a list and what is added to it or looked up in it; `compare` tells
+//!   whether the first covers the other, and whether they are the same;
+//! - `frame`: a record's written form; `frames SIZE`: the records of a stream that comes in pieces of so many bytes;
+//! - `updates`: states of a task and acknowledgements; `issued`, `taken`: the two ends of a link of commands;
+//! - `trim`, `call`, `record`, `step`, `config`, `agents`: texts of calls, of records, of a replay and of the file of the agents, with all that they are read
+//!   as; `lists` tells of a call how long its lists are, and `written` gives a record's text again;
+//! - `message`, `offered`, `finished`: events whose texts no replay has;
+//! - `refusal`: the text of a refusal that no other line meets.
+#![tactic(auto)]
+
+mod amounts;
+mod answer;
+mod events;
+mod frames;
+mod marks;
+mod refusals;
+mod streams;
+mod texts;
+
+use answer::answer;
+use std::io;
+
+fn main(rt: HostRuntime) -> io::Result<()> {
+    for line in rt.lines(rt.alloc()) {
+        let text = answer(rt.alloc(), line?.as_str())?;
+        println!(rt; "{text}")?;
+    }
+    Ok(())
+}

@@ -1,0 +1,35 @@
+//! Refusals that no other line meets.
+
+use agents_file::AgentsFault;
+use call_members::CallFault;
+use frame_record::FrameFault;
+use names_core::NameFault;
+use quantity::QuantityFault;
+use record_text::RecordFault;
+use std::alloc::{AllocError, Global};
+use step_lines::LineFault;
+use stream_core::StreamFault;
+
+fn of_amounts(name: &str) -> QuantityFault {
+    match name {
+        "large" => QuantityFault::TooLarge,
+        "uncovered" => QuantityFault::NotCovered,
+        "names" => QuantityFault::TooManyNames,
+        "name" => QuantityFault::BadName,
+        _ => QuantityFault::OutOfMemory,
+    }
+}
+
+/// The text of the refusal of this name: of amounts, or where memory was refused to what is named.
+pub fn refusal(alloc: Global, name: &str) -> Result<String, AllocError> {
+    match name {
+        "memory agents" => format!(in alloc; "{}", AgentsFault::Memory),
+        "memory call" => format!(in alloc; "{}", CallFault::OutOfMemory),
+        "memory frame" => format!(in alloc; "{}", FrameFault::OutOfMemory),
+        "memory id" => format!(in alloc; "{}", NameFault::OutOfMemory),
+        "memory record" => format!(in alloc; "{}", RecordFault::OutOfMemory),
+        "memory step" => format!(in alloc; "{}", LineFault::OutOfMemory),
+        "memory update" => format!(in alloc; "{}", StreamFault::OutOfMemory),
+        _ => format!(in alloc; "{}", of_amounts(name)),
+    }
+}

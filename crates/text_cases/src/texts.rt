@@ -1,0 +1,108 @@
+//! Texts of calls, of records, of a replay and of the file of the agents.
+
+use agent_sides::{Config, ConfiguredAgent};
+use agents_file::agents_in;
+use call_json::read_call;
+use mails::Call;
+use number_trim::trim;
+use record_text::{record_of, record_text};
+use std::alloc::{AllocError, Global};
+use step_lines::{read_config, read_step};
+
+fn trimmed(alloc: Global, text: &str) -> Result<String, AllocError> {
+    match String::from_utf8(trim(alloc, text.as_bytes())?) {
+        Ok(text) => Ok(text),
+        Err(_) => "no text".to_string(alloc),
+    }
+}
+
+/// The call with its fields.
+fn call(alloc: Global, text: &str) -> Result<String, AllocError> {
+    match read_call(alloc, text.as_bytes()) {
+        Ok(call) => format!(in alloc; "{call:?}"),
+        Err(fault) => format!(in alloc; "{fault}"),
+    }
+}
+
+/// How many offers and how many tasks the call lists.
+fn counts(call: &Call) -> (usize, usize) {
+    match call {
+        Call::Accept { offers, tasks, .. } => (offers.len(), tasks.len()),
+        Call::Reconcile { tasks, .. } => (0, tasks.len()),
+        _ => (0, 0),
+    }
+}
+
+fn lists(alloc: Global, text: &str) -> Result<String, AllocError> {
+    match read_call(alloc, text.as_bytes()) {
+        Ok(call) => format!(in alloc; "{:?}", counts(&call)),
+        Err(fault) => format!(in alloc; "{fault}"),
+    }
+}
+
+/// The record with its fields.
+fn record(alloc: Global, text: &str) -> Result<String, AllocError> {
+    match record_of(alloc, text) {
+        Ok(record) => format!(in alloc; "{record:?}"),
+        Err(fault) => format!(in alloc; "{fault}"),
+    }
+}
+
+/// The written form of the record that a text is.
+fn written(alloc: Global, text: &str) -> Result<String, AllocError> {
+    match record_of(alloc, text) {
+        Ok(record) => record_text(alloc, &record),
+        Err(fault) => format!(in alloc; "{fault}"),
+    }
+}
+
+/// The step with its fields.
+fn step(alloc: Global, text: &str) -> Result<String, AllocError> {
+    match read_step(alloc, text.as_bytes()) {
+        Ok(step) => format!(in alloc; "{step:?}"),
+        Err(fault) => format!(in alloc; "{fault}"),
+    }
+}
+
+fn push_agent(told: &mut String, agent: &ConfiguredAgent) -> Result<(), AllocError> {
+    let name = agent.name.as_text();
+    let total = &agent.total;
+    write!(told, "{name} {total:?};")
+}
+
+/// Each agent with its amounts.
+fn configured(alloc: Global, config: &Config) -> Result<String, AllocError> {
+    let mut told = String::new(alloc);
+    for agent in config.agents() {
+        push_agent(&mut told, agent)?;
+    }
+    Ok(told)
+}
+
+fn config(alloc: Global, text: &str) -> Result<String, AllocError> {
+    match read_config(alloc, text.as_bytes()) {
+        Ok(config) => configured(alloc, &config),
+        Err(fault) => format!(in alloc; "{fault}"),
+    }
+}
+
+fn agents(alloc: Global, text: &str) -> Result<String, AllocError> {
+    match agents_in(alloc, text.as_bytes()) {
+        Ok(config) => configured(alloc, &config),
+        Err(fault) => format!(in alloc; "{fault}"),
+    }
+}
+
+pub fn of_texts(alloc: Global, kind: &str, text: &str) -> Result<String, AllocError> {
+    match kind {
+        "trim" => trimmed(alloc, text),
+        "call" => call(alloc, text),
+        "lists" => lists(alloc, text),
+        "record" => record(alloc, text),
+        "written" => written(alloc, text),
+        "step" => step(alloc, text),
+        "config" => config(alloc, text),
+        "agents" => agents(alloc, text),
+        _ => "no kind".to_string(alloc),
+    }
+}
