@@ -5,7 +5,7 @@ ghost use Rattle.cluster_model.specs.Agents.{has_room, hears_command, applies, t
 ghost use Rattle.mails.specs.declared.mail.Command.TheVariants.{Launch};
 ghost use Rattle.agent_core.specs.Drafts.{agent_of, applied_with, next_draft, Prepares, told_again};
 
-use crate::edits::{acknowledged_all, stated_all, without_framework};
+use crate::edits::{acknowledged_all, is_front_at, stated_all, without_framework};
 use crate::fault::AgentFault;
 use crate::mails_out::push_fronts_at;
 use crate::room;
@@ -82,6 +82,9 @@ impl State {
             }
             Command::Ack(key, k) => {
                 let tasks = acknowledged_all(alloc, key, k, self.tasks())?;
+                if !is_front_at(key, k, self.tasks()) {
+                    return self.applied_with(alloc, link, tasks, None);
+                }
                 self.applied_with(alloc, link, tasks, Some(key))
             }
             Command::EndFramework(framework) => {

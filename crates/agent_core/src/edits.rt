@@ -3,7 +3,7 @@
 ghost use Rattle.std.specs.Prelude.{◌≡◌, ◌&&◌, IfOk, not, map, filter};
 ghost use Rattle.std.specs.List.{list_any};
 ghost use Rattle.stream_core.specs.Updates.{is_done, is_full};
-ghost use Rattle.cluster_model.specs.Agents.{is_task, has_ended, stated, acknowledged, needs_place};
+ghost use Rattle.cluster_model.specs.Agents.{is_task, has_ended, is_front_at, stated, acknowledged, needs_place};
 ghost use Rattle.cluster_model.specs.Ids.{same};
 
 use crate::state::{is_same_framework, is_same_key};
@@ -99,6 +99,15 @@ pub fn without_framework(
         }
     }
     Ok(kept)
+}
+
+/// Whether update `k` is the front of the task of this key: the first that isn't acknowledged.
+pub fn is_front_at(key: LaunchKey, k: u32, tasks: &[RecordedTask]) -> bool
+    ensures { result ≡ is_front_at key k tasks.now }
+{
+    tasks
+        .iter()
+        .any(|task| is_of_key(key, task) && task.updates.is_front(k))
 }
 
 /// Whether there is a task of this key.

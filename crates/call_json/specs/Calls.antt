@@ -1,9 +1,9 @@
 -- Which call a text is, or its first fault.
-use Rattle.std.specs.Prelude.{◌≡◌, ℕ, List, Bool, codes, bytes_eq, Option, None, Some, Result, Ok, Err, is_some, if◌then◌else◌}
+use Rattle.std.specs.Prelude.{◌≡◌, ℕ, nat_le, List, Bool, codes, bytes_eq, Option, None, Some, Result, Ok, Err, is_some, if◌then◌else◌}
 use Rattle.std.specs.Str.{is_utf8}
-use Rattle.serde_json.specs.Data.{Data}
+use Rattle.serde_json.specs.Data.{Data, depth}
 use Rattle.serde_json.specs.Find.{get, as_object}
-use Rattle.serde_json.specs.Read.{read}
+use Rattle.serde_json.specs.Read.{max_depth, read}
 use Rattle.number_trim.specs.Trim.{trim}
 use Rattle.call_members.specs.Answers.{◌>>=◌}
 use Rattle.call_members.specs.Members.{text_of}
@@ -62,9 +62,13 @@ abbrev pub by_type : Option (List ℕ) → Data → Result Call Refusal
 by_type None d = Err NoType
 by_type (Some text) d = by_known (kind_of text) d
 
--- the call that a JSON value is
+-- the call that an object is
+unfoldable pub nested_call : Data → Result Call Refusal
+nested_call d = if is_some (as_object d) then by_type (text_of (get (codes "type") d)) d else Err NotJson
+
+-- the call that a JSON value is, where it nests no deeper than a text may
 unfoldable pub call_of : Data → Result Call Refusal
-call_of d = if is_some (as_object d) then by_type (text_of (get (codes "type") d)) d else Err NotJson
+call_of d = if nat_le (depth d) max_depth then nested_call d else Err NotJson
 
 abbrev pub call_in : Option Data → Result Call Refusal
 call_in None = Err NotJson

@@ -3,6 +3,7 @@
 
 mod accept;
 mod framework;
+mod nesting;
 mod offers;
 mod read;
 mod reconcile;

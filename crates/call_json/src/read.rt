@@ -1,12 +1,15 @@
 //! Calls of values and of texts.
 
-ghost use Rattle.std.specs.Prelude.{◌≡◌};
+ghost use Rattle.std.specs.Prelude.{◌≡◌, ◌≤◌};
+ghost use Rattle.serde_json.specs.Data.{depth};
+ghost use Rattle.serde_json.specs.Read.{max_depth};
 ghost use Rattle.serde_json.specs.View.{view};
 ghost use Rattle.call_members.specs.Answers.{Gives};
-ghost use Rattle.call_json.specs.Calls.{kind_of, by_kind, call_of, read_json, read_call};
+ghost use Rattle.call_json.specs.Calls.{kind_of, by_kind, call_of, nested_call, read_json, read_call};
 
 use crate::accept::{accept, decline};
 use crate::framework::{revive, suppress, teardown};
+use crate::nesting::nests_within;
 use crate::reconcile::reconcile;
 use crate::subscribe::subscribe;
 use crate::task::{acknowledge, kill};
@@ -64,11 +67,10 @@ fn of_kind(alloc: Global, kind: Kind, value: &Value) -> Result<Call, CallFault>
     }
 }
 
-/// The call that a JSON value is. A member of another kind than asked for counts as absent, and members that aren't asked
-/// for may hold anything. Of a member that stands twice the last counts.
-#[tactic(auto, unfolding(crate::specs::Calls::call_of))]
-pub fn call_of(alloc: Global, value: &Value) -> Result<Call, CallFault>
-    ensures { Gives (λ c. c) result (call_of (view value.now)) }
+/// The call that a value is which nests no deeper than a text may.
+#[tactic(auto, unfolding(crate::specs::Calls::nested_call))]
+fn nested_call(alloc: Global, value: &Value) -> Result<Call, CallFault>
+    ensures { Gives (λ c. c) result (nested_call (view value.now)) }
 {
     if !value.is_object() {
         return Err(CallFault::Refused(Refusal::NotJson));
@@ -82,12 +84,24 @@ pub fn call_of(alloc: Global, value: &Value) -> Result<Call, CallFault>
     }
 }
 
+/// The call that a JSON value is. A member of another kind than asked for counts as absent, and members that aren't asked
+/// for may hold anything. Of a member that stands twice the last counts. As of a text, it is J1 where arrays and objects nest deeper than 127 levels.
+#[tactic(auto, unfolding(crate::specs::Calls::call_of))]
+pub fn call_of(alloc: Global, value: &Value) -> Result<Call, CallFault>
+    ensures { Gives (λ c. c) result (call_of (view value.now)) }
+{
+    if !nests_within(value, 127) {
+        return Err(CallFault::Refused(Refusal::NotJson));
+    }
+    nested_call(alloc, value)
+}
+
 #[tactic(auto, unfolding(crate::specs::Calls::read_json))]
 fn read_json(alloc: Global, bytes: &[u8]) -> Result<Call, CallFault>
     ensures { Gives (λ c. c) result (read_json bytes.now) }
 {
     match Value::from_slice(alloc, bytes) {
-        Ok(value) => call_of(alloc, &value),
+        Ok(value) => nested_call(alloc, &value),
         Err(e) => {
             if e.is_memory() {
                 Err(CallFault::OutOfMemory)

@@ -24,7 +24,7 @@ use Rattle.mails.specs.declared.cause.Cause.TheVariants.{Start, Mail, Executor, 
 use Rattle.mails.specs.declared.refusal.AgentRefusal.{AgentRefusal}
 use Rattle.mails.specs.declared.refusal.AgentRefusal.TheVariants.{OldSession, NotNext, NoSuchTask, Ended, NoRoom, UpdatesFull, SessionsSpent}
 use Rattle.cluster_model.specs.Ids.{same, last_number}
-use Rattle.cluster_model.specs.Agents.{Agent, Draft, has_ended, is_task, state_at, front_of, fronts, front_at, reopened, reports, opens_next, stated, acknowledged, launched_task, tasks_after, fronts_after, with_tasks, after_command, applies, has_room, hears_mail, needs_place, executes, next_of, recovered_from}
+use Rattle.cluster_model.specs.Agents.{Agent, Draft, has_ended, is_task, state_at, front_of, fronts, front_at, reopened, reports, opens_next, stated, acknowledged, launched_task, tasks_after, is_front_at, fronts_after, with_tasks, after_command, applies, has_room, hears_mail, needs_place, executes, next_of, recovered_from}
 use Rattle.cluster_model.specs.Channels.{Channel, is_own, World}
 use Rattle.cluster_model.specs.Clusters.{Post}
 use Rattle.cluster_model.specs.Steps.{Marked, history}
@@ -127,11 +127,11 @@ Good d = AreWithin d.after.durable.tasks × Each FitsRecord d.mails
 opens_good : (a : Agent) (last run : ℕ) → AreWithin a.durable.tasks → AllOk Good (opens_next a last run)
 opens_good a last run h = all_if (nat_le last_number last) (Err SessionsSpent) (Ok (reports (reopened a (suc last) run))) Good (λ e. tt) (λ e. (h, (tt, fronts_fit (reopened a (suc last) run) h)))
 
-after_fits : (command : Command) (a : Agent) → AreWithin a.durable.tasks → Each FitsRecord (fronts_after command a)
-after_fits (Launch job offers) a h = tt
-after_fits (Kill key) a h = front_at_fits key a h
-after_fits (Ack key k) a h = front_at_fits key a h
-after_fits (EndFramework framework) a h = tt
+after_fits : (command : Command) (before a : Agent) → AreWithin a.durable.tasks → Each FitsRecord (fronts_after command before a)
+after_fits (Launch job offers) before a h = tt
+after_fits (Kill key) before a h = front_at_fits key a h
+after_fits (Ack key k) before a h = cond_both (is_front_at key k before.durable.tasks) (front_at key a) [] (Each FitsRecord) (λ e. front_at_fits key a h) (λ e. tt)
+after_fits (EndFramework framework) before a h = tt
 
 mail_good : (a : Agent) (m : MasterMail) → AreWithin a.durable.tasks → AllOk Good (hears_mail a m)
 mail_good a (Hello run dead) h =
@@ -156,7 +156,7 @@ mail_good a (Issued session number what) h =
     tasks = command_within what a.durable.tasks h
 
     applied : Good (applies a what)
-    applied = (tasks, (tt, after_fits what (after_command a what) tasks))
+    applied = (tasks, (tt, after_fits what a (after_command a what) tasks))
 
 -- a state of an executor needs a place, unless it is terminal
 placed : (key : Numbered) (state : TaskState) (t : RecordedTask) → (is_terminal state ≡ false → (is_task key t && is_full t.updates) ≡ false) → is_task key t ≡ true → is_terminal state ≡ false → is_full t.updates ≡ false

@@ -127,12 +127,16 @@ tasks_after (Kill key) ts = map (stated key Killed) ts
 tasks_after (Ack key k) ts = filter (λ t. not (updates.is_done t.updates)) (map (acknowledged key k) ts)
 tasks_after (EndFramework framework) ts = filter (λ t. not (same t.job.framework framework)) ts
 
--- the updates that go out with a command
-abbrev pub fronts_after : Command → Agent → List AgentMail
-fronts_after (Launch job offers) a = []
-fronts_after (Kill key) a = front_at key a
-fronts_after (Ack key k) a = front_at key a
-fronts_after (EndFramework framework) a = []
+-- whether the number is that of the front of a key's task
+abbrev pub is_front_at : Numbered → ℕ → List RecordedTask → Bool
+is_front_at key k ts = list_any (λ t. is_task key t && updates.is_front k t.updates) ts
+
+-- the updates that go out with a command, which was applied to one agent and left the other: the next front of a task goes out where its front was just acknowledged
+abbrev pub fronts_after : Command → Agent → Agent → List AgentMail
+fronts_after (Launch job offers) before after = []
+fronts_after (Kill key) before after = front_at key after
+fronts_after (Ack key k) before after = if is_front_at key k before.durable.tasks then front_at key after else []
+fronts_after (EndFramework framework) before after = []
 
 abbrev pub with_tasks : Agent → List RecordedTask → ℕ → Agent
 with_tasks a ts applied = record {
@@ -148,7 +152,7 @@ after_command a command = with_tasks a (tasks_after command a.durable.tasks) (su
 abbrev pub applies : Agent → Command → Draft
 applies a command =
     let after = after_command a command in
-    record { after = after; mails = Applied a.durable.session (suc a.applied) ∷ fronts_after command after }
+    record { after = after; mails = Applied a.durable.session (suc a.applied) ∷ fronts_after command a after }
 
 -- whether the agent has room for what a command launches, beside its live tasks
 abbrev pub has_room : Agent → Command → Bool

@@ -22,7 +22,7 @@ use Rattle.mails.specs.declared.refusal.AgentRefusal.TheVariants.{OldSession, No
 use Rattle.names_core.specs.declared.state.TaskState.TheVariants.{Killed}
 use Rattle.stream_core.specs.Updates.{is_full, is_done}
 use Rattle.cluster_model.specs.Ids.{same, last_number}
-use Rattle.cluster_model.specs.Agents.{Agent, Draft, has_ended, is_task, fronts, front_at, reopened, reports, opens_next, stated, acknowledged, launched_task, tasks_after, fronts_after, with_tasks, after_command, applies, has_room, hears_mail, needs_place, next_of}
+use Rattle.cluster_model.specs.Agents.{Agent, Draft, has_ended, is_task, fronts, front_at, reopened, reports, opens_next, stated, acknowledged, launched_task, tasks_after, is_front_at, fronts_after, with_tasks, after_command, applies, has_room, hears_mail, needs_place, next_of}
 use Rattle.cluster_model.specs.Channels.{InRun}
 use Rattle.cluster_safe.specs.Facts.{Stake, Past, Fades, task_stake, launches, coming, stakes, NotOf, EndsKept, Ordered, StateOk, DownOk, UpOk, drafted, mails_of, states_of, PastOk, Facts}
 use Rattle.cluster_safe.proofs.Ids.{same_refl}
@@ -173,7 +173,7 @@ ends_command p a (EndFramework framework) past up at_place = (
 
 draft_command : (p : Past) (l : InRun) (w : Command) → Facts p l → l.agent.in_session ≡ true → l.agent.session ≤ p.peak → slice_get (p.ever l.agent.session) l.agent.applied ≡ Some w → Draftable p.sent l (applies l.agent w)
 draft_command p l w f up peak at_place =
-    (p, f, record { follows = fol; ok = ok; mails = (applied_ok p l.next_key l.total after peak up ok, by_kind w after ok) }, refl)
+    (p, f, record { follows = fol; ok = ok; mails = (applied_ok p l.next_key l.total after peak up ok, by_kind w l.agent after ok) }, refl)
   where
     after : Agent
     after = after_command l.agent w
@@ -188,11 +188,11 @@ draft_command p l w f up peak at_place =
     ok = ok_followed p l.next_key l.total after l.agent fol s refl s.told (λ e. get_length (p.ever l.agent.session) l.agent.applied w at_place)
         (λ e. ends_take_more l.agent.applied (p.ever l.agent.session) w (stakes p after) at_place (ends_faded (take l.agent.applied (p.ever l.agent.session)) (stakes p after) (stakes p l.agent) fol.fades (s.ends up)) (ends_command p l.agent w f.past up at_place))
 
-    by_kind : (v : Command) (b : Agent) → StateOk p l.next_key l.total b → Each (UpOk p l.next_key l.total (b ∷ [])) (fronts_after v b)
-    by_kind (Launch job offers) b h = tt
-    by_kind (Kill key) b h = front_at_ok p l.next_key l.total b key h
-    by_kind (Ack key k) b h = front_at_ok p l.next_key l.total b key h
-    by_kind (EndFramework framework) b h = tt
+    by_kind : (v : Command) (before b : Agent) → StateOk p l.next_key l.total b → Each (UpOk p l.next_key l.total (b ∷ [])) (fronts_after v before b)
+    by_kind (Launch job offers) before b h = tt
+    by_kind (Kill key) before b h = front_at_ok p l.next_key l.total b key h
+    by_kind (Ack key k) before b h = cond_both (is_front_at key k before.tasks) (front_at key b) [] (Each (UpOk p l.next_key l.total (b ∷ []))) (λ e. front_at_ok p l.next_key l.total b key h) (λ e. tt)
+    by_kind (EndFramework framework) before b h = tt
 
 abbrev pub AllOk : (Draft → Type 0) → Result Draft AgentRefusal → Type 0
 AllOk P (Ok d) = P d

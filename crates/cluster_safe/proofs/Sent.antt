@@ -21,7 +21,7 @@ use Rattle.mails.specs.declared.cause.Cause.TheVariants.{Start, Mail, Executor, 
 use Rattle.mails.specs.declared.refusal.AgentRefusal.{AgentRefusal}
 use Rattle.mails.specs.declared.refusal.AgentRefusal.TheVariants.{OldSession, NotNext, NoSuchTask, Ended, NoRoom, UpdatesFull, SessionsSpent}
 use Rattle.cluster_model.specs.Ids.{same, last_number}
-use Rattle.cluster_model.specs.Agents.{Agent, Draft, has_ended, is_task, state_at, front_of, fronts, front_at, reopened, reports, opens_next, stated, with_tasks, after_command, fronts_after, applies, has_room, hears_mail, needs_place, executes, next_of}
+use Rattle.cluster_model.specs.Agents.{Agent, Draft, has_ended, is_task, state_at, front_of, fronts, front_at, reopened, reports, opens_next, stated, with_tasks, after_command, is_front_at, fronts_after, applies, has_room, hears_mail, needs_place, executes, next_of}
 use Rattle.cluster_model.specs.Sides.{Run, Side, shut, last_session}
 use Rattle.cluster_model.specs.Channels.{Channel, InRun, AgentStep, Draw, DrawMail, Adopt, StopWithout, StopWith, drawn, drawn_mail, adopted, stopped_with, is_own, agent_step, ChannelStep, ByMaster, Hear, ByAgent, heard_mail, happens, World, Happening, At, TearDown, Restart, Halt, behind, in_front, at_agent, with_side, after, after_all, open_channel, open_world}
 use Rattle.cluster_model.specs.Openings.{NamesOnce}
@@ -278,11 +278,11 @@ reports_in a = (tt, fronts_in a)
 opens_in : (a : Agent) (last run : ℕ) → AllOk DraftIn (opens_next a last run)
 opens_in a last run = all_if (nat_le last_number last) (Err SessionsSpent) (Ok (reports (reopened a (suc last) run))) DraftIn (λ e. tt) (λ e. reports_in (reopened a (suc last) run))
 
-fronts_after_in : (a : Agent) (w : Command) → Each (MailIn a.durable.tasks) (fronts_after w a)
-fronts_after_in a (Launch job offers) = tt
-fronts_after_in a (Kill key) = front_at_in key a
-fronts_after_in a (Ack key k) = front_at_in key a
-fronts_after_in a (EndFramework framework) = tt
+fronts_after_in : (before a : Agent) (w : Command) → Each (MailIn a.durable.tasks) (fronts_after w before a)
+fronts_after_in before a (Launch job offers) = tt
+fronts_after_in before a (Kill key) = front_at_in key a
+fronts_after_in before a (Ack key k) = cond_both (is_front_at key k before.durable.tasks) (front_at key a) [] (Each (MailIn a.durable.tasks)) (λ e. front_at_in key a) (λ e. tt)
+fronts_after_in before a (EndFramework framework) = tt
 
 mail_in : (a : Agent) (m : MasterMail) → AllOk DraftIn (hears_mail a m)
 mail_in a (Hello run dead) =
@@ -292,7 +292,7 @@ mail_in a (Issued session number w) =
     all_if (not (a.in_session && session == a.durable.session)) (Err OldSession) third DraftIn (λ e. tt)
     (λ e. all_if (nat_le number a.applied) (Ok (record { after = a; mails = Applied a.durable.session a.applied ∷ [] })) second DraftIn (λ d. (tt, tt))
     (λ d. all_if (not (number == suc a.applied)) (Err NotNext) first DraftIn (λ f. tt)
-    (λ f. all_if (has_room a w) (Ok (applies a w)) (Err NoRoom) DraftIn (λ b. (tt, fronts_after_in (after_command a w) w)) (λ b. tt))))
+    (λ f. all_if (has_room a w) (Ok (applies a w)) (Err NoRoom) DraftIn (λ b. (tt, fronts_after_in a (after_command a w) w)) (λ b. tt))))
   where
     first : Result Draft AgentRefusal
     first = if has_room a w then Ok (applies a w) else Err NoRoom

@@ -23,7 +23,7 @@ use Rattle.mails.specs.declared.refusal.AgentRefusal.TheVariants.{OldSession, No
 use Rattle.names_core.specs.declared.state.TaskState.TheVariants.{Killed}
 use Rattle.stream_core.specs.Updates.{pushed, acknowledged_one, is_front, is_full, is_done}
 use Rattle.cluster_model.specs.Ids.{same, following, is_among, last_number}
-use Rattle.cluster_model.specs.Agents.{Agent, Draft, has_ended, is_task, state_at, reported, front_of, fronts, front_at, report_of, reopened, reports, opens_next, stated, acknowledged, launched_task, tasks_after, fronts_after, with_tasks, applies, has_room, hears_mail, needs_place, executes, next_of}
+use Rattle.cluster_model.specs.Agents.{Agent, Draft, has_ended, is_task, state_at, reported, front_of, fronts, front_at, report_of, reopened, reports, opens_next, stated, acknowledged, launched_task, tasks_after, is_front_at, fronts_after, with_tasks, applies, has_room, hears_mail, needs_place, executes, next_of}
 use Rattle.cluster_model.specs.Sides.{Run, Side, Sending, sends_nothing, issue, oldest_again, accepted, may_offer, heard_update, forget, forget_all, opens, opened, counts, shut, SideStep, MakeOffer, Withdraw, LaunchFrom, SendKill, SendAck, SendEnd, SendHello, SendAgain, Lose, side_step}
 use Rattle.cluster_model.specs.Channels.{Channel, AgentStep, Draw, DrawMail, Adopt, StopWithout, StopWith, drawn, drawn_mail, adopted, stopped_with, agent_step, ChannelStep, ByMaster, Hear, ByAgent, heard_mail, happens}
 use Rattle.cluster_safe.proofs.Ids.{same_is}
@@ -157,16 +157,16 @@ tasks_told J A (Ack key k) ts w h = each_filter (TaskTold J A) (λ t. not (is_do
 tasks_told J A (EndFramework framework) ts w h = each_filter (TaskTold J A) (λ t. not (same t.job.framework framework)) ts h
 
 command_told : (J : Job → Type 0) (A : Numbered → ℕ → Type 0) (a : Agent) (w : Command) → CommandTold J A w → AgentTold J A a → DraftTold J A (applies a w)
-command_told J A a w x h = (after, (tt, by_kind w (with_tasks a (tasks_after w a.tasks) (suc a.applied)) after))
+command_told J A a w x h = (after, (tt, by_kind w a (with_tasks a (tasks_after w a.tasks) (suc a.applied)) after))
   where
     after : Each (TaskTold J A) (tasks_after w a.tasks)
     after = tasks_told J A w a.tasks x h
 
-    by_kind : (v : Command) (b : Agent) → AgentTold J A b → Each (UpTold J A) (fronts_after v b)
-    by_kind (Launch job offers) b h = tt
-    by_kind (Kill key) b h = front_at_told J A b key h
-    by_kind (Ack key k) b h = front_at_told J A b key h
-    by_kind (EndFramework framework) b h = tt
+    by_kind : (v : Command) (before b : Agent) → AgentTold J A b → Each (UpTold J A) (fronts_after v before b)
+    by_kind (Launch job offers) before b h = tt
+    by_kind (Kill key) before b h = front_at_told J A b key h
+    by_kind (Ack key k) before b h = cond_both (is_front_at key k before.tasks) (front_at key b) [] (Each (UpTold J A)) (λ e. front_at_told J A b key h) (λ e. tt)
+    by_kind (EndFramework framework) before b h = tt
 
 reopened_told : (J : Job → Type 0) (A : Numbered → ℕ → Type 0) (a : Agent) (last run : ℕ) → AgentTold J A a → AllOk (DraftTold J A) (opens_next a last run)
 reopened_told J A a last run h = all_if (nat_le last_number last) (Err SessionsSpent) (Ok (reports (reopened a (suc last) run))) (DraftTold J A) (λ e. tt)

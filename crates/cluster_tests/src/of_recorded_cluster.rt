@@ -7,7 +7,7 @@ use desk_lock::{Desk, Office, Pass, Passes, Recorded};
 use master_core::Config;
 use names_core::Run;
 use post_rules::Queues;
-use recorded_cluster::RecordedCluster;
+use recorded_cluster::{Given, RecordedCluster};
 use std::alloc::Global;
 use std::marker::Brand;
 use std::sync::ledger::Blank;
@@ -87,17 +87,13 @@ fn passes_of<C: Recorded, L: ledger::Ledger, R: Wait>(
 }
 
 /// The passes of two seats that took these steps in two threads of a scope.
-fn passes_at_once<C: Recorded + Send, L: ledger::Ledger + Send + Sync, R: Threads + Wait + Sync>(
+fn passes_at_once<L: ledger::Ledger + Send + Sync, R: Threads + Wait + Sync>(
     rt: &R,
     alloc: Global,
-    office: &Office<C, L>,
-    first: Vec<C::Step>,
-    others: Vec<C::Step>,
-) -> Option<(Pass<C::Given, L>, Pass<C::Given, L>)>
-where
-    C::Step: Send,
-    C::Given: Send,
-{
+    office: &Office<RecordedCluster, L>,
+    first: Vec<Step>,
+    others: Vec<Step>,
+) -> Option<(Pass<Given, L>, Pass<Given, L>)> {
     thread::scope(thread::scope_env(), rt, |scope| {
         let Ok(child) = scope.spawn(move || pass_of(rt, alloc, office, first)) else {
             return None;
@@ -140,24 +136,12 @@ fn closed<C: Recorded, L: ledger::Ledger>(
     }
 }
 
-/// What two seats have that took these steps, at once or one after the other.
-fn seats_of<C: Recorded + Send, L: ledger::Ledger + Send + Sync, R: Threads + Wait + Sync>(
-    rt: &R,
+/// What two seats have whose passes these are.
+fn seats_of<C: Recorded, L: ledger::Ledger>(
     alloc: Global,
     office: Office<C, L>,
-    first: Vec<C::Step>,
-    others: Vec<C::Step>,
-    at_once: bool,
-) -> Option<Seats>
-where
-    C::Step: Send,
-    C::Given: Send,
-{
-    let passes = if at_once {
-        passes_at_once(rt, alloc, &office, first, others)
-    } else {
-        passes_of(rt, alloc, &office, first, others)
-    };
+    passes: Option<(Pass<C::Given, L>, Pass<C::Given, L>)>,
+) -> Option<Seats> {
     match passes {
         Some((one, two)) => {
             let (seen, other_seen) = (seen_by(alloc, &one), seen_by(alloc, &two));
@@ -181,6 +165,7 @@ fn recorded(alloc: Global, config: Config) -> Option<RecordedCluster>
     }
 }
 
+/// What two seats have that took these steps, at once or one after the other.
 fn two_seats<L: ledger::Ledger + Send + Sync, R: Threads + Wait + Sync>(
     rt: &R,
     alloc: Global,
@@ -194,7 +179,13 @@ fn two_seats<L: ledger::Ledger + Send + Sync, R: Threads + Wait + Sync>(
     requires parts { (blank.parts ≡ L.parts) × (blank.parts ≡ 4294967296) }
 {
     let desk = Desk::<_, L>::new(alloc, recorded(alloc, config)?, blank);
-    seats_of(rt, alloc, Office::new(desk), first, others, at_once)
+    let office = Office::new(desk);
+    let passes = if at_once {
+        passes_at_once(rt, alloc, &office, first, others)
+    } else {
+        passes_of(rt, alloc, &office, first, others)
+    };
+    seats_of(alloc, office, passes)
 }
 
 /// Whether the first three entries are the first seat's, and the fourth the second's.

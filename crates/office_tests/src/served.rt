@@ -183,8 +183,12 @@ fn serve<
     Some(())
 }
 
+fn where_accounted(accounted: bool, closed: Closed) -> Option<Closed> {
+    if accounted { Some(closed) } else { None }
+}
+
 /// What is seen where each entry but the opening has its receipt.
-fn closed<L: ledger::Ledger>(
+fn close_office<L: ledger::Ledger>(
     office: Office<RecordedCluster, L>,
     left: Left<L>,
     overlapped: bool,
@@ -196,14 +200,15 @@ fn closed<L: ledger::Ledger>(
         failed,
     } = left;
     match office.close(passes) {
-        Ok(history) if !failed && history.len() as u64 == receipts.saturating_add(1) => {
-            Some(Closed {
+        Ok(history) => where_accounted(
+            !failed && history.len() as u64 == receipts.saturating_add(1),
+            Closed {
                 moves,
                 overlapped,
                 hang_ups: count_hang_ups(history.recorded().cluster().history()),
-            })
-        }
-        _ => None,
+            },
+        ),
+        Err(_) => None,
     }
 }
 
@@ -220,7 +225,7 @@ pub fn served<
     let mut left = Left::new(alloc);
     let is_served = serve(rt, alloc, &office, &gate, script, &mut left).is_some();
     left.failed = left.failed || !is_served;
-    closed(office, left, gate.has_overlapped())
+    close_office(office, left, gate.has_overlapped())
 }
 
 /// Whether who waits on a stream that was never opened is refused: no step is taken, and the stream isn't told to have ended.

@@ -4,13 +4,38 @@ ghost use Rattle.std.specs.Prelude.{◌≡◌, IfOk, IfSome, OnErr, OnOk};
 ghost use Rattle.std.specs.Io.KnownBytes.{Appends};
 ghost use Rattle.device_io.specs.Writes.{AppendsFront};
 ghost use Rattle.cluster_core.specs.Safety.{Safe};
-ghost use Rattle.replays.specs.Replays.{replay_fault, replay_story, replay_text};
+ghost use Rattle.replays.specs.Replays.{beginning, replay_fault, replay_story, replay_text};
 
 use crate::fault::{LineStop, ReplayStop};
 use crate::replayer::Replayer;
 use line_answers::{Stop, answer_lines};
 use std::alloc::Global;
 use std::io::{Read, Write};
+
+/// Replays a text with a replayer that has read none of it.
+fn replay_with<R: Read, W: Write>(
+    alloc: Global,
+    reader: &mut R,
+    replayer: &mut Replayer,
+    writer: &mut W,
+) -> Result<Option<LineStop>, ReplayStop>
+    requires { replayer.old ≡ beginning }
+    ensures text { OnOk result (IfSome (R.remaining reader.old) (λ input. Appends (W.contents writer.old) (W.contents writer.new) (replay_text input))) }
+    ensures fault { IfOk result (λ fault. IfSome (R.remaining reader.old) (λ input. fault ≡ replay_fault input)) }
+    ensures safe { IfOk result (λ _. IfSome (R.remaining reader.old) (λ input. IfSome (replay_story input) Safe)) }
+    ensures err { OnErr result (IfSome (R.remaining reader.old) (λ input. AppendsFront (W.contents writer.old) (W.contents writer.new) (replay_text input))) }
+{
+    match answer_lines(alloc, reader, replayer, writer) {
+        Ok(()) => {
+            replayer.is_safe();
+            Ok(replayer.fault())
+        }
+        Err(Stop::Memory) => Err(ReplayStop::Memory {
+            line: replayer.lines().saturating_add(1),
+        }),
+        Err(Stop::Device(e)) => Err(ReplayStop::Device(e)),
+    }
+}
 
 /// Replays the text that a reader gives: its first line says which agents there are, and each other one is a step of their cluster, all of whose calls and mails
 /// can be handed out for ever. Behind each line it writes what comes of it, and at the end the agents, their tasks, and the number of entries. It tells the line that
@@ -29,14 +54,5 @@ pub fn replay<R: Read, W: Write>(
     ensures err { OnErr result (IfSome (R.remaining reader.old) (λ input. AppendsFront (W.contents writer.old) (W.contents writer.new) (replay_text input))) }
 {
     let mut replayer = Replayer::new();
-    match answer_lines(alloc, reader, &mut replayer, writer) {
-        Ok(()) => {
-            replayer.is_safe();
-            Ok(replayer.fault())
-        }
-        Err(Stop::Memory) => Err(ReplayStop::Memory {
-            line: replayer.lines().saturating_add(1),
-        }),
-        Err(Stop::Device(e)) => Err(ReplayStop::Device(e)),
-    }
+    replay_with(alloc, reader, &mut replayer, writer)
 }

@@ -1,7 +1,8 @@
 //! A link from one sender of numbered commands to one receiver.
 
-ghost use Rattle.std.specs.Prelude.{◌≡◌, ◌≢◌, ◌⊎◌, [], true, false, Err, IfOk, IfErr, OnOk, OnErr, suc};
-ghost use Rattle.stream_core.specs.Links.{applied, is_spent, issued, issued_count, newly_applied};
+ghost use Rattle.std.specs.Prelude.{◌≡◌, ◌≢◌, ◌⊎◌, ◌+◌, ◌++◌, ◌∷◌, [], ℕ, List, Some, true, false, Err, IfOk, IfErr, OnOk, OnErr, length, slice_get, suc, take};
+ghost use Rattle.std.specs.List.{AllByRecursion as Each};
+ghost use Rattle.stream_core.specs.Links.{AreIssued, IsSent, applied, is_spent, issued, issued_count, newly_applied, taken};
 
 use crate::fault::StreamFault;
 use std::alloc::{AllocError, Global};
@@ -94,6 +95,20 @@ impl<C: Drop> LinkOut<C> {
         self.known = count;
         Ok(newly)
     }
+}
+
+impl<C> LinkOut<C> {
+    /// Of all that comes of this link, in whatever order and however often, a receiver takes a beginning of all that was issued: of a link on which so much was issued,
+    pub fn is_taken_in_order(&self)
+        // a command that is issued joins it, under its number,
+        ensures issues { (all : List C) (command : C) → AreIssued all self.now → AreIssued (all ++ command ∷ []) (issued command self.now) × IsSent (all ++ command ∷ []) (suc (issued_count self.now), command) }
+        // what is known to be applied changes nothing of it,
+        ensures applies { (all : List C) (count : ℕ) → AreIssued all self.now → AreIssued all (applied count self.now) }
+        // each that waits is sent again under the number that it was issued under,
+        ensures waits { (all : List C) (place : ℕ) (command : C) → AreIssued all self.now → slice_get self.now.waiting place ≡ Some command → IsSent all (suc (self.now.known + place), command) }
+        // and what is taken of such mails, each that is the next, is its beginning.
+        ensures takes { (all : List C) (mails : List (ℕ × C)) → Each (IsSent all) mails → taken 0 mails ≡ take (length (taken 0 mails)) all }
+    {}
 }
 
 /// The receiver's end: how many of the first commands it has taken.

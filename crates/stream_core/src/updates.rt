@@ -89,6 +89,13 @@ impl Updates {
         Some((self.acknowledged, *state))
     }
 
+    /// Whether this is the number of the first update that isn't acknowledged.
+    pub fn is_front(&self, k: u32) -> bool
+        ensures { result ≡ is_front k self.now }
+    {
+        self.acknowledged == k && (k as usize) < self.states.len()
+    }
+
     /// Whether the task has ended and all its updates are acknowledged.
     pub fn done(&self) -> bool
         ensures { result ≡ is_done self.now }
@@ -96,12 +103,13 @@ impl Updates {
         self.has_ended() && self.states.len() <= self.acknowledged as usize
     }
 
-    /// Adds the next state. U2 where a terminal state stands; U3 where the state isn't terminal and 4,095 states stand; U4 where memory ran out.
+    /// Adds the next state. U2 where a terminal state stands, at any length; U3 where none stands, the state isn't terminal and 4,095 states stand; U4 where
+    /// memory ran out.
     pub fn push(&mut self, state: TaskState) -> Result<(), StreamFault>
         ensures ok { OnOk result (self.new ≡ pushed state self.old) }
         ensures open { OnOk result (has_ended self.old ≡ false) }
         ensures closed { result ≡ Err StreamFault.Closed → has_ended self.old ≡ true }
-        ensures full { result ≡ Err StreamFault.Full → (is_terminal state ≡ false) × (is_full self.old ≡ true) }
+        ensures full { result ≡ Err StreamFault.Full → (has_ended self.old ≡ false) × (is_terminal state ≡ false) × (is_full self.old ≡ true) }
         ensures err { IfErr result (λ e. (self.new ≡ self.old) × ((e ≡ StreamFault.Closed) ⊎ (e ≡ StreamFault.Full) ⊎ (e ≡ StreamFault.OutOfMemory))) }
     {
         if self.has_ended() {
@@ -119,7 +127,7 @@ impl Updates {
         ensures ok { OnOk result ((is_front k self.old ≡ true) × (self.new ≡ acknowledged_one self.old)) }
         ensures err { IfErr result (λ e. (e ≡ StreamFault.NotFront) × (is_front k self.old ≡ false) × (self.new ≡ self.old)) }
     {
-        if self.acknowledged != k || self.states.len() <= k as usize {
+        if !self.is_front(k) {
             return Err(StreamFault::NotFront);
         }
         self.acknowledged += 1;
