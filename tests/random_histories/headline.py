@@ -10,7 +10,7 @@ Beside these: each mail that a commit sends, each refusal of a prepare, and the 
 import base64
 import json
 
-from agents import Agent
+from agents import Agent, key_order
 
 
 class Broken(Exception):
@@ -263,7 +263,7 @@ class Story:
             agent = self.agents[name]
             live = total_of(task.resources for task in agent.state.live())
             lines.append(f"agent {name} owns {text_of(agent.total)} offered {text_of(self.offered_on(name))} live {text_of(live)}")
-            for key in sorted(agent.state.tasks, key=lambda it: tuple(int(part) for part in it[1:].split("-"))):
+            for key in sorted(agent.state.tasks, key=key_order):
                 task = agent.state.tasks[key]
                 last = task.updates[-1] if task.updates else "TASK_STAGING"
                 lines.append(f"task {key} {task.framework} {task.name} {last} acked {task.acked} of {len(task.updates)}")

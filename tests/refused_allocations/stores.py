@@ -9,30 +9,19 @@ MOST=.. how many allocations are refused, evenly spread (600).
 import collections
 import json
 import os
-import sqlite3
 import subprocess
 import sys
 import tempfile
-from contextlib import closing
 
 HERE = os.path.dirname(os.path.abspath(__file__))
+sys.path.insert(0, os.path.join(HERE, "..", "serve"))
+sys.dont_write_bytecode = True
+
+from store_files import RECORD_KEPT, RUN_KEPT, made  # noqa: E402
+
 PROGRAM = os.environ.get("PROGRAM", f"{HERE}/../../crates/mesos_node/out/mesos_node")
 MOST = int(os.environ.get("MOST", "600"))
-TABLES = """
-CREATE TABLE agent_record(id INTEGER PRIMARY KEY CHECK (id = 1), body TEXT NOT NULL);
-CREATE TABLE run_number(id INTEGER PRIMARY KEY CHECK (id = 1), last INTEGER NOT NULL);
-"""
-RECORD = '{"name":"a1","run":1,"session":5,"tasks":[],"total":{"cpus":2},"version":1}'
 DUE = (2, "Z1 TotalDiffers: a1's record has another total\n")
-
-
-def make(path, row):
-    """A store that SQLite makes, as bytes."""
-    with closing(sqlite3.connect(path)) as it:
-        it.executescript(TABLES + row)
-        it.commit()
-    with open(path, "rb") as it:
-        return it.read()
 
 
 class Case:
@@ -42,8 +31,8 @@ class Case:
         self.work, self.shim = work, shim
         self.agent, self.master = f"{work}/agent-a1.db", f"{work}/master.db"
         self.stores = {
-            self.agent: make(self.agent, f"INSERT INTO agent_record VALUES (1, '{RECORD}');"),
-            self.master: make(self.master, "INSERT INTO run_number VALUES (1, 1);"),
+            self.agent: made(self.agent, RECORD_KEPT),
+            self.master: made(self.master, RUN_KEPT),
         }
         self.config = f"{work}/agents.json"
         with open(self.config, "w", encoding="utf-8") as it:

@@ -6,14 +6,9 @@ import sqlite3
 from contextlib import closing
 
 from cluster import TOLD, Folder, Framework, Server, check, run_serve, tell
+from store_files import RECORD, RECORD_KEPT, RUN_KEPT, made
 
 AGENTS = {"a1": {"cpus": 2}}
-TABLES = """
-CREATE TABLE agent_record(id INTEGER PRIMARY KEY CHECK (id = 1), body TEXT NOT NULL);
-CREATE TABLE run_number(id INTEGER PRIMARY KEY CHECK (id = 1), last INTEGER NOT NULL);
-"""
-# The record of an agent that opened session 5 with the master of run 1.
-RECORD = '{"name":"a1","run":1,"session":5,"tasks":[],"total":{"cpus":2},"version":1}'
 
 
 class Stores:
@@ -31,15 +26,11 @@ class Stores:
     def make(self, path, statements):
         """A store that SQLite made by these statements, as bytes."""
         self.clear()
-        with closing(sqlite3.connect(path)) as it:
-            it.executescript(statements)
-            it.commit()
-        with open(path, "rb") as it:
-            return it.read()
+        return made(path, statements)
 
     def lay(self, data):
         """Puts these bytes as the agent's store beside the master's."""
-        master = self.make(self.master, f"{TABLES} INSERT INTO run_number VALUES (1, 1);")
+        master = self.make(self.master, RUN_KEPT)
         self.clear()
         for path, it in ((self.master, master), (self.agent, data)):
             with open(path, "wb") as file:
@@ -123,7 +114,7 @@ def try_overwritten(stores, whole, page):
 def main():
     with Folder(AGENTS) as folder:
         stores = Stores(folder)
-        whole = stores.make(stores.agent, f"{TABLES} INSERT INTO agent_record VALUES (1, '{RECORD}');")
+        whole = stores.make(stores.agent, RECORD_KEPT)
         page = int.from_bytes(whole[16:18], "big")
         try_good(stores, whole)
         try_new(stores)
