@@ -1,5 +1,5 @@
 -- What the program writes for the calls that it reads.
-use Rattle.std.specs.Prelude.{◌≡◌, ℕ, List, [], ◌∷◌, ◌++◌, map, flat_map, if◌then◌else◌, Option, None, Some, Result, Ok, Err, option_and_then}
+use Rattle.std.specs.Prelude.{◌≡◌, ℕ, List, [], ◌∷◌, ◌++◌, map, flat_map, Option, None, Some, Result, Ok, Err, option_and_then}
 use Rattle.frame_record.specs.declared.fault.FrameFault.{FrameFault}
 use Rattle.frame_record.specs.Records.{State as Standing, Reads, record_text, end_of}
 use Rattle.names_core.specs.Ids.{Numbered}

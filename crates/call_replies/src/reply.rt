@@ -14,7 +14,7 @@ use crate::fault::Stop;
 use call_json::{Call, CallFault, read_call};
 use device_io::put;
 use event_json::{Event, Message, write_event};
-use frame_record::encode;
+use frame_record::{FrameFault, encode};
 use master_core::{Master, MasterFault, StreamEvent, refusal_text};
 use names_core::{FrameworkId, StreamId};
 use std::alloc::Global;
@@ -50,8 +50,10 @@ fn add_event(alloc: Global, text: &mut Vec<u8>, event: &Event) -> Result<(), Sto
     let Ok(body) = write_event(alloc, event) else {
         return Err(Stop::MasterMemory);
     };
-    let Ok(frame) = encode(alloc, &body) else {
-        return Err(Stop::MasterMemory);
+    let frame = match encode(alloc, &body) {
+        Ok(frame) => frame,
+        Err(FrameFault::OutOfMemory) => return Err(Stop::MasterMemory),
+        Err(_) => unreachable!("an event's text fits a frame"),
     };
     if text.extend_from_slice(&frame).is_err() {
         return Err(Stop::MasterMemory);

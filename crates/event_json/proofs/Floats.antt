@@ -1,6 +1,6 @@
 -- No event has a float.
-use Rattle.std.proofs.Common.{◌≡◌, ℕ, option_map, Bool, false, ◌||◌, List, [], ◌∷◌, map, Option, None, Some, refl}
-use Rattle.serde_json.specs.Data.{Data, Items}
+use Rattle.std.proofs.Common.{◌≡◌, ℕ, option_map, false, List, [], ◌∷◌, map, Option, None, Some, refl}
+use Rattle.serde_json.specs.Data.{Data}
 use Rattle.serde_json.specs.View.{items_of}
 use Rattle.serde_json.specs.Written.{has_float, items_have_float}
 use Rattle.quantity.specs.declared.rows.Row.{Row}

@@ -1,6 +1,6 @@
 -- Ids as JSON.
 use Rattle.std.specs.Prelude.{ℕ, List, codes}
-use Rattle.serde_json.specs.Data.{Data, string, object, Members, no_members, member}
+use Rattle.serde_json.specs.Data.{Data, string, object, no_members, member}
 use Rattle.names_core.specs.Ids.{Numbered, id_text}
 
 -- an object of one member

@@ -1,3 +1,4 @@
+pub mod Bounds
 pub mod Events
 pub mod Ids
 pub mod Offers

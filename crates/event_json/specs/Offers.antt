@@ -1,5 +1,5 @@
 -- Offers as JSON.
-use Rattle.std.specs.Prelude.{List, map, codes}
+use Rattle.std.specs.Prelude.{map, codes}
 use Rattle.serde_json.specs.Data.{Data, string, number, unsigned, array, object, no_members, member}
 use Rattle.serde_json.specs.View.{items_of}
 use Rattle.quantity.specs.declared.rows.Row.{Row}

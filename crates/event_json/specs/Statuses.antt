@@ -2,7 +2,7 @@
 use Rattle.std.specs.Prelude.{ℕ, List, codes, Option, None, Some, option_map}
 use Rattle.serde_json.specs.Data.{Data, string, object, Members, no_members, member}
 use Rattle.names_core.specs.States.{state_text}
-use Rattle.names_core.specs.Updates.{Update, update_text}
+use Rattle.names_core.specs.Updates.{update_text}
 use Rattle.event_json.specs.Ids.{id_data}
 use Rattle.event_json.specs.declared.status.TaskStatus.{TaskStatus}
 

@@ -2,9 +2,10 @@
 
 ghost use Rattle.std.proofs.Common.{rules};
 ghost use Rattle.std.specs.Prelude.{◌≡◌, map, IfOk};
-ghost use Rattle.names_core.specs.Ids.{id_text};
+ghost use Rattle.names_core.specs.Ids.{InRange, id_text};
 ghost use Rattle.serde_json.specs.Data.{array, string};
 ghost use Rattle.serde_json.specs.View.{view, items_of};
+ghost use Rattle.event_json.specs.Bounds.{IsOffer};
 ghost use Rattle.event_json.specs.Offers.{row_data, offer_data};
 
 use names_core::{AgentName, FrameworkId, OfferId};
@@ -51,7 +52,8 @@ fn rows_value(alloc: Global, rows: &[Row]) -> Result<Value, AllocError>
 
 /// The id of a framework as a text.
 fn framework_value(alloc: Global, id: &FrameworkId) -> Result<Value, AllocError>
-    ensures { IfOk result (λ v. view v ≡ string (id_text 70 id.now)) }
+    ensures value { IfOk result (λ v. view v ≡ string (id_text 70 id.now)) }
+    ensures range { InRange id.now }
 {
     match id.to_text(alloc) {
         Ok(text) => Ok(Value::String(text)),
@@ -61,7 +63,8 @@ fn framework_value(alloc: Global, id: &FrameworkId) -> Result<Value, AllocError>
 
 /// The id of an offer as a text.
 fn offer_id_value(alloc: Global, id: &OfferId) -> Result<Value, AllocError>
-    ensures { IfOk result (λ v. view v ≡ string (id_text 79 id.now)) }
+    ensures value { IfOk result (λ v. view v ≡ string (id_text 79 id.now)) }
+    ensures range { InRange id.now }
 {
     match id.to_text(alloc) {
         Ok(text) => Ok(Value::String(text)),
@@ -71,7 +74,8 @@ fn offer_id_value(alloc: Global, id: &OfferId) -> Result<Value, AllocError>
 
 #[tactic(auto, unfolding(crate::specs::Offers::offer_data))]
 pub fn offer_value(alloc: Global, offer: &Offer) -> Result<Value, AllocError>
-    ensures { IfOk result (λ v. view v ≡ offer_data offer.now) }
+    ensures value { IfOk result (λ v. view v ≡ offer_data offer.now) }
+    ensures bounds { IfOk result (λ _. IsOffer offer.now) }
 {
     let agent = offer.agent.as_text();
     json!(in alloc; {

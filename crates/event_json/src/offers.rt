@@ -1,8 +1,10 @@
 //! The offers of one event.
 
 ghost use Rattle.std.specs.Prelude.{◌≡◌, ◌≤◌, length, map, IfOk};
+ghost use Rattle.std.specs.List.{AllByRecursion};
 ghost use Rattle.serde_json.specs.Data.{array};
 ghost use Rattle.serde_json.specs.View.{view, items_of};
+ghost use Rattle.event_json.specs.Bounds.{IsOffer};
 ghost use Rattle.event_json.specs.Offers.{offer_data};
 
 use crate::offer::{Offer, offer_value};
@@ -84,7 +86,8 @@ impl Plain for Offers {
 }
 
 pub fn offers_value(alloc: Global, offers: &[Offer]) -> Result<Value, AllocError>
-    ensures { IfOk result (λ v. view v ≡ array (items_of (map offer_data offers.now))) }
+    ensures value { IfOk result (λ v. view v ≡ array (items_of (map offer_data offers.now))) }
+    ensures bounds { IfOk result (λ _. AllByRecursion IsOffer offers.now) }
 {
     let mut values = Vec::with_capacity(alloc, offers.len())?;
     for offer in offers {

@@ -3,6 +3,7 @@
 ghost use Rattle.std.proofs.Common.{rules};
 ghost use Rattle.std.specs.Prelude.{◌≡◌, Some, None, IfOk};
 ghost use Rattle.serde_json.specs.View.{view};
+ghost use Rattle.event_json.specs.Bounds.{IsStatus};
 ghost use Rattle.event_json.specs.Statuses.{status_object, status_data};
 
 use names_core::{AgentName, TaskName, TaskState, UpdateId};
@@ -71,7 +72,8 @@ fn with_both(
 }
 
 pub fn status_value(alloc: Global, status: &TaskStatus) -> Result<Value, AllocError>
-    ensures { IfOk result (λ v. view v ≡ status_data status.now) }
+    ensures value { IfOk result (λ v. view v ≡ status_data status.now) }
+    ensures bounds { IfOk result (λ _. IsStatus status.now) }
 {
     let task = status.task.as_text();
     let state = status.state.as_text();

@@ -1,7 +1,9 @@
 //! Events as texts.
 
-ghost use Rattle.std.specs.Prelude.{◌≡◌, IfOk};
+ghost use Rattle.std.specs.Prelude.{◌≡◌, ◌≤◌, length, IfOk};
+ghost use Rattle.names_core.specs.Ids.{InRange};
 ghost use Rattle.serde_json.specs.View.{view};
+ghost use Rattle.event_json.specs.Bounds.{IsEvent, longest};
 ghost use Rattle.event_json.specs.Events.{event_data, event_text};
 
 use crate::event::Event;
@@ -16,7 +18,8 @@ const HEARTBEAT_INTERVAL: u64 = 15;
 
 #[tactic(auto, unfolding(crate::specs::Events::event_data))]
 fn subscribed(alloc: Global, framework: &FrameworkId) -> Result<Value, AllocError>
-    ensures { IfOk result (λ v. view v ≡ event_data (Event.Subscribed framework.now)) }
+    ensures value { IfOk result (λ v. view v ≡ event_data (Event.Subscribed framework.now)) }
+    ensures range { InRange framework.now }
 {
     let Ok(id) = framework.to_text(alloc) else {
         return Err(AllocError);
@@ -33,7 +36,8 @@ fn subscribed(alloc: Global, framework: &FrameworkId) -> Result<Value, AllocErro
 
 #[tactic(auto, unfolding(crate::specs::Events::event_data))]
 fn rescind(alloc: Global, offer: &OfferId) -> Result<Value, AllocError>
-    ensures { IfOk result (λ v. view v ≡ event_data (Event.Rescind offer.now)) }
+    ensures value { IfOk result (λ v. view v ≡ event_data (Event.Rescind offer.now)) }
+    ensures range { InRange offer.now }
 {
     let Ok(id) = offer.to_text(alloc) else {
         return Err(AllocError);
@@ -58,7 +62,8 @@ fn error(alloc: Global, message: &str) -> Result<Value, AllocError>
 
 #[tactic(auto, unfolding(crate::specs::Events::event_data))]
 fn value_of(alloc: Global, event: &Event) -> Result<Value, AllocError>
-    ensures { IfOk result (λ v. view v ≡ event_data event.now) }
+    ensures value { IfOk result (λ v. view v ≡ event_data event.now) }
+    ensures bounds { IfOk result (λ _. IsEvent event.now) }
 {
     match event {
         Event::Subscribed { framework } => subscribed(alloc, framework),
@@ -82,7 +87,8 @@ fn value_of(alloc: Global, event: &Event) -> Result<Value, AllocError>
 
 /// The text of an event: compact JSON (RFC 8259), in which an object's members stand in byte order of their names.
 pub fn write_event(alloc: Global, event: &Event) -> Result<Vec<u8>, AllocError>
-    ensures { IfOk result (λ text. text.items ≡ event_text event.now) }
+    ensures text { IfOk result (λ text. text.items ≡ event_text event.now) }
+    ensures fits { IfOk result (λ text. length text.items ≤ longest) }
 {
     let value = value_of(alloc, event)?;
     value.to_vec(alloc)

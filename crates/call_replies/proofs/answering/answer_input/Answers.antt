@@ -1,4 +1,4 @@
-use Rattle.std.proofs.Common.{take, sym, ◌∙◌, ap, arith}
+use Rattle.std.proofs.Common.{take, sym, ◌∙◌, arith}
 use Rattle.frame_record.specs.Firsts.{bodies}
 use Rattle.call_replies.proofs.Progress.{begins, ends, ends_at_fault, goes_nowhere, goes_on, stops, stops_inside}
 use Rattle.call_replies.proofs.answering.answer_input.Goals as goal
