@@ -17,7 +17,7 @@ HERE = os.path.dirname(os.path.abspath(__file__))
 sys.path.insert(0, os.path.join(HERE, "..", "serve"))
 sys.dont_write_bytecode = True
 
-from store_files import RECORD_KEPT, RUN_KEPT, made  # noqa: E402
+from store_files import RECORD_KEPT, made, run_kept  # noqa: E402
 
 PROGRAM = os.environ.get("PROGRAM", f"{HERE}/../../crates/mesos_node/out/mesos_node")
 MOST = int(os.environ.get("MOST", "600"))
@@ -32,7 +32,7 @@ class Case:
         self.agent, self.master = f"{work}/agent-a1.db", f"{work}/master.db"
         self.stores = {
             self.agent: made(self.agent, RECORD_KEPT),
-            self.master: made(self.master, RUN_KEPT),
+            self.master: made(self.master, run_kept(1)),
         }
         self.config = f"{work}/agents.json"
         with open(self.config, "w", encoding="utf-8") as it:

@@ -8,9 +8,13 @@ CREATE TABLE run_number(id INTEGER PRIMARY KEY CHECK (id = 1), last INTEGER NOT 
 """
 # The record of an agent that opened session 5 with the master of run 1.
 RECORD = '{"name":"a1","run":1,"session":5,"tasks":[],"total":{"cpus":2},"version":1}'
-# The statements of a store that has the record, and of one in which run 1 was given out.
+# The statements of a store that has the record.
 RECORD_KEPT = f"{TABLES} INSERT INTO agent_record VALUES (1, '{RECORD}');"
-RUN_KEPT = f"{TABLES} INSERT INTO run_number VALUES (1, 1);"
+
+
+def run_kept(last):
+    """The statements of a store in which this run was given out last."""
+    return f"{TABLES} INSERT INTO run_number VALUES (1, {last});"
 
 
 def made(path, statements):

@@ -6,13 +6,13 @@ import sqlite3
 from contextlib import closing
 
 from cluster import TOLD, Folder, Framework, Server, check, run_serve, tell
-from store_files import RECORD, RECORD_KEPT, RUN_KEPT, made
+from store_files import RECORD, RECORD_KEPT, made, run_kept
 
 AGENTS = {"a1": {"cpus": 2}}
 
 
 class Stores:
-    """The two stores of a folder: the agent's, as the bytes that it is to have, and the master's, in which run 1 was given out."""
+    """The two stores of a folder: the agent's, as the bytes that it is to have, and the master's, with the last run that was given out."""
 
     def __init__(self, folder):
         self.folder = folder
@@ -28,9 +28,9 @@ class Stores:
         self.clear()
         return made(path, statements)
 
-    def lay(self, data):
-        """Puts these bytes as the agent's store beside the master's."""
-        master = self.make(self.master, RUN_KEPT)
+    def lay(self, data, last=1):
+        """Puts these bytes as the agent's store beside the master's, in which this run was given out last."""
+        master = self.make(self.master, run_kept(last))
         self.clear()
         for path, it in ((self.master, master), (self.agent, data)):
             with open(path, "wb") as file:
@@ -111,6 +111,33 @@ def try_overwritten(stores, whole, page):
     stores.refuse("a record that isn't UTF-8", overwritten(whole, text, b"\xff\xff"), "K2 Damaged: ")
 
 
+def try_bodies(stores):
+    """A record is written in one form, and has no session where its agent had no run."""
+    for case, text in (
+        ("a record with a blank", RECORD.replace('"name":', '"name": ')),
+        ("a session of run 0", RECORD.replace('"run":1', '"run":0')),
+        ("a record of another version", RECORD.replace('"version":1', '"version":2')),
+        ("a record without its end", RECORD[:-1]),
+    ):
+        check(text != RECORD, f"{case} is another")
+        stores.refuse(case, stores.make(stores.agent, RECORD_KEPT.replace(RECORD, text)), "K2 Damaged: ")
+
+
+def try_runs(stores, whole):
+    """The master's runs go up to 65,535; a number that no keeper writes is none."""
+    for last, status, code in (
+        (65_535, 3, "K3 RunsSpent: "),
+        (4_294_967_295, 3, "K3 RunsSpent: "),
+        (4_294_967_296, 3, "K2 Damaged: "),
+        (-1, 3, "K2 Damaged: "),
+    ):
+        stores.lay(whole, last)
+        tell(f"run {last} was given out", run_serve(stores.folder), status, code)
+    stores.lay(whole, 65_534)
+    stores.serve("the last run", run=65_535, session=6)
+    tell("no run behind the last", run_serve(stores.folder), 3, "K3 RunsSpent: ")
+
+
 def main():
     with Folder(AGENTS) as folder:
         stores = Stores(folder)
@@ -119,6 +146,8 @@ def main():
         try_good(stores, whole)
         try_new(stores)
         try_others(stores)
+        try_bodies(stores)
+        try_runs(stores, whole)
         try_cuts(stores, whole, page)
         try_overwritten(stores, whole, page)
         print(f"a store that SQLite wrote is opened again, one that isn't there or has no bytes is new; {len(TOLD)} others are refused, and stay as they are")
