@@ -2,7 +2,8 @@
 
 ghost use Rattle.std.specs.Prelude.{◌≡◌, ◌≤◌, ◌+◌, ◌<◌, ◌↔◌, ◌⊎◌, false, true, [], IsTrue, IfOk, IfErr, OnOk, OnErr, length};
 ghost use Rattle.desk_lock.specs.Receipts.{AnswersBy, Enters, StandsIn, Unchanged};
-ghost use Rattle.desk_lock.specs.Refused.{IsUnopened, MayRefuseCall, MayRefuseSeat, MayRefuseStep, refused_by};
+ghost use Rattle.desk_lock.specs.Found.{Counts, IsFound};
+ghost use Rattle.desk_lock.specs.Refused.{IsForeign, MayRefuseCall, MayRefuseSeat, MayRefuseStep, refused_by};
 ghost use Rattle.desk_lock.specs.Seats.{DeskState};
 
 mod accounts;
@@ -103,12 +104,18 @@ impl<C: Recorded, L: ledger::Ledger> Desk<C, L> {
 
     /// What is true of every desk, whatever it was asked.
     pub fn is_sound(&self)
-        ensures sound { C.sound self.now.recorded }
-        ensures seated { length self.now.seats ≡ length (C.history self.now.recorded) }
-        ensures counted { self.now.total ≤ length (C.history self.now.recorded) }
+        ensures { IsFound C.history C.sound self.now }
     {
         self.recorded.is_sound();
         self.is_counted();
+    }
+
+    /// A pass of its ledger holds no more answers than are counted. Nothing changes.
+    pub fn counts(&mut self, pass: &mut Pass<C::Given, L>)
+        ensures counts { Counts self.old pass.old }
+        ensures unchanged { (self.new ≡ self.old) × (pass.new ≡ pass.old) }
+    {
+        self.book.audit(&mut pass.share);
     }
 
     pub fn is_finished(&self) -> bool
@@ -126,7 +133,7 @@ impl<C: Recorded, L: ledger::Ledger> Desk<C, L> {
 
     /// Whether a pass is of a seat that wasn't opened here, or has seen more than there is.
     pub fn is_foreign(&self, pass: &Pass<C::Given, L>) -> bool
-        ensures { IsTrue result ↔ (IsUnopened self.now.opened pass.now.seat ⊎ (length (C.history self.now.recorded) + 1 < pass.now.seen)) }
+        ensures { IsTrue result ↔ IsForeign (length (C.history self.now.recorded) + 1) self.now.opened pass.now.seat pass.now.seen }
     {
         let seat = pass.seat();
         seat == 0 || seat as usize > self.counts.len() || pass.seen() > self.len()

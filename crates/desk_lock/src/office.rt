@@ -1,10 +1,12 @@
 //! A desk under a lock.
 
-ghost use Rattle.std.specs.Prelude.{◌≡◌, ◌≤◌, ◌+◌, [], Ok, Some, IfOk, IfErr, OnOk, OnErr, All, MatchBool, MatchResult, length, sum_by};
+ghost use Rattle.std.specs.Prelude.{◌≡◌, ◌≤◌, ◌+◌, [], Err, Ok, Some, IfOk, IfErr, OnOk, OnErr, All, MatchBool, MatchResult, length, sum_by};
 ghost use Rattle.desk_lock.specs.Receipts.{AnswersBy, StandsIn};
 ghost use Rattle.desk_lock.specs.declared.desk.pass.Receipt.{Receipt};
 ghost use Rattle.std.specs.Fn.{FnReturnsAt};
 ghost use Rattle.desk_lock.specs.Waits.{IfFound};
+ghost use Rattle.desk_lock.specs.Found.{IsRefusedCall, IsRefusedWait};
+ghost use Rattle.desk_lock.specs.Refused.{refused_by};
 ghost use Rattle.desk_lock.specs.declared.fault.OfficeFault.TheVariants.{ForeignPass};
 
 use crate::desk::pass::Pass;
@@ -70,7 +72,8 @@ fn found_at<T, C: Recorded, L: ledger::Ledger, F: Fn(&C) -> Result<Option<T>, C:
     look: &F,
 ) -> Result<Waited<T>, OfficeFault<C::Fault>>
     requires { F.IsAlwaysCallable look.now }
-    ensures { IfOk result (λ waited. IfFound waited (λ found. FnReturnsAt F.Fn look.now desk.now.recorded (Ok (Some found)))) }
+    ensures found { IfOk result (λ waited. IfFound waited (λ found. FnReturnsAt F.Fn look.now desk.now.recorded (Ok (Some found)))) }
+    ensures refused { IfErr result (λ fault. (f : C.Fault) × FnReturnsAt F.Fn look.now desk.now.recorded (Err f) × (fault ≡ refused_by (C.kind_of f) f)) }
 {
     if desk.is_finished() {
         return Ok(Waited::Finished);
@@ -80,6 +83,23 @@ fn found_at<T, C: Recorded, L: ledger::Ledger, F: Fn(&C) -> Result<Option<T>, C:
         Ok(None) => Ok(Waited::Elapsed),
         Err(fault) => Err(refusal::<C>(fault)),
     }
+}
+
+/// Answers a call at a desk, whichever it is.
+fn answer_at<C: Recorded, L: ledger::Ledger>(
+    desk: &mut Desk<C, L>,
+    alloc: Global,
+    pass: &mut Pass<C::Given, L>,
+    step: C::Step,
+) -> Result<(), OfficeFault<C::Fault>>
+    ensures answered { OnOk result ((r : Receipt C.Given) × AnswersBy (λ given. C.step_of (C.entry_of given)) pass.old pass.new step r) }
+    ensures unchanged { OnErr result (pass.new ≡ pass.old) }
+    ensures refused { IfErr result (λ fault. IsRefusedCall C.history C.sound C.kind_of C.may_refuse pass.old step fault) }
+    ensures seat { pass.new.seat ≡ pass.old.seat }
+{
+    desk.is_sound();
+    desk.counts(pass);
+    desk.answer(alloc, pass, step)
 }
 
 /// A desk that threads share. One call at a time is answered, under its one lock.
@@ -115,7 +135,7 @@ impl<C: Recorded, L: ledger::Ledger> Office<C, L> {
         }
     }
 
-    /// Answers a call: the pass gets its receipt. Refusals: O1 for a pass of another history, O2, O3 and O4.
+    /// Answers a call: the pass gets its receipt. Refusals: O1 for a pass of another history, with how many entries there are at that moment, O2, O3 and O4.
     pub fn call<R: Wait>(
         &self,
         rt: &R,
@@ -125,9 +145,10 @@ impl<C: Recorded, L: ledger::Ledger> Office<C, L> {
     ) -> Result<(), OfficeFault<C::Fault>>
         ensures answered { OnOk result ((r : Receipt C.Given) × AnswersBy (λ given. C.step_of (C.entry_of given)) pass.old pass.new step r) }
         ensures unchanged { OnErr result (pass.new ≡ pass.old) }
+        ensures refused { IfErr result (λ fault. IsRefusedCall C.history C.sound C.kind_of C.may_refuse pass.old step fault) }
         ensures seat { pass.new.seat ≡ pass.old.seat }
     {
-        let answer = self.desk.lock(rt).answer(alloc, pass, step);
+        let answer = answer_at(&mut *self.desk.lock(rt), alloc, pass, step);
         match answer {
             Ok(()) => {
                 self.wake(pass);
@@ -151,6 +172,7 @@ impl<C: Recorded, L: ledger::Ledger> Office<C, L> {
         requires { F.IsAlwaysCallable look }
         ensures answered { IfOk result (λ answered. MatchBool answered ((r : Receipt C.Given) × AnswersBy (λ given. C.step_of (C.entry_of given)) pass.old pass.new step r) (pass.new ≡ pass.old)) }
         ensures unchanged { OnErr result (pass.new ≡ pass.old) }
+        ensures refused { IfErr result (λ fault. IsRefusedCall C.history C.sound C.kind_of C.may_refuse pass.old step fault) }
         ensures seat { pass.new.seat ≡ pass.old.seat }
     {
         let mut desk = self
@@ -162,7 +184,7 @@ impl<C: Recorded, L: ledger::Ledger> Office<C, L> {
         if turn_at(&*desk, &look) != Turn::Answer {
             return Ok(false);
         }
-        let answer = desk.answer(alloc, pass, step);
+        let answer = answer_at(&mut *desk, alloc, pass, step);
         drop(desk);
         match answer {
             Ok(()) => {
@@ -184,11 +206,14 @@ impl<C: Recorded, L: ledger::Ledger> Office<C, L> {
         look: F,
     ) -> Result<Waited<T>, OfficeFault<C::Fault>>
         requires { F.IsAlwaysCallable look }
+        ensures refused { IfErr result (λ fault. IsRefusedWait C.history C.sound C.kind_of (λ c f. FnReturnsAt F.Fn look c (Err f)) pass.now fault) }
         ensures found { IfOk result (λ waited. IfFound waited (λ found. (state : C) × C.sound state × FnReturnsAt F.Fn look state (Ok (Some found)))) }
     {
         let desk = self.desk.lock(rt);
-        if desk.is_foreign(pass) {
-            return Err(OfficeFault::ForeignPass(desk.len()));
+        let found = &*desk;
+        if found.is_foreign(pass) {
+            found.is_sound();
+            return Err(OfficeFault::ForeignPass(found.len()));
         }
         let (desk, _) = self.groups.of(group).wait_timeout_while(
             rt,
