@@ -1,6 +1,8 @@
 //! What lets the master's time pass.
 
-ghost use Rattle.activities.specs.Rounds.{HasRounds};
+ghost use Rattle.std.specs.Prelude.{◌≡◌, ◌⊎◌, MatchBool};
+ghost use Rattle.activities.specs.Rounds.{HasRounds, IsAsked, IsCutRound, IsRound, goes_on_after};
+ghost use Rattle.cluster_steps.specs.declared.step.Step.TheVariants.{Allocate, Tick};
 
 use cluster_core::{ClusterFault, Step};
 use desk_lock::{Office, OfficeFault, Pass, Waited};
@@ -13,8 +15,10 @@ use std::time::{Clock, Instant};
 /// and a step that tells such a stream something wakes the ticker, which waits on.
 const GROUP: u32 = 0;
 
-/// Whether the ticker goes on after a step.
-fn goes_on(answer: Result<(), OfficeFault<ClusterFault>>) -> bool {
+/// Whether the ticker goes on after an answer.
+fn goes_on(answer: Result<(), OfficeFault<ClusterFault>>) -> bool
+    ensures { result ≡ goes_on_after answer }
+{
     match answer {
         Err(OfficeFault::ForeignPass(_) | OfficeFault::Core(ClusterFault::NoSuchAgent)) => false,
         _ => true,
@@ -32,8 +36,32 @@ fn seconds_since<R: Clock>(rt: &R, start: Option<Instant>, before: u32) -> u32 {
     }
 }
 
-/// A Tick and a round of offers, whether or not the first is refused. It tells whether the ticker goes on.
-#[tactic(auto, using(crate::proofs::Rounds::round_called, crate::proofs::Rounds::rounds_then, crate::proofs::Rounds::rounds_itself))]
+/// A Tick of a moment. It tells whether the ticker goes on.
+fn tick<L: ledger::Ledger, R: Wait>(
+    rt: &R,
+    alloc: Global,
+    office: &Office<RecordedCluster, L>,
+    pass: &mut Pass<Given, L>,
+    moment: u32,
+) -> bool
+    ensures { MatchBool result (IsAsked (Tick moment) pass.old pass.new) (IsCutRound pass.old pass.new) }
+{
+    goes_on(office.call(rt, alloc, pass, Step::Tick(moment)))
+}
+
+/// A round of offers. It tells whether the ticker goes on.
+fn allocate<L: ledger::Ledger, R: Wait>(
+    rt: &R,
+    alloc: Global,
+    office: &Office<RecordedCluster, L>,
+    pass: &mut Pass<Given, L>,
+) -> bool
+    ensures { IsAsked Allocate pass.old pass.new }
+{
+    goes_on(office.call(rt, alloc, pass, Step::Allocate))
+}
+
+/// A Tick, and a round of offers where the ticker goes on after it. It tells whether the ticker goes on after both.
 fn round<L: ledger::Ledger, R: Wait>(
     rt: &R,
     alloc: Global,
@@ -41,15 +69,13 @@ fn round<L: ledger::Ledger, R: Wait>(
     pass: &mut Pass<Given, L>,
     moment: u32,
 ) -> bool
-    ensures { HasRounds pass.old pass.new }
+    ensures { MatchBool result (IsRound pass.old pass.new) (IsRound pass.old pass.new ⊎ IsCutRound pass.old pass.new) }
 {
-    goes_on(office.call(rt, alloc, pass, Step::Tick(moment)))
-        && goes_on(office.call(rt, alloc, pass, Step::Allocate))
+    tick(rt, alloc, office, pass, moment) && allocate(rt, alloc, office, pass)
 }
 
 /// Lets the master's time pass until the office is finished: at once, and then every `interval` seconds (any number; at 0 without a pause), it sends a Tick of the whole
 /// seconds since its start, 2^32 - 1 at most, and has offers made. It ends before by O1 and C8. It doesn't start a master that is down.
-#[tactic(auto, using(crate::proofs::Rounds::rounds_then, crate::proofs::Rounds::rounds_itself))]
 pub fn ticker<L: ledger::Ledger, R: Wait + Clock>(
     rt: &R,
     alloc: Global,

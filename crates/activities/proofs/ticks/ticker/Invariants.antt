@@ -1,5 +1,8 @@
-use Rattle.activities.specs.Rounds.{HasRounds}
+use Rattle.std.proofs.Common.{List}
+use Rattle.desk_lock.specs.Receipts.{PassState}
+use Rattle.recorded_cluster.specs.declared.given.Given.{Given}
+use Rattle.activities.specs.Rounds.{AreRounds}
 use Rattle.activities.proofs.ticks.ticker.Given as goal
 
 abbrev pub invariant-loop : goal.invariant-loop
-invariant-loop g l = HasRounds l.fn.pass l.pass
+invariant-loop g l = (passes : List (PassState Given)) × AreRounds passes l.fn.pass l.pass
