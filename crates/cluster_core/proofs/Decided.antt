@@ -19,6 +19,7 @@ use Rattle.cluster_laws.specs.Parts.{configured}
 use Rattle.cluster_core.specs.Fresh.{fresh_records}
 use Rattle.cluster_core.specs.Openable.{any_has_key, are_good, are_keys_new, are_keys_once, fits_total, has_key, is_before, is_good, is_task_before}
 use Rattle.cluster_core.proofs.FreshRecords.{once}
+use Rattle.cluster_core.proofs.Permuted.{same_is, same_itself}
 
 -- ---- live tasks fit the total
 
@@ -53,15 +54,6 @@ less a b e = grind (arith, nat_tests)
 
 below : (a b : ℕ) → a < b → nat_lt a b ≡ true
 below a b h = grind (arith, nat_tests)
-
-same_itself : (a : Numbered) → same a a ≡ true
-same_itself a = grind (arith, nat_tests)
-
-same_is : (a b : Numbered) → same a b ≡ true → a ≡ b
-same_is a b h =
-    let run : a.run ≡ b.run = grind (arith, nat_tests) in
-    let n : a.n ≡ b.n = grind (arith, nat_tests) in
-    let e : record { run = a.run; n = a.n } ≡ b = rw (run, n) refl in e
 
 differ : (a b : Numbered) → same a b ≡ false → a ≢ b
 differ a b f e = (let clash : true ≡ false = sym (same_itself b) ∙ ap (λ (x : Numbered). same x b) (sym e) ∙ f in cc)

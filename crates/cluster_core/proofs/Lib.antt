@@ -5,4 +5,7 @@ pub mod Telling
 pub mod FreshRecords
 pub mod SafeStories
 pub mod RunSteps
+pub mod Permuted
+pub mod InOrder
+pub mod Found
 pub mod Decided

@@ -1,16 +1,20 @@
 -- What was put into a post stays put, and what is sent is put behind it.
-use Rattle.std.proofs.Common.{◌≡◌, ◌<◌, ◌≤◌, ℕ, zero, suc, List, [], ◌∷◌, ◌++◌, map, length, slice_get, Option, Some, Ok, inl, inr, refl, sym, ap, ◌∙◌, subst, arith}
-use Rattle.std.specs.Prelude.{IfSome}
+use Rattle.std.proofs.Common.{◌≡◌, ◌<◌, ◌≤◌, ℕ, zero, suc, List, [], ◌∷◌, ◌++◌, map, length, drop, take, get_or, slice_get, ◌+◌, Bool, Option, None, Some, Ok, inl, inr, refl, sym, ap, ◌∙◌, subst, arith}
+use Rattle.std.specs.Prelude.{IfSome, fold}
+use Rattle.std.specs.Option.{option_map}
 use Rattle.std.proofs.lemmas.Bool.Decides.{leb_tells}
+use Rattle.std.proofs.lemmas.Option.{slice_get-get_or, slice_get_within}
 use Rattle.agent_sides.specs.declared.config.ConfiguredAgent.{ConfiguredAgent}
 use Rattle.mails.specs.declared.record.Durable.{Durable}
-use Rattle.cluster_model.specs.Clusters.{Cluster}
+use Rattle.cluster_model.specs.Channels.{Channel}
+use Rattle.cluster_model.specs.Clusters.{Cluster, Post, Called, Down, Up}
 use Rattle.cluster_model.specs.Openings.{GoodOpening}
 use Rattle.cluster_model.specs.Steps.{Done, Marked, history, step_marked}
-use Rattle.cluster_laws.specs.Items.{StandIn, new_items}
+use Rattle.cluster_laws.specs.Items.{Stand, StandIn, channel_at, down_item, item_of, new_items, to_agent, to_master, up_item}
 use Rattle.cluster_laws.specs.declared.item.Item.{Item}
+use Rattle.cluster_laws.specs.declared.item.Item.TheVariants as items
 use Rattle.post_rules.specs.declared.direction.Direction.{Direction}
-use Rattle.cluster_core.specs.Putting.{ArePut, IsPut, direction_of}
+use Rattle.cluster_core.specs.Putting.{ArePut, IsPut, Puts, direction_of, way_of}
 
 -- the law that a step sends its items behind those that were sent before
 abbrev pub ItemsLaw : Type 0
@@ -59,3 +63,96 @@ puts_on olds news xs ys more before ways between then config items long put same
           let kept : then (suc place) ≡ ways (suc place) = older (suc place) (omega (arith, lt)) ∙ same (suc place) in
           subst (λ (agents : List ConfiguredAgent). IsPut agents then place item) (sym config) (put_again olds ways then place item kept (put place item from there))
     ]
+
+-- ---- what was put
+
+one_of : {A : Type 0} (f : A → Item) (o : Option A) (i : Item) → option_map f o ≡ Some i → (x : A) × (f x ≡ i)
+one_of f None i e = absurd (let clash : None ≡ Some i = e in cc)
+one_of f (Some x) i e = (x, let h : Some (f x) ≡ Some i = e in cc)
+
+down_way : (agents : List ConfiguredAgent) (agent : List ℕ) (place : ℕ) (o : Option Channel) (i : Item) → down_item agent place o ≡ Some i → direction_of agents i ≡ way_of agents (Down agent place)
+down_way agents agent place None i e = absurd (let clash : None ≡ Some i = e in cc)
+down_way agents agent place (Some c) i e = let one = one_of (to_agent agent) (slice_get c.to_agent place) i e in ap (direction_of agents) (sym one.1)
+
+up_way : (agents : List ConfiguredAgent) (agent : List ℕ) (place : ℕ) (o : Option Channel) (i : Item) → up_item agent place o ≡ Some i → direction_of agents i ≡ way_of agents (Up agent place)
+up_way agents agent place None i e = absurd (let clash : None ≡ Some i = e in cc)
+up_way agents agent place (Some c) i e = let one = one_of (to_master agent) (slice_get c.to_master place) i e in ap (direction_of agents) (sym one.1)
+
+post_way : (agents : List ConfiguredAgent) (cs : List Channel) (p : Post) (i : Item) → item_of cs p ≡ Some i → direction_of agents i ≡ way_of agents p
+post_way agents cs (Called stream call) i e = let h : items.Call stream call ≡ i = cc in ap (direction_of agents) (sym h)
+post_way agents cs (Down agent place) i e = down_way agents agent place (channel_at agent cs) i e
+post_way agents cs (Up agent place) i e = up_way agents agent place (channel_at agent cs) i e
+
+-- items go where the posts do that they stand for
+ways_alike : (agents : List ConfiguredAgent) (cs : List Channel) (posts : List Post) (sent : List Item) → Stand cs posts sent → map (direction_of agents) sent ≡ map (way_of agents) posts
+ways_alike agents cs [] [] e = refl
+ways_alike agents cs [] (i ∷ is) e = absurd (let clash : [] ≡ Some i ∷ map Some is = e in cc)
+ways_alike agents cs (p ∷ ps) [] e = absurd (let clash : item_of cs p ∷ map (item_of cs) ps ≡ [] = e in cc)
+ways_alike agents cs (p ∷ ps) (i ∷ is) e =
+    let both : item_of cs p ∷ map (item_of cs) ps ≡ Some i ∷ map Some is = e in
+    let first : item_of cs p ≡ Some i = cc in
+    let rest : map (item_of cs) ps ≡ map Some is = cc in
+    ap (λ (d : Direction). d ∷ map (direction_of agents) is) (post_way agents cs p i first) ∙ ap (λ (ds : List Direction). way_of agents p ∷ ds) (ways_alike agents cs ps is rest)
+
+map_behind : {A B : Type 0} (f : A → B) (n : ℕ) (xs : List A) → map f (drop n xs) ≡ drop n (map f xs)
+map_behind f zero xs = refl
+map_behind f (suc n) [] = refl
+map_behind f (suc n) (x ∷ xs) = map_behind f n xs
+
+-- what was put behind is what was sent since
+pub put_since : (agents : List ConfiguredAgent) (c : Cluster) (sent : List Item) (before since : ℕ) → StandIn c sent → before ≡ since → map (direction_of agents) (drop before sent) ≡ map (way_of agents) (drop since c.posts)
+put_since agents c sent before since stand same =
+    map_behind (direction_of agents) before sent
+    ∙ ap (drop before) (ways_alike agents c.world.channels c.posts sent stand)
+    ∙ ap (λ (n : ℕ). drop n (map (way_of agents) c.posts)) same
+    ∙ sym (map_behind (way_of agents) since c.posts)
+
+nothing_first : {A : Type 0} (xs : List A) → take 0 xs ≡ []
+nothing_first [] = refl
+nothing_first (x ∷ xs) = refl
+
+-- one more is put behind the others
+pub one_more_put : {K : Type 0} (put : K → Direction → K) (k : K) (way : Item → Direction) (sent : List Item) (i : ℕ) (item : Item) → slice_get sent i ≡ Some item → fold put k (map way (take (suc i) sent)) ≡ put (fold put k (map way (take i sent))) (way item)
+one_more_put put k way [] i item at = absurd (let bad : ⊥ = cc in bad)
+one_more_put put k way (x ∷ xs) zero item at =
+    let same : x ≡ item = cc in
+    let one : fold put (put k (way x)) (map way (take 0 xs)) ≡ put k (way x) = ap (λ (ys : List Item). fold put (put k (way x)) (map way ys)) (nothing_first xs) in
+    one ∙ ap (λ (y : Item). put k (way y)) same
+one_more_put put k way (x ∷ xs) (suc i) item at = one_more_put put (put k (way x)) way xs i item at
+
+pub got : (xs : List Item) (i : ℕ) (x other : Item) → x ≡ get_or xs i other → i < length xs → slice_get xs i ≡ Some x
+got xs i x other e lt = slice_get-get_or xs i other lt ∙ ap Some (sym e)
+
+pub behind : (b : ℕ) (xs : List Item) (i : ℕ) → slice_get (drop b xs) i ≡ slice_get xs (b + i)
+behind zero xs i = let e : i ≡ 0 + i = omega arith in ap (slice_get xs) e
+behind (suc b) [] zero = refl
+behind (suc b) [] (suc i) = refl
+behind (suc b) (x ∷ xs) i = let e : suc (b + i) ≡ suc b + i = omega arith in behind b xs i ∙ ap (slice_get (x ∷ xs)) e
+
+-- one more was put
+pub puts_one_more : (agents : List ConfiguredAgent) (sent : List Item) (before i count more room left : ℕ) (gives0 gives gives' : ℕ → Bool) (ways0 ways ways' : ℕ → Option Direction) (item : Item) → Puts agents sent before i count room gives0 gives ways0 ways →
+    more ≡ suc count → room ≤ suc left → ((n : ℕ) → n ≤ count → gives' n ≡ gives n) → IfSome (ways' (suc count)) (λ d. d ≡ direction_of agents item) → ((n : ℕ) → n ≤ count → ways' n ≡ ways n) → slice_get sent (before + i) ≡ Some item →
+    Puts agents sent before (i + 1) more left gives0 gives' ways0 ways'
+puts_one_more agents sent before i count more room left gives0 gives gives' ways0 ways ways' item p counts fits same newest same_ways here = record {
+  counts = (let a : count ≡ before + i = p.counts in omega (arith, a, counts));
+  fits = (let a : length sent ≤ (before + i) + room = p.fits in omega (arith, a, fits));
+  same = λ n le. let a : count ≡ before + i = p.counts in same n (omega (arith, a, le)) ∙ p.same n le;
+  same_directions = λ n le. let a : count ≡ before + i = p.counts in same_ways n (omega (arith, a, le)) ∙ p.same_directions n le;
+  put = λ place it from lt at. let a : count ≡ before + i = p.counts in elim (leb_tells (before + i) place) [
+    | inl h ↦
+        let is : place ≡ before + i = omega (arith, h.1, lt) in
+        let same_item : item ≡ it = (let one : slice_get sent place ≡ Some item = rw is here in cc) in
+        let at_count : suc count ≡ suc place = omega (arith, a, is) in
+        subst (λ (x : Item). IsPut agents ways' place x) same_item (subst (λ (n : ℕ). IfSome (ways' n) (λ d. d ≡ direction_of agents item)) at_count newest)
+    | inr h ↦
+        let below : place < before + i = omega (arith, h.1) in
+        put_again agents ways ways' place it (same_ways (suc place) (omega (arith, a, below))) (p.put place it from below at)
+  ];
+}
+
+-- all were put
+pub all_were_put : (agents : List ConfiguredAgent) (sent : List Item) (before i count room : ℕ) (gives0 gives : ℕ → Bool) (ways0 ways : ℕ → Option Direction) → Puts agents sent before i count room gives0 gives ways0 ways →
+    length sent ≤ before + i → ArePut before agents sent ways
+all_were_put agents sent before i count room gives0 gives ways0 ways p all place item from at =
+    let lt : place < length sent = slice_get_within sent place item at in
+    p.put place item from (omega (arith, lt, all)) at

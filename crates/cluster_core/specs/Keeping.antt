@@ -1,7 +1,7 @@
 -- What a cluster keeps true of its parts, and what a step makes of its story.
-use Rattle.std.specs.Prelude.{◌≡◌, ◌⊎◌, ◌<◌, ℕ, Bool, false, if◌then◌else◌, List, map, length, Option, Some, None, Ok, Err, ⊤}
+use Rattle.std.specs.Prelude.{◌≡◌, ◌⊎◌, ◌<◌, ℕ, Bool, false, if◌then◌else◌, List, map, length, Option, Some, None, Ok, Err, drop, fold, ⊤}
 use Rattle.cluster_model.specs.Clusters as model
-use Rattle.cluster_model.specs.Clusters.{Cluster}
+use Rattle.cluster_model.specs.Clusters.{Cluster, Post}
 use Rattle.cluster_model.specs.Masters.{Master}
 use Rattle.master_core.specs.Steps.{offered_on}
 use Rattle.post_rules.specs.declared.direction.Direction.{Direction}
@@ -17,7 +17,7 @@ use Rattle.cluster_steps.specs.declared.step.Step.{Step}
 use Rattle.cluster_parts.specs.Handing.{handed}
 use Rattle.cluster_parts.specs.Moves.{kept_agents}
 use Rattle.cluster_core.specs.Parts.{Stands, record_of}
-use Rattle.cluster_core.specs.Putting.{ArePut}
+use Rattle.cluster_core.specs.Putting.{ArePut, way_of, with_handed}
 use Rattle.cluster_core.specs.Stories.{IsLegal, Story, state_of, with_entry}
 use Rattle.cluster_parts.specs.declared.masters.Made.{Made}
 use Rattle.cluster_core.specs.declared.parts.Parts.{Parts}
@@ -74,6 +74,14 @@ IsRefused c gives step OutOfMemory = ⊤
 pub record Known (P : Type 0) : Type 0 where
   pub story : Story
   pub post : P
+
+-- the calls and mails that were sent since
+abbrev pub sent_since : Story → Story → List Post
+sent_since old new = drop (length (state_of old).posts) (state_of new).posts
+
+-- what a post knows behind a step that made one story of another: what the step hands out was handed out, and all that it sent was put, each in its direction
+abbrev pub known_after : {K : Type 0} → (K → ℕ → K) → (K → Direction → K) → Story → model.Step → Story → K → K
+known_after with_given with_put old step new k = fold with_put (with_handed with_given k (handed step)) (map (way_of (map configured old.records)) (sent_since old new))
 
 -- the sum of an agent's current offers, where a master serves
 abbrev pub offered_in : List ℕ → Master → Option (List Row)

@@ -1,3 +1,4 @@
+pub mod Records
 pub mod Stories
 pub mod Parts
 pub mod Putting
@@ -7,3 +8,4 @@ pub mod Safety
 pub mod Reading
 pub mod Running
 pub mod Openable
+pub mod Stopping

@@ -1,8 +1,9 @@
 -- What is put into a post: which queue an item goes to, and how far the putting is.
-use Rattle.std.specs.Prelude.{◌≡◌, ◌<◌, ◌≤◌, ◌+◌, ℕ, suc, Bool, List, length, Option, Some, IfSome, bytes_eq, position, slice_get, unwrap_or}
+use Rattle.std.specs.Prelude.{◌≡◌, ◌<◌, ◌≤◌, ◌+◌, ℕ, suc, Bool, List, length, Option, None, Some, IfSome, bytes_eq, position, slice_get, unwrap_or}
 use Rattle.agent_sides.specs.declared.config.ConfiguredAgent.{ConfiguredAgent}
 use Rattle.cluster_laws.specs.declared.item.Item.{Item}
 use Rattle.cluster_laws.specs.declared.item.Item.TheVariants as items
+use Rattle.cluster_model.specs.Clusters.{Post, Called, Down, Up}
 use Rattle.post_rules.specs.declared.direction.Direction.{Direction}
 use Rattle.post_rules.specs.declared.direction.Direction.TheVariants.{Call, ToAgent, FromAgent}
 
@@ -19,6 +20,17 @@ abbrev pub direction_of : List ConfiguredAgent → Item → Direction
 direction_of agents (items.Call stream call) = Call
 direction_of agents (items.ToAgent to) = ToAgent (place_or_end to.agent agents)
 direction_of agents (items.ToMaster to) = FromAgent (place_or_end to.agent agents)
+
+-- so goes what the model sent
+abbrev pub way_of : List ConfiguredAgent → Post → Direction
+way_of agents (Called stream call) = Call
+way_of agents (Down agent place) = ToAgent (place_or_end agent agents)
+way_of agents (Up agent place) = FromAgent (place_or_end agent agents)
+
+-- what a post knows once this number was handed out, if there is one
+abbrev pub with_handed : {K : Type 0} → (K → ℕ → K) → K → Option ℕ → K
+with_handed with_given k None = k
+with_handed with_given k (Some n) = with_given k n
 
 -- the item at a place was put in its direction, where the post keeps directions
 abbrev pub IsPut : List ConfiguredAgent → (ℕ → Option Direction) → ℕ → Item → Type 0

@@ -1,17 +1,23 @@
 -- A cluster's story: how it was opened, and every entry since. What holds of it is a function of the story.
 use Rattle.std.specs.Prelude.{◌≡◌, ℕ, List, [], ◌∷◌, ◌++◌, map, Ok}
 use Rattle.mails.specs.declared.record.Durable.{Durable}
+use Rattle.agent_sides.specs.declared.config.ConfiguredAgent.{ConfiguredAgent}
 use Rattle.cluster_model.specs.Clusters.{Cluster}
 use Rattle.cluster_model.specs.Openings.{GoodOpening}
 use Rattle.cluster_model.specs.Steps.{Done, History, history, opening, step_marked}
 use Rattle.cluster_laws.specs.Premises.{AreRecorded}
 use Rattle.cluster_steps.specs.declared.entry.Entry.{Entry}
 use Rattle.cluster_steps.specs.Steps.{entry_of, marked_of}
+use Rattle.cluster_core.specs.Records.{in_order}
 
 pub record Story : Type 0 where
   pub run : ℕ
   pub records : List Durable
   pub entries : List Entry
+
+-- the story of a cluster of these agents that was opened over records
+abbrev pub opened_over : ℕ → List ConfiguredAgent → List Durable → Story
+opened_over run agents records = record { run = run; records = in_order agents records; entries = [] }
 
 abbrev pub history_of : Story → History
 history_of s = history s.run s.records (map marked_of s.entries)

@@ -1,11 +1,10 @@
 //! A history goes on by one step.
 
-ghost use Rattle.std.specs.Prelude.{◌≡◌, ◌<◌, ◌≤◌, ◌+◌, length, vec_capacity, vec_len, IfOk, IfErr, OnErr, ℕ};
-ghost use Rattle.cluster_core.specs.Keeping.{IsKept, IsRefused, IsTaken, entry_made, story_of, taken_made};
-ghost use Rattle.cluster_core.specs.Putting.{ArePut, direction_of, place_in, place_or_end};
+ghost use Rattle.std.specs.Prelude.{◌≡◌, ◌<◌, ◌≤◌, ◌+◌, drop, fold, length, map, vec_capacity, vec_len, IfOk, IfErr, OnErr, OnOk, ℕ};
+ghost use Rattle.cluster_core.specs.Keeping.{IsKept, IsRefused, IsTaken, entry_made, known_after, story_of, taken_made};
+ghost use Rattle.cluster_core.specs.Putting.{ArePut, direction_of, place_in, place_or_end, with_handed};
 ghost use Rattle.cluster_core.specs.Stories.{state_of, with_entry};
 ghost use Rattle.cluster_parts.specs.Handing.{IsGiven, handed};
-ghost use Rattle.cluster_parts.specs.Posts.{Roomier};
 ghost use Rattle.cluster_steps.specs.Steps.{step_of};
 
 use crate::parts::Parts;
@@ -52,13 +51,14 @@ fn direction_of(agents: &[ConfiguredAgent], item: &Item) -> Direction
 
 /// Puts all items into the post that were sent behind the first so many, which it has.
 pub fn put_all<P: Post>(post: &mut P, agents: &[ConfiguredAgent], items: &[Item], before: usize)
-    requires counted { P.count post.old ≡ before }
+    requires counted { P.count (P.known post.old) ≡ before }
     requires within { before ≤ length items.now }
     requires room { length items.now ≤ before + P.room post.old }
-    ensures count { P.count post.new ≡ length items.now }
-    ensures gives { (n : ℕ) → n ≤ before → P.gives post.new n ≡ P.gives post.old n }
-    ensures directions { (n : ℕ) → n ≤ before → P.direction_at post.new n ≡ P.direction_at post.old n }
-    ensures put { ArePut before agents.now items.now (P.direction_at post.new) }
+    ensures count { P.count (P.known post.new) ≡ length items.now }
+    ensures gives { (n : ℕ) → n ≤ before → P.gives (P.known post.new) n ≡ P.gives (P.known post.old) n }
+    ensures directions { (n : ℕ) → n ≤ before → P.direction_at (P.known post.new) n ≡ P.direction_at (P.known post.old) n }
+    ensures put { ArePut before agents.now items.now (P.direction_at (P.known post.new)) }
+    ensures known { P.known post.new ≡ fold P.with_put (P.known post.old) (map (direction_of agents.now) (drop before items.now)) }
 {
     let sent = &items[before..];
     for item in sent {
@@ -80,20 +80,21 @@ fn handed(step: &Step) -> Option<u64>
     }
 }
 
-/// Puts what a step sent, and tells the post what the step handed out.
+/// What a step hands out was handed out, and what it sent is put.
 fn hand_on<P: Post>(post: &mut P, parts: &Parts, before: usize, step: &Step)
-    requires counted { P.count post.old ≡ before }
+    requires counted { P.count (P.known post.old) ≡ before }
     requires within { before ≤ length parts.now.items }
     requires room { length parts.now.items ≤ before + P.room post.old }
-    requires given { IsGiven (P.gives post.old) (step_of step.now) }
-    ensures count { P.count post.new ≡ length parts.now.items }
-    ensures directions { (n : ℕ) → n ≤ before → P.direction_at post.new n ≡ P.direction_at post.old n }
-    ensures put { ArePut before parts.now.config parts.now.items (P.direction_at post.new) }
+    requires given { IsGiven (P.gives (P.known post.old)) (step_of step.now) }
+    ensures count { P.count (P.known post.new) ≡ length parts.now.items }
+    ensures directions { (n : ℕ) → n ≤ before → P.direction_at (P.known post.new) n ≡ P.direction_at (P.known post.old) n }
+    ensures put { ArePut before parts.now.config parts.now.items (P.direction_at (P.known post.new)) }
+    ensures known { P.known post.new ≡ fold P.with_put (with_handed P.with_given (P.known post.old) (handed (step_of step.now))) (map (direction_of parts.now.config) (drop before parts.now.items)) }
 {
-    put_all(post, parts.config.agents(), parts.items.as_slice(), before);
     if let Some(number) = handed(step) {
         post.given(number);
     }
+    put_all(post, parts.config.agents(), parts.items.as_slice(), before);
 }
 
 /// Writes an entry down, for which there is room, and gives it.
@@ -128,13 +129,14 @@ pub fn advance<P: Post>(
     alloc: Global,
     step: Step,
 ) -> Result<Taken, ClusterFault>
-    requires { IsKept (story_of history.old) history.old.opened parts.old (P.count post.old) (P.direction_at post.old) }
-    ensures kept { IsKept (story_of history.new) history.new.opened parts.new (P.count post.new) (P.direction_at post.new) }
+    requires { IsKept (story_of history.old) history.old.opened parts.old (P.count (P.known post.old)) (P.direction_at (P.known post.old)) }
+    ensures kept { IsKept (story_of history.new) history.new.opened parts.new (P.count (P.known post.new)) (P.direction_at (P.known post.new)) }
     ensures taken { IfOk result (λ taken. IsTaken (story_of history.old) step taken (story_of history.new)) }
-    ensures given { IfOk result (λ _. IsGiven (P.gives post.old) (step_of step)) }
-    ensures refused { IfErr result (IsRefused (state_of (story_of history.old)) (P.gives post.old) (step_of step)) }
+    ensures given { IfOk result (λ _. IsGiven (P.gives (P.known post.old)) (step_of step)) }
+    ensures known { OnOk result (P.known post.new ≡ known_after P.with_given P.with_put (story_of history.old) (step_of step) (story_of history.new) (P.known post.old)) }
+    ensures refused { IfErr result (IsRefused (state_of (story_of history.old)) (P.gives (P.known post.old)) (step_of step)) }
     ensures unchanged { OnErr result (story_of history.new ≡ story_of history.old) }
-    ensures post { OnErr result (Roomier (P.count post.old) (P.count post.new) (P.gives post.old) (P.gives post.new) (P.direction_at post.old) (P.direction_at post.new)) }
+    ensures post { OnErr result (P.known post.new ≡ P.known post.old) }
 {
     sent_items_stand();
     states_count_entries();

@@ -1,10 +1,12 @@
 //! Clusters.
 
-ghost use Rattle.std.specs.Prelude.{◌≡◌, ◌<◌, ◌≤◌, ◌+◌, ℕ, Bool, true, [], map, option_map, slice_get, length, IfOk, IfErr, OnErr};
+ghost use Rattle.std.specs.Prelude.{◌≡◌, ◌<◌, ◌≤◌, ◌+◌, ℕ, Bool, true, List, map, option_map, slice_get, length, IfOk, IfErr, OnErr, OnOk};
 ghost use Rattle.std.specs.Option.{option_copied};
-ghost use Rattle.cluster_core.specs.Keeping.{IsRefused, IsTaken, WithheldFrom, offered_in};
+ghost use Rattle.cluster_core.specs.Keeping.{IsRefused, IsTaken, WithheldFrom, known_after, offered_in};
 ghost use Rattle.cluster_core.specs.Safety.{Safe};
-ghost use Rattle.cluster_core.specs.Stories.{IsLegal, state_of};
+ghost use Rattle.cluster_core.specs.Records.{AreRecordsOf};
+ghost use Rattle.cluster_core.specs.Stopping.{AreFound, live_in, live_of};
+ghost use Rattle.cluster_core.specs.Stories.{IsLegal, opened_over, state_of};
 ghost use Rattle.cluster_laws.specs.Parts.{configured};
 ghost use Rattle.cluster_model.specs.Clusters as model;
 ghost use Rattle.cluster_model.specs.Clusters.{master_of};
@@ -13,16 +15,18 @@ ghost use Rattle.cluster_model.specs.Steps.{open_cluster};
 ghost use Rattle.cluster_parts.specs.Agents.{agent_in, drafted_in, recorded, recorded_in};
 ghost use Rattle.cluster_parts.specs.Handing.{IsGiven};
 ghost use Rattle.cluster_parts.specs.Moves.{kept_agents};
-ghost use Rattle.cluster_parts.specs.Posts.{Roomier};
 ghost use Rattle.cluster_steps.specs.Steps.{outputs_of, step_of};
 ghost use Rattle.cluster_steps.specs.declared.fault.ClusterFault.TheVariants.{OutOfMemory};
+ghost use Rattle.mails.specs.declared.record.Durable.{Durable as Record};
 
 mod reading;
 
 use crate::advancing::{advance, put_all};
+use crate::ordering::put_in_order;
 use crate::parts::Parts;
 use crate::recorded::records_are_recorded;
 use crate::safety::stories_are_safe;
+use crate::stopping::stopped_stories_open_again;
 use crate::taken::{History, Taken};
 use cluster_parts::{ClusterAgent, open_parts};
 use cluster_steps::{ClusterFault, Entry, Outputs, Step};
@@ -49,12 +53,12 @@ impl<P: Post + Drop> Model for Cluster<P> {
 
     ghost view = { λ c. record { story = story_of c.history; post = c.post } };
 
-    ghost invariant = { λ c. IsKept (story_of c.history) c.history.opened c.parts (P.count c.post) (P.direction_at c.post) };
+    ghost invariant = { λ c. IsKept (story_of c.history) c.history.opened c.parts (P.count (P.known c.post)) (P.direction_at (P.known c.post)) };
 }
 
 impl<P: Post + Drop> Cluster<P> {
-    /// The cluster of configured agents that come up over their records, whose first master begins this run and greets each. Of the faults
-    /// there is `C9 OutOfMemory` alone.
+    /// The cluster of configured agents that come up over their records, given in any order, whose first master begins this run and greets
+    /// each in the order of their names. Of the faults there is `C9 OutOfMemory` alone.
     pub fn open(
         alloc: Global,
         config: Config,
@@ -62,10 +66,11 @@ impl<P: Post + Drop> Cluster<P> {
         run: Run,
     ) -> Result<Cluster<P>, ClusterFault>
         requires good { GoodOpening run records.items }
-        requires configured { config ≡ map configured records.items }
-        ensures opened { IfOk result (λ cluster. cluster.story ≡ record { run = run; records = records.items; entries = [] }) }
+        requires records { AreRecordsOf config records.items }
+        ensures opened { IfOk result (λ cluster. cluster.story ≡ opened_over run config records.items) }
         ensures memory { IfErr result (λ fault. fault ≡ OutOfMemory) }
     {
+        let records = put_in_order(&config, records, run);
         records_are_recorded(records.as_slice());
         let mut post = P::empty();
         let opened = open_parts(&mut post, alloc, &config, records.as_slice(), run)?;
@@ -95,10 +100,11 @@ impl<P: Post + Drop> Cluster<P> {
     /// runs out of memory in mid-step is down, and the entry says so.
     pub fn step(&mut self, alloc: Global, step: Step) -> Result<Taken, ClusterFault>
         ensures taken { IfOk result (λ taken. IsTaken self.old.story step taken self.new.story) }
-        ensures given { IfOk result (λ _. IsGiven (P.gives self.old.post) (step_of step)) }
-        ensures refused { IfErr result (IsRefused (state_of self.old.story) (P.gives self.old.post) (step_of step)) }
+        ensures given { IfOk result (λ _. IsGiven (P.gives (P.known self.old.post)) (step_of step)) }
+        ensures post { OnOk result (P.known self.new.post ≡ known_after P.with_given P.with_put self.old.story (step_of step) self.new.story (P.known self.old.post)) }
+        ensures refused { IfErr result (IsRefused (state_of self.old.story) (P.gives (P.known self.old.post)) (step_of step)) }
         ensures unchanged { OnErr result (self.new.story ≡ self.old.story) }
-        ensures post { OnErr result (Roomier (P.count self.old.post) (P.count self.new.post) (P.gives self.old.post) (P.gives self.new.post) (P.direction_at self.old.post) (P.direction_at self.new.post)) }
+        ensures kept { OnErr result (P.known self.new.post ≡ P.known self.old.post) }
         ensures safe { Safe self.new.story }
     {
         let taken = advance(
@@ -127,16 +133,28 @@ impl<P: Post + Drop> Cluster<P> {
         let _ = &self.history;
     }
 
+    /// Let each agent's record, or that of its open draft, be found after a stop. Then its agents may be opened over these records, whatever
+    /// their order, in any run above the last of this cluster, and the live tasks of each agent are those of its record.
+    pub fn found_records_open(&self)
+        ensures good { (later : ℕ) (found : List Record) → (state_of self.now.story).world.run.number < later → AreFound (state_of self.now.story) found → GoodOpening later found }
+        ensures records { (found : List Record) → AreFound (state_of self.now.story) found → AreRecordsOf (map configured self.now.story.records) found }
+        ensures live { (later : ℕ) (found : List Record) → (state_of self.now.story).world.run.number < later → (f : AreFound (state_of self.now.story) found) →
+            live_in (state_of (opened_over later (map configured self.now.story.records) found)) ≡ live_of f.by_agent }
+    {
+        stopped_stories_open_again();
+        let _ = &self.history;
+    }
+
     /// The post has had all calls and mails that were ever sent.
     pub fn has_all_sent(&self)
-        ensures { P.count self.now.post ≡ length (state_of self.now.story).posts }
+        ensures { P.count (P.known self.now.post) ≡ length (state_of self.now.story).posts }
     {
         let _ = &self.history;
     }
 
     /// A post that hands out all that was put withholds nothing that the model would hand out.
     pub fn withholds_nothing(&self)
-        ensures { (gives : ℕ → Bool) (step : model.Step) → ((n : ℕ) → 0 < n → n ≤ P.count self.now.post → gives n ≡ true) → WithheldFrom (state_of self.now.story) gives step → ⊥ }
+        ensures { (gives : ℕ → Bool) (step : model.Step) → ((n : ℕ) → 0 < n → n ≤ P.count (P.known self.now.post) → gives n ≡ true) → WithheldFrom (state_of self.now.story) gives step → ⊥ }
     {
         self.has_all_sent();
     }

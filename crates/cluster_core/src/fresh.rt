@@ -1,8 +1,8 @@
 //! Agents that never ran.
 
-ghost use Rattle.std.specs.Prelude.{◌≡◌, ◌<◌, map, IfOk, ℕ};
+ghost use Rattle.std.specs.Prelude.{◌≡◌, ◌<◌, IfOk, ℕ};
 ghost use Rattle.cluster_core.specs.Fresh.{fresh_records};
-ghost use Rattle.cluster_laws.specs.Parts.{configured};
+ghost use Rattle.cluster_core.specs.Records.{AreRecordsOf, in_order};
 ghost use Rattle.cluster_laws.specs.Premises.{AreRecorded};
 ghost use Rattle.cluster_model.specs.Openings.{GoodOpening};
 
@@ -12,11 +12,12 @@ use master_core::Config;
 use plain_data::Plain;
 use std::alloc::{AllocError, Global};
 
-/// A cluster may be opened in any run over configured agents that never ran, and they are those of the configuration.
+/// A cluster may be opened in any run over configured agents that never ran: their records are those of the configuration, and in its order.
 pub fn fresh_agents_open(config: &Config)
     ensures good { (run : ℕ) → 0 < run → GoodOpening run (fresh_records config.now) }
     ensures recorded { AreRecorded (fresh_records config.now) }
-    ensures configured { config.now ≡ map configured (fresh_records config.now) }
+    ensures records { AreRecordsOf config.now (fresh_records config.now) }
+    ensures order { in_order config.now (fresh_records config.now) ≡ fresh_records config.now }
 {
     let _agents = config.agents();
 }

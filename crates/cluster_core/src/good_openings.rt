@@ -2,9 +2,11 @@
 
 ghost use Rattle.std.specs.Prelude.{◌≡◌, ◌↔◌, ◌++◌, ◌&&◌, true, nat_le, nat_lt, map, List, IsTrue, ℕ};
 ghost use Rattle.std.specs.List.{list_all};
+ghost use Rattle.std.specs.List.Sorted.{IsPermutation};
 ghost use Rattle.agent_sides.specs.Configs.{are_ordered, names_of};
 ghost use Rattle.agent_sides.specs.declared.config.ConfiguredAgent.{ConfiguredAgent as Configured};
 ghost use Rattle.cluster_core.specs.Openable.{any_has_key, are_good, are_keys_new, are_keys_once, fits_at, fits_total, has_key, is_before, is_good, is_task_before};
+ghost use Rattle.cluster_core.specs.Records.{AreRecordsOf};
 ghost use Rattle.cluster_laws.specs.Parts.{configured};
 ghost use Rattle.cluster_model.specs.Agents.{live_tasks, task_rows};
 ghost use Rattle.cluster_model.specs.Openings.{GoodOpening};
@@ -12,6 +14,7 @@ ghost use Rattle.mails.specs.declared.record.Durable.{Durable as Record};
 ghost use Rattle.quantity.specs.Rows.{amount};
 ghost use Rattle.quantity.specs.declared.rows.Row.{Row as OneRow};
 
+use crate::ordering::sort_by_name;
 use agent_sides::ConfiguredAgent;
 use mails::{Durable, RecordedTask};
 use master_core::Config;
@@ -179,13 +182,26 @@ fn openings_are_decided()
     covers_is_at_least();
 }
 
-/// Whether a cluster of these agents may be opened over records, one for each agent in their order, in this run: every record's live tasks fit its
-/// total, no launch key stands twice, and every run in them lies before this one.
-pub fn good_opening(config: &Config, records: &[Durable], run: Run) -> bool
+/// Whether a cluster of these agents may be opened over records that stand in their order.
+fn is_good_in_order(config: &Config, records: &[Durable], run: Run) -> bool
     ensures { IsTrue result ↔ (GoodOpening run records.now × (config.now ≡ map configured records.now)) }
 {
     openings_are_decided();
     are_configured(config.agents(), records)
         && are_keys_once(records)
         && are_good(records, run.number())
+}
+
+/// Sorts records by the names of their agents, and tells whether a cluster of these agents may be opened over them in this run: there is one
+/// record for each agent and no other, with the agent's total, every record's live tasks fit its total, no launch key stands twice, and every
+/// run in them lies before this one.
+pub fn good_opening(config: &Config, records: &mut [Durable], run: Run) -> bool
+    ensures test { IsTrue result ↔ (GoodOpening run records.old × AreRecordsOf config.now records.old) }
+    ensures good { IsTrue result → GoodOpening run records.new }
+    ensures records { IsTrue result → AreRecordsOf config.now records.new }
+    ensures permutation { IsPermutation records.old records.new }
+{
+    let _agents = config.agents();
+    sort_by_name(records);
+    is_good_in_order(config, records, run)
 }

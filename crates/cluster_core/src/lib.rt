@@ -6,10 +6,12 @@ mod advancing;
 mod cluster;
 mod fresh;
 mod good_openings;
+mod ordering;
 mod parts;
 mod recorded;
 mod running;
 mod safety;
+mod stopping;
 mod taken;
 
 pub use cluster::Cluster;

@@ -5,7 +5,7 @@ ghost use Rattle.cluster_core.specs.Parts.{AreParts, PartsOf, Same, Takes};
 ghost use Rattle.cluster_model.specs.Clusters.{Allocate, Cluster, Commit, Deliver, HangUp, LoseAgent, Prepare, Send, StopAfter, StopBefore, StopMaster, Take, Tick};
 ghost use Rattle.cluster_parts.specs.Handing.{IsGiven, MayRefuse, is_withheld};
 ghost use Rattle.cluster_parts.specs.Moves.{Refuses};
-ghost use Rattle.cluster_parts.specs.Posts.{Grows, Roomier};
+ghost use Rattle.cluster_parts.specs.Posts.{Grows};
 ghost use Rattle.cluster_steps.specs.Steps.{cause_of, step_of};
 
 use cluster_laws::mails_to_agents_launch_anew;
@@ -50,7 +50,7 @@ impl Parts {
         ensures refused { IfErr result (λ fault. (c : Cluster) → PartsOf c self.old → Refuses c (Send stream call.now) fault) }
         ensures unchanged { OnErr result (Same self.old self.new) }
         ensures config { self.new.config ≡ self.old.config }
-        ensures post { Roomier (P.count post.old) (P.count post.new) (P.gives post.old) (P.gives post.new) (P.direction_at post.old) (P.direction_at post.new) }
+        ensures post { P.known post.new ≡ P.known post.old }
         ensures room { Grows (length self.old.items) (length self.new.items) (P.room post.new) }
     {
         let copy = call.copy()?;
@@ -66,12 +66,12 @@ impl Parts {
     ) -> Result<Made, ClusterFault>
         requires { AreParts self.old }
         ensures made { IfOk result (λ made. (c : Cluster) → PartsOf c self.old → Takes c (Deliver number) made self.new) }
-        ensures refused { IfErr result (λ fault. (c : Cluster) → PartsOf c self.old → MayRefuse c (P.gives post.old) (Deliver number) fault) }
+        ensures refused { IfErr result (λ fault. (c : Cluster) → PartsOf c self.old → MayRefuse c (P.gives (P.known post.old)) (Deliver number) fault) }
         ensures unchanged { OnErr result (Same self.old self.new) }
         ensures config { self.new.config ≡ self.old.config }
-        ensures post { Roomier (P.count post.old) (P.count post.new) (P.gives post.old) (P.gives post.new) (P.direction_at post.old) (P.direction_at post.new) }
+        ensures post { P.known post.new ≡ P.known post.old }
         ensures room { Grows (length self.old.items) (length self.new.items) (P.room post.new) }
-        ensures given { IfOk result (λ _. P.gives post.old number ≡ true) }
+        ensures given { IfOk result (λ _. P.gives (P.known post.old) number ≡ true) }
     {
         if self.master.is_none() {
             return Err(ClusterFault::MasterDown);
@@ -97,7 +97,7 @@ impl Parts {
         ensures refused { IfErr result (λ fault. (c : Cluster) → PartsOf c self.old → Refuses c Allocate fault) }
         ensures unchanged { OnErr result (Same self.old self.new) }
         ensures config { self.new.config ≡ self.old.config }
-        ensures post { Roomier (P.count post.old) (P.count post.new) (P.gives post.old) (P.gives post.new) (P.direction_at post.old) (P.direction_at post.new) }
+        ensures post { P.known post.new ≡ P.known post.old }
         ensures room { Grows (length self.old.items) (length self.new.items) (P.room post.new) }
     {
         cluster_parts::allocate(
@@ -116,7 +116,7 @@ impl Parts {
         ensures refused { IfErr result (λ fault. (c : Cluster) → PartsOf c self.old → Refuses c (Tick now) fault) }
         ensures unchanged { OnErr result (Same self.old self.new) }
         ensures config { self.new.config ≡ self.old.config }
-        ensures post { Roomier (P.count post.old) (P.count post.new) (P.gives post.old) (P.gives post.new) (P.direction_at post.old) (P.direction_at post.new) }
+        ensures post { P.known post.new ≡ P.known post.old }
         ensures room { Grows (length self.old.items) (length self.new.items) (P.room post.new) }
     {
         let items = &mut self.items;
@@ -146,7 +146,7 @@ impl Parts {
         ensures refused { IfErr result (λ fault. (c : Cluster) → PartsOf c self.old → Refuses c (LoseAgent name.now) fault) }
         ensures unchanged { OnErr result (Same self.old self.new) }
         ensures config { self.new.config ≡ self.old.config }
-        ensures post { Roomier (P.count post.old) (P.count post.new) (P.gives post.old) (P.gives post.new) (P.direction_at post.old) (P.direction_at post.new) }
+        ensures post { P.known post.new ≡ P.known post.old }
         ensures room { Grows (length self.old.items) (length self.new.items) (P.room post.new) }
     {
         let agents = self.agents.as_slice();
@@ -174,7 +174,7 @@ impl Parts {
         ensures refused { IfErr result (λ fault. (c : Cluster) → PartsOf c self.old → Refuses c (HangUp stream) fault) }
         ensures unchanged { OnErr result (Same self.old self.new) }
         ensures config { self.new.config ≡ self.old.config }
-        ensures post { Roomier (P.count post.old) (P.count post.new) (P.gives post.old) (P.gives post.new) (P.direction_at post.old) (P.direction_at post.new) }
+        ensures post { P.known post.new ≡ P.known post.old }
         ensures room { Grows (length self.old.items) (length self.new.items) (P.room post.new) }
     {
         let items = &mut self.items;
@@ -195,7 +195,7 @@ impl Parts {
         ensures refused { IfErr result (λ fault. (c : Cluster) → PartsOf c self.old → Refuses c StopMaster fault) }
         ensures unchanged { OnErr result (Same self.old self.new) }
         ensures config { self.new.config ≡ self.old.config }
-        ensures post { Roomier (P.count post.old) (P.count post.new) (P.gives post.old) (P.gives post.new) (P.direction_at post.old) (P.direction_at post.new) }
+        ensures post { P.known post.new ≡ P.known post.old }
         ensures room { Grows (length self.old.items) (length self.new.items) (P.room post.new) }
     {
         let items = &mut self.items;
@@ -232,10 +232,10 @@ impl Parts {
     ) -> Result<Made, ClusterFault>
         requires { AreParts self.old }
         ensures made { IfOk result (λ made. (c : Cluster) → PartsOf c self.old → Takes c (Prepare name.now (cause_of cause)) made self.new) }
-        ensures refused { IfErr result (λ fault. (c : Cluster) → PartsOf c self.old → MayRefuse c (P.gives post.now) (Prepare name.now (cause_of cause)) fault) }
+        ensures refused { IfErr result (λ fault. (c : Cluster) → PartsOf c self.old → MayRefuse c (P.gives (P.known post.now)) (Prepare name.now (cause_of cause)) fault) }
         ensures unchanged { OnErr result (Same self.old self.new) }
         ensures config { self.new.config ≡ self.old.config }
-        ensures given { IfOk result (λ _. is_withheld (P.gives post.now) cause ≡ false) }
+        ensures given { IfOk result (λ _. is_withheld (P.gives (P.known post.now)) cause ≡ false) }
         ensures items { length self.new.items ≡ length self.old.items }
     {
         mails_to_agents_launch_anew();
@@ -262,7 +262,7 @@ impl Parts {
         ensures refused { IfErr result (λ fault. (c : Cluster) → PartsOf c self.old → Refuses c (Commit name.now) fault) }
         ensures unchanged { OnErr result (Same self.old self.new) }
         ensures config { self.new.config ≡ self.old.config }
-        ensures post { Roomier (P.count post.old) (P.count post.new) (P.gives post.old) (P.gives post.new) (P.direction_at post.old) (P.direction_at post.new) }
+        ensures post { P.known post.new ≡ P.known post.old }
         ensures room { Grows (length self.old.items) (length self.new.items) (P.room post.new) }
     {
         cluster_parts::commit(
@@ -309,12 +309,12 @@ impl Parts {
     ) -> Result<Made, ClusterFault>
         requires { AreParts self.old }
         ensures made { IfOk result (λ made. (c : Cluster) → PartsOf c self.old → Takes c (step_of step.now) made self.new) }
-        ensures refused { IfErr result (λ fault. (c : Cluster) → PartsOf c self.old → MayRefuse c (P.gives post.old) (step_of step.now) fault) }
+        ensures refused { IfErr result (λ fault. (c : Cluster) → PartsOf c self.old → MayRefuse c (P.gives (P.known post.old)) (step_of step.now) fault) }
         ensures unchanged { OnErr result (Same self.old self.new) }
         ensures config { self.new.config ≡ self.old.config }
-        ensures post { Roomier (P.count post.old) (P.count post.new) (P.gives post.old) (P.gives post.new) (P.direction_at post.old) (P.direction_at post.new) }
+        ensures post { P.known post.new ≡ P.known post.old }
         ensures room { Grows (length self.old.items) (length self.new.items) (P.room post.new) }
-        ensures given { IfOk result (λ _. IsGiven (P.gives post.old) (step_of step.now)) }
+        ensures given { IfOk result (λ _. IsGiven (P.gives (P.known post.old)) (step_of step.now)) }
     {
         match step {
             Step::Send { stream, call } => self.send(post, alloc, *stream, call),

@@ -2,7 +2,7 @@
 
 ghost use Rattle.std.specs.Prelude.{◌≡◌, length, map, None, IfOk, IfErr, OnErr};
 ghost use Rattle.cluster_parts.specs.Moves.{Makes, Reached, Refuses, kept_agents, sending};
-ghost use Rattle.cluster_parts.specs.Posts.{Grows, Roomier};
+ghost use Rattle.cluster_parts.specs.Posts.{Grows};
 ghost use Rattle.cluster_parts.specs.Sending.{BringsNothing, BringsOut, item_from, sent_from};
 ghost use Rattle.cluster_laws.specs.Items.{StandIn};
 ghost use Rattle.cluster_model.specs.Clusters.{Cluster, Commit};
@@ -109,7 +109,7 @@ fn send_draft<P: Post>(
     ensures given { IfOk result (λ told. told.given ≡ told.sent) }
     ensures refused { IfErr result (λ fault. (c : Cluster) → agents.old ≡ kept_agents c → Refuses c (Commit name.now) fault) }
     ensures unchanged { OnErr result ((agents.new ≡ agents.old) × (items.new ≡ items.old)) }
-    ensures post { Roomier (P.count post.old) (P.count post.new) (P.gives post.old) (P.gives post.new) (P.direction_at post.old) (P.direction_at post.new) }
+    ensures post { P.known post.new ≡ P.known post.old }
     ensures room { Grows (length items.old) (length items.new) (P.room post.new) }
 {
     commits_are_made();
@@ -139,7 +139,7 @@ pub fn commit<P: Post>(
     ensures durable { IfOk result (λ made. made.durable ≡ None) }
     ensures refused { IfErr result (λ fault. (c : Cluster) → agents.old ≡ kept_agents c → Refuses c (Commit name.now) fault) }
     ensures unchanged { OnErr result ((agents.new ≡ agents.old) × (items.new ≡ items.old)) }
-    ensures post { Roomier (P.count post.old) (P.count post.new) (P.gives post.old) (P.gives post.new) (P.direction_at post.old) (P.direction_at post.new) }
+    ensures post { P.known post.new ≡ P.known post.old }
     ensures room { Grows (length items.old) (length items.new) (P.room post.new) }
 {
     let told = send_draft(agents, items, post, alloc, name)?;

@@ -3,7 +3,7 @@
 ghost use Rattle.std.specs.Prelude.{◌≡◌, ◌+◌, ◌≤◌, ◌++◌, length, map, IfOk, OnOk, OnErr};
 ghost use Rattle.cluster_parts.specs.Masters.{Settles, ends_with, item_to, sent_to, tells};
 ghost use Rattle.cluster_parts.specs.Moves.{sending};
-ghost use Rattle.cluster_parts.specs.Posts.{Grows, Roomier};
+ghost use Rattle.cluster_parts.specs.Posts.{Grows};
 ghost use Rattle.cluster_laws.specs.Runs.{AreRising};
 ghost use Rattle.cluster_steps.specs.declared.entry.Verdict.TheVariants as verdicts;
 ghost use Rattle.told_streams.specs.Streams.{heard, kept_ids};
@@ -127,7 +127,7 @@ fn tell<P: Post>(
     ensures items { OnOk result (items.new ≡ items.old ++ map item_to outs.mails) }
     ensures streams { OnOk result (streams.new ≡ heard outs.opened outs.events streams.old) }
     ensures unchanged { OnErr result ((items.new ≡ items.old) × (streams.new ≡ streams.old)) }
-    ensures post { Roomier (P.count post.old) (P.count post.new) (P.gives post.old) (P.gives post.new) (P.direction_at post.old) (P.direction_at post.new) }
+    ensures post { P.known post.new ≡ P.known post.old }
     ensures room { OnOk result (length outs.mails ≤ P.room post.new) }
 {
     post.reserve(alloc, outs.mails.len())?;
@@ -166,7 +166,7 @@ pub fn settle<P: Post>(
 ) -> Made
     requires { IfOk answer (λ outs. AreRising (kept_ids streams.old ++ outs.opened)) }
     ensures settled { Settles answer result master.old master.new items.old items.new streams.old streams.new }
-    ensures post { Roomier (P.count post.old) (P.count post.new) (P.gives post.old) (P.gives post.new) (P.direction_at post.old) (P.direction_at post.new) }
+    ensures post { P.known post.new ≡ P.known post.old }
     ensures room { Grows (length items.old) (length items.new) (P.room post.new) }
 {
     match answer {

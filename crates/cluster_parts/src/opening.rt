@@ -4,7 +4,6 @@ ghost use Rattle.std.specs.Prelude.{◌≡◌, ◌≤◌, ◌++◌, [], length, 
 ghost use Rattle.cluster_parts.specs.Masters.{Settles, StandsFor};
 ghost use Rattle.cluster_parts.specs.Moves.{kept_agents};
 ghost use Rattle.cluster_parts.specs.Opening.{Opens, Starts, up_over};
-ghost use Rattle.cluster_parts.specs.Posts.{Roomier};
 ghost use Rattle.cluster_parts.specs.declared.masters.Made.{Made as MadeSo};
 ghost use Rattle.cluster_laws.specs.Parts.{configured};
 ghost use Rattle.cluster_laws.specs.Runs.{AreRising};
@@ -104,7 +103,7 @@ pub fn open_parts<P: Post>(
     requires configured { config.now ≡ map configured records.now }
     ensures opens { IfOk result (Opens run records.now) }
     ensures refused { IfErr result (λ fault. fault ≡ OutOfMemory) }
-    ensures post { Roomier (P.count post.old) (P.count post.new) (P.gives post.old) (P.gives post.new) (P.direction_at post.old) (P.direction_at post.new) }
+    ensures post { P.known post.new ≡ P.known post.old }
     ensures room { IfOk result (λ opened. length opened.items ≤ P.room post.new) }
 {
     openings_are_made();

@@ -79,7 +79,7 @@ fn draw(agent: &mut ClusterAgent, alloc: Global, cause: Cause) -> Prepared
 
 /// Whether a cause is a mail that the post can't hand out.
 fn is_withheld<P: Post>(post: &P, cause: &StepCause) -> bool
-    ensures { result ≡ is_withheld (P.gives post.now) cause.now }
+    ensures { result ≡ is_withheld (P.gives (P.known post.now)) cause.now }
 {
     match cause {
         StepCause::Mail(number) => !post.can_give(*number),
@@ -102,8 +102,8 @@ fn prepare_at<P: Post>(
     requires within { place < length agents.old }
     ensures made { IfOk result (λ prepared. (c : Cluster) → Reached c → agents.old ≡ kept_agents c → StandIn c items.now → Makes c (Prepare name.now (cause_of cause)) prepared.verdict (sending []) agents.new items.now) }
     ensures durable { IfOk result (λ prepared. prepared.durable ≡ record_prepared prepared.verdict name.now agents.new) }
-    ensures given { IfOk result (λ _. is_withheld (P.gives post.now) cause ≡ false) }
-    ensures refused { IfErr result (λ fault. (c : Cluster) → agents.old ≡ kept_agents c → StandIn c items.now → MayRefuse c (P.gives post.now) (Prepare name.now (cause_of cause)) fault) }
+    ensures given { IfOk result (λ _. is_withheld (P.gives (P.known post.now)) cause ≡ false) }
+    ensures refused { IfErr result (λ fault. (c : Cluster) → agents.old ≡ kept_agents c → StandIn c items.now → MayRefuse c (P.gives (P.known post.now)) (Prepare name.now (cause_of cause)) fault) }
     ensures unchanged { OnErr result (agents.new ≡ agents.old) }
 {
     prepares_are_made();
@@ -141,8 +141,8 @@ pub fn prepare<P: Post>(
     requires { LaunchAnew agents.old items.now }
     ensures made { IfOk result (λ prepared. (c : Cluster) → Reached c → agents.old ≡ kept_agents c → StandIn c items.now → Makes c (Prepare name.now (cause_of cause)) prepared.verdict (sending []) agents.new items.now) }
     ensures durable { IfOk result (λ prepared. prepared.durable ≡ record_prepared prepared.verdict name.now agents.new) }
-    ensures given { IfOk result (λ _. is_withheld (P.gives post.now) cause ≡ false) }
-    ensures refused { IfErr result (λ fault. (c : Cluster) → agents.old ≡ kept_agents c → StandIn c items.now → MayRefuse c (P.gives post.now) (Prepare name.now (cause_of cause)) fault) }
+    ensures given { IfOk result (λ _. is_withheld (P.gives (P.known post.now)) cause ≡ false) }
+    ensures refused { IfErr result (λ fault. (c : Cluster) → agents.old ≡ kept_agents c → StandIn c items.now → MayRefuse c (P.gives (P.known post.now)) (Prepare name.now (cause_of cause)) fault) }
     ensures unchanged { OnErr result (agents.new ≡ agents.old) }
 {
     prepares_are_made();

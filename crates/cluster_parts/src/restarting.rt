@@ -4,7 +4,7 @@ ghost use Rattle.std.specs.Prelude.{◌≡◌, ◌+◌, ◌++◌, length, true, 
 ghost use Rattle.cluster_parts.specs.Masters.{Settles, StandsFor, ends_with};
 ghost use Rattle.cluster_parts.specs.Moves.{Reached};
 ghost use Rattle.cluster_parts.specs.Opening.{Starts};
-ghost use Rattle.cluster_parts.specs.Posts.{Grows, Roomier};
+ghost use Rattle.cluster_parts.specs.Posts.{Grows};
 ghost use Rattle.cluster_parts.specs.Restarting.{Restarts, StandingOver, run_behind};
 ghost use Rattle.cluster_parts.specs.declared.masters.Made.{Made as MadeSo};
 ghost use Rattle.cluster_laws.specs.Parts.{configured};
@@ -79,7 +79,7 @@ pub fn stop_master<P: Post>(
 ) -> Made
     requires { StandingOver config.now run.old master.old items.old streams.old }
     ensures made { (c : Cluster) (r : Reached c) → config.now ≡ map configured r.records → c.world.run.number ≡ run.old → StandsFor c master.old items.old streams.old → Restarts c result run.new master.new items.new streams.new }
-    ensures post { Roomier (P.count post.old) (P.count post.new) (P.gives post.old) (P.gives post.new) (P.direction_at post.old) (P.direction_at post.new) }
+    ensures post { P.known post.new ≡ P.known post.old }
     ensures room { Grows (length items.old) (length items.new) (P.room post.new) }
 {
     restarts_are_made();

@@ -3,7 +3,7 @@
 ghost use Rattle.std.specs.Prelude.{◌≡◌, ◌+◌, ◌++◌, ◌∷◌, [], length, List, Option, Some, None, IfOk, IfErr, OnErr};
 ghost use Rattle.cluster_parts.specs.Masters.{MasterMakes, StandsFor, taking, taking_out};
 ghost use Rattle.cluster_parts.specs.Moves.{Makes, Reached, Refuses, kept_agents, sending};
-ghost use Rattle.cluster_parts.specs.Posts.{Grows, Roomier};
+ghost use Rattle.cluster_parts.specs.Posts.{Grows};
 ghost use Rattle.cluster_parts.specs.Sending.{MayLackEvent};
 ghost use Rattle.cluster_laws.specs.Items.{StandIn};
 ghost use Rattle.cluster_laws.specs.declared.item.Item.{Item};
@@ -68,7 +68,7 @@ pub fn send<P: Post>(
     ensures durable { IfOk result (λ made. made.durable ≡ None) }
     ensures memory { IfErr result (λ fault. fault ≡ OutOfMemory) }
     ensures unchanged { OnErr result (items.new ≡ items.old) }
-    ensures post { Roomier (P.count post.old) (P.count post.new) (P.gives post.old) (P.gives post.new) (P.direction_at post.old) (P.direction_at post.new) }
+    ensures post { P.known post.new ≡ P.known post.old }
     ensures room { Grows (length items.old) (length items.new) (P.room post.new) }
 {
     sends_are_made();

@@ -5,7 +5,7 @@ ghost use Rattle.cluster_parts.specs.Agents.{place_in};
 ghost use Rattle.cluster_parts.specs.Causes.{item_at};
 ghost use Rattle.cluster_parts.specs.Masters.{MasterMakes, Standing, StandingAt, StandingWith, StandsFor};
 ghost use Rattle.cluster_parts.specs.Moves.{Reached, Refuses, kept_agents};
-ghost use Rattle.cluster_parts.specs.Posts.{Grows, Roomier};
+ghost use Rattle.cluster_parts.specs.Posts.{Grows};
 ghost use Rattle.cluster_laws.specs.declared.item.Item.TheVariants as sent;
 ghost use Rattle.cluster_model.specs.Clusters.{Allocate, Cluster, Deliver, HangUp, LoseAgent, Tick};
 
@@ -36,7 +36,7 @@ pub fn allocate<P: Post>(
     ensures made { IfOk result (λ made. (c : Cluster) → Reached c → StandsFor c master.old items.old streams.old → MasterMakes c Allocate c.last_tick made master.new items.new streams.new) }
     ensures refused { IfErr result (λ fault. (c : Cluster) → StandsFor c master.old items.old streams.old → Refuses c Allocate fault) }
     ensures unchanged { OnErr result ((master.new ≡ master.old) × (items.new ≡ items.old) × (streams.new ≡ streams.old)) }
-    ensures post { Roomier (P.count post.old) (P.count post.new) (P.gives post.old) (P.gives post.new) (P.direction_at post.old) (P.direction_at post.new) }
+    ensures post { P.known post.new ≡ P.known post.old }
     ensures room { Grows (length items.old) (length items.new) (P.room post.new) }
 {
     answers_are_made();
@@ -63,7 +63,7 @@ pub fn tick<P: Post>(
     ensures made { IfOk result (λ made. (c : Cluster) → Reached c → c.last_tick ≡ last_tick → StandsFor c master.old items.old streams.old → MasterMakes c (Tick now) now made master.new items.new streams.new) }
     ensures refused { IfErr result (λ fault. (c : Cluster) → c.last_tick ≡ last_tick → StandsFor c master.old items.old streams.old → Refuses c (Tick now) fault) }
     ensures unchanged { OnErr result ((master.new ≡ master.old) × (items.new ≡ items.old) × (streams.new ≡ streams.old)) }
-    ensures post { Roomier (P.count post.old) (P.count post.new) (P.gives post.old) (P.gives post.new) (P.direction_at post.old) (P.direction_at post.new) }
+    ensures post { P.known post.new ≡ P.known post.old }
     ensures room { Grows (length items.old) (length items.new) (P.room post.new) }
 {
     answers_are_made();
@@ -94,7 +94,7 @@ pub fn deliver_call<P: Post>(
     ensures made { IfOk result (λ made. (c : Cluster) → Reached c → StandsFor c master.old items.old streams.old → MasterMakes c (Deliver number) c.last_tick made master.new items.new streams.new) }
     ensures refused { IfErr result (λ fault. (c : Cluster) → StandsFor c master.old items.old streams.old → Refuses c (Deliver number) fault) }
     ensures unchanged { OnErr result ((master.new ≡ master.old) × (items.new ≡ items.old) × (streams.new ≡ streams.old)) }
-    ensures post { Roomier (P.count post.old) (P.count post.new) (P.gives post.old) (P.gives post.new) (P.direction_at post.old) (P.direction_at post.new) }
+    ensures post { P.known post.new ≡ P.known post.old }
     ensures room { Grows (length items.old) (length items.new) (P.room post.new) }
 {
     answers_are_made();
@@ -121,7 +121,7 @@ pub fn hang_up<P: Post>(
     ensures made { IfOk result (λ made. (c : Cluster) → Reached c → StandsFor c master.old items.old streams.old → MasterMakes c (HangUp id) c.last_tick made master.new items.new streams.new) }
     ensures refused { IfErr result (λ fault. (c : Cluster) → StandsFor c master.old items.old streams.old → Refuses c (HangUp id) fault) }
     ensures unchanged { OnErr result ((master.new ≡ master.old) × (items.new ≡ items.old) × (streams.new ≡ streams.old)) }
-    ensures post { Roomier (P.count post.old) (P.count post.new) (P.gives post.old) (P.gives post.new) (P.direction_at post.old) (P.direction_at post.new) }
+    ensures post { P.known post.new ≡ P.known post.old }
     ensures room { Grows (length items.old) (length items.new) (P.room post.new) }
 {
     answers_are_made();
@@ -159,7 +159,7 @@ pub fn lose_agent<P: Post>(
     ensures made { IfOk result (λ made. (c : Cluster) → Reached c → agents.now ≡ kept_agents c → StandsFor c master.old items.old streams.old → MasterMakes c (LoseAgent name.now) c.last_tick made master.new items.new streams.new) }
     ensures refused { IfErr result (λ fault. (c : Cluster) → agents.now ≡ kept_agents c → StandsFor c master.old items.old streams.old → Refuses c (LoseAgent name.now) fault) }
     ensures unchanged { OnErr result ((master.new ≡ master.old) × (items.new ≡ items.old) × (streams.new ≡ streams.old)) }
-    ensures post { Roomier (P.count post.old) (P.count post.new) (P.gives post.old) (P.gives post.new) (P.direction_at post.old) (P.direction_at post.new) }
+    ensures post { P.known post.new ≡ P.known post.old }
     ensures room { Grows (length items.old) (length items.new) (P.room post.new) }
 {
     answers_are_made();

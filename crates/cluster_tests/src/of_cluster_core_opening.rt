@@ -2,10 +2,11 @@
 
 ghost use Rattle.std.specs.Prelude.{◌<◌};
 
-use cluster_core::good_opening;
+use cluster_core::{Cluster, Sent, good_opening};
 use mails::Durable;
 use master_core::Config;
 use names_core::Run;
+use post_rules::EverSent;
 use record_text::record_of;
 use std::alloc::Global;
 use step_lines::read_config;
@@ -15,6 +16,9 @@ const AGENTS: &str = r#"{"agents":{"a":{"cpus":4},"b":{"cpus":4}}}"#;
 const A: &str = r#"{"name":"a","run":0,"session":0,"tasks":[],"total":{"cpus":4},"version":1}"#;
 
 const B: &str = r#"{"name":"b","run":0,"session":0,"tasks":[],"total":{"cpus":4},"version":1}"#;
+
+const LARGER_B: &str =
+    r#"{"name":"b","run":0,"session":0,"tasks":[],"total":{"cpus":5},"version":1}"#;
 
 const A_IN_RUN_2: &str =
     r#"{"name":"a","run":2,"session":2,"tasks":[],"total":{"cpus":4},"version":1}"#;
@@ -43,14 +47,16 @@ const B_WITH_THE_KEY_OF_A: &str =
     r#"{"name":"b","run":2,"session":2,"tasks":[{"acked":0,"framework":"F1-1","key":"L2-1","name":"t","offers":["O2-1"],"resources":{"cpus":4},"updates":[]}],"total":{"cpus":4},"version":1}"#;
 
 /// The first record, the second one, the run, and whether they are a good opening.
-const OPENINGS: [(&str, &str, u16, bool); 9] = [
+const OPENINGS: [(&str, &str, u16, bool); 11] = [
     (A, B, 1, true),
-    (B, A, 1, false),
+    (B, A, 1, true),
     (A, A, 1, false),
+    (A, LARGER_B, 1, false),
     (A_IN_RUN_2, B, 3, true),
     (A_IN_RUN_3, B, 3, false),
     (BUSY_A_IN_RUN_1, B, 2, false),
     (BUSY_A, BUSY_B, 3, true),
+    (BUSY_B, BUSY_A, 3, true),
     (BUSY_A, B_WITH_THE_KEY_OF_A, 3, false),
     (OVERFULL_A, B, 3, false),
 ];
@@ -63,7 +69,7 @@ fn configured(alloc: Global) -> Option<Config> {
     read_config(alloc, AGENTS.as_bytes()).ok()
 }
 
-fn is_good(alloc: Global, records: &[Durable], run: u16) -> Option<bool>
+fn is_good(alloc: Global, records: &mut [Durable], run: u16) -> Option<bool>
     requires { 0 < run }
 {
     let config = configured(alloc)?;
@@ -82,11 +88,33 @@ fn opens(alloc: Global, first: &str, second: &str, run: u16) -> Option<bool> {
     }
     let mut records = Vec::new(alloc);
     push_both(&mut records, alloc, first, second)?;
-    is_good(alloc, records.as_slice(), run)
+    is_good(alloc, records.as_mut_slice(), run)
+}
+
+fn is_to(sent: Option<&Sent>, name: &str) -> bool {
+    match sent {
+        Some(Sent::ToAgent(to)) => to.agent.as_text() == name,
+        _ => false,
+    }
+}
+
+/// Whether a cluster that is opened over the records of b and a greets a first; none where memory was refused.
+fn greets_by_name(alloc: Global) -> Option<bool> {
+    let config = configured(alloc)?;
+    let mut records = Vec::new(alloc);
+    push_both(&mut records, alloc, B, A)?;
+    let run = Run::new(1);
+    if !good_opening(&config, records.as_mut_slice(), run) {
+        return Some(false);
+    }
+    let cluster: Cluster<EverSent> = Cluster::open(alloc, config, records, run).ok()?;
+    let sent = cluster.opened().sent.as_slice();
+    Some(is_to(sent.first(), "a") && is_to(sent.get(1), "b"))
 }
 
 #[test]
 fn records_are_a_good_opening(rt: HostRuntime) {
+    assert!(rt; greets_by_name(rt.alloc()) == Some(true));
     for i in 0..OPENINGS.len() {
         let (first, second, run, is) = OPENINGS[i];
         assert!(rt;

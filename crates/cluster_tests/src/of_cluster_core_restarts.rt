@@ -37,10 +37,10 @@ fn records(alloc: Global, config: &Config, text: Option<&str>) -> Option<Vec<Dur
 fn opened(
     alloc: Global,
     config: Config,
-    records: Vec<Durable>,
+    mut records: Vec<Durable>,
     run: Run,
 ) -> Option<Cluster<EverSent>> {
-    if good_opening(&config, &records, run) {
+    if good_opening(&config, records.as_mut_slice(), run) {
         Cluster::open(alloc, config, records, run).ok()
     } else {
         None

@@ -1,5 +1,8 @@
 //! Why a folder isn't opened.
 
+ghost use Rattle.std.specs.Prelude.{◌≡◌};
+ghost use Rattle.file_records.specs.declared.fault.FolderFault.TheVariants.{OutOfMemory};
+
 use keep_store::KeepFault;
 use std::alloc::{AllocError, AllocFailed};
 use std::fmt;
@@ -19,18 +22,24 @@ pub enum FolderFault {
 }
 
 impl From<AllocError> for FolderFault {
+    ghost from_gives = { λ _ fault. fault ≡ OutOfMemory };
+
     fn from(_e: AllocError) -> FolderFault {
         FolderFault::OutOfMemory
     }
 }
 
 impl<T: Drop> From<AllocFailed<T>> for FolderFault {
+    ghost from_gives = { λ _ fault. fault ≡ OutOfMemory };
+
     fn from(_e: AllocFailed<T>) -> FolderFault {
         FolderFault::OutOfMemory
     }
 }
 
 impl From<fmt::Error> for FolderFault {
+    ghost from_gives = { λ _ fault. fault ≡ OutOfMemory };
+
     fn from(_e: fmt::Error) -> FolderFault {
         FolderFault::OutOfMemory
     }

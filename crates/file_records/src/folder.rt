@@ -1,8 +1,11 @@
 //! A folder of stores.
 
-ghost use Rattle.std.specs.Prelude.{◌≡◌, map, IfOk};
-ghost use Rattle.cluster_laws.specs.Parts.{configured};
+ghost use Rattle.std.specs.Prelude.{◌≡◌, IfOk, IfErr, IfSome, IfNone, OnOk};
+ghost use Rattle.cluster_core.specs.Records.{AreRecordsOf};
+ghost use Rattle.cluster_model.specs.Agents as agents;
 ghost use Rattle.cluster_model.specs.Openings.{GoodOpening};
+ghost use Rattle.file_records.specs.Refusals.{IsFileRefusal, IsFolderRefusal, IsRecordRefusal, IsStoreRefusal};
+ghost use Rattle.file_records.specs.declared.fault.FolderFault.TheVariants.{NoCluster};
 
 use crate::cabinet::{RecordFile, load_at};
 use crate::fault::FolderFault;
@@ -13,7 +16,6 @@ use keep_store::{KeepFault, Keeper};
 use mails::Durable;
 use names_core::Run;
 use plain_data::Plain;
-use quantity::Resources;
 use std::alloc::Global;
 
 /// What a folder keeps of a cluster.
@@ -21,14 +23,16 @@ use std::alloc::Global;
 pub struct Folder<'a> {
     /// The master's run, which was taken for it.
     pub run: Run,
-    /// The agents' records, in the order of the configuration.
+    /// The agents' records, one for each.
     pub records: Vec<Durable>,
-    /// Where they are kept, in the same order.
+    /// Where they are kept, in the order of the configuration.
     pub files: Vec<RecordFile<'a>>,
 }
 
 /// The next run of the master, from the store of its runs in a folder.
-fn next_run(rt: &HostRuntime, folder: &str) -> Result<Run, FolderFault> {
+fn next_run(rt: &HostRuntime, folder: &str) -> Result<Run, FolderFault>
+    ensures { IfErr result IsStoreRefusal }
+{
     let path = format!(in rt.alloc(); "{folder}/master.db")?;
     match run_at(rt, path.as_str()) {
         Ok(run) => Ok(run),
@@ -45,20 +49,22 @@ fn run_at(rt: &HostRuntime, path: &str) -> Result<Run, KeepFault> {
     }
 }
 
-fn is_same_total(total: &Resources, other: &Resources) -> bool {
-    total.covers(other) && other.covers(total)
-}
-
-/// The record of an agent that has one of this total, else a fresh one.
+/// The record of an agent: the one that was found, which has its total, or else a fresh one. Z1 where the one that was found has another total, K4 for want of
+/// memory.
 fn record_of(
     alloc: Global,
     agent: &ConfiguredAgent,
     found: Option<Durable>,
-) -> Result<Durable, FolderFault> {
+) -> Result<Durable, FolderFault>
+    ensures found { IfOk result (λ kept. IfSome found (λ d. kept ≡ d)) }
+    ensures fresh { IfOk result (λ kept. IfNone found (kept ≡ agents.fresh agent.now.name agent.now.total)) }
+    ensures total { IfOk result (λ kept. kept.total ≡ agent.now.total) }
+    ensures refused { IfErr result (IsRecordRefusal agent.now found) }
+{
     let Some(record) = found else {
         return Ok(fresh(alloc, agent.name.copy()?, agent.total.copy()?));
     };
-    if !is_same_total(&record.total, &agent.total) {
+    if !record.total.is_same(&agent.total) {
         return Err(FolderFault::TotalDiffers {
             agent: String::from_str(alloc, agent.name.as_text())?,
         });
@@ -71,7 +77,10 @@ fn open_agent<'a>(
     rt: &'a HostRuntime,
     folder: &str,
     agent: &ConfiguredAgent,
-) -> Result<(Durable, RecordFile<'a>), FolderFault> {
+) -> Result<(Durable, RecordFile<'a>), FolderFault>
+    ensures total { IfOk result (λ opened. opened.0.total ≡ agent.now.total) }
+    ensures refused { IfErr result (IsFileRefusal agent.now) }
+{
     let name = agent.name.as_text();
     let path = format!(in rt.alloc(); "{folder}/agent-{name}.db")?;
     let found = match load_at(rt, path.as_str()) {
@@ -83,6 +92,19 @@ fn open_agent<'a>(
     Ok((record, RecordFile::new(rt, name, path)))
 }
 
+/// Refuses records that are those of no one cluster of these agents in this run.
+fn check_opening(config: &Config, records: &mut [Durable], run: Run) -> Result<(), FolderFault>
+    ensures good { OnOk result (GoodOpening run records.new) }
+    ensures records { OnOk result (AreRecordsOf config.now records.new) }
+    ensures refused { IfErr result (λ fault. (fault ≡ NoCluster) × ((GoodOpening run records.old × AreRecordsOf config.now records.old) → ⊥)) }
+{
+    if good_opening(config, records, run) {
+        Ok(())
+    } else {
+        Err(FolderFault::NoCluster)
+    }
+}
+
 /// Opens the stores of a folder, or makes those that lack: takes the master's next run, and reads the agents' records, a fresh one where there is none.
 /// The folder itself is to be there. Refusals come in the order: the store of runs, each agent's store and its total (Z1) in the order of their names, and
 /// then K2 where the records are those of no cluster.
@@ -92,7 +114,8 @@ pub fn open_folder<'a>(
     config: &Config,
 ) -> Result<Folder<'a>, FolderFault>
     ensures good { IfOk result (λ opened. GoodOpening opened.run opened.records.items) }
-    ensures configured { IfOk result (λ opened. config.now ≡ map configured opened.records.items) }
+    ensures records { IfOk result (λ opened. AreRecordsOf config.now opened.records.items) }
+    ensures refused { IfErr result (IsFolderRefusal config.now) }
 {
     let run = next_run(rt, folder)?;
     let mut records = Vec::new(rt.alloc());
@@ -102,9 +125,7 @@ pub fn open_folder<'a>(
         records.push(record)?;
         files.push(file)?;
     }
-    if !good_opening(config, records.as_slice(), run) {
-        return Err(FolderFault::NoCluster);
-    }
+    check_opening(config, records.as_mut_slice(), run)?;
     Ok(Folder {
         run,
         records,

@@ -1,9 +1,9 @@
 //! The command `serve`: a cluster that runs over a folder of records, with what is said on standard error, and the exit status.
 
-ghost use Rattle.std.specs.Prelude.{◌≡◌, map, IfOk};
+ghost use Rattle.std.specs.Prelude.{◌≡◌, IfOk};
 ghost use Rattle.std.specs.Io.KnownBytes.{Keeps};
 ghost use Rattle.std.specs.Process.{exit_status};
-ghost use Rattle.cluster_laws.specs.Parts.{configured};
+ghost use Rattle.cluster_core.specs.Records.{AreRecordsOf};
 ghost use Rattle.cluster_model.specs.Openings.{GoodOpening};
 ghost use Rattle.mesos_node.specs.Statuses.{IsStatus, status_of_fault};
 ghost use Rattle.mesos_node.specs.Ends.{AppendsTable, IsEndTable};
@@ -42,7 +42,7 @@ fn serve_folder<R: Threads + Wait + Clock + Sync>(
     listener: &TcpListener,
 ) -> Result<Vec<u8>, ServeFault>
     requires good { GoodOpening folder.run folder.records.items }
-    requires configured { config ≡ map configured folder.records.items }
+    requires records { AreRecordsOf config folder.records.items }
     ensures { IfOk result (λ text. IsEndTable text.items) }
 {
     let Folder {

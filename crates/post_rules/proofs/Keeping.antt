@@ -12,7 +12,7 @@ use Rattle.post_rules.specs.declared.direction.Direction.{Direction}
 use Rattle.post_rules.specs.declared.direction.Direction.TheVariants.{Call, ToAgent, FromAgent}
 use Rattle.post_rules.specs.declared.stores.Lasts.{Lasts}
 use Rattle.post_rules.specs.declared.stores.Sent.{Sent}
-use Rattle.post_rules.specs.Queueing.{Item, direction_in, handed_over, hands_out, is_next, nothing_waits, same_queue}
+use Rattle.post_rules.specs.Queueing.{Item, direction_in, handed_over, hands_out, is_next, nothing_waits, same_queue, with_given}
 use Rattle.post_rules.specs.Stores.{AreInOrder, AreLasts, IsLast, LastsByAgent, given_sent, item_of, items_of, last_in}
 use Rattle.post_rules.proofs.Lists.{each_passes, get_of_one_more, get_of_set, take_of_get}
 
@@ -250,3 +250,6 @@ lasts_there xs ys m e h = rw e h
 
 pub as_many : (xs : List Sent) (k : ℕ) (x : Sent) → length (items_of (set xs k (given_sent x))) ≡ length (items_of xs)
 as_many xs k x = length-map (set xs k (given_sent x)) item_of ∙ (length-set xs k (given_sent x) ∙ sym (length-map xs item_of))
+
+pub given_at : (items : List Item) (n : ℕ) (i : Item) → slice_get items (n - 1) ≡ Some i → with_given items n ≡ set items (n - 1) (handed_over i)
+given_at items n i at = rw at refl

@@ -1,5 +1,5 @@
 -- Calls and queues of mails, of which each is handed out once.
-use Rattle.std.specs.Prelude.{◌≡◌, IfSome, ℕ, zero, suc, ◌-◌, List, [], Bool, true, false, ◌&&◌, ◌||◌, not, ◌==◌, nat_lt, take, Option, None, Some, option_map}
+use Rattle.std.specs.Prelude.{◌≡◌, ◌<◌, IfSome, ℕ, zero, suc, ◌-◌, List, [], ◌∷◌, ◌++◌, Bool, true, false, ◌&&◌, ◌||◌, not, ◌==◌, nat_lt, set, take, Option, None, Some, option_map, unwrap_or}
 use Rattle.std.specs.List.{slice_get, list_all}
 use Rattle.post_rules.specs.declared.direction.Direction.{Direction}
 use Rattle.post_rules.specs.declared.direction.Direction.TheVariants.{ToAgent, FromAgent}
@@ -39,6 +39,22 @@ IsFirstWaiting d items n = (hands_out items n ≡ true) × IfSome (slice_get ite
 
 abbrev pub handed_over : Item → Item
 handed_over i = record { direction = i.direction; given = true }
+
+-- this number, from 1, was handed out
+abbrev pub WasGiven : List Item → ℕ → Type 0
+WasGiven items n = (0 < n) × (i : Item) × (slice_get items (n - 1) ≡ Some i) × (i.given ≡ true)
+
+-- all mails that were put before it in its queue were handed out
+abbrev pub AreBeforeGiven : List Item → ℕ → Type 0
+AreBeforeGiven items n = (m : ℕ) (i j : Item) → 0 < m → m < n → slice_get items (m - 1) ≡ Some i → slice_get items (n - 1) ≡ Some j → same_queue j.direction i.direction ≡ true → WasGiven items m
+
+-- one more was put
+abbrev pub with_put : List Item → Direction → List Item
+with_put items d = items ++ record { direction = d; given = false } ∷ []
+
+-- the item of this number was handed out
+abbrev pub with_given : List Item → ℕ → List Item
+with_given items n = unwrap_or (option_map (λ i. set items (n - 1) (handed_over i)) (slice_get items (n - 1))) items
 
 -- what was put, in order, and how many more can be put without memory
 pub record Post : Type 0 where

@@ -1,6 +1,6 @@
 //! What was ever sent.
 
-ghost use Rattle.std.specs.Prelude.{◌≡◌, ◌-◌, ◌≤◌, ℕ, None};
+ghost use Rattle.std.specs.Prelude.{◌≡◌, ◌-◌, ◌≤◌, ℕ, suc, None};
 ghost use Rattle.post_rules.specs.Numbers.{is_number, numbers_are_from_one};
 
 use crate::direction::Direction;
@@ -14,15 +14,25 @@ pub struct EverSent {
 }
 
 impl Post for EverSent {
-    ghost count = { λ p. p.count };
+    ghost Known = { ℕ };
 
-    ghost gives = { λ p n. is_number p.count n };
+    ghost known = { λ p. p.count };
+
+    ghost nothing = { 0 };
+
+    ghost with_put = { λ count d. suc count };
+
+    ghost with_given = { λ count n. count };
+
+    ghost count = { λ count. count };
+
+    ghost gives = { λ count n. is_number count n };
+
+    ghost direction_at = { λ count n. None };
 
     ghost room = { λ p. 18446744073709551615 - p.count };
 
-    ghost direction_at = { λ p n. None };
-
-    ghost was_put = { λ p n e. numbers_are_from_one p.count n e };
+    ghost was_put = { λ count n e. numbers_are_from_one count n e };
 
     fn empty() -> EverSent {
         EverSent { count: 0 }

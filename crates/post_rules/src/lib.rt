@@ -3,11 +3,13 @@
 
 mod direction;
 mod ever_sent;
+mod laws;
 mod post;
 mod queues;
 mod stores;
 
 pub use direction::Direction;
 pub use ever_sent::EverSent;
+pub use laws::queues_hand_out_once;
 pub use post::Post;
 pub use queues::Queues;

@@ -1,7 +1,7 @@
 //! Queues of what was put.
 
-ghost use Rattle.std.specs.Prelude.{◌≡◌, ◌<◌, ◌≤◌, ◌-◌, ◌++◌, ◌∷◌, [], ℕ, suc, true, false, length, set, slice_get, IfNone, IfSome, Some};
-ghost use Rattle.post_rules.specs.Queueing.{IsFirstWaiting, Item, direction_in, handed_over, hands_out, nothing_waits};
+ghost use Rattle.std.specs.Prelude.{◌≡◌, ◌<◌, ◌≤◌, ℕ, suc, true, false, length, IfNone, IfSome, Some};
+ghost use Rattle.post_rules.specs.Queueing.{IsFirstWaiting, Item, direction_in, hands_out, nothing_waits, with_given, with_put};
 
 use crate::direction::Direction;
 use crate::post::Post;
@@ -26,19 +26,29 @@ impl Model for Queues {
 }
 
 impl Post for Queues {
-    ghost use Rattle.std.specs.Prelude.{length};
-    ghost use Rattle.post_rules.specs.Queueing.{direction_in, hands_out};
+    ghost use Rattle.std.specs.Prelude.{List, [], length};
+    ghost use Rattle.post_rules.specs.Queueing.{direction_in, hands_out, with_given, with_put};
     ghost use Rattle.post_rules.specs.Numbers.{handed_out_was_put};
 
-    ghost count = { λ p. length p.items };
+    ghost Known = { List Item };
 
-    ghost gives = { λ p n. hands_out p.items n };
+    ghost known = { λ p. p.items };
+
+    ghost nothing = { [] };
+
+    ghost with_put = { λ items d. with_put items d };
+
+    ghost with_given = { λ items n. with_given items n };
+
+    ghost count = { λ items. length items };
+
+    ghost gives = { λ items n. hands_out items n };
+
+    ghost direction_at = { λ items n. direction_in items n };
 
     ghost room = { λ p. p.room };
 
-    ghost direction_at = { λ p n. direction_in p.items n };
-
-    ghost was_put = { λ p n e. handed_out_was_put p.items n e };
+    ghost was_put = { λ items n e. handed_out_was_put items n e };
 
     fn empty() -> Queues {
         Queues { stores: None }
@@ -57,7 +67,7 @@ impl Post for Queues {
     // What is put waits behind all that was put,
     fn put(&mut self, direction: Direction)
         requires { 0 < self.old.room }
-        ensures items { self.new.items ≡ self.old.items ++ record { direction = direction; given = false } ∷ [] }
+        ensures items { self.new.items ≡ with_put self.old.items direction }
         ensures room { self.old.room ≤ suc self.new.room }
         // leaves what can be handed out of that as it was,
         ensures older { (n : ℕ) → n ≤ length self.old.items → hands_out self.new.items n ≡ hands_out self.old.items n }
@@ -83,7 +93,7 @@ impl Post for Queues {
     fn given(&mut self, n: u64)
         requires { hands_out self.old.items n ≡ true }
         ensures count { length self.new.items ≡ length self.old.items }
-        ensures items { (i : Item) → slice_get self.old.items (n - 1) ≡ Some i → self.new.items ≡ set self.old.items (n - 1) (handed_over i) }
+        ensures items { self.new.items ≡ with_given self.old.items n }
         ensures room { self.new.room ≡ self.old.room }
         ensures once { hands_out self.new.items n ≡ false }
         ensures directions { (m : ℕ) → direction_in self.new.items m ≡ direction_in self.old.items m }

@@ -2,7 +2,7 @@
 
 ghost use Rattle.std.specs.Prelude.{◌≡◌, ◌<◌, ◌≤◌, ◌-◌, ◌+◌, ◌++◌, ◌∷◌, [], ℕ, suc, Bool, true, false, length, not, ◌||◌, nat_eq, if◌then◌else◌, set, slice_get, take, vec_capacity, IfNone, IfSome, OnOk, Some};
 ghost use Rattle.std.specs.HashMap.{spare};
-ghost use Rattle.post_rules.specs.Queueing.{IsFirstWaiting, Item, direction_in, handed_over, hands_out, is_next, nothing_waits, same_queue};
+ghost use Rattle.post_rules.specs.Queueing.{IsFirstWaiting, direction_in, hands_out, is_next, nothing_waits, same_queue, with_given, with_put};
 ghost use Rattle.post_rules.specs.Stores.{AreInOrder, IsFirstOrNone, IsLast, given_sent, items_of, lasts_of, last_in};
 
 use crate::direction::Direction;
@@ -157,7 +157,7 @@ impl Stores {
     /// What is put waits behind all that was put.
     pub(crate) fn put(&mut self, direction: Direction)
         requires { 0 < self.old.room }
-        ensures items { self.new.items ≡ self.old.items ++ record { direction = direction; given = false } ∷ [] }
+        ensures items { self.new.items ≡ with_put self.old.items direction }
         ensures room { self.old.room ≤ suc self.new.room }
         ensures older { (n : ℕ) → n ≤ length self.old.items → hands_out self.new.items n ≡ hands_out self.old.items n }
         ensures newest { hands_out self.new.items (suc (length self.old.items)) ≡ nothing_waits direction self.old.items }
@@ -195,7 +195,7 @@ impl Stores {
     pub(crate) fn given(&mut self, n: u64)
         requires { hands_out self.old.items n ≡ true }
         ensures count { length self.new.items ≡ length self.old.items }
-        ensures items { (i : Item) → slice_get self.old.items (n - 1) ≡ Some i → self.new.items ≡ set self.old.items (n - 1) (handed_over i) }
+        ensures items { self.new.items ≡ with_given self.old.items n }
         ensures room { self.new.room ≡ self.old.room }
         ensures once { hands_out self.new.items n ≡ false }
         ensures directions { (m : ℕ) → direction_in self.new.items m ≡ direction_in self.old.items m }

@@ -5,14 +5,13 @@ use Rattle.cluster_steps.specs.declared.fault.ClusterFault.{ClusterFault}
 use Rattle.cluster_steps.specs.declared.fault.ClusterFault.TheVariants as faults
 use Rattle.cluster_steps.specs.declared.step.Step.{Step}
 use Rattle.cluster_steps.specs.Steps.{step_of}
-use Rattle.cluster_core.specs.Keeping.{IsRefused, IsTaken, Known}
+use Rattle.cluster_core.specs.Keeping.{IsRefused, IsTaken, Known, known_after}
 use Rattle.cluster_core.specs.Safety.{Safe}
 use Rattle.cluster_core.specs.Stories.{IsLegal, state_of}
 use Rattle.cluster_parts.specs.Handing.{IsGiven}
-use Rattle.cluster_parts.specs.Posts.{Roomier}
 use Rattle.desk_lock.specs.declared.fault.FaultKind.{FaultKind}
 use Rattle.desk_lock.specs.declared.fault.FaultKind.TheVariants as kinds
-use Rattle.post_rules.specs.Queueing.{Post, direction_in, hands_out}
+use Rattle.post_rules.specs.Queueing.{Post, hands_out, with_given, with_put}
 use Rattle.recorded_cluster.specs.declared.given.Given.{Given}
 
 abbrev pub Recorded : Type 0
@@ -29,10 +28,11 @@ pub record IsSound (c : Recorded) : Type 0 where
   pub legal : IsLegal c.story
   pub safe : Safe c.story
 
--- a step was taken, what it hands out was its queue's first, and its sendings have the numbers behind those of all that was sent before
+-- a step was taken: what it hands out was its queue's first, and isn't handed out again; what it sends has the numbers behind those of all that was sent before
 pub record Takes (old : Recorded) (step : Step) (given : Given) (new : Recorded) : Type 0 where
   pub taken : IsTaken old.story step given.taken new.story
   pub handed : IsGiven (hands_out old.post.items) (step_of step)
+  pub posted : new.post.items ≡ known_after with_given with_put old.story (step_of step) new.story old.post.items
   pub numbered : given.sent_before ≡ length (state_of old.story).posts
 
 -- why it refuses a step
@@ -42,7 +42,7 @@ MayRefuse c step fault = IsRefused (state_of c.story) (hands_out c.post.items) (
 -- they tell the same story, and hand out the same
 pub record AreAlike (old new : Recorded) : Type 0 where
   pub story : new.story ≡ old.story
-  pub post : Roomier (length old.post.items) (length new.post.items) (hands_out old.post.items) (hands_out new.post.items) (direction_in old.post.items) (direction_in new.post.items)
+  pub post : new.post.items ≡ old.post.items
 
 pub alike_itself : (c : Recorded) → AreAlike c c
-alike_itself c = record { story = refl; post = record { same_count = refl; same_gives = λ n. refl; same_directions = λ n. refl } }
+alike_itself c = record { story = refl; post = refl }

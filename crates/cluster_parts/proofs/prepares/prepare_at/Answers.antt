@@ -61,7 +61,7 @@ returns-then-is_withheld-clause-refused g c = λ c' same stand.
     let as_ = c.args.agents.now in
     let a = get_or as_ c.args.place c.index-agents-place.result in
     let k = at_kept c' as_ c.args.name.now c.args.place a same c.requires.place (slice_get-get_or as_ c.args.place c.index-agents-place.result c.requires.within) in
-    c.prepares_are_made.ensures.withheld c' c.args.name.now c.args.place a c.args.cause (g.P.Post.gives c.args.post.now) k.0 k.1
+    c.prepares_are_made.ensures.withheld c' c.args.name.now c.args.place a c.args.cause (g.P.Post.gives (g.P.Post.known c.args.post.now)) k.0 k.1
     (sym c.is_down.ensures ∙ c.if-is_down.false) (none_open a.part.draft (sym c.has_draft.ensures ∙ c.if-has_draft.false)) (sym c.is_withheld.ensures ∙ c.if-is_withheld.true)
 
 pub returns-in-Ok-Some-clause-durable : goal.returns-in-Ok-Some-clause-durable

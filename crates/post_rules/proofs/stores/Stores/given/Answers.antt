@@ -1,9 +1,9 @@
-use Rattle.std.proofs.Common.{◌≡◌, ◌-◌, true, length, refl, ap, ◌∙◌}
+use Rattle.std.proofs.Common.{◌≡◌, ◌-◌, true, length, ap, sym, ◌∙◌}
 use Rattle.std.proofs.lemmas.List.{length-set}
-use Rattle.post_rules.specs.Queueing.{direction_in, hands_out}
+use Rattle.post_rules.specs.Queueing.{direction_in, hands_out, with_given}
 use Rattle.post_rules.specs.Stores.{given_sent, item_of, items_of}
 use Rattle.post_rules.proofs.Handing.{item_at}
-use Rattle.post_rules.proofs.Keeping.{as_many, directions_stay, given_once, hands_out_front, items_with_given, lasts_there, lasts_with_given, order_after_front, order_along}
+use Rattle.post_rules.proofs.Keeping.{as_many, directions_stay, given_at, given_once, hands_out_front, items_with_given, lasts_there, lasts_with_given, order_after_front, order_along}
 use Rattle.post_rules.proofs.stores.Stores.given.Goals as goal
 
 pub invariant_of-self : goal.invariant_of-self
@@ -17,13 +17,14 @@ invariant_of-self c =
     )
 
 pub returns-clause-items : goal.returns-clause-items
-returns-clause-items c i at =
+returns-clause-items c =
     let xs = c.self.inside.sent.items in
-    let items : items_of xs ≡ c.args.self.now.items = ap (λ p. p.items) c.self.view_is in
     let gives : hands_out (items_of xs) c.args.n ≡ true = ap (λ p. hands_out p.items c.args.n) c.self.view_is ∙ c.requires in
     let front = hands_out_front xs c.args.n gives in
     let is = c.hand_out.ensures.items front.0 front.1.at in
-    ap items_of is ∙ (items_with_given xs (c.args.n - 1) front.0 i front.1.at (rw items at) ∙ rw items refl)
+    let at = item_at xs (c.args.n - 1) front.0 front.1.at in
+    let then = ap items_of is ∙ items_with_given xs (c.args.n - 1) front.0 (item_of front.0) front.1.at at in
+    then ∙ (sym (given_at (items_of xs) c.args.n (item_of front.0) at) ∙ ap (λ p. with_given p.items c.args.n) c.self.view_is)
 
 pub returns-clause-once : goal.returns-clause-once
 returns-clause-once c =

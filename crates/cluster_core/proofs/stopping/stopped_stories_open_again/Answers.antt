@@ -1,0 +1,24 @@
+use Rattle.std.proofs.Common.{◌<◌, ◌∙◌, ℕ, List, ap, map}
+use Rattle.mails.specs.declared.record.Durable.{Durable}
+use Rattle.cluster_laws.specs.Parts.{configured}
+use Rattle.cluster_model.specs.Openings.{GoodOpening}
+use Rattle.cluster_steps.specs.Steps.{marked_of}
+use Rattle.cluster_core.specs.Records.{in_order}
+use Rattle.cluster_core.specs.Stopping.{AreFound, live_of}
+use Rattle.cluster_core.specs.Stories.{IsLegal, Story, opened_over, state_of}
+use Rattle.cluster_core.proofs.Found.{found_in_order, found_of, live_so}
+use Rattle.cluster_core.proofs.Permuted.{good_permuted}
+use Rattle.cluster_core.proofs.stopping.stopped_stories_open_again.Goals as goal
+
+pub returns : goal.returns
+returns c = record {
+  good = good;
+  records = λ s found legal f. found_of s.run s.records (map marked_of s.entries) found legal.good f;
+  live = λ s later found legal above f.
+      let records = in_order (map configured s.records) found in
+      live_so (state_of (opened_over later (map configured s.records) found)).world.channels records (c.masters_leave_agents.ensures.opening later records)
+      ∙ ap live_of (found_in_order s.run s.records (map marked_of s.entries) later found legal.good f (good s later found legal above f));
+}
+  where
+    good : (s : Story) (later : ℕ) (found : List Durable) → IsLegal s → (state_of s).world.run.number < later → AreFound (state_of s) found → GoodOpening later found
+    good s later found legal above f = good_permuted later f.by_agent found f.moved (c.found_records_open_again.ensures s.run s.records (map marked_of s.entries) later f.by_agent legal.good above f.is_found)

@@ -1,0 +1,28 @@
+-- The records of configured agents, in any order.
+use Rattle.std.specs.Prelude.{◌≡◌, Bool, List, filter, flat_map, bytes_eq}
+use Rattle.std.specs.List.{Contains}
+use Rattle.std.specs.Ordering.{nat_cmp, is_lt}
+use Rattle.std.specs.Cmp.Lexicographic.{slice_cmp}
+use Rattle.mails.specs.declared.record.Durable.{Durable}
+use Rattle.agent_sides.specs.declared.config.ConfiguredAgent.{ConfiguredAgent}
+
+-- the record is of this agent, and has what it owns
+abbrev pub IsRecordOf : ConfiguredAgent → Durable → Type 0
+IsRecordOf a d = (a.name ≡ d.name) × (a.total ≡ d.total)
+
+-- each agent has a record among them, and each is that of one of the agents
+pub record AreRecordsOf (agents : List ConfiguredAgent) (records : List Durable) : Type 0 where
+  pub each : (a : ConfiguredAgent) → Contains agents a → (d : Durable) × Contains records d × IsRecordOf a d
+  pub only : (d : Durable) → Contains records d → (a : ConfiguredAgent) × Contains agents a × IsRecordOf a d
+
+-- the records of an agent's name
+abbrev pub named : ConfiguredAgent → List Durable → List Durable
+named a records = filter (λ d. bytes_eq d.name a.name) records
+
+-- the record of each agent, in the order of the agents
+abbrev pub in_order : List ConfiguredAgent → List Durable → List Durable
+in_order agents records = flat_map (λ a. named a records) agents
+
+-- the name of the first is less, in byte order
+abbrev pub comes_before : Durable → Durable → Bool
+comes_before c d = is_lt (slice_cmp nat_cmp c.name d.name)

@@ -1,0 +1,22 @@
+-- What a stop may leave of a cluster's records.
+use Rattle.std.specs.Prelude.{List, map}
+use Rattle.std.specs.List.Sorted.{IsPermutation}
+use Rattle.mails.specs.declared.record.Durable.{Durable}
+use Rattle.mails.specs.declared.record.RecordedTask.{RecordedTask}
+use Rattle.cluster_model.specs.Agents.{live_tasks}
+use Rattle.cluster_model.specs.Clusters.{Cluster}
+use Rattle.cluster_safe.specs.Saved.{IsFound}
+
+-- for each agent its record or that of its open draft, in any order
+pub record AreFound (c : Cluster) (found : List Durable) : Type 0 where
+  pub by_agent : List Durable
+  pub is_found : IsFound c.world.channels by_agent
+  pub moved : IsPermutation by_agent found
+
+-- the live tasks of each agent
+abbrev pub live_in : Cluster → List (List RecordedTask)
+live_in c = map (λ x. live_tasks x.agent.durable.tasks) c.world.channels
+
+-- the live tasks of each record
+abbrev pub live_of : List Durable → List (List RecordedTask)
+live_of records = map (λ d. live_tasks d.tasks) records
