@@ -1,6 +1,6 @@
-//! How long a round of offers takes. `round_bench AGENTS FRAMEWORKS one|own` sets up a master with so many agents, all free, and so
-//! many subscribed frameworks, which have one role or each its own, and prints how many microseconds one `allocate` took, and how
-//! many frameworks it told of offers. With no words it prints nothing.
+//! How long a round of offers takes. Each line of the input is `AGENTS FRAMEWORKS one` or `AGENTS FRAMEWORKS own`: it sets up a master with so many agents,
+//! all free, and so many subscribed frameworks, which have one role or each its own. The answer is how many microseconds one `allocate` took, and how many
+//! frameworks it told of offers; nothing where the line is no plan, or memory or the clock fails.
 #![tactic(auto)]
 
 mod plan;
@@ -8,39 +8,29 @@ mod round;
 
 use plan::plan_of;
 use round::round_of;
-use std::process::ExitCode;
-use std::{env, io};
+use std::alloc::Global;
+use std::io;
+use std::time::Clock;
 
-const REFUSED: u8 = 2;
+fn answer_of<C: Clock>(clock: &C, alloc: Global, line: &str) -> Option<String> {
+    let plan = plan_of(line)?;
+    let round = round_of(clock, alloc, plan)?;
+    let micros = round.took.as_micros();
+    let events = round.events;
+    format!(in alloc; "{micros} {events}").ok()
+}
 
-const FAILED: u8 = 3;
+fn answer<C: Clock>(clock: &C, alloc: Global, line: &str) -> String {
+    match answer_of(clock, alloc, line) {
+        Some(text) => text,
+        None => String::new(alloc),
+    }
+}
 
-fn main(rt: HostRuntime) -> io::Result<ExitCode> {
-    let mut words = Vec::new(rt.alloc());
-    for word in env::args(&rt)? {
-        words.push(word)?;
+fn main(rt: HostRuntime) -> io::Result<()> {
+    for line in rt.lines(rt.alloc()) {
+        let text = answer(&rt, rt.alloc(), line?.as_str());
+        println!(rt; "{text}")?;
     }
-    if words.len() <= 1 {
-        return Ok(ExitCode::SUCCESS);
-    }
-    let mut texts = Vec::new(rt.alloc());
-    for word in &words {
-        texts.push(word.as_str())?;
-    }
-    let Some(plan) = plan_of(&texts) else {
-        eprintln!(rt; "usage: round_bench AGENTS FRAMEWORKS one|own")?;
-        return Ok(ExitCode::from(REFUSED));
-    };
-    match round_of(&rt, rt.alloc(), &plan) {
-        Ok(round) => {
-            let micros = round.took.as_micros();
-            let events = round.events;
-            println!(rt; "{micros} {events}")?;
-            Ok(ExitCode::SUCCESS)
-        }
-        Err(fault) => {
-            eprintln!(rt; "{fault}")?;
-            Ok(ExitCode::from(FAILED))
-        }
-    }
+    Ok(())
 }

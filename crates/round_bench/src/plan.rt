@@ -9,16 +9,8 @@ pub struct Plan {
     pub own_roles: bool,
 }
 
-/// The plan that the command line tells, behind the program's name.
-pub fn plan_of(words: &[&str]) -> Option<Plan> {
-    let [_, agents, frameworks, roles] = words else {
-        return None;
-    };
-    Some(Plan {
-        agents: agents.parse::<u32>().ok()?,
-        frameworks: frameworks.parse::<u32>().ok()?,
-        own_roles: own_roles(roles)?,
-    })
+fn number(word: &str) -> Option<u32> {
+    word.parse::<u32>().ok()
 }
 
 fn own_roles(word: &str) -> Option<bool> {
@@ -27,4 +19,15 @@ fn own_roles(word: &str) -> Option<bool> {
         "own" => Some(true),
         _ => None,
     }
+}
+
+/// The plan that a line tells.
+pub fn plan_of(line: &str) -> Option<Plan> {
+    let (agents, rest) = line.split_once(' ')?;
+    let (frameworks, roles) = rest.split_once(' ')?;
+    Some(Plan {
+        agents: number(agents)?,
+        frameworks: number(frameworks)?,
+        own_roles: own_roles(roles)?,
+    })
 }

@@ -3,122 +3,136 @@
 use crate::plan::Plan;
 use listed::Listed;
 use mails::{AgentMail, Call};
-use master_core::{Config, ConfigFault, Master, MasterFault, Outs};
-use names_core::{AgentName, NameFault, RoleName, Run};
-use quantity::{QuantityFault, Resources};
+use master_core::{Config, Master};
+use names_core::{AgentName, RoleName, Run};
+use quantity::Resources;
 use side_fits::mails_without_tasks_fit;
-use std::alloc::{AllocError, Global};
-use std::io;
+use std::alloc::Global;
 use std::time::{Clock, Duration, Instant};
-use thiserror::Error;
-
-/// Why nothing was measured.
-#[derive(Debug, Drop, Error)]
-pub enum BenchFault {
-    #[error("{0}")]
-    Name(#[from] NameFault),
-    #[error("{0}")]
-    Amount(#[from] QuantityFault),
-    #[error("{0}")]
-    Agent(#[from] ConfigFault),
-    #[error("{0}")]
-    Master(#[from] MasterFault),
-    #[error("out of memory")]
-    Memory(#[from] AllocError),
-    #[error("{0}")]
-    Clock(#[from] io::Error),
-}
 
 /// A round, and how many frameworks it told of offers.
-#[derive(Drop)]
+#[derive(Clone, Copy, Drop)]
 pub struct Round {
     pub took: Duration,
     pub events: usize,
 }
 
-fn agent_name(alloc: Global, number: u32) -> Result<AgentName, BenchFault> {
-    let text = format!(in alloc; "agent-{number}")?;
-    Ok(AgentName::from_text(alloc, &text)?)
+fn agent_name(alloc: Global, number: u32) -> Option<AgentName> {
+    let text = format!(in alloc; "agent-{number}").ok()?;
+    AgentName::from_text(alloc, &text).ok()
 }
 
-fn role_name(alloc: Global, plan: &Plan, number: u32) -> Result<RoleName, BenchFault> {
-    if !plan.own_roles {
-        return Ok(RoleName::from_text(alloc, "*")?);
+fn role_named(alloc: Global, number: u32) -> Option<RoleName> {
+    let text = format!(in alloc; "role-{number}").ok()?;
+    RoleName::from_text(alloc, &text).ok()
+}
+
+fn role_name(alloc: Global, plan: Plan, number: u32) -> Option<RoleName> {
+    if plan.own_roles {
+        role_named(alloc, number)
+    } else {
+        RoleName::from_text(alloc, "*").ok()
     }
-    let text = format!(in alloc; "role-{number}")?;
-    Ok(RoleName::from_text(alloc, &text)?)
 }
 
-fn total(alloc: Global) -> Result<Resources, BenchFault> {
+fn add_total(total: &mut Resources, alloc: Global) -> Option<()> {
+    total.add(alloc, "cpus", 32).ok()?;
+    total.add(alloc, "mem", 131_072).ok()
+}
+
+fn add_agent(config: &mut Config, alloc: Global, number: u32) -> Option<()> {
     let mut total = Resources::new(alloc);
-    total.add(alloc, "cpus", 32)?;
-    total.add(alloc, "mem", 131_072)?;
-    Ok(total)
+    add_total(&mut total, alloc)?;
+    config.add(agent_name(alloc, number)?, total).ok()
 }
 
-fn config_of(alloc: Global, plan: &Plan) -> Result<Config, BenchFault> {
-    let mut config = Config::new(alloc);
-    for number in 0..plan.agents {
-        config.add(agent_name(alloc, number)?, total(alloc)?)?;
+fn add_agents(config: &mut Config, alloc: Global, count: u32) -> Option<()> {
+    for number in 0..count {
+        add_agent(config, alloc, number)?;
     }
-    Ok(config)
+    Some(())
 }
 
 /// The agent opens its first session, without tasks.
-fn report(master: &mut Master, alloc: Global, agent: &AgentName) -> Result<(), BenchFault> {
+fn report(master: &mut Master, alloc: Global, number: u32) -> Option<()> {
     mails_without_tasks_fit();
     let mail = AgentMail::Report {
         session: 1,
         run: 1,
         tasks: Listed::new(alloc),
     };
-    let _heard = master.mail(alloc, agent, mail)?;
-    Ok(())
+    let agent = agent_name(alloc, number)?;
+    match master.mail(alloc, &agent, mail) {
+        Ok(_) => Some(()),
+        Err(_) => None,
+    }
 }
 
-fn subscribe(master: &mut Master, alloc: Global, role: RoleName) -> Result<(), BenchFault> {
+fn report_all(master: &mut Master, alloc: Global, count: u32) -> Option<()> {
+    for number in 0..count {
+        report(master, alloc, number)?;
+    }
+    Some(())
+}
+
+fn subscribe(master: &mut Master, alloc: Global, role: RoleName) -> Option<()> {
     let call = Call::Subscribe {
         framework: None,
         role,
     };
-    let _outs = master.call(alloc, None, call)?;
-    Ok(())
-}
-
-fn report_all(master: &mut Master, alloc: Global, plan: &Plan) -> Result<(), BenchFault> {
-    for number in 0..plan.agents {
-        report(master, alloc, &agent_name(alloc, number)?)?;
+    match master.call(alloc, None, call) {
+        Ok(_) => Some(()),
+        Err(_) => None,
     }
-    Ok(())
 }
 
-fn subscribe_all(master: &mut Master, alloc: Global, plan: &Plan) -> Result<(), BenchFault> {
+fn subscribe_all(master: &mut Master, alloc: Global, plan: Plan) -> Option<()> {
     for number in 0..plan.frameworks {
         subscribe(master, alloc, role_name(alloc, plan, number)?)?;
     }
-    Ok(())
+    Some(())
 }
 
-fn started(alloc: Global, plan: &Plan) -> Result<Master, BenchFault> {
-    let config = config_of(alloc, plan)?;
-    let (mut master, _greetings) = Master::start(alloc, Run::new(1), &config)?;
-    report_all(&mut master, alloc, plan)?;
-    subscribe_all(&mut master, alloc, plan)?;
-    Ok(master)
+fn allocate(master: &mut Master, alloc: Global) -> Option<usize> {
+    match master.allocate(alloc) {
+        Ok(outs) => Some(outs.events.len()),
+        Err(_) => None,
+    }
 }
 
-fn allocate(master: &mut Master, alloc: Global) -> Result<Outs, MasterFault> {
-    master.allocate(alloc)
+fn timed<C: Clock>(master: &mut Master, alloc: Global, clock: &C) -> Option<Round> {
+    let start = Instant::now(clock).ok()?;
+    let events = allocate(master, alloc)?;
+    let took = start.elapsed(clock).ok()?;
+    Some(Round { took, events })
+}
+
+fn set_up(master: &mut Master, alloc: Global, plan: Plan) -> Option<()> {
+    report_all(master, alloc, plan.agents)?;
+    subscribe_all(master, alloc, plan)
+}
+
+fn started(alloc: Global, config: &Config) -> Option<Master> {
+    match Master::start(alloc, Run::new(1), config) {
+        Ok((master, _)) => Some(master),
+        Err(_) => None,
+    }
+}
+
+fn configured(alloc: Global, count: u32) -> Option<Config> {
+    let mut config = Config::new(alloc);
+    add_agents(&mut config, alloc, count)?;
+    Some(config)
+}
+
+fn master_of(alloc: Global, count: u32) -> Option<Master> {
+    let config = configured(alloc, count)?;
+    started(alloc, &config)
 }
 
 /// The first round of a master over this plan: what is free on every agent is offered.
-pub fn round_of(clock: &impl Clock, alloc: Global, plan: &Plan) -> Result<Round, BenchFault> {
-    let mut master = started(alloc, plan)?;
-    let start = Instant::now(clock)?;
-    let outs = allocate(&mut master, alloc)?;
-    let took = start.elapsed(clock)?;
-    Ok(Round {
-        took,
-        events: outs.events.len(),
-    })
+pub fn round_of<C: Clock>(clock: &C, alloc: Global, plan: Plan) -> Option<Round> {
+    let mut master = master_of(alloc, plan.agents)?;
+    set_up(&mut master, alloc, plan)?;
+    timed(&mut master, alloc, clock)
 }
