@@ -1,3 +1,6 @@
 pub mod Reading
 pub mod Local
 pub mod Actions
+pub mod Walks
+pub mod Given
+pub mod Taken

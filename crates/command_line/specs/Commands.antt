@@ -1,6 +1,8 @@
 -- What the words of a command line ask for.
-use Rattle.std.specs.Prelude.{◌≡◌, true, List, codes, Option, Some}
-use Rattle.clap.specs.Words.{App, Row, Text, new_app, subcommand_of, with_subcommand}
+use Rattle.std.specs.Prelude.{◌≡◌, true, List, [], codes, Some}
+use Rattle.clap.specs.Words.{App, Row, Text, fault_of, kind_of, new_app, subcommand_of, with_subcommand}
+use Rattle.clap.specs.declared.error.Error.{Error}
+use Rattle.clap.specs.declared.error.kind.ErrorKind.TheVariants.{OutOfMemory}
 use Rattle.command_line.specs.declared.command.Action.{Action}
 use Rattle.command_line.specs.declared.command.Action.TheVariants.{Calls, Replay, Serve}
 use Rattle.command_line.specs.Options.{HasOptions, serve_command}
@@ -13,6 +15,15 @@ asks_for_command a = record a { top = record a.top { subcommand_required = true 
 abbrev pub command_line : App
 command_line =
     with_subcommand (with_subcommand (with_subcommand (asks_for_command (new_app (codes "mesos_node"))) (new_app (codes "calls")).top) (new_app (codes "replay")).top) serve_command.top
+
+-- the table of commands takes the words, the program's name first: they have no fault by `clap`'s
+-- definitions
+abbrev pub IsTaken : List Text → Type 0
+IsTaken words = fault_of command_line words ≡ []
+
+-- memory ran out
+abbrev pub IsWantOfMemory : Error → Type 0
+IsWantOfMemory e = kind_of e ≡ OutOfMemory
 
 -- the name of a command, and the options that were given, are this action's
 abbrev pub IsAction : Text → List Row → Action → Type 0

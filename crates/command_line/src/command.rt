@@ -1,12 +1,12 @@
 //! The command line.
 
-ghost use Rattle.std.specs.Prelude.{◌≡◌, ◌⊎◌, [], ◌∷◌, List, Some, map, IfOk, IfErr, IfSome, IfNone};
+ghost use Rattle.std.specs.Prelude.{◌≡◌, List, Some, IfOk, IfErr, IfSome, IfNone};
 ghost use Rattle.command_line.specs.declared.command.Action.{Action as Asked};
 ghost use Rattle.clap.specs.Words.{FailsBy, HasKind, Row, Text, app_of, fault_of, found_of, rows_of, subcommand_of, subcommand_rows_of};
-ghost use Rattle.command_line.specs.Commands.{AsksFor, IsAction, command_line};
+ghost use Rattle.clap.specs.Walk.{texts};
+ghost use Rattle.command_line.specs.Commands.{AsksFor, IsAction, IsTaken, IsWantOfMemory, command_line};
 
 use crate::options::{ServeOptions, serve_command, serve_options};
-use clap::error::ErrorKind;
 use clap::{ArgMatches, Command, Error};
 use std::alloc::{AllocError, Global};
 
@@ -125,36 +125,29 @@ fn action_in<'a>(matches: &ArgMatches<'a>) -> Option<Action<'a>>
 
 /// What the words of a command line are, the program's name first.
 fn matches_of<'a>(alloc: Global, words: &'a [&'a str]) -> Result<ArgMatches<'a>, Error>
-    ensures matches { IfOk result (λ matches. subcommand_rows_of matches ≡ subcommand_of command_line (map (λ w. w.now) words.entry.now)) }
-    ensures faults { FailsBy (fault_of command_line (map (λ w. w.now) words.entry.now)) result }
+    ensures matches { IfOk result (λ matches. subcommand_rows_of matches ≡ subcommand_of command_line (texts words.entry.now)) }
+    ensures faults { FailsBy (fault_of command_line (texts words.entry.now)) result }
 {
     let app = app(alloc)?;
     app.try_get_matches_from(words)
 }
 
-fn no_command(alloc: Global) -> Error
-    ensures { HasKind (ErrorKind.MissingSubcommand ∷ []) result }
-{
-    let Ok(mut app) = app(alloc) else {
-        return Error::from(AllocError);
-    };
-    match app.error(ErrorKind::MissingSubcommand, "a command is missing") {
-        Ok(fault) => fault,
-        Err(_) => Error::from(AllocError),
-    }
-}
+/// Words that the table of commands takes ask for an action.
+pub fn taken_words_ask()
+    ensures { (words : List Text) → IsTaken words → (a : Asked) × AsksFor words a }
+{}
 
 /// The action that the words of a command line ask for, the program's name first. A fault tells what is wrong with them, or holds
 /// the help that they ask for.
 pub fn command_of<'a>(alloc: Global, words: &'a [&'a str]) -> Result<Action<'a>, Error>
-    ensures asked { IfOk result (AsksFor (map (λ w. w.now) words.entry.now)) }
-    ensures taken { IfOk result (λ _. fault_of command_line (map (λ w. w.now) words.entry.now) ≡ []) }
-    ensures refused { IfErr result (λ e. HasKind (fault_of command_line (map (λ w. w.now) words.entry.now)) e
-        ⊎ (HasKind (ErrorKind.MissingSubcommand ∷ []) e × ((a : Asked) → AsksFor (map (λ w. w.now) words.entry.now) a → ⊥))) }
+    ensures asked { IfOk result (AsksFor (texts words.entry.now)) }
+    ensures taken { IfOk result (λ _. IsTaken (texts words.entry.now)) }
+    ensures refused { IfErr result (HasKind (fault_of command_line (texts words.entry.now))) }
+    ensures memory_alone { IsTaken (texts words.entry.now) → IfErr result IsWantOfMemory }
 {
     let matches = matches_of(alloc, words)?;
     match action_in(&matches) {
         Some(action) => Ok(action),
-        None => Err(no_command(alloc)),
+        None => unreachable!(),
     }
 }

@@ -4,5 +4,5 @@
 mod command;
 mod options;
 
-pub use command::{Action, command_of};
+pub use command::{Action, command_of, taken_words_ask};
 pub use options::ServeOptions;

@@ -1,4 +1,4 @@
-use Rattle.std.proofs.Common.{ap, map, refl, subst, sym, true, List, ◌≡◌, ◌∙◌}
+use Rattle.std.proofs.Common.{ap, map, refl, subst, true, ◌≡◌, ◌∙◌}
 use Rattle.std.proofs.lemmas.Result.{IfOk-weaker}
 use Rattle.clap.specs.Words.{App, FailsBy, fault_of, is_simple, is_simple_and_free, subcommand_of}
 use Rattle.clap.proofs.OnLiterals.{clap_on_literals}
