@@ -6,7 +6,8 @@ use Rattle.cluster_model.specs.Openings.{recorded_jobs}
 use Rattle.cluster_model.specs.Steps.{opening}
 use Rattle.cluster_origin.specs.Acks.{AcksAreOwners}
 use Rattle.cluster_origin.specs.Entries.{Moment, moments}
-use Rattle.cluster_origin.specs.Sources.{HaveSources, Traced}
+use Rattle.cluster_origin.specs.Launches.{Origin}
+use Rattle.cluster_origin.specs.Sources.{Traced}
 use Rattle.cluster_safe.specs.Acknowledged.{AcknowledgedByOwner}
 use Rattle.cluster_safe.specs.Honest.{Honest, IsBeginningOf, IsKeyOf, acknowledged_by}
 use Rattle.cluster_safe.specs.Origin.{HasOrigin, Mark, jobs_of, trail}
@@ -35,14 +36,19 @@ IsKeyIn s framework key = IsKeyOf framework key (jobs_of (trail_of s) ++ recorde
 abbrev pub AcknowledgesInOrder : Story → Numbered → Numbered → Type 0
 AcknowledgesInOrder s framework key = IsBeginningOf (updates_of key (history_of s).happenings (open_world s.run s.records)) (acknowledged_by s.records framework key (state_of s).posts)
 
--- on every agent current offers and live tasks fit what it owns; each task came from one accepted offer, which was told in an older entry, or from a record; each
--- update counts as acknowledged by the task's own framework alone, also the last one, whose Ack takes the task out of its record; an honest framework
--- acknowledges in order; and no agent ever lacked room
+-- of all that was ever offered and launched, also of tasks that have left their records: no offer id and no launch key is given out twice, each use of
+-- offers is covered by offers that were made before and that no use before it used, and the offers and the uses are those of the entries
+pub record KeepsTrail (s : Story) : Type 0 where
+  pub covered : HasOrigin s.records (state_of s).world (trail_of s)
+  pub traced : Traced (moments_of s) (trail_of s)
+
+-- on every agent current offers and live tasks fit what it owns; each task was launched by exactly one entry, which delivered an ACCEPT of its framework, out
+-- of offers that older entries told and that no other entry uses, or it stood in a record; each update counts as acknowledged by the task's own framework
+-- alone, also the last one, whose Ack takes the task out of its record; an honest framework acknowledges in order; and no agent ever lacked room
 pub record Safe (s : Story) : Type 0 where
   pub fits : AllFit (state_of s).world
-  pub origin : HasOrigin s.records (state_of s).world (trail_of s)
-  pub traced : Traced (moments_of s) (trail_of s)
-  pub sources : HaveSources s.records (state_of s).world (moments_of s)
+  pub origin : Origin s.records (state_of s).world (moments_of s)
+  pub trail : KeepsTrail s
   pub acknowledged : AcknowledgedByOwner s.records (state_of s).world (state_of s).posts
   pub acks : AcksAreOwners s.records (jobs_of (trail_of s) ++ recorded_jobs s.records) (state_of s).world (state_of s).posts
   pub in_order : (framework key : Numbered) → IsHonest framework s → IsKeyIn s framework key → AcknowledgesInOrder s framework key

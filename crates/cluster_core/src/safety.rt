@@ -3,7 +3,7 @@
 ghost use Rattle.cluster_core.specs.Safety.{Safe};
 ghost use Rattle.cluster_core.specs.Stories.{IsLegal, Story};
 
-use cluster_origin::{acks_come_from_owners, marks_come_from_entries, tasks_come_from_accepts};
+use cluster_origin::{acks_come_from_owners, each_task_has_its_origin, marks_come_from_entries};
 use cluster_safe::{
     acknowledged_by_the_owner, acknowledgements_are_prefixes, agents_have_room,
     offers_and_tasks_fit, tasks_have_their_origin,
@@ -17,8 +17,8 @@ pub fn stories_are_safe()
     acknowledgements_are_prefixes();
     acks_come_from_owners();
     agents_have_room();
+    each_task_has_its_origin();
     marks_come_from_entries();
     offers_and_tasks_fit();
-    tasks_come_from_accepts();
     tasks_have_their_origin();
 }

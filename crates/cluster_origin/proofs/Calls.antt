@@ -20,7 +20,7 @@ use Rattle.cluster_model.specs.Channels.{Channel, ByMaster}
 use Rattle.cluster_model.specs.Masters.{Framework, Master, Move, AtSide, TearDownAll, Doing, nothing, refused, saying, moving, framework_of, is_torn, with_framework, Placed, all_booked, held, is_of, withdraws, side_of, has_numbers, may_have_numbers}
 use Rattle.cluster_model.specs.Calls.{frameworks_limit, to_list, subscribed, removed, resubscribed, is_unheard_of, sides_with_tasks, on_teardown, answers_held, Given, good_side, given_by, passes_limits, accepts_all, accepted_from, on_accept, on_decline, on_revive, on_suppress, commanding, on_kill, is_last_heard, on_acknowledge, on_reconcile, is_stream, on_its_stream, by_known, called}
 use Rattle.cluster_safe.specs.Offered.{IsAmong}
-use Rattle.cluster_safe.specs.Origin.{Mark, Made, Used, Use, launched, use_of, marks_at, marks_in}
+use Rattle.cluster_safe.specs.Origin.{Mark, Made, Used, Use, launched, use_of, marks_at, marks_in, jobs_of}
 use Rattle.cluster_safe.proofs.Orders.{each_append}
 use Rattle.cluster_origin.proofs.Silent.{QuietMove}
 use Rattle.cluster_origin.proofs.Quiet.{mapped_quiet, withdraws_quiet}
@@ -105,6 +105,7 @@ pub record UseOf (all : List Channel) (agent : List ℕ) (framework : Numbered) 
   pub ids_are : u.ids ≡ ids
   pub jobs : Each P u.jobs
   pub offers : Each (StandsIn all u.agent) u.offers
+  pub side : (x : Channel) × IsAmong x all × (u.offers ≡ used_offers x.side framework ids)
 
 abbrev pub IsUseOf : List Channel → List ℕ → Numbered → List Numbered → (Job → Type 0) → Mark → Type 0
 IsUseOf all agent framework ids P (Made g) = ⊥
@@ -133,6 +134,7 @@ launch_marks all agent framework ids jobs P h run c a e =
         ids_are = refl;
         jobs = launched_have P framework ids (offer_rows (used_offers c.side framework ids)) jobs (record { used = []; sending = sends_nothing run (without_used c.side framework ids) }) h;
         offers = kept_stand all c (is_named framework ids) c.side.offers a (λ o k. k);
+        side = (c, a, refl);
       },
       tt,
     )) (λ t. tt)
@@ -143,3 +145,15 @@ launch_marks_in all agent framework ids jobs P h run (c ∷ cs) f =
     let more = launch_marks_in all agent framework ids jobs P h run cs (λ x k. f x (inr k)) in
     cond_both (bytes_eq c.side.name agent) (marks_at run c.side (LaunchFrom framework ids jobs)) (marks_in agent (ByMaster (LaunchFrom framework ids jobs)) run cs) (Each (IsUseOf all agent framework ids P))
     (λ t. launch_marks all agent framework ids jobs P h run c (f c (inl refl)) ((bytes_decides c.side.name agent).0 t)) (λ t. more)
+
+-- each mark has all jobs of these
+abbrev pub AloneIn : List Mark → Type 0
+AloneIn marks = Each (λ mark. jobs_of marks ≡ jobs_of (mark ∷ [])) marks
+
+-- a launch leaves one mark, or none
+pub launch_alone : (agent : List ℕ) (framework : Numbered) (ids : List Numbered) (jobs : List Job) (run : Run) (cs : List Channel) → AloneIn (marks_in agent (ByMaster (LaunchFrom framework ids jobs)) run cs)
+launch_alone agent framework ids jobs run [] = tt
+launch_alone agent framework ids jobs run (c ∷ cs) =
+    let more = launch_alone agent framework ids jobs run cs in
+    cond_both (bytes_eq c.side.name agent) (marks_at run c.side (LaunchFrom framework ids jobs)) (marks_in agent (ByMaster (LaunchFrom framework ids jobs)) run cs) AloneIn
+    (λ t. cond_both (is_good c.side framework ids && not (is_among run.torn framework)) (Used (use_of run c.side framework ids jobs) ∷ []) [] AloneIn (λ e. (refl, tt)) (λ e. tt)) (λ t. more)

@@ -1,7 +1,12 @@
+mod Lists
+mod Sent
 mod Silent
 mod Quiet
 mod Calls
 mod Offers
 mod Entries
+mod Gone
+mod Waits
 mod Tasks
+mod Once
 mod Acks

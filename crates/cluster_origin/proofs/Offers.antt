@@ -16,26 +16,9 @@ use Rattle.cluster_safe.specs.Origin.{Mark, Made, Used, marks_at, marks_in, trai
 use Rattle.cluster_safe.proofs.Alone.{master_alone}
 use Rattle.cluster_safe.proofs.Offered.{offers_told}
 use Rattle.cluster_safe.proofs.Orders.{each_append, each_map}
+use Rattle.cluster_origin.proofs.Lists.{among_front, among_behind, among_either, each_among}
 
 -- lists
-
-among_front : {A : Type 0} (x : A) (xs ys : List A) → IsAmong x xs → IsAmong x (xs ++ ys)
-among_front x [] ys h = absurd h
-among_front x (y ∷ xs) ys (inl e) = inl e
-among_front x (y ∷ xs) ys (inr h) = inr (among_front x xs ys h)
-
-among_behind : {A : Type 0} (x : A) (xs ys : List A) → IsAmong x ys → IsAmong x (xs ++ ys)
-among_behind x [] ys h = h
-among_behind x (y ∷ xs) ys h = inr (among_behind x xs ys h)
-
-among_either : {A : Type 0} (x : A) (xs ys : List A) → IsAmong x (xs ++ ys) → IsAmong x xs ⊎ IsAmong x ys
-among_either x [] ys h = inr h
-among_either x (y ∷ xs) ys (inl e) = inl (inl e)
-among_either x (y ∷ xs) ys (inr h) = later (among_either x xs ys h)
-  where
-    later : IsAmong x xs ⊎ IsAmong x ys → IsAmong x (y ∷ xs) ⊎ IsAmong x ys
-    later (inl k) = inl (inr k)
-    later (inr k) = inr k
 
 last_mapped : {A B : Type 0} (f : A → B) (xs : List A) (x : A) → IsAmong (f x) (map f (xs ++ x ∷ []))
 last_mapped f [] x = inl refl
@@ -45,11 +28,6 @@ mapped_wider : {A B : Type 0} (f : A → B) (xs : List A) (x : A) (z : B) → Is
 mapped_wider f [] x z h = absurd h
 mapped_wider f (y ∷ xs) x z (inl e) = inl e
 mapped_wider f (y ∷ xs) x z (inr h) = inr (mapped_wider f xs x z h)
-
-each_is : {A : Type 0} (P : A → Type 0) (xs : List A) → Each P xs → (x : A) → IsAmong x xs → P x
-each_is P [] h x k = absurd k
-each_is P (y ∷ xs) h x (inl is) = subst P is h.0
-each_is P (y ∷ xs) h x (inr k) = each_is P xs h.1 x k
 
 -- sides whose current offers are those of before, and more behind them
 
@@ -178,5 +156,5 @@ round_told c = each_map (IsEntered (sides_of c.world.channels) (moved (master_of
     (all_made (sides_of c.world.channels) (round (master_of c)) c.world [] (grew_first (sides_of c.world.channels)) tt))
   where
     told : (mark : Mark) → IsEntered (sides_of c.world.channels) (moved (master_of c) (making (master_of c))).sides mark → IsToldBy (master_of c) mark
-    told (Made g) h = each_is (IsTold c.registers.frameworks (allocated (master_of c)).events) (entered (sides_of c.world.channels) (moved (master_of c) (making (master_of c))).sides) (offers_told (master_of c)) g h
+    told (Made g) h = each_among (IsTold c.registers.frameworks (allocated (master_of c)).events) (entered (sides_of c.world.channels) (moved (master_of c) (making (master_of c))).sides) g (offers_told (master_of c)) h
     told (Used u) h = absurd h

@@ -1,20 +1,19 @@
 -- The master's steps that make no offer and launch nothing.
-use Rattle.std.proofs.Common.{ℕ, Bool, true, false, List, [], ◌∷◌, ◌++◌, map, filter, Option, Some, None}
+use Rattle.std.proofs.Common.{Bool, true, false, List, [], ◌∷◌, ◌++◌, map, filter, Option, Some, None}
 use Rattle.std.specs.Prelude.{if◌then◌else◌}
 use Rattle.std.specs.List.{AllByRecursion as Each, find}
-use Rattle.std.proofs.lemmas.Bool.{cond_both}
 use Rattle.names_core.specs.Ids.{Numbered}
 use Rattle.mails.specs.declared.task.Offer.{Offer}
 use Rattle.mails.specs.declared.mail.AgentMail.{AgentMail}
 use Rattle.mails.specs.declared.mail.AgentMail.TheVariants.{Report, Applied, Update}
 use Rattle.mails.specs.declared.refusal.MasterRefusal.{MasterRefusal}
 use Rattle.mails.specs.declared.refusal.MasterRefusal.TheVariants.{OtherRun, OldSession, Closed, NotOpen, NotSubscribed, WrongStream, NoSuchFramework, LimitExceeded}
-use Rattle.cluster_model.specs.Sides.{Side, opens, SendEnd, SendHello, SendAgain, Lose}
+use Rattle.cluster_model.specs.Sides.{Side, opens, SendEnd, SendHello, Lose}
 use Rattle.cluster_model.specs.Events.{FAILURE}
 use Rattle.cluster_model.specs.Masters.{Framework, Master, Move, AtSide, Doing, nothing, tells_all, is_of, withdraws_on, withdraws, without_filters_on}
 use Rattle.cluster_model.specs.Calls.{is_stream}
-use Rattle.cluster_model.specs.Mails.{judged, rescinds, loses, is_to_end, session_opens, goes_with, mailed_as, mailed, ticks, ticked, agent_lost, hung_up_by, hung_up}
-use Rattle.cluster_origin.proofs.Silent.{QuietStep, QuietMove}
+use Rattle.cluster_model.specs.Mails.{judged, rescinds, loses, is_to_end, session_opens, goes_with, mailed_as, mailed, agent_lost, hung_up_by, hung_up}
+use Rattle.cluster_origin.proofs.Silent.{QuietMove}
 
 pub mapped_quiet : {X : Type 0} (f : X → Move) → ((x : X) → QuietMove (f x)) → (xs : List X) → Each QuietMove (map f xs)
 mapped_quiet f g [] = tt
@@ -48,9 +47,6 @@ mailed_as_quiet m s mail (Some refusal) = refusal_quiet refusal
 
 pub mailed_quiet : (m : Master) (s : Side) (mail : AgentMail) → Each QuietMove (mailed m s mail).moves
 mailed_quiet m s mail = mailed_as_quiet m s mail (judged m.run s mail)
-
-pub ticked_quiet : (m : Master) (now : ℕ) → Each QuietMove (ticked m now).moves
-ticked_quiet m now = mapped_quiet ticks (λ s. cond_both s.is_open SendAgain SendHello (QuietStep) (λ e. tt) (λ e. tt)) m.sides
 
 pub lost_quiet : (m : Master) (s : Side) → Each QuietMove (agent_lost m s).moves
 lost_quiet m s = by s.is_open

@@ -11,11 +11,13 @@ use Rattle.cluster_model.specs.Clusters.{Deliver, Allocate}
 use Rattle.cluster_model.specs.Events.{MadeOffer}
 use Rattle.cluster_model.specs.Openings.{GoodOpening}
 use Rattle.cluster_model.specs.Steps.{Marked, history}
+use Rattle.cluster_safe.specs.Offered.{IsAmong}
 use Rattle.cluster_safe.specs.Origin.{Mark, Made, Used, Use, IsOneOf, IsTrail, From, HasOrigin, WasMade, NotUsed, jobs_on, recorded_on, trail}
 use Rattle.cluster_safe.proofs.Histories.{history_origin}
 use Rattle.cluster_safe.proofs.Orders.{each_map}
 use Rattle.cluster_origin.specs.Entries.{Moment, moments}
-use Rattle.cluster_origin.specs.Sources.{IsAccepted, IsOffered, IsSource, Traced, WasOffered, LaunchedBy, WasLaunched, HaveSources}
+use Rattle.cluster_origin.specs.Launches.{IsOffered, WasOffered}
+use Rattle.cluster_origin.specs.Sources.{IsAccepted, IsSource, Traced, LaunchedBy, WasLaunched, HaveSources}
 use Rattle.cluster_origin.proofs.Entries.{history_traced}
 
 -- offers
@@ -42,12 +44,12 @@ older_only : (m : Moment) (u : Use) (agent : List ℕ) (o : Offer) (older : List
 older_only m u agent o older own rest accepted h t w = by (made_by m agent o own rest h w)
   where
     by : IsOffered m (record { agent = agent; offer = o }) ⊎ WasMade agent o rest → WasOffered older agent o
-    by (inl offered) = absurd (let is : Deliver accepted.number ≡ Allocate = sym accepted.step ∙ offered.step in cc)
+    by (inl offered) = absurd (let is : Deliver accepted.accepts.number ≡ Allocate = sym accepted.accepts.step ∙ offered.step in cc)
     by (inr k) = was_offered older rest agent o t k
 
 -- jobs
 
-one_of_either : (js is : List Job) (j : Job) → IsOneOf j (js ++ is) → IsOneOf j js ⊎ IsOneOf j is
+pub one_of_either : (js is : List Job) (j : Job) → IsOneOf j (js ++ is) → IsOneOf j js ⊎ IsOneOf j is
 one_of_either [] is j h = inr h
 one_of_either (i ∷ js) is j (inl e) = inl (inl e)
 one_of_either (i ∷ js) is j (inr h) = later (one_of_either js is j h)
@@ -56,23 +58,38 @@ one_of_either (i ∷ js) is j (inr h) = later (one_of_either js is j h)
     later (inl k) = inl (inr k)
     later (inr k) = inr k
 
-launched_by : (m : Moment) (older : List Moment) (agent : List ℕ) (j : Job) (own rest : List Mark) → Each (IsSource m) own → Traced older rest → IsTrail (own ++ rest) → IsOneOf j (jobs_on agent (own ++ rest)) → LaunchedBy m older agent j ⊎ IsOneOf j (jobs_on agent rest)
+-- launched by this entry, out of a use among its marks
+abbrev pub LaunchedFrom : Moment → List Moment → List ℕ → Job → List Mark → Type 0
+LaunchedFrom m older agent j own = (l : LaunchedBy m older agent j) × IsAmong (Used l.used) own
+
+pub launched_by : (m : Moment) (older : List Moment) (agent : List ℕ) (j : Job) (own rest : List Mark) → Each (IsSource m) own → Traced older rest → IsTrail (own ++ rest) → IsOneOf j (jobs_on agent (own ++ rest)) → LaunchedFrom m older agent j own ⊎ IsOneOf j (jobs_on agent rest)
 launched_by m older agent j [] rest h t is k = inr k
-launched_by m older agent j (Made g ∷ own) rest h t is k = launched_by m older agent j own rest h.1 t is.1 k
-launched_by m older agent j (Used u ∷ own) rest h t is k = by (bytes_eq u.agent agent) refl (λ l. launched_by m older agent j own rest h.1 t is.2 l) k
+launched_by m older agent j (Made g ∷ own) rest h t is k = later (launched_by m older agent j own rest h.1 t is.1 k)
   where
+    later : LaunchedFrom m older agent j own ⊎ IsOneOf j (jobs_on agent rest) → LaunchedFrom m older agent j (Made g ∷ own) ⊎ IsOneOf j (jobs_on agent rest)
+    later (inl l) = inl (l.0, inr l.1)
+    later (inr l) = inr l
+launched_by m older agent j (Used u ∷ own) rest h t is k = by (bytes_eq u.agent agent) refl (λ l. later (launched_by m older agent j own rest h.1 t is.2 l)) k
+  where
+    Found : Type 0
+    Found = LaunchedFrom m older agent j (Used u ∷ own) ⊎ IsOneOf j (jobs_on agent rest)
+
+    later : LaunchedFrom m older agent j own ⊎ IsOneOf j (jobs_on agent rest) → LaunchedFrom m older agent j (Used u ∷ own) ⊎ IsOneOf j (jobs_on agent rest)
+    later (inl l) = inl (l.0, inr l.1)
+    later (inr l) = inr l
+
     offered : u.agent ≡ agent → Each (WasOffered older agent) u.offers
     offered e = each_map (λ (o : Offer). WasMade u.agent o (own ++ rest) × NotUsed o.id (own ++ rest)) (WasOffered older agent) (λ o w. subst (λ a. WasOffered older a o) e (older_only m u u.agent o older own rest h.0 h.1 t w.0)) u.offers is.1
 
-    here : (IsOneOf j (jobs_on agent (own ++ rest)) → LaunchedBy m older agent j ⊎ IsOneOf j (jobs_on agent rest)) → u.agent ≡ agent → IsOneOf j u.jobs ⊎ IsOneOf j (jobs_on agent (own ++ rest)) → LaunchedBy m older agent j ⊎ IsOneOf j (jobs_on agent rest)
-    here more e (inl l) = inl (record { used = u; here = e; job = l; accepted = h.0; covered = is.0; offered = offered e })
+    here : (IsOneOf j (jobs_on agent (own ++ rest)) → Found) → u.agent ≡ agent → IsOneOf j u.jobs ⊎ IsOneOf j (jobs_on agent (own ++ rest)) → Found
+    here more e (inl l) = inl (record { used = u; here = e; job = l; accepted = h.0; covered = is.0; offered = offered e }, inl refl)
     here more e (inr l) = more l
 
-    by : (b : Bool) → bytes_eq u.agent agent ≡ b → (IsOneOf j (jobs_on agent (own ++ rest)) → LaunchedBy m older agent j ⊎ IsOneOf j (jobs_on agent rest)) → IsOneOf j (jobs_on agent (Used u ∷ own ++ rest)) → LaunchedBy m older agent j ⊎ IsOneOf j (jobs_on agent rest)
+    by : (b : Bool) → bytes_eq u.agent agent ≡ b → (IsOneOf j (jobs_on agent (own ++ rest)) → Found) → IsOneOf j (jobs_on agent (Used u ∷ own ++ rest)) → Found
     by true e more l = here more ((bytes_decides u.agent agent).0 e) (one_of_either u.jobs (jobs_on agent (own ++ rest)) j (rw e at l))
     by false e more l = more (rw e at l)
 
-trail_right : (own rest : List Mark) → IsTrail (own ++ rest) → IsTrail rest
+pub trail_right : (own rest : List Mark) → IsTrail (own ++ rest) → IsTrail rest
 trail_right [] rest h = h
 trail_right (Made g ∷ own) rest h = trail_right own rest h.1
 trail_right (Used u ∷ own) rest h = trail_right own rest h.2
@@ -82,8 +99,8 @@ was_launched [] marks agent j t is h = absurd (subst (λ (xs : List Mark). IsOne
 was_launched (m ∷ older) marks agent j t is h =
     by (λ k. was_launched older t.1 agent j t.4 (trail_right t.0 t.1 (subst IsTrail t.2 is)) k) (launched_by m older agent j t.0 t.1 t.3 t.4 (subst IsTrail t.2 is) (subst (λ (xs : List Mark). IsOneOf j (jobs_on agent xs)) t.2 h))
   where
-    by : (IsOneOf j (jobs_on agent t.1) → WasLaunched older agent j) → LaunchedBy m older agent j ⊎ IsOneOf j (jobs_on agent t.1) → WasLaunched (m ∷ older) agent j
-    by rest (inl k) = inl k
+    by : (IsOneOf j (jobs_on agent t.1) → WasLaunched older agent j) → LaunchedFrom m older agent j t.0 ⊎ IsOneOf j (jobs_on agent t.1) → WasLaunched (m ∷ older) agent j
+    by rest (inl k) = inl k.0
     by rest (inr k) = inr (rest k)
 
 pub history_sources : (run : ℕ) (records : List Durable) (steps : List Marked) → GoodOpening run records → HaveSources records (history run records steps).state.world (moments run records steps)

@@ -1,3 +1,4 @@
 pub mod Entries
+pub mod Launches
 pub mod Sources
 pub mod Acks

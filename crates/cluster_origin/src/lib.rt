@@ -6,10 +6,20 @@ ghost use Rattle.cluster_model.specs.Openings.{GoodOpening, recorded_jobs};
 ghost use Rattle.cluster_model.specs.Steps.{Marked, history};
 ghost use Rattle.cluster_origin.specs.Acks.{AcksAreOwners};
 ghost use Rattle.cluster_origin.specs.Entries.{moments};
+ghost use Rattle.cluster_origin.specs.Launches.{Origin};
 ghost use Rattle.cluster_origin.specs.Sources.{HaveSources, Traced};
 ghost use Rattle.cluster_safe.specs.Origin.{jobs_of, trail};
 ghost use Rattle.mails.specs.declared.record.Durable.{Durable};
 ghost use Rattle.std.specs.Prelude.{[], ◌++◌, List, ℕ};
+
+/// Origin. For each live task exactly one entry issued, and not only sent again, a Launch with its key. That entry delivered, with verdict ok, an ACCEPT of
+/// the task's framework that lists its name, its agent and its resources, and used at least one offer and all that the ACCEPT named: each was current just
+/// before, was made in an OFFERS event of an older entry to that framework on that agent, and is used by no other entry. The tasks launched there sum to at
+/// most the offers' sum. Tasks recorded at the opening are excepted. And no offer is used by two entries, whether their ACCEPTs are good or not.
+pub fn each_task_has_its_origin()
+    ensures { (run : ℕ) (records : List Durable) (steps : List Marked) → GoodOpening run records →
+        Origin records (history run records steps).state.world (moments run records steps) }
+{}
 
 /// Each offer that was ever made stands in an OFFERS event of the entry that made it, on its framework's stream; and each use of offers is the delivery of
 /// an ACCEPT of their framework, which names them, lists what is launched, and is taken while they are current.
