@@ -12,30 +12,43 @@ use recorded_cluster::{Given, RecordedCluster};
 use std::alloc::Global;
 use std::sync::ledger::Blank;
 use std::sync::{Wait, ledger};
-use std::test::Fail;
 use std::thread;
 use std::time::{Clock, Duration};
 
 /// One part for each seat, and one for the desk.
 pub const PARTS: u64 = 1 << 32;
 
-pub fn named(alloc: Global, name: &str) -> Result<AgentName, Fail> {
-    Ok(AgentName::from_text(alloc, name)?)
+pub fn named(alloc: Global, name: &str) -> Option<AgentName> {
+    AgentName::from_text(alloc, name).ok()
 }
 
-fn cpus(alloc: Global, amount: u64) -> Result<Resources, Fail> {
+fn cpus(alloc: Global, amount: u64) -> Option<Resources> {
     let mut cpus = Resources::new(alloc);
-    cpus.add(alloc, "cpus", amount)?;
-    Ok(cpus)
+    match cpus.add(alloc, "cpus", amount) {
+        Ok(()) => Some(cpus),
+        Err(_) => None,
+    }
+}
+
+fn add_agent(config: &mut Config, alloc: Global, name: &str) -> Option<()> {
+    let name = named(alloc, name)?;
+    config.add(name, cpus(alloc, 4)?).ok()
+}
+
+fn add_agents(config: &mut Config, alloc: Global, names: &[&str]) -> Option<()> {
+    for name in names {
+        add_agent(config, alloc, name)?;
+    }
+    Some(())
 }
 
 /// Agents of these names, of 4 cpus each.
-fn config(alloc: Global, names: &[&str]) -> Result<Config, Fail> {
+fn config(alloc: Global, names: &[&str]) -> Option<Config> {
     let mut config = Config::new(alloc);
-    for name in names {
-        config.add(named(alloc, name)?, cpus(alloc, 4)?)?;
+    match add_agents(&mut config, alloc, names) {
+        Some(()) => Some(config),
+        None => None,
     }
-    Ok(config)
 }
 
 fn recorded(alloc: Global, config: Config) -> Option<RecordedCluster>
@@ -51,19 +64,28 @@ fn recorded(alloc: Global, config: Config) -> Option<RecordedCluster>
     }
 }
 
+fn recorded_of(alloc: Global, names: &[&str]) -> Option<RecordedCluster>
+    ensures { IfSome result (λ recorded. recorded.story.entries ≡ []) }
+{
+    match config(alloc, names) {
+        Some(config) => recorded(alloc, config),
+        None => None,
+    }
+}
+
 /// An office over agents of these names, each of which is greeted by a mail.
 pub fn office<L: ledger::Ledger>(
     alloc: Global,
     blank: Blank,
     names: &[&str],
-) -> Result<Office<RecordedCluster, L>, Fail>
+) -> Option<Office<RecordedCluster, L>>
     requires name { blank.name ≡ L.name }
     requires parts { (blank.parts ≡ L.parts) × (blank.parts ≡ 4294967296) }
 {
-    let Some(recorded) = recorded(alloc, config(alloc, names)?) else {
-        return Err(Fail::new("cluster"));
-    };
-    Ok(Office::new(Desk::<_, L>::new(alloc, recorded, blank)))
+    match recorded_of(alloc, names) {
+        Some(recorded) => Some(Office::new(Desk::<_, L>::new(alloc, recorded, blank))),
+        None => None,
+    }
 }
 
 pub fn seat<L: ledger::Ledger, R: Wait>(

@@ -16,125 +16,200 @@ use std::test::*;
 use std::thread::Threads;
 use std::time::Clock;
 
+fn if_in_time(one: Option<Played>, end: End) -> Option<Played> {
+    if end == End::Late { None } else { one }
+}
+
 /// What the first did of two, the second of which was to finish the office in time.
-fn in_time(one: Option<Played>, finisher: Option<Played>) -> Result<Played, Fail> {
-    if finisher.ok_or("a thread")?.end == End::Late {
-        return Err(Fail::new("entries"));
+fn in_time(one: Option<Played>, finisher: Option<Played>) -> Option<Played> {
+    match finisher {
+        Some(played) => if_in_time(one, played.end),
+        None => None,
     }
-    Ok(one.ok_or("a thread")?)
 }
 
 /// What an activity does whose first save fails, where the office is finished at so many entries.
+fn worked<L: ledger::Ledger + Send + Sync, R: Threads + Wait + Clock + Sync>(
+    rt: &R,
+    alloc: Global,
+    office: &Office<RecordedCluster, L>,
+    keeps: Kept,
+    count: usize,
+) -> Option<Played> {
+    let part = Part::Agent(named(alloc, "a1")?, Shelf::new(Some(keeps)));
+    let (worked, finisher) = both(rt, alloc, office, part, Part::Finisher(count));
+    in_time(worked, finisher)
+}
+
 fn failed_save<L: ledger::Ledger + Send + Sync, R: Threads + Wait + Clock + Sync>(
     rt: &R,
     alloc: Global,
     blank: Blank,
     keeps: Kept,
     count: usize,
-) -> Result<Played, Fail>
+) -> Option<Played>
     requires name { blank.name ≡ L.name }
     requires parts { (blank.parts ≡ L.parts) × (blank.parts ≡ 4294967296) }
 {
-    let part = Part::Agent(named(alloc, "a1")?, Shelf::new(Some(keeps)));
-    let office: Office<RecordedCluster, L> = office(alloc, blank, &["a1"])?;
-    let (worked, finisher) = both(rt, alloc, &office, part, Part::Finisher(count));
-    in_time(worked, finisher)
+    match office::<L>(alloc, blank, &["a1"]) {
+        Some(office) => worked(rt, alloc, &office, keeps, count),
+        None => None,
+    }
+}
+
+/// The same in an office of its own.
+fn after_failed_save<R: Threads + Wait + Clock + Sync>(
+    rt: &R,
+    alloc: Global,
+    keeps: Kept,
+    count: usize,
+) -> Option<Played> {
+    failed_save::<Brand, R>(rt, alloc, Blank::new(PARTS), keeps, count)
+}
+
+fn begins(played: &Option<Played>, letters: &[u8], end: End) -> bool {
+    match played {
+        Some(played) => played.letters.as_slice().starts_with(letters) && played.end == end,
+        None => false,
+    }
+}
+
+fn is(played: &Option<Played>, letters: &[u8], end: End) -> bool {
+    match played {
+        Some(played) => played.letters.as_slice() == letters && played.end == end,
+        None => false,
+    }
 }
 
 #[test]
-fn the_old_record_stands(rt: HostRuntime) -> Result<(), Fail> {
-    let played = failed_save::<Brand, _>(&rt, rt.alloc(), Blank::new(PARTS), Kept::Before, 2)?;
-    assert!(rt; played.letters.as_slice().starts_with(b"PB") && played.end == End::Finished);
-    Ok(())
+fn the_old_record_stands(rt: HostRuntime) {
+    let played = after_failed_save(&rt, rt.alloc(), Kept::Before, 2);
+    assert!(rt; begins(&played, b"PB", End::Finished));
 }
 
 /// The activity finishes the office itself: nobody else does so before 100 entries.
 #[test]
-fn another_record_stands(rt: HostRuntime) -> Result<(), Fail> {
-    let played = failed_save::<Brand, _>(&rt, rt.alloc(), Blank::new(PARTS), Kept::Neither, 100)?;
-    assert!(rt; played.letters.as_slice() == b"P".as_slice() && played.end == End::Damaged);
-    Ok(())
+fn another_record_stands(rt: HostRuntime) {
+    let played = after_failed_save(&rt, rt.alloc(), Kept::Neither, 100);
+    assert!(rt; is(&played, b"P", End::Damaged));
 }
 
 /// The agent comes up over the record that was to be saved, starts, and saves and commits again.
 #[test]
-fn the_new_record_stands(rt: HostRuntime) -> Result<(), Fail> {
-    let played = failed_save::<Brand, _>(&rt, rt.alloc(), Blank::new(PARTS), Kept::After, 5)?;
-    assert!(rt; played.letters.as_slice().starts_with(b"PAPCD") && played.end == End::Finished);
-    Ok(())
+fn the_new_record_stands(rt: HostRuntime) {
+    let played = after_failed_save(&rt, rt.alloc(), Kept::After, 5);
+    assert!(rt; begins(&played, b"PAPCD", End::Finished));
 }
 
 /// Two agents, each of which holds its save until the other's is open.
+fn two_saves_at<L: ledger::Ledger + Send + Sync, R: Threads + Wait + Clock + Sync>(
+    rt: &R,
+    alloc: Global,
+    office: &Office<RecordedCluster, L>,
+) -> Option<(Option<Played>, Option<Played>)> {
+    let flags = Flags::new();
+    let one = Part::Held(named(alloc, "a1")?, Held::new(&flags, true));
+    let two = Part::Held(named(alloc, "a2")?, Held::new(&flags, false));
+    Some(both(rt, alloc, office, one, two))
+}
+
 fn two_saves<L: ledger::Ledger + Send + Sync, R: Threads + Wait + Clock + Sync>(
     rt: &R,
     alloc: Global,
     blank: Blank,
-) -> Result<(Played, Played), Fail>
+) -> bool
     requires name { blank.name ≡ L.name }
     requires parts { (blank.parts ≡ L.parts) × (blank.parts ≡ 4294967296) }
 {
-    let flags = Flags::new();
-    let one = Part::Held(named(alloc, "a1")?, Held::new(&flags, true));
-    let two = Part::Held(named(alloc, "a2")?, Held::new(&flags, false));
-    let office: Office<RecordedCluster, L> = office(alloc, blank, &["a1", "a2"])?;
-    let (one, two) = both(rt, alloc, &office, one, two);
-    Ok((one.ok_or("a thread")?, two.ok_or("a thread")?))
+    let Some(office) = office::<L>(alloc, blank, &["a1", "a2"]) else {
+        return false;
+    };
+    match two_saves_at(rt, alloc, &office) {
+        Some((one, two)) => is(&one, b"P", End::Overlapped) && is(&two, b"P", End::Overlapped),
+        None => false,
+    }
 }
 
 #[test]
-fn two_saves_overlap(rt: HostRuntime) -> Result<(), Fail> {
-    let (one, two) = two_saves::<Brand, _>(&rt, rt.alloc(), Blank::new(PARTS))?;
-    assert!(rt; one.end == End::Overlapped && two.end == End::Overlapped);
-    assert!(rt;
-        one.letters.as_slice() == b"P".as_slice() && two.letters.as_slice() == b"P".as_slice()
-    );
-    Ok(())
+fn two_saves_overlap(rt: HostRuntime) {
+    assert!(rt; two_saves::<Brand, _>(&rt, rt.alloc(), Blank::new(PARTS)));
 }
 
-/// A ticker's two rounds.
-fn rounds<L: ledger::Ledger + Send + Sync, R: Threads + Wait + Clock + Sync>(
+fn has_two_rounds(played: &Option<Played>) -> bool {
+    match played {
+        Some(played) => {
+            let moments = played.moments.as_slice();
+            played.letters.as_slice().starts_with(b"TOTO")
+                && moments.len() >= 2
+                && moments[0] == 0
+                && moments[1] >= 1
+        }
+        None => false,
+    }
+}
+
+/// Whether a ticker makes two rounds, a second apart.
+fn makes_two_rounds<L: ledger::Ledger + Send + Sync, R: Threads + Wait + Clock + Sync>(
     rt: &R,
     alloc: Global,
     blank: Blank,
-) -> Result<Played, Fail>
+) -> bool
     requires name { blank.name ≡ L.name }
     requires parts { (blank.parts ≡ L.parts) × (blank.parts ≡ 4294967296) }
 {
-    let office: Office<RecordedCluster, L> = office(alloc, blank, &["a1"])?;
-    let (ticked, finisher) = both(rt, alloc, &office, Part::Ticker, Part::Finisher(4));
-    in_time(ticked, finisher)
+    match office::<L>(alloc, blank, &["a1"]) {
+        Some(office) => {
+            let (ticked, finisher) = both(rt, alloc, &office, Part::Ticker, Part::Finisher(4));
+            has_two_rounds(&in_time(ticked, finisher))
+        }
+        None => false,
+    }
 }
 
 #[test]
-fn two_rounds(rt: HostRuntime) -> Result<(), Fail> {
-    let played = rounds::<Brand, _>(&rt, rt.alloc(), Blank::new(PARTS))?;
-    assert!(rt; played.letters.as_slice().starts_with(b"TOTO"));
-    let moments = played.moments;
-    assert!(rt; moments.len() >= 2 && moments[0] == 0 && moments[1] >= 1);
-    Ok(())
+fn two_rounds(rt: HostRuntime) {
+    assert!(rt; makes_two_rounds::<Brand, _>(&rt, rt.alloc(), Blank::new(PARTS)));
 }
 
-/// What the activity of an agent does that isn't configured, and whether the office answers others still.
-fn unknown_agent<L: ledger::Ledger, R: Wait + Clock>(
+/// Whether an office answers others.
+fn answers<L: ledger::Ledger, R: Wait + Clock>(
     rt: &R,
     alloc: Global,
-    blank: Blank,
-) -> Result<(Played, bool), Fail>
-    requires name { blank.name ≡ L.name }
-    requires parts { (blank.parts ≡ L.parts) × (blank.parts ≡ 4294967296) }
-{
+    office: &Office<RecordedCluster, L>,
+) -> bool {
+    match seat(rt, alloc, office) {
+        Some(mut pass) => {
+            let step = Step::Allocate;
+            office.wait_call(rt, alloc, &mut pass, 0, |_| Turn::Answer, step) == Ok(true)
+        }
+        None => false,
+    }
+}
+
+fn played_unknown<L: ledger::Ledger, R: Wait + Clock>(
+    rt: &R,
+    alloc: Global,
+    office: &Office<RecordedCluster, L>,
+) -> Option<Played> {
     let part = Part::Agent(named(alloc, "b9")?, Shelf::new(None));
-    let office: Office<RecordedCluster, L> = office(alloc, blank, &["a1"])?;
-    let played = play(rt, alloc, &office, part).ok_or("an activity")?;
-    let mut pass = seat(rt, alloc, &office).ok_or("a seat")?;
-    let step = Step::Allocate;
-    let answered = office.wait_call(rt, alloc, &mut pass, 0, |_| Turn::Answer, step);
-    Ok((played, answered == Ok(true)))
+    play(rt, alloc, office, part)
+}
+
+/// Whether the activity of an agent that isn't configured does nothing, and the office answers others still.
+fn ends_at_once<L: ledger::Ledger, R: Wait + Clock>(rt: &R, alloc: Global, blank: Blank) -> bool
+    requires name { blank.name ≡ L.name }
+    requires parts { (blank.parts ≡ L.parts) × (blank.parts ≡ 4294967296) }
+{
+    match office::<L>(alloc, blank, &["a1"]) {
+        Some(office) => {
+            let played = played_unknown(rt, alloc, &office);
+            is(&played, b"", End::Finished) && answers(rt, alloc, &office)
+        }
+        None => false,
+    }
 }
 
 #[test]
-fn an_unknown_agent(rt: HostRuntime) -> Result<(), Fail> {
-    let (played, goes_on) = unknown_agent::<Brand, _>(&rt, rt.alloc(), Blank::new(PARTS))?;
-    assert!(rt; played.letters.is_empty() && played.end == End::Finished && goes_on);
-    Ok(())
+fn an_unknown_agent(rt: HostRuntime) {
+    assert!(rt; ends_at_once::<Brand, _>(&rt, rt.alloc(), Blank::new(PARTS)));
 }

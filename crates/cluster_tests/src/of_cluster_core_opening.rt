@@ -81,13 +81,20 @@ fn push_both(records: &mut Vec<Durable>, alloc: Global, first: &str, second: &st
     push_record(records, alloc, second)
 }
 
+fn both_records(alloc: Global, first: &str, second: &str) -> Option<Vec<Durable>> {
+    let mut records = Vec::new(alloc);
+    match push_both(&mut records, alloc, first, second) {
+        Some(()) => Some(records),
+        None => None,
+    }
+}
+
 /// Whether two records are a good opening in a run; none where memory was refused.
 fn opens(alloc: Global, first: &str, second: &str, run: u16) -> Option<bool> {
     if run == 0 {
         return None;
     }
-    let mut records = Vec::new(alloc);
-    push_both(&mut records, alloc, first, second)?;
+    let mut records = both_records(alloc, first, second)?;
     is_good(alloc, records.as_mut_slice(), run)
 }
 
@@ -98,18 +105,30 @@ fn is_to(sent: Option<&Sent>, name: &str) -> bool {
     }
 }
 
-/// Whether a cluster that is opened over the records of b and a greets a first; none where memory was refused.
-fn greets_by_name(alloc: Global) -> Option<bool> {
-    let config = configured(alloc)?;
-    let mut records = Vec::new(alloc);
-    push_both(&mut records, alloc, B, A)?;
+fn greets_a_first(cluster: &Cluster<EverSent>) -> bool {
+    let sent = cluster.opened().sent.as_slice();
+    is_to(sent.first(), "a") && is_to(sent.get(1), "b")
+}
+
+/// Whether a cluster that is opened over these records greets a first.
+fn greets(alloc: Global, config: Config, mut records: Vec<Durable>) -> bool {
     let run = Run::new(1);
     if !good_opening(&config, records.as_mut_slice(), run) {
-        return Some(false);
+        return false;
     }
-    let cluster: Cluster<EverSent> = Cluster::open(alloc, config, records, run).ok()?;
-    let sent = cluster.opened().sent.as_slice();
-    Some(is_to(sent.first(), "a") && is_to(sent.get(1), "b"))
+    match Cluster::<EverSent>::open(alloc, config, records, run) {
+        Ok(cluster) => greets_a_first(&cluster),
+        Err(_) => false,
+    }
+}
+
+/// The same of the records of b and a; none where memory was refused.
+fn greets_by_name(alloc: Global) -> Option<bool> {
+    let records = both_records(alloc, B, A)?;
+    match configured(alloc) {
+        Some(config) => Some(greets(alloc, config, records)),
+        None => None,
+    }
 }
 
 #[test]

@@ -200,16 +200,32 @@ fn have_their_entries(seats: &Option<Seats>) -> bool {
     }
 }
 
-#[test]
-fn two_seats_have_their_entries(rt: HostRuntime) -> Result<(), Fail> {
-    let alloc = rt.alloc();
-    let config = one_agent(alloc).ok_or("memory")?;
-    let first = steps_of(alloc, &REPORTS).ok_or("memory")?;
-    let others = steps_of(alloc, &OFFERS).ok_or("memory")?;
+/// What two seats of an office of its own have.
+fn seats_that_took<R: Threads + Wait + Sync>(
+    rt: &R,
+    alloc: Global,
+    config: Config,
+    first: Vec<Step>,
+    others: Vec<Step>,
+    at_once: bool,
+) -> Option<Seats> {
     let blank = Blank::new(1 << 32);
-    let seats = two_seats::<Brand, _>(&rt, alloc, blank, config, first, others, false);
-    assert!(rt; have_their_entries(&seats));
-    Ok(())
+    two_seats::<Brand, R>(rt, alloc, blank, config, first, others, at_once)
+}
+
+/// One seat takes the agent's report, and the other makes a round of offers then.
+fn one_behind_the_other<R: Threads + Wait + Sync>(rt: &R, alloc: Global) -> Option<Seats> {
+    let first = steps_of(alloc, &REPORTS)?;
+    let others = steps_of(alloc, &OFFERS)?;
+    match one_agent(alloc) {
+        Some(config) => seats_that_took(rt, alloc, config, first, others, false),
+        None => None,
+    }
+}
+
+#[test]
+fn two_seats_have_their_entries(rt: HostRuntime) {
+    assert!(rt; have_their_entries(&one_behind_the_other(&rt, rt.alloc())));
 }
 
 /// 100 steps, in which a second goes by each time.
@@ -241,14 +257,16 @@ fn have_100_entries_each(seats: &Option<Seats>) -> bool {
 }
 
 /// The master's time passes in one thread, and rounds of offers are made in the other.
+fn both_at_once<R: Threads + Wait + Sync>(rt: &R, alloc: Global) -> Option<Seats> {
+    let first = seconds(alloc)?;
+    let others = rounds(alloc)?;
+    match one_agent(alloc) {
+        Some(config) => seats_that_took(rt, alloc, config, first, others, true),
+        None => None,
+    }
+}
+
 #[test]
-fn two_threads_of_100_calls(rt: HostRuntime) -> Result<(), Fail> {
-    let alloc = rt.alloc();
-    let config = one_agent(alloc).ok_or("memory")?;
-    let first = seconds(alloc).ok_or("memory")?;
-    let others = rounds(alloc).ok_or("memory")?;
-    let blank = Blank::new(1 << 32);
-    let seats = two_seats::<Brand, _>(&rt, alloc, blank, config, first, others, true);
-    assert!(rt; have_100_entries_each(&seats));
-    Ok(())
+fn two_threads_of_100_calls(rt: HostRuntime) {
+    assert!(rt; have_100_entries_each(&both_at_once(&rt, rt.alloc())));
 }

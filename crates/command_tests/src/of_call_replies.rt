@@ -1,7 +1,6 @@
 use call_replies::calls;
 use std::alloc::Global;
 use std::io::{self, Read, Write};
-use std::test::Fail;
 
 const SUBSCRIBE: &[u8] =
     b"75\n{\"type\":\"SUBSCRIBE\",\"subscribe\":{\"framework_info\":{\"user\":\"u\",\"name\":\"n\"}}}";
@@ -12,30 +11,48 @@ const SUBSCRIBED: &[u8] =
 const SUBSCRIBE_AGAIN: &[u8] =
     b"97\n{\"type\":\"SUBSCRIBE\",\"subscribe\":{\"framework_info\":{\"user\":\"u\",\"name\":\"n\",\"id\":{\"value\":\"F1-1\"}}}}";
 
-fn joined(alloc: Global, parts: &[&[u8]]) -> Result<Vec<u8>, Fail> {
-    let mut text = Vec::new(alloc);
-    for part in parts {
-        text.extend_from_slice(part)?;
+const SUBSCRIBE_TWICE: &[u8] =
+    b"75\n{\"type\":\"SUBSCRIBE\",\"subscribe\":{\"framework_info\":{\"user\":\"u\",\"name\":\"n\"}}}75\n{\"type\":\"SUBSCRIBE\",\"subscribe\":{\"framework_info\":{\"user\":\"u\",\"name\":\"n\"}}}";
+
+/// What is written last: a framework more is refused, one that subscribes again is told so on its stream and has another.
+const LIMITED: &[u8] =
+    b"55\n{\"error\":{\"message\":\"M4 LimitExceeded\"},\"type\":\"ERROR\"}60\n{\"error\":{\"message\":\"Framework failed over\"},\"type\":\"ERROR\"}100\n{\"subscribed\":{\"framework_id\":{\"value\":\"F1-1\"},\"heartbeat_interval_seconds\":15},\"type\":\"SUBSCRIBED\"}";
+
+fn push_often(input: &mut Vec<u8>, part: &[u8], count: u32) -> Option<()> {
+    for _ in 0..count {
+        input.extend_from_slice(part).ok()?;
     }
-    Ok(text)
+    Some(())
+}
+
+/// As many frameworks as there may be, one more, and one of them again.
+fn too_many(alloc: Global) -> Option<Vec<u8>> {
+    let mut input = Vec::new(alloc);
+    push_often(&mut input, SUBSCRIBE, 4097)?;
+    push_often(&mut input, SUBSCRIBE_AGAIN, 1)?;
+    Some(input)
+}
+
+/// Whether the output for this input ends so.
+fn ends_with(alloc: Global, input: &[u8], end: &[u8]) -> bool {
+    let mut reader = input;
+    let mut written = Vec::new(alloc);
+    match calls(alloc, &mut reader, &mut written) {
+        Ok(None) => written.as_slice().ends_with(end),
+        _ => false,
+    }
+}
+
+fn are_limited(alloc: Global) -> bool {
+    match too_many(alloc) {
+        Some(input) => ends_with(alloc, &input, LIMITED),
+        None => false,
+    }
 }
 
 #[test]
-fn frameworks_are_limited(rt: HostRuntime) -> Result<(), Fail> {
-    let mut input = Vec::new(rt.alloc());
-    for _ in 0..4097u32 {
-        input.extend_from_slice(SUBSCRIBE)?;
-    }
-    input.extend_from_slice(SUBSCRIBE_AGAIN)?;
-    let mut reader = input.as_slice();
-    let mut written = Vec::new(rt.alloc());
-    assert!(rt; calls(rt.alloc(), &mut reader, &mut written)?.is_none());
-    let limit = b"55\n{\"error\":{\"message\":\"M4 LimitExceeded\"},\"type\":\"ERROR\"}".as_slice();
-    let failed_over =
-        b"60\n{\"error\":{\"message\":\"Framework failed over\"},\"type\":\"ERROR\"}".as_slice();
-    let end = joined(rt.alloc(), &[limit, failed_over, SUBSCRIBED])?;
-    assert!(rt; written.as_slice().ends_with(&end));
-    Ok(())
+fn frameworks_are_limited(rt: HostRuntime) {
+    assert!(rt; are_limited(rt.alloc()));
 }
 
 /// A reader that gives a byte at a time, and fails after so many.
@@ -85,27 +102,31 @@ impl Write for Full {
     }
 }
 
-#[test]
-fn where_a_read_fails_a_beginning_was_written(rt: HostRuntime) -> Result<(), Fail> {
-    let input = joined(rt.alloc(), &[SUBSCRIBE, SUBSCRIBE])?;
+/// The second call isn't whole where the read fails.
+fn read_fails(alloc: Global) -> bool {
     let mut reader = Slow {
-        left: &input,
+        left: SUBSCRIBE_TWICE,
         reads: 80,
     };
-    let mut written = Vec::new(rt.alloc());
-    assert!(rt; calls(rt.alloc(), &mut reader, &mut written).is_err());
-    assert!(rt; written.as_slice() == SUBSCRIBED);
-    Ok(())
+    let mut written = Vec::new(alloc);
+    calls(alloc, &mut reader, &mut written).is_err() && written.as_slice() == SUBSCRIBED
 }
 
 #[test]
-fn where_a_write_fails_a_beginning_was_written(rt: HostRuntime) -> Result<(), Fail> {
+fn where_a_read_fails_a_beginning_was_written(rt: HostRuntime) {
+    assert!(rt; read_fails(rt.alloc()));
+}
+
+fn write_fails(alloc: Global) -> bool {
     let mut reader = SUBSCRIBE;
     let mut writer = Full {
-        text: Vec::new(rt.alloc()),
+        text: Vec::new(alloc),
         room: 10,
     };
-    assert!(rt; calls(rt.alloc(), &mut reader, &mut writer).is_err());
-    assert!(rt; writer.text.as_slice() == &SUBSCRIBED[..10]);
-    Ok(())
+    calls(alloc, &mut reader, &mut writer).is_err() && writer.text.as_slice() == &SUBSCRIBED[..10]
+}
+
+#[test]
+fn where_a_write_fails_a_beginning_was_written(rt: HostRuntime) {
+    assert!(rt; write_fails(rt.alloc()));
 }

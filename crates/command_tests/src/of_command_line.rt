@@ -1,7 +1,6 @@
 use clap::error::ErrorKind;
 use command_line::{Action, ServeOptions, command_of};
 use std::alloc::Global;
-use std::test::Fail;
 
 const SERVE: [&str; 8] = [
     "mesos_node",
@@ -14,54 +13,73 @@ const SERVE: [&str; 8] = [
     "--conns=3",
 ];
 
-#[test]
-fn serve_has_its_options(rt: HostRuntime) -> Result<(), Fail> {
-    let wanted = ServeOptions {
-        port: 5050,
-        agents: "agents.json",
-        state: "here",
-        interval: 1,
-        task_seconds: 10,
-        connections: 3,
-    };
-    assert_eq!(rt;
-        command_of(rt.alloc(), SERVE.as_slice())?,
-        Action::Serve(wanted)
-    );
-    let words = [
-        "mesos_node",
-        "serve",
-        "--interval",
-        "3600",
-        "--task-seconds=0",
-        "--state",
-        "s",
-        "--agents",
-        "f",
-        "--port=65535",
-    ];
-    let wanted = ServeOptions {
-        port: 65_535,
-        agents: "f",
-        state: "s",
-        interval: 3_600,
-        task_seconds: 0,
-        connections: 0,
-    };
-    assert_eq!(rt;
-        command_of(rt.alloc(), words.as_slice())?,
-        Action::Serve(wanted)
-    );
-    Ok(())
+const SERVED: Action<'static> = Action::Serve(ServeOptions {
+    port: 5050,
+    agents: "agents.json",
+    state: "here",
+    interval: 1,
+    task_seconds: 10,
+    connections: 3,
+});
+
+const SERVE_SLOWLY: [&str; 10] = [
+    "mesos_node",
+    "serve",
+    "--interval",
+    "3600",
+    "--task-seconds=0",
+    "--state",
+    "s",
+    "--agents",
+    "f",
+    "--port=65535",
+];
+
+const SERVED_SLOWLY: Action<'static> = Action::Serve(ServeOptions {
+    port: 65_535,
+    agents: "f",
+    state: "s",
+    interval: 3_600,
+    task_seconds: 0,
+    connections: 0,
+});
+
+fn asks_for<'a>(alloc: Global, words: &'a [&'a str], action: Action<'a>) -> bool {
+    match command_of(alloc, words) {
+        Ok(asked) => asked == action,
+        Err(_) => false,
+    }
 }
 
-/// Which kind of fault the words of `serve` give, where its port, interval and task seconds are these texts.
-fn fault_of(
-    alloc: Global,
-    port: &str,
-    interval: &str,
-    task_seconds: &str,
-) -> Result<Option<ErrorKind>, Fail> {
+/// Which kind of fault the words give; none where they ask for an action.
+fn fault_of<'a>(alloc: Global, words: &'a [&'a str]) -> Option<ErrorKind> {
+    match command_of(alloc, words) {
+        Ok(_) => None,
+        Err(fault) => Some(fault.kind()),
+    }
+}
+
+#[test]
+fn the_command_line_is_read(rt: HostRuntime) {
+    let alloc = rt.alloc();
+    assert!(rt; asks_for(alloc, &["mesos_node", "calls"], Action::Calls));
+    assert!(rt; asks_for(alloc, &["mesos_node", "replay"], Action::Replay));
+    assert!(rt; asks_for(alloc, &SERVE, SERVED));
+    assert!(rt; asks_for(alloc, &SERVE_SLOWLY, SERVED_SLOWLY));
+}
+
+/// The port, interval and task seconds of `serve`, and whether they are in range.
+const NUMBERS: [(&str, &str, &str, bool); 7] = [
+    ("1", "1", "86400", true),
+    ("0", "1", "0", false),
+    ("65536", "1", "0", false),
+    ("x", "1", "0", false),
+    ("1", "0", "0", false),
+    ("1", "3601", "0", false),
+    ("1", "1", "86401", false),
+];
+
+fn fault_of_serve(alloc: Global, port: &str, interval: &str, seconds: &str) -> Option<ErrorKind> {
     let words = [
         "mesos_node",
         "serve",
@@ -72,70 +90,44 @@ fn fault_of(
         "--interval",
         interval,
         "--task-seconds",
-        task_seconds,
+        seconds,
     ];
-    match command_of(alloc, words.as_slice()) {
-        Ok(_) => Ok(None),
-        Err(fault) => Ok(Some(fault.kind())),
-    }
+    fault_of(alloc, &words)
 }
 
 #[test]
-fn numbers_have_their_ranges(rt: HostRuntime) -> Result<(), Fail> {
-    let wrong = Some(ErrorKind::ValueValidation);
-    assert_eq!(rt; fault_of(rt.alloc(), "1", "1", "86400")?, None);
-    assert_eq!(rt; fault_of(rt.alloc(), "0", "1", "0")?, wrong);
-    assert_eq!(rt; fault_of(rt.alloc(), "65536", "1", "0")?, wrong);
-    assert_eq!(rt; fault_of(rt.alloc(), "x", "1", "0")?, wrong);
-    assert_eq!(rt; fault_of(rt.alloc(), "1", "0", "0")?, wrong);
-    assert_eq!(rt; fault_of(rt.alloc(), "1", "3601", "0")?, wrong);
-    assert_eq!(rt; fault_of(rt.alloc(), "1", "1", "86401")?, wrong);
-    Ok(())
-}
-
-#[test]
-fn serve_asks_for_its_port(rt: HostRuntime) -> Result<(), Fail> {
-    let words = ["mesos_node", "serve", "--agents=f", "--state=s"];
-    match command_of(rt.alloc(), words.as_slice()) {
-        Ok(_) => Err(Fail::new("taken")),
-        Err(fault) => {
-            assert_eq!(rt; fault.kind(), ErrorKind::MissingRequiredArgument);
-            Ok(())
-        }
+fn numbers_have_their_ranges(rt: HostRuntime) {
+    for i in 0..NUMBERS.len() {
+        let (port, interval, seconds, is_in_range) = NUMBERS[i];
+        let fault = if is_in_range {
+            None
+        } else {
+            Some(ErrorKind::ValueValidation)
+        };
+        assert!(rt;
+            fault_of_serve(rt.alloc(), port, interval, seconds) == fault,
+            "numbers {i}"
+        );
     }
 }
 
+const HELP: [&str; 2] = ["mesos_node", "--help"];
+
+const CALLS_HELP: [&str; 3] = ["mesos_node", "calls", "--help"];
+
+const FLY: [&str; 2] = ["mesos_node", "fly"];
+
+const CALLS_NOW: [&str; 3] = ["mesos_node", "calls", "now"];
+
+const NO_PORT: [&str; 4] = ["mesos_node", "serve", "--agents=f", "--state=s"];
+
 #[test]
-fn the_command_line_is_read(rt: HostRuntime) -> Result<(), Fail> {
-    assert_eq!(rt;
-        command_of(rt.alloc(), &["mesos_node", "calls"])?,
-        Action::Calls
-    );
-    assert_eq!(rt;
-        command_of(rt.alloc(), &["mesos_node", "replay"])?,
-        Action::Replay
-    );
-    let kinds = [
-        (["mesos_node", "--help"].as_slice(), ErrorKind::DisplayHelp),
-        (
-            ["mesos_node", "calls", "--help"].as_slice(),
-            ErrorKind::DisplayHelp,
-        ),
-        (
-            ["mesos_node", "fly"].as_slice(),
-            ErrorKind::InvalidSubcommand,
-        ),
-        (
-            ["mesos_node", "calls", "now"].as_slice(),
-            ErrorKind::UnknownArgument,
-        ),
-        (["mesos_node"].as_slice(), ErrorKind::MissingSubcommand),
-    ];
-    for (words, kind) in kinds {
-        match command_of(rt.alloc(), words) {
-            Ok(_) => return Err(Fail::new("taken")),
-            Err(fault) => assert_eq!(rt; fault.kind(), kind),
-        }
-    }
-    Ok(())
+fn words_are_refused(rt: HostRuntime) {
+    let alloc = rt.alloc();
+    assert!(rt; fault_of(alloc, &HELP) == Some(ErrorKind::DisplayHelp));
+    assert!(rt; fault_of(alloc, &CALLS_HELP) == Some(ErrorKind::DisplayHelp));
+    assert!(rt; fault_of(alloc, &FLY) == Some(ErrorKind::InvalidSubcommand));
+    assert!(rt; fault_of(alloc, &CALLS_NOW) == Some(ErrorKind::UnknownArgument));
+    assert!(rt; fault_of(alloc, &NO_PORT) == Some(ErrorKind::MissingRequiredArgument));
+    assert!(rt; fault_of(alloc, &["mesos_node"]) == Some(ErrorKind::MissingSubcommand));
 }

@@ -3,7 +3,7 @@
 use event_json::Event;
 use http_door::{Answer, Bench, BenchFault, LinkFault, NoGate, Sink, Source, serve_conn};
 use mails::Call;
-use master_core::{Config, Master, MasterFault, Outs, StreamEvent};
+use master_core::{Config, Master, MasterFault, StreamEvent};
 use names_core::{Run, StreamId};
 use std::alloc::{AllocError, Global};
 
@@ -17,30 +17,32 @@ pub struct Desk {
 
 impl Desk {
     /// A master that begins run 1, without agents.
-    pub fn new(alloc: Global) -> Result<Desk, MasterFault> {
+    pub fn new(alloc: Global) -> Option<Desk> {
         let config = Config::new(alloc);
-        let (master, _greetings) = Master::start(alloc, Run::new(1), &config)?;
-        Ok(Desk {
-            alloc,
-            master,
-            told: Vec::new(alloc),
-        })
+        match Master::start(alloc, Run::new(1), &config) {
+            Ok((master, _)) => Some(Desk {
+                alloc,
+                master,
+                told: Vec::new(alloc),
+            }),
+            Err(_) => None,
+        }
     }
 
-    /// Keeps what a step told, and gives the stream that it opened.
-    fn keep(&mut self, outs: Outs) -> Result<Option<StreamId>, AllocError> {
-        let opened = outs.opened.as_slice().first().copied();
-        for told in outs.events.into_vec() {
-            self.told.push(told)?;
+    /// Keeps what a step told.
+    fn hear(&mut self, events: Vec<StreamEvent>) -> Option<()> {
+        for told in events {
+            self.told.push(told).ok()?;
         }
-        Ok(opened)
+        Some(())
     }
 
     /// A moment later.
-    pub fn tick(&mut self, now: u32) -> Result<(), MasterFault> {
-        let outs = self.master.tick(self.alloc, now)?;
-        let _none = self.keep(outs)?;
-        Ok(())
+    pub fn tick(&mut self, now: u32) -> Option<()> {
+        match self.master.tick(self.alloc, now) {
+            Ok(outs) => self.hear(outs.events.into_vec()),
+            Err(_) => None,
+        }
     }
 
     /// Whether a stream has events that weren't taken.
@@ -55,23 +57,29 @@ impl Desk {
     }
 }
 
+/// The answer to a call that opened this stream, if it did, where all that it told was heard.
+fn answer_of(opened: Option<StreamId>, heard: Option<()>) -> Answer {
+    match (heard, opened) {
+        (Some(()), Some(stream)) => Answer::Opened(stream),
+        (Some(()), None) => Answer::Accepted,
+        _ => Answer::Refused(BenchFault::OutOfMemory),
+    }
+}
+
 impl Bench for Desk {
     ghost use Rattle.std.specs.Prelude.{⊤};
 
     ghost does = { λ _ _ _. ⊤ };
 
     fn call(&mut self, stream: Option<StreamId>, call: Call) -> Answer {
-        let outs = match self.master.call(self.alloc, stream, call) {
-            Ok(outs) => outs,
-            Err(MasterFault::Refused(refusal)) => return Answer::Refused(BenchFault::Master(
-                refusal,
-            )),
-            Err(MasterFault::OutOfMemory) => return Answer::Refused(BenchFault::MasterOutOfMemory),
-        };
-        match self.keep(outs) {
-            Ok(Some(opened)) => Answer::Opened(opened),
-            Ok(None) => Answer::Accepted,
-            Err(_) => Answer::Refused(BenchFault::OutOfMemory),
+        match self.master.call(self.alloc, stream, call) {
+            Ok(outs) => {
+                let opened = outs.opened.as_slice().first().copied();
+                let heard = self.hear(outs.events.into_vec());
+                answer_of(opened, heard)
+            }
+            Err(MasterFault::Refused(refusal)) => Answer::Refused(BenchFault::Master(refusal)),
+            Err(MasterFault::OutOfMemory) => Answer::Refused(BenchFault::MasterOutOfMemory),
         }
     }
 
@@ -136,24 +144,29 @@ pub struct Beside {
 }
 
 impl Beside {
-    pub fn new(alloc: Global, other: Vec<u8>, later: u32) -> Result<Beside, MasterFault> {
-        Ok(Beside {
-            alloc,
-            desk: Desk::new(alloc)?,
-            other: Some(other),
-            got: Vec::new(alloc),
-            later,
-        })
+    pub fn new(alloc: Global, other: Vec<u8>, later: u32) -> Option<Beside> {
+        match Desk::new(alloc) {
+            Some(desk) => Some(Beside {
+                alloc,
+                desk,
+                other: Some(other),
+                got: Vec::new(alloc),
+                later,
+            }),
+            None => None,
+        }
     }
 
     /// The other connection, and the moment behind it.
-    fn meanwhile(&mut self) -> Result<(), MasterFault> {
-        let Some(request) = self.other.take() else {
-            return Ok(());
-        };
-        let reply = answer(self.alloc, &mut self.desk, request, 1 << 20, 1 << 30);
-        self.got = reply.got;
-        self.desk.tick(self.later)
+    fn meanwhile(&mut self) -> Option<()> {
+        match self.other.take() {
+            Some(request) => {
+                let reply = answer(self.alloc, &mut self.desk, request, 1 << 20, 1 << 30);
+                self.got = reply.got;
+                self.desk.tick(self.later)
+            }
+            None => Some(()),
+        }
     }
 }
 
@@ -167,7 +180,7 @@ impl Bench for Beside {
     }
 
     fn next_events(&mut self, stream: StreamId) -> Result<Option<Event>, AllocError> {
-        if !self.desk.has_told(stream) && self.meanwhile().is_err() {
+        if !self.desk.has_told(stream) && self.meanwhile().is_none() {
             return Err(AllocError);
         }
         self.desk.next_events(stream)

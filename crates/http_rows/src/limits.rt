@@ -1,12 +1,24 @@
 //! One connection to a master, whose input ends early or goes over a limit.
 
 use crate::desk::{Desk, Reply, answer};
-use master_core::MasterFault;
 use std::alloc::Global;
-use std::test::Fail;
 
 const BODY: &str =
     "{\"type\":\"SUBSCRIBE\",\"subscribe\":{\"framework_info\":{\"user\":\"u\",\"name\":\"n\"}}}";
+
+const HEAD: &str =
+    "POST /api/v1/scheduler HTTP/1.1\r\nContent-Type: application/json\r\nContent-Length: 75\r\n\r\n";
+
+/// The head with the body behind it.
+const SUBSCRIBE: &str =
+    "POST /api/v1/scheduler HTTP/1.1\r\nContent-Type: application/json\r\nContent-Length: 75\r\n\r\n{\"type\":\"SUBSCRIBE\",\"subscribe\":{\"framework_info\":{\"user\":\"u\",\"name\":\"n\"}}}";
+
+const LONG_HEAD: &str =
+    "POST /api/v1/scheduler HTTP/1.1\r\nContent-Type: application/json\r\nContent-Length: 1048577\r\n\r\n";
+
+/// The same body, of which the head says that it is too long.
+const LONG: &str =
+    "POST /api/v1/scheduler HTTP/1.1\r\nContent-Type: application/json\r\nContent-Length: 1048577\r\n\r\n{\"type\":\"SUBSCRIBE\",\"subscribe\":{\"framework_info\":{\"user\":\"u\",\"name\":\"n\"}}}";
 
 const BAD_HEAD: &str =
     "HTTP/1.1 400 Bad Request\r\nContent-Type: text/plain\r\nContent-Length: 11\r\nConnection: close\r\n\r\nH1 BadHead\n";
@@ -17,119 +29,126 @@ const BAD_BODY: &str =
 const TOO_LONG: &str =
     "HTTP/1.1 413 Content Too Large\r\nContent-Type: text/plain\r\nContent-Length: 11\r\nConnection: close\r\n\r\nH5 TooLong\n";
 
-/// The head of a SUBSCRIBE with these fields more.
-fn head(alloc: Global, fields: &str) -> Result<String, Fail> {
-    Ok(format!(in alloc;
-        "POST /api/v1/scheduler HTTP/1.1\r\nContent-Type: application/json\r\nContent-Length: 75\r\n{fields}\r\n"
-    )?)
+/// What comes of a connection to a new master, whose client sends this, so many bytes at a time.
+fn reply_to(alloc: Global, request: &str, most: usize) -> Option<Reply> {
+    let bytes = Vec::from_slice(alloc, request.as_bytes()).ok()?;
+    match Desk::new(alloc) {
+        Some(mut desk) => Some(answer(alloc, &mut desk, bytes, most, 1 << 30)),
+        None => None,
+    }
 }
 
-/// What comes of a connection to a new master, whose client sends this.
-fn answered(alloc: Global, request: Vec<u8>, most: usize) -> Result<Reply, MasterFault> {
-    let mut desk = Desk::new(alloc)?;
-    Ok(answer(alloc, &mut desk, request, most, 1 << 30))
+fn is_answered(alloc: Global, request: &str, want: &str) -> bool {
+    match reply_to(alloc, request, 1 << 20) {
+        Some(reply) => reply.got.as_slice() == want.as_bytes(),
+        None => false,
+    }
 }
 
-/// Whether a new master's answer to this is the text, or, where there is none, an open stream.
-fn expect(alloc: Global, request: &str, want: Option<&str>) -> Result<(), Fail> {
-    let reply = answered(alloc, Vec::from_slice(alloc, request.as_bytes())?, 1 << 20)?;
-    let got = reply.got;
-    let is_right = match want {
-        Some(text) => got.as_slice() == text.as_bytes(),
-        None => got.starts_with(b"HTTP/1.1 200 OK\r\n"),
-    };
-    if is_right {
-        Ok(())
+fn is_opened(alloc: Global, request: &str) -> bool {
+    match reply_to(alloc, request, 1 << 20) {
+        Some(reply) => reply.got.starts_with(b"HTTP/1.1 200 OK\r\n"),
+        None => false,
+    }
+}
+
+/// Whether an input that ends behind so many bytes is answered so: first the head is refused, then the body.
+fn ends_at(alloc: Global, length: usize) -> bool {
+    let want = if length < HEAD.len() {
+        BAD_HEAD
     } else {
-        Err(Fail::new("another answer"))
+        BAD_BODY
+    };
+    match SUBSCRIBE.get(..length) {
+        Some(front) => is_answered(alloc, front, want),
+        None => false,
     }
 }
 
-/// The input ends behind each of its bytes: nothing is answered where there is none, then the head is refused, then the body.
-fn ends(alloc: Global) -> Result<(), Fail> {
-    let head = head(alloc, "")?;
-    let request = format!(in alloc; "{head}{BODY}")?;
-    expect(alloc, "", Some(""))?;
-    for length in 1..request.len() {
-        let want = if length < head.len() {
-            BAD_HEAD
-        } else {
-            BAD_BODY
-        };
-        let Some(front) = request.as_str().get(..length) else {
-            return Err(Fail::new("no ASCII"));
-        };
-        expect(alloc, front, Some(want))?;
-    }
-    expect(alloc, request.as_str(), None)
-}
-
+/// Nothing is answered where there is no input.
 #[test]
-fn an_end_in_each_place(rt: HostRuntime) -> Result<(), Fail> {
-    ends(rt.alloc())
+fn an_end_in_each_place(rt: HostRuntime) {
+    assert!(rt; is_answered(rt.alloc(), "", ""));
+    for length in 1..SUBSCRIBE.len() {
+        assert!(rt; ends_at(rt.alloc(), length), "behind {length} bytes");
+    }
+    assert!(rt; is_opened(rt.alloc(), SUBSCRIBE));
 }
 
-/// A request with so many fields beside the two of each head.
-fn with_fields(alloc: Global, count: u32) -> Result<String, Fail> {
-    let mut fields = String::new(alloc);
+/// A SUBSCRIBE with these fields more.
+fn with_fields(alloc: Global, fields: &str) -> Option<String> {
+    format!(in alloc;
+        "POST /api/v1/scheduler HTTP/1.1\r\nContent-Type: application/json\r\nContent-Length: 75\r\n{fields}\r\n{BODY}"
+    ).ok()
+}
+
+fn push_often(text: &mut String, part: &str, count: usize) -> Option<()> {
     for _ in 0..count {
-        fields.push_str("a: b\r\n")?;
+        text.push_str(part).ok()?;
     }
-    let head = head(alloc, fields.as_str())?;
-    Ok(format!(in alloc; "{head}{BODY}")?)
+    Some(())
 }
 
-/// At most 64 fields are taken.
-fn fields(alloc: Global) -> Result<(), Fail> {
-    expect(alloc, with_fields(alloc, 62)?.as_str(), None)?;
-    expect(alloc, with_fields(alloc, 63)?.as_str(), Some(BAD_HEAD))
+/// So many fields.
+fn fields_of(alloc: Global, count: usize) -> Option<String> {
+    let mut fields = String::new(alloc);
+    push_often(&mut fields, "a: b\r\n", count)?;
+    Some(fields)
+}
+
+fn push_field(field: &mut String, count: usize) -> Option<()> {
+    field.push_str("a: ").ok()?;
+    push_often(field, "b", count)?;
+    field.push_str("\r\n").ok()
+}
+
+/// One field, whose value has so many bytes.
+fn field_of(alloc: Global, count: usize) -> Option<String> {
+    let mut field = String::new(alloc);
+    push_field(&mut field, count)?;
+    Some(field)
+}
+
+/// Whether a SUBSCRIBE with these fields more is taken; none where memory was refused.
+fn is_taken(alloc: Global, fields: Option<String>) -> Option<bool> {
+    let fields = fields?;
+    let request = with_fields(alloc, fields.as_str())?;
+    let refused = is_answered(alloc, request.as_str(), BAD_HEAD);
+    let opened = is_opened(alloc, request.as_str());
+    if refused == opened {
+        None
+    } else {
+        Some(opened)
+    }
+}
+
+/// The head has two fields of its own.
+#[test]
+fn at_most_64_fields(rt: HostRuntime) {
+    let alloc = rt.alloc();
+    assert!(rt; is_taken(alloc, fields_of(alloc, 62)) == Some(true));
+    assert!(rt; is_taken(alloc, fields_of(alloc, 63)) == Some(false));
 }
 
 #[test]
-fn at_most_64_fields(rt: HostRuntime) -> Result<(), Fail> {
-    fields(rt.alloc())
-}
-
-/// A request whose head has so many bytes.
-fn with_head_of(alloc: Global, length: usize) -> Result<String, Fail> {
-    let mut field = String::from_str(alloc, "a: ")?;
-    let least = head(alloc, "a: \r\n")?.len();
-    for _ in least..length {
-        field.push_str("b")?;
-    }
-    field.push_str("\r\n")?;
-    let head = head(alloc, field.as_str())?;
-    Ok(format!(in alloc; "{head}{BODY}")?)
-}
-
-/// At most 16,384 bytes of a head are taken.
-fn head_bytes(alloc: Global) -> Result<(), Fail> {
-    expect(alloc, with_head_of(alloc, 16_384)?.as_str(), None)?;
-    expect(alloc, with_head_of(alloc, 16_385)?.as_str(), Some(BAD_HEAD))
-}
-
-#[test]
-fn at_most_16384_bytes_of_a_head(rt: HostRuntime) -> Result<(), Fail> {
-    head_bytes(rt.alloc())
+fn at_most_16384_bytes_of_a_head(rt: HostRuntime) {
+    let alloc = rt.alloc();
+    let least = HEAD.len() + 5;
+    assert!(rt; is_taken(alloc, field_of(alloc, 16_384 - least)) == Some(true));
+    assert!(rt; is_taken(alloc, field_of(alloc, 16_385 - least)) == Some(false));
 }
 
 /// A body that is too long isn't read: only what came with the head is.
-fn too_long(alloc: Global) -> Result<(), Fail> {
-    let head =
-        "POST /api/v1/scheduler HTTP/1.1\r\nContent-Type: application/json\r\nContent-Length: 1048577\r\n\r\n";
-    let request = format!(in alloc; "{head}{BODY}")?;
-    let bytes = Vec::from_slice(alloc, request.as_bytes())?;
-    let reply = answered(alloc, bytes, head.len())?;
-    if reply.got.as_slice() != TOO_LONG.as_bytes() {
-        return Err(Fail::new("another answer"));
+fn leaves_the_body(alloc: Global) -> bool {
+    match reply_to(alloc, LONG, LONG_HEAD.len()) {
+        Some(reply) => {
+            reply.got.as_slice() == TOO_LONG.as_bytes() && reply.left.as_slice() == BODY.as_bytes()
+        }
+        None => false,
     }
-    if reply.left.as_slice() != BODY.as_bytes() {
-        return Err(Fail::new("the body was read"));
-    }
-    Ok(())
 }
 
 #[test]
-fn a_body_that_is_too_long_is_not_read(rt: HostRuntime) -> Result<(), Fail> {
-    too_long(rt.alloc())
+fn a_body_that_is_too_long_is_not_read(rt: HostRuntime) {
+    assert!(rt; leaves_the_body(rt.alloc()));
 }

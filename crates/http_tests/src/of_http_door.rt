@@ -5,13 +5,80 @@ use http_door::{Answer, Bench, BenchFault, LinkFault, NoGate, Sink, Source, serv
 use mails::{Call, MasterRefusal};
 use names_core::{FrameworkId, StreamId};
 use std::alloc::{AllocError, Global};
-use std::test::Fail;
 
 const ACCEPTED: &str = "HTTP/1.1 202 Accepted\r\nContent-Length: 0\r\n\r\n";
 
-const POST: &str = "POST /api/v1/scheduler HTTP/1.1\r\nContent-Type: application/json\r\n";
+const BAD_HEAD: &str =
+    "HTTP/1.1 400 Bad Request\r\nContent-Type: text/plain\r\nContent-Length: 11\r\nConnection: close\r\n\r\nH1 BadHead\n";
 
-const REVIVE: &str = "{\"type\":\"REVIVE\",\"framework_id\":{\"value\":\"F1-1\"}}";
+const BAD_BODY: &str =
+    "HTTP/1.1 400 Bad Request\r\nContent-Type: text/plain\r\nContent-Length: 11\r\nConnection: close\r\n\r\nH6 BadBody\n";
+
+const TOO_LONG: &str =
+    "HTTP/1.1 413 Content Too Large\r\nContent-Type: text/plain\r\nContent-Length: 11\r\nConnection: close\r\n\r\nH5 TooLong\n";
+
+const NOT_SUBSCRIBED: &str =
+    "HTTP/1.1 403 Forbidden\r\nContent-Type: text/plain\r\nContent-Length: 17\r\nConnection: close\r\n\r\nM1 NotSubscribed\n";
+
+/// What is sent for an input that is no request, or whose head is refused.
+const HEADS: [(&str, &str); 8] = [
+    ("", ""),
+    ("\r\n\n", ""),
+    ("\r\n\r", BAD_HEAD),
+    ("POST /api", BAD_HEAD),
+    (
+        "GET /x HTTP/1.1\r\n\r\n",
+        "HTTP/1.1 404 Not Found\r\nContent-Type: text/plain\r\nContent-Length: 14\r\nConnection: close\r\n\r\nH2 NoSuchPath\n",
+    ),
+    (
+        "GET /api/v1/scheduler HTTP/1.1\n\n",
+        "HTTP/1.1 405 Method Not Allowed\r\nAllow: POST\r\nContent-Type: text/plain\r\nContent-Length: 11\r\nConnection: close\r\n\r\nH3 NotPost\n",
+    ),
+    (
+        "POST /api/v1/scheduler HTTP/1.1\nContent-Type: text/plain\n\n",
+        "HTTP/1.1 415 Unsupported Media Type\r\nContent-Type: text/plain\r\nContent-Length: 14\r\nConnection: close\r\n\r\nH4 WrongMedia\n",
+    ),
+    (
+        "POST /api/v1/scheduler HTTP/1.1\r\nContent-Type: application/json\r\nExpect: 100-continue\r\nContent-Length: 1048577\r\n\r\n",
+        TOO_LONG,
+    ),
+];
+
+/// What is sent for a body by its length, one that is waited for, and bodies in chunks.
+const BODIES: [(&str, &str); 7] = [
+    (
+        "POST /api/v1/scheduler HTTP/1.1\r\nContent-Type: application/json\r\nContent-Length: 50\r\n\r\n{\"type\":\"REVIVE\",\"framework_id\":{\"value\":\"F1-1\"}}",
+        BAD_BODY,
+    ),
+    (
+        "POST /api/v1/scheduler HTTP/1.1\r\nContent-Type: application/json\r\n\r\n",
+        "HTTP/1.1 400 Bad Request\r\nContent-Type: text/plain\r\nContent-Length: 11\r\nConnection: close\r\n\r\nJ1 NotJson\n",
+    ),
+    (
+        "POST /api/v1/scheduler HTTP/1.1\r\nContent-Type: application/json\r\nContent-Length: 49\r\nConnection: Close\r\n\r\n{\"type\":\"REVIVE\",\"framework_id\":{\"value\":\"F1-1\"}}left",
+        ACCEPTED,
+    ),
+    (
+        "POST /api/v1/scheduler HTTP/1.1\r\nContent-Type: application/json\r\nExpect: 100-continue\r\nContent-Length: 49\r\n\r\n{\"type\":\"REVIVE\",\"framework_id\":{\"value\":\"F1-1\"}}",
+        "HTTP/1.1 100 Continue\r\n\r\nHTTP/1.1 202 Accepted\r\nContent-Length: 0\r\n\r\n",
+    ),
+    (
+        "POST /api/v1/scheduler HTTP/1.1\r\nContent-Type: application/json\r\nTransfer-Encoding: chunked\r\n\r\n1\r\n{\r\n2f;x\r\n\"type\":\"REVIVE\",\"framework_id\":{\"value\":\"F1-1\"}\r\n1\r\n}\r\n000\r\na: b\n\r\n\nPOST /api/v1/scheduler HTTP/1.1\r\nContent-Type: application/json\r\nTransfer-Encoding: chunked\r\n\r\n1\r\n{\r\n2f;x\r\n\"type\":\"REVIVE\",\"framework_id\":{\"value\":\"F1-1\"}\r\n1\r\n}\r\n000\r\na: b\n\r\n",
+        "HTTP/1.1 202 Accepted\r\nContent-Length: 0\r\n\r\nHTTP/1.1 202 Accepted\r\nContent-Length: 0\r\n\r\n",
+    ),
+    (
+        "POST /api/v1/scheduler HTTP/1.1\r\nContent-Type: application/json\r\nTransfer-Encoding: chunked\r\n\r\n1\r\n{x\r\n0\r\n\r\n",
+        BAD_BODY,
+    ),
+    (
+        "POST /api/v1/scheduler HTTP/1.1\r\nContent-Type: application/json\r\nTransfer-Encoding: chunked\r\n\r\n1\r\n{\r\nffffffffffffffff\r\n",
+        TOO_LONG,
+    ),
+];
+
+/// A call that the bench refuses.
+const REVIVE: &str =
+    "POST /api/v1/scheduler HTTP/1.1\r\nContent-Type: application/json\r\nContent-Length: 49\r\n\r\n{\"type\":\"REVIVE\",\"framework_id\":{\"value\":\"F1-1\"}}";
 
 /// Accepts or refuses each call, and gives so many events on a stream.
 #[derive(Drop)]
@@ -50,9 +117,9 @@ impl Bench for Script {
 }
 
 /// What is sent back for an input that comes in pieces of so many bytes.
-fn answer(alloc: Global, input: &str, most: usize, accepts: bool) -> Result<Vec<u8>, Fail> {
+fn answer_to(alloc: Global, bytes: Vec<u8>, most: usize, accepts: bool) -> Option<Vec<u8>> {
     let mut source = Source {
-        bytes: Vec::from_slice(alloc, input.as_bytes())?,
+        bytes,
         most,
         turns: 1 << 30,
         faults: 0,
@@ -69,147 +136,52 @@ fn answer(alloc: Global, input: &str, most: usize, accepts: bool) -> Result<Vec<
         hung_up: false,
     };
     match serve_conn(alloc, &mut source, &mut sink, &mut bench, &NoGate) {
-        Ok(()) => Ok(sink.bytes),
-        Err(_) => Err(Fail::new("the connection failed")),
+        Ok(()) => Some(sink.bytes),
+        Err(_) => None,
     }
 }
 
-fn refusal(alloc: Global, status: &str, text: &str) -> Result<String, Fail> {
-    let length = text.len() + 1;
-    Ok(format!(in alloc;
-        "HTTP/1.1 {status}\r\nContent-Type: text/plain\r\nContent-Length: {length}\r\nConnection: close\r\n\r\n{text}\n"
-    )?)
+fn answer(alloc: Global, input: &str, most: usize, accepts: bool) -> Option<Vec<u8>> {
+    match Vec::from_slice(alloc, input.as_bytes()) {
+        Ok(bytes) => answer_to(alloc, bytes, most, accepts),
+        Err(_) => None,
+    }
 }
 
-/// A request with these fields and this body.
-fn post(alloc: Global, fields: &str, body: &str) -> Result<String, Fail> {
-    Ok(format!(in alloc; "{POST}{fields}\r\n{body}")?)
+fn is_answered(alloc: Global, input: &str, want: &str, most: usize, accepts: bool) -> bool {
+    match answer(alloc, input, most, accepts) {
+        Some(sent) => sent.as_slice() == want.as_bytes(),
+        None => false,
+    }
 }
 
-fn check(alloc: Global, input: &str, want: &str, accepts: bool) -> Result<(), Fail> {
-    for most in [1usize, 3, 1 << 20] {
-        let sent = answer(alloc, input, most, accepts)?;
-        if sent.as_slice() != want.as_bytes() {
-            return Err(Fail::new("another answer"));
+/// Whether this is sent back, in whatever pieces the input comes.
+fn is_sent(alloc: Global, input: &str, want: &str, accepts: bool) -> bool {
+    is_answered(alloc, input, want, 1, accepts)
+        && is_answered(alloc, input, want, 3, accepts)
+        && is_answered(alloc, input, want, 1 << 20, accepts)
+}
+
+/// The place of the first of these that is answered otherwise.
+fn first_other(alloc: Global, cases: &[(&str, &str)]) -> Option<usize> {
+    for i in 0..cases.len() {
+        let (input, want) = cases[i];
+        if !is_sent(alloc, input, want, true) {
+            return Some(i);
         }
     }
-    Ok(())
+    None
 }
 
 #[test]
-fn heads(rt: HostRuntime) -> Result<(), Fail> {
-    let alloc = rt.alloc();
-    let bad_head = refusal(alloc, "400 Bad Request", "H1 BadHead")?;
-    check(alloc, "", "", true)?;
-    check(alloc, "\r\n\n", "", true)?;
-    check(alloc, "\r\n\r", &bad_head, true)?;
-    check(alloc, "POST /api", &bad_head, true)?;
-    check(
-        alloc,
-        "GET /x HTTP/1.1\r\n\r\n",
-        &refusal(alloc, "404 Not Found", "H2 NoSuchPath")?,
-        true,
-    )?;
-    check(
-        alloc,
-        "GET /api/v1/scheduler HTTP/1.1\n\n",
-        &refusal(alloc, "405 Method Not Allowed\r\nAllow: POST", "H3 NotPost")?,
-        true,
-    )?;
-    check(
-        alloc,
-        "POST /api/v1/scheduler HTTP/1.1\nContent-Type: text/plain\n\n",
-        &refusal(alloc, "415 Unsupported Media Type", "H4 WrongMedia")?,
-        true,
-    )?;
-    check(
-        alloc,
-        &post(
-            alloc,
-            "Expect: 100-continue\r\nContent-Length: 1048577\r\n",
-            "",
-        )?,
-        &refusal(alloc, "413 Content Too Large", "H5 TooLong")?,
-        true,
-    )
+fn heads(rt: HostRuntime) {
+    assert!(rt; first_other(rt.alloc(), &HEADS) == None);
 }
 
 #[test]
-fn bodies_by_their_length(rt: HostRuntime) -> Result<(), Fail> {
-    let alloc = rt.alloc();
-    let bad_body = refusal(alloc, "400 Bad Request", "H6 BadBody")?;
-    check(
-        alloc,
-        &post(alloc, "Content-Length: 50\r\n", REVIVE)?,
-        &bad_body,
-        true,
-    )?;
-    check(
-        alloc,
-        &post(alloc, "", "")?,
-        &refusal(alloc, "400 Bad Request", "J1 NotJson")?,
-        true,
-    )?;
-    let whole = post(alloc, "Content-Length: 49\r\nConnection: Close\r\n", REVIVE)?;
-    check(alloc, &format!(in alloc; "{whole}left")?, ACCEPTED, true)?;
-    let not_subscribed = refusal(alloc, "403 Forbidden", "M1 NotSubscribed")?;
-    check(
-        alloc,
-        &post(alloc, "Content-Length: 49\r\n", REVIVE)?,
-        &not_subscribed,
-        false,
-    )
-}
-
-#[test]
-fn a_body_that_is_waited_for(rt: HostRuntime) -> Result<(), Fail> {
-    let alloc = rt.alloc();
-    let waits = post(
-        alloc,
-        "Expect: 100-continue\r\nContent-Length: 49\r\n",
-        REVIVE,
-    )?;
-    check(
-        alloc,
-        &waits,
-        &format!(in alloc; "HTTP/1.1 100 Continue\r\n\r\n{ACCEPTED}")?,
-        true,
-    )
-}
-
-#[test]
-fn bodies_in_chunks(rt: HostRuntime) -> Result<(), Fail> {
-    let alloc = rt.alloc();
-    let chunks =
-        "1\r\n{\r\n2f;x\r\n\"type\":\"REVIVE\",\"framework_id\":{\"value\":\"F1-1\"}\r\n1\r\n}\r\n000\r\na: b\n\r\n";
-    let chunked = post(alloc, "Transfer-Encoding: chunked\r\n", chunks)?;
-    let twice = format!(in alloc; "{ACCEPTED}{ACCEPTED}")?;
-    check(
-        alloc,
-        &format!(in alloc; "{chunked}\n{chunked}")?,
-        &twice,
-        true,
-    )?;
-    check(
-        alloc,
-        &post(
-            alloc,
-            "Transfer-Encoding: chunked\r\n",
-            "1\r\n{x\r\n0\r\n\r\n",
-        )?,
-        &refusal(alloc, "400 Bad Request", "H6 BadBody")?,
-        true,
-    )?;
-    check(
-        alloc,
-        &post(
-            alloc,
-            "Transfer-Encoding: chunked\r\n",
-            "1\r\n{\r\nffffffffffffffff\r\n",
-        )?,
-        &refusal(alloc, "413 Content Too Large", "H5 TooLong")?,
-        true,
-    )
+fn bodies(rt: HostRuntime) {
+    assert!(rt; first_other(rt.alloc(), &BODIES) == None);
+    assert!(rt; is_sent(rt.alloc(), REVIVE, NOT_SUBSCRIBED, false));
 }
 
 const SUBSCRIBE: &str =
@@ -219,20 +191,20 @@ const STREAM: &str =
     "HTTP/1.1 200 OK\r\nContent-Type: application/json\r\nTransfer-Encoding: chunked\r\nMesos-Stream-Id: S1-1\r\n\r\n68\r\n100\n{\"subscribed\":{\"framework_id\":{\"value\":\"F1-1\"},\"heartbeat_interval_seconds\":15},\"type\":\"SUBSCRIBED\"}\r\n0\r\n\r\n";
 
 #[test]
-fn a_stream(rt: HostRuntime) -> Result<(), Fail> {
-    check(rt.alloc(), SUBSCRIBE, STREAM, true)
+fn a_stream(rt: HostRuntime) {
+    assert!(rt; is_sent(rt.alloc(), SUBSCRIBE, STREAM, true));
 }
 
-#[test]
-fn a_stream_that_breaks_off_is_hung_up(rt: HostRuntime) -> Result<(), Fail> {
+/// How a connection ends whose outlet fails at the third write, whether its stream is hung up, and how much was sent.
+fn broken_off(alloc: Global, bytes: Vec<u8>) -> (Result<(), LinkFault>, bool, usize) {
     let mut source = Source {
-        bytes: Vec::from_slice(rt.alloc(), SUBSCRIBE.as_bytes())?,
+        bytes,
         most: 1 << 20,
         turns: 9,
         faults: 0,
     };
     let mut sink = Sink {
-        bytes: Vec::new(rt.alloc()),
+        bytes: Vec::new(alloc),
         most: 1 << 20,
         turns: 2,
         faults: 0,
@@ -242,8 +214,18 @@ fn a_stream_that_breaks_off_is_hung_up(rt: HostRuntime) -> Result<(), Fail> {
         events: 5,
         hung_up: false,
     };
-    let result = serve_conn(rt.alloc(), &mut source, &mut sink, &mut bench, &NoGate);
-    assert_eq!(rt; result, Err(LinkFault::Failed));
-    assert!(rt; bench.hung_up && sink.bytes.len() == 212);
-    Ok(())
+    let ended = serve_conn(alloc, &mut source, &mut sink, &mut bench, &NoGate);
+    (ended, bench.hung_up, sink.bytes.len())
+}
+
+fn is_hung_up(alloc: Global) -> bool {
+    match Vec::from_slice(alloc, SUBSCRIBE.as_bytes()) {
+        Ok(bytes) => broken_off(alloc, bytes) == (Err(LinkFault::Failed), true, 212),
+        Err(_) => false,
+    }
+}
+
+#[test]
+fn a_stream_that_breaks_off_is_hung_up(rt: HostRuntime) {
+    assert!(rt; is_hung_up(rt.alloc()));
 }

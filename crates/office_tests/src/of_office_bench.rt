@@ -1,15 +1,18 @@
 //! Connections over loopback to an office: what each sends, and what it is answered.
 
 use crate::requests::{SEATS_SPENT, SUBSCRIBE};
-use crate::scripts::{LOSES_MASTER, OVERLAPS, SUBSCRIBES};
+use crate::scripts::{LOSES_MASTER, Move, OVERLAPS, SUBSCRIBES};
 use crate::served::{Closed, refuses_unopened, served};
 use http_door::{Bench, BenchFault, NoGate, Sink, Source, serve_conn};
 use office_bench::Seating;
 use std::alloc::Global;
 use std::marker::Brand;
+use std::net::{Net, TcpListener, TcpStream};
 use std::sync::ledger::Blank;
 use std::sync::{Wait, ledger};
 use std::test::*;
+use std::thread::Threads;
+use std::time::Clock;
 
 /// One part for each seat, and one for the desk.
 const PARTS: u64 = 1 << 32;
@@ -26,33 +29,44 @@ fn all_of(moves: usize, overlapped: bool, hang_ups: usize) -> Option<Closed> {
     })
 }
 
-#[test]
-fn a_subscription_ends_with_the_office(rt: HostRuntime) -> Result<(), Fail> {
-    let closed = served::<Brand, _>(&rt, rt.alloc(), Blank::new(PARTS), NONE, SUBSCRIBES);
-    assert!(rt; closed == all_of(SUBSCRIBES.len(), false, 0));
-    Ok(())
+/// What is seen at the close of an office of its own.
+fn seen<R: Net<Listener = TcpListener, Stream = TcpStream> + Threads + Wait + Clock + Sync>(
+    rt: &R,
+    alloc: Global,
+    held: u64,
+    script: &[Move],
+) -> Option<Closed> {
+    served::<Brand, R>(rt, alloc, Blank::new(PARTS), held, script)
 }
 
 #[test]
-fn a_master_stops(rt: HostRuntime) -> Result<(), Fail> {
-    let closed = served::<Brand, _>(&rt, rt.alloc(), Blank::new(PARTS), NONE, LOSES_MASTER);
+fn a_subscription_ends_with_the_office(rt: HostRuntime) {
+    let closed = seen(&rt, rt.alloc(), NONE, SUBSCRIBES);
+    assert!(rt; closed == all_of(SUBSCRIBES.len(), false, 0));
+}
+
+#[test]
+fn a_master_stops(rt: HostRuntime) {
+    let closed = seen(&rt, rt.alloc(), NONE, LOSES_MASTER);
     assert!(rt; closed == all_of(LOSES_MASTER.len(), false, 0));
-    Ok(())
 }
 
 /// The second call, from 0, is held until the third is answered.
 #[test]
-fn two_calls_overlap(rt: HostRuntime) -> Result<(), Fail> {
-    let closed = served::<Brand, _>(&rt, rt.alloc(), Blank::new(PARTS), 1, OVERLAPS);
+fn two_calls_overlap(rt: HostRuntime) {
+    let closed = seen(&rt, rt.alloc(), 1, OVERLAPS);
     assert!(rt; closed == all_of(OVERLAPS.len(), true, 1));
-    Ok(())
 }
 
 /// Whether a bench without a seat answers a SUBSCRIBE in memory by O5.
 fn refuses<B: Bench>(alloc: Global, bench: &mut B) -> bool {
-    let Ok(bytes) = Vec::from_slice(alloc, SUBSCRIBE.as_bytes()) else {
-        return false;
-    };
+    match Vec::from_slice(alloc, SUBSCRIBE.as_bytes()) {
+        Ok(bytes) => refuses_bytes(alloc, bench, bytes),
+        Err(_) => false,
+    }
+}
+
+fn refuses_bytes<B: Bench>(alloc: Global, bench: &mut B, bytes: Vec<u8>) -> bool {
     let mut source = Source {
         bytes,
         most: 64,
@@ -79,14 +93,12 @@ fn refuses_without_seat<'x, L: ledger::Ledger + 'x, R: Wait + 'x>(
 }
 
 #[test]
-fn no_seat_is_left(rt: HostRuntime) -> Result<(), Fail> {
+fn no_seat_is_left(rt: HostRuntime) {
     assert!(rt; refuses_without_seat::<Brand, _>(&rt, rt.alloc()));
-    Ok(())
 }
 
 #[test]
-fn a_stream_never_opened(rt: HostRuntime) -> Result<(), Fail> {
+fn a_stream_never_opened(rt: HostRuntime) {
     let refused = refuses_unopened::<Brand, _>(&rt, rt.alloc(), Blank::new(PARTS));
     assert!(rt; refused == Some(true));
-    Ok(())
 }

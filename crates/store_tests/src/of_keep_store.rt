@@ -7,7 +7,6 @@ use names_core::AgentName;
 use quantity::Resources;
 use sqlite::{Alter, Connection};
 use std::alloc::Global;
-use std::test::Fail;
 
 type Found = Result<Option<u32>, KeepFault>;
 
@@ -19,9 +18,9 @@ type Answers = (
 );
 
 /// Agent a1, in this session of run 1.
-fn record(alloc: Global, session: u32) -> Result<Durable, Fail> {
-    Ok(Durable {
-        name: AgentName::from_text(alloc, "a1")?,
+fn record(alloc: Global, session: u32) -> Option<Durable> {
+    Some(Durable {
+        name: AgentName::from_text(alloc, "a1").ok()?,
         total: Resources::new(alloc),
         session,
         run: 1,
@@ -31,10 +30,9 @@ fn record(alloc: Global, session: u32) -> Result<Durable, Fail> {
 
 // What the test makes of a keeper stands in these, which have it by reference and have no clause: so the proof of the test carries neither what a
 // keeper owns nor the state of each call.
-fn save<S: Alter>(keeper: &mut Keeper<S>, alloc: Global, session: u32) -> Result<(), Fail> {
+fn save<S: Alter>(keeper: &mut Keeper<S>, alloc: Global, session: u32) -> Option<()> {
     let record = record(alloc, session)?;
-    keeper.save(alloc, &record).ok().ok_or("save")?;
-    Ok(())
+    keeper.save(alloc, &record).ok()
 }
 
 /// The session of the record that is kept.
@@ -53,43 +51,48 @@ fn answers<S: Alter>(keeper: &mut Keeper<S>, alloc: Global) -> Answers {
 fn answers_around_saves<S: Alter>(
     keeper: &mut Keeper<S>,
     alloc: Global,
-) -> Result<(Answers, Answers), Fail> {
+) -> Option<(Answers, Answers)> {
     let new = answers(keeper, alloc);
     save(keeper, alloc, 1)?;
     save(keeper, alloc, 2)?;
-    Ok((new, answers(keeper, alloc)))
+    Some((new, answers(keeper, alloc)))
 }
 
-fn adopted<S: Alter + Drop>(conn: Connection<S>) -> Result<Keeper<S>, Fail> {
-    Ok(Keeper::adopt(conn).ok().ok_or("adopt")?)
+fn adopted<S: Alter + Drop>(conn: Connection<S>) -> Option<Keeper<S>> {
+    Keeper::adopt(conn).ok()
 }
 
 /// What a keeper answers that is adopted again behind another.
-fn answers_when_adopted<S: Alter + Drop>(
-    keeper: Keeper<S>,
-    alloc: Global,
-) -> Result<Answers, Fail> {
+fn answers_when_adopted<S: Alter + Drop>(keeper: Keeper<S>, alloc: Global) -> Option<Answers> {
     let mut again = adopted(keeper.into_connection())?;
-    Ok(answers(&mut again, alloc))
+    Some(answers(&mut again, alloc))
 }
 
 /// What a keeper answers that is new, that has saved, and that is adopted again.
 fn all_answers<S: Alter + Drop>(
     conn: Connection<S>,
     alloc: Global,
-) -> Result<(Answers, Answers, Answers), Fail> {
+) -> Option<(Answers, Answers, Answers)> {
     let mut keeper = adopted(conn)?;
     let (new, saved) = answers_around_saves(&mut keeper, alloc)?;
-    Ok((new, saved, answers_when_adopted(keeper, alloc)?))
+    let again = answers_when_adopted(keeper, alloc)?;
+    Some((new, saved, again))
 }
 
+fn all_answers_in_memory(alloc: Global) -> Option<(Answers, Answers, Answers)> {
+    match Connection::open_in_memory(alloc) {
+        Ok(conn) => all_answers(conn, alloc),
+        Err(_) => None,
+    }
+}
+
+const NEW: Answers = (Ok(None), (Ok(1), Ok(2)), Ok(None));
+
+const SAVED: Answers = (Ok(Some(2)), (Ok(3), Ok(4)), Ok(Some(2)));
+
+const AGAIN: Answers = (Ok(Some(2)), (Ok(5), Ok(6)), Ok(Some(2)));
+
 #[test]
-fn the_last_saved_is_loaded(rt: HostRuntime) -> Result<(), Fail> {
-    let alloc = rt.alloc();
-    let conn = Connection::open_in_memory(alloc)?;
-    let (new, saved, again) = all_answers(conn, alloc)?;
-    assert_eq!(rt; new, (Ok(None), (Ok(1), Ok(2)), Ok(None)));
-    assert_eq!(rt; saved, (Ok(Some(2)), (Ok(3), Ok(4)), Ok(Some(2))));
-    assert_eq!(rt; again, (Ok(Some(2)), (Ok(5), Ok(6)), Ok(Some(2))));
-    Ok(())
+fn the_last_saved_is_loaded(rt: HostRuntime) {
+    assert!(rt; all_answers_in_memory(rt.alloc()) == Some((NEW, SAVED, AGAIN)));
 }

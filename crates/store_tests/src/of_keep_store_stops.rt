@@ -9,7 +9,6 @@ use quantity::Resources;
 use sqlite::{Alter, Connection, FileStore, Files, Options};
 use sqlite_disk::{Crash, Disk, Fuse, Memory};
 use std::alloc::Global;
-use std::test::Fail;
 
 type Disks = Files<Fuse<Memory>>;
 
@@ -46,36 +45,52 @@ const NO_ANSWERS: Answers = Answers {
     run: None,
 };
 
-fn disk_of(alloc: Global, bytes: &[u8], calls: u64) -> Result<Fuse<Memory>, Fail> {
+fn synced(mut disk: Memory, calls: u64) -> Option<Fuse<Memory>> {
+    match disk.sync() {
+        Ok(()) => Some(Fuse::new(disk, calls)),
+        Err(_) => None,
+    }
+}
+
+fn disk_of(alloc: Global, bytes: &[u8], calls: u64) -> Option<Fuse<Memory>> {
     let mut disk = Memory::new(alloc);
-    disk.write_at(0, bytes)?;
-    disk.sync()?;
-    Ok(Fuse::new(disk, calls))
+    match disk.write_at(0, bytes) {
+        Ok(()) => synced(disk, calls),
+        Err(_) => None,
+    }
 }
 
-fn disks_of(alloc: Global, contents: &Contents, calls: Calls) -> Result<Disks, Fail> {
-    Ok(Files {
-        log: disk_of(alloc, contents.journal.as_slice(), calls.journal)?,
-        db: disk_of(alloc, contents.database.as_slice(), calls.database)?,
-    })
+fn disks_of(alloc: Global, contents: &Contents, calls: Calls) -> Option<Disks> {
+    let log = disk_of(alloc, contents.journal.as_slice(), calls.journal)?;
+    match disk_of(alloc, contents.database.as_slice(), calls.database) {
+        Some(db) => Some(Files { log, db }),
+        None => None,
+    }
 }
 
-fn copy_of(alloc: Global, bytes: &[u8]) -> Result<Vec<u8>, Fail> {
-    let mut copy = Vec::new(alloc);
-    copy.extend_from_slice(bytes)?;
-    Ok(copy)
+fn crash(disks: &mut Disks) {
+    disks.log.crash();
+    disks.db.crash();
+}
+
+fn bytes_of(alloc: Global, disk: &Fuse<Memory>) -> Option<Vec<u8>> {
+    Vec::from_slice(alloc, disk.inner().bytes()).ok()
+}
+
+fn contents_on(alloc: Global, disks: &Disks) -> Option<Contents> {
+    let journal = bytes_of(alloc, &disks.log)?;
+    match bytes_of(alloc, &disks.db) {
+        Some(database) => Some(Contents { journal, database }),
+        None => None,
+    }
 }
 
 /// What a stop leaves on the disks: all that was written, or what was synced alone.
-fn contents_of(alloc: Global, mut disks: Disks, is_lossy: bool) -> Result<Contents, Fail> {
+fn contents_of(alloc: Global, mut disks: Disks, is_lossy: bool) -> Option<Contents> {
     if is_lossy {
-        disks.log.crash();
-        disks.db.crash();
+        crash(&mut disks);
     }
-    Ok(Contents {
-        journal: copy_of(alloc, disks.log.inner().bytes())?,
-        database: copy_of(alloc, disks.db.inner().bytes())?,
-    })
+    contents_on(alloc, &disks)
 }
 
 /// The journal is copied into the database file at each write, so that a save takes calls of both.
@@ -166,18 +181,37 @@ fn visited<D: Disk + Drop>(
     }
 }
 
-/// The files in which the record of session 1 is kept and run 1 was given out.
-fn start(alloc: Global) -> Result<Contents, Fail> {
-    let nothing = Contents {
+/// What a keeper over files of these contents answers that stop after so many calls, and what a stop leaves of them.
+fn visited_at(
+    alloc: Global,
+    contents: &Contents,
+    calls: Calls,
+    session: Option<u32>,
+    is_lossy: bool,
+) -> Option<(Answers, Contents)> {
+    let disks = disks_of(alloc, contents, calls)?;
+    let (answers, left) = visited(alloc, disks, session);
+    match contents_of(alloc, left, is_lossy) {
+        Some(left) => Some((answers, left)),
+        None => None,
+    }
+}
+
+fn nothing(alloc: Global) -> Contents {
+    Contents {
         journal: Vec::new(alloc),
         database: Vec::new(alloc),
-    };
-    let disks = disks_of(alloc, &nothing, NO_STOP)?;
-    let (answers, disks) = visited(alloc, disks, Some(1));
-    if !answers.is_saved || answers.run != Some(1) {
-        return Err("the first keeper failed")?;
     }
-    contents_of(alloc, disks, false)
+}
+
+/// The files in which the record of session 1 is kept and run 1 was given out.
+fn start(alloc: Global) -> Option<Contents> {
+    let (answers, left) = visited_at(alloc, &nothing(alloc), NO_STOP, Some(1), false)?;
+    if answers.is_saved && answers.run == Some(1) {
+        Some(left)
+    } else {
+        None
+    }
 }
 
 /// The record of session 1, or the new one of session 2, which it is if it was said to be saved; and a run above each that was given.
@@ -186,17 +220,26 @@ fn is_kept(told: Answers, found: Answers) -> bool {
     is_record && found.run > Some(told.run.unwrap_or(1))
 }
 
-/// Whether a save of session 2 and a next run came to their end over files that stop. What is found afterwards is what is to be kept.
-fn is_whole(alloc: Global, start: &Contents, calls: Calls, is_lossy: bool) -> Result<bool, Fail> {
-    let disks = disks_of(alloc, start, calls)?;
-    let (told, left) = visited(alloc, disks, Some(2));
-    let contents = contents_of(alloc, left, is_lossy)?;
-    let disks = disks_of(alloc, &contents, NO_STOP)?;
-    let (found, _) = visited(alloc, disks, None);
-    if !is_kept(told, found) {
-        return Err("what is kept is neither, or a run was given twice")?;
+/// What the keepers of two visits answer: of session 2 over files that stop, and then over what is left of them.
+fn answers_around_a_stop(
+    alloc: Global,
+    start: &Contents,
+    calls: Calls,
+    is_lossy: bool,
+) -> Option<(Answers, Answers)> {
+    let (told, left) = visited_at(alloc, start, calls, Some(2), is_lossy)?;
+    let (found, _) = visited_at(alloc, &left, NO_STOP, None, false)?;
+    Some((told, found))
+}
+
+/// Whether a save of session 2 and a next run came to their end over files that stop; none where what is found afterwards isn't what is to be kept.
+fn is_whole(alloc: Global, start: &Contents, calls: Calls, is_lossy: bool) -> Option<bool> {
+    let (told, found) = answers_around_a_stop(alloc, start, calls, is_lossy)?;
+    if is_kept(told, found) {
+        Some(told.is_saved && told.run.is_some())
+    } else {
+        None
     }
-    Ok(told.is_saved && told.run.is_some())
 }
 
 /// Which calls one file answers, while the other answers all.
@@ -213,29 +256,33 @@ fn calls_of(is_journal: bool, calls: u64) -> Calls {
     }
 }
 
-/// At how many calls of the journal, or of the database file, a stop was tried, until none came.
-fn stops(alloc: Global, is_journal: bool, is_lossy: bool) -> Result<u64, Fail> {
-    let start = start(alloc)?;
+/// At how many calls of the journal, or of the database file, a stop was tried, until none came. None where a stop left neither record or a run was given
+/// twice, or where there always was a stop.
+fn stops_from(alloc: Global, start: &Contents, is_journal: bool, is_lossy: bool) -> Option<u64> {
     for calls in 0..1000u64 {
-        if is_whole(alloc, &start, calls_of(is_journal, calls), is_lossy)? {
-            return Ok(calls);
+        if is_whole(alloc, start, calls_of(is_journal, calls), is_lossy)? {
+            return Some(calls);
         }
     }
-    Err("there was always a stop")?
+    None
+}
+
+/// Whether stops of one file were tried, and each left what it may leave.
+fn stops_well(alloc: Global, is_journal: bool, is_lossy: bool) -> bool {
+    match start(alloc) {
+        Some(start) => stops_from(alloc, &start, is_journal, is_lossy) > Some(0),
+        None => false,
+    }
 }
 
 #[test]
-fn a_journal_stops(rt: HostRuntime) -> Result<(), Fail> {
-    let whole = stops(rt.alloc(), true, false)?;
-    let lossy = stops(rt.alloc(), true, true)?;
-    assert!(rt; whole > 0 && lossy > 0);
-    Ok(())
+fn a_journal_stops(rt: HostRuntime) {
+    assert!(rt; stops_well(rt.alloc(), true, false));
+    assert!(rt; stops_well(rt.alloc(), true, true));
 }
 
 #[test]
-fn a_database_file_stops(rt: HostRuntime) -> Result<(), Fail> {
-    let whole = stops(rt.alloc(), false, false)?;
-    let lossy = stops(rt.alloc(), false, true)?;
-    assert!(rt; whole > 0 && lossy > 0);
-    Ok(())
+fn a_database_file_stops(rt: HostRuntime) {
+    assert!(rt; stops_well(rt.alloc(), false, false));
+    assert!(rt; stops_well(rt.alloc(), false, true));
 }

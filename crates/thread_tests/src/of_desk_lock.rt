@@ -130,41 +130,72 @@ fn close_two<L: ledger::Ledger>(
     }
 }
 
-/// An entry of a seat that its pass has no receipt of.
-fn foreign<L: ledger::Ledger>(alloc: Global, blank: Blank) -> Result<(), Fail>
-    requires name { blank.name ≡ L.name }
-    requires parts { (blank.parts ≡ L.parts) × (blank.parts ≡ 4294967296) }
-{
-    let mut desk: Desk<Adder, L> = Desk::new(alloc, Adder::new(alloc), blank);
-    let pass = desk.open_seat(alloc).map_err(|_| "seat")?;
-    if desk.apply(alloc, 2, 1).err() != Some(OfficeFault::ForeignPass(1)) {
-        return Err(Fail::new("an unopened seat"));
-    }
-    if desk.apply(alloc, 1, 0).err() != Some(OfficeFault::Core(FaultKind::Step)) {
-        return Err(Fail::new("a refused step"));
-    }
-    if desk.apply(alloc, pass.seat(), 1).is_err() {
-        return Err(Fail::new("apply"));
-    }
-    let mut passes = Passes::new(alloc);
-    if passes.push(pass).is_err() {
-        return Err(Fail::new("memory"));
-    }
-    match Office::new(desk).close(passes) {
-        Ok(_) => Err(Fail::new("closed")),
+/// Whether a step of a seat that was never opened is refused as a foreign pass's, and one that the adder refuses as its own.
+fn refuses<L: ledger::Ledger>(alloc: Global, desk: &mut Desk<Adder, L>) -> bool {
+    let unopened = desk.apply(alloc, 2, 1).err();
+    let refused = desk.apply(alloc, 1, 0).err();
+    unopened == Some(OfficeFault::ForeignPass(1))
+        && refused == Some(OfficeFault::Core(FaultKind::Step))
+}
+
+/// Whether an entry is added of a seat, whose pass gets no receipt of it.
+fn adds_without_receipt<L: ledger::Ledger>(
+    alloc: Global,
+    desk: &mut Desk<Adder, L>,
+    seat: u32,
+) -> bool {
+    refuses(alloc, desk) && desk.apply(alloc, seat, 1).is_ok()
+}
+
+/// Whether the close is refused, which hands desk and passes back.
+fn stays_open<L: ledger::Ledger>(office: Office<Adder, L>, passes: Passes<Added, L>) -> bool {
+    match office.close(passes) {
+        Ok(_) => false,
         Err(refused) => {
             let (desk, passes, fault) = refused;
-            if fault != OfficeFault::ForeignPass(2) || desk.len() != 2 || passes.len() != 1 {
-                return Err(Fail::new("refusal"));
-            }
-            Ok(())
+            fault == OfficeFault::ForeignPass(2) && desk.len() == 2 && passes.len() == 1
         }
     }
 }
 
+fn alone<L: ledger::Ledger>(alloc: Global, pass: Pass<Added, L>) -> Option<Passes<Added, L>> {
+    let mut passes = Passes::new(alloc);
+    match passes.push(pass) {
+        Ok(()) => Some(passes),
+        Err(_) => None,
+    }
+}
+
+fn is_refused_with<L: ledger::Ledger>(
+    alloc: Global,
+    mut desk: Desk<Adder, L>,
+    pass: Pass<Added, L>,
+) -> bool {
+    let added = adds_without_receipt(alloc, &mut desk, pass.seat());
+    match alone(alloc, pass) {
+        Some(passes) => {
+            let open = stays_open(Office::new(desk), passes);
+            added && open
+        }
+        None => false,
+    }
+}
+
+/// An entry of a seat that its pass has no receipt of.
+fn foreign<L: ledger::Ledger>(alloc: Global, blank: Blank) -> bool
+    requires name { blank.name ≡ L.name }
+    requires parts { (blank.parts ≡ L.parts) × (blank.parts ≡ 4294967296) }
+{
+    let mut desk: Desk<Adder, L> = Desk::new(alloc, Adder::new(alloc), blank);
+    match desk.open_seat(alloc) {
+        Ok(pass) => is_refused_with(alloc, desk, pass),
+        Err(_) => false,
+    }
+}
+
 #[test]
-fn a_foreign_receipt(rt: HostRuntime) -> Result<(), Fail> {
-    foreign::<Brand>(rt.alloc(), Blank::new(PARTS))
+fn a_foreign_receipt(rt: HostRuntime) {
+    assert!(rt; foreign::<Brand>(rt.alloc(), Blank::new(PARTS)));
 }
 
 /// Waits until the sum is 7, and adds 1. Once it was told to wait, the flag says so.
@@ -228,46 +259,73 @@ fn sum_above<L: ledger::Ledger, R: Wait + Clock>(
     })
 }
 
+/// Whether the sum is found, isn't within no time where it lacks, and isn't looked for once the office is finished.
+fn looks<L: ledger::Ledger, R: Wait + Clock>(
+    rt: &R,
+    office: &Office<Adder, L>,
+    pass: &Pass<Added, L>,
+) -> bool {
+    let found = sum_above(rt, office, pass, 7) == Ok(Waited::Found(8));
+    let elapsed = sum_above(rt, office, pass, 8) == Ok(Waited::Elapsed);
+    office.finish(rt);
+    let finished = sum_above(rt, office, pass, 7) == Ok(Waited::Finished);
+    found && elapsed && finished
+}
+
+/// The passes of two seats of which one waits for the other, and whether each was answered so.
+fn waited<L: ledger::Ledger + Send + Sync, R: Threads + Wait + Clock + Sync>(
+    rt: &R,
+    alloc: Global,
+    office: &Office<Adder, L>,
+    one: Pass<Added, L>,
+    two: Pass<Added, L>,
+) -> (Pass<Added, L>, Pass<Added, L>, bool) {
+    let waits = AtomicBool::new(false);
+    let ((one, woken), (two, added)) = thread::join(
+        rt,
+        || wait_and_add(rt, alloc, office, one, &waits),
+        || add(rt, alloc, office, two, &waits),
+    );
+    let seen = one.seen() == 3 && two.seen() == 2;
+    let looked = looks(rt, office, &one);
+    let (one, answered) = wait_and_add(rt, alloc, office, one, &waits);
+    (one, two, woken && added && seen && looked && !answered)
+}
+
+fn two_seats<L: ledger::Ledger, R: Wait>(
+    rt: &R,
+    alloc: Global,
+    office: &Office<Adder, L>,
+) -> Option<(Pass<Added, L>, Pass<Added, L>)> {
+    let one = office.open_seat(rt, alloc).ok()?;
+    match office.open_seat(rt, alloc) {
+        Ok(two) => Some((one, two)),
+        Err(_) => None,
+    }
+}
+
 fn waiting<L: ledger::Ledger + Send + Sync, R: Threads + Wait + Clock + Sync>(
     rt: &R,
     alloc: Global,
     blank: Blank,
-) -> Result<(), Fail>
+) -> bool
     requires name { blank.name ≡ L.name }
     requires parts { (blank.parts ≡ L.parts) × (blank.parts ≡ 4294967296) }
 {
     let office: Office<Adder, L> = Office::new(Desk::new(alloc, Adder::new(alloc), blank));
-    let one = office.open_seat(rt, alloc).map_err(|_| "seat")?;
-    let two = office.open_seat(rt, alloc).map_err(|_| "seat")?;
-    let waits = AtomicBool::new(false);
-    let ((one, woken), (two, added)) = thread::join(
-        rt,
-        || wait_and_add(rt, alloc, &office, one, &waits),
-        || add(rt, alloc, &office, two, &waits),
-    );
-    if !woken || !added || one.seen() != 3 || two.seen() != 2 {
-        return Err(Fail::new("answers"));
+    match two_seats(rt, alloc, &office) {
+        Some((one, two)) => {
+            let (one, two, answered) = waited(rt, alloc, &office, one, two);
+            let closed = close_two(alloc, office, one, two) == Some(3);
+            answered && closed
+        }
+        None => false,
     }
-    if sum_above(rt, &office, &one, 7) != Ok(Waited::Found(8)) {
-        return Err(Fail::new("the sum"));
-    }
-    if sum_above(rt, &office, &one, 8) != Ok(Waited::Elapsed) {
-        return Err(Fail::new("no time"));
-    }
-    office.finish(rt);
-    if sum_above(rt, &office, &one, 7) != Ok(Waited::Finished) {
-        return Err(Fail::new("finished"));
-    }
-    let (one, answered) = wait_and_add(rt, alloc, &office, one, &waits);
-    if answered || close_two(alloc, office, one, two) != Some(3) {
-        return Err(Fail::new("close"));
-    }
-    Ok(())
 }
 
 #[test]
-fn a_waiting_call(rt: HostRuntime) -> Result<(), Fail> {
-    waiting::<Brand, _>(&rt, rt.alloc(), Blank::new(PARTS))
+fn a_waiting_call(rt: HostRuntime) {
+    assert!(rt; waiting::<Brand, _>(&rt, rt.alloc(), Blank::new(PARTS)));
 }
 
 /// Refuses each step by a fault of the kind that the step names.
@@ -343,35 +401,47 @@ fn refusals<L: ledger::Ledger, R: Wait + Clock>(
     [called, waited, looked]
 }
 
-/// That each kind of fault is refused by its own refusal, and the pass stays as it was opened.
-fn refusing<L: ledger::Ledger, R: Wait + Clock>(
+const REFUSED: [(FaultKind, OfficeFault<FaultKind>); 3] = [
+    (FaultKind::HistoryFull, OfficeFault::HistoryFull),
+    (FaultKind::OutOfMemory, OfficeFault::OutOfMemory),
+    (FaultKind::Step, OfficeFault::Core(FaultKind::Step)),
+];
+
+/// Whether each kind of fault is refused by its own refusal.
+fn refuses_each<L: ledger::Ledger, R: Wait + Clock>(
     rt: &R,
     alloc: Global,
-    blank: Blank,
-) -> Result<(), Fail>
+    office: &Office<Refuser, L>,
+    pass: &mut Pass<FaultKind, L>,
+) -> bool {
+    for (kind, fault) in REFUSED {
+        if refusals(rt, alloc, office, pass, kind) != [Some(fault); 3] {
+            return false;
+        }
+    }
+    true
+}
+
+/// Whether each kind of fault is refused by its own refusal, and the pass stays as it was opened.
+fn refusing<L: ledger::Ledger, R: Wait + Clock>(rt: &R, alloc: Global, blank: Blank) -> bool
     requires name { blank.name ≡ L.name }
     requires parts { (blank.parts ≡ L.parts) × (blank.parts ≡ 4294967296) }
 {
     let office: Office<Refuser, L> = Office::new(Desk::new(alloc, Refuser, blank));
-    let mut pass = office.open_seat(rt, alloc).map_err(|_| "seat")?;
-    for (kind, fault) in [
-        (FaultKind::HistoryFull, OfficeFault::HistoryFull),
-        (FaultKind::OutOfMemory, OfficeFault::OutOfMemory),
-        (FaultKind::Step, OfficeFault::Core(FaultKind::Step)),
-    ] {
-        if refusals(rt, alloc, &office, &mut pass, kind) != [Some(fault); 3] {
-            return Err(Fail::new("refusals"));
+    match office.open_seat(rt, alloc) {
+        Ok(mut pass) => {
+            refuses_each(rt, alloc, &office, &mut pass)
+                && pass.seat() == 1
+                && pass.seen() == 0
+                && pass.receipts().is_empty()
         }
+        Err(_) => false,
     }
-    if pass.seat() != 1 || pass.seen() != 0 || !pass.receipts().is_empty() {
-        return Err(Fail::new("the pass"));
-    }
-    Ok(())
 }
 
 #[test]
-fn refused_steps(rt: HostRuntime) -> Result<(), Fail> {
-    refusing::<Brand, _>(&rt, rt.alloc(), Blank::new(PARTS))
+fn refused_steps(rt: HostRuntime) {
+    assert!(rt; refusing::<Brand, _>(&rt, rt.alloc(), Blank::new(PARTS)));
 }
 
 /// A fault of a step, with a text.
@@ -384,12 +454,24 @@ impl std::fmt::Display for Cause {
     }
 }
 
-#[test]
-fn texts(rt: HostRuntime) -> Result<(), Fail> {
+fn texts_of(alloc: Global) -> Option<String> {
     let foreign: OfficeFault<Cause> = OfficeFault::ForeignPass(2);
-    let text = format!(in rt.alloc(); "{foreign}, {}", OfficeFault::Core(Cause))?;
-    if text.as_str() != "O1 ForeignPass 2, O4 Core C7 TimeBack" {
-        return Err(Fail::new("text"));
+    format!(in alloc; "{foreign}, {}", OfficeFault::Core(Cause)).ok()
+}
+
+fn is(text: &Option<String>, wanted: &str) -> bool {
+    match text {
+        Some(text) => text.as_str() == wanted,
+        None => false,
     }
-    Ok(())
+}
+
+#[test]
+fn texts(rt: HostRuntime) {
+    assert!(rt;
+        is(
+            &texts_of(rt.alloc()),
+            "O1 ForeignPass 2, O4 Core C7 TimeBack"
+        )
+    );
 }

@@ -100,64 +100,86 @@ impl Arrivals for Waiting {
     }
 }
 
-/// So many connections in memory that send the same.
-fn requests_of(alloc: Global, request: &str, count: u32) -> Result<Waiting, Fail> {
-    let mut requests = Vec::new(alloc);
+fn push_request(requests: &mut Vec<Vec<u8>>, alloc: Global, request: &str) -> Option<()> {
+    requests
+        .push(Vec::from_slice(alloc, request.as_bytes()).ok()?)
+        .ok()
+}
+
+fn push_requests(
+    requests: &mut Vec<Vec<u8>>,
+    alloc: Global,
+    request: &str,
+    count: usize,
+) -> Option<()> {
     for _ in 0..count {
-        requests.push(Vec::from_slice(alloc, request.as_bytes())?)?;
+        push_request(requests, alloc, request)?;
     }
-    Ok(Waiting { alloc, requests })
+    Some(())
 }
 
-/// That each of so many benches came back, and took one call.
-fn each_took_one_call(benches: &[Script], count: usize) -> Result<(), Fail> {
-    if benches.len() != count {
-        return Err(Fail::new("benches"));
-    }
-    for bench in benches {
-        if bench.calls != 1 {
-            return Err(Fail::new("calls"));
-        }
-    }
-    Ok(())
+/// So many connections in memory that send the same.
+fn requests_of(alloc: Global, request: &str, count: usize) -> Option<Waiting> {
+    let mut requests = Vec::new(alloc);
+    push_requests(&mut requests, alloc, request, count)?;
+    Some(Waiting { alloc, requests })
 }
 
-fn serve_waiting<R: Threads + Wait + Sync>(
+/// Whether each of so many benches came back, and took one call.
+fn each_took_one_call(benches: &[Script], count: usize) -> bool {
+    benches.len() == count && benches.iter().all(|bench| bench.calls == 1)
+}
+
+fn serves<R: Threads + Wait + Sync>(
+    rt: &R,
+    alloc: Global,
+    arrivals: &mut Waiting,
+    count: usize,
+) -> bool {
+    let (benches, fault) = serve_all(rt, alloc, arrivals, &NoGate);
+    fault.is_none() && arrivals.requests.is_empty() && each_took_one_call(&benches, count)
+}
+
+fn serves_waiting<R: Threads + Wait + Sync>(
     rt: &R,
     alloc: Global,
     request: &str,
-    count: u32,
-) -> Result<(), Fail> {
-    let mut arrivals = requests_of(alloc, request, count)?;
-    let (benches, fault) = serve_all(rt, alloc, &mut arrivals, &NoGate);
-    if fault.is_some() || !arrivals.requests.is_empty() {
-        return Err(Fail::new("fault"));
+    count: usize,
+) -> bool {
+    match requests_of(alloc, request, count) {
+        Some(mut arrivals) => serves(rt, alloc, &mut arrivals, count),
+        None => false,
     }
-    each_took_one_call(&benches, count as usize)
 }
 
-#[test]
-fn no_connection(rt: HostRuntime) -> Result<(), Fail> {
-    serve_waiting(&rt, rt.alloc(), REVIVE, 0)
-}
+/// How many connections there are, and what each sends.
+const WAITING: [(&str, usize); 3] = [(REVIVE, 0), (REVIVE, 2), (SUBSCRIBE, 70)];
 
 #[test]
-fn two_connections(rt: HostRuntime) -> Result<(), Fail> {
-    serve_waiting(&rt, rt.alloc(), REVIVE, 2)
-}
-
-#[test]
-fn seventy_connections(rt: HostRuntime) -> Result<(), Fail> {
-    serve_waiting(&rt, rt.alloc(), SUBSCRIBE, 70)
-}
-
-#[test]
-fn faults(rt: HostRuntime) -> Result<(), Fail> {
-    let text = format!(in rt.alloc(); "{}, {}", HttpFault::OutOfMemory, HttpFault::NoThread)?;
-    if text.as_str() != "H8 OutOfMemory, H9 NoThread" {
-        return Err(Fail::new("text"));
+fn connections_in_memory(rt: HostRuntime) {
+    for i in 0..WAITING.len() {
+        let (request, count) = WAITING[i];
+        assert!(rt;
+            serves_waiting(&rt, rt.alloc(), request, count),
+            "{count} connections"
+        );
     }
-    Ok(())
+}
+
+fn faults_of(alloc: Global) -> Option<String> {
+    format!(in alloc; "{}, {}", HttpFault::OutOfMemory, HttpFault::NoThread).ok()
+}
+
+fn is(text: &Option<String>, wanted: &str) -> bool {
+    match text {
+        Some(text) => text.as_str() == wanted,
+        None => false,
+    }
+}
+
+#[test]
+fn faults(rt: HostRuntime) {
+    assert!(rt; is(&faults_of(rt.alloc()), "H8 OutOfMemory, H9 NoThread"));
 }
 
 /// One end of a TCP connection.
@@ -253,33 +275,32 @@ fn ask<R: Net<Listener = TcpListener, Stream = TcpStream>>(
     rt: &R,
     to: SocketAddr,
     request: &str,
-) -> Result<TcpStream, Fail> {
-    let mut stream = TcpStream::connect(rt, to)?;
-    stream.write_all(request.as_bytes())?;
-    Ok(stream)
+) -> Option<TcpStream> {
+    let mut stream = TcpStream::connect(rt, to).ok()?;
+    stream.write_all(request.as_bytes()).ok()?;
+    Some(stream)
 }
 
-/// Reads to the end of the connection, and compares.
-fn expect(alloc: Global, stream: TcpStream, want: &str) -> Result<(), Fail> {
-    let mut stream = stream;
+/// Whether just this is read to the end of the connection.
+fn reads(alloc: Global, stream: &mut TcpStream, want: &str) -> bool {
     let mut got = Vec::new(alloc);
-    stream.read_to_end(&mut got)?;
-    if got.as_slice() != want.as_bytes() {
-        return Err(Fail::new("another answer"));
-    }
-    Ok(())
+    stream.read_to_end(&mut got).is_ok() && got.as_slice() == want.as_bytes()
 }
 
-/// Two clients, whose requests are both sent before an answer is read.
+fn read_two(alloc: Global, one: &mut TcpStream, two: &mut TcpStream) -> bool {
+    reads(alloc, one, ACCEPTED) && reads(alloc, two, STREAM)
+}
+
+/// Two clients, whose requests are both sent before an answer is read; whether both are answered so.
 fn ask_two<R: Net<Listener = TcpListener, Stream = TcpStream>>(
     rt: &R,
     alloc: Global,
     to: SocketAddr,
-) -> Result<(), Fail> {
-    let one = ask(rt, to, REVIVE)?;
-    let two = ask(rt, to, SUBSCRIBE)?;
-    expect(alloc, one, ACCEPTED)?;
-    expect(alloc, two, STREAM)
+) -> bool {
+    match (ask(rt, to, REVIVE), ask(rt, to, SUBSCRIBE)) {
+        (Some(mut one), Some(mut two)) => read_two(alloc, &mut one, &mut two),
+        _ => false,
+    }
 }
 
 /// Holds the first call until the second is answered, for 30 seconds at most.
@@ -319,16 +340,13 @@ impl<'a, R: Clock> Gate for Overlap<'a, R> {
     }
 }
 
-fn serve_two<R: Net<Listener = TcpListener, Stream = TcpStream> + Threads + Wait + Clock + Sync>(
+fn serves_two<R: Net<Listener = TcpListener, Stream = TcpStream> + Threads + Wait + Clock + Sync>(
     rt: &R,
     alloc: Global,
-) -> Result<(), Fail> {
-    let listener = TcpListener::bind(rt, "127.0.0.1:0")?;
-    let to = listener.local_addr()?;
-    let mut arrivals = Accepting {
-        listener: &listener,
-        left: 2,
-    };
+    listener: &TcpListener,
+    to: SocketAddr,
+) -> bool {
+    let mut arrivals = Accepting { listener, left: 2 };
     let gate = Overlap {
         rt,
         calls: AtomicU64::new(0),
@@ -340,14 +358,28 @@ fn serve_two<R: Net<Listener = TcpListener, Stream = TcpStream> + Threads + Wait
         move || ask_two(rt, alloc, to),
         || serve_all(rt, alloc, &mut arrivals, &gate),
     );
-    asked?;
-    if fault.is_some() || gate.overlapped.load(Ordering::SeqCst) != 1 {
-        return Err(Fail::new("they didn't overlap"));
+    let overlapped = gate.overlapped.load(Ordering::SeqCst) == 1;
+    asked && fault.is_none() && overlapped && each_took_one_call(&benches, 2)
+}
+
+fn listened<R: Net<Listener = TcpListener, Stream = TcpStream>>(
+    rt: &R,
+) -> Option<(TcpListener, SocketAddr)> {
+    let listener = TcpListener::bind(rt, "127.0.0.1:0").ok()?;
+    let to = listener.local_addr().ok()?;
+    Some((listener, to))
+}
+
+fn serves_two_anywhere<
+    R: Net<Listener = TcpListener, Stream = TcpStream> + Threads + Wait + Clock + Sync,
+>(rt: &R, alloc: Global) -> bool {
+    match listened(rt) {
+        Some((listener, to)) => serves_two(rt, alloc, &listener, to),
+        None => false,
     }
-    each_took_one_call(&benches, 2)
 }
 
 #[test]
-fn two_connections_overlap(rt: HostRuntime) -> Result<(), Fail> {
-    serve_two(&rt, rt.alloc())
+fn two_connections_overlap(rt: HostRuntime) {
+    assert!(rt; serves_two_anywhere(&rt, rt.alloc()));
 }

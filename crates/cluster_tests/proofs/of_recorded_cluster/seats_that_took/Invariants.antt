@@ -1,4 +1,4 @@
-use Rattle.cluster_tests.proofs.of_recorded_cluster.two_threads_of_100_calls.Given as goal
+use Rattle.cluster_tests.proofs.of_recorded_cluster.seats_that_took.Given as goal
 
 -- the ledger of the blank that was just made
 abbrev pub ghosts-two_seats : goal.ghosts-two_seats

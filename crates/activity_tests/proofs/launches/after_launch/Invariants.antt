@@ -1,4 +1,4 @@
-use Rattle.activity_tests.proofs.launches.a_stop_in_a_save.Given as goal
+use Rattle.activity_tests.proofs.launches.after_launch.Given as goal
 
 -- the ledger of the blank that was just made
 abbrev pub ghosts-launched : goal.ghosts-launched

@@ -1,4 +1,4 @@
-use Rattle.activity_tests.proofs.tests.the_old_record_stands.Given as goal
+use Rattle.activity_tests.proofs.tests.after_failed_save.Given as goal
 
 -- the ledger of the blank that was just made
 abbrev pub ghosts-failed_save : goal.ghosts-failed_save

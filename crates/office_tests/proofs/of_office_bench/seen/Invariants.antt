@@ -1,4 +1,4 @@
-use Rattle.office_tests.proofs.of_office_bench.a_master_stops.Given as goal
+use Rattle.office_tests.proofs.of_office_bench.seen.Given as goal
 
 -- the ledger of the blank that was just made
 abbrev pub ghosts-served : goal.ghosts-served
