@@ -62,16 +62,26 @@ fn after_launch<R: Threads + Wait + Clock + Sync>(
     launched::<Brand, R>(rt, alloc, Blank::new(PARTS), passes, stops, end)
 }
 
-fn sends_again(agent: &Played, framework: &Played) -> bool {
-    framework.end == End::Finished && agent.causes.as_slice().starts_with(b"MMRAAF")
+fn sends_again(played: &Option<(Option<Played>, Option<Played>)>) -> bool {
+    match played {
+        Some((Some(agent), Some(framework))) => {
+            framework.end == End::Finished && agent.causes.as_slice().starts_with(b"MMRAAF")
+        }
+        _ => false,
+    }
 }
 
-fn comes_up(agent: &Played, framework: &Played) -> bool {
-    agent.end == End::Overlapped
-        && framework.end == End::Finished
-        && framework.letters.as_slice() == b"SDOSDB".as_slice()
-        && agent.letters.as_slice().starts_with(b"PCDPBPCD")
-        && agent.causes.as_slice().starts_with(b"MMS")
+fn comes_up(played: &Option<(Option<Played>, Option<Played>)>) -> bool {
+    match played {
+        Some((Some(agent), Some(framework))) => {
+            agent.end == End::Overlapped
+                && framework.end == End::Finished
+                && framework.letters.as_slice() == b"SDOSDB".as_slice()
+                && agent.letters.as_slice().starts_with(b"PCDPBPCD")
+                && agent.causes.as_slice().starts_with(b"MMS")
+        }
+        _ => false,
+    }
 }
 
 /// The agent hears the greeting and the launch, tells that the task runs, sends that again as long as nobody acknowledges it, and tells the end a second
@@ -79,20 +89,14 @@ fn comes_up(agent: &Played, framework: &Played) -> bool {
 /// framework has five.
 #[test]
 fn what_is_unacknowledged_goes_first(rt: HostRuntime) {
-    let does = match after_launch(&rt, rt.alloc(), u32::MAX, false, 23) {
-        Some((Some(agent), Some(framework))) => sends_again(&agent, &framework),
-        _ => false,
-    };
-    assert!(rt; does);
+    let played = after_launch(&rt, rt.alloc(), u32::MAX, false, 23);
+    assert!(rt; sends_again(&played));
 }
 
 /// The agent is stopped while its second save is held, so its Commit is refused by C5: it stops, and starts. The two have all entries of the history, and
 /// nobody commits the launch's draft.
 #[test]
 fn a_stop_in_a_save(rt: HostRuntime) {
-    let does = match after_launch(&rt, rt.alloc(), 1, true, 14) {
-        Some((Some(agent), Some(framework))) => comes_up(&agent, &framework),
-        _ => false,
-    };
-    assert!(rt; does);
+    let played = after_launch(&rt, rt.alloc(), 1, true, 14);
+    assert!(rt; comes_up(&played));
 }

@@ -45,19 +45,12 @@ const NO_ANSWERS: Answers = Answers {
     run: None,
 };
 
-fn synced(mut disk: Memory, calls: u64) -> Option<Fuse<Memory>> {
-    match disk.sync() {
-        Ok(()) => Some(Fuse::new(disk, calls)),
-        Err(_) => None,
-    }
-}
-
 fn disk_of(alloc: Global, bytes: &[u8], calls: u64) -> Option<Fuse<Memory>> {
     let mut disk = Memory::new(alloc);
-    match disk.write_at(0, bytes) {
-        Ok(()) => synced(disk, calls),
-        Err(_) => None,
+    if disk.write_at(0, bytes).is_err() || disk.sync().is_err() {
+        return None;
     }
+    Some(Fuse::new(disk, calls))
 }
 
 fn disks_of(alloc: Global, contents: &Contents, calls: Calls) -> Option<Disks> {
