@@ -17,7 +17,7 @@ use std::alloc::{AllocError, Global};
 use std::io::{self, ErrorKind, Read, Write};
 
 /// How many bytes are read at a time, at most.
-const PIECE: usize = 65_536;
+const PIECE: usize = 4_096;
 
 fn new_buffer(alloc: Global) -> Result<Vec<u8>, AllocError>
     ensures { IfOk result (λ buffer. 0 < vec_len buffer) }

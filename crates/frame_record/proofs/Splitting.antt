@@ -1,7 +1,8 @@
 -- Texts that are split into records.
-use Rattle.std.proofs.Common.{◌≡◌, ℕ, ◌+◌, ◌<◌, ◌≤◌, ◌^◌, ◌||◌, ◌&&◌, ◌==◌, Bool, true, false, not, cond, nat_lt, nat_le, List, [], ◌∷◌, ◌++◌, length, take, drop, Option, None, Some, refl, sym, ap, ◌∙◌, arith, append_assoc, length-append, length-take}
+use Rattle.std.proofs.Common.{◌≡◌, ℕ, ◌+◌, ◌<◌, ◌≤◌, ◌^◌, ◌||◌, ◌&&◌, ◌==◌, Bool, true, false, not, cond, nat_lt, nat_le, List, [], ◌∷◌, ◌++◌, length, take, drop, Option, None, Some, refl, sym, subst, ap, ◌∙◌, arith, append_assoc, length-append}
 use Rattle.std.proofs.lemmas.Bool.Decides.{nat_tests}
-use Rattle.std.proofs.lemmas.List.{take-append-drop, take_at, drop_at, append-nil}
+use Rattle.std.proofs.Math.Seq.{take-add}
+use Rattle.std.proofs.lemmas.List.{take-append-drop, take_all, take_at, drop_at, append-nil}
 use Rattle.std.proofs.lemmas.List.Sums.{take_while-cons}
 use Rattle.std.proofs.lemmas.Fmt.{decimal_nonempty, length-decimal-le, digits_decimal, digits_value-decimal}
 use Rattle.std.specs.Fmt.{decimal}
@@ -11,11 +12,11 @@ use Rattle.std.specs.Str.{all_ascii_digits}
 use Rattle.std.specs.Str.Parse.{digits_value}
 use Rattle.frame_record.specs.declared.fault.FrameFault.{FrameFault}
 use Rattle.frame_record.specs.declared.fault.FrameFault.TheVariants.{BadSize, TooLong}
-use Rattle.frame_record.specs.Records.{First, whole, partial, faulty, judged, first, limit, IsSize, BeginsWith, Splits, Ends, SameEnd, record_text, State, Reads}
+use Rattle.frame_record.specs.Records.{First, whole, partial, faulty, judged, first, limit, BeginsWith, Splits, Ends, SameEnd, record_text, State, Reads}
 use Rattle.frame_record.specs.Firsts.{stop}
 use Rattle.frame_record.proofs.Firsts.{own, digits_are_digits, digits_in_front, judged_whole}
 
-abbrev front : List ℕ → List ℕ
+abbrev pub front : List ℕ → List ℕ
 front text = take_while is_ascii_digit text
 
 -- ---- the digits in front, and what follows them
@@ -24,7 +25,7 @@ both_true : (a b : Bool) → a && b ≡ true → (a ≡ true) × (b ≡ true)
 both_true true b h = (refl, h)
 both_true false b h = absurd (let bad : ⊥ = cc in bad)
 
-digits_step : (d : ℕ) (ds : List ℕ) → all_ascii_digits (d ∷ ds) ≡ true → (is_ascii_digit d ≡ true) × (all_ascii_digits ds ≡ true)
+pub digits_step : (d : ℕ) (ds : List ℕ) → all_ascii_digits (d ∷ ds) ≡ true → (is_ascii_digit d ≡ true) × (all_ascii_digits ds ≡ true)
 digits_step d ds h = both_true (is_ascii_digit d) (all_ascii_digits ds) h
 
 pub digits_then : (digits : List ℕ) (b : ℕ) (bs : List ℕ) → all_ascii_digits digits ≡ true → is_ascii_digit b ≡ false → front (digits ++ b ∷ bs) ≡ digits
@@ -56,7 +57,7 @@ front_longer (x ∷ xs) more =
     rw (take_while-cons is_ascii_digit x xs, take_while-cons is_ascii_digit x (xs ++ more)) (longer_step (is_ascii_digit x) x (front xs) (front (xs ++ more)) (front_longer xs more))
 
 -- the judgement of digits and what follows them, each by itself
-first_of_parts : (digits : List ℕ) (b : ℕ) (bs : List ℕ) → all_ascii_digits digits ≡ true → is_ascii_digit b ≡ false → first (digits ++ b ∷ bs) ≡ judged digits (b ∷ bs)
+pub first_of_parts : (digits : List ℕ) (b : ℕ) (bs : List ℕ) → all_ascii_digits digits ≡ true → is_ascii_digit b ≡ false → first (digits ++ b ∷ bs) ≡ judged digits (b ∷ bs)
 unfolding first
 first_of_parts digits b bs only isnt =
     let same = digits_then digits b bs only isnt in
@@ -66,12 +67,6 @@ first_of_parts digits b bs only isnt =
 
 abbrev three : Bool → Bool → Bool → First → First
 three a b c w = cond a (faulty BadSize) (cond b (faulty TooLong) (cond c partial w))
-
-three_whole : (a b c : Bool) (x y body rest : List ℕ) → three a b c (whole x y) ≡ whole body rest → (a ≡ false) × (b ≡ false) × (c ≡ false) × (x ≡ body) × (y ≡ rest)
-three_whole true b c x y body rest h = absurd (let bad : ⊥ = cc in bad)
-three_whole false true c x y body rest h = absurd (let bad : ⊥ = cc in bad)
-three_whole false false true x y body rest h = absurd (let bad : ⊥ = cc in bad)
-three_whole false false false x y body rest h = (refl, refl, refl, cc, cc)
 
 three_faulty : (a b c d : Bool) (x y v w : List ℕ) (f : FrameFault) → three a b c (whole x y) ≡ faulty f → three a b d (whole v w) ≡ faulty f
 three_faulty true b c d x y v w f h = h
@@ -93,18 +88,6 @@ is_bad digits b = nat_lt 20 (length digits) || not (b == 10) || (length digits =
 not_bad : (digits : List ℕ) (b : ℕ) → is_bad digits b ≡ false → (length digits ≤ 20) × (b ≡ 10) × (0 < length digits)
 not_bad digits b h = (grind (arith, nat_tests), grind (arith, nat_tests), grind (arith, nat_tests))
 
-judged_says : (digits after body rest : List ℕ) → all_ascii_digits digits ≡ true → judged digits after ≡ whole body rest → IsSize digits (length body) × (after ≡ 10 ∷ (body ++ rest))
-judged_says digits [] body rest only h = absurd (short_isnt_whole _ _ body rest h)
-judged_says digits (b ∷ bs) body rest only h =
-    let n = digits_value 10 digits in
-    let parts = three_whole _ _ _ _ _ body rest h in
-    let good = not_bad digits b parts.0 in
-    let within : n ≤ limit = grind (arith, nat_tests, parts.1) in
-    let enough : n ≤ length bs = grind (arith, nat_tests, parts.2) in
-    let size : n ≡ length body = rw (← parts.3) (omega (arith, length-take n bs)) in
-    let joined : bs ≡ body ++ rest = rw (← parts.3, ← parts.4) (sym (take-append-drop n bs)) in
-    (record { some = good.2; short = good.0; digits_only = only; value = size; within = rw (← size) within }, rw (good.1, joined) refl)
-
 pub whole_from_begins : (text body after : List ℕ) → BeginsWith text body after → first text ≡ whole body after
 whole_from_begins text body after h =
     let size = h.1 in
@@ -114,13 +97,6 @@ whole_from_begins text body after h =
     let judgement = judged_whole h.0 rest size.some size.short (rw is_n (omega (arith, size.within))) (rw is_n size.within) (rw is_n (omega (arith, length-append body after))) in
     let parts : whole (take n rest) (drop n rest) ≡ whole body after = rw is_n (rw (take_at body after (length body) refl, drop_at body after (length body) refl) refl) in
     ap first h.2 ∙ (first_of_parts h.0 10 rest size.digits_only refl ∙ (judgement ∙ parts))
-
-pub begins_from_whole : (text body after : List ℕ) → first text ≡ whole body after → BeginsWith text body after
-unfolding first
-begins_from_whole text body after h =
-    let digits = front text in
-    let said = judged_says digits (drop (length digits) text) body after (digits_are_digits text) h in
-    (digits, said.0, at_stop text (10 ∷ (body ++ after)) said.1)
 
 pub begins_more : (text body after more : List ℕ) → BeginsWith text body after → BeginsWith (text ++ more) body (after ++ more)
 begins_more text body after more h = (h.0, h.1, rw h.2 (simp append_assoc))
@@ -133,10 +109,7 @@ pub splits_append : (text : List ℕ) (rs : List (List ℕ)) (middle : List ℕ)
 splits_append text [] middle qs rest h k = rw h k
 splits_append text (r ∷ rs) middle qs rest h k = (h.0, h.1, splits_append h.0 rs middle qs rest h.2 k)
 
-pub splits_push : (text : List ℕ) (rs : List (List ℕ)) (middle body rest : List ℕ) → Splits text rs middle → first middle ≡ whole body rest → Splits text (rs ++ body ∷ []) rest
-splits_push text rs middle body rest h k = splits_append text rs middle (body ∷ []) rest h (rest, begins_from_whole middle body rest k, refl)
-
-too_many : (digits after : List ℕ) → 20 < length digits → judged digits after ≡ faulty BadSize
+pub too_many : (digits after : List ℕ) → 20 < length digits → judged digits after ≡ faulty BadSize
 too_many digits [] h = grind (arith, nat_tests)
 too_many digits (b ∷ bs) h = grind (arith, nat_tests)
 
@@ -292,3 +265,19 @@ pub fault_at_end : (text more : List ℕ) (rs : List (List ℕ)) (s : State) (f 
 fault_at_end text more rs s f e h =
     let was = fault_ends text rs s.rest s.fault f e h in
     ends_at_fault (text ++ more) rs s.rest s.fault f e (was.0 ++ more) (splits_more text rs was.0 more was.1) (faulty_stays was.0 more f was.2)
+
+-- ---- a piece that is pulled from
+
+pub pulled_more : (text piece : List ℕ) (before rs item : List (List ℕ)) (t : State) (used taken : ℕ) → Reads ((text ++ take used piece) ++ take taken (drop used piece)) ((before ++ rs) ++ item) t
+    → Reads (text ++ take (used + taken) piece) (before ++ (rs ++ item)) t
+pulled_more text piece before rs item t used taken h = rw (take-add used taken piece, ← append_assoc text (take used piece) (take taken (drop used piece)), ← append_assoc before rs item) h
+
+pulled_to : (text piece : List ℕ) (records : List (List ℕ)) (t : State) (o : Option FrameFault) (used : ℕ) → t.fault ≡ o → Reads (text ++ take used piece) records t → (o ≡ None → length piece ≤ used) → Reads (text ++ piece) records t
+pulled_to text piece records t None used e h all = let T : List ℕ → Type 0 = λ p. Reads (text ++ p) records t in subst T (take_all used piece (all refl)) h
+pulled_to text piece records t (Some f) used e h all =
+    let T : List ℕ → Type 0 = λ p. Reads p records t in
+    let whole : (text ++ take used piece) ++ drop used piece ≡ text ++ piece = append_assoc text (take used piece) (drop used piece) ∙ ap (λ (p : List ℕ). text ++ p) (take-append-drop used piece) in
+    subst T whole (fault_at_end (text ++ take used piece) (drop used piece) records t f e h)
+
+pub pulled_whole : (text piece : List ℕ) (records : List (List ℕ)) (t : State) (used : ℕ) → Reads (text ++ take used piece) records t → (t.fault ≡ None → length piece ≤ used) → Reads (text ++ piece) records t
+pulled_whole text piece records t used h all = pulled_to text piece records t t.fault used refl h all

@@ -1,25 +1,27 @@
-//! What stands first on a text.
+//! The size line that stands first in a record.
 
-ghost use Rattle.std.specs.Prelude.{true, ◌≡◌, ◌≤◌, ◌<◌, length, take_while};
+ghost use Rattle.std.specs.Prelude.{true, ◌≡◌, ◌≤◌, ◌<◌, ◌∷◌, [], length, take_while, IfOk, IfErr};
 ghost use Rattle.std.specs.Char.{is_ascii_digit};
 ghost use Rattle.std.specs.Str.{all_ascii_digits};
 ghost use Rattle.std.specs.Str.Parse.{digits_value};
-ghost use Rattle.frame_record.specs.Records.{First, first};
-ghost use Rattle.frame_record.specs.Firsts.{first_of, IsInside};
+ghost use Rattle.frame_record.specs.Records.{IsSize, judged, faulty};
+ghost use Rattle.frame_record.specs.Firsts.{IsOpenLine, Brings};
 
 use crate::fault::FrameFault;
+use std::alloc::AllocError;
 
 /// The most data bytes of a record.
 pub const LIMIT: u64 = 1_048_576;
 
-/// What stands first, by places in the text.
+/// What a piece brought to a size line.
 #[derive(Clone, Copy, Debug, PartialEq, Eq)]
-pub enum Place {
-    /// The data of a record.
-    Whole { start: usize, end: usize },
-    /// A size line or data that the rest of the stream may still complete.
+pub enum Line {
+    /// All of it belongs to the line, which may go on.
     Partial,
-    Faulty(FrameFault),
+    /// So many of its bytes end the line, which says this size.
+    Whole { taken: usize, size: usize },
+    /// So many of its bytes make the line a fault.
+    Faulty { taken: usize, fault: FrameFault },
 }
 
 /// How many digits stand in front.
@@ -42,37 +44,62 @@ fn value_of(digits: &[u8]) -> u128
     value
 }
 
-/// Looks at what stands first on a text: its size line and, behind it, the length of what has come.
-#[tactic(auto, unfolding(crate::specs::Records::first))]
-pub fn first_place(text: &[u8]) -> Place
-    ensures first { first_of text.now result ≡ first text.now }
-    ensures inside { IsInside result (length text.now) }
+/// The size that a line says, by its digits and the byte behind them. `F1` for no digits, another
+/// byte than a line feed, or a number over 2^64 - 1; `F2` for a size over the limit.
+fn size_of(digits: &[u8], stop: u8) -> Result<usize, FrameFault>
+    requires { IsOpenLine digits.now }
+    ensures size { IfOk result (λ size. IsSize digits.now size) }
+    ensures stop { IfOk result (λ size. stop ≡ 10) }
+    ensures err { IfErr result (λ fault. judged digits.now (stop ∷ []) ≡ faulty fault) }
 {
-    let count = count_digits(text);
-    if count > 20 {
-        return Place::Faulty(FrameFault::BadSize);
-    }
-    let (digits, after) = text.split_at(count);
-    let [stop, data @ ..] = after else {
-        return Place::Partial;
-    };
-    if *stop != b'\n' || count == 0 {
-        return Place::Faulty(FrameFault::BadSize);
+    if stop != b'\n' || digits.is_empty() {
+        return Err(FrameFault::BadSize);
     }
     let size = value_of(digits);
     if size >= 1 << 64 {
-        return Place::Faulty(FrameFault::BadSize);
+        return Err(FrameFault::BadSize);
     }
     if size > u128::from(LIMIT) {
-        return Place::Faulty(FrameFault::TooLong);
+        return Err(FrameFault::TooLong);
     }
-    let size = size as usize;
-    if data.len() < size {
-        return Place::Partial;
+    Ok(size as usize)
+}
+
+/// Takes the next bytes of a size line, up to its end or the byte that makes it a fault: `F1` and
+/// `F2` as `size_of` says, and `F1` for a twenty-first digit.
+fn take_near(line: &mut Vec<u8>, near: &[u8]) -> Result<Line, AllocError>
+    requires { IsOpenLine line.old.items }
+    ensures { IfOk result (λ brought. Brings line.old.items near.now line.new.items brought) }
+{
+    let more = count_digits(near);
+    let count = line.len() + more;
+    if count > 20 {
+        let taken = 21 - line.len();
+        line.extend_from_slice(&near[..taken])?;
+        return Ok(Line::Faulty {
+            taken,
+            fault: FrameFault::BadSize,
+        });
     }
-    let start = count + 1;
-    Place::Whole {
-        start,
-        end: start + size,
+    let (digits, after) = near.split_at(more);
+    line.extend_from_slice(digits)?;
+    let [stop, ..] = after else {
+        return Ok(Line::Partial);
+    };
+    let judged = size_of(line, *stop);
+    line.push(*stop)?;
+    let taken = more + 1;
+    match judged {
+        Ok(size) => Ok(Line::Whole { taken, size }),
+        Err(fault) => Ok(Line::Faulty { taken, fault }),
     }
+}
+
+/// Takes the next bytes of a size line, as `take_near` says; it looks at no more than 21 of them.
+pub fn take_line(line: &mut Vec<u8>, piece: &[u8]) -> Result<Line, AllocError>
+    requires { IsOpenLine line.old.items }
+    ensures { IfOk result (λ brought. Brings line.old.items piece.now line.new.items brought) }
+{
+    let near = &piece[..piece.len().min(21)];
+    take_near(line, near)
 }

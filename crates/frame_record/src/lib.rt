@@ -4,10 +4,12 @@
 
 mod fault;
 mod first;
+mod part;
 mod reader;
 mod writing;
 
 pub use fault::FrameFault;
 pub use first::LIMIT;
+pub use part::Pulled;
 pub use reader::{Fed, Reader, fault_stays, first_records_stay, what_waits_is_short};
 pub use writing::{encode, one_reading, written_is_read};

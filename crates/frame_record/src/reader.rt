@@ -1,28 +1,32 @@
 //! A reader that is fed a stream in pieces.
 
-ghost use Rattle.std.specs.Prelude.{◌≡◌, ◌≤◌, ◌+◌, ◌++◌, [], List, ℕ, None, Some, length, drop, IfOk, IfErr, OnOk, IfSome, MatchOption};
-ghost use Rattle.frame_record.specs.Records.{State, Reads, Splits, First, partial, first, limit, end_of};
-ghost use Rattle.frame_record.specs.Firsts.{bodies, stop};
+ghost use Rattle.std.specs.Prelude.{◌≡◌, ◌≤◌, ◌<◌, ◌+◌, ◌++◌, [], List, ℕ, None, Some, Err, length, take, IfOk, IfErr, IfSome, MatchOption};
+ghost use Rattle.frame_record.specs.Records.{State, Reads, partial, first, limit, end_of};
+ghost use Rattle.frame_record.specs.Firsts.{bodies, item_of};
 ghost use Rattle.frame_record.specs.declared.fault.FrameFault.{FrameFault};
 
 use crate::fault::FrameFault;
-use crate::first::{Place, first_place};
-use std::alloc::{AllocError, Global};
+use crate::part::{Part, Pulled};
+use std::alloc::Global;
 use std::marker::Model;
 
-/// Where a reader stands on its stream: it keeps the bytes that are no whole record yet, or the fault that it met.
+/// Where a reader stands on its stream: it keeps the record that is not whole yet, or the fault
+/// that it met.
 #[derive(Debug, Drop)]
 pub struct Reader {
-    rest: Vec<u8>,
+    part: Part,
     fault: Option<FrameFault>,
 }
 
 impl Model for Reader {
     ghost use Rattle.frame_record.specs.Records.{State};
+    ghost use Rattle.frame_record.specs.Firsts.{text_of, IsGoing};
 
     ghost Value = { State };
 
-    ghost view = { λ r. record { rest = r.rest.items; fault = r.fault } };
+    ghost view = { λ r. record { rest = text_of r.part; fault = r.fault } };
+
+    ghost invariant = { λ r. IsGoing r.fault r.part };
 }
 
 /// What a piece brought: the records that it completed, in order, and the fault behind them, if one was met (`F1` or `F2`).
@@ -32,44 +36,22 @@ pub struct Fed {
     pub fault: Option<FrameFault>,
 }
 
-/// The records that a text begins with, how many bytes they take, and the fault behind them.
-#[derive(Drop)]
-struct Front {
-    records: Vec<Vec<u8>>,
-    used: usize,
-    fault: Option<FrameFault>,
-}
-
-fn front_of(alloc: Global, text: &[u8]) -> Result<Front, AllocError>
-    ensures records { IfOk result (λ f. Splits text.now (bodies f.records.items) (drop f.used text.now)) }
-    ensures stops { IfOk result (λ f. first (drop f.used text.now) ≡ stop f.fault) }
-    ensures used { IfOk result (λ f. f.used ≤ length text.now) }
+/// What a piece brings behind a fault: nothing but the fault. `F4` where memory ran out.
+fn pulled_after(fault: FrameFault) -> Result<Pulled, FrameFault>
+    ensures ok { IfOk result (λ pulled.
+        (pulled.taken ≡ 0) × (pulled.item ≡ None) × (pulled.fault ≡ Some fault)) }
+    ensures memory { IfErr result (λ e.
+        (e ≡ FrameFault.OutOfMemory) × (fault ≡ FrameFault.OutOfMemory)) }
+    ensures again { fault ≡ FrameFault.OutOfMemory → result ≡ Err FrameFault.OutOfMemory }
 {
-    let mut records = Vec::new(alloc);
-    let mut used = 0;
-    loop {
-        match first_place(&text[used..]) {
-            Place::Partial => {
-                return Ok(Front {
-                    records,
-                    used,
-                    fault: None,
-                });
-            }
-            Place::Faulty(f) => {
-                return Ok(Front {
-                    records,
-                    used,
-                    fault: Some(f),
-                });
-            }
-            Place::Whole { start, end } => {
-                let body = Vec::from_slice(alloc, &text[used + start..used + end])?;
-                records.push(body)?;
-                used += end;
-            }
-        }
+    if fault == FrameFault::OutOfMemory {
+        return Err(fault);
     }
+    Ok(Pulled {
+        taken: 0,
+        item: None,
+        fault: Some(fault),
+    })
 }
 
 impl Reader {
@@ -78,8 +60,46 @@ impl Reader {
         ensures { Reads [] [] result }
     {
         Reader {
-            rest: Vec::new(alloc),
+            part: Part::new(alloc),
             fault: None,
+        }
+    }
+
+    /// Takes from the front of the next piece up to the end of the first record or fault, or all of
+    /// it, and gives that record or fault (`F1` or `F2`). What it didn't take, the caller gives
+    /// again. A fault is told at the byte that makes it one. `Err` is want of memory (`F4`). After a
+    /// fault each later call takes nothing and gives the same one. The time is linear in the bytes
+    /// taken, however small the pieces are; data are copied into the record that is given, and room
+    /// for them is made as they come.
+    pub fn pull(&mut self, alloc: Global, piece: &[u8]) -> Result<Pulled, FrameFault>
+        ensures taken { IfOk result (λ pulled. pulled.taken ≤ length piece.now) }
+        // Over any pieces, the records are those of the whole text, and so is the fault.
+        ensures reads { IfOk result (λ pulled.
+            (text : List ℕ) (before : List (List ℕ)) → Reads text before self.old
+            → Reads (text ++ take pulled.taken piece.now) (before ++ item_of pulled.item) self.new) }
+        // Nothing waits behind a record; a piece that brings neither record nor fault is taken whole.
+        ensures whole { IfOk result (λ pulled.
+            MatchOption pulled.item (pulled.fault ≡ None → pulled.taken ≡ length piece.now)
+            (λ item. (self.new.rest ≡ []) × (0 < pulled.taken) × (pulled.fault ≡ None))) }
+        ensures fault { IfOk result (λ pulled. pulled.fault ≡ self.new.fault) }
+        ensures stays { IfSome self.old.fault (λ f. self.new.fault ≡ Some f) }
+        ensures none { IfOk result (λ pulled.
+            IfSome self.old.fault (λ f. (pulled.taken ≡ 0) × (pulled.item ≡ None))) }
+        ensures memory { IfErr result (λ e. (e ≡ FrameFault.OutOfMemory) × (self.new.fault ≡ Some FrameFault.OutOfMemory)) }
+        ensures again { self.old.fault ≡ Some FrameFault.OutOfMemory → result ≡ Err FrameFault.OutOfMemory }
+    {
+        if let Some(fault) = self.fault {
+            return pulled_after(fault);
+        }
+        match self.part.pull(alloc, piece) {
+            Ok(pulled) => {
+                self.fault = pulled.fault;
+                Ok(pulled)
+            }
+            Err(_) => {
+                self.fault = Some(FrameFault::OutOfMemory);
+                Err(FrameFault::OutOfMemory)
+            }
         }
     }
 
@@ -106,7 +126,7 @@ impl Reader {
             }
             None => {}
         }
-        match self.take(alloc, piece) {
+        match self.pull_all(alloc, piece) {
             Ok(records) => Ok(Fed {
                 records,
                 fault: self.fault,
@@ -118,22 +138,22 @@ impl Reader {
         }
     }
 
-    fn take(&mut self, alloc: Global, piece: &[u8]) -> Result<Vec<Vec<u8>>, AllocError>
+    /// Pulls until the piece gives no further record.
+    fn pull_all(&mut self, alloc: Global, piece: &[u8]) -> Result<Vec<Vec<u8>>, FrameFault>
         requires { self.old.fault ≡ None }
-        ensures records { IfOk result (λ v. Splits (self.old.rest ++ piece.now) (bodies v.items) self.new.rest) }
-        ensures stops { OnOk result (first self.new.rest ≡ stop self.new.fault) }
+        ensures { IfOk result (λ records. (text : List ℕ) (before : List (List ℕ)) → Reads text before self.old
+            → Reads (text ++ piece.now) (before ++ bodies records.items) self.new) }
     {
-        self.rest.extend_from_slice(piece)?;
-        let Front {
-            records,
-            used,
-            fault,
-        } = front_of(alloc, &self.rest)?;
-        self.rest.rotate_left(used);
-        let left = self.rest.len() - used;
-        self.rest.truncate(left);
-        self.fault = fault;
-        Ok(records)
+        let mut records = Vec::new(alloc);
+        let mut used = 0;
+        loop {
+            let Pulled { taken, item, .. } = self.pull(alloc, &piece[used..])?;
+            let Some(item) = item else {
+                return Ok(records);
+            };
+            records.push(item)?;
+            used += taken;
+        }
     }
 
     /// What the end of the stream says: `F3` inside a record or a size line, the fault that was met before, or nothing.
@@ -142,7 +162,7 @@ impl Reader {
     {
         match self.fault {
             Some(f) => Err(f),
-            None if self.rest.is_empty() => Ok(()),
+            None if self.part.is_empty() => Ok(()),
             None => Err(FrameFault::Cut),
         }
     }

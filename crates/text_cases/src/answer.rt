@@ -2,7 +2,7 @@
 
 use crate::amounts::of_amounts;
 use crate::events::{finished, message, offered};
-use crate::frames::{frame, frames};
+use crate::frames::{frame, frames, pulls};
 use crate::marks::unmarked;
 use crate::refusals::refusal;
 use crate::streams::{earlier, issued, taken, updates};
@@ -14,6 +14,7 @@ fn of_kind(alloc: Global, kind: &str, text: &str) -> Result<String, AllocError> 
         "earlier" => earlier(alloc, text),
         "frame" => frame(alloc, text),
         "frames" => frames(alloc, text),
+        "pulls" => pulls(alloc, text),
         "updates" => updates(alloc, text),
         "issued" => issued(alloc, text),
         "taken" => taken(alloc, text),

@@ -1,6 +1,6 @@
 //! Records and their written forms.
 
-use frame_record::{FrameFault, Reader, encode};
+use frame_record::{FrameFault, Pulled, Reader, encode};
 use std::alloc::{AllocError, Global};
 
 /// So many bytes at the front of a longer text are told.
@@ -62,5 +62,48 @@ pub fn frames(alloc: Global, text: &str) -> Result<String, AllocError> {
     let mut told = String::new(alloc);
     let last = push_all(&mut told, alloc, &mut reader, (size, text));
     write!(told, "{:?}", (last, reader.end()))?;
+    Ok(told)
+}
+
+/// Pulls from a piece until it gives no further record, and tells of each pull how many bytes it took, the record and the fault.
+fn push_pulls(
+    told: &mut String,
+    alloc: Global,
+    reader: &mut Reader,
+    piece: &[u8],
+) -> Result<(), FrameFault> {
+    let mut used = 0;
+    loop {
+        let Pulled { taken, item, fault } = reader.pull(alloc, &piece[used..])?;
+        let Some(record) = item else {
+            write!(told, "{:?}, ", (taken, "-", fault))?;
+            return Ok(());
+        };
+        write!(told, "{:?}, ", (taken, front(&record), fault))?;
+        used += taken;
+    }
+}
+
+fn push_all_pulls(
+    told: &mut String,
+    alloc: Global,
+    reader: &mut Reader,
+    pieces: (usize, &str),
+) -> Result<(), FrameFault> {
+    let (size, text) = pieces;
+    for piece in text.as_bytes().chunks(size.max(1)) {
+        push_pulls(told, alloc, reader, piece)?;
+    }
+    Ok(())
+}
+
+/// What is pulled from the text behind the first word, which comes in pieces of as many bytes as that word says; then what the end is answered with.
+pub fn pulls(alloc: Global, text: &str) -> Result<String, AllocError> {
+    let (size, text) = text.split_once(' ').unwrap_or((text, ""));
+    let size = size.parse().unwrap_or(1);
+    let mut reader = Reader::new(alloc);
+    let mut told = String::new(alloc);
+    let ran = push_all_pulls(&mut told, alloc, &mut reader, (size, text));
+    write!(told, "{:?}", (ran, reader.end()))?;
     Ok(told)
 }
