@@ -9,10 +9,9 @@ use crate::fault::{ActivityFault, Stop, stop_of};
 use crate::receipts::{has_stopped, last_draft};
 use crate::records::is_own;
 use crate::worker::Worker;
-use agent_core::Cabinet;
+use agent_core::{Cabinet, Record};
 use cluster_core::{ClusterFault, Keep, StepCause};
 use desk_lock::{Pass, Waited};
-use mails::Durable;
 use names_core::AgentName;
 use plain_data::Plain;
 use recorded_cluster::{Given, RecordedCluster, agent_group};
@@ -32,7 +31,7 @@ pub(crate) enum Saving {
 fn is_last_draft<L: ledger::Ledger>(
     pass: &Pass<Given, L>,
     agent: &AgentName,
-    kept: &Option<Durable>,
+    kept: &Option<Record>,
 ) -> bool
     ensures { IsTrue result → IsLastDraft agent.now kept.now pass.now }
 {
@@ -59,7 +58,7 @@ impl<'a, L: ledger::Ledger, R: Wait + Clock> Worker<'a, L, R> {
     }
 
     /// Whether what a cabinet keeps is the agent's own record.
-    fn owns<F>(&self, pass: &Pass<Given, L>, kept: &Option<Durable>) -> Result<bool, Stop<F>> {
+    fn owns<F>(&self, pass: &Pass<Given, L>, kept: &Option<Record>) -> Result<bool, Stop<F>> {
         let agent = self.agent;
         let look = |recorded: &RecordedCluster| match recorded.cluster().durable(agent) {
             Some(own) => Ok(Some(is_own(kept, own))),

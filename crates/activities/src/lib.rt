@@ -10,7 +10,7 @@ mod ticks;
 mod turns;
 mod worker;
 
-pub use agent_core::Cabinet;
+pub use agent_core::{Cabinet, Record};
 pub use fault::ActivityFault;
 pub use ticks::ticker;
 pub use turns::activity;

@@ -3,16 +3,16 @@
 ghost use Rattle.std.specs.Prelude.{None, IfSome};
 ghost use Rattle.activities.specs.Saved.{IsDraft, IsDraftIn, last_of};
 
+use agent_core::Record;
 use cluster_core::Step;
 use desk_lock::{Pass, Receipt};
-use mails::Durable;
 use names_core::AgentName;
 use plain_data::Plain;
 use recorded_cluster::Given;
 use std::sync::ledger;
 
 /// The record of the draft that a receipt's step opened, where the step is a Prepare of the agent.
-fn draft_in<'a>(receipt: &'a Receipt<Given>, agent: &AgentName) -> Option<&'a Durable>
+fn draft_in<'a>(receipt: &'a Receipt<Given>, agent: &AgentName) -> Option<&'a Record>
     ensures { IfSome result (λ draft. IsDraft agent.now draft.now receipt.now) }
 {
     match &receipt.given.taken.entry.step {
@@ -34,7 +34,7 @@ fn draft_in<'a>(receipt: &'a Receipt<Given>, agent: &AgentName) -> Option<&'a Du
 pub(crate) fn last_draft<'a, L: ledger::Ledger>(
     pass: &'a Pass<Given, L>,
     agent: &AgentName,
-) -> Option<&'a Durable>
+) -> Option<&'a Record>
     ensures { IfSome result (λ draft. IsDraftIn agent.now draft.now (last_of None pass.now.receipts)) }
 {
     draft_in(pass.last()?, agent)

@@ -22,7 +22,7 @@ impl<'a, L: ledger::Ledger, R: Wait + Clock> Worker<'a, L, R> {
     fn sights<F>(&self, pass: &Pass<Given, L>) -> Result<Vec<Sight>, Stop<F>> {
         let (agent, alloc) = (self.agent, self.alloc);
         let look = |recorded: &RecordedCluster| match recorded.cluster().durable(agent) {
-            Some(durable) => match sights_of(alloc, durable.tasks.as_slice()) {
+            Some(durable) => match sights_of(alloc, durable.parts().tasks.as_slice()) {
                 Ok(sights) => Ok(Some(sights)),
                 Err(_) => Err(ClusterFault::OutOfMemory),
             },

@@ -1,7 +1,6 @@
 //! Cabinets in memory.
 
-use activities::Cabinet;
-use mails::Durable;
+use activities::{Cabinet, Record};
 use plain_data::Plain;
 use std::alloc::{AllocError, Global};
 use std::hint::spin_loop;
@@ -26,7 +25,7 @@ pub struct Shelf {
     /// What the first save leaves where it fails; None where it succeeds.
     keeps: Option<Kept>,
     /// What that save was to keep.
-    lost: Option<Durable>,
+    lost: Option<Record>,
 }
 
 impl Shelf {
@@ -39,6 +38,13 @@ impl Shelf {
     }
 }
 
+/// The record, but of session 77.
+fn of_session_77(alloc: Global, record: Record) -> Result<Option<Record>, AllocError> {
+    let mut parts = record.into_parts();
+    parts.session = 77;
+    Record::of(alloc, parts)
+}
+
 impl Cabinet for Shelf {
     ghost use Rattle.std.specs.Prelude.{true};
 
@@ -46,7 +52,7 @@ impl Cabinet for Shelf {
 
     ghost saved = { λ _ _. true };
 
-    fn save(&mut self, _alloc: Global, durable: &Durable) -> Result<(), AllocError> {
+    fn save(&mut self, _alloc: Global, durable: &Record) -> Result<(), AllocError> {
         self.saves = self.saves.saturating_add(1);
         if self.saves > 1 || self.keeps.is_none() {
             return Ok(());
@@ -55,18 +61,15 @@ impl Cabinet for Shelf {
         Err(AllocError)
     }
 
-    fn reopen(&mut self, _alloc: Global) -> Result<Option<Durable>, AllocError> {
-        let mut lost = self.lost.take();
+    fn reopen(&mut self, alloc: Global) -> Result<Option<Record>, AllocError> {
+        let Some(lost) = self.lost.take() else {
+            return Ok(None);
+        };
         match self.keeps {
-            Some(Kept::After) => {}
-            Some(Kept::Neither) => {
-                if let Some(record) = &mut lost {
-                    record.session = 77;
-                }
-            }
-            _ => lost = None,
+            Some(Kept::After) => Ok(Some(lost)),
+            Some(Kept::Neither) => of_session_77(alloc, lost),
+            _ => Ok(None),
         }
-        Ok(lost)
     }
 }
 
@@ -146,7 +149,7 @@ impl<'a> Cabinet for Held<'a> {
 
     ghost saved = { λ _ _. true };
 
-    fn save(&mut self, _alloc: Global, _durable: &Durable) -> Result<(), AllocError> {
+    fn save(&mut self, _alloc: Global, _durable: &Record) -> Result<(), AllocError> {
         if self.passes > 0 {
             self.passes -= 1;
             return Ok(());
@@ -162,7 +165,7 @@ impl<'a> Cabinet for Held<'a> {
         if self.fails { Err(AllocError) } else { Ok(()) }
     }
 
-    fn reopen(&mut self, _alloc: Global) -> Result<Option<Durable>, AllocError> {
+    fn reopen(&mut self, _alloc: Global) -> Result<Option<Record>, AllocError> {
         Err(AllocError)
     }
 }

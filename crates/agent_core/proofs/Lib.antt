@@ -1,1 +1,3 @@
+mod Recorded
+mod Runs
 mod States

@@ -1,6 +1,6 @@
 -- What an agent prepares, and for which agent.
-use Rattle.std.specs.Prelude.{◌≡◌, suc, Bool, false, ◌&&◌, ◌==◌, if◌then◌else◌, List, [], ◌∷◌, map, Option, Some, None, Result, Ok, Err, bytes_eq}
-use Rattle.std.specs.List.{list_any}
+use Rattle.std.specs.Prelude.{◌≡◌, ℕ, suc, Bool, true, not, ◌&&◌, ◌||◌, ◌==◌, nat_lt, if◌then◌else◌, List, [], ◌∷◌, map, Option, Some, None, Result, Ok, Err, bytes_eq}
+use Rattle.std.specs.List.{list_all}
 use Rattle.names_core.specs.Ids.{Numbered}
 use Rattle.names_core.specs.declared.state.TaskState.{TaskState}
 use Rattle.mails.specs.declared.cause.Cause.{Cause}
@@ -13,14 +13,19 @@ use Rattle.mails.specs.declared.mail.MasterMail.{MasterMail}
 use Rattle.mails.specs.declared.mail.MasterMail.TheVariants.{Hello, Issued}
 use Rattle.mails.specs.declared.record.RecordedTask.{RecordedTask}
 use Rattle.mails.specs.declared.refusal.AgentRefusal.{AgentRefusal}
-use Rattle.cluster_model.specs.Agents.{Agent, Draft, is_task, front_at, stated, with_tasks}
+use Rattle.cluster_model.specs.Agents.{Agent, Draft, front_at, stated, with_tasks}
+use Rattle.cluster_model.specs.Ids.{before}
 use Rattle.agent_core.specs.declared.commands.Next.{Next}
 use Rattle.agent_core.specs.declared.fault.AgentFault.{AgentFault}
 use Rattle.agent_core.specs.declared.fault.AgentFault.TheVariants.{Refused, StaleDraft, OutOfMemory}
+use Rattle.agent_core.specs.declared.state.Former.{Former}
 use Rattle.agent_core.specs.declared.state.State.{State}
 
 abbrev pub agent_of : State → Agent
 agent_of s = record { durable = s.durable; in_session = s.in_session; applied = s.link }
+
+abbrev pub former_of : Former → Agent
+former_of f = record { durable = f.durable; in_session = f.in_session; applied = f.link }
 
 -- with no tasks
 abbrev pub without_tasks : State → Agent
@@ -64,25 +69,28 @@ IsRefusal due (Refused refusal) = due ≡ Err refusal
 IsRefusal due StaleDraft = ⊥
 IsRefusal due OutOfMemory = Unit {0}
 
--- whether a task of the record has the key
-abbrev pub has_key : Agent → Numbered → Bool
-has_key a key = list_any (is_task key) a.durable.tasks
+-- an open session is with a run of a master
+abbrev pub is_with_run : Agent → Bool
+is_with_run a = not a.in_session || nat_lt 0 a.durable.run
 
--- whether a command launches under a key of the record
-abbrev pub launches_again : Agent → Command → Bool
-launches_again a (Launch job offers) = has_key a job.key
-launches_again a (Kill key) = false
-launches_again a (Ack key k) = false
-launches_again a (EndFramework framework) = false
+-- a command launches under a key behind all those of the record, or launches nothing
+abbrev pub launches_in_order : Agent → Command → Bool
+launches_in_order a (Launch job offers) = list_all (λ t. before t.job.key job.key) a.durable.tasks
+launches_in_order a (Kill key) = true
+launches_in_order a (Ack key k) = true
+launches_in_order a (EndFramework framework) = true
 
--- whether a mail is the next command of the open session and launches under a key of the record
-abbrev pub hears_again : Agent → MasterMail → Bool
-hears_again a (Hello run dead) = false
-hears_again a (Issued session number command) = a.in_session && session == a.durable.session && number == suc a.applied && launches_again a command
+-- whether a command's number is next in the open session
+abbrev pub is_next_command : Agent → ℕ → ℕ → Bool
+is_next_command a session number = a.in_session && session == a.durable.session && number == suc a.applied
 
--- what a caller owes: a Launch that is next has a key that isn't in the record
-abbrev pub repeats_launch : Agent → Cause → Bool
-repeats_launch a Start = false
-repeats_launch a Again = false
-repeats_launch a (Executor key state) = false
-repeats_launch a (Mail to) = bytes_eq to.agent a.durable.name && hears_again a to.mail
+abbrev pub hears_in_order : Agent → MasterMail → Bool
+hears_in_order a (Hello run dead) = nat_lt 0 run
+hears_in_order a (Issued session number command) = not (is_next_command a session number) || launches_in_order a command
+
+-- what a caller owes: a Hello is of a run above 0, and a Launch that is next has a key behind all those of the record
+abbrev pub is_in_order : Agent → Cause → Bool
+is_in_order a Start = true
+is_in_order a Again = true
+is_in_order a (Executor key state) = true
+is_in_order a (Mail to) = not (bytes_eq to.agent a.durable.name) || hears_in_order a to.mail

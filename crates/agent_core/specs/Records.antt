@@ -36,3 +36,7 @@ is_record d = keys_rise d.tasks && none_is_done d.tasks && has_begun d && covers
 -- the record, if it can be one
 abbrev pub rebuilt : Durable → Option Durable
 rebuilt d = if is_record d then Some d else None
+
+-- the record with other tasks
+abbrev pub with_other_tasks : Durable → List RecordedTask → Durable
+with_other_tasks d ts = record { name = d.name; total = d.total; session = d.session; run = d.run; tasks = ts }

@@ -1,14 +1,15 @@
 //! Agents.
 
-ghost use Rattle.std.specs.Prelude.{◌≡◌, ◌≢◌, false, Ok, IfOk, IfErr};
+ghost use Rattle.std.specs.Prelude.{◌≡◌, ◌≢◌, true, Ok, IfOk, IfErr};
 ghost use Rattle.cluster_model.specs.Agents.{next_of, recovered, recovered_from};
-ghost use Rattle.agent_core.specs.Drafts.{IsRefusal, repeats_launch};
+ghost use Rattle.agent_core.specs.Drafts.{IsRefusal, is_in_order};
 ghost use Rattle.agent_core.specs.declared.fault.AgentFault.TheVariants.{StaleDraft};
 
 use crate::draft::Draft;
 use crate::fault::AgentFault;
+use crate::record::Record;
 use crate::state::State;
-use mails::{AgentMail, Cause, Durable};
+use mails::{AgentMail, Cause};
 use std::alloc::Global;
 use std::marker::Model;
 use stream_core::LinkIn;
@@ -20,17 +21,20 @@ pub struct Agent {
 }
 
 impl Model for Agent {
+    ghost use Rattle.std.specs.Prelude.{◌≡◌, true};
     ghost use Rattle.cluster_model.specs.Agents as specs;
-    ghost use Rattle.agent_core.specs.Drafts.{agent_of};
+    ghost use Rattle.agent_core.specs.Drafts.{agent_of, is_with_run};
 
     ghost Value = { specs.Agent };
 
     ghost view = { λ a. agent_of a.state };
+
+    ghost invariant = { λ a. is_with_run (agent_of a.state) ≡ true };
 }
 
 impl Agent {
     /// The agent that comes up over a record, with no open session. It takes no memory.
-    pub fn recover(durable: Durable) -> Agent
+    pub fn recover(durable: Record) -> Agent
         ensures { result ≡ recovered_from durable }
     {
         Agent {
@@ -43,7 +47,7 @@ impl Agent {
     }
 
     /// The agent's record. It takes no memory.
-    pub fn durable(&self) -> &Durable
+    pub fn durable(&self) -> &Record
         ensures { result.now ≡ self.now.durable }
     {
         &self.state.durable
@@ -66,14 +70,15 @@ impl Agent {
         self.stop();
     }
 
-    /// Whether a cause is the next command of the open session and launches a task under a launch key of the record.
-    pub fn repeats_launch(&self, cause: &Cause) -> bool
-        ensures { result ≡ repeats_launch self.now cause.now }
+    /// Whether a cause is in order: a Hello for this agent is of a run above 0, and the next command of the open session launches
+    /// no task under a key that isn't behind all launch keys of the record.
+    pub fn is_in_order(&self, cause: &Cause) -> bool
+        ensures { result ≡ is_in_order self.now cause.now }
     {
         match cause {
-            Cause::Mail(to) => to.agent.is(&self.state.durable.name)
-                && self.state.hears_again(&to.mail),
-            _ => false,
+            Cause::Mail(to) => !to.agent.is(&self.state.parts().name)
+                || self.state.hears_in_order(&to.mail),
+            _ => true,
         }
     }
 
@@ -88,7 +93,7 @@ impl Agent {
     /// - `A10 SessionsSpent` where the next session would be the 4,294,967,296th,
     /// - `A8 OutOfMemory`, which may come before any other.
     pub fn next(&self, alloc: Global, cause: Cause) -> Result<Draft, AgentFault>
-        requires { repeats_launch self.now cause ≡ false }
+        requires { is_in_order self.now cause ≡ true }
         ensures draft { IfOk result (λ d. next_of self.now cause ≡ Ok d.draft) }
         ensures before { IfOk result (λ d. d.before ≡ self.now) }
         ensures refused { IfErr result (IsRefusal (next_of self.now cause)) }

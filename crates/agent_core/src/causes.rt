@@ -1,12 +1,13 @@
 //! What an agent prepares at a cause.
 
-ghost use Rattle.std.specs.Prelude.{◌≡◌, Ok, IfOk};
+ghost use Rattle.std.specs.Prelude.{◌≡◌, ◌<◌, true, Ok, IfOk};
 ghost use Rattle.cluster_model.specs.Agents.{reports, opens_next, hears_hello, hears_mail, executes, next_of};
-ghost use Rattle.agent_core.specs.Drafts.{agent_of, next_draft, after_state, launches_again, hears_again, Prepares};
+ghost use Rattle.agent_core.specs.Drafts.{agent_of, next_draft, after_state, hears_in_order, is_in_order, is_next_command, is_with_run, launches_in_order, Prepares};
 
 use crate::commands::Next;
 use crate::edits::{has_ended_task, has_task, lacks_place, stated_all};
 use crate::fault::AgentFault;
+use crate::keys::is_behind_all;
 use crate::mails_out::push_fronts_at;
 use crate::state::State;
 use mails::{AgentRefusal, Cause, Command, MasterMail};
@@ -26,30 +27,34 @@ impl State {
 
     /// The session behind the last one is opened with the master of a run.
     fn open_next(&self, alloc: Global, last: u32, run: u32) -> Result<Next, AgentFault>
+        requires { 0 < run }
         ensures { Prepares result (opens_next (agent_of self.now) last run) }
     {
         if last == u32::MAX {
             return Err(AgentFault::Refused(AgentRefusal::SessionsSpent));
         }
-        let after = self.reopened(alloc, last + 1, run)?;
+        let after = self.reopened(last + 1, run)?;
         Ok(after.reporting(alloc)?)
     }
 
     fn hear_hello(&self, alloc: Global, run: u32, dead: u32) -> Result<Next, AgentFault>
+        requires { 0 < run }
         ensures { Prepares result (hears_hello (agent_of self.now) run dead) }
     {
-        let session = self.durable.session;
-        if run < self.durable.run {
+        let session = self.parts().session;
+        if run < self.parts().run {
             return Err(AgentFault::Refused(AgentRefusal::OldSession));
         }
-        if self.durable.run < run || session <= dead || !self.in_session {
+        if self.parts().run < run || session <= dead || !self.in_session {
             return self.open_next(alloc, session.max(dead), run);
         }
-        let after = self.copy(alloc)?;
+        let after = self.copy()?;
         Ok(after.reporting(alloc)?)
     }
 
     fn hear_mail(&self, alloc: Global, mail: MasterMail) -> Result<Next, AgentFault>
+        requires run { is_with_run (agent_of self.now) ≡ true }
+        requires order { hears_in_order (agent_of self.now) mail ≡ true }
         ensures { Prepares result (hears_mail (agent_of self.now) mail) }
     {
         match mail {
@@ -65,10 +70,10 @@ impl State {
     fn start(&self, alloc: Global) -> Result<Next, AgentFault>
         ensures { Prepares result (next_of (agent_of self.now) Cause.Start) }
     {
-        if self.durable.run == 0 {
+        if self.parts().run == 0 {
             return Err(AgentFault::Refused(AgentRefusal::OldSession));
         }
-        self.open_next(alloc, self.durable.session, self.durable.run)
+        self.open_next(alloc, self.parts().session, self.parts().run)
     }
 
     fn send_again(&self, alloc: Global) -> Result<Next, AllocError>
@@ -76,7 +81,7 @@ impl State {
     {
         let mut mails = Vec::new(alloc);
         self.push_all_fronts(&mut mails)?;
-        let after = self.copy(alloc)?;
+        let after = self.copy()?;
         Ok(Next { after, mails })
     }
 
@@ -89,11 +94,12 @@ impl State {
     ) -> Result<Next, AllocError>
         ensures { IfOk result (λ n. next_draft n ≡ after_state (agent_of self.now) key state) }
     {
+        self.stated_is_record(key, state);
         let tasks = stated_all(alloc, key, state, self.tasks())?;
-        let after = self.with_tasks(alloc, tasks, self.link)?;
+        let after = self.with_tasks(tasks, self.link)?;
         let mut mails = Vec::new(alloc);
         if self.in_session {
-            push_fronts_at(&mut mails, self.durable.session, key, after.tasks())?;
+            push_fronts_at(&mut mails, self.parts().session, key, after.tasks())?;
         }
         Ok(Next { after, mails })
     }
@@ -113,36 +119,42 @@ impl State {
         Ok(self.told_state(alloc, key, state)?)
     }
 
-    fn launches_again(&self, command: &Command) -> bool
-        ensures { result ≡ launches_again (agent_of self.now) command.now }
+    fn launches_in_order(&self, command: &Command) -> bool
+        ensures { result ≡ launches_in_order (agent_of self.now) command.now }
     {
         match command {
-            Command::Launch(job, _) => has_task(job.key, self.tasks()),
-            _ => false,
+            Command::Launch(job, _) => is_behind_all(self.tasks(), job.key),
+            _ => true,
         }
     }
 
-    /// Whether a mail is the next command of the open session, and launches a task under a key of the record.
-    pub fn hears_again(&self, mail: &MasterMail) -> bool
-        ensures { result ≡ hears_again (agent_of self.now) mail.now }
+    fn is_next_command(&self, session: u32, number: u32) -> bool
+        ensures { result ≡ is_next_command (agent_of self.now) session number }
+    {
+        self.in_session
+            && session == self.parts().session
+            && number > 0
+            && number - 1 == self.link.count()
+    }
+
+    /// Whether a mail for this agent is a Hello of a run above 0, or a command that isn't the next one of the open session, or one that
+    /// launches no task under a key that isn't behind all launch keys of the record.
+    pub fn hears_in_order(&self, mail: &MasterMail) -> bool
+        ensures { result ≡ hears_in_order (agent_of self.now) mail.now }
     {
         match mail {
-            MasterMail::Hello { .. } => false,
+            MasterMail::Hello { run, .. } => *run > 0,
             MasterMail::Issued {
                 session,
                 number,
                 command,
-            } => {
-                self.in_session
-                    && *session == self.durable.session
-                    && *number > 0
-                    && *number - 1 == self.link.count()
-                    && self.launches_again(command)
-            }
+            } => !self.is_next_command(*session, *number) || self.launches_in_order(command),
         }
     }
 
     pub fn next(&self, alloc: Global, cause: Cause) -> Result<Next, AgentFault>
+        requires run { is_with_run (agent_of self.now) ≡ true }
+        requires order { is_in_order (agent_of self.now) cause ≡ true }
         ensures { Prepares result (next_of (agent_of self.now) cause) }
     {
         match cause {
@@ -150,7 +162,7 @@ impl State {
             Cause::Again => Ok(self.send_again(alloc)?),
             Cause::Executor(key, state) => self.execute(alloc, key, state),
             Cause::Mail(to) => {
-                if !to.agent.is(&self.durable.name) {
+                if !to.agent.is(&self.parts().name) {
                     return Err(AgentFault::Refused(AgentRefusal::NotForMe));
                 }
                 self.hear_mail(alloc, to.mail)

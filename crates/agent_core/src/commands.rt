@@ -1,9 +1,11 @@
 //! What an agent prepares at a command.
 
-ghost use Rattle.std.specs.Prelude.{◌≡◌, Ok, IfOk, suc};
+ghost use Rattle.std.specs.Prelude.{◌≡◌, ◌<◌, true, Ok, IfOk, suc};
 ghost use Rattle.cluster_model.specs.Agents.{has_room, hears_command, applies, tasks_after};
 ghost use Rattle.mails.specs.declared.mail.Command.TheVariants.{Launch};
-ghost use Rattle.agent_core.specs.Drafts.{agent_of, applied_with, next_draft, Prepares, told_again};
+ghost use Rattle.mails.specs.declared.mail.MasterMail.TheVariants.{Issued};
+ghost use Rattle.agent_core.specs.Drafts.{agent_of, applied_with, hears_in_order, is_with_run, launches_in_order, next_draft, Prepares, told_again};
+ghost use Rattle.agent_core.specs.Records.{is_record, with_other_tasks};
 
 use crate::edits::{acknowledged_all, is_front_at, stated_all, without_framework};
 use crate::fault::AgentFault;
@@ -51,26 +53,31 @@ impl State {
         tasks: Vec<RecordedTask>,
         told: Option<LaunchKey>,
     ) -> Result<Next, AllocError>
-        requires { link ≡ suc self.now.link }
+        requires next { link ≡ suc self.now.link }
+        requires recorded { is_record (with_other_tasks self.now.durable tasks.items) ≡ true }
         ensures { IfOk result (λ n. next_draft n ≡ applied_with (agent_of self.now) tasks.items told) }
     {
-        let after = self.with_tasks(alloc, tasks, link)?;
+        let after = self.with_tasks(tasks, link)?;
         let mut mails = Vec::new(alloc);
         mails.push(AgentMail::Applied {
-            session: self.durable.session,
+            session: self.parts().session,
             count: link.count(),
         })?;
         if let Some(key) = told {
-            push_fronts_at(&mut mails, self.durable.session, key, after.tasks())?;
+            push_fronts_at(&mut mails, self.parts().session, key, after.tasks())?;
         }
         Ok(Next { after, mails })
     }
 
     /// The next command is applied; the link has taken it.
     fn apply(&self, alloc: Global, link: LinkIn, command: Command) -> Result<Next, AllocError>
-        requires { link ≡ suc self.now.link }
+        requires next { link ≡ suc self.now.link }
+        requires run { 0 < self.now.durable.run }
+        requires room { has_room (agent_of self.now) command ≡ true }
+        requires order { launches_in_order (agent_of self.now) command ≡ true }
         ensures { IfOk result (λ n. next_draft n ≡ applies (agent_of self.now) command) }
     {
+        self.applied_is_record(&command);
         match command {
             Command::Launch(job, offers) => {
                 let tasks = launched(alloc, self.tasks(), job, offers)?;
@@ -99,7 +106,7 @@ impl State {
     {
         match command {
             Command::Launch(job, _) => {
-                room::has_room(alloc, &self.durable.total, &job.resources, self.tasks())
+                room::has_room(alloc, &self.parts().total, &job.resources, self.tasks())
             }
             _ => Ok(true),
         }
@@ -109,10 +116,10 @@ impl State {
     fn tell_again(&self, alloc: Global) -> Result<Next, AllocError>
         ensures { IfOk result (λ n. next_draft n ≡ told_again (agent_of self.now)) }
     {
-        let after = self.copy(alloc)?;
+        let after = self.copy()?;
         let mut mails = Vec::new(alloc);
         mails.push(AgentMail::Applied {
-            session: self.durable.session,
+            session: self.parts().session,
             count: self.link.count(),
         })?;
         Ok(Next { after, mails })
@@ -126,9 +133,11 @@ impl State {
         number: u32,
         command: Command,
     ) -> Result<Next, AgentFault>
+        requires run { is_with_run (agent_of self.now) ≡ true }
+        requires order { hears_in_order (agent_of self.now) (Issued session number command) ≡ true }
         ensures { Prepares result (hears_command (agent_of self.now) session number command) }
     {
-        if !(self.in_session && session == self.durable.session) {
+        if !(self.in_session && session == self.parts().session) {
             return Err(AgentFault::Refused(AgentRefusal::OldSession));
         }
         if number <= self.link.count() {

@@ -1,12 +1,13 @@
 //! Drafts: what an agent would be and would send.
 
-ghost use Rattle.std.specs.Prelude.{◌≡◌, ◌↔◌, IsTrue, IfOk};
-ghost use Rattle.agent_core.specs.Drafts.{agent_of, next_draft};
+ghost use Rattle.std.specs.Prelude.{◌≡◌, ◌↔◌, true, IsTrue, IfOk};
+ghost use Rattle.agent_core.specs.Drafts.{agent_of, is_with_run, next_draft};
 
 use crate::commands::Next;
 use crate::differences::{difference_of, is_spliced};
-use crate::state::State;
-use mails::{AgentMail, Durable};
+use crate::record::Record;
+use crate::state::{Former, State};
+use mails::AgentMail;
 use plain_data::copies_of;
 use std::alloc::{AllocError, Global};
 use std::marker::Model;
@@ -15,7 +16,7 @@ use std::marker::Model;
 #[derive(Drop)]
 pub struct Draft {
     /// What the agent is, with those tasks alone that the draft doesn't keep as they are.
-    before: State,
+    before: Former,
     /// Where these tasks stand: before and behind that the draft's tasks are the agent's.
     from: usize,
     to: usize,
@@ -24,27 +25,28 @@ pub struct Draft {
 }
 
 impl Model for Draft {
-    ghost use Rattle.std.specs.Prelude.{◌≤◌, length};
+    ghost use Rattle.std.specs.Prelude.{◌≡◌, ◌≤◌, true, length};
     ghost use Rattle.cluster_model.specs.Agents.{with_tasks};
-    ghost use Rattle.agent_core.specs.Drafts.{agent_of};
+    ghost use Rattle.agent_core.specs.Drafts.{agent_of, former_of, is_with_run};
     ghost use Rattle.agent_core.specs.Prepared.{Prepared, spliced};
 
     ghost Value = { Prepared };
 
-    ghost view = { λ d. record { before = with_tasks (agent_of d.before) (spliced d.from d.to d.after.durable.tasks d.before.durable.tasks) d.before.link; draft = record { after = agent_of d.after; mails = d.mails.items } } };
+    ghost view = { λ d. record { before = with_tasks (former_of d.before) (spliced d.from d.to d.after.durable.tasks d.before.durable.tasks) d.before.link; draft = record { after = agent_of d.after; mails = d.mails.items } } };
 
-    ghost invariant = { λ d. (d.from ≤ d.to) × (d.to ≤ length d.after.durable.tasks) };
+    ghost invariant = { λ d. (d.from ≤ d.to) × (d.to ≤ length d.after.durable.tasks) × (is_with_run (agent_of d.after) ≡ true) };
 }
 
 impl Draft {
     pub(crate) fn of(alloc: Global, state: &State, next: Next) -> Result<Draft, AllocError>
+        requires { is_with_run (agent_of next.after) ≡ true }
         ensures { IfOk result (λ d. d ≡ record { before = agent_of state.now; draft = next_draft next }) }
     {
         let tasks = state.tasks();
         let difference = difference_of(tasks, next.after.tasks());
         let part = copies_of(alloc, &tasks[difference.from..difference.end])?;
         Ok(Draft {
-            before: state.with_tasks(alloc, part, state.link)?,
+            before: state.former(part)?,
             from: difference.from,
             to: difference.to,
             after: next.after,
@@ -62,13 +64,14 @@ impl Draft {
                 self.from,
                 self.to,
                 self.after.tasks(),
-                self.before.tasks(),
+                self.before.durable.tasks.as_slice(),
             )
     }
 
     /// What the agent becomes, and the mails that it sends.
     pub(crate) fn into_next(self) -> Next
-        ensures { next_draft result ≡ self.draft }
+        ensures draft { next_draft result ≡ self.draft }
+        ensures run { is_with_run self.draft.after ≡ true }
     {
         Next {
             after: self.after,
@@ -77,7 +80,7 @@ impl Draft {
     }
 
     /// The record that is to be saved. It takes no memory.
-    pub fn durable(&self) -> &Durable
+    pub fn durable(&self) -> &Record
         ensures { result.now ≡ self.now.draft.after.durable }
     {
         &self.after.durable

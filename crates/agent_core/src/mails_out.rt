@@ -118,7 +118,7 @@ impl State {
         ensures { OnOk result (mails.new.items ≡ mails.old.items ++ fronts (agent_of self.now)) }
     {
         if self.in_session {
-            push_fronts(mails, self.durable.session, self.tasks())?;
+            push_fronts(mails, self.parts().session, self.tasks())?;
         }
         Ok(())
     }
@@ -128,8 +128,8 @@ impl State {
     {
         let tasks = all_reported(alloc, self.tasks())?;
         Ok(AgentMail::Report {
-            session: self.durable.session,
-            run: self.durable.run,
+            session: self.parts().session,
+            run: self.parts().run,
             tasks: Listed::from_vec(tasks),
         })
     }

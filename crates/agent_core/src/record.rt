@@ -1,34 +1,48 @@
 //! Records of agents.
 
-ghost use Rattle.std.specs.Prelude.{◌≡◌, IfOk};
+ghost use Rattle.std.specs.Prelude.{◌≡◌, true, IfOk};
 ghost use Rattle.cluster_model.specs.Agents as agents;
-ghost use Rattle.cluster_model.specs.Ids as ids;
 ghost use Rattle.agent_core.specs.Records.{is_behind, keys_rise, none_is_done, has_begun, is_record, rebuilt};
 
+use crate::keys::is_before;
 use crate::room::has_room;
 use listed::Listed;
 use mails::{Durable, RecordedTask};
 use names_core::{AgentName, LaunchKey};
+use plain_data::Plain;
 use quantity::Resources;
 use std::alloc::{AllocError, Global};
+use std::marker::Model;
 
-/// The record of an agent that owns a total and has never opened a session. It takes no memory.
-pub fn fresh(alloc: Global, name: AgentName, total: Resources) -> Durable
-    ensures { result ≡ agents.fresh name total }
-{
-    Durable {
-        name,
-        total,
-        session: 0,
-        run: 0,
-        tasks: Listed::new(alloc),
-    }
+/// A record that an agent can have: launch keys rise, no task is done, run 0 stands only with session 0 and no tasks, and the live
+/// tasks fit the total. (That a task has at most 4,096 updates, a terminal one last, and acknowledges at most these holds of every
+/// `Updates`.)
+#[derive(Clone, Debug, Drop, PartialEq)]
+pub struct Record {
+    parts: Durable,
 }
 
-fn is_before(a: LaunchKey, b: LaunchKey) -> bool
-    ensures { result ≡ ids.before a b }
-{
-    a.run() < b.run() || (a.run() == b.run() && a.number() < b.number())
+impl Model for Record {
+    ghost use Rattle.std.specs.Prelude.{◌≡◌, true};
+    ghost use Rattle.mails.specs.declared.record.Durable.{Durable};
+    ghost use Rattle.agent_core.specs.Records.{is_record};
+
+    ghost Value = { Durable };
+
+    ghost view = { λ r. r.parts };
+
+    ghost invariant = { λ r. is_record r.parts ≡ true };
+
+    ghost inverse = { λ d. record { parts = d } };
+}
+
+impl Plain for Record {
+    ghost use Rattle.mails.specs.contracts.record.DurablePlain.TheImpl.Laws.{decided-law as durable_decided};
+    ghost use Rattle.std.proofs.Common.{rules};
+
+    ghost cloned = { Prim.search rules };
+
+    ghost decided = { Prim.search (rules, durable_decided) };
 }
 
 fn is_behind(last: Option<LaunchKey>, key: LaunchKey) -> bool
@@ -78,15 +92,54 @@ fn is_record(alloc: Global, durable: &Durable) -> Result<bool, AllocError>
     has_room(alloc, &durable.total, &nothing, tasks)
 }
 
-/// The record of these parts, or None where no agent can have it: launch keys rise, no task is done, run 0 stands only with
-/// session 0 and no tasks, and the live tasks fit the total. (That a task has at most 4,096 updates, a terminal one last, and
-/// acknowledges at most these holds of every `Updates`.)
-pub fn rebuild(alloc: Global, parts: Durable) -> Result<Option<Durable>, AllocError>
-    ensures { IfOk result (λ rebuilt_record. rebuilt_record ≡ rebuilt parts) }
-{
-    if is_record(alloc, &parts)? {
-        Ok(Some(parts))
-    } else {
-        Ok(None)
+impl Record {
+    /// The record of an agent that owns a total and has never opened a session. It takes no memory.
+    pub fn fresh(alloc: Global, name: AgentName, total: Resources) -> Record
+        ensures { result ≡ agents.fresh name total }
+    {
+        Record {
+            parts: Durable {
+                name,
+                total,
+                session: 0,
+                run: 0,
+                tasks: Listed::new(alloc),
+            },
+        }
+    }
+
+    /// The record of these parts, or None where no agent can have it.
+    pub fn of(alloc: Global, parts: Durable) -> Result<Option<Record>, AllocError>
+        ensures { IfOk result (λ found. found ≡ rebuilt parts) }
+    {
+        if is_record(alloc, &parts)? {
+            Ok(Some(Record { parts }))
+        } else {
+            Ok(None)
+        }
+    }
+
+    /// The record of parts that are known to be those of one.
+    pub(crate) fn make(parts: Durable) -> Record
+        requires { is_record parts ≡ true }
+        ensures { result ≡ parts }
+    {
+        Record { parts }
+    }
+
+    /// The parts. It takes no memory.
+    pub fn parts(&self) -> &Durable
+        ensures parts { result.now ≡ self.now }
+        ensures recorded { is_record self.now ≡ true }
+    {
+        &self.parts
+    }
+
+    /// Gives the parts up. It takes no memory.
+    pub fn into_parts(self) -> Durable
+        ensures parts { result ≡ self }
+        ensures recorded { is_record self ≡ true }
+    {
+        self.parts
     }
 }

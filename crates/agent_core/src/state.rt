@@ -1,22 +1,32 @@
 //! What an agent is: its record, and how far it is in its session.
 
-ghost use Rattle.std.specs.Prelude.{◌≡◌, ◌↔◌, IfOk, IsTrue};
+ghost use Rattle.std.specs.Prelude.{◌≡◌, ◌<◌, ◌↔◌, true, [], IfOk, IsTrue};
 ghost use Rattle.cluster_model.specs.Agents.{reopened, with_tasks};
 ghost use Rattle.cluster_model.specs.Ids.{same};
-ghost use Rattle.agent_core.specs.Drafts.{agent_of, without_tasks};
+ghost use Rattle.agent_core.specs.Drafts.{agent_of, former_of, without_tasks};
+ghost use Rattle.agent_core.specs.Records.{is_record, with_other_tasks};
 
+use crate::record::Record;
 use listed::Listed;
 use mails::{Durable, RecordedTask};
 use names_core::{FrameworkId, LaunchKey};
-use plain_data::{Plain, copies_of};
+use plain_data::Plain;
 use std::alloc::{AllocError, Global};
 use stream_core::LinkIn;
 
 #[derive(Drop)]
 pub struct State {
-    pub durable: Durable,
+    pub durable: Record,
     pub in_session: bool,
     /// How many commands of the open session are applied.
+    pub link: LinkIn,
+}
+
+/// What an agent is, with a part of its tasks.
+#[derive(Drop)]
+pub struct Former {
+    pub durable: Durable,
+    pub in_session: bool,
     pub link: LinkIn,
 }
 
@@ -33,62 +43,93 @@ pub fn is_same_framework(a: FrameworkId, b: FrameworkId) -> bool
 }
 
 impl State {
+    pub fn parts(&self) -> &Durable
+        ensures parts { result.now ≡ self.now.durable }
+        ensures recorded { is_record self.now.durable ≡ true }
+    {
+        self.durable.parts()
+    }
+
     pub fn tasks(&self) -> &[RecordedTask]
         ensures { result.now ≡ self.now.durable.tasks }
     {
-        self.durable.tasks.as_slice()
+        self.parts().tasks.as_slice()
     }
 
-    /// With other tasks, and so many commands applied.
-    pub fn with_tasks(
-        &self,
-        alloc: Global,
-        tasks: Vec<RecordedTask>,
-        link: LinkIn,
-    ) -> Result<State, AllocError>
+    fn durable_with(&self, tasks: Vec<RecordedTask>) -> Result<Durable, AllocError>
+        ensures { IfOk result (λ d. d ≡ with_other_tasks self.now.durable tasks.items) }
+    {
+        let parts = self.parts();
+        Ok(Durable {
+            name: parts.name.copy()?,
+            total: parts.total.copy()?,
+            session: parts.session,
+            run: parts.run,
+            tasks: Listed::from_vec(tasks),
+        })
+    }
+
+    /// With other tasks, which make a record, and so many commands applied.
+    pub fn with_tasks(&self, tasks: Vec<RecordedTask>, link: LinkIn) -> Result<State, AllocError>
+        requires { is_record (with_other_tasks self.now.durable tasks.items) ≡ true }
         ensures { IfOk result (λ s. agent_of s ≡ with_tasks (agent_of self.now) tasks.items link) }
     {
+        let parts = self.durable_with(tasks)?;
         Ok(State {
-            durable: Durable {
-                name: self.durable.name.copy()?,
-                total: self.durable.total.copy()?,
-                session: self.durable.session,
-                run: self.durable.run,
-                tasks: Listed::from_vec(tasks),
-            },
+            durable: Record::make(parts),
             in_session: self.in_session,
             link,
         })
     }
 
-    pub fn copy(&self, alloc: Global) -> Result<State, AllocError>
+    /// With other tasks, which need make no record.
+    pub fn former(&self, tasks: Vec<RecordedTask>) -> Result<Former, AllocError>
+        ensures { IfOk result (λ f. former_of f ≡ with_tasks (agent_of self.now) tasks.items self.now.link) }
+    {
+        Ok(Former {
+            durable: self.durable_with(tasks)?,
+            in_session: self.in_session,
+            link: self.link,
+        })
+    }
+
+    pub fn copy(&self) -> Result<State, AllocError>
         ensures { IfOk result (λ s. agent_of s ≡ agent_of self.now) }
     {
-        let tasks = copies_of(alloc, self.tasks())?;
-        self.with_tasks(alloc, tasks, self.link)
+        Ok(State {
+            durable: self.durable.copy()?,
+            in_session: self.in_session,
+            link: self.link,
+        })
     }
 
     /// With this session opened with the master of a run.
-    pub fn reopened(&self, alloc: Global, session: u32, run: u32) -> Result<State, AllocError>
+    pub fn reopened(&self, session: u32, run: u32) -> Result<State, AllocError>
+        requires { 0 < run }
         ensures { IfOk result (λ s. agent_of s ≡ reopened (agent_of self.now) session run) }
     {
-        let mut state = self.copy(alloc)?;
-        state.durable.session = session;
-        state.durable.run = run;
-        state.in_session = true;
-        state.link = LinkIn::new();
-        Ok(state)
+        let mut parts = self.parts().copy()?;
+        parts.session = session;
+        parts.run = run;
+        Ok(State {
+            durable: Record::make(parts),
+            in_session: true,
+            link: LinkIn::new(),
+        })
     }
+}
 
-    /// Whether both are the same in all but their tasks.
+impl Former {
+    /// Whether an agent is this one in all but its tasks.
     pub fn is_same_but_for_tasks(&self, other: &State) -> bool
-        ensures { IsTrue result ↔ (without_tasks self.now ≡ without_tasks other.now) }
+        ensures { IsTrue result ↔ (with_tasks (former_of self.now) [] self.now.link ≡ without_tasks other.now) }
     {
+        let parts = other.parts();
         self.in_session == other.in_session
             && self.link.count() == other.link.count()
-            && self.durable.session == other.durable.session
-            && self.durable.run == other.durable.run
-            && self.durable.name.is_same(&other.durable.name)
-            && self.durable.total.is_same(&other.durable.total)
+            && self.durable.session == parts.session
+            && self.durable.run == parts.run
+            && self.durable.name.is_same(&parts.name)
+            && self.durable.total.is_same(&parts.total)
     }
 }

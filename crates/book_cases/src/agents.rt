@@ -2,7 +2,7 @@
 
 use crate::answers::{shown, word};
 use crate::words::{amounts, first, number, task};
-use agent_core::{Agent, AgentFault, Draft, rebuild};
+use agent_core::{Agent, AgentFault, Draft, Record};
 use listed::Listed;
 use mails::{AgentMail, Cause, Command, Durable, Job, MasterMail, ToAgent};
 use names_core::{FrameworkId, LaunchKey, TaskState};
@@ -27,7 +27,7 @@ impl Kept {
 }
 
 /// What became of a record.
-fn come_up(agent: &mut Option<Agent>, alloc: Global, record: Option<Durable>) -> Option<String> {
+fn come_up(agent: &mut Option<Agent>, alloc: Global, record: Option<Record>) -> Option<String> {
     match record {
         Some(record) => {
             *agent = Some(Agent::recover(record));
@@ -38,7 +38,7 @@ fn come_up(agent: &mut Option<Agent>, alloc: Global, record: Option<Durable>) ->
 }
 
 fn rebuilt(agent: &mut Option<Agent>, alloc: Global, record: Durable) -> Option<String> {
-    let record = rebuild(alloc, record).ok()?;
+    let record = Record::of(alloc, record).ok()?;
     come_up(agent, alloc, record)
 }
 
@@ -51,7 +51,7 @@ fn recover(agent: &mut Option<Agent>, alloc: Global, text: &str) -> Option<Strin
 }
 
 fn next(agent: &Agent, alloc: Global, cause: Cause) -> Result<Draft, AgentFault> {
-    if agent.repeats_launch(&cause) {
+    if !agent.is_in_order(&cause) {
         return Err(AgentFault::StaleDraft);
     }
     agent.next(alloc, cause)
@@ -117,7 +117,7 @@ fn told(agent: &mut Agent, alloc: Global, cause: Cause) -> Option<String> {
 }
 
 fn mail_to(agent: &Agent, alloc: Global, mail: MasterMail) -> Option<Cause> {
-    let name = agent.durable().name.copy().ok()?;
+    let name = agent.durable().parts().name.copy().ok()?;
     Some(Cause::Mail(ToAgent { agent: name, mail }))
 }
 
@@ -196,7 +196,7 @@ fn commit(agent: &mut Agent, draft: &mut Option<Draft>, alloc: Global) -> Option
 fn draft_text(draft: &Option<Draft>, alloc: Global) -> Option<String> {
     match draft {
         Some(draft) => {
-            let (session, mails) = (draft.durable().session, draft.mails().len());
+            let (session, mails) = (draft.durable().parts().session, draft.mails().len());
             format!(in alloc; "session {session} mails {mails}").ok()
         }
         None => word(alloc, "none"),

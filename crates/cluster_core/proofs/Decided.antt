@@ -6,20 +6,22 @@ use Rattle.std.proofs.lemmas.List.Sums.{sum_by-append, sum_by-cons}
 use Rattle.mails.specs.declared.record.Durable.{Durable}
 use Rattle.mails.specs.declared.record.RecordedTask.{RecordedTask}
 use Rattle.mails.specs.declared.task.Job.{Job}
-use Rattle.names_core.specs.Ids.{Numbered, same}
+use Rattle.names_core.specs.Ids.{Numbered}
+use Rattle.cluster_model.specs.Ids.{same}
 use Rattle.quantity.specs.Laws.{CoversIsAtLeast}
-use Rattle.quantity.specs.Rows.{amount, part_of}
+use Rattle.quantity.specs.Rows.{amount, covers, part_of}
+use Rattle.agent_core.specs.Records.{has_begun, is_record, keys_rise, none_is_done}
 use Rattle.agent_sides.specs.Configs.{are_ordered, names_of}
 use Rattle.agent_sides.specs.declared.config.ConfiguredAgent.{ConfiguredAgent}
 use Rattle.cluster_model.specs.Agents.{live_tasks, task_rows}
 use Rattle.cluster_model.specs.Openings.{GoodOpening, KeysOnce, NamesOnce, RecordFits, recorded_jobs, recorded_offers}
 use Rattle.cluster_laws.proofs.Lists.{both_true, each_append}
+use Rattle.cluster_safe.proofs.Ids.{same_is, same_refl}
 use Rattle.cluster_safe.proofs.Orders.{each_left, each_right}
 use Rattle.cluster_laws.specs.Parts.{configured}
 use Rattle.cluster_core.specs.Fresh.{fresh_records}
-use Rattle.cluster_core.specs.Openable.{any_has_key, are_good, are_keys_new, are_keys_once, fits_total, has_key, is_before, is_good, is_task_before}
+use Rattle.cluster_core.specs.Openable.{any_has_key, are_good, are_keys_new, are_keys_once, has_key, is_before, is_task_before}
 use Rattle.cluster_core.proofs.FreshRecords.{once}
-use Rattle.cluster_core.proofs.Permuted.{same_is, same_itself}
 
 -- ---- live tasks fit the total
 
@@ -27,14 +29,14 @@ weighs : (name : List ℕ) (ts : List RecordedTask) → amount name (task_rows t
 weighs name [] = refl
 weighs name (t ∷ ts) = omega (arith, sum_by-append (part_of name) t.job.resources (task_rows ts), weighs name ts, sum_by-cons (λ (x : RecordedTask). amount name x.job.resources) t ts)
 
-record_fits : CoversIsAtLeast → (d : Durable) → fits_total d ≡ true → RecordFits d
-record_fits law d e name = subst (λ (n : ℕ). n ≤ amount name d.total) (weighs name (live_tasks d.tasks)) ((law d.total (task_rows (live_tasks d.tasks))).0 (is_so (fits_total d) e) name)
+pub record_fits : CoversIsAtLeast → (d : Durable) → is_record d ≡ true → RecordFits d
+record_fits law d e name = subst (λ (n : ℕ). n ≤ amount name d.total) (weighs name (live_tasks d.tasks)) ((law d.total (task_rows (live_tasks d.tasks))).0 (is_so (covers d.total (task_rows (live_tasks d.tasks))) covered) name)
   where
     is_so : (b : Bool) → b ≡ true → IsTrue b
     is_so b f = f
 
-total_fits : CoversIsAtLeast → (d : Durable) → RecordFits d → fits_total d ≡ true
-total_fits law d h = (law d.total (task_rows (live_tasks d.tasks))).1 (λ name. subst (λ (n : ℕ). n ≤ amount name d.total) (sym (weighs name (live_tasks d.tasks))) (h name))
+    covered : covers d.total (task_rows (live_tasks d.tasks)) ≡ true
+    covered = (both_true (keys_rise d.tasks && none_is_done d.tasks && has_begun d) (covers d.total (task_rows (live_tasks d.tasks))) e).1
 
 -- ---- tests
 
@@ -56,7 +58,7 @@ below : (a b : ℕ) → a < b → nat_lt a b ≡ true
 below a b h = grind (arith, nat_tests)
 
 differ : (a b : Numbered) → same a b ≡ false → a ≢ b
-differ a b f e = (let clash : true ≡ false = sym (same_itself b) ∙ ap (λ (x : Numbered). same x b) (sym e) ∙ f in cc)
+differ a b f e = (let clash : true ≡ false = sym (same_refl b) ∙ ap (λ (x : Numbered). same x b) (sym e) ∙ f in cc)
 
 not_same : (a b : Numbered) → a ≢ b → same a b ≡ false
 not_same a b h = by (same a b) refl
@@ -173,20 +175,17 @@ tasks_are_before run (t ∷ ts) b =
 -- ---- all records
 
 record AllGood (run : ℕ) (ds : List Durable) : Type 0 where
-  fits : Each RecordFits ds
   older : Each (λ d. d.run < run) ds
   before : Before run (recorded_jobs ds) (recorded_offers ds)
 
-all_good : CoversIsAtLeast → (run : ℕ) (ds : List Durable) → list_all (is_good run) ds ≡ true → AllGood run ds
-all_good law run [] e = record { fits = tt; older = tt; before = record { keys = tt; frameworks = tt; ids = tt } }
-all_good law run (d ∷ ds) e =
-    let both = both_true (is_good run d) (list_all (is_good run) ds) e in
-    let good = both_true (fits_total d) (is_before run d) both.0 in
-    let runs = both_true (nat_lt d.run run) (list_all (is_task_before run) d.tasks) good.1 in
-    let rest = all_good law run ds both.1 in
+all_good : (run : ℕ) (ds : List Durable) → list_all (is_before run) ds ≡ true → AllGood run ds
+all_good run [] e = record { older = tt; before = record { keys = tt; frameworks = tt; ids = tt } }
+all_good run (d ∷ ds) e =
+    let both = both_true (is_before run d) (list_all (is_before run) ds) e in
+    let runs = both_true (nat_lt d.run run) (list_all (is_task_before run) d.tasks) both.0 in
+    let rest = all_good run ds both.1 in
     let first = tasks_before run d.tasks runs.1 in
     record {
-      fits = (record_fits law d good.0, rest.fits);
       older = (less d.run run runs.0, rest.older);
       before = record {
         keys = each_append (KeyBefore run) (map job_of d.tasks) (recorded_jobs ds) first.keys rest.before.keys;
@@ -195,11 +194,10 @@ all_good law run (d ∷ ds) e =
       };
     }
 
-all_are_good : CoversIsAtLeast → (run : ℕ) (ds : List Durable) → AllGood run ds → list_all (is_good run) ds ≡ true
-all_are_good law run [] g = refl
-all_are_good law run (d ∷ ds) g =
-    let rest = all_are_good law run ds (record {
-      fits = g.fits.1;
+all_are_good : (run : ℕ) (ds : List Durable) → AllGood run ds → list_all (is_before run) ds ≡ true
+all_are_good run [] g = refl
+all_are_good run (d ∷ ds) g =
+    let rest = all_are_good run ds (record {
       older = g.older.1;
       before = record {
         keys = each_right (KeyBefore run) (map job_of d.tasks) (recorded_jobs ds) g.before.keys;
@@ -213,7 +211,7 @@ all_are_good law run (d ∷ ds) g =
       ids = each_left (IdBefore run) (offers_of d.tasks) (recorded_offers ds) g.before.ids;
     }) in
     let first = and_so (nat_lt d.run run) (list_all (is_task_before run) d.tasks) (below d.run run g.older.0) tasks in
-    and_so (is_good run d) (list_all (is_good run) ds) (and_so (fits_total d) (is_before run d) (total_fits law d g.fits.0) first) rest
+    and_so (is_before run d) (list_all (is_before run) ds) first rest
 
 -- ---- the opening
 
@@ -224,12 +222,12 @@ same_names (d ∷ ds) = ap (λ (ns : List (List ℕ)). d.name ∷ ns) (same_name
 named_once : (agents : List ConfiguredAgent) (ds : List Durable) → are_ordered (names_of agents) ≡ true → agents ≡ map configured ds → NamesOnce (map (λ (d : Durable). d.name) ds)
 named_once agents ds ordered is = subst NamesOnce (ap (λ (as_ : List ConfiguredAgent). map (λ (d : Durable). d.name) (fresh_records as_)) is ∙ same_names ds) (once agents ordered)
 
-pub good_if : CoversIsAtLeast → (agents : List ConfiguredAgent) (run : ℕ) (ds : List Durable) → are_ordered (names_of agents) ≡ true → agents ≡ map configured ds → are_good run ds ≡ true → GoodOpening run ds
-good_if law agents run ds ordered is e =
-    let both = both_true (are_keys_once ds) (list_all (is_good run) ds) e in
-    let good = all_good law run ds both.1 in
+pub good_if : (agents : List ConfiguredAgent) (run : ℕ) (ds : List Durable) → are_ordered (names_of agents) ≡ true → agents ≡ map configured ds → Each RecordFits ds → are_good run ds ≡ true → GoodOpening run ds
+good_if agents run ds ordered is fits e =
+    let both = both_true (are_keys_once ds) (list_all (is_before run) ds) e in
+    let good = all_good run ds both.1 in
     record {
-      fits = good.fits;
+      fits = fits;
       older = good.older;
       keys_older = good.before.keys;
       frameworks_older = good.before.frameworks;
@@ -238,6 +236,6 @@ good_if law agents run ds ordered is e =
       names_once = named_once agents ds ordered is;
     }
 
-pub then_good : CoversIsAtLeast → (run : ℕ) (ds : List Durable) → GoodOpening run ds → are_good run ds ≡ true
-then_good law run ds g = and_so (are_keys_once ds) (list_all (is_good run) ds) (keys_are_once ds g.keys_once)
-    (all_are_good law run ds (record { fits = g.fits; older = g.older; before = record { keys = g.keys_older; frameworks = g.frameworks_older; ids = g.offers_older } }))
+pub then_good : (run : ℕ) (ds : List Durable) → GoodOpening run ds → are_good run ds ≡ true
+then_good run ds g = and_so (are_keys_once ds) (list_all (is_before run) ds) (keys_are_once ds g.keys_once)
+    (all_are_good run ds (record { older = g.older; before = record { keys = g.keys_older; frameworks = g.frameworks_older; ids = g.offers_older } }))

@@ -2,7 +2,7 @@
 use Rattle.std.proofs.Common.{◌≡◌, ℕ, Bool, true, false, List, [], ◌∷◌, map, slice_get, Option, Some, None, is_none, Result, Ok, Err, inl, inr, refl, sym, ap, ◌∙◌, subst}
 use Rattle.std.specs.Prelude.{◌⊎◌, IfOk}
 use Rattle.std.specs.List.{AllByRecursion as Each}
-use Rattle.agent_core.specs.Drafts.{repeats_launch}
+use Rattle.agent_core.specs.Drafts.{is_in_order}
 use Rattle.mails.specs.declared.cause.Cause.TheVariants.{Mail}
 use Rattle.mails.specs.declared.mail.AgentMail.{AgentMail}
 use Rattle.mails.specs.declared.mail.ToAgent.{ToAgent}
@@ -25,7 +25,7 @@ use Rattle.told_streams.specs.declared.kept.KeptStream.{KeptStream}
 use Rattle.cluster_parts.specs.Agents.{KeptAgent}
 use Rattle.cluster_parts.specs.Handing.{MayRefuse}
 use Rattle.cluster_parts.specs.Masters.{MasterMakes, Standing, StandingAt, StandingWith, StandsFor, kept_master}
-use Rattle.cluster_parts.specs.Moves.{LaunchAnew, Makes, Reached, kept_agents, kept_part}
+use Rattle.cluster_parts.specs.Moves.{ComeInOrder, Makes, Reached, kept_agents, kept_part}
 use Rattle.cluster_core.specs.Parts.{AreParts, PartsOf, Takes, record_of}
 use Rattle.cluster_parts.specs.Restarting.{Restarts, StandingOver}
 use Rattle.cluster_parts.specs.declared.masters.Made.{Made}
@@ -144,22 +144,22 @@ deliver_down c p n of down = no_master c (delivers c (post_at c n)) p.items p.st
     at None s h = s
     at (Some m) s h = absurd (let clash : false ≡ true = h in cc)
 
--- ---- what was sent launches anew
+-- ---- what was sent comes in order
 
-each_kept : (to : ToAgent) (fallen : List (List ℕ)) (cs : List Channel) → Each (λ x. repeats_launch x.agent (Mail to) ≡ false) cs → Each (λ a. repeats_launch a.part.agent (Mail to) ≡ false) (map (kept_part fallen) (parts_of cs))
+each_kept : (to : ToAgent) (fallen : List (List ℕ)) (cs : List Channel) → Each (λ x. is_in_order x.agent (Mail to) ≡ true) cs → Each (λ a. is_in_order a.part.agent (Mail to) ≡ true) (map (kept_part fallen) (parts_of cs))
 each_kept to fallen [] h = tt
 each_kept to fallen (x ∷ cs) h = (h.0, each_kept to fallen cs h.1)
 
-abbrev pub LaunchLaw : Type 0
-LaunchLaw = (run : ℕ) (records : List Durable) (steps : List Marked) (sent : List Item) (n : ℕ) (to : ToAgent) → GoodOpening run records →
-    StandIn (history run records steps).state sent → slice_get sent n ≡ Some (items.ToAgent to) → Each (λ x. repeats_launch x.agent (Mail to) ≡ false) (history run records steps).state.world.channels
+abbrev pub OrderLaw : Type 0
+OrderLaw = (run : ℕ) (records : List Durable) (steps : List Marked) (sent : List Item) (n : ℕ) (to : ToAgent) → GoodOpening run records →
+    StandIn (history run records steps).state sent → slice_get sent n ≡ Some (items.ToAgent to) → Each (λ x. is_in_order x.agent (Mail to) ≡ true) (history run records steps).state.world.channels
 
-pub launches_anew : LaunchLaw → (p : Parts) → AreParts p → LaunchAnew p.agents.items p.items
-launches_anew law p (c, of) = λ n to e.
+pub come_in_order : OrderLaw → (p : Parts) → AreParts p → ComeInOrder p.agents.items p.items
+come_in_order law p (c, of) = λ n to e.
     let r = of.reached in
-    let each : Each (λ x. repeats_launch x.agent (Mail to) ≡ false) c.world.channels =
-    subst (λ (x : Cluster). Each (λ y. repeats_launch y.agent (Mail to) ≡ false) x.world.channels) (sym r.is) (law r.run r.records r.steps p.items n to r.good (subst (λ (x : Cluster). StandIn x p.items) r.is of.stands.as_others.as_items) e) in
-    subst (λ (as_ : List KeptAgent). Each (λ a. repeats_launch a.part.agent (Mail to) ≡ false) as_) (sym of.stands.as_agents) (each_kept to c.fallen c.world.channels each)
+    let each : Each (λ x. is_in_order x.agent (Mail to) ≡ true) c.world.channels =
+    subst (λ (x : Cluster). Each (λ y. is_in_order y.agent (Mail to) ≡ true) x.world.channels) (sym r.is) (law r.run r.records r.steps p.items n to r.good (subst (λ (x : Cluster). StandIn x p.items) r.is of.stands.as_others.as_items) e) in
+    subst (λ (as_ : List KeptAgent). Each (λ a. is_in_order a.part.agent (Mail to) ≡ true) as_) (sym of.stands.as_agents) (each_kept to c.fallen c.world.channels each)
 
 -- ---- what each step makes, of its own contract
 

@@ -10,9 +10,11 @@ use Rattle.std.proofs.lemmas.List.Sums.{sum_by-append, sum_by-cons}
 use Rattle.mails.specs.declared.record.Durable.{Durable}
 use Rattle.mails.specs.declared.record.RecordedTask.{RecordedTask}
 use Rattle.mails.specs.declared.task.Job.{Job}
-use Rattle.names_core.specs.Ids.{Numbered, same}
+use Rattle.names_core.specs.Ids.{Numbered}
+use Rattle.cluster_model.specs.Ids.{same}
 use Rattle.cluster_model.specs.Openings.{GoodOpening, KeysOnce, NamesOnce, RecordFits, recorded_jobs}
 use Rattle.cluster_laws.proofs.Lists.{bytes_refl, bytes_same, each_append}
+use Rattle.cluster_safe.proofs.Ids.{same_is, same_refl}
 use Rattle.cluster_safe.proofs.Orders.{each_left, each_right}
 
 -- ---- what holds of each
@@ -87,15 +89,6 @@ module _ {X K : Type 0} (key : X → K) (is : K → K → Bool) (sound : (a b : 
 
 -- ---- launch keys
 
-pub same_itself : (a : Numbered) → same a a ≡ true
-same_itself a = grind (arith, nat_tests)
-
-pub same_is : (a b : Numbered) → same a b ≡ true → a ≡ b
-same_is a b h =
-    let run : a.run ≡ b.run = grind (arith, nat_tests) in
-    let n : a.n ≡ b.n = grind (arith, nat_tests) in
-    let e : record { run = a.run; n = a.n } ≡ b = rw (run, n) refl in e
-
 abbrev key_of : Job → Numbered
 key_of j = j.key
 
@@ -103,7 +96,7 @@ abbrev jobs_of : Durable → List Job
 jobs_of d = map (λ (t : RecordedTask). t.job) d.tasks
 
 abbrev has_key : Numbered → Job → ℕ
-has_key = has key_of same same_is same_itself
+has_key = has key_of same same_is same_refl
 
 -- how many tasks of a record have a key
 abbrev keyed : Numbered → Durable → ℕ
@@ -113,17 +106,17 @@ keyed_in_all : (k : Numbered) (ds : List Durable) → sum_by (has_key k) (record
 keyed_in_all k [] = refl
 keyed_in_all k (d ∷ ds) = omega (arith, sum_by-append (has_key k) (jobs_of d) (recorded_jobs ds), sum_by-cons (keyed k) d ds, keyed_in_all k ds)
 
-keys_to : (js : List Job) → KeysOnce js → Once key_of same same_is same_itself js
+keys_to : (js : List Job) → KeysOnce js → Once key_of same same_is same_refl js
 keys_to [] h = tt
 keys_to (j ∷ js) h = (h.0, keys_to js h.1)
 
-keys_from : (js : List Job) → Once key_of same same_is same_itself js → KeysOnce js
+keys_from : (js : List Job) → Once key_of same same_is same_refl js → KeysOnce js
 keys_from [] h = tt
 keys_from (j ∷ js) h = (h.0, keys_from js h.1)
 
 keys_permuted : (xs ys : List Durable) → IsPermutation xs ys → KeysOnce (recorded_jobs xs) → KeysOnce (recorded_jobs ys)
-keys_permuted xs ys moved h = keys_from (recorded_jobs ys) (once_so key_of same same_is same_itself (recorded_jobs ys) (λ k.
-    omega (arith, keyed_in_all k xs, keyed_in_all k ys, sum_by-IsPermutation (keyed k) xs ys moved, at_most_one key_of same same_is same_itself k (recorded_jobs xs) (keys_to (recorded_jobs xs) h))))
+keys_permuted xs ys moved h = keys_from (recorded_jobs ys) (once_so key_of same same_is same_refl (recorded_jobs ys) (λ k.
+    omega (arith, keyed_in_all k xs, keyed_in_all k ys, sum_by-IsPermutation (keyed k) xs ys moved, at_most_one key_of same same_is same_refl k (recorded_jobs xs) (keys_to (recorded_jobs xs) h))))
 
 -- ---- names
 

@@ -1,20 +1,10 @@
 -- Tests of records over which a cluster may be opened.
-use Rattle.std.specs.Prelude.{ℕ, Bool, true, not, ◌&&◌, ◌||◌, nat_lt, nat_le, List, [], ◌∷◌}
+use Rattle.std.specs.Prelude.{ℕ, Bool, true, not, ◌&&◌, ◌||◌, nat_lt, List, [], ◌∷◌}
 use Rattle.std.specs.List.{list_all, list_any}
-use Rattle.names_core.specs.Ids.{Numbered, same}
-use Rattle.quantity.specs.declared.rows.Row.{Row}
-use Rattle.quantity.specs.Rows.{amount, covers}
+use Rattle.names_core.specs.Ids.{Numbered}
+use Rattle.cluster_model.specs.Ids.{same}
 use Rattle.mails.specs.declared.record.Durable.{Durable}
 use Rattle.mails.specs.declared.record.RecordedTask.{RecordedTask}
-use Rattle.cluster_model.specs.Agents.{live_tasks, task_rows}
-
--- of the name of a row the live tasks have at most what the total has
-abbrev pub fits_at : List RecordedTask → List Row → Row → Bool
-fits_at tasks total r = nat_le (amount r.name (task_rows (live_tasks tasks))) (amount r.name total)
-
--- the live tasks have together at most what the agent owns
-abbrev pub fits_total : Durable → Bool
-fits_total d = covers d.total (task_rows (live_tasks d.tasks))
 
 -- every run in a task lies before this one
 abbrev pub is_task_before : ℕ → RecordedTask → Bool
@@ -40,10 +30,6 @@ abbrev pub are_keys_once : List Durable → Bool
 are_keys_once [] = true
 are_keys_once (d ∷ ds) = are_keys_new d.tasks ds && are_keys_once ds
 
--- the record fits, and every run in it lies before this one
-abbrev pub is_good : ℕ → Durable → Bool
-is_good run d = fits_total d && is_before run d
-
 -- what is asked of records beside that they are those of the configured agents
 abbrev pub are_good : ℕ → List Durable → Bool
-are_good run records = are_keys_once records && list_all (is_good run) records
+are_good run records = are_keys_once records && list_all (is_before run) records

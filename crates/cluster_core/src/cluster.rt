@@ -28,9 +28,9 @@ use crate::recorded::records_are_recorded;
 use crate::safety::stories_are_safe;
 use crate::stopping::stopped_stories_open_again;
 use crate::taken::{History, Taken};
+use agent_core::Record;
 use cluster_parts::{ClusterAgent, open_parts};
 use cluster_steps::{ClusterFault, Entry, Outputs, Step};
-use mails::Durable;
 use master_core::Config;
 use names_core::{AgentName, Run};
 use post_rules::Post;
@@ -62,7 +62,7 @@ impl<P: Post + Drop> Cluster<P> {
     pub fn open(
         alloc: Global,
         config: Config,
-        records: Vec<Durable>,
+        records: Vec<Record>,
         run: Run,
     ) -> Result<Cluster<P>, ClusterFault>
         requires good { GoodOpening run records.items }
@@ -181,21 +181,21 @@ impl<P: Post + Drop> Cluster<P> {
     }
 
     /// The record of the agent at a place, in the order of the configuration.
-    pub fn durable_at(&self, place: usize) -> Option<&Durable>
+    pub fn durable_at(&self, place: usize) -> Option<&Record>
         ensures { option_map (λ d. d.now) result ≡ option_map recorded (slice_get (kept_agents (state_of self.now.story)) place) }
     {
         Some(self.parts.agents.get(place)?.durable())
     }
 
     /// The record of the agent of a name.
-    pub fn durable(&self, name: &AgentName) -> Option<&Durable>
+    pub fn durable(&self, name: &AgentName) -> Option<&Record>
         ensures { option_map (λ d. d.now) result ≡ recorded_in (agent_in name.now (kept_agents (state_of self.now.story))) }
     {
         Some(agent_of(self.parts.agents.as_slice(), name)?.durable())
     }
 
     /// The record of the open draft of the agent of a name.
-    pub fn draft(&self, name: &AgentName) -> Option<&Durable>
+    pub fn draft(&self, name: &AgentName) -> Option<&Record>
         ensures { option_map (λ d. d.now) result ≡ drafted_in (agent_in name.now (kept_agents (state_of self.now.story))) }
     {
         Some(

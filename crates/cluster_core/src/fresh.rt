@@ -6,8 +6,7 @@ ghost use Rattle.cluster_core.specs.Records.{AreRecordsOf, in_order};
 ghost use Rattle.cluster_laws.specs.Premises.{AreRecorded};
 ghost use Rattle.cluster_model.specs.Openings.{GoodOpening};
 
-use agent_core::fresh;
-use mails::Durable;
+use agent_core::Record;
 use master_core::Config;
 use plain_data::Plain;
 use std::alloc::{AllocError, Global};
@@ -23,13 +22,13 @@ pub fn fresh_agents_open(config: &Config)
 }
 
 /// The records of configured agents that never ran, in the order of their names.
-pub fn fresh_records(alloc: Global, config: &Config) -> Result<Vec<Durable>, AllocError>
+pub fn fresh_records(alloc: Global, config: &Config) -> Result<Vec<Record>, AllocError>
     ensures { IfOk result (λ records. records.items ≡ fresh_records config.now) }
 {
     let agents = config.agents();
     let mut records = Vec::with_capacity(alloc, agents.len())?;
     for agent in agents {
-        records.push(fresh(alloc, agent.name.copy()?, agent.total.copy()?))?;
+        records.push(Record::fresh(alloc, agent.name.copy()?, agent.total.copy()?))?;
     }
     Ok(records)
 }

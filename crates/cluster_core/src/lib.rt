@@ -14,6 +14,7 @@ mod safety;
 mod stopping;
 mod taken;
 
+pub use agent_core::Record;
 pub use cluster::Cluster;
 pub use cluster_steps::{ClusterFault, Entry, Keep, Outputs, Sent, Step, StepCause, Verdict};
 pub use fresh::{fresh_agents_open, fresh_records};

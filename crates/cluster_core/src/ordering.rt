@@ -6,20 +6,24 @@ ghost use Rattle.cluster_core.specs.Records.{AreRecordsOf, comes_before, in_orde
 ghost use Rattle.cluster_laws.specs.Parts.{configured};
 ghost use Rattle.cluster_model.specs.Openings.{GoodOpening};
 
-use mails::Durable;
+use agent_core::Record;
 use master_core::Config;
 use names_core::Run;
 
 /// Sorts records by the names of their agents.
-pub(crate) fn sort_by_name(records: &mut [Durable])
+pub(crate) fn sort_by_name(records: &mut [Record])
     ensures permutation { IsPermutation records.old records.new }
     ensures sorted { IsSortedBy comes_before records.new }
 {
-    records.sort_unstable_by(|first, second| first.name.as_text().cmp(second.name.as_text()));
+    records.sort_unstable_by(|first, second| first
+        .parts()
+        .name
+        .as_text()
+        .cmp(second.parts().name.as_text()));
 }
 
 /// Puts records that are a good opening in this run in the order of the configured agents.
-pub(crate) fn put_in_order(config: &Config, mut records: Vec<Durable>, _run: Run) -> Vec<Durable>
+pub(crate) fn put_in_order(config: &Config, mut records: Vec<Record>, _run: Run) -> Vec<Record>
     requires good { GoodOpening _run records.items }
     requires records { AreRecordsOf config.now records.items }
     ensures order { result.items ≡ in_order config.now records.items }

@@ -8,7 +8,7 @@ ghost use Rattle.cluster_parts.specs.Moves.{Refuses};
 ghost use Rattle.cluster_parts.specs.Posts.{Grows};
 ghost use Rattle.cluster_steps.specs.Steps.{cause_of, step_of};
 
-use cluster_laws::mails_to_agents_launch_anew;
+use cluster_laws::mails_to_agents_come_in_order;
 use cluster_parts::{ClusterAgent, Items, Made, ends_with, sending};
 use cluster_steps::{ClusterFault, Keep, Step, StepCause, Verdict};
 use listed::Listed;
@@ -238,7 +238,7 @@ impl Parts {
         ensures given { IfOk result (λ _. is_withheld (P.gives (P.known post.now)) cause ≡ false) }
         ensures items { length self.new.items ≡ length self.old.items }
     {
-        mails_to_agents_launch_anew();
+        mails_to_agents_come_in_order();
         let agents = self.agents.as_mut_slice();
         let items = self.items.as_slice();
         let prepared = cluster_parts::prepare(agents, items, post, alloc, name, cause)?;

@@ -5,7 +5,8 @@ ghost use Rattle.std.specs.List.{AllByRecursion as Each};
 ghost use Rattle.cluster_laws.specs.Premises.{AreRecorded};
 ghost use Rattle.stream_core.specs.Updates.{are_updates};
 
-use mails::{Durable, RecordedTask};
+use agent_core::Record;
+use mails::RecordedTask;
 
 fn tasks_are_recorded(tasks: &[RecordedTask])
     ensures { Each (λ t. are_updates t.updates.states t.updates.acknowledged ≡ true) tasks.now }
@@ -16,10 +17,10 @@ fn tasks_are_recorded(tasks: &[RecordedTask])
 }
 
 /// The tasks of all records have updates as every value of their type is.
-pub fn records_are_recorded(records: &[Durable])
+pub fn records_are_recorded(records: &[Record])
     ensures { AreRecorded records.now }
 {
     for durable in records {
-        tasks_are_recorded(durable.tasks.as_slice());
+        tasks_are_recorded(durable.parts().tasks.as_slice());
     }
 }

@@ -1,7 +1,7 @@
 //! The history of a cluster, and what a step gives.
 
+use agent_core::Record;
 use cluster_steps::{Entry, Outputs};
-use mails::Durable;
 use names_core::Run;
 
 /// How a cluster was opened, and every entry since.
@@ -10,7 +10,7 @@ pub struct History {
     /// The first run of the master.
     pub run: Run,
     /// The agents' records at the opening.
-    pub records: Vec<Durable>,
+    pub records: Vec<Record>,
     /// What the opening brought out.
     pub opened: Outputs,
     pub entries: Vec<Entry>,
@@ -21,5 +21,5 @@ pub struct History {
 pub struct Taken {
     pub entry: Entry,
     /// The record of the draft that a Prepare opened; it is to be saved before the draft is committed.
-    pub durable: Option<Durable>,
+    pub durable: Option<Record>,
 }

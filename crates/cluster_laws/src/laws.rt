@@ -1,8 +1,8 @@
 //! What was sent, and what the parts owe to each other.
 
-ghost use Rattle.std.specs.Prelude.{◌≡◌, ◌++◌, false, List, [], map, slice_get, Option, Some, None, Ok, ℕ};
+ghost use Rattle.std.specs.Prelude.{◌≡◌, ◌++◌, true, List, [], map, slice_get, Option, Some, None, Ok, ℕ};
 ghost use Rattle.std.specs.List.{AllByRecursion as Each};
-ghost use Rattle.agent_core.specs.Drafts.{repeats_launch};
+ghost use Rattle.agent_core.specs.Drafts.{is_in_order};
 ghost use Rattle.cluster_laws.specs.Items.{Item, StandIn, items_sent, names_of, new_items};
 ghost use Rattle.cluster_laws.specs.Premises.{AreRecorded, IsDown, IsUp};
 ghost use Rattle.cluster_laws.specs.declared.item.Item.TheVariants as items;
@@ -57,10 +57,11 @@ pub fn mails_of_agents_fit()
     mails_meet_their_premises();
 }
 
-/// No mail to an agent that was ever sent is a next command that launches under a key of the record of the agent that it is handed to.
-pub fn mails_to_agents_launch_anew()
+/// Each mail to an agent that was ever sent comes in order: a Hello tells a run above 0, and a Launch that is next has a key behind all those of the
+/// record of the agent that it is handed to.
+pub fn mails_to_agents_come_in_order()
     ensures { (run : ℕ) (records : List Durable) (steps : List Marked) (sent : List Item) (n : ℕ) (to : ToAgent) → GoodOpening run records →
-        StandIn (history run records steps).state sent → slice_get sent n ≡ Some (items.ToAgent to) → Each (λ x. repeats_launch x.agent (Mail to) ≡ false) (history run records steps).state.world.channels }
+        StandIn (history run records steps).state sent → slice_get sent n ≡ Some (items.ToAgent to) → Each (λ x. is_in_order x.agent (Mail to) ≡ true) (history run records steps).state.world.channels }
 {
     mails_meet_their_premises();
 }

@@ -9,7 +9,7 @@ mod ties;
 
 pub use item::Item;
 pub use laws::{
-    agents_keep_their_names, items_are_posts, mails_of_agents_fit, mails_to_agents_launch_anew,
+    agents_keep_their_names, items_are_posts, mails_of_agents_fit, mails_to_agents_come_in_order,
     opening_items_stand, sent_items_stand,
 };
 pub use parts::{

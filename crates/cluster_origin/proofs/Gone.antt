@@ -35,7 +35,7 @@ use Rattle.cluster_safe.proofs.Orders.{each_append, each_map}
 use Rattle.cluster_safe.proofs.Origins.{untouched_issue, untouched_all}
 use Rattle.cluster_safe.proofs.OriginWorlds.{ChannelOk, OriginOk, names_of, later_at, origin_all}
 use Rattle.cluster_safe.proofs.SideNames.{agent_side}
-use Rattle.cluster_safe.proofs.Trails.{OfferOk, each_kept, less_is_other, made_alike}
+use Rattle.cluster_safe.proofs.Trails.{OfferOk, each_kept, less_is_other, made_once}
 use Rattle.cluster_safe.proofs.Worlds.{below_next_run}
 use Rattle.cluster_origin.specs.Launches.{IsCurrent, Uses}
 use Rattle.cluster_origin.proofs.Lists.{each_among, each_those}
@@ -101,21 +101,6 @@ all_gone rs id (h ∷ hs) w marks ok g = all_gone rs id hs (after w h) (marks_by
 
 -- offers that were made
 
-never_made : (id : Numbered) (marks : List Mark) (name : List ℕ) (o : Offer) → NotMade id marks → WasMade name o marks → o.id ≢ id
-never_made id [] name o n w = absurd w
-never_made id (Made m ∷ older) name o n (inl e) = λ is. n.0 (ap (λ (p : Offer). p.id) e.1 ∙ is)
-never_made id (Made m ∷ older) name o n (inr w) = never_made id older name o n.1 w
-never_made id (Used u ∷ older) name o n w = never_made id older name o n w
-
--- of one id one offer was made
-made_same : (marks : List Mark) (a b : List ℕ) (o p : Offer) → IsTrail marks → WasMade a o marks → WasMade b p marks → p.id ≡ o.id → p ≡ o
-made_same [] a b o p t v w e = absurd v
-made_same (Used u ∷ older) a b o p t v w e = made_same older a b o p t.2 v w e
-made_same (Made m ∷ older) a b o p t (inl v) (inl w) e = sym w.1 ∙ v.1
-made_same (Made m ∷ older) a b o p t (inl v) (inr w) e = absurd (never_made m.offer.id older b p t.0 w (e ∙ ap (λ (q : Offer). q.id) (sym v.1)))
-made_same (Made m ∷ older) a b o p t (inr v) (inl w) e = absurd (never_made m.offer.id older a o t.0 v (sym e ∙ ap (λ (q : Offer). q.id) (sym w.1)))
-made_same (Made m ∷ older) a b o p t (inr v) (inr w) e = made_same older a b o p t.1 v w e
-
 made_more : (ms marks : List Mark) (a : List ℕ) (o : Offer) → WasMade a o marks → WasMade a o (ms ++ marks)
 made_more [] marks a o h = h
 made_more (Made m ∷ ms) marks a o h = inr (made_more ms marks a o h)
@@ -151,7 +136,7 @@ cleared id agent step run (c ∷ cs) once h f = by (bytes_eq c.side.name agent) 
 
 located : (rs : List Durable) (w : World) (marks : List Mark) (agent : List ℕ) (o : Offer) → OriginOk rs w marks → WasMade agent o marks → Located o.id agent w.channels
 located rs w marks agent o ok made = each_those (λ (c : Channel). Each (λ (p : Offer). p.id ≡ o.id → c.side.name ≡ agent) c.side.offers) w.channels
-    (λ c a. each_those (λ (p : Offer). p.id ≡ o.id → c.side.name ≡ agent) c.side.offers (λ p k e. sym (made_alike marks agent c.side.name o p ok.trail.is made (stands_made rs w marks c p ok a k).0 e)))
+    (λ c a. each_those (λ (p : Offer). p.id ≡ o.id → c.side.name ≡ agent) c.side.offers (λ p k e. sym (made_once marks agent c.side.name o p ok.trail.is made (stands_made rs w marks c p ok a k).0 e).0))
 
 -- withdrawing it
 
@@ -264,10 +249,10 @@ launch_gone rs w marks x y o framework ids jobs ok a k named among b good alive 
     made = stands_made rs w marks x o ok a k
 
     there : x.side.name ≡ y.side.name
-    there = let p = good_offer y.side framework ids o.id good among in made_alike marks x.side.name y.side.name o p.0 ok.trail.is made.0 (stands_made rs w marks y p.0 ok b p.1).0 p.2
+    there = let p = good_offer y.side framework ids o.id good among in (made_once marks x.side.name y.side.name o p.0 ok.trail.is made.0 (stands_made rs w marks y p.0 ok b p.1).0 p.2).0
 
     alike : Each (λ (p : Offer). p.id ≡ o.id → p ≡ o) y.side.offers
-    alike = each_those (λ (p : Offer). p.id ≡ o.id → p ≡ o) y.side.offers (λ p l e. made_same marks x.side.name y.side.name o p ok.trail.is made.0 (stands_made rs w marks y p ok b l).0 e)
+    alike = each_those (λ (p : Offer). p.id ≡ o.id → p ≡ o) y.side.offers (λ p l e. (made_once marks x.side.name y.side.name o p ok.trail.is made.0 (stands_made rs w marks y p ok b l).0 e).1)
 
     launched_side : (accepted w.run y.side framework ids jobs).side.offers ≡ filter (λ p. not (is_named framework ids p)) y.side.offers
     launched_side = by (is_good y.side framework ids) (is_among w.run.torn framework) good alive

@@ -10,16 +10,15 @@ use Rattle.mails.specs.declared.mail.Command.{Command}
 use Rattle.mails.specs.declared.mail.Command.TheVariants.{Launch, Kill, Ack, EndFramework}
 use Rattle.mails.specs.declared.mail.MasterMail.{MasterMail}
 use Rattle.mails.specs.declared.mail.MasterMail.TheVariants.{Issued}
-use Rattle.mails.specs.declared.refusal.AgentRefusal.{AgentRefusal}
 use Rattle.mails.specs.declared.task.Job.{Job}
-use Rattle.cluster_model.specs.Agents.{Draft, hears_mail, next_of}
-use Rattle.cluster_model.specs.Channels.{Channel, AgentStep, Draw, DrawMail, Adopt, StopWithout, StopWith, drawn, drawn_mail, adopted, stopped_with, is_own, agent_step, ChannelStep, ByMaster, Hear, ByAgent, heard_mail, happens, at_agent, with_side}
+use Rattle.cluster_model.specs.Channels.{Channel, AgentStep, ChannelStep, ByMaster, Hear, ByAgent, heard_mail, happens, at_agent, with_side}
 use Rattle.cluster_model.specs.Clusters.{Sent, CallSent, MailToAgent, MailToMaster, Step, Tick}
 use Rattle.cluster_model.specs.Ids.{is_among, is_empty, is_repeated}
 use Rattle.cluster_model.specs.Sides.{Run, Side, Sending, sends_nothing, issue, books, Launching, may_launch, launch_all, is_good, used_offers, without_used, offer_rows, may_offer, SideStep, MakeOffer, Withdraw, LaunchFrom, SendKill, SendAck, SendEnd, SendHello, SendAgain, Lose, side_step}
 use Rattle.cluster_model.specs.Steps.{new_to_agent, new_to_master, sent_in, sent_between}
 use Rattle.cluster_safe.specs.Origin.{launched, use_of, marks_at, marks_of, marks_in, jobs_of}
 use Rattle.cluster_safe.proofs.Drafts.{both_true}
+use Rattle.cluster_safe.proofs.SideNames.{agent_beside}
 use Rattle.cluster_origin.specs.Launches.{launch_of, launches_in}
 
 -- a Tick sends again what waits
@@ -132,30 +131,6 @@ step_sends run s Lose q = refl
 
 -- a step in a channel
 
-drawn_down : (c : Channel) (o : Option Draft) (r : Result Draft AgentRefusal) → (drawn c o r).to_agent ≡ c.to_agent
-drawn_down c (Some old) r = refl
-drawn_down c None (Err refusal) = refl
-drawn_down c None (Ok new) = refl
-
-drawn_mail_down : (c : Channel) (o : Option MasterMail) → (drawn_mail c o).to_agent ≡ c.to_agent
-drawn_mail_down c None = refl
-drawn_mail_down c (Some mail) = drawn_down c c.draft (hears_mail c.agent mail)
-
-adopted_down : (c : Channel) (o : Option Draft) → (adopted c o).to_agent ≡ c.to_agent
-adopted_down c None = refl
-adopted_down c (Some d) = refl
-
-stopped_down : (c : Channel) (o : Option Draft) → (stopped_with c o).to_agent ≡ c.to_agent
-stopped_down c None = refl
-stopped_down c (Some d) = refl
-
-pub agent_down : (c : Channel) (step : AgentStep) → (agent_step c step).to_agent ≡ c.to_agent
-agent_down c (Draw cause) = cond_both (is_own cause) (drawn c c.draft (next_of c.agent cause)) c (λ d. d.to_agent ≡ c.to_agent) (λ e. drawn_down c c.draft (next_of c.agent cause)) (λ e. refl)
-agent_down c (DrawMail place) = drawn_mail_down c (slice_get c.to_agent place)
-agent_down c Adopt = adopted_down c c.draft
-agent_down c StopWithout = refl
-agent_down c StopWith = stopped_down c c.draft
-
 heard_down : (run : Run) (c : Channel) (o : Option AgentMail) → (heard_mail run c o).to_agent ≡ c.to_agent
 heard_down run c None = refl
 heard_down run c (Some mail) = refl
@@ -171,7 +146,7 @@ pub by_hearing : (run : Run) (place : ℕ) (c : Channel) → SendsItsMarks run (
 by_hearing run place c = ([], heard_down run c (slice_get c.to_master place) ∙ sym (append-nil c.to_agent), refl)
 
 pub by_agent : (run : Run) (step : AgentStep) (c : Channel) → SendsItsMarks run (ByAgent step) c
-by_agent run step c = ([], agent_down c step ∙ sym (append-nil c.to_agent), refl)
+by_agent run step c = ([], (agent_beside c step).1 ∙ sym (append-nil c.to_agent), refl)
 
 -- a step in the channel of an agent sends the Launches of its marks
 pub at_sends : (agent : List ℕ) (step : ChannelStep) (run : Run) (cs : List Channel) → ((c : Channel) → SendsItsMarks run step c) → launches_in (sent_between cs (at_agent agent step run cs).channels) ≡ jobs_of (marks_in agent step run cs)

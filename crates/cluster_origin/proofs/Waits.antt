@@ -24,10 +24,10 @@ use Rattle.cluster_model.specs.Steps.{new_to_agent, new_to_master, sent_in, sent
 use Rattle.cluster_safe.specs.Offered.{IsAmong}
 use Rattle.cluster_safe.proofs.Drafts.{both_true}
 use Rattle.cluster_safe.proofs.Orders.{each_append}
-use Rattle.cluster_safe.proofs.SideNames.{agent_side}
+use Rattle.cluster_safe.proofs.SideNames.{agent_beside, agent_side}
 use Rattle.cluster_origin.specs.Launches.{IsLaunchOf, WasSent}
 use Rattle.cluster_origin.proofs.Lists.{among_front, each_among}
-use Rattle.cluster_origin.proofs.Sent.{IsTick, agent_down}
+use Rattle.cluster_origin.proofs.Sent.{IsTick}
 
 -- commands with the numbers behind k in this session are among the mails
 abbrev pub AreSent : ℕ → ℕ → List Command → List MasterMail → Type 0
@@ -113,7 +113,7 @@ heard_waits run c (Some (Update session key k state ended)) h = cond_both (c.is_
 channel_waits : (run : Run) (c : Channel) (step : ChannelStep) → WaitsIn c → WaitsIn (happens run c step).channel
 channel_waits run c (ByMaster step) h = side_waits c.to_agent run c.side step h
 channel_waits run c (Hear place) h = heard_waits run c (slice_get c.to_master place) h
-channel_waits run c (ByAgent step) h = subst (Waits (agent_step c step).side) (sym (agent_down c step)) (subst (λ (s : Side). Waits s c.to_agent) (sym (agent_side c step)) h)
+channel_waits run c (ByAgent step) h = subst (Waits (agent_step c step).side) (sym (agent_beside c step).1) (subst (λ (s : Side). Waits s c.to_agent) (sym (agent_side c step)) h)
 
 at_waits : (agent : List ℕ) (step : ChannelStep) (run : Run) (cs : List Channel) → Each WaitsIn cs → Each WaitsIn (at_agent agent step run cs).channels
 at_waits agent step run [] h = tt

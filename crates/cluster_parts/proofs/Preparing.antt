@@ -14,7 +14,7 @@ use Rattle.mails.specs.declared.record.Durable.{Durable}
 use Rattle.mails.specs.declared.refusal.AgentRefusal.{AgentRefusal}
 use Rattle.mails.specs.declared.refusal.AgentRefusal.TheVariants.{NotForMe}
 use Rattle.names_core.specs.Ids.{Numbered}
-use Rattle.agent_core.specs.Drafts.{repeats_launch}
+use Rattle.agent_core.specs.Drafts.{is_in_order}
 use Rattle.cluster_model.specs.Agents.{Draft, hears_mail, next_of, recovered}
 use Rattle.cluster_model.specs.Channels.{Channel, AgentStep, Draw, DrawMail, StopWithout, agent_step}
 use Rattle.cluster_model.specs.Clusters.{Cluster, Post, Called, Down, Up, Prepare, Step, StepRefusal, AgentDown, DraftOpen, NoSuchAgent, NoSuchMail, Fine, AgentRefused, Fell, Verdict}
@@ -35,7 +35,7 @@ use Rattle.cluster_steps.specs.declared.step.StepCause.TheVariants.{Start, Again
 use Rattle.cluster_parts.specs.Agents.{KeptAgent, agent_in, comes_up_without, drafted_in, goes_down, place_in, with_part}
 use Rattle.cluster_parts.specs.Causes.{Causes, Drawn, cause_due, for_it, item_at, mail_due, record_drawn, record_prepared}
 use Rattle.cluster_parts.specs.Handing.{MayRefuse, is_withheld}
-use Rattle.cluster_parts.specs.Moves.{LaunchAnew, Makes, Reached, Refuses, kept_agents, kept_part, sending}
+use Rattle.cluster_parts.specs.Moves.{ComeInOrder, Makes, Reached, Refuses, kept_agents, kept_part, sending}
 use Rattle.cluster_parts.proofs.Finding.{Found, found, not_found, kept_at, bytes_same, bytes_refl, falls_alone, is_down_then}
 use Rattle.cluster_parts.proofs.Making.{Laws, OneMoves, append_nothing, items_stand, one_moves_silently, quiet_streams}
 use Rattle.cluster_parts.proofs.Committing.{if_it_is_down, if_it_is_up}
@@ -448,39 +448,39 @@ record_so (verdicts.MasterRefused refusal) name as_ new e = refl
 record_so (verdicts.AgentRefused refusal) name as_ new e = refl
 record_so verdicts.OutOfMemory name as_ new e = refl
 
--- ---- what the agent is handed launches anew
+-- ---- what the agent is handed comes in order
 
-anew_mail : (agents : List KeptAgent) (sent : List Item) (name : List ℕ) (n : ℕ) (given : Cause) → LaunchAnew agents sent → (i : Option Item) → item_at n sent ≡ i → mail_due name i ≡ Some (Some given) → Each (λ a. repeats_launch a.part.agent given ≡ false) agents
-anew_mail agents sent name n given anew None e due = absurd (let clash : None ≡ Some (Some given) = due in cc)
-anew_mail agents sent name n given anew (Some (items.Call stream call)) e due = absurd (let clash : None ≡ Some (Some given) = due in cc)
-anew_mail agents sent name n given anew (Some (items.ToMaster to)) e due = absurd (let clash : None ≡ Some (Some given) = due in cc)
-anew_mail agents sent name zero given anew (Some (items.ToAgent to)) e due = absurd (let clash : None ≡ Some (items.ToAgent to) = e in cc)
-anew_mail agents sent name (suc k) given anew (Some (items.ToAgent to)) e due =
+mail_in_order : (agents : List KeptAgent) (sent : List Item) (name : List ℕ) (n : ℕ) (given : Cause) → ComeInOrder agents sent → (i : Option Item) → item_at n sent ≡ i → mail_due name i ≡ Some (Some given) → Each (λ a. is_in_order a.part.agent given ≡ true) agents
+mail_in_order agents sent name n given order None e due = absurd (let clash : None ≡ Some (Some given) = due in cc)
+mail_in_order agents sent name n given order (Some (items.Call stream call)) e due = absurd (let clash : None ≡ Some (Some given) = due in cc)
+mail_in_order agents sent name n given order (Some (items.ToMaster to)) e due = absurd (let clash : None ≡ Some (Some given) = due in cc)
+mail_in_order agents sent name zero given order (Some (items.ToAgent to)) e due = absurd (let clash : None ≡ Some (items.ToAgent to) = e in cc)
+mail_in_order agents sent name (suc k) given order (Some (items.ToAgent to)) e due =
     let is = is_given name to given (some_some given (for_it name to) due) in
-    subst (λ (g : Cause). Each (λ a. repeats_launch a.part.agent g ≡ false) agents) is.1 (anew k to (sym (item_behind k sent) ∙ e))
+    subst (λ (g : Cause). Each (λ a. is_in_order a.part.agent g ≡ true) agents) is.1 (order k to (sym (item_behind k sent) ∙ e))
 
-each_anew : (given : Cause) → ((a : KeptAgent) → repeats_launch a.part.agent given ≡ false) → (agents : List KeptAgent) → Each (λ a. repeats_launch a.part.agent given ≡ false) agents
-each_anew given h [] = tt
-each_anew given h (a ∷ agents) = (h a, each_anew given h agents)
+each_in_order : (given : Cause) → ((a : KeptAgent) → is_in_order a.part.agent given ≡ true) → (agents : List KeptAgent) → Each (λ a. is_in_order a.part.agent given ≡ true) agents
+each_in_order given h [] = tt
+each_in_order given h (a ∷ agents) = (h a, each_in_order given h agents)
 
-all_anew : (agents : List KeptAgent) (sent : List Item) (name : List ℕ) (cause : StepCause) (given : Cause) → LaunchAnew agents sent → cause_due sent name cause ≡ Some (Some given) → Each (λ a. repeats_launch a.part.agent given ≡ false) agents
-all_anew agents sent name Start given anew due =
+all_in_order : (agents : List KeptAgent) (sent : List Item) (name : List ℕ) (cause : StepCause) (given : Cause) → ComeInOrder agents sent → cause_due sent name cause ≡ Some (Some given) → Each (λ a. is_in_order a.part.agent given ≡ true) agents
+all_in_order agents sent name Start given order due =
     let is : causes.Start ≡ given = (let s : Some (Some causes.Start) ≡ Some (Some given) = due in cc) in
-    subst (λ (g : Cause). Each (λ a. repeats_launch a.part.agent g ≡ false) agents) is (each_anew causes.Start (λ a. refl) agents)
-all_anew agents sent name Again given anew due =
+    subst (λ (g : Cause). Each (λ a. is_in_order a.part.agent g ≡ true) agents) is (each_in_order causes.Start (λ a. refl) agents)
+all_in_order agents sent name Again given order due =
     let is : causes.Again ≡ given = (let s : Some (Some causes.Again) ≡ Some (Some given) = due in cc) in
-    subst (λ (g : Cause). Each (λ a. repeats_launch a.part.agent g ≡ false) agents) is (each_anew causes.Again (λ a. refl) agents)
-all_anew agents sent name (Executor key state) given anew due =
+    subst (λ (g : Cause). Each (λ a. is_in_order a.part.agent g ≡ true) agents) is (each_in_order causes.Again (λ a. refl) agents)
+all_in_order agents sent name (Executor key state) given order due =
     let is : causes.Executor key state ≡ given = (let s : Some (Some (causes.Executor key state)) ≡ Some (Some given) = due in cc) in
-    subst (λ (g : Cause). Each (λ a. repeats_launch a.part.agent g ≡ false) agents) is (each_anew (causes.Executor key state) (λ a. refl) agents)
-all_anew agents sent name (Mail n) given anew due = anew_mail agents sent name n given anew (item_at n sent) refl due
+    subst (λ (g : Cause). Each (λ a. is_in_order a.part.agent g ≡ true) agents) is (each_in_order (causes.Executor key state) (λ a. refl) agents)
+all_in_order agents sent name (Mail n) given order due = mail_in_order agents sent name n given order (item_at n sent) refl due
 
-pub anew_at : (agents : List KeptAgent) (sent : List Item) (name : List ℕ) (cause : StepCause) (given : Cause) (place : ℕ) (a : KeptAgent) → LaunchAnew agents sent → cause_due sent name cause ≡ Some (Some given) → slice_get agents place ≡ Some a → repeats_launch a.part.agent given ≡ false
-anew_at agents sent name cause given place a anew due e = at agents place (all_anew agents sent name cause given anew due) e
+pub in_order_at : (agents : List KeptAgent) (sent : List Item) (name : List ℕ) (cause : StepCause) (given : Cause) (place : ℕ) (a : KeptAgent) → ComeInOrder agents sent → cause_due sent name cause ≡ Some (Some given) → slice_get agents place ≡ Some a → is_in_order a.part.agent given ≡ true
+in_order_at agents sent name cause given place a order due e = at agents place (all_in_order agents sent name cause given order due) e
   where
-    at : (as_ : List KeptAgent) (k : ℕ) → Each (λ b. repeats_launch b.part.agent given ≡ false) as_ → slice_get as_ k ≡ Some a → repeats_launch a.part.agent given ≡ false
+    at : (as_ : List KeptAgent) (k : ℕ) → Each (λ b. is_in_order b.part.agent given ≡ true) as_ → slice_get as_ k ≡ Some a → is_in_order a.part.agent given ≡ true
     at [] k h e = absurd (let clash : None ≡ Some a = e in cc)
-    at (b ∷ bs) zero h e = let same : b ≡ a = (let s : Some b ≡ Some a = e in cc) in subst (λ (z : KeptAgent). repeats_launch z.part.agent given ≡ false) same h.0
+    at (b ∷ bs) zero h e = let same : b ≡ a = (let s : Some b ≡ Some a = e in cc) in subst (λ (z : KeptAgent). is_in_order z.part.agent given ≡ true) same h.0
     at (b ∷ bs) (suc k) h e = at bs k h.1 e
 
 -- ---- the agents, as they are kept

@@ -1,10 +1,10 @@
 -- What a step makes of the agents and of all that was sent, and what it leaves as it was.
-use Rattle.std.specs.Prelude.{◌≡◌, ℕ, false, nat_le, if◌then◌else◌, List, [], map, Some, None, Ok, Err, bytes_eq, slice_get, ⊤}
+use Rattle.std.specs.Prelude.{◌≡◌, ℕ, false, true, nat_le, if◌then◌else◌, List, [], map, Some, None, Ok, Err, bytes_eq, slice_get, ⊤}
 use Rattle.std.specs.List.{AllByRecursion as Each, list_any}
 use Rattle.mails.specs.declared.record.Durable.{Durable}
 use Rattle.mails.specs.declared.cause.Cause.TheVariants.{Mail}
 use Rattle.mails.specs.declared.mail.ToAgent.{ToAgent}
-use Rattle.agent_core.specs.Drafts.{repeats_launch}
+use Rattle.agent_core.specs.Drafts.{is_in_order}
 use Rattle.cluster_model.specs.Ids.{last_number}
 use Rattle.cluster_model.specs.Clusters.{Cluster, Step, NoSuchMail, MasterDown, AgentDown, DraftOpen, NoDraft, HistoryFull, TimeBack, NoSuchAgent, master_of}
 use Rattle.cluster_model.specs.Openings.{GoodOpening}
@@ -40,8 +40,8 @@ abbrev pub kept_agents : Cluster → List KeptAgent
 kept_agents c = map (kept_part c.fallen) (parts_of c.world.channels)
 
 -- no mail that was sent launches again on an agent
-abbrev pub LaunchAnew : List KeptAgent → List Item → Type 0
-LaunchAnew agents sent = (n : ℕ) (to : ToAgent) → slice_get sent n ≡ Some (items.ToAgent to) → Each (λ a. repeats_launch a.part.agent (Mail to) ≡ false) agents
+abbrev pub ComeInOrder : List KeptAgent → List Item → Type 0
+ComeInOrder agents sent = (n : ℕ) (to : ToAgent) → slice_get sent n ≡ Some (items.ToAgent to) → Each (λ a. is_in_order a.part.agent (Mail to) ≡ true) agents
 
 -- the outputs of a step that the master has no part in
 abbrev pub sending : List Sent → Outputs

@@ -1,13 +1,13 @@
 //! The agents of a cluster.
 
-ghost use Rattle.std.specs.Prelude.{◌≡◌, ◌<◌, false, length, option_map, is_some, None, IfOk, IfSome, OnErr};
-ghost use Rattle.agent_core.specs.Drafts.{repeats_launch};
+ghost use Rattle.std.specs.Prelude.{◌≡◌, ◌<◌, false, true, length, option_map, is_some, None, IfOk, IfSome, OnErr};
+ghost use Rattle.agent_core.specs.Drafts.{is_in_order};
 ghost use Rattle.cluster_model.specs.Agents.{next_of};
 ghost use Rattle.cluster_laws.specs.Parts.{recovered_part};
 ghost use Rattle.cluster_parts.specs.Agents.{AdoptsOne, Draws, comes_up_with, comes_up_without, goes_down, place_in};
 
-use agent_core::{Agent, AgentFault, Draft};
-use mails::{AgentMail, AgentRefusal, Cause, Durable};
+use agent_core::{Agent, AgentFault, Draft, Record};
+use mails::{AgentMail, AgentRefusal, Cause};
 use names_core::AgentName;
 use plain_data::Plain;
 use std::alloc::{AllocError, Global};
@@ -35,11 +35,11 @@ impl Model for ClusterAgent {
 
 impl ClusterAgent {
     /// The agent that comes up over a record. Memory is asked for its name alone.
-    pub(crate) fn recover(alloc: Global, durable: Durable) -> Result<ClusterAgent, AllocError>
+    pub(crate) fn recover(alloc: Global, durable: Record) -> Result<ClusterAgent, AllocError>
         ensures { IfOk result (λ a. a ≡ record { part = recovered_part durable; is_down = false }) }
     {
         Ok(ClusterAgent {
-            name: durable.name.copy()?,
+            name: durable.parts().name.copy()?,
             agent: Agent::recover(durable),
             draft: None,
             is_down: false,
@@ -66,7 +66,7 @@ impl ClusterAgent {
     }
 
     /// The agent's record.
-    pub fn durable(&self) -> &Durable
+    pub fn durable(&self) -> &Record
         ensures { result.now ≡ self.now.part.agent.durable }
     {
         self.agent.durable()
@@ -79,7 +79,7 @@ impl ClusterAgent {
         cause: Cause,
     ) -> Result<Option<AgentRefusal>, AllocError>
         requires none { self.old.part.draft ≡ None }
-        requires anew { repeats_launch self.old.part.agent cause ≡ false }
+        requires order { is_in_order self.old.part.agent cause ≡ true }
         ensures drawn { IfOk result (λ refusal. Draws refusal self.old self.new (next_of self.old.part.agent cause)) }
         ensures unchanged { OnErr result (self.new ≡ self.old) }
     {

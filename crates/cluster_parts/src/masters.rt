@@ -9,10 +9,11 @@ ghost use Rattle.cluster_steps.specs.declared.entry.Verdict.TheVariants as verdi
 ghost use Rattle.told_streams.specs.Streams.{heard, kept_ids};
 
 use crate::items::Items;
+use agent_core::Record;
 use cluster_laws::Item;
 use cluster_steps::{Outputs, Sent, Verdict};
 use listed::Listed;
-use mails::{Durable, ToAgent};
+use mails::ToAgent;
 use master_core::{Master, MasterFault, Outs, StreamEvent};
 use names_core::StreamId;
 use plain_data::Plain;
@@ -27,7 +28,7 @@ pub struct Made {
     pub outputs: Outputs,
     pub given: Outputs,
     /// A copy of the record of the draft that the step opened.
-    pub durable: Option<Durable>,
+    pub durable: Option<Record>,
 }
 
 /// What a step brings out that only sends.

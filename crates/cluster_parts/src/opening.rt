@@ -23,12 +23,12 @@ ghost use Rattle.told_streams.specs.declared.kept.KeptStream.{KeptStream};
 use crate::agents::ClusterAgent;
 use crate::items::Items;
 use crate::masters::settle;
+use agent_core::Record;
 use cluster_laws::{
     fresh_masters_open, masters_begin_with_greetings, masters_leave_agents, opening_items_stand,
 };
 use cluster_safe::masters_step_alone;
 use cluster_steps::{ClusterFault, Outputs, Verdict};
-use mails::Durable;
 use master_core::{Config, Master, MasterFault, Outs};
 use names_core::Run;
 use plain_data::Plain;
@@ -80,7 +80,7 @@ pub fn start_in(
 }
 
 /// The agents that come up over copies of their records.
-fn recover_all(alloc: Global, records: &[Durable]) -> Result<Vec<ClusterAgent>, AllocError>
+fn recover_all(alloc: Global, records: &[Record]) -> Result<Vec<ClusterAgent>, AllocError>
     ensures { IfOk result (λ agents. agents.items ≡ map up_over records.now) }
 {
     let mut agents = Vec::with_capacity(alloc, records.len())?;
@@ -96,7 +96,7 @@ pub fn open_parts<P: Post>(
     post: &mut P,
     alloc: Global,
     config: &Config,
-    records: &[Durable],
+    records: &[Record],
     run: Run,
 ) -> Result<Opened, ClusterFault>
     requires good { GoodOpening run records.now }

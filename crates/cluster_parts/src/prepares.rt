@@ -1,11 +1,11 @@
 //! Drafts are opened.
 
-ghost use Rattle.std.specs.Prelude.{◌≡◌, ◌<◌, false, [], length, Some, None, IfOk, IfErr, OnErr};
-ghost use Rattle.agent_core.specs.Drafts.{repeats_launch};
+ghost use Rattle.std.specs.Prelude.{◌≡◌, ◌<◌, false, true, [], length, Some, None, IfOk, IfErr, OnErr};
+ghost use Rattle.agent_core.specs.Drafts.{is_in_order};
 ghost use Rattle.cluster_parts.specs.Agents.{comes_up_without, goes_down, drafted, place_in};
 ghost use Rattle.cluster_parts.specs.Causes.{Drawn, record_drawn, record_prepared};
 ghost use Rattle.cluster_parts.specs.Handing.{MayRefuse, is_withheld};
-ghost use Rattle.cluster_parts.specs.Moves.{LaunchAnew, Makes, Reached, kept_agents, sending};
+ghost use Rattle.cluster_parts.specs.Moves.{ComeInOrder, Makes, Reached, kept_agents, sending};
 ghost use Rattle.cluster_laws.specs.Items.{StandIn};
 ghost use Rattle.cluster_model.specs.Agents.{next_of};
 ghost use Rattle.cluster_model.specs.Clusters.{Cluster, Prepare};
@@ -15,9 +15,10 @@ ghost use Rattle.cluster_steps.specs.declared.entry.Verdict.TheVariants as verdi
 use crate::agents::{ClusterAgent, place_of};
 use crate::causes::cause_due;
 use crate::laws::prepares_are_made;
+use agent_core::Record;
 use cluster_laws::Item;
 use cluster_steps::{ClusterFault, StepCause, Verdict};
-use mails::{AgentRefusal, Cause, Durable};
+use mails::{AgentRefusal, Cause};
 use names_core::AgentName;
 use plain_data::Plain;
 use post_rules::Post;
@@ -27,11 +28,11 @@ use std::alloc::{AllocError, Global};
 #[derive(Drop)]
 pub struct Prepared {
     pub verdict: Verdict,
-    pub durable: Option<Durable>,
+    pub durable: Option<Record>,
 }
 
 /// A copy of the record of an agent's open draft.
-fn draft_record(agent: &ClusterAgent) -> Result<Option<Durable>, AllocError>
+fn draft_record(agent: &ClusterAgent) -> Result<Option<Record>, AllocError>
     ensures { IfOk result (λ durable. durable ≡ drafted agent.now) }
 {
     match agent.draft() {
@@ -56,7 +57,7 @@ fn run_out(agent: &mut ClusterAgent) -> Prepared
 /// Opens a draft of a cause, and copies its record. An agent that runs out of memory is down.
 fn draw(agent: &mut ClusterAgent, alloc: Global, cause: Cause) -> Prepared
     requires none { agent.old.part.draft ≡ None }
-    requires anew { repeats_launch agent.old.part.agent cause ≡ false }
+    requires order { is_in_order agent.old.part.agent cause ≡ true }
     ensures drawn { Drawn result.verdict agent.old agent.new (next_of agent.old.part.agent cause) }
     ensures durable { result.durable ≡ record_drawn result.verdict agent.new }
     ensures name { agent.new.part.name ≡ agent.old.part.name }
@@ -97,7 +98,7 @@ fn prepare_at<P: Post>(
     name: &AgentName,
     cause: StepCause,
 ) -> Result<Prepared, ClusterFault>
-    requires anew { LaunchAnew agents.old items.now }
+    requires order { ComeInOrder agents.old items.now }
     requires place { place_in name.now agents.old ≡ Some place }
     requires within { place < length agents.old }
     ensures made { IfOk result (λ prepared. (c : Cluster) → Reached c → agents.old ≡ kept_agents c → StandIn c items.now → Makes c (Prepare name.now (cause_of cause)) prepared.verdict (sending []) agents.new items.now) }
@@ -138,7 +139,7 @@ pub fn prepare<P: Post>(
     name: &AgentName,
     cause: StepCause,
 ) -> Result<Prepared, ClusterFault>
-    requires { LaunchAnew agents.old items.now }
+    requires { ComeInOrder agents.old items.now }
     ensures made { IfOk result (λ prepared. (c : Cluster) → Reached c → agents.old ≡ kept_agents c → StandIn c items.now → Makes c (Prepare name.now (cause_of cause)) prepared.verdict (sending []) agents.new items.now) }
     ensures durable { IfOk result (λ prepared. prepared.durable ≡ record_prepared prepared.verdict name.now agents.new) }
     ensures given { IfOk result (λ _. is_withheld (P.gives (P.known post.now)) cause ≡ false) }

@@ -30,7 +30,7 @@ use master_core::StreamEvent;
 use names_core::StreamId;
 use plain_data::Plain;
 use post_rules::Post;
-use std::alloc::Global;
+use std::alloc::{AllocError, Global};
 use told_streams::{Streams, kept_streams_are_found, kept_streams_follow, no_more_is_taken};
 
 /// A call is sent, and the agents are as they were.
@@ -54,6 +54,15 @@ fn takes_are_made()
     streams_rise();
 }
 
+/// A list of one item, which holds room for no more.
+fn list_of_one<T: Drop>(alloc: Global, item: T) -> Result<Listed<T>, AllocError>
+    ensures { IfOk result (λ list. list ≡ item ∷ []) }
+{
+    let mut items = Vec::with_capacity(alloc, 1)?;
+    items.push(item)?;
+    Ok(Listed::from_vec(items))
+}
+
 /// A framework sends a call, on a stream or on none; the stream may be one that was never opened. The post has room for the call. It is
 /// refused with `C9 OutOfMemory` alone.
 pub fn send<P: Post>(
@@ -72,12 +81,9 @@ pub fn send<P: Post>(
     ensures room { Grows (length items.old) (length items.new) (P.room post.new) }
 {
     sends_are_made();
-    let mut more = Listed::new(alloc);
-    more.push(Item::Call(stream, call))?;
-    let mut sent = Listed::new(alloc);
-    sent.push(Sent::Call)?;
-    let mut given = Listed::new(alloc);
-    given.push(Sent::Call)?;
+    let more = list_of_one(alloc, Item::Call(stream, call))?;
+    let sent = list_of_one(alloc, Sent::Call)?;
+    let given = list_of_one(alloc, Sent::Call)?;
     post.reserve(alloc, 1)?;
     items.append(more)?;
     Ok(sending_twice(alloc, sent, given))

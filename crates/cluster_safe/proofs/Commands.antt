@@ -30,7 +30,7 @@ get_push (v ∷ ws) w = get_push ws w
 
 pub launches-append : (ws us : List Command) → launches (ws ++ us) ≡ launches ws ++ launches us
 launches-append [] us = refl
-launches-append (Launch job offers ∷ ws) us = ap (λ ss. record { job = job; ended = false; states = [] } ∷ ss) (launches-append ws us)
+launches-append (Launch job offers ∷ ws) us = ap (λ ss. record { job = job; ended = false; states = []; comes = true } ∷ ss) (launches-append ws us)
 launches-append (Kill key ∷ ws) us = launches-append ws us
 launches-append (Ack key k ∷ ws) us = launches-append ws us
 launches-append (EndFramework framework ∷ ws) us = launches-append ws us

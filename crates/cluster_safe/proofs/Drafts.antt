@@ -63,12 +63,13 @@ down_retold p session run (Hello r dead) h = h
 down_retold p session run (Issued s number what) h = h
 
 state_retold : (p : Past) (next : Numbered) (total : List Row) (a : Agent) (run : ℕ) → StateOk p next total a → StateOk (retold_past p a.session run) next total a
-state_retold p next total a run s = record { owns = s.owns; told = told_before p a.session run a.session (le_refl a.session) ∙ s.told; peak = s.peak; applied = s.applied; distinct = s.distinct; below = s.below; room = s.room; ends = s.ends; grown = s.grown }
+state_retold p next total a run s = record { owns = s.owns; told = told_before p a.session run a.session (le_refl a.session) ∙ s.told; peak = s.peak; applied = s.applied; distinct = s.distinct; order = s.order; below = s.below; room = s.room; ends = s.ends; grown = s.grown }
 
 facts_retold : (p : Past) (l : InRun) (run : ℕ) → Facts p l → l.draft ≡ None → l.agent.run ≤ run → run ≤ p.latest → Facts (retold_past p l.agent.session run) l
 facts_retold p l run f none le most = record {
   past = past_retold p l.agent.session run f.past (rw s.told le) most;
   run = f.run;
+  begun = f.begun;
   unsent = f.unsent;
   when_open = λ e. let o = f.when_open e in record { session = o.session; told = peak_same ∙ o.told; issued = o.issued; known = o.known; torn = o.torn; covered = o.covered };
   when_shut = λ e. let o = f.when_shut e in record { offers = o.offers; booked = o.booked; closed = rw peak_same o.closed };
@@ -139,10 +140,14 @@ fades_command p a w up at_place = rw (coming_next p a w up at_place) (rw up (by_
     before = map task_stake a.tasks
 
     by_kind : (v : Command) → Fades (map task_stake (tasks_after v a.tasks) ++ launches rest) (before ++ launches (v ∷ rest))
-    by_kind (Launch job offers) = subst (λ ss. Fades ss (before ++ record { job = job; ended = false; states = [] } ∷ launches rest)) (sym moved) (fades_refl (before ++ record { job = job; ended = false; states = [] } ∷ launches rest))
+    by_kind (Launch job offers) = subst (λ ss. Fades ss (before ++ awaited ∷ launches rest)) (sym moved)
+        (fades_append before before (one ∷ launches rest) (awaited ∷ launches rest) (fades_refl before) (inl ((refl, (λ e. e), (λ e. refl), ([], refl)), fades_refl (launches rest))))
       where
         one : Stake
-        one = record { job = job; ended = false; states = [] }
+        one = record { job = job; ended = false; states = []; comes = false }
+
+        awaited : Stake
+        awaited = record { job = job; ended = false; states = []; comes = true }
 
         moved : map task_stake (a.tasks ++ launched_task job offers ∷ []) ++ launches rest ≡ before ++ one ∷ launches rest
         moved = ap (λ ss. ss ++ launches rest) (map-append task_stake a.tasks (launched_task job offers ∷ [])) ∙ append_assoc before (one ∷ []) (launches rest)
@@ -236,7 +241,7 @@ pub mail_ok : (p : Past) (l : InRun) (m : MasterMail) → Facts p l → l.draft 
 mail_ok p l (Hello run dead) f none h =
     all_if (nat_lt run l.agent.run) (Err OldSession) later (Draftable p.sent l) (λ e. tt)
     (λ e. all_if ((nat_lt l.agent.run run || nat_le l.agent.session dead) || not l.agent.in_session) (opens_next l.agent (max l.agent.session dead) run) (Ok (reports l.agent)) (Draftable p.sent l)
-    (λ d. reopen_ok p l (max l.agent.session dead) run f none (omega arith) (let k : l.agent.run ≤ run = grind (arith, nat_tests) in k) h)
+    (λ d. reopen_ok p l (max l.agent.session dead) run f none (omega arith) (let k : l.agent.run ≤ run = grind (arith, nat_tests) in k) h.0)
     (λ d. (p, f, draft_retold p l.next_key l.total l.agent f.past f.states.0, refl)))
   where
     later : Result Draft AgentRefusal

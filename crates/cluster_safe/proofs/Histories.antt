@@ -51,7 +51,7 @@ use Rattle.cluster_safe.proofs.Owners.{updates_there, update_there}
 use Rattle.cluster_safe.proofs.Acks.{Always, AllAcked, HappeningOk, MoveOk, worlds_acked, happenings_ok, CallOk, called_ok, mailed_ok, ticked_ok, lost_ok, hung_ok, allocated_ok}
 use Rattle.names_core.specs.Updates.{Update}
 use Rattle.cluster_safe.proofs.Names.{AllNamed, open_named, worlds_named}
-use Rattle.cluster_safe.specs.Premises.{NextLaunchIsNew, ReportFits}
+use Rattle.cluster_safe.specs.Premises.{MeetsPremises}
 use Rattle.cluster_safe.proofs.Premises.{all_premises}
 use Rattle.cluster_model.specs.Events.{Told}
 use Rattle.cluster_model.specs.Steps.{Effect, new_to_agent, new_to_master, places, posts_between, posts_by, posts_in, told_on, hears, new_stream, streams_after, takes_one}
@@ -607,7 +607,7 @@ history_acknowledged run records steps good = each_both (ChannelOk records h.sta
     all : HistoryOk records (open_world run records) (history run records steps)
     all = history_ok run records steps good
 
-pub history_premises : (run : ℕ) (records : List Durable) (steps : List Marked) → GoodOpening run records → Each (λ c. NextLaunchIsNew c × ReportFits c) (history run records steps).state.world.channels
+pub history_premises : (run : ℕ) (records : List Durable) (steps : List Marked) → GoodOpening run records → Each MeetsPremises (history run records steps).state.world.channels
 history_premises run records steps good = all_premises (updates_in (open_world run records) (history run records steps).happenings) (history run records steps).state.world (history_ok run records steps good).sent.world
 
 -- updates have the states of their numbers

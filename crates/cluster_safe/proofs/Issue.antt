@@ -15,7 +15,7 @@ use Rattle.mails.specs.declared.mail.AgentMail.TheVariants.{Report, Applied, Upd
 use Rattle.cluster_model.specs.Agents.{Agent}
 use Rattle.cluster_model.specs.Sides.{Side, unended, job_rows, just_booked}
 use Rattle.cluster_model.specs.Channels.{InRun}
-use Rattle.cluster_safe.specs.Facts.{Less, UpTo, Stake, Past, Within, live, launches, stakes, Distinct, EndsKept, Ordered, EndsTorn, AtMost, EndedAt, Grown, StateOk, DownOk, UpOk, drafted, mails_of, states_of, PastOk, OpenOk, Facts}
+use Rattle.cluster_safe.specs.Facts.{Less, UpTo, Stake, Past, Within, live, launches, stakes, Distinct, InOrder, EndsKept, Ordered, EndsTorn, AtMost, EndedAt, Grown, StateOk, DownOk, UpOk, drafted, mails_of, states_of, PastOk, OpenOk, Facts}
 use Rattle.cluster_safe.proofs.Ids.{less_upto, upto_trans, less_differs}
 use Rattle.cluster_safe.proofs.Orders.{each_append, each_map, each_both, within_refl, within_more, within_append}
 use Rattle.cluster_safe.proofs.Amounts.{within_at_most}
@@ -68,6 +68,20 @@ distinct_more next [] new d b e n = e
 distinct_more next (x ∷ xs) new d b e n =
     (each_append (λ t. t.job.key ≢ x.job.key) xs new d.0 (each_map (λ s. UpTo next s.job.key) (λ t. t.job.key ≢ x.job.key) (λ s le. less_differs x.job.key next s.job.key b.0 le) new n), distinct_more next xs new d.1 b.1 e n)
 
+order_more : (next : Numbered) (xs new : List Stake) → InOrder xs → Each (λ s. Less s.job.key next) xs → InOrder new → Each (λ s. UpTo next s.job.key) new → InOrder (xs ++ new)
+order_more next [] new d b e n = e
+order_more next (x ∷ xs) new d b e n = (
+  each_append (λ t. t.comes ≡ true → Less x.job.key t.job.key) xs new d.0
+      (each_map (λ s. UpTo next s.job.key) (λ t. t.comes ≡ true → Less x.job.key t.job.key) (λ s le c. less_upto x.job.key next s.job.key b.0 le) new n),
+  order_more next xs new d.1 b.1 e n,
+)
+
+launches_in_order : (w : Command) → InOrder (launches (w ∷ []))
+launches_in_order (Launch job offers) = (tt, tt)
+launches_in_order (Kill key) = tt
+launches_in_order (Ack key k) = tt
+launches_in_order (EndFramework framework) = tt
+
 launches_one : (w : Command) → Distinct (launches (w ∷ []))
 launches_one (Launch job offers) = (tt, tt)
 launches_one (Kill key) = tt
@@ -105,6 +119,7 @@ state_issued p l w next torn past o c a s cov = record {
   peak = s.peak;
   applied = λ up. ever_cases p w a.session (λ ws. a.applied ≤ length ws) (λ same. omega (arith, length-append (p.ever a.session) (w ∷ []), s.applied up)) (s.applied up);
   distinct = cases Distinct (λ same. distinct_more l.next_key (stakes p a) (launches (w ∷ [])) s.distinct s.below (launches_one w) c.fresh) s.distinct;
+  order = cases InOrder (λ same. order_more l.next_key (stakes p a) (launches (w ∷ [])) s.order s.below (launches_in_order w) c.fresh) s.order;
   below = cases (Each (λ s. Less s.job.key next)) (λ same. each_append (λ s. Less s.job.key next) (stakes p a) (launches (w ∷ [])) below_next c.below) below_next;
   room = cases (λ ss. AtMost (job_rows (live ss)) l.total)
       (λ same name. le_trans (within_at_most (live (stakes p a ++ launches (w ∷ []))) (unended (l.booked ++ bookings w)) wider name) (c.room name)) s.room;
@@ -163,6 +178,7 @@ pub facts_issued : (p : Past) (l : InRun) (w : Command) (next : Numbered) (torn 
 facts_issued p l w next torn f c = record {
   past = past_issued p l w next torn f.past c;
   run = f.run;
+  begun = f.begun;
   unsent = λ key le. f.unsent key (upto_trans l.next_key next key c.later le);
   when_open = λ e. record {
     session = o.session;

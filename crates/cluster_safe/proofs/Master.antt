@@ -35,6 +35,7 @@ pub facts_offers : (p : Past) (l : InRun) (os : List Offer) → Facts p l → (l
 facts_offers p l os f h = record {
   past = f.past;
   run = f.run;
+  begun = f.begun;
   unsent = f.unsent;
   when_open = λ e. let o = f.when_open e in record { session = o.session; told = o.told; issued = o.issued; known = o.known; torn = o.torn; covered = o.covered };
   when_shut = λ e. let o = f.when_shut e in record { offers = h e; booked = o.booked; closed = o.closed };
@@ -48,6 +49,7 @@ pub facts_booked : (p : Past) (l : InRun) (bs : List Booked) (waiting : List Com
 facts_booked p l bs waiting known f is le at h = record {
   past = f.past;
   run = f.run;
+  begun = f.begun;
   unsent = f.unsent;
   when_open = λ e. let o = f.when_open e in record { session = o.session; told = o.told; issued = at; known = le; torn = o.torn; covered = h };
   when_shut = λ e. absurd (differ e is);
@@ -64,6 +66,7 @@ pub facts_torn : (p : Past) (l : InRun) (framework : Numbered) → Facts p l →
 facts_torn p l framework f = record {
   past = f.past;
   run = f.run;
+  begun = f.begun;
   unsent = f.unsent;
   when_open = λ e. let o = f.when_open e in record { session = o.session; told = o.told; issued = o.issued; known = o.known; torn = ends_torn_wider framework l.torn (p.ever p.peak) o.torn; covered = o.covered };
   when_shut = λ e. let o = f.when_shut e in record { offers = o.offers; booked = o.booked; closed = o.closed };
@@ -81,17 +84,18 @@ pub facts_helloed : (p : Past) (l : InRun) → Facts p l → Facts (helloed_past
 facts_helloed p l f = record {
   past = record { none = f.past.none; ordered = f.past.ordered; rises = f.past.rises; runs = λ s. le_trans (f.past.runs s) f.run };
   run = le_refl l.number;
+  begun = f.begun;
   unsent = f.unsent;
   when_open = λ e. let o = f.when_open e in record { session = o.session; told = o.told; issued = o.issued; known = o.known; torn = o.torn; covered = o.covered };
   when_shut = λ e. let o = f.when_shut e in record { offers = o.offers; booked = o.booked; closed = o.closed };
-  states = each_map (StateOk p l.next_key l.total) (StateOk (helloed_past p l.number) l.next_key l.total) (λ a s. record { owns = s.owns; told = s.told; peak = s.peak; applied = s.applied; distinct = s.distinct; below = s.below; room = s.room; ends = s.ends; grown = s.grown }) (states_of l) f.states;
-  downs = each_append (DownOk (helloed_past p l.number)) l.to_agent (Hello l.number l.closed ∷ []) (each_map (DownOk p) (DownOk (helloed_past p l.number)) down l.to_agent f.downs) (le_refl l.number, tt);
+  states = each_map (StateOk p l.next_key l.total) (StateOk (helloed_past p l.number) l.next_key l.total) (λ a s. record { owns = s.owns; told = s.told; peak = s.peak; applied = s.applied; distinct = s.distinct; order = s.order; below = s.below; room = s.room; ends = s.ends; grown = s.grown }) (states_of l) f.states;
+  downs = each_append (DownOk (helloed_past p l.number)) l.to_agent (Hello l.number l.closed ∷ []) (each_map (DownOk p) (DownOk (helloed_past p l.number)) down l.to_agent f.downs) ((le_refl l.number, f.begun), tt);
   ups = each_map (UpOk p l.next_key l.total (states_of l)) (UpOk (helloed_past p l.number) l.next_key l.total (states_of l)) (up (states_of l)) l.to_master f.ups;
   pending = each_map (UpOk p l.next_key l.total (drafted l.draft)) (UpOk (helloed_past p l.number) l.next_key l.total (drafted l.draft)) (up (drafted l.draft)) (mails_of l.draft) f.pending;
 }
   where
     down : (m : MasterMail) → DownOk p m → DownOk (helloed_past p l.number) m
-    down (Hello run dead) h = le_trans h f.run
+    down (Hello run dead) h = (le_trans h.0 f.run, h.1)
     down (Issued session number what) h = h
 
     up : (ags : List Agent) (m : AgentMail) → UpOk p l.next_key l.total ags m → UpOk (helloed_past p l.number) l.next_key l.total ags m
@@ -103,6 +107,7 @@ pub facts_lost : (p : Past) (l : InRun) → Facts p l → l.is_open ≡ true →
 facts_lost p l f is = record {
   past = f.past;
   run = f.run;
+  begun = f.begun;
   unsent = f.unsent;
   when_open = λ (e : false ≡ true). absurd cc;
   when_shut = λ e. record { offers = refl; booked = refl; closed = inl (o.told, le_of_eq (sym o.session)) };
@@ -123,12 +128,13 @@ up_later p next later total ags le (Applied session count) h = h
 up_later p next later total ags le (Update session key k state ended) h = λ e. (less_upto key next later (h e).0 le, (h e).1)
 
 pub state_later : (p : Past) (next later : Numbered) (total : List Row) → UpTo next later → (a : Agent) → StateOk p next total a → StateOk p later total a
-state_later p next later total le a s = record { owns = s.owns; told = s.told; peak = s.peak; applied = s.applied; distinct = s.distinct; below = each_map (λ x. Less x.job.key next) (λ x. Less x.job.key later) (λ x lt. less_upto x.job.key next later lt le) (stakes p a) s.below; room = s.room; ends = s.ends; grown = s.grown }
+state_later p next later total le a s = record { owns = s.owns; told = s.told; peak = s.peak; applied = s.applied; distinct = s.distinct; order = s.order; below = each_map (λ x. Less x.job.key next) (λ x. Less x.job.key later) (λ x lt. less_upto x.job.key next later lt le) (stakes p a) s.below; room = s.room; ends = s.ends; grown = s.grown }
 
 pub facts_new_run : (p : Past) (l : InRun) → UpTo l.next_key (first_of_run (1 + l.number)) → Facts p l → Facts p (record { run = new_run (1 + l.number); channel = with_side restarted l.channel })
 facts_new_run p l le f = record {
   past = f.past;
   run = omega (arith, f.run);
+  begun = omega arith;
   unsent = λ key above. f.unsent key (upto_trans l.next_key (first_of_run (1 + l.number)) key le above);
   when_open = λ (e : false ≡ true). absurd cc;
   when_shut = λ e. record { offers = refl; booked = refl; closed = inr (omega (arith, f.run, f.past.runs p.peak)) };
@@ -143,6 +149,7 @@ pub facts_halted : (p : Past) (l : InRun) → Facts p l → Facts p (record { ru
 facts_halted p l f = record {
   past = f.past;
   run = f.run;
+  begun = f.begun;
   unsent = f.unsent;
   when_open = λ (e : false ≡ true). absurd cc;
   when_shut = λ e. record { offers = refl; booked = refl; closed = at_open l.is_open refl };
@@ -161,6 +168,7 @@ pub facts_resent : (p : Past) (l : InRun) → l.is_open ≡ true → Facts p l �
 facts_resent p l is f = record {
   past = f.past;
   run = f.run;
+  begun = f.begun;
   unsent = f.unsent;
   when_open = λ e. let o = f.when_open e in record { session = o.session; told = o.told; issued = o.issued; known = o.known; torn = o.torn; covered = o.covered };
   when_shut = λ e. let o = f.when_shut e in record { offers = o.offers; booked = o.booked; closed = o.closed };
@@ -210,6 +218,7 @@ pub facts_opened : (p : Past) (l : InRun) (session : ℕ) (tasks : List Booked) 
 facts_opened p l session tasks f u lt = record {
   past = record { none = λ s g. f.past.none s (let h : session < s = g in omega (arith, above)); ordered = f.past.ordered; rises = f.past.rises; runs = f.past.runs };
   run = f.run;
+  begun = f.begun;
   unsent = f.unsent;
   when_open = λ e. record {
     session = refl;
@@ -221,7 +230,7 @@ facts_opened p l session tasks f u lt = record {
   };
   when_shut = λ (e : true ≡ false). absurd cc;
   states = each_both (StateOk p l.next_key l.total) (λ a. (session ≤ a.session) × (p.peak < session → Within (live (stakes p a)) (unended tasks))) (StateOk (opened_past p session) l.next_key l.total)
-      (λ a s k. record { owns = s.owns; told = s.told; peak = k.0; applied = s.applied; distinct = s.distinct; below = s.below; room = s.room; ends = s.ends; grown = s.grown }) (states_of l) f.states u.2;
+      (λ a s k. record { owns = s.owns; told = s.told; peak = k.0; applied = s.applied; distinct = s.distinct; order = s.order; below = s.below; room = s.room; ends = s.ends; grown = s.grown }) (states_of l) f.states u.2;
   downs = each_map (DownOk p) (DownOk (opened_past p session)) down l.to_agent f.downs;
   ups = each_map (UpOk p l.next_key l.total (states_of l)) (UpOk (opened_past p session) l.next_key l.total (states_of l)) (up_opened p session l.next_key l.total (states_of l) above) l.to_master f.ups;
   pending = each_map (UpOk p l.next_key l.total (drafted l.draft)) (UpOk (opened_past p session) l.next_key l.total (drafted l.draft)) (up_opened p session l.next_key l.total (drafted l.draft) above) (mails_of l.draft) f.pending;

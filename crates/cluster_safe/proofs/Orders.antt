@@ -12,7 +12,7 @@ use Rattle.stream_core.specs.Updates.{pushed, acknowledged_one, is_front}
 use Rattle.cluster_model.specs.Ids.{same}
 use Rattle.cluster_model.specs.Agents.{has_ended, is_task, stated, acknowledged}
 use Rattle.cluster_model.specs.Sides.{unended}
-use Rattle.cluster_safe.specs.Facts.{Stake, Within, Aged, Fades, live, task_stake, Distinct, EndedAt, Grown}
+use Rattle.cluster_safe.specs.Facts.{Less, Stake, Within, Aged, Fades, live, task_stake, Distinct, InOrder, EndedAt, Grown}
 
 -- Each
 
@@ -76,7 +76,7 @@ within_append (x ∷ xs) (y ∷ ys) us vs (inr h) k = inr (within_append (x ∷ 
 -- Fades
 
 pub aged_refl : (s : Stake) → Aged s s
-aged_refl s = (refl, (λ e. e), ([], sym (append-nil s.states)))
+aged_refl s = (refl, (λ e. e), (λ e. e), ([], sym (append-nil s.states)))
 
 pub fades_refl : (xs : List Stake) → Fades xs xs
 fades_refl [] = tt
@@ -99,8 +99,8 @@ each_faded P f (x ∷ xs) (y ∷ ys) (inr h) k = each_faded P f (x ∷ xs) ys h 
 -- the updates that stood for a key stay a beginning
 pub grown_aged : (sent : Numbered → List TaskState) (x y : Stake) → Aged x y → Grown sent y → Grown sent x
 grown_aged sent x y aged g = (
-  g.0 ++ aged.2.0,
-  aged.2.1 ∙ (ap (λ ss. ss ++ aged.2.0) g.1 ∙ (append_assoc (sent y.job.key) g.0 aged.2.0 ∙ ap (λ (j : Job). sent j.key ++ (g.0 ++ aged.2.0)) (sym aged.0))),
+  g.0 ++ aged.3.0,
+  aged.3.1 ∙ (ap (λ ss. ss ++ aged.3.0) g.1 ∙ (append_assoc (sent y.job.key) g.0 aged.3.0 ∙ ap (λ (j : Job). sent j.key ++ (g.0 ++ aged.3.0)) (sym aged.0))),
 )
 
 -- what holds of a job holds of the job after
@@ -113,6 +113,17 @@ distinct_faded (x ∷ xs) [] h k = absurd h
 distinct_faded (x ∷ xs) (y ∷ ys) (inl h) k =
     (subst (λ (j : Job). Each (λ t. t.job.key ≢ j.key) xs) (sym h.0.0) (jobs_faded (λ j. j.key ≢ y.job.key) xs ys h.1 k.0), distinct_faded xs ys h.1 k.1)
 distinct_faded (x ∷ xs) (y ∷ ys) (inr h) k = distinct_faded (x ∷ xs) ys h k.1
+
+pub order_faded : (xs ys : List Stake) → Fades xs ys → InOrder ys → InOrder xs
+order_faded [] ys h k = tt
+order_faded (x ∷ xs) [] h k = absurd h
+order_faded (x ∷ xs) (y ∷ ys) (inl h) k = (
+  each_faded (λ t. t.comes ≡ true → Less x.job.key t.job.key)
+      (λ new old aged was e. subst (λ (j : Job). Less x.job.key j.key) (sym aged.0) (was (aged.2 e))) xs ys h.1
+      (subst (λ (j : Job). Each (λ t. t.comes ≡ true → Less j.key t.job.key) ys) (sym h.0.0) k.0),
+  order_faded xs ys h.1 k.1,
+)
+order_faded (x ∷ xs) (y ∷ ys) (inr h) k = order_faded (x ∷ xs) ys h k.1
 
 live_push : (P : List Job → Type 0) (s : Stake) (ss : List Stake) → (s.ended ≡ true → P (live ss)) → (s.ended ≡ false → P (s.job ∷ live ss)) → P (live (s ∷ ss))
 live_push P s ss f g = cond_both s.ended (live ss) (s.job ∷ live ss) P f g
@@ -146,7 +157,7 @@ any_more p (x ∷ xs) ys h = elim (cases_Bool (p x)) [ inl e ↦ rw e refl | inr
 pub stated_aged : (key : Numbered) (s : TaskState) (t : RecordedTask) → Aged (task_stake (stated key s t)) (task_stake t)
 stated_aged key s t =
     cond_both (is_task key t && not (has_ended t)) (record { job = t.job; offers = t.offers; updates = pushed s t.updates }) t (λ u. Aged (task_stake u) (task_stake t))
-    (λ e. (refl, (λ d. any_more is_terminal t.updates.states (s ∷ []) d), (s ∷ [], refl))) (λ e. aged_refl (task_stake t))
+    (λ e. (refl, (λ d. any_more is_terminal t.updates.states (s ∷ []) d), (λ d. d), (s ∷ [], refl))) (λ e. aged_refl (task_stake t))
 
 pub acknowledged_aged : (key : Numbered) (k : ℕ) (t : RecordedTask) → Aged (task_stake (acknowledged key k t)) (task_stake t)
 acknowledged_aged key k t =

@@ -45,7 +45,7 @@ launch_fits p next total a job offers s up at_place = covers_from a.total (job.r
     rest = launches (drop (suc a.applied) (p.ever a.session))
 
     parts : (name : List ℕ) → amount name (job_rows (live (stakes p a))) ≡ amount name (job_rows (live (map task_stake a.tasks))) + (amount name job.resources + amount name (job_rows (live rest)))
-    parts name = rw (coming_next p a (Launch job offers) up at_place) (rw (live-append (map task_stake a.tasks) (record { job = job; ended = false; states = [] } ∷ rest), jobs-append (live (map task_stake a.tasks)) (job ∷ live rest), amount-append name (job_rows (live (map task_stake a.tasks))) (job.resources ++ job_rows (live rest)), amount-append name job.resources (job_rows (live rest))) refl)
+    parts name = rw (coming_next p a (Launch job offers) up at_place) (rw (live-append (map task_stake a.tasks) (record { job = job; ended = false; states = []; comes = true } ∷ rest), jobs-append (live (map task_stake a.tasks)) (job ∷ live rest), amount-append name (job_rows (live (map task_stake a.tasks))) (job.resources ++ job_rows (live rest)), amount-append name job.resources (job_rows (live rest))) refl)
 
     fits : AtMost (job.resources ++ task_rows (live_tasks a.tasks)) a.total
     fits name = omega (arith, amount-append name job.resources (task_rows (live_tasks a.tasks)), tasks_rows name a.tasks, parts name, s.room name, ap (amount name) s.owns)

@@ -111,10 +111,11 @@ facts_renewed : (p : Past) (l : InRun) (new : Numbered → List TaskState) → F
 facts_renewed p l new f grown unsent = record {
   past = record { none = f.past.none; ordered = f.past.ordered; rises = f.past.rises; runs = f.past.runs };
   run = f.run;
+  begun = f.begun;
   unsent = unsent;
   when_open = λ e. let o = f.when_open e in record { session = o.session; told = o.told; issued = o.issued; known = o.known; torn = o.torn; covered = o.covered };
   when_shut = λ e. let o = f.when_shut e in record { offers = o.offers; booked = o.booked; closed = o.closed };
-  states = each_both (StateOk p l.next_key l.total) (λ a. Each (Grown new) (stakes p a)) (StateOk (renewed p new) l.next_key l.total) (λ a s g. record { owns = s.owns; told = s.told; peak = s.peak; applied = s.applied; distinct = s.distinct; below = s.below; room = s.room; ends = s.ends; grown = g }) (states_of l) f.states grown;
+  states = each_both (StateOk p l.next_key l.total) (λ a. Each (Grown new) (stakes p a)) (StateOk (renewed p new) l.next_key l.total) (λ a s g. record { owns = s.owns; told = s.told; peak = s.peak; applied = s.applied; distinct = s.distinct; order = s.order; below = s.below; room = s.room; ends = s.ends; grown = g }) (states_of l) f.states grown;
   downs = each_map (DownOk p) (DownOk (renewed p new)) down l.to_agent f.downs;
   ups = each_map (UpOk p l.next_key l.total (states_of l)) (UpOk (renewed p new) l.next_key l.total (states_of l)) (up (states_of l)) l.to_master f.ups;
   pending = each_map (UpOk p l.next_key l.total (drafted l.draft)) (UpOk (renewed p new) l.next_key l.total (drafted l.draft)) (up (drafted l.draft)) (mails_of l.draft) f.pending;

@@ -11,29 +11,36 @@ use Rattle.cluster_model.specs.Sides.{Run, Side, heard_update, forget_all, opens
 use Rattle.cluster_model.specs.Channels.{Channel, AgentStep, Draw, DrawMail, Adopt, StopWithout, StopWith, drawn, drawn_mail, adopted, stopped_with, is_own, agent_step, ChannelStep, ByMaster, Hear, ByAgent, heard_mail, happens}
 use Rattle.cluster_safe.proofs.Alone.{side_name}
 
-drawn_side : (c : Channel) (o : Option Draft) (r : Result Draft AgentRefusal) → (drawn c o r).side ≡ c.side
-drawn_side c (Some rs) r = refl
-drawn_side c None (Err refusal) = refl
-drawn_side c None (Ok new) = refl
+-- the master's part of a channel and what was sent to the agent are the same
+abbrev pub SameBeside : Channel → Channel → Type 0
+SameBeside c d = (d.side ≡ c.side) × (d.to_agent ≡ c.to_agent)
 
-drawn_mail_side : (c : Channel) (o : Option MasterMail) → (drawn_mail c o).side ≡ c.side
-drawn_mail_side c None = refl
-drawn_mail_side c (Some mail) = drawn_side c c.draft (hears_mail c.agent mail)
+drawn_beside : (c : Channel) (o : Option Draft) (r : Result Draft AgentRefusal) → SameBeside c (drawn c o r)
+drawn_beside c (Some rs) r = (refl, refl)
+drawn_beside c None (Err refusal) = (refl, refl)
+drawn_beside c None (Ok new) = (refl, refl)
 
-adopted_side : (c : Channel) (o : Option Draft) → (adopted c o).side ≡ c.side
-adopted_side c None = refl
-adopted_side c (Some d) = refl
+drawn_mail_beside : (c : Channel) (o : Option MasterMail) → SameBeside c (drawn_mail c o)
+drawn_mail_beside c None = (refl, refl)
+drawn_mail_beside c (Some mail) = drawn_beside c c.draft (hears_mail c.agent mail)
 
-stopped_side : (c : Channel) (o : Option Draft) → (stopped_with c o).side ≡ c.side
-stopped_side c None = refl
-stopped_side c (Some d) = refl
+adopted_beside : (c : Channel) (o : Option Draft) → SameBeside c (adopted c o)
+adopted_beside c None = (refl, refl)
+adopted_beside c (Some d) = (refl, refl)
+
+stopped_beside : (c : Channel) (o : Option Draft) → SameBeside c (stopped_with c o)
+stopped_beside c None = (refl, refl)
+stopped_beside c (Some d) = (refl, refl)
+
+pub agent_beside : (c : Channel) (step : AgentStep) → SameBeside c (agent_step c step)
+agent_beside c (Draw cause) = cond_both (is_own cause) (drawn c c.draft (next_of c.agent cause)) c (SameBeside c) (λ e. drawn_beside c c.draft (next_of c.agent cause)) (λ e. (refl, refl))
+agent_beside c (DrawMail place) = drawn_mail_beside c (slice_get c.to_agent place)
+agent_beside c Adopt = adopted_beside c c.draft
+agent_beside c StopWithout = (refl, refl)
+agent_beside c StopWith = stopped_beside c c.draft
 
 pub agent_side : (c : Channel) (step : AgentStep) → (agent_step c step).side ≡ c.side
-agent_side c (Draw cause) = cond_both (is_own cause) (drawn c c.draft (next_of c.agent cause)) c (λ d. d.side ≡ c.side) (λ e. drawn_side c c.draft (next_of c.agent cause)) (λ e. refl)
-agent_side c (DrawMail place) = drawn_mail_side c (slice_get c.to_agent place)
-agent_side c Adopt = adopted_side c c.draft
-agent_side c StopWithout = refl
-agent_side c StopWith = stopped_side c c.draft
+agent_side c step = (agent_beside c step).0
 
 heard_name : (run : Run) (c : Channel) (o : Option AgentMail) → (heard_mail run c o).side.name ≡ c.side.name
 heard_name run c None = refl

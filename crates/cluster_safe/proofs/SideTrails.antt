@@ -20,7 +20,7 @@ use Rattle.cluster_safe.proofs.Orders.{each_append, each_map, each_both}
 use Rattle.cluster_safe.proofs.Drafts.{both_true}
 use Rattle.cluster_safe.proofs.Worlds.{Later, later_refl, issued_run}
 use Rattle.cluster_safe.proofs.Origins.{Untouched, untouched_issue, untouched_all, Launches, launches_are}
-use Rattle.cluster_safe.proofs.Trails.{OfferOk, OffersOk, TrailOk, each_kept, offers_kept, distinct_push, apart_by, made_alike, below_later, less_is_other, next_not_made, next_not_used, offers_later, trail_later, used_named, used_has}
+use Rattle.cluster_safe.proofs.Trails.{OfferOk, OffersOk, TrailOk, each_kept, offers_kept, distinct_push, apart_by, made_once, below_later, less_is_other, next_not_made, next_not_used, offers_later, trail_later, used_named, used_has}
 
 -- the launches so far, and the tasks of the opening, have distinct keys below the next one
 pub record KeysOk (next : Numbered) (js : List Job) : Type 0 where
@@ -168,7 +168,7 @@ used_after old marks run s framework ids jobs b good = record {
         flip false e = refl
 
     apart : (name : List ℕ) (o : Offer) → name ≢ s.name → WasMade name o marks → Each (λ p. p.id ≢ o.id) (used_offers s framework ids)
-    apart name o d w = each_map (OfferOk run.next_offer marks s.name) (λ p. p.id ≢ o.id) (λ p h e. d (made_alike marks name s.name o p b.trail.is w h.0 e)) (used_offers s framework ids) used
+    apart name o d w = each_map (OfferOk run.next_offer marks s.name) (λ p. p.id ≢ o.id) (λ p h e. d (made_once marks name s.name o p b.trail.is w h.0 e).0) (used_offers s framework ids) used
 
 -- every step of the master at a side
 pub side_after : (old : List Job) (marks : List Mark) (run : Run) (s : Side) (step : SideStep) → Before old marks run s → SideAfter old marks run s (side_step run s step) (marks_at run s step)

@@ -14,7 +14,7 @@ use Rattle.cluster_model.specs.Agents.{Agent, Draft, has_ended, state_at, report
 use Rattle.cluster_model.specs.Sides.{unended, job_rows}
 use Rattle.cluster_model.specs.Channels.{InRun}
 use Rattle.cluster_safe.specs.Facts.{Less, Stake, Past, Within, Fades, live, task_stake, launches, coming, stakes, Distinct, EndsKept, AtMost, EndedAt, Grown, StateOk, UpOk, drafted, mails_of, states_of, PastOk, Facts}
-use Rattle.cluster_safe.proofs.Orders.{each_append, each_map, each_both, each_left, within_refl, within_trans, fades_refl, fades_append, each_faded, grown_aged, distinct_faded, live_faded}
+use Rattle.cluster_safe.proofs.Orders.{each_append, each_map, each_both, each_left, within_refl, within_trans, fades_refl, fades_append, each_faded, grown_aged, distinct_faded, order_faded, live_faded}
 use Rattle.cluster_safe.proofs.Amounts.{within_at_most}
 use Rattle.cluster_safe.proofs.Commands.{ends_faded}
 
@@ -48,6 +48,7 @@ pub facts_replaced : (p : Past) (l : InRun) (a : Agent) (d : Option Draft) (sent
 facts_replaced p l a d sent f r ok new pend = record {
   past = f.past;
   run = f.run;
+  begun = f.begun;
   unsent = f.unsent;
   when_open = λ e. let o = f.when_open e in record { session = o.session; told = o.told; issued = o.issued; known = o.known; torn = o.torn; covered = covered_replaced p l.booked (states_of l) (a ∷ drafted d) r o.covered };
   when_shut = λ e. let o = f.when_shut e in record { offers = o.offers; booked = o.booked; closed = o.closed };
@@ -72,6 +73,7 @@ ok_followed p next total new old f s owns told applied ends = record {
   peak = le_trans s.peak f.session;
   applied = applied;
   distinct = distinct_faded (stakes p new) (stakes p old) f.fades s.distinct;
+  order = order_faded (stakes p new) (stakes p old) f.fades s.order;
   below = each_faded (λ x. Less x.job.key next) (λ x y aged lt. subst (λ (j : Job). Less j.key next) (sym aged.0) lt) (stakes p new) (stakes p old) f.fades s.below;
   room = room_followed p total new old f s.room;
   ends = ends;

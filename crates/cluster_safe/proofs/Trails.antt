@@ -71,14 +71,14 @@ not_made id (Made m ∷ older) name o n (inl e) = λ is. n.0 (ap (λ (p : Offer)
 not_made id (Made m ∷ older) name o n (inr w) = not_made id older name o n.1 w
 not_made id (Used u ∷ older) name o n w = not_made id older name o n w
 
--- an id was made on one agent only
-pub made_alike : (marks : List Mark) (a b : List ℕ) (o p : Offer) → IsTrail marks → WasMade a o marks → WasMade b p marks → p.id ≡ o.id → a ≡ b
-made_alike [] a b o p t v w e = absurd v
-made_alike (Used u ∷ older) a b o p t v w e = made_alike older a b o p t.2 v w e
-made_alike (Made m ∷ older) a b o p t (inl v) (inl w) e = sym v.0 ∙ w.0
-made_alike (Made m ∷ older) a b o p t (inl v) (inr w) e = absurd (not_made m.offer.id older b p t.0 w (e ∙ ap (λ (q : Offer). q.id) (sym v.1)))
-made_alike (Made m ∷ older) a b o p t (inr v) (inl w) e = absurd (not_made m.offer.id older a o t.0 v (sym e ∙ ap (λ (q : Offer). q.id) (sym w.1)))
-made_alike (Made m ∷ older) a b o p t (inr v) (inr w) e = made_alike older a b o p t.1 v w e
+-- an id was made once
+pub made_once : (marks : List Mark) (a b : List ℕ) (o p : Offer) → IsTrail marks → WasMade a o marks → WasMade b p marks → p.id ≡ o.id → (a ≡ b) × (p ≡ o)
+made_once [] a b o p t v w e = absurd v
+made_once (Used u ∷ older) a b o p t v w e = made_once older a b o p t.2 v w e
+made_once (Made m ∷ older) a b o p t (inl v) (inl w) e = (sym v.0 ∙ w.0, sym w.1 ∙ v.1)
+made_once (Made m ∷ older) a b o p t (inl v) (inr w) e = absurd (not_made m.offer.id older b p t.0 w (e ∙ ap (λ (q : Offer). q.id) (sym v.1)))
+made_once (Made m ∷ older) a b o p t (inr v) (inl w) e = absurd (not_made m.offer.id older a o t.0 v (sym e ∙ ap (λ (q : Offer). q.id) (sym w.1)))
+made_once (Made m ∷ older) a b o p t (inr v) (inr w) e = made_once older a b o p t.1 v w e
 
 pub below_later : (next later : Numbered) (marks : List Mark) → UpTo next later → MadeBelow next marks → MadeBelow later marks
 below_later next later [] le h = tt

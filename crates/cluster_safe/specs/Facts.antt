@@ -32,6 +32,7 @@ pub record Stake : Type 0 where
   pub job : Job
   pub ended : Bool
   pub states : List TaskState  -- its updates
+  pub comes : Bool  -- whether it is a launch that may still come into the record
 
 -- what is told of the past beside the channel: all commands ever issued in each session, the greatest session ever opened, the run with which each session is told, the latest run that a Hello told, and the updates that ever stood in the agent's record for each key
 pub record Past : Type 0 where
@@ -48,7 +49,7 @@ Within (x ∷ xs) [] = ⊥
 Within (x ∷ xs) (y ∷ ys) = ((x ≡ y) × Within xs ys) ⊎ Within (x ∷ xs) ys
 
 abbrev pub Aged : Stake → Stake → Type 0
-Aged new old = (new.job ≡ old.job) × (old.ended ≡ true → new.ended ≡ true) × ((more : List TaskState) × (new.states ≡ old.states ++ more))
+Aged new old = (new.job ≡ old.job) × (old.ended ≡ true → new.ended ≡ true) × (new.comes ≡ true → old.comes ≡ true) × ((more : List TaskState) × (new.states ≡ old.states ++ more))
 
 -- the first are some of the second, in their order, and more of them may have ended, and have more updates
 abbrev pub Fades : List Stake → List Stake → Type 0
@@ -61,11 +62,11 @@ live [] = []
 live (s ∷ ss) = if s.ended then live ss else s.job ∷ live ss
 
 abbrev pub task_stake : RecordedTask → Stake
-task_stake t = record { job = t.job; ended = has_ended t; states = t.updates.states }
+task_stake t = record { job = t.job; ended = has_ended t; states = t.updates.states; comes = false }
 
 abbrev pub launches : List Command → List Stake
 launches [] = []
-launches (Launch job offers ∷ whats) = record { job = job; ended = false; states = [] } ∷ launches whats
+launches (Launch job offers ∷ whats) = record { job = job; ended = false; states = []; comes = true } ∷ launches whats
 launches (Kill key ∷ whats) = launches whats
 launches (Ack key k ∷ whats) = launches whats
 launches (EndFramework framework ∷ whats) = launches whats
@@ -81,6 +82,11 @@ stakes p a = map task_stake a.tasks ++ coming p a
 abbrev pub Distinct : List Stake → Type 0
 Distinct [] = ⊤
 Distinct (s ∷ ss) = Each (λ t. t.job.key ≢ s.job.key) ss × Distinct ss
+
+-- a launch that may still come has a key behind all those before it
+abbrev pub InOrder : List Stake → Type 0
+InOrder [] = ⊤
+InOrder (s ∷ ss) = Each (λ t. t.comes ≡ true → Less s.job.key t.job.key) ss × InOrder ss
 
 abbrev pub NotOf : Numbered → List Stake → Type 0
 NotOf framework ss = Each (λ s. s.job.framework ≢ framework) ss
@@ -126,13 +132,14 @@ pub record StateOk (p : Past) (next : Numbered) (total : List Row) (a : Agent) :
   pub peak : p.peak ≤ a.session
   pub applied : a.in_session ≡ true → a.applied ≤ length (p.ever a.session)
   pub distinct : Distinct (stakes p a)
+  pub order : InOrder (stakes p a)
   pub below : Each (λ s. Less s.job.key next) (stakes p a)
   pub room : AtMost (job_rows (live (stakes p a))) total
   pub ends : a.in_session ≡ true → EndsKept (take a.applied (p.ever a.session)) (stakes p a)
   pub grown : Each (Grown p.sent) (stakes p a)
 
 abbrev pub DownOk : Past → MasterMail → Type 0
-DownOk p (Hello run dead) = run ≤ p.latest
+DownOk p (Hello run dead) = (run ≤ p.latest) × (0 < run)
 DownOk p (Issued session number what) = (session ≤ p.peak) × ((m : ℕ) × (number ≡ suc m) × (slice_get (p.ever session) m ≡ Some what))
 
 abbrev pub UpOk : Past → Numbered → List Row → List Agent → AgentMail → Type 0
@@ -179,6 +186,7 @@ pub record ShutOk (p : Past) (l : InRun) : Type 0 where
 pub record Facts (p : Past) (l : InRun) : Type 0 where
   pub past : PastOk p
   pub run : p.latest ≤ l.number
+  pub begun : 0 < l.number
   pub unsent : (key : Numbered) → UpTo l.next_key key → p.sent key ≡ []
   pub when_open : l.is_open ≡ true → OpenOk p l
   pub when_shut : l.is_open ≡ false → ShutOk p l

@@ -1,21 +1,30 @@
 -- What the parts may rest on of every mail that was ever sent.
-use Rattle.std.specs.Prelude.{◌≡◌, ◌≢◌, ℕ, suc, List, true, slice_get, Some}
+use Rattle.std.specs.Prelude.{◌≡◌, ◌<◌, ℕ, suc, List, true, slice_get, Some}
 use Rattle.std.specs.List.{AllByRecursion as Each}
 use Rattle.names_core.specs.Ids.{Numbered}
 use Rattle.mails.specs.declared.task.Job.{Job}
 use Rattle.mails.specs.declared.task.Booked.{Booked}
 use Rattle.mails.specs.declared.mail.Command.TheVariants.{Launch}
-use Rattle.mails.specs.declared.mail.MasterMail.TheVariants.{Issued}
+use Rattle.mails.specs.declared.mail.MasterMail.TheVariants.{Hello, Issued}
 use Rattle.mails.specs.declared.mail.AgentMail.TheVariants.{Report}
 use Rattle.cluster_model.specs.Sides.{job_rows, unended}
 use Rattle.cluster_model.specs.Channels.{Channel}
-use Rattle.cluster_safe.specs.Facts.{AtMost}
+use Rattle.cluster_safe.specs.Facts.{AtMost, Less}
 
--- the key of a Launch that is the next command of the agent's open session isn't in its record
-abbrev pub NextLaunchIsNew : Channel → Type 0
-NextLaunchIsNew c = (place session number : ℕ) (job : Job) (offers : List Numbered) → slice_get c.to_agent place ≡ Some (Issued session number (Launch job offers)) → c.agent.in_session ≡ true →
-    session ≡ c.agent.durable.session → number ≡ suc c.agent.applied → Each (λ t. job.key ≢ t.job.key) c.agent.durable.tasks
+-- the key of a Launch that is the next command of the agent's open session is behind all those in its record
+abbrev pub NextLaunchIsLater : Channel → Type 0
+NextLaunchIsLater c = (place session number : ℕ) (job : Job) (offers : List Numbered) → slice_get c.to_agent place ≡ Some (Issued session number (Launch job offers)) → c.agent.in_session ≡ true →
+    session ≡ c.agent.durable.session → number ≡ suc c.agent.applied → Each (λ t. Less t.job.key job.key) c.agent.durable.tasks
+
+-- a Hello tells a run above 0
+abbrev pub HellosTellRuns : Channel → Type 0
+HellosTellRuns c = (place run dead : ℕ) → slice_get c.to_agent place ≡ Some (Hello run dead) → 0 < run
 
 -- the tasks of a Report that haven't ended fit the agent's total
 abbrev pub ReportFits : Channel → Type 0
 ReportFits c = (place session run : ℕ) (tasks : List Booked) → slice_get c.to_master place ≡ Some (Report session run tasks) → AtMost (job_rows (unended tasks)) c.side.total
+
+pub record MeetsPremises (c : Channel) : Type 0 where
+  pub launch : NextLaunchIsLater c
+  pub hello : HellosTellRuns c
+  pub report : ReportFits c

@@ -18,7 +18,7 @@ ghost use Rattle.cluster_safe.specs.Honest.{Honest, IsBeginningOf, IsKeyOf, ackn
 ghost use Rattle.cluster_safe.specs.Listed.{MoveFrom, MoveWithout};
 ghost use Rattle.cluster_safe.specs.Offered.{IsTold};
 ghost use Rattle.cluster_safe.specs.Origin.{From, HasOrigin, jobs_of, launched, trail};
-ghost use Rattle.cluster_safe.specs.Premises.{NextLaunchIsNew, ReportFits};
+ghost use Rattle.cluster_safe.specs.Premises.{MeetsPremises};
 ghost use Rattle.cluster_safe.specs.Saved.{IsFound};
 ghost use Rattle.cluster_safe.specs.Updates.{AcknowledgeTheirs, HandsUpdates, HaveAllUpdates, TellsUpdates, updates_of, updates_on};
 ghost use Rattle.cluster_safe.specs.Safe.{NeverLacksRoom};
@@ -93,10 +93,11 @@ pub fn found_records_open_again()
         (history run records steps).state.world.run.number < later → IsFound (history run records steps).state.world.channels found → GoodOpening later found }
 {}
 
-/// Of every mail ever sent: a Launch that is next has a key that isn't in its agent's record, and the tasks of a Report fit the agent's total.
+/// Of every mail ever sent: a Launch that is next has a key behind all those of its agent's record, a Hello tells a run above 0, and the tasks of
+/// a Report fit the agent's total.
 pub fn mails_meet_their_premises()
     ensures { (run : ℕ) (records : List Durable) (steps : List Marked) → GoodOpening run records →
-        Each (λ c. NextLaunchIsNew c × ReportFits c) (history run records steps).state.world.channels }
+        Each MeetsPremises (history run records steps).state.world.channels }
 {}
 
 /// The master of a cluster after a step, and the mails of the entry, are those that the master's own moves make, without the agents' parts.

@@ -2,8 +2,7 @@
 
 ghost use Rattle.std.specs.Prelude.{◌<◌};
 
-use cluster_core::{Cluster, Sent, good_opening};
-use mails::Durable;
+use cluster_core::{Cluster, Record, Sent, good_opening};
 use master_core::Config;
 use names_core::Run;
 use post_rules::EverSent;
@@ -46,42 +45,50 @@ const BUSY_B: &str =
 const B_WITH_THE_KEY_OF_A: &str =
     r#"{"name":"b","run":2,"session":2,"tasks":[{"acked":0,"framework":"F1-1","key":"L2-1","name":"t","offers":["O2-1"],"resources":{"cpus":4},"updates":[]}],"total":{"cpus":4},"version":1}"#;
 
-/// The first record, the second one, the run, and whether they are a good opening.
-const OPENINGS: [(&str, &str, u16, bool); 11] = [
-    (A, B, 1, true),
-    (B, A, 1, true),
-    (A, A, 1, false),
-    (A, LARGER_B, 1, false),
-    (A_IN_RUN_2, B, 3, true),
-    (A_IN_RUN_3, B, 3, false),
-    (BUSY_A_IN_RUN_1, B, 2, false),
-    (BUSY_A, BUSY_B, 3, true),
-    (BUSY_B, BUSY_A, 3, true),
-    (BUSY_A, B_WITH_THE_KEY_OF_A, 3, false),
-    (OVERFULL_A, B, 3, false),
+/// The first record, the second one, the run, and whether they are a good opening; none where no agent can have one of them.
+const OPENINGS: [(&str, &str, u16, Option<bool>); 11] = [
+    (A, B, 1, Some(true)),
+    (B, A, 1, Some(true)),
+    (A, A, 1, Some(false)),
+    (A, LARGER_B, 1, Some(false)),
+    (A_IN_RUN_2, B, 3, Some(true)),
+    (A_IN_RUN_3, B, 3, Some(false)),
+    (BUSY_A_IN_RUN_1, B, 2, Some(false)),
+    (BUSY_A, BUSY_B, 3, Some(true)),
+    (BUSY_B, BUSY_A, 3, Some(true)),
+    (BUSY_A, B_WITH_THE_KEY_OF_A, 3, Some(false)),
+    (OVERFULL_A, B, 3, None),
 ];
 
-fn push_record(records: &mut Vec<Durable>, alloc: Global, text: &str) -> Option<()> {
-    records.push(record_of(alloc, text).ok()?).ok()
+/// The record of a text; none where memory was refused, or no agent can have it.
+fn record(alloc: Global, text: &str) -> Option<Record> {
+    match Record::of(alloc, record_of(alloc, text).ok()?) {
+        Ok(record) => record,
+        Err(_) => None,
+    }
+}
+
+fn push_record(records: &mut Vec<Record>, alloc: Global, text: &str) -> Option<()> {
+    records.push(record(alloc, text)?).ok()
 }
 
 fn configured(alloc: Global) -> Option<Config> {
     read_config(alloc, AGENTS.as_bytes()).ok()
 }
 
-fn is_good(alloc: Global, records: &mut [Durable], run: u16) -> Option<bool>
+fn is_good(alloc: Global, records: &mut [Record], run: u16) -> Option<bool>
     requires { 0 < run }
 {
     let config = configured(alloc)?;
     Some(good_opening(&config, records, Run::new(run)))
 }
 
-fn push_both(records: &mut Vec<Durable>, alloc: Global, first: &str, second: &str) -> Option<()> {
+fn push_both(records: &mut Vec<Record>, alloc: Global, first: &str, second: &str) -> Option<()> {
     push_record(records, alloc, first)?;
     push_record(records, alloc, second)
 }
 
-fn both_records(alloc: Global, first: &str, second: &str) -> Option<Vec<Durable>> {
+fn both_records(alloc: Global, first: &str, second: &str) -> Option<Vec<Record>> {
     let mut records = Vec::new(alloc);
     match push_both(&mut records, alloc, first, second) {
         Some(()) => Some(records),
@@ -89,7 +96,7 @@ fn both_records(alloc: Global, first: &str, second: &str) -> Option<Vec<Durable>
     }
 }
 
-/// Whether two records are a good opening in a run; none where memory was refused.
+/// Whether two records are a good opening in a run; none where memory was refused, or no agent can have one of them.
 fn opens(alloc: Global, first: &str, second: &str, run: u16) -> Option<bool> {
     if run == 0 {
         return None;
@@ -111,7 +118,7 @@ fn greets_a_first(cluster: &Cluster<EverSent>) -> bool {
 }
 
 /// Whether a cluster that is opened over these records greets a first.
-fn greets(alloc: Global, config: Config, mut records: Vec<Durable>) -> bool {
+fn greets(alloc: Global, config: Config, mut records: Vec<Record>) -> bool {
     let run = Run::new(1);
     if !good_opening(&config, records.as_mut_slice(), run) {
         return false;
@@ -136,9 +143,6 @@ fn records_are_a_good_opening(rt: HostRuntime) {
     assert!(rt; greets_by_name(rt.alloc()) == Some(true));
     for i in 0..OPENINGS.len() {
         let (first, second, run, is) = OPENINGS[i];
-        assert!(rt;
-            opens(rt.alloc(), first, second, run) == Some(is),
-            "opening {i}"
-        );
+        assert!(rt; opens(rt.alloc(), first, second, run) == is, "opening {i}");
     }
 }

@@ -3,9 +3,8 @@
 ghost use Rattle.std.specs.Prelude.{◌<◌};
 
 use cluster_core::{
-    Cluster, ClusterFault, Step, Verdict, fresh_records, good_opening, run as run_of,
+    Cluster, ClusterFault, Record, Step, Verdict, fresh_records, good_opening, run as run_of,
 };
-use mails::Durable;
 use master_core::Config;
 use names_core::Run;
 use post_rules::EverSent;
@@ -26,10 +25,18 @@ fn one_agent(alloc: Global) -> Option<Config> {
     read_config(alloc, AGENT.as_bytes()).ok()
 }
 
+/// The record of a text; none where memory was refused, or no agent can have it.
+fn record(alloc: Global, text: &str) -> Option<Record> {
+    match Record::of(alloc, record_of(alloc, text).ok()?) {
+        Ok(record) => record,
+        Err(_) => None,
+    }
+}
+
 /// No records, or this one.
-fn records(alloc: Global, config: &Config, text: Option<&str>) -> Option<Vec<Durable>> {
+fn records(alloc: Global, config: &Config, text: Option<&str>) -> Option<Vec<Record>> {
     match text {
-        Some(text) => vec![in alloc; record_of(alloc, text).ok()?].ok(),
+        Some(text) => vec![in alloc; record(alloc, text)?].ok(),
         None => fresh_records(alloc, config).ok(),
     }
 }
@@ -37,7 +44,7 @@ fn records(alloc: Global, config: &Config, text: Option<&str>) -> Option<Vec<Dur
 fn opened(
     alloc: Global,
     config: Config,
-    mut records: Vec<Durable>,
+    mut records: Vec<Record>,
     run: Run,
 ) -> Option<Cluster<EverSent>> {
     if good_opening(&config, records.as_mut_slice(), run) {

@@ -1,8 +1,7 @@
 //! The store of an agent's record.
 
-use agent_core::Cabinet;
+use agent_core::{Cabinet, Record};
 use keep_store::{KeepFault, Keeper};
-use mails::Durable;
 use names_core::AgentName;
 use sqlite::{FileFrom, FileStore, Unknown};
 use std::alloc::Global;
@@ -47,17 +46,17 @@ impl<'a> Cabinet for FileCabinet<'a> {
     // What a store over files at a path has kept is known to nobody; what a save leaves in a store is said of `Keeper::save`.
     ghost saved = { λ _ _. true };
 
-    fn save(&mut self, alloc: Global, record: &Durable) -> Result<(), KeepFault> {
+    fn save(&mut self, alloc: Global, durable: &Record) -> Result<(), KeepFault> {
         let mut keeper = match self.keeper.take() {
             Some(keeper) => keeper,
             None => Keeper::open(self.rt, self.path.as_str())?,
         };
-        keeper.save(alloc, record)?;
+        keeper.save(alloc, durable)?;
         self.keeper = Some(keeper);
         Ok(())
     }
 
-    fn reopen(&mut self, alloc: Global) -> Result<Option<Durable>, KeepFault> {
+    fn reopen(&mut self, alloc: Global) -> Result<Option<Record>, KeepFault> {
         self.keeper = None;
         let mut keeper = Keeper::open(self.rt, self.path.as_str())?;
         let record = keeper.load(alloc)?;
@@ -67,7 +66,7 @@ impl<'a> Cabinet for FileCabinet<'a> {
 }
 
 /// The record that the store at a path keeps. A store is made where there is none.
-pub(crate) fn load_at(rt: &HostRuntime, path: &str) -> Result<Option<Durable>, KeepFault> {
+pub(crate) fn load_at(rt: &HostRuntime, path: &str) -> Result<Option<Record>, KeepFault> {
     let mut keeper = Keeper::open(rt, path)?;
     keeper.load(rt.alloc())
 }

@@ -9,11 +9,10 @@ ghost use Rattle.file_records.specs.declared.fault.FolderFault.TheVariants.{NoCl
 
 use crate::cabinet::{RecordFile, load_at};
 use crate::fault::FolderFault;
-use agent_core::fresh;
+use agent_core::Record;
 use agent_sides::{Config, ConfiguredAgent};
 use cluster_core::good_opening;
 use keep_store::{KeepFault, Keeper};
-use mails::Durable;
 use names_core::Run;
 use plain_data::Plain;
 use std::alloc::Global;
@@ -24,7 +23,7 @@ pub struct Folder<'a> {
     /// The master's run, which was taken for it.
     pub run: Run,
     /// The agents' records, one for each.
-    pub records: Vec<Durable>,
+    pub records: Vec<Record>,
     /// Where they are kept, in the order of the configuration.
     pub files: Vec<RecordFile<'a>>,
 }
@@ -54,17 +53,17 @@ fn run_at(rt: &HostRuntime, path: &str) -> Result<Run, KeepFault> {
 fn record_of(
     alloc: Global,
     agent: &ConfiguredAgent,
-    found: Option<Durable>,
-) -> Result<Durable, FolderFault>
+    found: Option<Record>,
+) -> Result<Record, FolderFault>
     ensures found { IfOk result (λ kept. IfSome found (λ d. kept ≡ d)) }
     ensures fresh { IfOk result (λ kept. IfNone found (kept ≡ agents.fresh agent.now.name agent.now.total)) }
     ensures total { IfOk result (λ kept. kept.total ≡ agent.now.total) }
     ensures refused { IfErr result (IsRecordRefusal agent.now found) }
 {
     let Some(record) = found else {
-        return Ok(fresh(alloc, agent.name.copy()?, agent.total.copy()?));
+        return Ok(Record::fresh(alloc, agent.name.copy()?, agent.total.copy()?));
     };
-    if !record.total.is_same(&agent.total) {
+    if !record.parts().total.is_same(&agent.total) {
         return Err(FolderFault::TotalDiffers {
             agent: String::from_str(alloc, agent.name.as_text())?,
         });
@@ -77,7 +76,7 @@ fn open_agent<'a>(
     rt: &'a HostRuntime,
     folder: &str,
     agent: &ConfiguredAgent,
-) -> Result<(Durable, RecordFile<'a>), FolderFault>
+) -> Result<(Record, RecordFile<'a>), FolderFault>
     ensures total { IfOk result (λ opened. opened.0.total ≡ agent.now.total) }
     ensures refused { IfErr result (IsFileRefusal agent.now) }
 {
@@ -93,7 +92,7 @@ fn open_agent<'a>(
 }
 
 /// Refuses records that are those of no one cluster of these agents in this run.
-fn check_opening(config: &Config, records: &mut [Durable], run: Run) -> Result<(), FolderFault>
+fn check_opening(config: &Config, records: &mut [Record], run: Run) -> Result<(), FolderFault>
     ensures good { OnOk result (GoodOpening run records.new) }
     ensures records { OnOk result (AreRecordsOf config.now records.new) }
     ensures refused { IfErr result (λ fault. (fault ≡ NoCluster) × ((GoodOpening run records.old × AreRecordsOf config.now records.old) → ⊥)) }

@@ -1,10 +1,12 @@
 //! Keepers.
 
-ghost use Rattle.std.specs.Prelude.{◌≡◌, ◌≢◌, ◌≤◌, ◌+◌, suc, Some, IfOk, IfErr, OnOk, OnErr, IsErrOf, option_map, string_bytes};
+ghost use Rattle.std.specs.Prelude.{◌≡◌, ◌≢◌, ◌≤◌, ◌+◌, true, suc, Some, IfOk, IfErr, OnOk, OnErr, IsErrOf, option_map, string_bytes};
+ghost use Rattle.std.specs.Str.{IsUtf8};
 ghost use Rattle.sqlite.specs.declared.types.Value.TheVariants.{Text};
 ghost use Rattle.sqlite.specs.State.{HasCleanDisk, Survives};
 ghost use Rattle.sqlite.specs.Held.{state};
 ghost use Rattle.mails.specs.declared.record.Durable.{Durable};
+ghost use Rattle.agent_core.specs.Records.{is_record};
 ghost use Rattle.record_text.specs.Texts.{record_form};
 ghost use Rattle.record_text.specs.Written.{IsDurable};
 ghost use Rattle.keep_store.specs.Kept.{Kept, kept_in, nothing, with_record, with_run, HoldsText, IsDamaged, IsLoaded, TellsRun, TellsNoRun, run_in, shown_body, shown_last};
@@ -16,7 +18,7 @@ use crate::check::prepare;
 use crate::fault::{KeepFault, fault_of};
 use crate::record::record_in;
 use crate::statements::{read_bodies, read_lasts, write_body, write_last};
-use mails::Durable;
+use agent_core::Record;
 use record_text::record_text;
 use sqlite::{Alter, Connection, Error, ErrorCode, Row};
 use std::alloc::Global;
@@ -108,11 +110,12 @@ impl<S: Alter + Drop> Keeper<S> {
 impl<S: Alter> Keeper<S> {
     /// The record that is kept, None where none was ever saved. K1 for an error of the store, K2 where what is kept is the written form
     /// of no record that an agent can have, K4 for want of memory.
-    pub fn load(&mut self, alloc: Global) -> Result<Option<Durable>, KeepFault>
+    pub fn load(&mut self, alloc: Global) -> Result<Option<Record>, KeepFault>
         ensures clean { HasCleanDisk (state S.Store self.new) → HasCleanDisk (state S.Store self.old) }
         ensures loaded { IsReady (state S.Store self.old) → HasCleanDisk (state S.Store self.new) → IfOk result (IsLoaded (kept_in (state S.Store self.old).now.trees).body) }
         ensures saved { (d : Durable) → IsReady (state S.Store self.old) → HasCleanDisk (state S.Store self.new) → IsDurable d → HoldsText (kept_in (state S.Store self.old).now.trees).body (record_form d) → IfOk result (λ found. found ≡ Some d) }
         ensures damaged { IsReady (state S.Store self.old) → HasCleanDisk (state S.Store self.new) → IsErrOf result KeepFault.Damaged → IsDamaged (kept_in (state S.Store self.old).now.trees).body }
+        ensures readable { (d : Durable) → IsReady (state S.Store self.old) → HasCleanDisk (state S.Store self.new) → IsDurable d → is_record d ≡ true → IsUtf8 (record_form d) → HoldsText (kept_in (state S.Store self.old).now.trees).body (record_form d) → IsErrOf result KeepFault.Damaged → ⊥ }
         ensures unspent { IfErr result (λ e. e ≢ KeepFault.RunsSpent) }
         ensures stays { IsReady (state S.Store self.old) → HasCleanDisk (state S.Store self.new) → Stays (state S.Store self.old) (state S.Store self.new) }
         ensures up { IsReady (state S.Store self.old) → HasCleanDisk (state S.Store self.new) → OnOk result (IsReady (state S.Store self.new)) }
@@ -139,16 +142,19 @@ impl<S: Alter> Keeper<S> {
 
     /// Keeps a record in place of the one before, in one transaction. K1 for an error of the store, K4 for want of memory; then the keeper is
     /// opened again, and `load` tells which of the two stands.
-    pub fn save(&mut self, alloc: Global, durable: &Durable) -> Result<(), KeepFault>
+    pub fn save(&mut self, alloc: Global, durable: &Record) -> Result<(), KeepFault>
         ensures clean { HasCleanDisk (state S.Store self.new) → HasCleanDisk (state S.Store self.old) }
         ensures saved { IsReady (state S.Store self.old) → HasCleanDisk (state S.Store self.new) → OnOk result (IsReady (state S.Store self.new) × (kept_in (state S.Store self.new).now.trees ≡ with_record durable.now (kept_in (state S.Store self.old).now.trees))) }
         ensures durable { OnOk result (IsDurable durable.now) }
+        ensures recorded { is_record durable.now ≡ true }
+        ensures text { OnOk result (IsUtf8 (record_form durable.now)) }
         ensures failed { IsReady (state S.Store self.old) → HasCleanDisk (state S.Store self.new) → OnErr result (Stays (state S.Store self.old) (state S.Store self.new)) }
         ensures stop { IsReady (state S.Store self.old) → LeavesEither (state S.Store self.old) (state S.Store self.new) (with_record durable.now) }
         ensures stands { Stands (state S.Store self.new) }
         ensures undamaged { IfErr result (λ e. e ≢ KeepFault.Damaged) }
         ensures unspent { IfErr result (λ e. e ≢ KeepFault.RunsSpent) }
     {
+        let durable = durable.parts();
         let text = record_text(alloc, durable)?;
         self.put(text.as_str())
     }

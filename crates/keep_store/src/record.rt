@@ -9,26 +9,26 @@ ghost use Rattle.agent_core.specs.Records.{is_record};
 ghost use Rattle.keep_store.specs.Kept.{IsDamaged, IsLoaded, IsRecordText};
 
 use crate::fault::KeepFault;
-use agent_core::rebuild;
+use agent_core::Record;
 use mails::Durable;
 use record_text::{RecordFault, record_of};
 use std::alloc::Global;
 
 /// A record, if an agent can have it.
-fn of_an_agent(alloc: Global, durable: Durable) -> Result<Durable, KeepFault>
+fn of_an_agent(alloc: Global, durable: Durable) -> Result<Record, KeepFault>
     ensures ok { IfOk result (λ found. (found ≡ durable) × (is_record durable ≡ true)) }
     ensures damaged { IsErrOf result KeepFault.Damaged → is_record durable ≡ false }
     ensures unspent { IfErr result (λ e. e ≢ KeepFault.RunsSpent) }
 {
-    match rebuild(alloc, durable) {
-        Ok(Some(durable)) => Ok(durable),
+    match Record::of(alloc, durable) {
+        Ok(Some(found)) => Ok(found),
         Ok(None) => Err(KeepFault::Damaged),
         Err(_) => Err(KeepFault::OutOfMemory),
     }
 }
 
 /// The record of a text.
-fn record_at(alloc: Global, text: &str) -> Result<Durable, KeepFault>
+fn record_at(alloc: Global, text: &str) -> Result<Record, KeepFault>
     ensures ok { IfOk result (λ found. IsRecordText found text.now) }
     ensures only { (d : Durable) → IsWritten d text.now → IfOk result (λ found. found ≡ d) }
     ensures damaged { IsErrOf result KeepFault.Damaged → (d : Durable) → IsRecordText d text.now → ⊥ }
@@ -42,7 +42,7 @@ fn record_at(alloc: Global, text: &str) -> Result<Durable, KeepFault>
 }
 
 /// The record of the text of a row, if there is one.
-pub fn record_in(alloc: Global, text: Option<String>) -> Result<Option<Durable>, KeepFault>
+pub fn record_in(alloc: Global, text: Option<String>) -> Result<Option<Record>, KeepFault>
     ensures loaded { IfOk result (IsLoaded (option_map (λ text. Text (string_bytes text)) text)) }
     ensures saved { (d : Durable) → IsDurable d → option_map (λ text. Text (string_bytes text)) text ≡ Some (Text (record_form d)) → IfOk result (λ found. found ≡ Some d) }
     ensures damaged { IsErrOf result KeepFault.Damaged → IsDamaged (option_map (λ text. Text (string_bytes text)) text) }
@@ -51,6 +51,6 @@ pub fn record_in(alloc: Global, text: Option<String>) -> Result<Option<Durable>,
     let Some(text) = text else {
         return Ok(None);
     };
-    let durable = record_at(alloc, text.as_str())?;
-    Ok(Some(durable))
+    let found = record_at(alloc, text.as_str())?;
+    Ok(Some(found))
 }

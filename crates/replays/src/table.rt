@@ -6,7 +6,7 @@ ghost use Rattle.replays.specs.Stories.{count, offered_now, records_now};
 
 use crate::live::live;
 use crate::numbers::raised;
-use cluster_core::Cluster;
+use cluster_core::{Cluster, Record};
 use entry_lines::{agent_text, entries_text};
 use mails::Durable;
 use names_core::AgentName;
@@ -28,7 +28,7 @@ fn agent_count<P: Post + Drop>(cluster: &Cluster<P>) -> usize
 }
 
 /// The record of the agent at a place.
-fn record_at<P: Post + Drop>(cluster: &Cluster<P>, place: usize) -> Option<&Durable>
+fn record_at<P: Post + Drop>(cluster: &Cluster<P>, place: usize) -> Option<&Record>
     ensures { option_map (λ d. d.now) result ≡ slice_get (records_now cluster.now.story) place }
 {
     cluster.durable_at(place)
@@ -71,7 +71,7 @@ fn lines_at<P: Post + Drop>(
     ensures { IfOk result (λ text. IfSome (slice_get (records_now cluster.now.story) place) (λ d. text.items ≡ agent_lines cluster.now.story d)) }
 {
     match record_at(cluster, place) {
-        Some(durable) => agent_lines(alloc, cluster, durable),
+        Some(record) => agent_lines(alloc, cluster, record.parts()),
         None => Ok(Vec::new(alloc)),
     }
 }

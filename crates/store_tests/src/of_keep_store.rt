@@ -1,5 +1,6 @@
 //! A keeper over a store in memory: what is saved is loaded, and runs are counted. What is no record, and what is no run, stands in files of `tests/serve`.
 
+use agent_core::Record;
 use keep_store::{KeepFault, Keeper};
 use listed::Listed;
 use mails::Durable;
@@ -18,14 +19,15 @@ type Answers = (
 );
 
 /// Agent a1, in this session of run 1.
-fn record(alloc: Global, session: u32) -> Option<Durable> {
-    Some(Durable {
+fn record(alloc: Global, session: u32) -> Option<Record> {
+    let parts = Durable {
         name: AgentName::from_text(alloc, "a1").ok()?,
         total: Resources::new(alloc),
         session,
         run: 1,
         tasks: Listed::new(alloc),
-    })
+    };
+    Record::of(alloc, parts).ok()?
 }
 
 // What the test makes of a keeper stands in these, which have it by reference and have no clause: so the proof of the test carries neither what a
@@ -38,7 +40,7 @@ fn save<S: Alter>(keeper: &mut Keeper<S>, alloc: Global, session: u32) -> Option
 /// The session of the record that is kept.
 fn load<S: Alter>(keeper: &mut Keeper<S>, alloc: Global) -> Found {
     let found = keeper.load(alloc)?;
-    Ok(found.map(|record| record.session))
+    Ok(found.map(|record| record.parts().session))
 }
 
 fn answers<S: Alter>(keeper: &mut Keeper<S>, alloc: Global) -> Answers {

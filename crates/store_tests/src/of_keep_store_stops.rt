@@ -1,6 +1,7 @@
 //! A keeper in memory whose database file or whose journal stops working after so many calls: what is found afterwards is the record
 //! before or the new one, and no run is given twice.
 
+use agent_core::Record;
 use keep_store::Keeper;
 use listed::Listed;
 use mails::Durable;
@@ -128,19 +129,20 @@ fn closed<D: Disk + Drop>(keeper: Keeper<FileStore<D>>) -> Files<D> {
     keeper.into_connection().into_store().close()
 }
 
-fn record(alloc: Global, session: u32) -> Option<Durable> {
-    Some(Durable {
+fn record(alloc: Global, session: u32) -> Option<Record> {
+    let parts = Durable {
         name: AgentName::from_text(alloc, "a1").ok()?,
         total: Resources::new(alloc),
         session,
         run: 1,
         tasks: Listed::new(alloc),
-    })
+    };
+    Record::of(alloc, parts).ok()?
 }
 
 /// The session of the record that is kept.
 fn load<S: Alter>(alloc: Global, keeper: &mut Keeper<S>) -> Option<u32> {
-    Some(keeper.load(alloc).ok()??.session)
+    Some(keeper.load(alloc).ok()??.parts().session)
 }
 
 fn save<S: Alter>(alloc: Global, keeper: &mut Keeper<S>, session: Option<u32>) -> bool {

@@ -2,4 +2,4 @@ use Rattle.cluster_core.proofs.Decided.{good_if, then_good}
 use Rattle.cluster_core.proofs.good_openings.openings_are_decided.Goals as goal
 
 pub returns : goal.returns
-returns c = record { good = good_if c.covers_is_at_least.ensures; tests = then_good c.covers_is_at_least.ensures }
+returns c = record { good = good_if; tests = then_good }

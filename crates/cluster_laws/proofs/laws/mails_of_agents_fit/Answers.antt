@@ -1,6 +1,6 @@
 use Rattle.cluster_model.specs.Steps.{history}
 use Rattle.cluster_laws.specs.declared.item.Item.TheVariants as items
-use Rattle.cluster_laws.proofs.Again.{fits_sides}
+use Rattle.cluster_laws.proofs.InOrder.{fits_sides}
 use Rattle.cluster_laws.proofs.Histories.{history_once}
 use Rattle.cluster_laws.proofs.Limits.{fits_record, history_roomy}
 use Rattle.cluster_laws.proofs.Posts.{post_for}

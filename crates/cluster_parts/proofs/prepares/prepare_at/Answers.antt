@@ -6,7 +6,7 @@ use Rattle.cluster_steps.specs.declared.entry.Verdict.TheVariants.{AgentRefused}
 use Rattle.mails.specs.declared.refusal.AgentRefusal.TheVariants.{NotForMe}
 use Rattle.cluster_parts.specs.Agents.{KeptAgent}
 use Rattle.cluster_parts.specs.Moves.{Makes, sending}
-use Rattle.cluster_parts.proofs.Preparing.{anew_at, at_kept, none_open, record_so, set_found, set_same}
+use Rattle.cluster_parts.proofs.Preparing.{in_order_at, at_kept, none_open, record_so, set_found, set_same}
 use Rattle.cluster_parts.proofs.prepares.prepare_at.Goals as goal
 
 pub returns-then-is_down-clause-refused : goal.returns-then-is_down-clause-refused
@@ -23,11 +23,11 @@ returns-then-has_draft-clause-refused g c = λ c' same stand.
     let k = at_kept c' as_ c.args.name.now c.args.place a same c.requires.place (slice_get-get_or as_ c.args.place c.index-agents-place.result c.requires.within) in
     inl (c.prepares_are_made.ensures.opened c' c.args.name.now c.args.place a (cause_of c.args.cause) k.0 k.1 (sym c.is_down.ensures ∙ c.if-is_down.false) (sym c.has_draft.ensures ∙ c.if-has_draft.true))
 
-pub draw-requires-clause-anew : goal.draw-requires-clause-anew
-draw-requires-clause-anew g c =
+pub draw-requires-clause-order : goal.draw-requires-clause-order
+draw-requires-clause-order g c =
     let as_ = c.args.agents.now in
     let a = get_or as_ c.args.place c.index-agents-place.result in
-    anew_at as_ c.args.items.now c.args.name.now c.args.cause c.in-Ok-Some.given c.args.place a c.requires.anew (c.in-Ok-Some.ensures ∙ ap Some c.in-Ok-Some.field-0-is) (slice_get-get_or as_ c.args.place c.index-agents-place.result c.requires.within)
+    in_order_at as_ c.args.items.now c.args.name.now c.args.cause c.in-Ok-Some.given c.args.place a c.requires.order (c.in-Ok-Some.ensures ∙ ap Some c.in-Ok-Some.field-0-is) (slice_get-get_or as_ c.args.place c.index-agents-place.result c.requires.within)
 
 pub returns-in-Ok-Some-clause-made : goal.returns-in-Ok-Some-clause-made
 returns-in-Ok-Some-clause-made g c = λ c' reached same stand.

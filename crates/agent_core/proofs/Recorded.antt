@@ -1,0 +1,213 @@
+-- What changes of an agent's tasks leave is a record.
+use Rattle.std.proofs.Common.{◌≡◌, ℕ, ◌+◌, ◌≤◌, ◌<◌, Bool, true, false, not, ◌&&◌, eqb, nat_le, List, [], ◌∷◌, ◌++◌, length, map, filter, Option, Some, None, refl, ap, inl, inr, arith}
+use Rattle.std.specs.Prelude.{if◌then◌else◌}
+use Rattle.std.specs.List.{AllByRecursion as Each, list_all, list_any}
+use Rattle.std.proofs.lemmas.Bool.{and_from, and_parts, cond_both, cases_Bool}
+use Rattle.std.proofs.lemmas.Bool.Decides.{nat_tests}
+use Rattle.std.proofs.Math.Bool.{and-false}
+use Rattle.std.proofs.lemmas.List.{length-map, length-append}
+use Rattle.std.proofs.lemmas.List.Folds.{list_all-append, list_any-append}
+use Rattle.names_core.specs.Ids.{Numbered}
+use Rattle.names_core.specs.declared.state.TaskState.{TaskState}
+use Rattle.names_core.specs.declared.state.TaskState.TheVariants.{Killed}
+use Rattle.names_core.specs.States.{is_terminal}
+use Rattle.quantity.specs.declared.rows.Row.{Row}
+use Rattle.quantity.specs.Rows.{amount, covers}
+use Rattle.quantity.specs.Laws.{AmountsAddUp, CoversIsAtLeast}
+use Rattle.stream_core.specs.Updates as updates
+use Rattle.stream_core.specs.Updates.{are_updates, is_done}
+use Rattle.mails.specs.declared.mail.Command.{Command}
+use Rattle.mails.specs.declared.mail.Command.TheVariants.{Launch, Kill, Ack, EndFramework}
+use Rattle.mails.specs.declared.record.Durable.{Durable}
+use Rattle.mails.specs.declared.record.RecordedTask.{RecordedTask}
+use Rattle.mails.specs.declared.task.Job.{Job}
+use Rattle.cluster_model.specs.Agents.{Agent, acknowledged, has_ended, has_room, is_task, launched_task, live_tasks, stated, task_rows, tasks_after, with_session}
+use Rattle.cluster_model.specs.Ids.{before, same}
+use Rattle.agent_core.specs.Drafts.{launches_in_order}
+use Rattle.agent_core.specs.Records.{has_begun, is_behind, is_record, keys_rise, none_is_done, rise_behind, with_other_tasks}
+
+-- launch keys
+
+before_both : (a b c : Numbered) → before a b ≡ true → before b c ≡ true → before a c ≡ true
+before_both a b c h k = grind (arith, nat_tests)
+
+behind_both : (last : Option Numbered) (a b : Numbered) → is_behind last a ≡ true → before a b ≡ true → is_behind last b ≡ true
+behind_both None a b h k = refl
+behind_both (Some last) a b h k = before_both last a b h k
+
+rise_earlier : (last : Option Numbered) (key : Numbered) (ts : List RecordedTask) → is_behind last key ≡ true → rise_behind (Some key) ts ≡ true → rise_behind last ts ≡ true
+rise_earlier last key [] h k = refl
+rise_earlier last key (t ∷ ts) h k =
+    let both = and_parts (before key t.job.key) (rise_behind (Some t.job.key) ts) k in
+    and_from (is_behind last t.job.key) (rise_behind (Some t.job.key) ts) (behind_both last key t.job.key h both.0) both.1
+
+rise_kept : (test : RecordedTask → Bool) (last : Option Numbered) (ts : List RecordedTask) → rise_behind last ts ≡ true → rise_behind last (filter test ts) ≡ true
+rise_kept test last [] h = refl
+rise_kept test last (t ∷ ts) h =
+    let both = and_parts (is_behind last t.job.key) (rise_behind (Some t.job.key) ts) h in
+    cond_both (test t) (t ∷ filter test ts) (filter test ts) (λ us. rise_behind last us ≡ true)
+    (λ e. and_from (is_behind last t.job.key) (rise_behind (Some t.job.key) (filter test ts)) both.0 (rise_kept test (Some t.job.key) ts both.1))
+    (λ e. rise_kept test last ts (rise_earlier last t.job.key ts both.0 both.1))
+
+rise_mapped : (change : RecordedTask → RecordedTask) (last : Option Numbered) (ts : List RecordedTask) → ((t : RecordedTask) → (change t).job ≡ t.job) → rise_behind last (map change ts) ≡ rise_behind last ts
+rise_mapped change last [] same_job = refl
+rise_mapped change last (t ∷ ts) same_job = rw (same_job t) (ap (λ rest. is_behind last t.job.key && rest) (rise_mapped change (Some t.job.key) ts same_job))
+
+rise_more : (last : Option Numbered) (ts : List RecordedTask) (t : RecordedTask) → rise_behind last ts ≡ true → is_behind last t.job.key ≡ true → list_all (λ u. before u.job.key t.job.key) ts ≡ true → rise_behind last (ts ++ t ∷ []) ≡ true
+rise_more last [] t h k all = and_from (is_behind last t.job.key) true k refl
+rise_more last (u ∷ ts) t h k all =
+    let both = and_parts (is_behind last u.job.key) (rise_behind (Some u.job.key) ts) h in
+    let behind = and_parts (before u.job.key t.job.key) (list_all (λ u. before u.job.key t.job.key) ts) all in
+    and_from (is_behind last u.job.key) (rise_behind (Some u.job.key) (ts ++ t ∷ [])) both.0 (rise_more (Some u.job.key) ts t both.1 behind.0 behind.1)
+
+-- tasks that aren't done
+
+kept_pass : (pass test : RecordedTask → Bool) (ts : List RecordedTask) → list_all pass ts ≡ true → list_all pass (filter test ts) ≡ true
+kept_pass pass test [] h = refl
+kept_pass pass test (t ∷ ts) h =
+    let both = and_parts (pass t) (list_all pass ts) h in
+    cond_both (test t) (t ∷ filter test ts) (filter test ts) (λ us. list_all pass us ≡ true)
+    (λ e. and_from (pass t) (list_all pass (filter test ts)) both.0 (kept_pass pass test ts both.1))
+    (λ e. kept_pass pass test ts both.1)
+
+filtered_pass : (test : RecordedTask → Bool) (ts : List RecordedTask) → list_all test (filter test ts) ≡ true
+filtered_pass test [] = refl
+filtered_pass test (t ∷ ts) =
+    cond_both (test t) (t ∷ filter test ts) (filter test ts) (λ us. list_all test us ≡ true)
+    (λ e. and_from (test t) (list_all test (filter test ts)) e (filtered_pass test ts))
+    (λ e. filtered_pass test ts)
+
+-- a state that comes isn't acknowledged
+pushed_is_not_done : (state : TaskState) (t : RecordedTask) → are_updates t.updates.states t.updates.acknowledged ≡ true → not (is_done (updates.pushed state t.updates)) ≡ true
+pushed_is_not_done state t h =
+    let parts = and_parts (updates.ends_last t.updates.states && nat_le t.updates.acknowledged (length t.updates.states)) (nat_le (length t.updates.states) (if list_any is_terminal t.updates.states then 4096 else 4095)) h in
+    let within = (and_parts (updates.ends_last t.updates.states) (nat_le t.updates.acknowledged (length t.updates.states)) parts.0).1 in
+    let more : length (t.updates.states ++ state ∷ []) ≡ length t.updates.states + 1 = length-append t.updates.states (state ∷ []) in
+    let e : nat_le (length (t.updates.states ++ state ∷ [])) t.updates.acknowledged ≡ false = rw more (grind (arith, nat_tests)) in
+    rw (e, and-false) refl
+
+stated_is_not_done : (key : Numbered) (state : TaskState) (t : RecordedTask) → are_updates t.updates.states t.updates.acknowledged ≡ true → not (is_done t.updates) ≡ true → not (is_done (stated key state t).updates) ≡ true
+stated_is_not_done key state t h k = cond_both (is_task key t && not (has_ended t)) (record { job = t.job; offers = t.offers; updates = updates.pushed state t.updates }) t (λ u. not (is_done u.updates) ≡ true) (λ e. pushed_is_not_done state t h) (λ e. k)
+
+stated_are_not_done : (key : Numbered) (state : TaskState) (ts : List RecordedTask) → Each (λ t. are_updates t.updates.states t.updates.acknowledged ≡ true) ts → none_is_done ts ≡ true → none_is_done (map (stated key state) ts) ≡ true
+stated_are_not_done key state [] each h = refl
+stated_are_not_done key state (t ∷ ts) each h =
+    let both = and_parts (not (is_done t.updates)) (none_is_done ts) h in
+    and_from (not (is_done (stated key state t).updates)) (none_is_done (map (stated key state) ts)) (stated_is_not_done key state t each.0 both.0) (stated_are_not_done key state ts each.1 both.1)
+
+-- what live tasks have
+
+-- how much of a name the live tasks have
+abbrev held : List ℕ → List RecordedTask → ℕ
+held name ts = amount name (task_rows (live_tasks ts))
+
+held-cons : (name : List ℕ) (t : RecordedTask) (ts : List RecordedTask) → AmountsAddUp → held name (t ∷ ts) ≡ (if has_ended t then held name ts else amount name t.job.resources + held name ts)
+held-cons name t ts laws = elim (cases_Bool (has_ended t)) [ inl e ↦ rw e refl | inr e ↦ rw e (laws name t.job.resources (task_rows (live_tasks ts))) ]
+
+held_more : (name : List ℕ) (ts : List RecordedTask) (t : RecordedTask) → AmountsAddUp → has_ended t ≡ false → held name (ts ++ t ∷ []) ≡ amount name t.job.resources + held name ts
+held_more name [] t laws e = rw (held-cons name t [] laws, e) refl
+held_more name (u ∷ ts) t laws e = elim (cases_Bool (has_ended u)) [ inl d ↦ rw (held-cons name u ts laws, held-cons name u (ts ++ t ∷ []) laws, d) (held_more name ts t laws e) | inr d ↦ rw (held-cons name u ts laws, held-cons name u (ts ++ t ∷ []) laws, d) (omega (arith, held_more name ts t laws e)) ]
+
+held_kept : (name : List ℕ) (test : RecordedTask → Bool) (ts : List RecordedTask) → AmountsAddUp → held name (filter test ts) ≤ held name ts
+held_kept name test [] laws = omega arith
+held_kept name test (t ∷ ts) laws = cond_both (test t) (t ∷ filter test ts) (filter test ts) (λ us. held name us ≤ held name (t ∷ ts)) (λ e. kept (held_kept name test ts laws)) (λ e. left (held_kept name test ts laws))
+  where
+    left : held name (filter test ts) ≤ held name ts → held name (filter test ts) ≤ held name (t ∷ ts)
+    left rest = rw (held-cons name t ts laws) (cond_both (has_ended t) (held name ts) (amount name t.job.resources + held name ts) (λ n. held name (filter test ts) ≤ n) (λ e. rest) (λ e. omega (arith, rest)))
+
+    kept : held name (filter test ts) ≤ held name ts → held name (t ∷ filter test ts) ≤ held name (t ∷ ts)
+    kept rest = elim (cases_Bool (has_ended t)) [ inl d ↦ rw (held-cons name t ts laws, held-cons name t (filter test ts) laws, d) rest | inr d ↦ rw (held-cons name t ts laws, held-cons name t (filter test ts) laws, d) (omega (arith, rest)) ]
+
+-- tasks that are changed stay the same jobs, and don't live again
+held_mapped : (name : List ℕ) (change : RecordedTask → RecordedTask) (ts : List RecordedTask) → AmountsAddUp → ((t : RecordedTask) → (((change t).job ≡ t.job) × (has_ended t ≡ true → has_ended (change t) ≡ true))) → held name (map change ts) ≤ held name ts
+held_mapped name change [] laws keeps = omega arith
+held_mapped name change (t ∷ ts) laws keeps = elim (cases_Bool (has_ended t)) [ inl d ↦ ended d (held_mapped name change ts laws keeps) | inr d ↦ live d (held_mapped name change ts laws keeps) ]
+  where
+    ended : has_ended t ≡ true → held name (map change ts) ≤ held name ts → held name (map change (t ∷ ts)) ≤ held name (t ∷ ts)
+    ended d rest = rw (held-cons name t ts laws, held-cons name (change t) (map change ts) laws, d, (keeps t).1 d) rest
+
+    live : has_ended t ≡ false → held name (map change ts) ≤ held name ts → held name (map change (t ∷ ts)) ≤ held name (t ∷ ts)
+    live d rest = rw (held-cons name t ts laws, held-cons name (change t) (map change ts) laws, d, (keeps t).0) (cond_both (has_ended (change t)) (held name (map change ts)) (amount name t.job.resources + held name (map change ts)) (λ n. n ≤ amount name t.job.resources + held name ts) (λ e. omega (arith, rest)) (λ e. omega (arith, rest)))
+
+covers_less : (total : List Row) (ts us : List RecordedTask) → CoversIsAtLeast → covers total (task_rows (live_tasks ts)) ≡ true → ((name : List ℕ) → held name us ≤ held name ts) → covers total (task_rows (live_tasks us)) ≡ true
+covers_less total ts us laws h less = (laws total (task_rows (live_tasks us))).1 (λ name. let least = (laws total (task_rows (live_tasks ts))).0 h name in omega (arith, least, less name))
+
+-- what comes to tasks
+
+stated_keeps : (key : Numbered) (state : TaskState) (t : RecordedTask) → ((stated key state t).job ≡ t.job) × (has_ended t ≡ true → has_ended (stated key state t) ≡ true)
+stated_keeps key state t = cond_both (is_task key t && not (has_ended t)) (record { job = t.job; offers = t.offers; updates = updates.pushed state t.updates }) t (λ u. (u.job ≡ t.job) × (has_ended t ≡ true → has_ended u ≡ true)) (λ e. (refl, λ d. rw (list_any-append is_terminal t.updates.states (state ∷ []), d) refl)) (λ e. (refl, λ d. d))
+
+acknowledged_keeps : (key : Numbered) (k : ℕ) (t : RecordedTask) → ((acknowledged key k t).job ≡ t.job) × (has_ended t ≡ true → has_ended (acknowledged key k t) ≡ true)
+acknowledged_keeps key k t = cond_both (is_task key t && updates.is_front k t.updates) (record { job = t.job; offers = t.offers; updates = updates.acknowledged_one t.updates }) t (λ u. (u.job ≡ t.job) × (has_ended t ≡ true → has_ended u ≡ true)) (λ e. (refl, λ d. d)) (λ e. (refl, λ d. d))
+
+-- records
+
+-- what is_record says
+record Parts (d : Durable) : Type 0 where
+  rise : keys_rise d.tasks ≡ true
+  not_done : none_is_done d.tasks ≡ true
+  begun : has_begun d ≡ true
+  fit : covers d.total (task_rows (live_tasks d.tasks)) ≡ true
+
+parts_of : (d : Durable) → is_record d ≡ true → Parts d
+parts_of d h =
+    let fits = and_parts (keys_rise d.tasks && none_is_done d.tasks && has_begun d) (covers d.total (task_rows (live_tasks d.tasks))) h in
+    let begun = and_parts (keys_rise d.tasks && none_is_done d.tasks) (has_begun d) fits.0 in
+    let rise = and_parts (keys_rise d.tasks) (none_is_done d.tasks) begun.0 in
+    record { rise = rise.0; not_done = rise.1; begun = begun.1; fit = fits.1 }
+
+record_from : (d : Durable) → keys_rise d.tasks ≡ true → none_is_done d.tasks ≡ true → has_begun d ≡ true → covers d.total (task_rows (live_tasks d.tasks)) ≡ true → is_record d ≡ true
+record_from d rise not_done begun fit = and_from (keys_rise d.tasks && none_is_done d.tasks && has_begun d) (covers d.total (task_rows (live_tasks d.tasks))) (and_from (keys_rise d.tasks && none_is_done d.tasks) (has_begun d) (and_from (keys_rise d.tasks) (none_is_done d.tasks) rise not_done) begun) fit
+
+begun_above : (d : Durable) → 0 < d.run → has_begun d ≡ true
+begun_above d h = let e : eqb d.run 0 ≡ false = grind (arith, nat_tests) in rw e refl
+
+begun_mapped : (d : Durable) (change : RecordedTask → RecordedTask) → has_begun d ≡ true → has_begun (with_other_tasks d (map change d.tasks)) ≡ true
+begun_mapped d change h = rw (length-map d.tasks change) h
+
+pub session_recorded : (d : Durable) (session run : ℕ) → is_record d ≡ true → 0 < run → is_record (with_session d session run) ≡ true
+session_recorded d session run h above =
+    let p = parts_of d h in
+    record_from (with_session d session run) p.rise p.not_done (begun_above (with_session d session run) above) p.fit
+
+pub stated_recorded : (d : Durable) (key : Numbered) (state : TaskState) → AmountsAddUp → CoversIsAtLeast → Each (λ t. are_updates t.updates.states t.updates.acknowledged ≡ true) d.tasks → is_record d ≡ true → is_record (with_other_tasks d (map (stated key state) d.tasks)) ≡ true
+stated_recorded d key state sums covering each h =
+    let p = parts_of d h in
+    record_from (with_other_tasks d (map (stated key state) d.tasks))
+    (rw (rise_mapped (stated key state) None d.tasks (λ t. (stated_keeps key state t).0)) p.rise)
+    (stated_are_not_done key state d.tasks each p.not_done)
+    (begun_mapped d (stated key state) p.begun)
+    (covers_less d.total d.tasks (map (stated key state) d.tasks) covering p.fit (λ name. held_mapped name (stated key state) d.tasks sums (stated_keeps key state)))
+
+acknowledged_recorded : (d : Durable) (key : Numbered) (k : ℕ) → AmountsAddUp → CoversIsAtLeast → is_record d ≡ true → 0 < d.run → is_record (with_other_tasks d (tasks_after (Ack key k) d.tasks)) ≡ true
+acknowledged_recorded d key k sums covering h above =
+    let p = parts_of d h in
+    record_from (with_other_tasks d (tasks_after (Ack key k) d.tasks))
+    (rise_kept (λ t. not (is_done t.updates)) None (map (acknowledged key k) d.tasks) (rw (rise_mapped (acknowledged key k) None d.tasks (λ t. (acknowledged_keeps key k t).0)) p.rise))
+    (filtered_pass (λ t. not (is_done t.updates)) (map (acknowledged key k) d.tasks))
+    (begun_above (with_other_tasks d (tasks_after (Ack key k) d.tasks)) above)
+    (covers_less d.total d.tasks (tasks_after (Ack key k) d.tasks) covering p.fit (λ name. let kept = held_kept name (λ t. not (is_done t.updates)) (map (acknowledged key k) d.tasks) sums in let mapped = held_mapped name (acknowledged key k) d.tasks sums (acknowledged_keeps key k) in omega (arith, kept, mapped)))
+
+kept_recorded : (d : Durable) (test : RecordedTask → Bool) → AmountsAddUp → CoversIsAtLeast → is_record d ≡ true → 0 < d.run → is_record (with_other_tasks d (filter test d.tasks)) ≡ true
+kept_recorded d test sums covering h above =
+    let p = parts_of d h in
+    record_from (with_other_tasks d (filter test d.tasks))
+    (rise_kept test None d.tasks p.rise)
+    (kept_pass (λ t. not (is_done t.updates)) test d.tasks p.not_done)
+    (begun_above (with_other_tasks d (filter test d.tasks)) above)
+    (covers_less d.total d.tasks (filter test d.tasks) covering p.fit (λ name. held_kept name test d.tasks sums))
+
+launched_recorded : (d : Durable) (job : Job) (offers : List Numbered) → AmountsAddUp → CoversIsAtLeast → is_record d ≡ true → 0 < d.run → covers d.total (job.resources ++ task_rows (live_tasks d.tasks)) ≡ true → list_all (λ t. before t.job.key job.key) d.tasks ≡ true → is_record (with_other_tasks d (d.tasks ++ launched_task job offers ∷ [])) ≡ true
+launched_recorded d job offers sums covering h above room order =
+    let p = parts_of d h in
+    record_from (with_other_tasks d (d.tasks ++ launched_task job offers ∷ []))
+    (rise_more None d.tasks (launched_task job offers) p.rise refl order)
+    (rw (list_all-append (λ t. not (is_done t.updates)) d.tasks (launched_task job offers ∷ []), p.not_done) refl)
+    (begun_above (with_other_tasks d (d.tasks ++ launched_task job offers ∷ [])) above)
+    ((covering d.total (task_rows (live_tasks (d.tasks ++ launched_task job offers ∷ [])))).1 (λ name. let least = (covering d.total (job.resources ++ task_rows (live_tasks d.tasks))).0 room name in omega (arith, least, sums name job.resources (task_rows (live_tasks d.tasks)), held_more name d.tasks (launched_task job offers) sums refl)))
+
+pub command_recorded : (a : Agent) (command : Command) → AmountsAddUp → CoversIsAtLeast → Each (λ t. are_updates t.updates.states t.updates.acknowledged ≡ true) a.durable.tasks → is_record a.durable ≡ true → 0 < a.durable.run → has_room a command ≡ true → launches_in_order a command ≡ true → is_record (with_other_tasks a.durable (tasks_after command a.durable.tasks)) ≡ true
+command_recorded a (Launch job offers) sums covering each h above room order = launched_recorded a.durable job offers sums covering h above room order
+command_recorded a (Kill key) sums covering each h above room order = stated_recorded a.durable key Killed sums covering each h
+command_recorded a (Ack key k) sums covering each h above room order = acknowledged_recorded a.durable key k sums covering h above
+command_recorded a (EndFramework framework) sums covering each h above room order = kept_recorded a.durable (λ t. not (same t.job.framework framework)) sums covering h above
