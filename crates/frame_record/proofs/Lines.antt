@@ -12,7 +12,7 @@ use Rattle.std.proofs.lemmas.Bool.Decides.{nat_tests}
 use Rattle.frame_record.specs.declared.fault.FrameFault.{FrameFault}
 use Rattle.frame_record.specs.declared.fault.FrameFault.TheVariants.{BadSize}
 use Rattle.frame_record.specs.Records.{faulty, judged, first, limit, partial, Splits}
-use Rattle.frame_record.specs.Firsts.{IsOpenLine, IsSizeLine, Stands, item_of}
+use Rattle.frame_record.specs.Firsts.{IsOpenLine, IsSizeLine, IsUnfinished, item_of}
 use Rattle.frame_record.proofs.Firsts.{digits_are_digits, digits_in_front}
 use Rattle.frame_record.proofs.Splitting.{digits_step, first_of_parts, front, stop_is_no_digit, too_many}
 
@@ -38,59 +38,79 @@ front_of_digits (x ∷ xs) h =
 pub front_within : (text : List ℕ) → length (front text) ≤ length text
 front_within text = omega (arith, ap length (digits_in_front text), length-take (length (front text)) text)
 
--- ---- what a piece brings
+-- ---- what a size line takes
 
 -- digits that the line may have
-pub open_more : (old near : List ℕ) → IsOpenLine old → length old + length (front near) ≤ 20 → IsOpenLine (old ++ front near)
-open_more old near going short = record { short = omega (arith, length-append old (front near)); digits_only = all_more old (front near) going.digits_only (digits_are_digits near) }
+pub open_more : (old bytes : List ℕ) → IsOpenLine old → length old + length (front bytes) ≤ 20 → IsOpenLine (old ++ front bytes)
+open_more old bytes going short = record { short = omega (arith, length-append old (front bytes)); digits_only = all_more old (front bytes) going.digits_only (digits_are_digits bytes) }
 
 -- a twenty-first digit
 first_of_many : (text : List ℕ) → all_ascii_digits text ≡ true → 20 < length text → first text ≡ faulty BadSize
 unfolding first
 first_of_many text only many = too_many (front text) (drop (length (front text)) text) (rw (front_of_digits text only) many)
 
-pub too_long : (old near : List ℕ) (n : ℕ) → IsOpenLine old → n + length old ≡ 21 → n ≤ length (front near) → first (old ++ take n near) ≡ faulty BadSize
-too_long old near n going is_n fits =
-    let few : take n (front near) ≡ take n near = ap (take n) (sym (digits_in_front near)) ∙ take-take n (length (front near)) near fits in
-    let only : all_ascii_digits (take n near) ≡ true = rw (← few) (all_taken n (front near) (digits_are_digits near)) in
-    let size : length (old ++ take n near) ≡ 21 = omega (arith, length-append old (take n near), length-take n near, front_within near) in
-    first_of_many (old ++ take n near) (all_more old (take n near) going.digits_only only) (omega arith)
+-- so many of the digits in front
+taken_of_front : (bytes : List ℕ) (n : ℕ) → n ≤ length (front bytes) → take n (front bytes) ≡ take n bytes
+taken_of_front bytes n fits = ap (take n) (sym (digits_in_front bytes)) ∙ take-take n (length (front bytes)) bytes fits
+
+pub open_taken : (old bytes : List ℕ) (n : ℕ) → IsOpenLine old → n ≤ length (front bytes) → length old + n ≤ 20 → IsOpenLine (old ++ take n bytes)
+open_taken old bytes n going fits few =
+    let only : all_ascii_digits (take n bytes) ≡ true = rw (← taken_of_front bytes n fits) (all_taken n (front bytes) (digits_are_digits bytes)) in
+    record {
+      short = omega (arith, length-append old (take n bytes), length-take n bytes, front_within bytes);
+      digits_only = all_more old (take n bytes) going.digits_only only;
+    }
+
+-- before the byte behind the digits
+pub open_before : (old bytes digits : List ℕ) (k : ℕ) → k ≡ length (front bytes) → digits ≡ old ++ front bytes → IsOpenLine digits → IsOpenLine (old ++ take (k + 1 - 1) bytes)
+open_before old bytes digits k is_k is going =
+    let P : List ℕ → Type 0 = λ t. IsOpenLine t in
+    let before : k + 1 - 1 ≡ k = omega arith in
+    let digits_of : take k bytes ≡ front bytes = rw is_k (digits_in_front bytes) in
+    let all : take (k + 1 - 1) bytes ≡ front bytes = ap (λ (n : ℕ). take n bytes) before ∙ digits_of in
+    subst P (is ∙ ap (λ (t : List ℕ). old ++ t) (sym all)) going
+
+pub too_long : (old bytes : List ℕ) (n : ℕ) → IsOpenLine old → n + length old ≡ 21 → n ≤ length (front bytes) → first (old ++ take n bytes) ≡ faulty BadSize
+too_long old bytes n going is_n fits =
+    let only : all_ascii_digits (take n bytes) ≡ true = rw (← taken_of_front bytes n fits) (all_taken n (front bytes) (digits_are_digits bytes)) in
+    let size : length (old ++ take n bytes) ≡ 21 = omega (arith, length-append old (take n bytes), length-take n bytes, front_within bytes) in
+    first_of_many (old ++ take n bytes) (all_more old (take n bytes) going.digits_only only) (omega arith)
 
 -- the byte behind the digits
-pub behind_digits : (near : List ℕ) (k : ℕ) → k ≡ length (front near) → k < length near → take (k + 1) near ≡ front near ++ get_or near k 0 ∷ []
-behind_digits near k is_k inside = take_more near k 0 inside ∙ ap (λ (t : List ℕ). t ++ get_or near k 0 ∷ []) (rw is_k (digits_in_front near))
+pub behind_digits : (bytes : List ℕ) (k : ℕ) → k ≡ length (front bytes) → k < length bytes → take (k + 1) bytes ≡ front bytes ++ get_or bytes k 0 ∷ []
+behind_digits bytes k is_k inside = take_more bytes k 0 inside ∙ ap (λ (t : List ℕ). t ++ get_or bytes k 0 ∷ []) (rw is_k (digits_in_front bytes))
 
-pub is_no_digit : (near : List ℕ) (k : ℕ) → k ≡ length (front near) → k < length near → is_ascii_digit (get_or near k 0) ≡ false
-is_no_digit near k is_k inside = stop_is_no_digit near (get_or near k 0) (drop (k + 1) near) (rw (← is_k) (drop_more near k 0 inside))
+pub is_no_digit : (bytes : List ℕ) (k : ℕ) → k ≡ length (front bytes) → k < length bytes → is_ascii_digit (get_or bytes k 0) ≡ false
+is_no_digit bytes k is_k inside = stop_is_no_digit bytes (get_or bytes k 0) (drop (k + 1) bytes) (rw (← is_k) (drop_more bytes k 0 inside))
 
-pub ended : (old near : List ℕ) (k : ℕ) → k ≡ length (front near) → k < length near → (old ++ front near) ++ get_or near k 0 ∷ [] ≡ old ++ take (k + 1) near
-ended old near k is_k inside = append_assoc old (front near) (get_or near k 0 ∷ []) ∙ ap (λ (t : List ℕ). old ++ t) (sym (behind_digits near k is_k inside))
+pub ended : (old bytes : List ℕ) (k : ℕ) → k ≡ length (front bytes) → k < length bytes → (old ++ front bytes) ++ get_or bytes k 0 ∷ [] ≡ old ++ take (k + 1) bytes
+ended old bytes k is_k inside = append_assoc old (front bytes) (get_or bytes k 0 ∷ []) ∙ ap (λ (t : List ℕ). old ++ t) (sym (behind_digits bytes k is_k inside))
 
-pub first_of_ended : (digits : List ℕ) (near : List ℕ) (k : ℕ) → all_ascii_digits digits ≡ true → k ≡ length (front near) → k < length near
-    → first (digits ++ get_or near k 0 ∷ []) ≡ judged digits (get_or near k 0 ∷ [])
-first_of_ended digits near k only is_k inside = first_of_parts digits (get_or near k 0) [] only (is_no_digit near k is_k inside)
+pub first_of_ended : (digits : List ℕ) (bytes : List ℕ) (k : ℕ) → all_ascii_digits digits ≡ true → k ≡ length (front bytes) → k < length bytes
+    → first (digits ++ get_or bytes k 0 ∷ []) ≡ judged digits (get_or bytes k 0 ∷ [])
+first_of_ended digits bytes k only is_k inside = first_of_parts digits (get_or bytes k 0) [] only (is_no_digit bytes k is_k inside)
 
-pub all_digits : (near : List ℕ) (k : ℕ) → k ≡ length (front near) → length near ≤ k → front near ≡ near
-all_digits near k is_k all = sym (rw is_k (digits_in_front near)) ∙ take_all k near all
+pub all_digits : (bytes : List ℕ) (k : ℕ) → k ≡ length (front bytes) → length bytes ≤ k → front bytes ≡ bytes
+all_digits bytes k is_k all = sym (rw is_k (digits_in_front bytes)) ∙ take_all k bytes all
 
 -- a line and the byte that ends it, as a piece brought them
-pub line_taken : (old near digits after new : List ℕ) (k : ℕ) → k ≡ length (front near) → 0 < length after → after ≡ drop k near → digits ≡ old ++ front near → new ≡ digits ++ get_or after 0 0 ∷ []
-    → (k + 1 ≤ length near) × (new ≡ old ++ take (k + 1) near) × (get_or after 0 0 ≡ get_or near k 0)
-line_taken old near digits after new k is_k some is_after is_digits is_new =
-    let inside : k < length near = omega (arith, ap length is_after, length-drop k near) in
-    let stop : get_or after 0 0 ≡ get_or near k 0 = rw is_after (get_or-drop k near 0 0 ∙ rw add-zero refl) in
-    (omega arith, rw (is_new, is_digits, stop) (ended old near k is_k inside), stop)
+pub line_taken : (old bytes digits after new : List ℕ) (k : ℕ) → k ≡ length (front bytes) → 0 < length after → after ≡ drop k bytes → digits ≡ old ++ front bytes → new ≡ digits ++ get_or after 0 0 ∷ []
+    → (k + 1 ≤ length bytes) × (new ≡ old ++ take (k + 1) bytes) × (get_or after 0 0 ≡ get_or bytes k 0)
+line_taken old bytes digits after new k is_k some is_after is_digits is_new =
+    let inside : k < length bytes = omega (arith, ap length is_after, length-drop k bytes) in
+    let stop : get_or after 0 0 ≡ get_or bytes k 0 = rw is_after (get_or-drop k bytes 0 0 ∙ rw add-zero refl) in
+    (omega arith, rw (is_new, is_digits, stop) (ended old bytes k is_k inside), stop)
 
-pub fault_taken : (old near digits after new : List ℕ) (k : ℕ) (f : FrameFault) → all_ascii_digits digits ≡ true → k ≡ length (front near) → 0 < length after → after ≡ drop k near → digits ≡ old ++ front near → new ≡ digits ++ get_or after 0 0 ∷ []
-    → judged digits (get_or after 0 0 ∷ []) ≡ faulty f → (k + 1 ≤ length near) × (new ≡ old ++ take (k + 1) near) × (first new ≡ faulty f)
-fault_taken old near digits after new k f only is_k some is_after is_digits is_new judgement =
-    let taken = line_taken old near digits after new k is_k some is_after is_digits is_new in
+pub fault_taken : (old bytes digits after new : List ℕ) (k : ℕ) (f : FrameFault) → all_ascii_digits digits ≡ true → k ≡ length (front bytes) → 0 < length after → after ≡ drop k bytes → digits ≡ old ++ front bytes → new ≡ digits ++ get_or after 0 0 ∷ []
+    → judged digits (get_or after 0 0 ∷ []) ≡ faulty f → (k + 1 ≤ length bytes) × (new ≡ old ++ take (k + 1) bytes) × (first new ≡ faulty f)
+fault_taken old bytes digits after new k f only is_k some is_after is_digits is_new judgement =
+    let taken = line_taken old bytes digits after new k is_k some is_after is_digits is_new in
     let same = ap (λ (b : ℕ). digits ++ b ∷ []) taken.2 in
-    (taken.0, taken.1, ap first (is_new ∙ same) ∙ (first_of_ended digits near k only is_k (omega (arith, taken.0)) ∙ (ap (λ (b : ℕ). judged digits (b ∷ [])) (sym taken.2) ∙ judgement)))
+    (taken.0, taken.1, ap first (is_new ∙ same) ∙ (first_of_ended digits bytes k only is_k (omega (arith, taken.0)) ∙ (ap (λ (b : ℕ). judged digits (b ∷ [])) (sym taken.2) ∙ judgement)))
 
 -- ---- what waits is no whole record, and no fault
 
-first_of_open : (line : List ℕ) → IsOpenLine line → first line ≡ partial
+pub first_of_open : (line : List ℕ) → IsOpenLine line → first line ≡ partial
 unfolding first
 first_of_open line going =
     let same = front_of_digits line going.digits_only in
@@ -108,7 +128,7 @@ first_of_body line size body is_line missing =
     let judgement = judged_partly digits body is_size.some is_size.short (rw value (omega (arith, is_size.within))) (rw value is_size.within) (rw value missing) in
     ap first text ∙ (first_of_parts digits 10 body is_size.digits_only refl ∙ judgement)
 
-pub first_of_part : (line : List ℕ) (size : Option ℕ) (body : List ℕ) → Stands line size body → first (line ++ body) ≡ partial
+pub first_of_part : (line : List ℕ) (size : Option ℕ) (body : List ℕ) → IsUnfinished line size body → first (line ++ body) ≡ partial
 first_of_part line None body stands = rw (stands.1, append-nil line) (first_of_open line stands.0)
 first_of_part line (Some size) body stands = first_of_body line size body stands.0 stands.1
 

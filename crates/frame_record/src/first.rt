@@ -5,7 +5,7 @@ ghost use Rattle.std.specs.Char.{is_ascii_digit};
 ghost use Rattle.std.specs.Str.{all_ascii_digits};
 ghost use Rattle.std.specs.Str.Parse.{digits_value};
 ghost use Rattle.frame_record.specs.Records.{IsSize, judged, faulty};
-ghost use Rattle.frame_record.specs.Firsts.{IsOpenLine, Brings};
+ghost use Rattle.frame_record.specs.Firsts.{IsOpenLine, TakesLine};
 
 use crate::fault::FrameFault;
 use std::alloc::AllocError;
@@ -13,7 +13,7 @@ use std::alloc::AllocError;
 /// The most data bytes of a record.
 pub const LIMIT: u64 = 1_048_576;
 
-/// What a piece brought to a size line.
+/// What a size line takes of a piece.
 #[derive(Clone, Copy, Debug, PartialEq, Eq)]
 pub enum Line {
     /// All of it belongs to the line, which may go on.
@@ -67,21 +67,21 @@ fn size_of(digits: &[u8], stop: u8) -> Result<usize, FrameFault>
 
 /// Takes the next bytes of a size line, up to its end or the byte that makes it a fault: `F1` and
 /// `F2` as `size_of` says, and `F1` for a twenty-first digit.
-fn take_near(line: &mut Vec<u8>, near: &[u8]) -> Result<Line, AllocError>
+fn extend_line(line: &mut Vec<u8>, bytes: &[u8]) -> Result<Line, AllocError>
     requires { IsOpenLine line.old.items }
-    ensures { IfOk result (λ brought. Brings line.old.items near.now line.new.items brought) }
+    ensures { IfOk result (λ taken. TakesLine line.old.items bytes.now line.new.items taken) }
 {
-    let more = count_digits(near);
+    let more = count_digits(bytes);
     let count = line.len() + more;
     if count > 20 {
         let taken = 21 - line.len();
-        line.extend_from_slice(&near[..taken])?;
+        line.extend_from_slice(&bytes[..taken])?;
         return Ok(Line::Faulty {
             taken,
             fault: FrameFault::BadSize,
         });
     }
-    let (digits, after) = near.split_at(more);
+    let (digits, after) = bytes.split_at(more);
     line.extend_from_slice(digits)?;
     let [stop, ..] = after else {
         return Ok(Line::Partial);
@@ -95,11 +95,11 @@ fn take_near(line: &mut Vec<u8>, near: &[u8]) -> Result<Line, AllocError>
     }
 }
 
-/// Takes the next bytes of a size line, as `take_near` says; it looks at no more than 21 of them.
+/// Takes the next bytes of a size line, as `extend_line` says; it looks at no more than 21 of them.
 pub fn take_line(line: &mut Vec<u8>, piece: &[u8]) -> Result<Line, AllocError>
     requires { IsOpenLine line.old.items }
-    ensures { IfOk result (λ brought. Brings line.old.items piece.now line.new.items brought) }
+    ensures { IfOk result (λ taken. TakesLine line.old.items piece.now line.new.items taken) }
 {
-    let near = &piece[..piece.len().min(21)];
-    take_near(line, near)
+    let bytes = &piece[..piece.len().min(21)];
+    extend_line(line, bytes)
 }

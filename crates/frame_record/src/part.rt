@@ -1,8 +1,8 @@
 //! The record that has come in part.
 
 ghost use Rattle.std.specs.Prelude.{◌≡◌, ◌≤◌, ◌<◌, ◌+◌, ◌-◌, ◌*◌, ◌++◌, ◌↔◌, [], None, Some, length, max, min, take, drop, vec_capacity, IfOk, IfSome, IsTrue, OnOk, MatchOption};
-ghost use Rattle.frame_record.specs.Records.{Splits, first};
-ghost use Rattle.frame_record.specs.Firsts.{IsPart, IsSizeLine, Reaches, item_of, stop, text_of};
+ghost use Rattle.frame_record.specs.Records.{Splits, first, partial};
+ghost use Rattle.frame_record.specs.Firsts.{IsPart, IsSizeLine, TakesPartLine, item_of, stop, text_of};
 
 use crate::fault::FrameFault;
 use crate::first::{Line, take_line};
@@ -78,10 +78,10 @@ impl Part {
         self.line.is_empty() && self.body.is_empty()
     }
 
-    /// Takes what a piece brings to the size line, if that isn't whole.
-    fn reach(&mut self, piece: &[u8]) -> Result<Line, AllocError>
+    /// Takes the next bytes of the size line, if that isn't whole.
+    fn take_line(&mut self, piece: &[u8]) -> Result<Line, AllocError>
         requires { IsPart self.old }
-        ensures { IfOk result (λ line. Reaches self.old piece.now self.new line) }
+        ensures { IfOk result (λ line. TakesPartLine self.old piece.now self.new line) }
     {
         match self.size {
             Some(size) => Ok(Line::Whole { taken: 0, size }),
@@ -155,8 +155,10 @@ impl Part {
         ensures item { IfOk result (λ pulled.
             MatchOption pulled.item (pulled.fault ≡ None → pulled.taken ≡ length piece.now)
             (λ item. (text_of self.new ≡ []) × (0 < pulled.taken) × (pulled.fault ≡ None))) }
+        ensures last { IfOk result (λ pulled. IfSome pulled.fault (λ fault. (0 < pulled.taken)
+            × (first (text_of self.old ++ take (pulled.taken - 1) piece.now) ≡ partial))) }
     {
-        match self.reach(piece)? {
+        match self.take_line(piece)? {
             Line::Partial => Ok(Pulled {
                 taken: piece.len(),
                 item: None,

@@ -1,6 +1,6 @@
 //! A reader that is fed a stream in pieces.
 
-ghost use Rattle.std.specs.Prelude.{◌≡◌, ◌≤◌, ◌<◌, ◌+◌, ◌++◌, [], List, ℕ, None, Some, Err, length, take, IfOk, IfErr, IfSome, MatchOption};
+ghost use Rattle.std.specs.Prelude.{◌≡◌, ◌≤◌, ◌<◌, ◌+◌, ◌-◌, ◌++◌, [], List, ℕ, None, Some, Err, length, take, IfOk, IfErr, IfSome, MatchOption};
 ghost use Rattle.frame_record.specs.Records.{State, Reads, partial, first, limit, end_of};
 ghost use Rattle.frame_record.specs.Firsts.{bodies, item_of};
 ghost use Rattle.frame_record.specs.declared.fault.FrameFault.{FrameFault};
@@ -82,6 +82,10 @@ impl Reader {
             MatchOption pulled.item (pulled.fault ≡ None → pulled.taken ≡ length piece.now)
             (λ item. (self.new.rest ≡ []) × (0 < pulled.taken) × (pulled.fault ≡ None))) }
         ensures fault { IfOk result (λ pulled. pulled.fault ≡ self.new.fault) }
+        // The last byte that is taken makes it a fault: before it the record might have gone on.
+        ensures last { self.old.fault ≡ None → IfOk result (λ pulled.
+            IfSome pulled.fault (λ f. (0 < pulled.taken)
+            × (first (self.old.rest ++ take (pulled.taken - 1) piece.now) ≡ partial))) }
         ensures stays { IfSome self.old.fault (λ f. self.new.fault ≡ Some f) }
         ensures none { IfOk result (λ pulled.
             IfSome self.old.fault (λ f. (pulled.taken ≡ 0) × (pulled.item ≡ None))) }
