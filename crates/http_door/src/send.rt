@@ -11,11 +11,8 @@ use crate::outlet::Outlet;
 use crate::refusal::Refusal;
 use event_json::{Event, write_event};
 use http_request::LinkFault;
-use http_text::{chunk_front, event_chunk, refusal_response};
+use http_text::{refusal_response, size_lines};
 use std::alloc::Global;
-
-/// The most bytes of an event's text that are copied behind their front, so that the chunk goes out in one write.
-const SMALL: usize = 4000;
 
 /// Writes a text whole.
 pub fn send<O: Outlet>(outlet: &mut O, text: &[u8]) -> Result<(), LinkFault>
@@ -47,39 +44,57 @@ pub fn refuse<O: Outlet>(alloc: Global, outlet: &mut O, refusal: Refusal) -> Res
     }
 }
 
-/// Writes a chunk that is too long to be copied, in three parts.
-fn send_parts<O: Outlet>(outlet: &mut O, front: &[u8], text: &[u8]) -> Result<(), LinkFault>
+/// Writes a text and a line end.
+fn send_line<O: Outlet>(outlet: &mut O, text: &[u8]) -> Result<(), LinkFault>
     requires { O.faults outlet.old < u64.MAX }
-    ensures sent { (sent : List ℕ) × O.writes outlet.old sent outlet.new × Sends result (front.now ++ (text.now ++ 13 ∷ 10 ∷ [])) sent }
+    ensures sent { (sent : List ℕ) × O.writes outlet.old sent outlet.new × Sends result (text.now ++ 13 ∷ 10 ∷ []) sent }
     ensures sound { OnOk result (O.faults outlet.new ≡ O.faults outlet.old) }
     ensures link { IsErrOf result Failed → O.faults outlet.old < O.faults outlet.new }
 {
-    match send(outlet, front) {
-        Ok(()) => {}
-        Err(fault) => return Err(fault),
-    }
     match send(outlet, text) {
-        Ok(()) => {}
-        Err(fault) => return Err(fault),
+        Ok(()) => send(outlet, b"\r\n"),
+        Err(fault) => Err(fault),
     }
-    send(outlet, b"\r\n")
 }
 
-/// Writes the chunk of an event with this text.
+/// Writes the size lines of an event's chunk, the event's text and a line end, each by itself.
+fn send_parts<O: Outlet>(
+    outlet: &mut O,
+    chunk_line: &[u8],
+    record_line: &[u8],
+    text: &[u8],
+) -> Result<(), LinkFault>
+    requires { O.faults outlet.old < u64.MAX }
+    ensures sent { (sent : List ℕ) × O.writes outlet.old sent outlet.new
+        × Sends result (chunk_line.now ++ (record_line.now ++ (text.now ++ 13 ∷ 10 ∷ []))) sent }
+    ensures sound { OnOk result (O.faults outlet.new ≡ O.faults outlet.old) }
+    ensures link { IsErrOf result Failed → O.faults outlet.old < O.faults outlet.new }
+{
+    match send(outlet, chunk_line) {
+        Ok(()) => {}
+        Err(fault) => return Err(fault),
+    }
+    match send(outlet, record_line) {
+        Ok(()) => {}
+        Err(fault) => return Err(fault),
+    }
+    send_line(outlet, text)
+}
+
+/// Writes the chunk of an event with this text, which isn't copied.
 fn send_chunk<O: Outlet>(alloc: Global, outlet: &mut O, text: &[u8]) -> Result<(), LinkFault>
     requires { O.faults outlet.old < u64.MAX }
     ensures sent { (sent : List ℕ) × O.writes outlet.old sent outlet.new × Sends result (event_chunk text.now) sent }
     ensures sound { OnOk result (O.faults outlet.new ≡ O.faults outlet.old) }
     ensures link { IsErrOf result Failed → O.faults outlet.old < O.faults outlet.new }
 {
-    if text.len() <= SMALL {
-        return match event_chunk(alloc, text) {
-            Ok(chunk) => send(outlet, &chunk),
-            Err(_) => Err(LinkFault::OutOfMemory),
-        };
-    }
-    match chunk_front(alloc, text.len()) {
-        Ok(front) => send_parts(outlet, &front, text),
+    match size_lines(alloc, text.len()) {
+        Ok(lines) => send_parts(
+            outlet,
+            lines.chunk.as_bytes(),
+            lines.record.as_bytes(),
+            text,
+        ),
         Err(_) => Err(LinkFault::OutOfMemory),
     }
 }

@@ -20,7 +20,7 @@ pub enum Received {
     Refused(RequestFault),
 }
 
-/// Takes so many bytes of the input and adds them to the others, and says whether they came.
+/// Takes so many bytes of the input and adds them to the others, for which it asks room at once, and says whether they came.
 pub fn take_exact<I: Inlet>(
     inlet: &mut I,
     unread: &mut Unread,
@@ -34,6 +34,9 @@ pub fn take_exact<I: Inlet>(
     ensures sound { OnOk result (I.faults inlet.new ≡ I.faults inlet.old) }
     ensures link { IsErrOf result Failed → I.faults inlet.old < I.faults inlet.new }
 {
+    if bytes.reserve(count).is_err() {
+        return Err(LinkFault::OutOfMemory);
+    }
     let mut left = count;
     while unread.as_slice().len() < left {
         let there = unread.as_slice().len();

@@ -1,6 +1,6 @@
 //! What was read of a connection and not taken yet.
 
-ghost use Rattle.std.specs.Prelude.{◌≡◌, ◌<◌, ◌≤◌, ℕ, List, [], ◌++◌, length, take, drop, vec_len, true, false, Ok, OnOk, IsErrOf};
+ghost use Rattle.std.specs.Prelude.{◌≡◌, ◌<◌, ◌≤◌, ◌+◌, ℕ, List, [], ◌++◌, length, take, drop, vec_len, true, false, Some, Ok, IfSome, IfOk, OnSome, OnOk, IfNone, IsErrOf};
 ghost use Rattle.http_request.specs.declared.fault.LinkFault.TheVariants.{Failed};
 
 use crate::fault::LinkFault;
@@ -37,6 +37,48 @@ fn drop_front(bytes: &mut Vec<u8>, count: usize)
     let left = bytes.len() - count;
     bytes.rotate_left(count);
     bytes.truncate(left);
+}
+
+/// Reads once, into what stands behind the first so many bytes, and says how many came.
+fn read_behind<I: Inlet>(inlet: &mut I, bytes: &mut [u8], front: usize) -> Option<usize>
+    requires room { front < length bytes.old }
+    requires countable { I.faults inlet.old < u64.MAX }
+    ensures len { length bytes.new ≡ length bytes.old }
+    ensures stays { take front bytes.new ≡ take front bytes.old }
+    ensures within { IfSome result (λ n. front + n ≤ length bytes.new) }
+    ensures came { IfSome result (λ n. (more : List ℕ) × I.reads inlet.old more inlet.new × (length more ≡ n)
+        × (take (front + n) bytes.new ≡ take front bytes.old ++ more)) }
+    ensures end { result ≡ Some 0 → I.ended inlet.new }
+    ensures sound { OnSome result (I.faults inlet.new ≡ I.faults inlet.old) }
+    ensures failed { IfNone result (I.reads inlet.old [] inlet.new × (I.faults inlet.old < I.faults inlet.new)) }
+{
+    inlet.read(&mut bytes[front..])
+}
+
+/// Reads once, right behind the bytes, so that what comes isn't copied, and says how many came.
+fn read_more<I: Inlet>(inlet: &mut I, bytes: &mut Vec<u8>) -> Result<usize, LinkFault>
+    requires { I.faults inlet.old < u64.MAX }
+    ensures came { (more : List ℕ) × I.reads inlet.old more inlet.new
+        × IfOk result (λ n. (length more ≡ n) × (bytes.new.items ≡ bytes.old.items ++ more)) }
+    ensures end { result ≡ Ok 0 → I.ended inlet.new }
+    ensures sound { OnOk result (I.faults inlet.new ≡ I.faults inlet.old) }
+    ensures link { IsErrOf result Failed → I.faults inlet.old < I.faults inlet.new }
+{
+    let front = bytes.len();
+    match bytes.resize(front + PIECE, 0) {
+        Ok(()) => {}
+        Err(_) => return Err(LinkFault::OutOfMemory),
+    }
+    match read_behind(inlet, bytes.as_mut_slice(), front) {
+        Some(count) => {
+            bytes.truncate(front + count);
+            Ok(count)
+        }
+        None => {
+            bytes.truncate(front);
+            Err(LinkFault::Failed)
+        }
+    }
 }
 
 impl Unread {
@@ -88,14 +130,10 @@ impl Unread {
             drop_front(&mut self.bytes, self.taken);
             self.taken = 0;
         }
-        let mut piece = [0u8; PIECE];
-        match inlet.read(&mut piece) {
-            None => Err(LinkFault::Failed),
-            Some(0) => Ok(true),
-            Some(count) => match self.bytes.extend_from_slice(&piece[..count]) {
-                Ok(()) => Ok(false),
-                Err(_) => Err(LinkFault::OutOfMemory),
-            },
+        match read_more(inlet, &mut self.bytes) {
+            Ok(0) => Ok(true),
+            Ok(_) => Ok(false),
+            Err(fault) => Err(fault),
         }
     }
 }

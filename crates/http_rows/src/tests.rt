@@ -72,9 +72,9 @@ fn a_framework_fails_over(rt: HostRuntime) {
     assert!(rt; fails_over(rt.alloc()));
 }
 
-/// Whether the first connection breaks off at its third write, the heartbeat, and the other one was refused beside it.
+/// Whether the first connection breaks off at the heartbeat, behind the head and the four parts of the first chunk, and the other one was refused beside it.
 fn breaks_off(alloc: Global, bench: &mut Beside) -> bool {
-    match subscribes(alloc, bench, 2) {
+    match subscribes(alloc, bench, 5) {
         Some(reply) => {
             reply.ended == Err(LinkFault::Failed)
                 && is(&reply.got, BROKEN_OFF)

@@ -195,7 +195,7 @@ fn a_stream(rt: HostRuntime) {
     assert!(rt; is_sent(rt.alloc(), SUBSCRIBE, STREAM, true));
 }
 
-/// How a connection ends whose outlet fails at the third write, whether its stream is hung up, and how much was sent.
+/// How a connection ends whose outlet fails behind the head and the four parts of the first chunk, whether its stream is hung up, and how much was sent.
 fn broken_off(alloc: Global, bytes: Vec<u8>) -> (Result<(), LinkFault>, bool, usize) {
     let mut source = Source {
         bytes,
@@ -206,7 +206,7 @@ fn broken_off(alloc: Global, bytes: Vec<u8>) -> (Result<(), LinkFault>, bool, us
     let mut sink = Sink {
         bytes: Vec::new(alloc),
         most: 1 << 20,
-        turns: 2,
+        turns: 5,
         faults: 0,
     };
     let mut bench = Script {

@@ -1,4 +1,4 @@
-use http_text::{Status, event_chunk, refusal_response, subscribed_response};
+use http_text::{SizeLines, Status, refusal_response, size_lines, subscribed_response};
 use names_core::StreamId;
 use std::alloc::AllocError;
 
@@ -10,12 +10,6 @@ const NOT_POST: &[u8] =
 
 const OPENED: &[u8] =
     b"HTTP/1.1 200 OK\r\nContent-Type: application/json\r\nTransfer-Encoding: chunked\r\nMesos-Stream-Id: S1-1\r\n\r\n";
-
-const EVENT: &[u8] =
-    b"{\"subscribed\":{\"framework_id\":{\"value\":\"F1-1\"},\"heartbeat_interval_seconds\":15},\"type\":\"SUBSCRIBED\"}";
-
-const CHUNK: &[u8] =
-    b"68\r\n100\n{\"subscribed\":{\"framework_id\":{\"value\":\"F1-1\"},\"heartbeat_interval_seconds\":15},\"type\":\"SUBSCRIBED\"}\r\n";
 
 fn is(text: Result<Vec<u8>, AllocError>, wanted: &[u8]) -> bool {
     match text {
@@ -44,5 +38,18 @@ fn refusals(rt: HostRuntime) {
 #[test]
 fn a_stream_opens(rt: HostRuntime) {
     assert!(rt; is(subscribed_response(rt.alloc(), StreamId::new(1, 1)), OPENED));
-    assert!(rt; is(event_chunk(rt.alloc(), EVENT), CHUNK));
+}
+
+fn are(lines: Result<SizeLines, AllocError>, chunk: &str, record: &str) -> bool {
+    match lines {
+        Ok(lines) => lines.chunk.as_str() == chunk && lines.record.as_str() == record,
+        Err(_) => false,
+    }
+}
+
+/// The record's size line counts as data of the chunk.
+#[test]
+fn sizes_of_a_chunk(rt: HostRuntime) {
+    assert!(rt; are(size_lines(rt.alloc(), 60), "3f\r\n", "60\n"));
+    assert!(rt; are(size_lines(rt.alloc(), 100), "68\r\n", "100\n"));
 }

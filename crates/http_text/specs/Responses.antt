@@ -45,9 +45,13 @@ chunk body = digits 16 false (length body) ++ (13 ∷ 10 ∷ (body ++ 13 ∷ 10 
 unfoldable pub event_chunk : List ℕ → List ℕ
 event_chunk text = chunk (record_text text)
 
--- what stands before the text in an event's chunk, for a text of so many bytes
-unfoldable pub chunk_front : ℕ → List ℕ
-chunk_front len = digits 16 false (length (decimal len ++ 10 ∷ []) + len) ++ (13 ∷ 10 ∷ (decimal len ++ 10 ∷ []))
+-- the size line of an event's record, whose text has so many bytes
+abbrev pub record_line : ℕ → List ℕ
+record_line len = decimal len ++ 10 ∷ []
+
+-- the size line of its chunk
+abbrev pub chunk_line : ℕ → List ℕ
+chunk_line len = digits 16 false (length (record_line len) + len) ++ 13 ∷ 10 ∷ []
 
 -- what ends a stream of chunks
 unfoldable pub last_chunk : List ℕ

@@ -5,6 +5,6 @@ mod chunk;
 mod response;
 mod status;
 
-pub use chunk::{chunk_front, event_chunk, last_chunk, one_chunk};
+pub use chunk::{SizeLines, last_chunk, one_chunk, size_lines};
 pub use response::{accepted_response, continue_response, refusal_response, subscribed_response};
 pub use status::Status;

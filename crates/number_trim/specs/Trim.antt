@@ -1,5 +1,5 @@
 -- Whole numbers that were written with a point, as the numbers they are.
-use Rattle.std.specs.Prelude.{◌≡◌, ℕ, zero, suc, ◌+◌, ◌<◌, ◌==◌, ◌&&◌, Bool, true, false, List, [], ◌∷◌, ◌++◌, length, take, drop, take_while, slice_index, nat_lt, if◌then◌else◌}
+use Rattle.std.specs.Prelude.{◌≡◌, ℕ, zero, suc, ◌+◌, ◌==◌, ◌&&◌, Bool, true, false, List, [], ◌∷◌, length, take, drop, take_while, slice_index, nat_lt, if◌then◌else◌}
 use Rattle.std.specs.List.{list_all, flat_map, before_first, after_first}
 use Rattle.std.specs.Char.{is_ascii_digit}
 use Rattle.number_trim.specs.Cuts.{is_token_byte, Cuts}

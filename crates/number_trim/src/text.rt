@@ -1,26 +1,68 @@
 //! The numbers of a text.
 
-ghost use Rattle.std.specs.Prelude.{◌≡◌, IfOk};
-ghost use Rattle.number_trim.specs.Trim.{trim, OneCut, AreCut};
+ghost use Rattle.std.specs.Prelude.{◌≡◌, ◌<◌, ◌≤◌, ◌++◌, length, take, drop, nat_lt, IfOk, OnOk, IsOkAnd};
+ghost use Rattle.std.specs.Cow.{cow_slice_items, IsBorrowedSlice};
+ghost use Rattle.number_trim.specs.Trim.{trimmed, trim, OneCut, AreCut};
 
 use crate::number::trimmed;
 use crate::piece::piece_end;
 use std::alloc::{AllocError, Global};
+use std::borrow::CowSlice;
 
-/// The text with its whole numbers as such. Outside strings each longest run of digits, `+`, `-`, `.`, `e` and `E` that is an
-/// optional minus, digits, a point and zeros becomes what stands before the point; everything else stays. The text needn't be
-/// JSON.
-pub fn trim(alloc: Global, text: &[u8]) -> Result<Vec<u8>, AllocError>
-    ensures { IfOk result (λ out. out.items ≡ trim text.now) }
+/// Whether a piece doesn't stay as it is.
+fn is_trimmed(piece: &[u8]) -> bool
+    ensures { result ≡ nat_lt (length (trimmed piece.now)) (length piece.now) }
 {
-    let mut out = Vec::with_capacity(alloc, text.len())?;
+    trimmed(piece).len() < piece.len()
+}
+
+/// How many bytes stand before the first number that is trimmed; all where none is.
+fn kept_len(text: &[u8]) -> usize
+    ensures inside { result ≤ length text.now }
+    ensures kept { trim text.now ≡ take result text.now ++ trim (drop result text.now) }
+    ensures shorter { result < length text.now → length (trim text.now) < length text.now }
+{
+    let mut kept = 0;
+    let mut rest = text;
+    while !rest.is_empty() {
+        let (piece, after) = rest.split_at(piece_end(rest));
+        if is_trimmed(piece) {
+            return kept;
+        }
+        kept += piece.len();
+        rest = after;
+    }
+    kept
+}
+
+/// Adds a text with its whole numbers as such.
+fn push_trimmed(out: &mut Vec<u8>, text: &[u8]) -> Result<(), AllocError>
+    ensures { OnOk result (out.new.items ≡ out.old.items ++ trim text.now) }
+{
     let mut rest = text;
     while !rest.is_empty() {
         let (piece, after) = rest.split_at(piece_end(rest));
         out.extend_from_slice(trimmed(piece))?;
         rest = after;
     }
-    Ok(out)
+    Ok(())
+}
+
+/// The text with its whole numbers as such. Outside strings each longest run of digits, `+`, `-`, `.`, `e` and `E` that is an
+/// optional minus, digits, a point and zeros becomes what stands before the point; everything else stays. The text needn't be
+/// JSON. Where nothing is trimmed the text itself is lent, and no memory is asked for.
+pub fn trim(alloc: Global, text: &[u8]) -> Result<CowSlice<'_, u8>, AllocError>
+    ensures value { IfOk result (λ out. cow_slice_items out ≡ trim text.now) }
+    ensures lent { trim text.now ≡ text.now → IsOkAnd result IsBorrowedSlice }
+{
+    let (front, rest) = text.split_at(kept_len(text));
+    if rest.is_empty() {
+        return Ok(CowSlice::Borrowed(text));
+    }
+    let mut out = Vec::with_capacity(alloc, text.len())?;
+    out.extend_from_slice(front)?;
+    push_trimmed(&mut out, rest)?;
+    Ok(CowSlice::Owned(out))
 }
 
 /// A text is cut into strings, number tokens and single other bytes in one way: the one that `trim` goes by.

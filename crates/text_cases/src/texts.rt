@@ -7,11 +7,13 @@ use mails::Call;
 use number_trim::trim;
 use record_text::{record_of, record_text};
 use std::alloc::{AllocError, Global};
+use std::str;
 use step_lines::{read_config, read_step};
 
 fn trimmed(alloc: Global, text: &str) -> Result<String, AllocError> {
-    match String::from_utf8(trim(alloc, text.as_bytes())?) {
-        Ok(text) => Ok(text),
+    let trimmed = trim(alloc, text.as_bytes())?;
+    match str::from_utf8(&trimmed) {
+        Ok(text) => text.to_string(alloc),
         Err(_) => "no text".to_string(alloc),
     }
 }

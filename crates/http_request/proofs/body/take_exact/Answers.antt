@@ -5,7 +5,7 @@ use Rattle.http_request.proofs.body.take_exact.Goals as goal
 
 pub loop-left-init : goal.loop-left-init
 loop-left-init g c = (
-  ([], g.met.I.Inlet.reads_nothing _, [], append-nil c.args.unread.now, sym (append-nil c.args.bytes.now.items), omega arith),
+  ([], g.met.I.Inlet.reads_nothing _, [], append-nil c.args.unread.now, c.reserve.ensures.items ∙ sym (append-nil c.args.bytes.now.items), omega arith),
   refl,
 )
 

@@ -1,4 +1,4 @@
-use Rattle.std.proofs.Common.{◌≡◌, ◌≢◌, ℕ, ◌+◌, ◌<◌, false, drop, get_or, length, arith}
+use Rattle.std.proofs.Common.{false}
 use Rattle.number_trim.specs.Trim.{string_len}
 use Rattle.number_trim.proofs.Trimming.{to_quote, to_escaped, to_plain, to_end}
 use Rattle.number_trim.proofs.piece.string_end.Goals as goal

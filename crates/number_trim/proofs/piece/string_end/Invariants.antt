@@ -1,4 +1,4 @@
-use Rattle.std.proofs.Common.{◌≡◌, ◌+◌, ◌≤◌, false, drop, length}
+use Rattle.std.proofs.Common.{◌≡◌, ◌+◌, false, drop}
 use Rattle.number_trim.specs.Trim.{string_len}
 use Rattle.number_trim.proofs.piece.string_end.Given as goal
 

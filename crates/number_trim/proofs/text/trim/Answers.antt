@@ -1,14 +1,27 @@
-use Rattle.std.proofs.Common.{◌≡◌, ℕ, List, [], take, drop, sym, ap, ◌∙◌, arith}
-use Rattle.std.proofs.lemmas.Bool.Decides.{nat_tests}
-use Rattle.number_trim.specs.Trim.{trim}
-use Rattle.number_trim.proofs.Trimming.{goes_on, at_end}
+use Rattle.number_trim.proofs.Trimming.{all_stays, not_all_stays, made}
 use Rattle.number_trim.proofs.text.trim.Goals as goal
 
-pub loop-rest-preserved : goal.loop-rest-preserved
-loop-rest-preserved c =
-    let rest = c.loop-rest.rest.now in
-    rw (c.in_ok-extend_from_slice.ensures.items, c.trimmed.ensures, c.split_at.ensures.back, c.piece_end.ensures.len)
-    (goes_on c.loop-rest.out.items rest c.split_at.result.0.now (trim c.args.text.now) (grind (arith, nat_tests, c.loop-rest-test.ensures)) (c.split_at.ensures.front ∙ ap (λ (n : ℕ). take n rest) c.piece_end.ensures.len) c.loop-rest.invariant)
+pub returns-then-is_empty-clause-value : goal.returns-then-is_empty-clause-value
+returns-then-is_empty-clause-value c =
+    all_stays c.args.text.now c.split_at.result.1.now c.kept_len.result c.if-is_empty.ensures c.split_at.ensures.back c.kept_len.ensures.kept
 
-pub returns : goal.returns
-returns c = at_end c.loop-rest.out.items c.loop-rest.rest.now (trim c.args.text.now) c.loop-rest-test.ensures c.loop-rest.invariant
+pub returns-in_err-out-clause-lent : goal.returns-in_err-out-clause-lent
+returns-in_err-out-clause-lent c same =
+    absurd (not_all_stays c.args.text.now c.split_at.result.1.now c.kept_len.result c.if-is_empty.ensures c.split_at.ensures.back_len c.kept_len.ensures.shorter same)
+
+pub returns-in_err-extend_from_slice-clause-lent : goal.returns-in_err-extend_from_slice-clause-lent
+returns-in_err-extend_from_slice-clause-lent c same =
+    absurd (not_all_stays c.args.text.now c.split_at.result.1.now c.kept_len.result c.if-is_empty.ensures c.split_at.ensures.back_len c.kept_len.ensures.shorter same)
+
+pub returns-in_err-push_trimmed-clause-lent : goal.returns-in_err-push_trimmed-clause-lent
+returns-in_err-push_trimmed-clause-lent c same =
+    absurd (not_all_stays c.args.text.now c.split_at.result.1.now c.kept_len.result c.if-is_empty.ensures c.split_at.ensures.back_len c.kept_len.ensures.shorter same)
+
+pub returns-clause-lent : goal.returns-clause-lent
+returns-clause-lent c same =
+    absurd (not_all_stays c.args.text.now c.split_at.result.1.now c.kept_len.result c.if-is_empty.ensures c.split_at.ensures.back_len c.kept_len.ensures.shorter same)
+
+pub returns-clause-value : goal.returns-clause-value
+returns-clause-value c =
+    made c.args.text.now c.split_at.result.0.now c.split_at.result.1.now c.in_ok-out.out.items c.extend_from_slice.new.self.items c.push_trimmed.new.out.items c.kept_len.result
+    c.in_ok-out.ensures.items c.in_ok-extend_from_slice.ensures.items c.in_ok-push_trimmed.ensures c.split_at.ensures.front c.split_at.ensures.back c.kept_len.ensures.kept
