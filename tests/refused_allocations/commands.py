@@ -1,8 +1,10 @@
 #!/usr/bin/env python3
 """Runs the built program's `calls` and `replay` with each of their allocations refused in turn, and the test of an agent that falls.
 
-What is written must be a beginning of what is due, the status 3 where something is lacking, and the message must tell of memory: of `replay` with the
-number of the line. In one run at least an agent must fall, and be down until it is stopped. A C compiler is asked for. It prints what it checked, and
+What is written must be a beginning of what is due, the status 3 where something is lacking, and the message must tell of memory. A `replay` ends behind all that
+the lines before the refused one bring out, and tells that one's number: so it does where a part falls in mid-step, too. The histories are a first offer, the launch of two
+tasks with the offer of what is left, an agent that is stopped behind a save and before it, and others. A program that has no memory at all passes none of them
+(tests/histories/run). In one run of the test at least an agent must fall, and be down until it is stopped. A C compiler is asked for. It prints what it checked, and
 ends within two minutes. PROGRAM=.. and TESTS=.. name other programs than crates/mesos_node/out/mesos_node and crates/cluster_tests/out/cluster_tests_tests.
 """
 
@@ -17,6 +19,7 @@ HISTORIES = f"{HERE}/../histories"
 PROGRAM = os.environ.get("PROGRAM", f"{HERE}/../../crates/mesos_node/out/mesos_node")
 TESTS = os.environ.get("TESTS", f"{HERE}/../../crates/cluster_tests/out/cluster_tests_tests")
 FALLS = "of_cluster_core_restarts::an_agent_that_fell_is_down"
+REPLAYED = ("first_offer", "what_is_left", "stopped_after_its_save", "stopped_before_its_save", "a_launch", "torn_down", "mails_of_other_sessions")
 
 
 def run(shim, words, given, refuse, count_to="/dev/null"):
@@ -36,11 +39,20 @@ def answered(out):
     return len(re.findall(rb"^\d+ ", out, re.M))
 
 
-def check_line(given, out, said):
-    """The number of the line whose memory was refused: each line before it is answered, and it isn't."""
+def start_of(due, line):
+    """Where the answer to a line begins in what is due: the configuration is line 1 and has the number 0, and behind the last line stands the end table."""
+    starts = [it.start() for it in re.finditer(rb"^\d+ ", due, re.M)]
+    return starts[line - 1] if line <= len(starts) else re.search(rb"^agent ", due, re.M).start()
+
+
+def check_line(given, due, out, said):
+    """The number of the line whose memory was refused: all that the lines before it bring out is written, and it isn't answered."""
     line = int(re.fullmatch(rb"(\d+) C9 OutOfMemory\n", said)[1])
-    assert 1 <= line <= given.count(b"\n") + 1, line
+    lines = given.count(b"\n")
+    assert 1 <= line <= lines + 1, line
     assert answered(out) == line - 1, (line, out)
+    start = start_of(due, line)
+    assert out == due[:start] if line <= lines else len(out) >= start, (line, out)
 
 
 def check_refused(command, given, due, ran):
@@ -51,7 +63,7 @@ def check_refused(command, given, due, ran):
         return False
     assert due.startswith(ran.stdout), ran
     if ran.stderr.endswith(b" C9 OutOfMemory\n"):
-        check_line(given, ran.stdout, ran.stderr)
+        check_line(given, due, ran.stdout, ran.stderr)
     elif command == "calls" and re.fullmatch(rb"(F4|J10|M5) OutOfMemory\n", ran.stderr):
         pass
     else:
@@ -71,6 +83,18 @@ def sweep_command(shim, command, name):
     print(f"{command} over {name}: {total} allocations refused in turn, {refused} runs stopped for it")
 
 
+def check_gives_up(shim, work):
+    """A program to which all memory is refused gives up, and passes no history."""
+    program = f"{work}/gives_up"
+    with open(program, "w", encoding="ascii") as it:
+        it.write(f"#!/bin/sh\nexec env LD_PRELOAD={shim} REFUSE=1 REFUSE_REST=1 {os.path.realpath(PROGRAM)} \"$@\"\n")
+    os.chmod(program, 0o700)
+    names = ("calls_subscribe", *REPLAYED)
+    ran = subprocess.run([f"{HISTORIES}/run", *names], capture_output=True, env=dict(os.environ, PROGRAM=program), timeout=60)
+    assert ran.returncode == 1 and ran.stdout.endswith(b"\n0 passed, %d failed\n" % len(names)), ran
+    print(f"a program without memory passes none of {len(names)} histories")
+
+
 def sweep_fall(shim):
     words = [TESTS, FALLS]
     total, ample = allocations(shim, words, b"")
@@ -87,9 +111,9 @@ def main():
         compiler = os.environ.get("CC", "cc")
         subprocess.run([compiler, "-O1", "-shared", "-fPIC", "-o", shim, f"{HERE}/refuse.c", "-ldl"], check=True)
         sweep_command(shim, "calls", "calls_subscribe")
-        sweep_command(shim, "replay", "first_offer")
-        for name in ("a_launch", "torn_down", "mails_of_other_sessions"):
+        for name in REPLAYED:
             sweep_command(shim, "replay", name)
+        check_gives_up(shim, work)
         sweep_fall(shim)
 
 

@@ -1,4 +1,4 @@
-/* Preloaded beside a program: the allocation whose number REFUSE names, counted from 1, is refused. With REFUSE=0 none is.
+/* Preloaded beside a program: the allocation whose number REFUSE names, counted from 1, is refused, and with REFUSE_REST all behind it. With REFUSE=0 none is.
    Their count stands in the file that COUNT_TO names, if any, from the first one on: a program may end without telling. */
 #define _GNU_SOURCE
 #include <dlfcn.h>
@@ -24,13 +24,15 @@ static void tell(void) {
 
 static int is_refused(void) {
     static long refused = -1;
+    static int rest;
     if (refused < 0) {
         const char *text = getenv("REFUSE");
         refused = text ? atol(text) : 0;
+        rest = refused > 0 && getenv("REFUSE_REST");
     }
     ++count;
     tell();
-    return count == (unsigned long)refused;
+    return count == (unsigned long)refused || (rest && count > (unsigned long)refused);
 }
 
 void *malloc(size_t size) {

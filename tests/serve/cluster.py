@@ -73,11 +73,11 @@ def tell(case, got, status, text):
 class Server:
     """`mesos_node serve` over a folder."""
 
-    def __init__(self, folder, *options, port=None):
+    def __init__(self, folder, *options, port=None, env=None):
         self.port = port or free_port()
         words = [PROGRAM, "serve", "--port", str(self.port), "--agents", folder.agents, "--state", folder.state, *options]
         # It ignores SIGXFSZ, as Python does: a write past the limit of a file's size fails, and doesn't end it.
-        self.process = subprocess.Popen(words, stdout=subprocess.PIPE, stderr=subprocess.PIPE, stdin=subprocess.DEVNULL, restore_signals=False)
+        self.process = subprocess.Popen(words, stdout=subprocess.PIPE, stderr=subprocess.PIPE, stdin=subprocess.DEVNULL, restore_signals=False, env=env)
         self.said = self.process.stderr.readline().decode().strip()
         check("serves at" in self.said, f"serve says: {self.said}")
 

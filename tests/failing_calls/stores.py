@@ -1,0 +1,114 @@
+#!/usr/bin/env python3
+"""Served clusters whose stores fail: a read, a write, a change of length or a flush of a file, once or for good, each in its turn: tests/failing_calls/stores.py [COUNT [SEED]]
+
+At the start, over an empty folder and over one with a record, each such call fails for good, and one in three once: the server ends with K1 and status 3, or serves. Then another one is started on
+the folder: its run is above each that was told, and where there was a record it is still there, so that another total is refused with Z1. And in the middle: of the
+calls from a task's ACCEPT to its end COUNT (12) fail, spread over all, once and for good; SEED (1) moves them. The task is told to run and to have finished, once
+each, or it is told lost and nothing else; then all that the agent owns is offered. A server whose store fails for good ends with K1, and one that is started again
+on the folder goes on from there. A C compiler is asked for. It prints what it checked, and ends within a minute.
+"""
+import collections
+import concurrent.futures
+import random
+import subprocess
+import sys
+import tempfile
+
+from failing import SECONDS, Control
+from task import AT_ONCE, OWNS, run
+from cluster import PROGRAM, Folder, Server, check, free_port, run_serve
+from store_files import RECORD_KEPT, made, run_kept
+
+FAULT = "K1 Store "
+
+
+def words(folder, port):
+    return [PROGRAM, "serve", "--port", str(port), "--agents", folder.agents, "--state", folder.state]
+
+
+def start(folder, control):
+    """A server is started under fail.c, and killed as soon as it serves. Its run, or None where a store failed."""
+    process = subprocess.Popen(words(folder, free_port()), stdin=subprocess.DEVNULL, stdout=subprocess.PIPE, stderr=subprocess.PIPE, env=control.environment)
+    line = process.stderr.readline().decode()
+    if line.startswith("run "):
+        process.kill()
+        process.communicate(timeout=SECONDS)
+        return int(line.split()[1])
+    out, err = process.communicate(timeout=SECONDS)
+    check((process.returncode, out, err) == (3, b"", b"") and line.startswith(FAULT), f"a start ends with {process.returncode}, and tells {line!r} {err!r}")
+    return None
+
+
+def check_record(folder):
+    """The record, whose agent owns two cpus, is refused where it is to own three."""
+    folder.write({"agents": {"a1": {"cpus": 3}}})
+    status, out, err = run_serve(folder)
+    check((status, out) == (2, "") and err.startswith("Z1 TotalDiffers: a1"), f"the record is there: {status} {err!r}")
+    folder.write({"agents": {"a1": OWNS}})
+
+
+def next_run(folder, last):
+    """The run of a server that is started on the folder, which is above the last one that was told."""
+    with Server(folder) as server:
+        given = int(server.said.split()[1])
+    check(given > last, f"run {last} was told, and then run {given}")
+    return given
+
+
+def try_start(has_record, control, number, rest):
+    """What comes of a start whose call of this number fails, once or for good. None where no such call is made."""
+    with Folder({"a1": OWNS}) as folder:
+        if has_record:
+            made(f"{folder.state}/agent-a1.db", RECORD_KEPT)
+            made(f"{folder.state}/master.db", run_kept(1))
+        control.arm(Control.FILES, number, rest=rest, scope=Control.ALL)
+        run_told = start(folder, control)
+        _, failed = control.disarm()
+        if has_record:
+            check_record(folder)
+        next_run(folder, run_told or int(has_record))
+    return ("served" if run_told else "K1") if failed else None
+
+
+def try_starts(work, has_record, rest):
+    """Calls at the start fail in turn, each for good, and one in three once, until a start has no such call."""
+    control, tally = Control(work, f"control-{has_record}-{rest}"), collections.Counter()
+    for number in range(1, 1000, 1 if rest else 3):
+        came = try_start(has_record, control, number, rest)
+        if came is None:
+            return tally
+        tally[came] += 1
+    raise SystemExit("failed: a start makes a thousand calls on files")
+
+
+def try_task(work, number, rest):
+    """What comes of a task where this call fails. A server that ends tells whose record it was."""
+    outcome = run(work, f"control-{number}-{rest}", Control.FILES, number, rest)
+    if outcome.said:
+        status, out, err = outcome.said
+        check(rest and (status, out) == (3, "") and err.startswith(FAULT) and err.endswith(": the record of a1\n"), f"a server ends: {outcome.said}")
+    check(outcome.stands or outcome.said, "the master is up where a store fails")
+    if not outcome.failed:
+        return "not reached"
+    return ", ".join(outcome.ways + ["the server ended"] * (outcome.said is not None))
+
+
+def main():
+    count, seed = [int(it) for it in sys.argv[1:]] + [12, 1][len(sys.argv) - 1 :]
+    offset = random.Random(seed).random()
+    with tempfile.TemporaryDirectory() as work, concurrent.futures.ThreadPoolExecutor(AT_ONCE) as pool:
+        ample = run(work, "control", Control.FILES, 0)
+        check(ample.stands and ample.ways == ["the task ran"], f"with a store that doesn't fail: {ample.ways}")
+        numbers = sorted({1 + int((i + offset) * ample.count / count) for i in range(count)})
+        starts = {(has_record, rest): pool.submit(try_starts, work, has_record, rest) for has_record in (False, True) for rest in (False, True)}
+        for (has_record, rest), tally in starts.items():
+            told = ", ".join(f"{it} {n}" for it, n in sorted(tally.result().items()))
+            print(f"a start over {'a record' if has_record else 'an empty folder'}, a call failing {'for good' if rest else 'once'}: {told}")
+        for rest in (False, True):
+            tally = collections.Counter(pool.map(lambda number: try_task(work, number, rest), numbers))
+            told = "; ".join(f"{it} {n}" for it, n in sorted(tally.items()))
+            print(f"a task, {len(numbers)} of some {ample.count} calls failing {'for good' if rest else 'once'} (seed {seed}): {told}")
+
+
+if __name__ == "__main__":
+    sys.exit(main())
