@@ -1,3 +1,2 @@
 mod Recorded
 mod Runs
-mod States

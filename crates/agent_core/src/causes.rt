@@ -5,13 +5,13 @@ ghost use Rattle.cluster_model.specs.Agents.{reports, opens_next, hears_hello, h
 ghost use Rattle.agent_core.specs.Drafts.{agent_of, next_draft, after_state, hears_in_order, is_in_order, is_next_command, is_with_run, launches_in_order, Prepares};
 
 use crate::commands::Next;
-use crate::edits::{has_ended_task, has_task, lacks_place, stated_all};
 use crate::fault::AgentFault;
-use crate::keys::is_behind_all;
-use crate::mails_out::push_fronts_at;
 use crate::state::State;
 use mails::{AgentRefusal, Cause, Command, MasterMail};
 use names_core::{LaunchKey, TaskState};
+use recorded_tasks::{
+    has_ended_task, has_task, is_behind_all, lacks_place, push_fronts_at, stated_all,
+};
 use std::alloc::{AllocError, Global};
 
 impl State {

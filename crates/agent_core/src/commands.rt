@@ -7,15 +7,15 @@ ghost use Rattle.mails.specs.declared.mail.MasterMail.TheVariants.{Issued};
 ghost use Rattle.agent_core.specs.Drafts.{agent_of, applied_with, hears_in_order, is_with_run, launches_in_order, next_draft, Prepares, told_again};
 ghost use Rattle.agent_core.specs.Records.{is_record, with_other_tasks};
 
-use crate::edits::{acknowledged_all, is_front_at, stated_all, without_framework};
 use crate::fault::AgentFault;
-use crate::mails_out::push_fronts_at;
-use crate::room;
 use crate::state::State;
 use listed::Listed;
 use mails::{AgentMail, AgentRefusal, Command, Job, RecordedTask};
 use names_core::{LaunchKey, OfferId, TaskState};
 use plain_data::push_copies;
+use recorded_tasks::{
+    acknowledged_all, push_fronts_at, stated_all, told_behind, without_framework,
+};
 use std::alloc::{AllocError, Global};
 use stream_core::{LinkIn, Updates};
 
@@ -89,10 +89,8 @@ impl State {
             }
             Command::Ack(key, k) => {
                 let tasks = acknowledged_all(alloc, key, k, self.tasks())?;
-                if !is_front_at(key, k, self.tasks()) {
-                    return self.applied_with(alloc, link, tasks, None);
-                }
-                self.applied_with(alloc, link, tasks, Some(key))
+                let told = told_behind(key, k, self.tasks());
+                self.applied_with(alloc, link, tasks, told)
             }
             Command::EndFramework(framework) => {
                 let tasks = without_framework(alloc, framework, self.tasks())?;
@@ -106,7 +104,7 @@ impl State {
     {
         match command {
             Command::Launch(job, _) => {
-                room::has_room(alloc, &self.parts().total, &job.resources, self.tasks())
+                recorded_tasks::has_room(alloc, &self.parts().total, &job.resources, self.tasks())
             }
             _ => Ok(true),
         }

@@ -8,12 +8,9 @@ mod changes;
 mod commands;
 mod differences;
 mod draft;
-mod edits;
 mod fault;
-mod keys;
 mod mails_out;
 mod record;
-mod room;
 mod state;
 
 pub use agent::Agent;

@@ -4,13 +4,12 @@ ghost use Rattle.std.specs.Prelude.{◌≡◌, true, IfOk};
 ghost use Rattle.cluster_model.specs.Agents as agents;
 ghost use Rattle.agent_core.specs.Records.{is_behind, keys_rise, none_is_done, has_begun, is_record, rebuilt};
 
-use crate::keys::is_before;
-use crate::room::has_room;
 use listed::Listed;
 use mails::{Durable, RecordedTask};
 use names_core::{AgentName, LaunchKey};
 use plain_data::Plain;
 use quantity::Resources;
+use recorded_tasks::{has_room, is_before};
 use std::alloc::{AllocError, Global};
 use std::marker::Model;
 

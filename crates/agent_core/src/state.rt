@@ -2,14 +2,12 @@
 
 ghost use Rattle.std.specs.Prelude.{◌≡◌, ◌<◌, ◌↔◌, true, [], IfOk, IsTrue};
 ghost use Rattle.cluster_model.specs.Agents.{reopened, with_tasks};
-ghost use Rattle.cluster_model.specs.Ids.{same};
 ghost use Rattle.agent_core.specs.Drafts.{agent_of, former_of, without_tasks};
 ghost use Rattle.agent_core.specs.Records.{is_record, with_other_tasks};
 
 use crate::record::Record;
 use listed::Listed;
 use mails::{Durable, RecordedTask};
-use names_core::{FrameworkId, LaunchKey};
 use plain_data::Plain;
 use std::alloc::{AllocError, Global};
 use stream_core::LinkIn;
@@ -28,18 +26,6 @@ pub struct Former {
     pub durable: Durable,
     pub in_session: bool,
     pub link: LinkIn,
-}
-
-pub fn is_same_key(a: LaunchKey, b: LaunchKey) -> bool
-    ensures { result ≡ same a b }
-{
-    a.number() == b.number() && a.run() == b.run()
-}
-
-pub fn is_same_framework(a: FrameworkId, b: FrameworkId) -> bool
-    ensures { result ≡ same a b }
-{
-    a.number() == b.number() && a.run() == b.run()
 }
 
 impl State {

@@ -5,31 +5,16 @@ use Rattle.serde_json.specs.Data.{Data, depth}
 use Rattle.serde_json.specs.Find.{get, as_object}
 use Rattle.serde_json.specs.Read.{max_depth, read}
 use Rattle.number_trim.specs.Trim.{trim}
-use Rattle.call_members.specs.Answers.{◌>>=◌}
 use Rattle.call_members.specs.Members.{text_of}
-use Rattle.call_members.specs.Ids.{framework_of}
 use Rattle.call_members.specs.declared.fault.Refusal.{Refusal}
 use Rattle.call_members.specs.declared.fault.Refusal.TheVariants.{NotJson, NoType, UnknownType}
-use Rattle.call_json.specs.Subscribe.{subscribe_of}
-use Rattle.call_json.specs.Offers.{accept_of, decline_of}
-use Rattle.call_json.specs.Tasks.{kill_of, acknowledge_of, reconcile_of}
+use Rattle.call_bodies.specs.Frameworks.{teardown_of, revive_of, suppress_of}
+use Rattle.call_bodies.specs.Subscribe.{subscribe_of}
+use Rattle.call_bodies.specs.Offers.{accept_of, decline_of}
+use Rattle.call_bodies.specs.Tasks.{kill_of, acknowledge_of, reconcile_of}
 use Rattle.mails.specs.declared.call.Call.{Call}
-use Rattle.mails.specs.declared.call.Call.TheVariants as calls
 use Rattle.call_json.specs.declared.read.Kind.{Kind}
 use Rattle.call_json.specs.declared.read.Kind.TheVariants.{Subscribe, Teardown, Accept, Decline, Revive, Suppress, Kill, Acknowledge, Reconcile}
-
--- ---- calls that say no more than whose framework they are
-
-unfoldable pub teardown_of : Data → Result Call Refusal
-teardown_of d = framework_of d >>= λ framework. Ok (calls.Teardown framework)
-
-unfoldable pub revive_of : Data → Result Call Refusal
-revive_of d = framework_of d >>= λ framework. Ok (calls.Revive framework)
-
-unfoldable pub suppress_of : Data → Result Call Refusal
-suppress_of d = framework_of d >>= λ framework. Ok (calls.Suppress framework)
-
--- ---- any call
 
 unfoldable pub kind_of : List ℕ → Option Kind
 kind_of text =

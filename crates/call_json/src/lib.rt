@@ -1,14 +1,8 @@
 //! The calls of the Mesos scheduler HTTP API, read from JSON.
 #![tactic(auto)]
 
-mod accept;
-mod framework;
 mod nesting;
-mod offers;
 mod read;
-mod reconcile;
-mod subscribe;
-mod task;
 
 pub use call_members::{CallFault, Member, Refusal};
 pub use mails::{Call, ReconciledTask, TaskInfo};

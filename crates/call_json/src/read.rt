@@ -7,12 +7,10 @@ ghost use Rattle.serde_json.specs.View.{view};
 ghost use Rattle.call_members.specs.Answers.{Gives};
 ghost use Rattle.call_json.specs.Calls.{kind_of, by_kind, call_of, nested_call, read_json, read_call};
 
-use crate::accept::{accept, decline};
-use crate::framework::{revive, suppress, teardown};
 use crate::nesting::nests_within;
-use crate::reconcile::reconcile;
-use crate::subscribe::subscribe;
-use crate::task::{acknowledge, kill};
+use call_bodies::{
+    accept, acknowledge, decline, kill, reconcile, revive, subscribe, suppress, teardown,
+};
 use call_members::{CallFault, Refusal};
 use mails::Call;
 use number_trim::trim;

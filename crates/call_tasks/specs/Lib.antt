@@ -1,2 +1,0 @@
-pub mod Resources
-pub mod Tasks

@@ -1,0 +1,152 @@
+//! What becomes of the tasks of a record: all that a change doesn't name are copied as they are.
+
+ghost use Rattle.std.specs.Prelude.{◌≡◌, ◌&&◌, if◌then◌else◌, IfOk, None, Some, not, map, filter};
+ghost use Rattle.std.specs.List.{list_any};
+ghost use Rattle.stream_core.specs.Updates.{is_done, is_full};
+ghost use Rattle.cluster_model.specs.Agents.{is_task, has_ended, is_front_at, stated, acknowledged, needs_place};
+ghost use Rattle.cluster_model.specs.Ids.{same};
+
+use crate::ids::{is_same_framework, is_same_key};
+use mails::RecordedTask;
+use names_core::{FrameworkId, LaunchKey, TaskState};
+use plain_data::Plain;
+use std::alloc::{AllocError, Global};
+
+/// Whether a task has this key.
+pub fn is_of_key(key: LaunchKey, task: &RecordedTask) -> bool
+    ensures { result ≡ is_task key task.now }
+{
+    is_same_key(task.job.key, key)
+}
+
+fn stated_one(
+    key: LaunchKey,
+    state: TaskState,
+    task: &RecordedTask,
+) -> Result<RecordedTask, AllocError>
+    ensures { IfOk result (λ t. t ≡ stated key state task.now) }
+{
+    let mut copy = task.copy()?;
+    if is_of_key(key, task) && !task.updates.has_ended() {
+        match copy.updates.push(state) {
+            Ok(()) => {}
+            Err(_) => return Err(AllocError),
+        }
+    }
+    Ok(copy)
+}
+
+/// The tasks once a state came to the task of a key, unless it has ended. There has to be a place for the state.
+pub fn stated_all(
+    alloc: Global,
+    key: LaunchKey,
+    state: TaskState,
+    tasks: &[RecordedTask],
+) -> Result<Vec<RecordedTask>, AllocError>
+    ensures { IfOk result (λ v. v.items ≡ map (stated key state) tasks.now) }
+{
+    let mut changed = Vec::with_capacity(alloc, tasks.len())?;
+    for task in tasks {
+        changed.push(stated_one(key, state, task)?)?;
+    }
+    Ok(changed)
+}
+
+fn acknowledged_one(key: LaunchKey, k: u32, task: &RecordedTask) -> Result<RecordedTask, AllocError>
+    ensures { IfOk result (λ t. t ≡ acknowledged key k task.now) }
+{
+    let mut copy = task.copy()?;
+    if is_of_key(key, task) {
+        let _taken = copy.updates.acknowledge(k);
+    }
+    Ok(copy)
+}
+
+fn drop_done(tasks: &mut Vec<RecordedTask>)
+    ensures { tasks.new.items ≡ filter (λ t. not (is_done t.updates)) tasks.old.items }
+{
+    tasks.retain(|task| !task.updates.done());
+}
+
+/// The tasks once update `k` of the task of a key is acknowledged, if it is its front; those that are done then are left out.
+pub fn acknowledged_all(
+    alloc: Global,
+    key: LaunchKey,
+    k: u32,
+    tasks: &[RecordedTask],
+) -> Result<Vec<RecordedTask>, AllocError>
+    ensures { IfOk result (λ v. v.items ≡ filter (λ t. not (is_done t.updates)) (map (acknowledged key k) tasks.now)) }
+{
+    let mut changed = Vec::with_capacity(alloc, tasks.len())?;
+    for task in tasks {
+        changed.push(acknowledged_one(key, k, task)?)?;
+    }
+    drop_done(&mut changed);
+    Ok(changed)
+}
+
+/// The tasks of all other frameworks.
+pub fn without_framework(
+    alloc: Global,
+    framework: FrameworkId,
+    tasks: &[RecordedTask],
+) -> Result<Vec<RecordedTask>, AllocError>
+    ensures { IfOk result (λ v. v.items ≡ filter (λ t. not (same t.job.framework framework)) tasks.now) }
+{
+    let mut kept = Vec::new(alloc);
+    for task in tasks {
+        if !is_same_framework(task.job.framework, framework) {
+            kept.push(task.copy()?)?;
+        }
+    }
+    Ok(kept)
+}
+
+/// Whether update `k` is the front of the task of this key: the first that isn't acknowledged.
+pub fn is_front_at(key: LaunchKey, k: u32, tasks: &[RecordedTask]) -> bool
+    ensures { result ≡ is_front_at key k tasks.now }
+{
+    tasks
+        .iter()
+        .any(|task| is_of_key(key, task) && task.updates.is_front(k))
+}
+
+/// The key of the task whose front goes out behind an acknowledgement of its update `k`: none where that isn't its front.
+pub fn told_behind(key: LaunchKey, k: u32, tasks: &[RecordedTask]) -> Option<LaunchKey>
+    ensures { result ≡ (if is_front_at key k tasks.now then Some key else None) }
+{
+    if is_front_at(key, k, tasks) {
+        return Some(key);
+    }
+    None
+}
+
+/// Whether there is a task of this key.
+pub fn has_task(key: LaunchKey, tasks: &[RecordedTask]) -> bool
+    ensures { result ≡ list_any (is_task key) tasks.now }
+{
+    tasks.iter().any(|task| is_of_key(key, task))
+}
+
+/// Whether there is a task of this key, and it has ended.
+pub fn has_ended_task(key: LaunchKey, tasks: &[RecordedTask]) -> bool
+    ensures { result ≡ list_any (λ t. is_task key t && has_ended t) tasks.now }
+{
+    tasks
+        .iter()
+        .any(|task| is_of_key(key, task) && task.updates.has_ended())
+}
+
+/// Whether the task of this key has a place left for a terminal state only.
+fn has_full_task(key: LaunchKey, tasks: &[RecordedTask]) -> bool
+    ensures { result ≡ list_any (λ t. is_task key t && is_full t.updates) tasks.now }
+{
+    tasks.iter().any(|task| is_of_key(key, task) && task.updates.states().len() >= 4095)
+}
+
+/// Whether a state finds no place at the task of this key.
+pub fn lacks_place(key: LaunchKey, state: TaskState, tasks: &[RecordedTask]) -> bool
+    ensures { result ≡ (needs_place state && list_any (λ t. is_task key t && is_full t.updates) tasks.now) }
+{
+    !state.is_terminal() && has_full_task(key, tasks)
+}

@@ -1,0 +1,16 @@
+//! The tasks of an agent's record: what becomes of all of them at a change of one, and what of them is sent.
+#![tactic(auto)]
+
+mod edits;
+mod fronts;
+mod ids;
+mod keys;
+mod room;
+
+pub use edits::{
+    acknowledged_all, has_ended_task, has_task, lacks_place, stated_all, told_behind,
+    without_framework,
+};
+pub use fronts::{all_reported, push_fronts, push_fronts_at};
+pub use keys::{is_before, is_behind_all};
+pub use room::has_room;
