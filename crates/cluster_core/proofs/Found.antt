@@ -21,9 +21,9 @@ use Rattle.cluster_laws.proofs.Grown.{Grown, world_grown}
 use Rattle.cluster_laws.proofs.Histories.{reached}
 use Rattle.cluster_laws.proofs.Named.{AnyMail, HasName, history_named}
 use Rattle.cluster_laws.specs.Parts.{Part, configured, parts_of, recovered_part}
-use Rattle.cluster_core.specs.Records.{AreRecordsOf, in_order}
+use Rattle.cluster_openings.specs.Records.{AreRecordsOf, in_order}
 use Rattle.cluster_core.specs.Stopping.{AreFound, live_of}
-use Rattle.cluster_core.proofs.InOrder.{of_configured, of_permuted, stand_in_order}
+use Rattle.cluster_openings.proofs.InOrder.{of_configured, of_permuted, stand_in_order}
 
 -- ---- the agents of a history are those of its opening
 

@@ -2,10 +2,6 @@ pub mod Parting
 pub mod Puttings
 pub mod Mailing
 pub mod Telling
-pub mod FreshRecords
 pub mod SafeStories
-pub mod RunSteps
-pub mod Permuted
-pub mod InOrder
+pub mod Posted
 pub mod Found
-pub mod Decided

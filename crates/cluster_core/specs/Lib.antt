@@ -1,11 +1,7 @@
-pub mod Records
 pub mod Stories
 pub mod Parts
 pub mod Putting
 pub mod Keeping
-pub mod Fresh
 pub mod Safety
 pub mod Reading
-pub mod Running
-pub mod Openable
 pub mod Stopping

@@ -8,7 +8,7 @@ use Rattle.cluster_model.specs.Steps.{Done, History, history, opening, step_mark
 use Rattle.cluster_laws.specs.Premises.{AreRecorded}
 use Rattle.cluster_steps.specs.declared.entry.Entry.{Entry}
 use Rattle.cluster_steps.specs.Steps.{entry_of, marked_of}
-use Rattle.cluster_core.specs.Records.{in_order}
+use Rattle.cluster_openings.specs.Records.{in_order}
 
 pub record Story : Type 0 where
   pub run : ℕ

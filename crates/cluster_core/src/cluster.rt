@@ -4,7 +4,7 @@ ghost use Rattle.std.specs.Prelude.{◌≡◌, ◌<◌, ◌≤◌, ◌+◌, ℕ,
 ghost use Rattle.std.specs.Option.{option_copied};
 ghost use Rattle.cluster_core.specs.Keeping.{IsRefused, IsTaken, WithheldFrom, known_after, offered_in};
 ghost use Rattle.cluster_core.specs.Safety.{Safe};
-ghost use Rattle.cluster_core.specs.Records.{AreRecordsOf};
+ghost use Rattle.cluster_openings.specs.Records.{AreRecordsOf};
 ghost use Rattle.cluster_core.specs.Stopping.{AreFound, live_in, live_of};
 ghost use Rattle.cluster_core.specs.Stories.{IsLegal, opened_over, state_of};
 ghost use Rattle.cluster_laws.specs.Parts.{configured};
@@ -22,13 +22,12 @@ ghost use Rattle.mails.specs.declared.record.Durable.{Durable as Record};
 mod reading;
 
 use crate::advancing::{advance, put_all};
-use crate::ordering::put_in_order;
 use crate::parts::Parts;
-use crate::recorded::records_are_recorded;
 use crate::safety::stories_are_safe;
 use crate::stopping::stopped_stories_open_again;
 use crate::taken::{History, Taken};
 use agent_core::Record;
+use cluster_openings::{put_in_order, records_are_recorded};
 use cluster_parts::{ClusterAgent, open_parts};
 use cluster_steps::{ClusterFault, Entry, Outputs, Step};
 use master_core::Config;

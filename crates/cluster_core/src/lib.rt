@@ -4,20 +4,13 @@
 
 mod advancing;
 mod cluster;
-mod fresh;
-mod good_openings;
-mod ordering;
 mod parts;
-mod recorded;
-mod running;
 mod safety;
 mod stopping;
 mod taken;
 
 pub use agent_core::Record;
 pub use cluster::Cluster;
+pub use cluster_openings::{fresh_agents_open, fresh_records, good_opening};
 pub use cluster_steps::{ClusterFault, Entry, Keep, Outputs, Sent, Step, StepCause, Verdict};
-pub use fresh::{fresh_agents_open, fresh_records};
-pub use good_openings::good_opening;
-pub use running::{open_fresh, run};
 pub use taken::Taken;

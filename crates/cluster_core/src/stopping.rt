@@ -1,7 +1,7 @@
 //! What a stop leaves of a cluster's records.
 
 ghost use Rattle.std.specs.Prelude.{◌≡◌, ◌<◌, ℕ, List, map};
-ghost use Rattle.cluster_core.specs.Records.{AreRecordsOf};
+ghost use Rattle.cluster_openings.specs.Records.{AreRecordsOf};
 ghost use Rattle.cluster_core.specs.Stopping.{AreFound, live_in, live_of};
 ghost use Rattle.cluster_core.specs.Stories.{IsLegal, Story, opened_over, state_of};
 ghost use Rattle.cluster_laws.specs.Parts.{configured};

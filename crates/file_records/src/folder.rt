@@ -1,7 +1,7 @@
 //! A folder of stores.
 
 ghost use Rattle.std.specs.Prelude.{◌≡◌, IfOk, IfErr, IfSome, IfNone, OnOk};
-ghost use Rattle.cluster_core.specs.Records.{AreRecordsOf};
+ghost use Rattle.cluster_openings.specs.Records.{AreRecordsOf};
 ghost use Rattle.cluster_model.specs.Agents as agents;
 ghost use Rattle.cluster_model.specs.Openings.{GoodOpening};
 ghost use Rattle.file_records.specs.Refusals.{IsFileRefusal, IsFolderRefusal, IsRecordRefusal, IsStoreRefusal};
@@ -11,7 +11,7 @@ use crate::cabinet::{RecordFile, load_at};
 use crate::fault::FolderFault;
 use agent_core::Record;
 use agent_sides::{Config, ConfiguredAgent};
-use cluster_core::good_opening;
+use cluster_openings::good_opening;
 use keep_store::{KeepFault, Keeper};
 use names_core::Run;
 use plain_data::Plain;

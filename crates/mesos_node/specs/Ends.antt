@@ -2,7 +2,7 @@
 use Rattle.std.specs.Prelude.{◌≡◌, ℕ, List, Option}
 use Rattle.std.specs.Io.KnownBytes.{Appends}
 use Rattle.recorded_cluster.specs.Recording.{Recorded, IsSound}
-use Rattle.replays.specs.Replays.{table}
+use Rattle.replayed_clusters.specs.Tables.{table}
 
 -- the text is the table at the end of a cluster's history, each entry of which is a legal step, and the cluster is safe
 abbrev pub IsEndTable : List ℕ → Type 0

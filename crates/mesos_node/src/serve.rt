@@ -3,7 +3,7 @@
 ghost use Rattle.std.specs.Prelude.{◌≡◌, IfOk};
 ghost use Rattle.std.specs.Io.KnownBytes.{Keeps};
 ghost use Rattle.std.specs.Process.{exit_status};
-ghost use Rattle.cluster_core.specs.Records.{AreRecordsOf};
+ghost use Rattle.cluster_openings.specs.Records.{AreRecordsOf};
 ghost use Rattle.cluster_model.specs.Openings.{GoodOpening};
 ghost use Rattle.mesos_node.specs.Statuses.{IsStatus, status_of_fault};
 ghost use Rattle.mesos_node.specs.Ends.{AppendsTable, IsEndTable};
@@ -18,7 +18,7 @@ use command_line::ServeOptions;
 use device_io::put;
 use file_records::{Folder, open_folder};
 use post_rules::Queues;
-use replays::end_table;
+use replayed_clusters::end_table;
 use serving::{Pace, serve_cluster};
 use std::io::Write;
 use std::marker::Brand;

@@ -1,3 +1,2 @@
-pub mod Stories
 pub mod Replays
 pub mod Laws

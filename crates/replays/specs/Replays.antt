@@ -1,26 +1,20 @@
 -- What a replay writes for its lines.
-use Rattle.std.specs.Prelude.{ℕ, ◌+◌, ◌==◌, ◌&&◌, ◌||◌, not, Bool, List, [], ◌++◌, length, nat_le, is_some, Option, Some, None, Result, Ok, Err, unwrap_or, if◌then◌else◌}
-use Rattle.std.specs.List.{flat_map, list_all}
-use Rattle.mails.specs.declared.record.Durable.{Durable}
-use Rattle.mails.specs.declared.record.RecordedTask.{RecordedTask}
-use Rattle.quantity.specs.declared.rows.Row.{Row}
-use Rattle.quantity.specs.Rows.{plus_rows}
+use Rattle.std.specs.Prelude.{ℕ, ◌+◌, ◌==◌, ◌&&◌, ◌||◌, not, Bool, List, [], length, nat_le, is_some, Option, Some, None, Result, Ok, Err, if◌then◌else◌}
+use Rattle.std.specs.List.{list_all}
 use Rattle.agent_sides.specs.declared.config.ConfiguredAgent.{ConfiguredAgent}
-use Rattle.cluster_model.specs.Agents.{live_tasks, task_rows}
-use Rattle.cluster_steps.specs.declared.entry.Entry.{Entry}
-use Rattle.cluster_steps.specs.declared.fault.ClusterFault.{ClusterFault}
 use Rattle.cluster_steps.specs.declared.step.Step.{Step}
 use Rattle.step_lines.specs.declared.fault.LineRefusal.{LineRefusal}
 use Rattle.step_lines.specs.declared.fault.LineRefusal.TheVariants.{BadConfig}
 use Rattle.step_lines.specs.Configs.{read_config}
 use Rattle.step_lines.specs.Lines.{longest_line, read_step}
-use Rattle.entry_lines.specs.Ends.{agent_text, entries_text}
-use Rattle.entry_lines.specs.Lines.{entry_text, opening_text, refused_text}
+use Rattle.entry_lines.specs.Lines.{opening_text}
 use Rattle.line_answers.specs.Answers.{after_all, answer}
 use Rattle.line_answers.specs.Texts.{all_lines}
 use Rattle.replays.specs.declared.fault.LineStop.{LineStop}
-use Rattle.replays.specs.Stories.{count, due, fresh_story, greetings, offered_now, records_now}
-use Rattle.cluster_core.specs.Stories.{Story, with_entry}
+use Rattle.replayed_clusters.specs.Stories.{due, fresh_story, greetings}
+use Rattle.replayed_clusters.specs.Outcomes.{Outcome, outcome}
+use Rattle.replayed_clusters.specs.Tables.{table}
+use Rattle.cluster_core.specs.Stories.{Story}
 
 -- how a replay stands behind some lines: its cluster's story, of which there is none before the first line; how many lines and steps there were, and how many calls and
 -- mails were sent; and the line that ended it, if one did, with its refusal
@@ -53,17 +47,6 @@ opens r (Err refusal) = stops r refusal
 opens r (Ok agents) = opened r (fresh_story agents)
 
 -- each other line is a step
-
--- what is told of a step, its cluster's story then, and how many calls and mails it sent
-pub record Outcome : Type 0 where
-  pub text : List ℕ
-  pub story : Story
-  pub sent : ℕ
-
--- of the step of this number, whose first call or mail has the number `first`: its entry, or why it is refused
-abbrev pub outcome : ℕ → ℕ → Story → Result Entry ClusterFault → Outcome
-outcome number first s (Err fault) = record { text = refused_text number fault; story = s; sent = 0 }
-outcome number first s (Ok entry) = record { text = unwrap_or (entry_text number first entry) []; story = with_entry s entry; sent = length entry.outputs.sent }
 
 abbrev pub answered : Replay → Outcome → Told
 answered r o = record { text = o.text; after = record r { story = Some o.story; lines = r.lines + 1; steps = r.steps + 1; sent = r.sent + o.sent } }
@@ -101,16 +84,6 @@ abbrev pub goes_on : Replay → Bool
 goes_on r = not (is_some r.fault)
 
 -- at the end stand the agents with their tasks, and the number of entries
-
--- what live tasks hold
-abbrev pub live : List RecordedTask → List Row
-live tasks = plus_rows [] (task_rows (live_tasks tasks))
-
-abbrev pub agent_lines : Story → Durable → List ℕ
-agent_lines s d = agent_text d (offered_now s d.name) (live d.tasks)
-
-abbrev pub table : Story → List ℕ
-table s = flat_map (agent_lines s) (records_now s) ++ entries_text (count s)
 
 abbrev pub table_of : Option Story → List ℕ
 table_of None = []

@@ -6,15 +6,12 @@ ghost use Rattle.cluster_core.specs.Safety.{Safe};
 ghost use Rattle.step_lines.specs.Configs.{read_config};
 ghost use Rattle.step_lines.specs.Lines.{read_step};
 ghost use Rattle.replays.specs.Replays as replays;
-ghost use Rattle.replays.specs.Stories.{fresh_story};
+ghost use Rattle.replayed_clusters.specs.Stories.{fresh_story};
 
 use crate::fault::LineStop;
-use crate::numbers::raised;
-use crate::replayed::Replayed;
-use crate::steps::{take_step, tell_opening};
-use crate::table::end_table;
 use agent_sides::Config;
 use line_answers::{LONGEST_LINE, Teller};
+use replayed_clusters::{Replayed, end_table, raised, take_step, tell_opening};
 use std::alloc::{AllocError, Global};
 use std::marker::Model;
 use step_lines::{LineFault, LineRefusal, read_config, read_step};

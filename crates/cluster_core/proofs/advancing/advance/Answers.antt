@@ -10,7 +10,7 @@ use Rattle.cluster_core.specs.Keeping.{IsKept, IsTaken, entry_made, story_of, ta
 use Rattle.cluster_core.specs.Stories.{Story, state_of, with_entry}
 use Rattle.cluster_core.specs.declared.taken.Taken.{Taken}
 use Rattle.cluster_core.proofs.Puttings.{put_since}
-use Rattle.cluster_core.proofs.RunSteps.{all_posts}
+use Rattle.cluster_core.proofs.Posted.{all_posts}
 use Rattle.cluster_core.proofs.Telling.{are_parts, full_refused, keeps_on, parts_of_story, stays, step_refused, takes_on}
 use Rattle.cluster_core.proofs.advancing.advance.Goals as goal
 

@@ -3,11 +3,11 @@ use Rattle.mails.specs.declared.record.Durable.{Durable}
 use Rattle.cluster_laws.specs.Parts.{configured}
 use Rattle.cluster_model.specs.Openings.{GoodOpening}
 use Rattle.cluster_steps.specs.Steps.{marked_of}
-use Rattle.cluster_core.specs.Records.{in_order}
+use Rattle.cluster_openings.specs.Records.{in_order}
 use Rattle.cluster_core.specs.Stopping.{AreFound, live_of}
 use Rattle.cluster_core.specs.Stories.{IsLegal, Story, opened_over, state_of}
 use Rattle.cluster_core.proofs.Found.{found_in_order, found_of, live_so}
-use Rattle.cluster_core.proofs.Permuted.{good_permuted}
+use Rattle.cluster_openings.proofs.Permuted.{good_permuted}
 use Rattle.cluster_core.proofs.stopping.stopped_stories_open_again.Goals as goal
 
 pub returns : goal.returns

@@ -1,7 +1,7 @@
 use Rattle.std.proofs.Common.{◌∙◌, sym}
 use Rattle.cluster_core.specs.Keeping.{story_of}
 use Rattle.cluster_core.specs.Stories.{state_of}
-use Rattle.cluster_core.proofs.RunSteps.{all_posts}
+use Rattle.cluster_core.proofs.Posted.{all_posts}
 use Rattle.cluster_core.proofs.cluster.Cluster.has_all_sent.Goals as goal
 
 pub returns : goal.returns

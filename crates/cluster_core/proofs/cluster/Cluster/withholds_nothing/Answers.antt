@@ -1,6 +1,6 @@
 use Rattle.std.proofs.Common.{◌≤◌, ℕ, subst, sym}
 use Rattle.cluster_core.specs.Stories.{state_of}
-use Rattle.cluster_core.proofs.RunSteps.{never_withheld}
+use Rattle.cluster_core.proofs.Posted.{never_withheld}
 use Rattle.cluster_core.proofs.cluster.Cluster.withholds_nothing.Goals as goal
 
 pub returns : goal.returns

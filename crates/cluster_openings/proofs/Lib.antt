@@ -1,0 +1,4 @@
+pub mod FreshRecords
+pub mod Permuted
+pub mod InOrder
+pub mod Decided

@@ -1,0 +1,7 @@
+use Rattle.std.proofs.Common.{drop}
+use Rattle.std.specs.List.{AllByRecursion as Each}
+use Rattle.cluster_model.specs.Openings.{RecordFits}
+use Rattle.cluster_openings.proofs.good_openings.records_fit.Given as goal
+
+abbrev pub invariant-loop-durable : goal.invariant-loop-durable
+invariant-loop-durable l = Each RecordFits (drop l.durable-index l.records) → Each RecordFits l.records

@@ -1,0 +1,166 @@
+//! Whether records are a good opening. No test takes memory.
+
+ghost use Rattle.std.specs.Prelude.{◌≡◌, ◌↔◌, true, nat_lt, map, List, IsTrue, ℕ};
+ghost use Rattle.std.specs.List.{AllByRecursion as Each, list_all};
+ghost use Rattle.std.specs.List.Sorted.{IsPermutation};
+ghost use Rattle.agent_sides.specs.Configs.{are_ordered, names_of};
+ghost use Rattle.agent_sides.specs.declared.config.ConfiguredAgent.{ConfiguredAgent as Configured};
+ghost use Rattle.cluster_openings.specs.Openable.{any_has_key, are_good, are_keys_new, are_keys_once, has_key, is_before, is_task_before};
+ghost use Rattle.cluster_openings.specs.Records.{AreRecordsOf};
+ghost use Rattle.cluster_laws.specs.Parts.{configured};
+ghost use Rattle.cluster_model.specs.Openings.{GoodOpening, RecordFits};
+ghost use Rattle.mails.specs.declared.record.Durable.{Durable};
+
+use crate::ordering::sort_by_name;
+use agent_core::Record;
+use agent_sides::{Config, ConfiguredAgent};
+use mails::RecordedTask;
+use names_core::{LaunchKey, OfferId, Run};
+use plain_data::Plain;
+use quantity::covers_is_at_least;
+
+/// What the type of a record keeps of it: its live tasks fit what its agent owns.
+fn record_fits(durable: &Record)
+    ensures { RecordFits durable.now }
+{
+    covers_is_at_least();
+    let _parts = durable.parts();
+}
+
+/// The same of all records.
+fn records_fit(records: &[Record])
+    ensures { Each RecordFits records.now }
+{
+    for durable in records {
+        record_fits(durable);
+    }
+}
+
+fn are_offers_before(offers: &[OfferId], run: u16) -> bool
+    ensures { result ≡ list_all (λ id. nat_lt id.run run) offers.now }
+{
+    offers.iter().all(|id| id.run() < run)
+}
+
+fn is_task_before(task: &RecordedTask, run: u16) -> bool
+    ensures { result ≡ is_task_before run task.now }
+{
+    task.job.key.run() < run
+        && task.job.framework.run() < run
+        && are_offers_before(task.offers.as_slice(), run)
+}
+
+fn are_tasks_before(tasks: &[RecordedTask], run: u16) -> bool
+    ensures { result ≡ list_all (is_task_before run) tasks.now }
+{
+    tasks.iter().all(|task| is_task_before(task, run))
+}
+
+/// Whether every run in a record lies before this one.
+fn is_before(durable: &Record, run: u16) -> bool
+    ensures { result ≡ is_before run durable.now }
+{
+    let parts = durable.parts();
+    parts.run < u32::from(run) && are_tasks_before(parts.tasks.as_slice(), run)
+}
+
+fn has_key(tasks: &[RecordedTask], key: LaunchKey) -> bool
+    ensures { result ≡ has_key key tasks.now }
+{
+    tasks.iter().any(|task| {
+        task.job.key.number() == key.number() && task.job.key.run() == key.run()
+    })
+}
+
+fn any_has_key(records: &[Record], key: LaunchKey) -> bool
+    ensures { result ≡ any_has_key key records.now }
+{
+    records
+        .iter()
+        .any(|durable| has_key(durable.parts().tasks.as_slice(), key))
+}
+
+/// Whether no key of tasks stands twice, nor in the records behind them.
+fn are_keys_new(tasks: &[RecordedTask], behind: &[Record]) -> bool
+    ensures { result ≡ are_keys_new tasks.now behind.now }
+{
+    for i in 0..tasks.len() {
+        let key = tasks[i].job.key;
+        if has_key(&tasks[i + 1..], key) || any_has_key(behind, key) {
+            return false;
+        }
+    }
+    true
+}
+
+/// Whether no launch key stands twice in all records.
+fn are_keys_once(records: &[Record]) -> bool
+    ensures { result ≡ are_keys_once records.now }
+{
+    for i in 0..records.len() {
+        if !are_keys_new(records[i].parts().tasks.as_slice(), &records[i + 1..]) {
+            return false;
+        }
+    }
+    true
+}
+
+/// Whether a record is of this agent and has what it owns.
+fn is_configured(agent: &ConfiguredAgent, durable: &Record) -> bool
+    ensures { IsTrue result ↔ (agent.now ≡ configured durable.now) }
+{
+    let parts = durable.parts();
+    agent.name.is(&parts.name) && agent.total.is_same(&parts.total)
+}
+
+/// Whether there is one record for each agent, in their order, and no other.
+fn are_configured(agents: &[ConfiguredAgent], records: &[Record]) -> bool
+    ensures { IsTrue result ↔ (agents.now ≡ map configured records.now) }
+{
+    if agents.len() != records.len() {
+        return false;
+    }
+    for i in 0..agents.len() {
+        if !is_configured(&agents[i], &records[i]) {
+            return false;
+        }
+    }
+    true
+}
+
+fn are_all_before(records: &[Record], run: u16) -> bool
+    ensures { result ≡ list_all (is_before run) records.now }
+{
+    records.iter().all(|durable| is_before(durable, run))
+}
+
+/// The tests decide, of records of configured agents that fit their totals, whether they are a good opening.
+fn openings_are_decided()
+    ensures good { (agents : List Configured) (run : ℕ) (records : List Durable) → are_ordered (names_of agents) ≡ true → agents ≡ map configured records → Each RecordFits records → are_good run records ≡ true → GoodOpening run records }
+    ensures tests { (run : ℕ) (records : List Durable) → GoodOpening run records → are_good run records ≡ true }
+{}
+
+/// Whether a cluster of these agents may be opened over records that stand in their order.
+fn is_good_in_order(config: &Config, records: &[Record], run: Run) -> bool
+    ensures { IsTrue result ↔ (GoodOpening run records.now × (config.now ≡ map configured records.now)) }
+{
+    openings_are_decided();
+    records_fit(records);
+    are_configured(config.agents(), records)
+        && are_keys_once(records)
+        && are_all_before(records, run.number())
+}
+
+/// Sorts records by the names of their agents, and tells whether a cluster of these agents may be opened over them in this run: there is one
+/// record for each agent and no other, with the agent's total, no launch key stands twice, and every run in them lies before this one. (That each
+/// record's live tasks fit its total holds of every `Record`.)
+pub fn good_opening(config: &Config, records: &mut [Record], run: Run) -> bool
+    ensures test { IsTrue result ↔ (GoodOpening run records.old × AreRecordsOf config.now records.old) }
+    ensures good { IsTrue result → GoodOpening run records.new }
+    ensures records { IsTrue result → AreRecordsOf config.now records.new }
+    ensures permutation { IsPermutation records.old records.new }
+{
+    let _agents = config.agents();
+    sort_by_name(records);
+    is_good_in_order(config, records, run)
+}

@@ -1,0 +1,47 @@
+-- What a replay reads of a cluster's story.
+use Rattle.std.specs.Prelude.{ℕ, ◌+◌, List, [], length, map, Result, Ok, Err, if◌then◌else◌}
+use Rattle.mails.specs.declared.record.Durable.{Durable}
+use Rattle.quantity.specs.declared.rows.Row.{Row}
+use Rattle.agent_sides.specs.declared.config.ConfiguredAgent.{ConfiguredAgent}
+use Rattle.master_core.specs.Steps.{offered_on}
+use Rattle.cluster_model.specs.Clusters.{StepRefusal, master_of}
+use Rattle.cluster_model.specs.Steps.{Done, open_cluster, step_marked, unmarked}
+use Rattle.cluster_steps.specs.declared.entry.Entry.{Entry}
+use Rattle.cluster_steps.specs.declared.entry.Sent.{Sent}
+use Rattle.cluster_steps.specs.declared.fault.ClusterFault.{ClusterFault}
+use Rattle.cluster_steps.specs.declared.step.Step.{Step}
+use Rattle.cluster_steps.specs.Steps.{entry_of, fault_of, sent_of, step_of}
+use Rattle.cluster_openings.specs.Fresh.{fresh_records}
+use Rattle.cluster_core.specs.declared.taken.Taken.{Taken}
+use Rattle.cluster_core.specs.Stories.{Story, state_of}
+
+-- a cluster of agents that never ran, in run 1
+abbrev pub fresh_story : List ConfiguredAgent → Story
+fresh_story agents = record { run = 1; records = fresh_records agents; entries = [] }
+
+-- the mails that the opening sends
+unfoldable pub greetings : Story → List Sent
+greetings s = map sent_of (open_cluster s.run s.records).entry.outs.sent
+
+abbrev pub entry_in : Taken → Entry
+entry_in taken = taken.entry
+
+abbrev pub entry_or_fault : Step → Result Done StepRefusal → Result Entry ClusterFault
+entry_or_fault step (Ok d) = Ok (entry_of step d.entry)
+entry_or_fault step (Err refusal) = Err (fault_of refusal)
+
+-- the entry that a step makes, or why it is refused
+unfoldable pub due : Story → Step → Result Entry ClusterFault
+due s step = entry_or_fault step (step_marked (state_of s) (unmarked (step_of step)))
+
+-- the agents' records, by their names
+unfoldable pub records_now : Story → List Durable
+records_now s = map (λ x. x.agent.durable) (state_of s).world.channels
+
+-- the sum of the current offers on an agent, of which there are none where no master serves
+unfoldable pub offered_now : Story → List ℕ → List Row
+offered_now s agent = if (state_of s).world.run.serves then offered_on (master_of (state_of s)) agent else []
+
+-- the entries, the opening counted
+abbrev pub count : Story → ℕ
+count s = length s.entries + 1

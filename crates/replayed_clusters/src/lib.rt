@@ -1,0 +1,13 @@
+//! A cluster that is replayed: what is told of its opening and of each step, and the table at the end of a history.
+#![tactic(auto)]
+
+mod live;
+mod numbers;
+mod replayed;
+mod steps;
+mod table;
+
+pub use numbers::raised;
+pub use replayed::Replayed;
+pub use steps::{Telling, take_step, tell_opening};
+pub use table::end_table;

@@ -1,0 +1,15 @@
+//! Numbers.
+
+ghost use Rattle.std.specs.Prelude.{◌≡◌, ◌+◌, IfOk};
+
+use std::alloc::AllocError;
+
+/// A number more, which memory stands for where there are no more numbers.
+pub fn raised(number: u64, more: u64) -> Result<u64, AllocError>
+    ensures { IfOk result (λ sum. sum ≡ number + more) }
+{
+    match number.checked_add(more) {
+        Some(sum) => Ok(sum),
+        None => Err(AllocError),
+    }
+}

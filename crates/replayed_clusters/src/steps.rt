@@ -1,0 +1,62 @@
+//! What is told of steps.
+
+ghost use Rattle.std.specs.Prelude.{◌≡◌, length, IfOk, Some};
+ghost use Rattle.entry_lines.specs.Lines.{entry_text, opening_text};
+ghost use Rattle.replayed_clusters.specs.Outcomes.{outcome};
+ghost use Rattle.replayed_clusters.specs.Stories.{due, greetings};
+
+use crate::numbers::raised;
+use crate::replayed::Replayed;
+use cluster_steps::{ClusterFault, Entry, Step};
+use entry_lines::{entry_text, opening_text, refused_text};
+use std::alloc::{AllocError, Global};
+
+/// What is told, and how many calls and mails were sent.
+#[derive(Drop)]
+pub struct Telling {
+    pub text: Vec<u8>,
+    pub sent: u64,
+}
+
+/// What is told of a cluster's opening.
+pub fn tell_opening(alloc: Global, cluster: &Replayed) -> Result<Telling, AllocError>
+    ensures text { IfOk result (λ told. told.text.items ≡ opening_text (greetings cluster.now)) }
+    ensures sent { IfOk result (λ told. told.sent ≡ length (greetings cluster.now)) }
+{
+    let greetings = cluster.greetings();
+    let sent = greetings.len() as u64;
+    raised(sent, 1)?;
+    let text = opening_text(alloc, greetings)?;
+    Ok(Telling { text, sent })
+}
+
+/// What is told of an entry.
+fn tell_entry(alloc: Global, number: u64, first: u64, entry: &Entry) -> Result<Telling, AllocError>
+    ensures text { IfOk result (λ told. Some told.text.items ≡ entry_text number first entry.now) }
+    ensures sent { IfOk result (λ told. told.sent ≡ length entry.now.outputs.sent) }
+{
+    let sent = entry.outputs.sent.len() as u64;
+    raised(first, sent)?;
+    let text = entry_text(alloc, number, first, entry)?;
+    Ok(Telling { text, sent })
+}
+
+/// Takes the step of this number, and tells what comes of it; the first call or mail that it sends has the number `first`.
+pub fn take_step(
+    cluster: &mut Replayed,
+    alloc: Global,
+    number: u64,
+    first: u64,
+    step: Step,
+) -> Result<Telling, AllocError>
+    ensures { IfOk result (λ told. outcome number first cluster.old (due cluster.old step) ≡ record { text = told.text.items; story = cluster.new; sent = told.sent }) }
+{
+    match cluster.step(alloc, step) {
+        Ok(entry) => tell_entry(alloc, number, first, &entry),
+        Err(ClusterFault::OutOfMemory) => Err(AllocError),
+        Err(fault) => {
+            let text = refused_text(alloc, number, fault)?;
+            Ok(Telling { text, sent: 0 })
+        }
+    }
+}
