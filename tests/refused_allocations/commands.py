@@ -5,7 +5,7 @@ What is written must be a beginning of what is due, the status 3 where something
 the lines before the refused one bring out, and tells that one's number: so it does where a part falls in mid-step, too. The histories are a first offer, the launch of two
 tasks with the offer of what is left, an agent that is stopped behind a save and before it, and others. A program that has no memory at all passes none of them
 (tests/histories/run). In one run of the test at least an agent must fall, and be down until it is stopped. A C compiler is asked for. It prints what it checked, and
-ends within two minutes. PROGRAM=.. and TESTS=.. name other programs than crates/mesos_node/out/mesos_node and crates/cluster_tests/out/cluster_tests_tests.
+ends within two minutes. PROGRAM=.. and TESTS=.. name other programs than crates/mesos_node/out/mesos_node and crates/all_tests/out/all_tests_tests.
 """
 
 import os
@@ -17,8 +17,8 @@ import tempfile
 HERE = os.path.dirname(os.path.abspath(__file__))
 HISTORIES = f"{HERE}/../histories"
 PROGRAM = os.environ.get("PROGRAM", f"{HERE}/../../crates/mesos_node/out/mesos_node")
-TESTS = os.environ.get("TESTS", f"{HERE}/../../crates/cluster_tests/out/cluster_tests_tests")
-FALLS = "of_cluster_core_restarts::an_agent_that_fell_is_down"
+TESTS = os.environ.get("TESTS", f"{HERE}/../../crates/all_tests/out/all_tests_tests")
+FALLS = "of_cluster_tests::an_agent_that_fell_is_down"
 REPLAYED = ("first_offer", "what_is_left", "stopped_after_its_save", "stopped_before_its_save", "a_launch", "torn_down", "mails_of_other_sessions")
 
 

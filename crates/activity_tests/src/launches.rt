@@ -11,7 +11,6 @@ use std::alloc::Global;
 use std::marker::Brand;
 use std::sync::ledger::Blank;
 use std::sync::{Wait, ledger};
-use std::test::*;
 use std::thread::Threads;
 use std::time::Clock;
 
@@ -87,16 +86,15 @@ fn comes_up(played: &Option<(Option<Played>, Option<Played>)>) -> bool {
 /// The agent hears the greeting and the launch, tells that the task runs, sends that again as long as nobody acknowledges it, and tells the end a second
 /// after it saw the task run, again behind what isn't acknowledged. Each of the six causes makes three entries, Prepare, Commit and Deliver, and the
 /// framework has five.
-#[test]
-fn what_is_unacknowledged_goes_first(rt: HostRuntime) {
-    let played = after_launch(&rt, rt.alloc(), u32::MAX, false, 23);
-    assert!(rt; sends_again(&played));
+pub fn what_is_unacknowledged_goes_first<R: Threads + Wait + Clock + Sync>(
+    rt: &R,
+    alloc: Global,
+) -> bool {
+    sends_again(&after_launch(rt, alloc, u32::MAX, false, 23))
 }
 
 /// The agent is stopped while its second save is held, so its Commit is refused by C5: it stops, and starts. The two have all entries of the history, and
 /// nobody commits the launch's draft.
-#[test]
-fn a_stop_in_a_save(rt: HostRuntime) {
-    let played = after_launch(&rt, rt.alloc(), 1, true, 14);
-    assert!(rt; comes_up(&played));
+pub fn a_stop_in_a_save<R: Threads + Wait + Clock + Sync>(rt: &R, alloc: Global) -> bool {
+    comes_up(&after_launch(rt, alloc, 1, true, 14))
 }

@@ -1,15 +1,15 @@
-//! Tests of activities. They stand apart, so that the crate that they test need not be proved once more with them.
+//! Tests of activities, each a function that says whether it passed.
 #![tactic(auto)]
 
-#[cfg(test)]
 mod cabinets;
-#[cfg(test)]
 mod framework;
-#[cfg(test)]
 mod launches;
-#[cfg(test)]
 mod offices;
-#[cfg(test)]
 mod parts;
-#[cfg(test)]
 mod tests;
+
+pub use launches::{a_stop_in_a_save, what_is_unacknowledged_goes_first};
+pub use tests::{
+    an_unknown_agent, another_record_stands, the_new_record_stands, the_old_record_stands,
+    two_rounds, two_saves_overlap,
+};

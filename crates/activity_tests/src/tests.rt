@@ -12,7 +12,6 @@ use std::alloc::Global;
 use std::marker::Brand;
 use std::sync::ledger::Blank;
 use std::sync::{Wait, ledger};
-use std::test::*;
 use std::thread::Threads;
 use std::time::Clock;
 
@@ -81,24 +80,21 @@ fn is(played: &Option<Played>, letters: &[u8], end: End) -> bool {
     }
 }
 
-#[test]
-fn the_old_record_stands(rt: HostRuntime) {
-    let played = after_failed_save(&rt, rt.alloc(), Kept::Before, 2);
-    assert!(rt; begins(&played, b"PB", End::Finished));
+pub fn the_old_record_stands<R: Threads + Wait + Clock + Sync>(rt: &R, alloc: Global) -> bool {
+    let played = after_failed_save(rt, alloc, Kept::Before, 2);
+    begins(&played, b"PB", End::Finished)
 }
 
 /// The activity finishes the office itself: nobody else does so before 100 entries.
-#[test]
-fn another_record_stands(rt: HostRuntime) {
-    let played = after_failed_save(&rt, rt.alloc(), Kept::Neither, 100);
-    assert!(rt; is(&played, b"P", End::Damaged));
+pub fn another_record_stands<R: Threads + Wait + Clock + Sync>(rt: &R, alloc: Global) -> bool {
+    let played = after_failed_save(rt, alloc, Kept::Neither, 100);
+    is(&played, b"P", End::Damaged)
 }
 
 /// The agent comes up over the record that was to be saved, starts, and saves and commits again.
-#[test]
-fn the_new_record_stands(rt: HostRuntime) {
-    let played = after_failed_save(&rt, rt.alloc(), Kept::After, 5);
-    assert!(rt; begins(&played, b"PAPCD", End::Finished));
+pub fn the_new_record_stands<R: Threads + Wait + Clock + Sync>(rt: &R, alloc: Global) -> bool {
+    let played = after_failed_save(rt, alloc, Kept::After, 5);
+    begins(&played, b"PAPCD", End::Finished)
 }
 
 /// Two agents, each of which holds its save until the other's is open.
@@ -130,9 +126,8 @@ fn two_saves<L: ledger::Ledger + Send + Sync, R: Threads + Wait + Clock + Sync>(
     }
 }
 
-#[test]
-fn two_saves_overlap(rt: HostRuntime) {
-    assert!(rt; two_saves::<Brand, _>(&rt, rt.alloc(), Blank::new(PARTS)));
+pub fn two_saves_overlap<R: Threads + Wait + Clock + Sync>(rt: &R, alloc: Global) -> bool {
+    two_saves::<Brand, _>(rt, alloc, Blank::new(PARTS))
 }
 
 fn has_two_rounds(played: &Option<Played>) -> bool {
@@ -166,9 +161,8 @@ fn makes_two_rounds<L: ledger::Ledger + Send + Sync, R: Threads + Wait + Clock +
     }
 }
 
-#[test]
-fn two_rounds(rt: HostRuntime) {
-    assert!(rt; makes_two_rounds::<Brand, _>(&rt, rt.alloc(), Blank::new(PARTS)));
+pub fn two_rounds<R: Threads + Wait + Clock + Sync>(rt: &R, alloc: Global) -> bool {
+    makes_two_rounds::<Brand, _>(rt, alloc, Blank::new(PARTS))
 }
 
 /// Whether an office answers others.
@@ -209,7 +203,6 @@ fn ends_at_once<L: ledger::Ledger, R: Wait + Clock>(rt: &R, alloc: Global, blank
     }
 }
 
-#[test]
-fn an_unknown_agent(rt: HostRuntime) {
-    assert!(rt; ends_at_once::<Brand, _>(&rt, rt.alloc(), Blank::new(PARTS)));
+pub fn an_unknown_agent<R: Wait + Clock>(rt: &R, alloc: Global) -> bool {
+    ends_at_once::<Brand, _>(rt, alloc, Blank::new(PARTS))
 }

@@ -138,11 +138,18 @@ fn greets_by_name(alloc: Global) -> Option<bool> {
     }
 }
 
-#[test]
-fn records_are_a_good_opening(rt: HostRuntime) {
-    assert!(rt; greets_by_name(rt.alloc()) == Some(true));
+/// The first opening, from 0, that is judged otherwise than it should be.
+fn first_other_opening(alloc: Global) -> Option<usize> {
     for i in 0..OPENINGS.len() {
         let (first, second, run, is) = OPENINGS[i];
-        assert!(rt; opens(rt.alloc(), first, second, run) == is, "opening {i}");
+        if opens(alloc, first, second, run) != is {
+            return Some(i);
+        }
     }
+    None
+}
+
+/// Which records are a good opening; agents are greeted in the order of their names.
+pub fn records_are_a_good_opening(alloc: Global) -> bool {
+    greets_by_name(alloc) == Some(true) && first_other_opening(alloc).is_none()
 }

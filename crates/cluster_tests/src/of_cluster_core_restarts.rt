@@ -9,10 +9,7 @@ use names_core::Run;
 use post_rules::EverSent;
 use record_text::record_of;
 use std::alloc::Global;
-use std::test::Fail;
 use step_lines::{read_config, read_step};
-
-const OTHERWISE: &str = "a step wants memory, or is answered otherwise";
 
 const AGENT: &str = r#"{"agents":{"a1":{"cpus":4,"mem":4096}}}"#;
 
@@ -122,10 +119,9 @@ const OVER_A_RECORD: [Row; 9] = [
 const SUBSCRIBE: &str =
     r#"{"step":"send","call":{"type":"SUBSCRIBE","subscribe":{"framework_info":{"user":"u","name":"n"}}}}"#;
 
-#[test]
-fn a_record_is_opened_over(rt: HostRuntime) {
-    let is = plays(rt.alloc(), Some(RECORD), Run::new(2), &OVER_A_RECORD);
-    assert!(rt; is, "{OTHERWISE}");
+/// A cluster is opened over the record of an agent, whose task goes on.
+pub fn a_record_is_opened_over(alloc: Global) -> bool {
+    plays(alloc, Some(RECORD), Run::new(2), &OVER_A_RECORD)
 }
 
 /// Without a master its steps are C2; a step at an agent that there isn't stays C8.
@@ -144,10 +140,9 @@ const LAST_RUN: [Row; 6] = [
     ),
 ];
 
-#[test]
-fn behind_the_last_run_no_master_serves(rt: HostRuntime) {
-    let is = plays(rt.alloc(), None, Run::new(65_535), &LAST_RUN);
-    assert!(rt; is, "{OTHERWISE}");
+/// A stop of the master in the last run leaves none.
+pub fn behind_the_last_run_no_master_serves(alloc: Global) -> bool {
+    plays(alloc, None, Run::new(65_535), &LAST_RUN)
 }
 
 const PREPARE: &str = r#"{"step":"prepare","agent":"a1","mail":1}"#;
@@ -211,16 +206,10 @@ fn falls(alloc: Global) -> Option<bool> {
     }
 }
 
-/// Where the memory of its first draft is refused, the agent is down until it stops and is recovered. It says so, since no run with ample memory shows it:
-/// `tests/refused_allocations/commands.py` looks for it.
-#[test]
-fn an_agent_that_fell_is_down(rt: HostRuntime) -> Result<(), Fail> {
-    match falls(rt.alloc()) {
-        Some(true) => println!(rt; "an agent fell")?,
-        Some(false) => (),
-        None => assert!(rt; false, "{OTHERWISE}"),
-    }
-    Ok(())
+/// Where the memory of its first draft is refused, an agent is down until it stops and is recovered. Whether one fell; none where a step is answered
+/// otherwise than it should be.
+pub fn an_agent_that_fell_is_down(alloc: Global) -> Option<bool> {
+    falls(alloc)
 }
 
 fn push_step(steps: &mut Vec<Step>, alloc: Global, line: &str) -> Option<()> {
@@ -253,8 +242,6 @@ fn entries_of_rows(alloc: Global, rows: &[Row]) -> Option<usize> {
 }
 
 /// A step that is refused is passed over: here a stream of run 2, three times.
-#[test]
-fn a_refused_step_is_passed_over(rt: HostRuntime) {
-    let entries = entries_of_rows(rt.alloc(), &OVER_A_RECORD);
-    assert!(rt; entries == Some(6), "{OTHERWISE}");
+pub fn a_refused_step_is_passed_over(alloc: Global) -> bool {
+    entries_of_rows(alloc, &OVER_A_RECORD) == Some(6)
 }

@@ -12,7 +12,6 @@ use std::alloc::Global;
 use std::marker::Brand;
 use std::sync::ledger::Blank;
 use std::sync::{Wait, ledger};
-use std::test::*;
 use std::thread;
 use std::thread::Threads;
 use step_lines::{read_config, read_step};
@@ -223,9 +222,9 @@ fn one_behind_the_other<R: Threads + Wait + Sync>(rt: &R, alloc: Global) -> Opti
     }
 }
 
-#[test]
-fn two_seats_have_their_entries(rt: HostRuntime) {
-    assert!(rt; have_their_entries(&one_behind_the_other(&rt, rt.alloc())));
+/// At the close each of two seats has its entries, and no other.
+pub fn two_seats_have_their_entries<R: Threads + Wait + Sync>(rt: &R, alloc: Global) -> bool {
+    have_their_entries(&one_behind_the_other(rt, alloc))
 }
 
 /// 100 steps, in which a second goes by each time.
@@ -266,7 +265,7 @@ fn both_at_once<R: Threads + Wait + Sync>(rt: &R, alloc: Global) -> Option<Seats
     }
 }
 
-#[test]
-fn two_threads_of_100_calls(rt: HostRuntime) {
-    assert!(rt; have_100_entries_each(&both_at_once(&rt, rt.alloc())));
+/// The same of two threads that each have 100 calls answered at once.
+pub fn two_threads_of_100_calls<R: Threads + Wait + Sync>(rt: &R, alloc: Global) -> bool {
+    have_100_entries_each(&both_at_once(rt, alloc))
 }

@@ -1,16 +1,14 @@
-//! Tests of an office behind its HTTP endpoint, over loopback. They stand apart, so that the crates that they test need not be proved once more with
-//! them.
+//! Tests of an office behind its HTTP endpoint, over loopback, each a function that says whether it passed.
 #![tactic(auto)]
 
-#[cfg(test)]
 mod client;
-#[cfg(test)]
 mod gate;
-#[cfg(test)]
 mod of_office_bench;
-#[cfg(test)]
 mod requests;
-#[cfg(test)]
 mod scripts;
-#[cfg(test)]
 mod served;
+
+pub use of_office_bench::{
+    a_master_stops, a_stream_never_opened, a_subscription_ends_with_the_office, no_seat_is_left,
+    two_calls_overlap,
+};

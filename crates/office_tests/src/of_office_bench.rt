@@ -10,7 +10,6 @@ use std::marker::Brand;
 use std::net::{Net, TcpListener, TcpStream};
 use std::sync::ledger::Blank;
 use std::sync::{Wait, ledger};
-use std::test::*;
 use std::thread::Threads;
 use std::time::Clock;
 
@@ -39,23 +38,25 @@ fn seen<R: Net<Listener = TcpListener, Stream = TcpStream> + Threads + Wait + Cl
     served::<Brand, R>(rt, alloc, Blank::new(PARTS), held, script)
 }
 
-#[test]
-fn a_subscription_ends_with_the_office(rt: HostRuntime) {
-    let closed = seen(&rt, rt.alloc(), NONE, SUBSCRIBES);
-    assert!(rt; closed == all_of(SUBSCRIBES.len(), false, 0));
+/// A stream ends once the office is finished.
+pub fn a_subscription_ends_with_the_office<
+    R: Net<Listener = TcpListener, Stream = TcpStream> + Threads + Wait + Clock + Sync,
+>(rt: &R, alloc: Global) -> bool {
+    seen(rt, alloc, NONE, SUBSCRIBES) == all_of(SUBSCRIBES.len(), false, 0)
 }
 
-#[test]
-fn a_master_stops(rt: HostRuntime) {
-    let closed = seen(&rt, rt.alloc(), NONE, LOSES_MASTER);
-    assert!(rt; closed == all_of(LOSES_MASTER.len(), false, 0));
+/// A stream ends once its master stops.
+pub fn a_master_stops<
+    R: Net<Listener = TcpListener, Stream = TcpStream> + Threads + Wait + Clock + Sync,
+>(rt: &R, alloc: Global) -> bool {
+    seen(rt, alloc, NONE, LOSES_MASTER) == all_of(LOSES_MASTER.len(), false, 0)
 }
 
 /// The second call, from 0, is held until the third is answered.
-#[test]
-fn two_calls_overlap(rt: HostRuntime) {
-    let closed = seen(&rt, rt.alloc(), 1, OVERLAPS);
-    assert!(rt; closed == all_of(OVERLAPS.len(), true, 1));
+pub fn two_calls_overlap<
+    R: Net<Listener = TcpListener, Stream = TcpStream> + Threads + Wait + Clock + Sync,
+>(rt: &R, alloc: Global) -> bool {
+    seen(rt, alloc, 1, OVERLAPS) == all_of(OVERLAPS.len(), true, 1)
 }
 
 /// Whether a bench without a seat answers a SUBSCRIBE in memory by O5.
@@ -92,13 +93,12 @@ fn refuses_without_seat<'x, L: ledger::Ledger + 'x, R: Wait + 'x>(
     refuses(alloc, &mut seating)
 }
 
-#[test]
-fn no_seat_is_left(rt: HostRuntime) {
-    assert!(rt; refuses_without_seat::<Brand, _>(&rt, rt.alloc()));
+/// A SUBSCRIBE is answered by O5 where no seat is left.
+pub fn no_seat_is_left<R: Wait>(rt: &R, alloc: Global) -> bool {
+    refuses_without_seat::<Brand, _>(rt, alloc)
 }
 
-#[test]
-fn a_stream_never_opened(rt: HostRuntime) {
-    let refused = refuses_unopened::<Brand, _>(&rt, rt.alloc(), Blank::new(PARTS));
-    assert!(rt; refused == Some(true));
+/// Who waits on a stream that was never opened is refused.
+pub fn a_stream_never_opened<R: Wait>(rt: &R, alloc: Global) -> bool {
+    refuses_unopened::<Brand, _>(rt, alloc, Blank::new(PARTS)) == Some(true)
 }

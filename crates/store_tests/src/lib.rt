@@ -1,7 +1,8 @@
-//! Tests of records on disk. They stand apart, so that the crates that they test need not be proved once more with them.
+//! Tests of records in stores, each a function that says whether it passed.
 #![tactic(auto)]
 
-#[cfg(test)]
 mod of_keep_store;
-#[cfg(test)]
 mod of_keep_store_stops;
+
+pub use of_keep_store::the_last_saved_is_loaded;
+pub use of_keep_store_stops::{a_database_file_stops, a_journal_stops};

@@ -94,7 +94,7 @@ const SAVED: Answers = (Ok(Some(2)), (Ok(3), Ok(4)), Ok(Some(2)));
 
 const AGAIN: Answers = (Ok(Some(2)), (Ok(5), Ok(6)), Ok(Some(2)));
 
-#[test]
-fn the_last_saved_is_loaded(rt: HostRuntime) {
-    assert!(rt; all_answers_in_memory(rt.alloc()) == Some((NEW, SAVED, AGAIN)));
+/// What was saved last is what is loaded, also behind a reopening.
+pub fn the_last_saved_is_loaded(alloc: Global) -> bool {
+    all_answers_in_memory(alloc) == Some((NEW, SAVED, AGAIN))
 }

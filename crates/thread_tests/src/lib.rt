@@ -1,7 +1,8 @@
-//! Tests over several threads: callers of one desk, and connections that are served at once. They stand apart, so that the crates that they test need not be proved once more with them.
+//! Tests over several threads, each a function that says whether it passed: callers of one desk, and connections that are served at once.
 #![tactic(auto)]
 
-#[cfg(test)]
 mod of_desk_lock;
-#[cfg(test)]
 mod of_http_workers;
+
+pub use of_desk_lock::{a_foreign_receipt, a_waiting_call, refused_steps, texts};
+pub use of_http_workers::{connections_in_memory, faults, two_connections_overlap};

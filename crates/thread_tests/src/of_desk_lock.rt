@@ -6,7 +6,6 @@ use std::marker::Brand;
 use std::sync::atomic::{AtomicBool, Ordering};
 use std::sync::ledger::Blank;
 use std::sync::{Wait, ledger};
-use std::test::*;
 use std::thread;
 use std::thread::Threads;
 use std::time::{Clock, Duration};
@@ -193,9 +192,9 @@ fn foreign<L: ledger::Ledger>(alloc: Global, blank: Blank) -> bool
     }
 }
 
-#[test]
-fn a_foreign_receipt(rt: HostRuntime) {
-    assert!(rt; foreign::<Brand>(rt.alloc(), Blank::new(PARTS)));
+/// An entry of a seat that its pass has no receipt of: the close is refused.
+pub fn a_foreign_receipt(alloc: Global) -> bool {
+    foreign::<Brand>(alloc, Blank::new(PARTS))
 }
 
 /// Waits until the sum is 7, and adds 1. Once it was told to wait, the flag says so.
@@ -323,9 +322,9 @@ fn waiting<L: ledger::Ledger + Send + Sync, R: Threads + Wait + Clock + Sync>(
     }
 }
 
-#[test]
-fn a_waiting_call(rt: HostRuntime) {
-    assert!(rt; waiting::<Brand, _>(&rt, rt.alloc(), Blank::new(PARTS)));
+/// A call that waits is answered once another has made it so.
+pub fn a_waiting_call<R: Threads + Wait + Clock + Sync>(rt: &R, alloc: Global) -> bool {
+    waiting::<Brand, _>(rt, alloc, Blank::new(PARTS))
 }
 
 /// Refuses each step by a fault of the kind that the step names.
@@ -439,9 +438,9 @@ fn refusing<L: ledger::Ledger, R: Wait + Clock>(rt: &R, alloc: Global, blank: Bl
     }
 }
 
-#[test]
-fn refused_steps(rt: HostRuntime) {
-    assert!(rt; refusing::<Brand, _>(&rt, rt.alloc(), Blank::new(PARTS)));
+/// What an office says of a step that is refused by a fault of each kind.
+pub fn refused_steps<R: Wait + Clock>(rt: &R, alloc: Global) -> bool {
+    refusing::<Brand, _>(rt, alloc, Blank::new(PARTS))
 }
 
 /// A fault of a step, with a text.
@@ -466,12 +465,7 @@ fn is(text: &Option<String>, wanted: &str) -> bool {
     }
 }
 
-#[test]
-fn texts(rt: HostRuntime) {
-    assert!(rt;
-        is(
-            &texts_of(rt.alloc()),
-            "O1 ForeignPass 2, O4 Core C7 TimeBack"
-        )
-    );
+/// The texts of what an office refuses.
+pub fn texts(alloc: Global) -> bool {
+    is(&texts_of(alloc), "O1 ForeignPass 2, O4 Core C7 TimeBack")
 }

@@ -10,7 +10,6 @@ use std::io::{Read, Write};
 use std::net::{Net, SocketAddr, TcpListener, TcpStream};
 use std::sync::Wait;
 use std::sync::atomic::{AtomicU64, Ordering};
-use std::test::*;
 use std::thread;
 use std::thread::Threads;
 use std::time::{Clock, Duration};
@@ -155,15 +154,15 @@ fn serves_waiting<R: Threads + Wait + Sync>(
 /// How many connections there are, and what each sends.
 const WAITING: [(&str, usize); 3] = [(REVIVE, 0), (REVIVE, 2), (SUBSCRIBE, 70)];
 
-#[test]
-fn connections_in_memory(rt: HostRuntime) {
+/// No connection, two that call, and 70 that subscribe: more than there are workers.
+pub fn connections_in_memory<R: Threads + Wait + Sync>(rt: &R, alloc: Global) -> bool {
     for i in 0..WAITING.len() {
         let (request, count) = WAITING[i];
-        assert!(rt;
-            serves_waiting(&rt, rt.alloc(), request, count),
-            "{count} connections"
-        );
+        if !serves_waiting(rt, alloc, request, count) {
+            return false;
+        }
     }
+    true
 }
 
 fn faults_of(alloc: Global) -> Option<String> {
@@ -177,9 +176,9 @@ fn is(text: &Option<String>, wanted: &str) -> bool {
     }
 }
 
-#[test]
-fn faults(rt: HostRuntime) {
-    assert!(rt; is(&faults_of(rt.alloc()), "H8 OutOfMemory, H9 NoThread"));
+/// The texts of what the workers refuse.
+pub fn faults(alloc: Global) -> bool {
+    is(&faults_of(alloc), "H8 OutOfMemory, H9 NoThread")
 }
 
 /// One end of a TCP connection.
@@ -370,16 +369,12 @@ fn listened<R: Net<Listener = TcpListener, Stream = TcpStream>>(
     Some((listener, to))
 }
 
-fn serves_two_anywhere<
+/// The call of one connection is held until that of another is answered.
+pub fn two_connections_overlap<
     R: Net<Listener = TcpListener, Stream = TcpStream> + Threads + Wait + Clock + Sync,
 >(rt: &R, alloc: Global) -> bool {
     match listened(rt) {
         Some((listener, to)) => serves_two(rt, alloc, &listener, to),
         None => false,
     }
-}
-
-#[test]
-fn two_connections_overlap(rt: HostRuntime) {
-    assert!(rt; serves_two_anywhere(&rt, rt.alloc()));
 }

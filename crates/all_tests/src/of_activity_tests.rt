@@ -1,0 +1,44 @@
+//! Activities.
+
+use activity_tests as tests;
+use std::test::*;
+
+#[test]
+fn the_old_record_stands(rt: HostRuntime) {
+    assert!(rt; tests::the_old_record_stands(&rt, rt.alloc()));
+}
+
+#[test]
+fn another_record_stands(rt: HostRuntime) {
+    assert!(rt; tests::another_record_stands(&rt, rt.alloc()));
+}
+
+#[test]
+fn the_new_record_stands(rt: HostRuntime) {
+    assert!(rt; tests::the_new_record_stands(&rt, rt.alloc()));
+}
+
+#[test]
+fn two_saves_overlap(rt: HostRuntime) {
+    assert!(rt; tests::two_saves_overlap(&rt, rt.alloc()));
+}
+
+#[test]
+fn two_rounds(rt: HostRuntime) {
+    assert!(rt; tests::two_rounds(&rt, rt.alloc()));
+}
+
+#[test]
+fn an_unknown_agent(rt: HostRuntime) {
+    assert!(rt; tests::an_unknown_agent(&rt, rt.alloc()));
+}
+
+#[test]
+fn what_is_unacknowledged_goes_first(rt: HostRuntime) {
+    assert!(rt; tests::what_is_unacknowledged_goes_first(&rt, rt.alloc()));
+}
+
+#[test]
+fn a_stop_in_a_save(rt: HostRuntime) {
+    assert!(rt; tests::a_stop_in_a_save(&rt, rt.alloc()));
+}

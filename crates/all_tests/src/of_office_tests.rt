@@ -1,0 +1,29 @@
+//! An office behind its HTTP endpoint.
+
+use office_tests as tests;
+use std::test::*;
+
+#[test]
+fn a_subscription_ends_with_the_office(rt: HostRuntime) {
+    assert!(rt; tests::a_subscription_ends_with_the_office(&rt, rt.alloc()));
+}
+
+#[test]
+fn a_master_stops(rt: HostRuntime) {
+    assert!(rt; tests::a_master_stops(&rt, rt.alloc()));
+}
+
+#[test]
+fn two_calls_overlap(rt: HostRuntime) {
+    assert!(rt; tests::two_calls_overlap(&rt, rt.alloc()));
+}
+
+#[test]
+fn no_seat_is_left(rt: HostRuntime) {
+    assert!(rt; tests::no_seat_is_left(&rt, rt.alloc()));
+}
+
+#[test]
+fn a_stream_never_opened(rt: HostRuntime) {
+    assert!(rt; tests::a_stream_never_opened(&rt, rt.alloc()));
+}
