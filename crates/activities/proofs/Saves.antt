@@ -4,8 +4,8 @@ use Rattle.std.proofs.lemmas.List.{append_assoc, append-nil}
 use Rattle.std.specs.Prelude.{Bool, true, IfSome, OnOk, OnErr, slice_get}
 use Rattle.mails.specs.declared.record.Durable.{Durable}
 use Rattle.cluster_steps.specs.declared.step.Step.{Step}
-use Rattle.desk_lock.specs.declared.desk.pass.Receipt.{Receipt}
-use Rattle.desk_lock.specs.Receipts.{AnswersBy, PassState}
+use Rattle.desk_seats.specs.declared.desk.pass.Receipt.{Receipt}
+use Rattle.desk_seats.specs.Receipts.{AnswersBy, PassState}
 use Rattle.recorded_cluster.specs.declared.given.Given.{Given}
 use Rattle.activities.specs.Saved.{IsBehindSave, IsDraftIn, IsGrown, IsLastDraft, IsLastSaved, IsSaved, Keeps, SavedFrom, last_of, taker_of}
 

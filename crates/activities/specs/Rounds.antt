@@ -4,11 +4,11 @@ use Rattle.cluster_steps.specs.declared.fault.ClusterFault.{ClusterFault}
 use Rattle.cluster_steps.specs.declared.fault.ClusterFault.TheVariants.{NoSuchAgent}
 use Rattle.cluster_steps.specs.declared.step.Step.{Step}
 use Rattle.cluster_steps.specs.declared.step.Step.TheVariants.{Allocate, Tick}
-use Rattle.desk_lock.specs.Found.{IsRefusedCall}
-use Rattle.desk_lock.specs.Receipts.{AnswersBy, PassState}
-use Rattle.desk_lock.specs.declared.desk.pass.Receipt.{Receipt}
-use Rattle.desk_lock.specs.declared.fault.OfficeFault.{OfficeFault}
-use Rattle.desk_lock.specs.declared.fault.OfficeFault.TheVariants.{Core, ForeignPass}
+use Rattle.desk_seats.specs.Found.{IsRefusedCall}
+use Rattle.desk_seats.specs.Receipts.{AnswersBy, PassState}
+use Rattle.desk_seats.specs.declared.desk.pass.Receipt.{Receipt}
+use Rattle.desk_seats.specs.declared.fault.OfficeFault.{OfficeFault}
+use Rattle.desk_seats.specs.declared.fault.OfficeFault.TheVariants.{Core, ForeignPass}
 use Rattle.recorded_cluster.specs.Recording.{IsSound, MayRefuse, Recorded, kind_of}
 use Rattle.recorded_cluster.specs.declared.given.Given.{Given}
 

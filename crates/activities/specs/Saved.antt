@@ -5,8 +5,8 @@ use Rattle.cluster_steps.specs.declared.step.Step.{Step}
 use Rattle.cluster_steps.specs.declared.step.Step.TheVariants.{Prepare, Commit, StopAgent}
 use Rattle.cluster_steps.specs.declared.step.StepCause.{StepCause}
 use Rattle.cluster_steps.specs.declared.step.Keep.TheVariants.{After}
-use Rattle.desk_lock.specs.declared.desk.pass.Receipt.{Receipt}
-use Rattle.desk_lock.specs.Receipts.{PassState}
+use Rattle.desk_seats.specs.declared.desk.pass.Receipt.{Receipt}
+use Rattle.desk_seats.specs.Receipts.{PassState}
 use Rattle.recorded_cluster.specs.declared.given.Given.{Given}
 
 -- the receipt is of a Prepare of this agent, which opened a draft with this record

@@ -1,27 +1,22 @@
 //! A desk under a lock.
 
 ghost use Rattle.std.specs.Prelude.{◌≡◌, ◌≤◌, ◌+◌, [], Err, Ok, Some, IfOk, IfErr, OnOk, OnErr, All, MatchBool, MatchResult, length, sum_by};
-ghost use Rattle.desk_lock.specs.Receipts.{AnswersBy, StandsIn};
-ghost use Rattle.desk_lock.specs.declared.desk.pass.Receipt.{Receipt};
+ghost use Rattle.desk_seats.specs.Receipts.{AnswersBy, StandsIn};
+ghost use Rattle.desk_seats.specs.declared.desk.pass.Receipt.{Receipt};
 ghost use Rattle.std.specs.Fn.{FnReturnsAt};
 ghost use Rattle.desk_lock.specs.Waits.{IfFound};
-ghost use Rattle.desk_lock.specs.Found.{IsRefusedCall, IsRefusedWait};
-ghost use Rattle.desk_lock.specs.Refused.{refused_by};
-ghost use Rattle.desk_lock.specs.declared.fault.OfficeFault.TheVariants.{ForeignPass};
+ghost use Rattle.desk_seats.specs.Found.{IsRefusedCall, IsRefusedWait};
+ghost use Rattle.desk_seats.specs.Refused.{refused_by};
+ghost use Rattle.desk_seats.specs.declared.fault.OfficeFault.TheVariants.{ForeignPass};
 
-use crate::desk::pass::Pass;
-use crate::desk::passes::Passes;
-use crate::desk::seated::SeatedHistory;
-use crate::desk::{Desk, refusal};
-use crate::fault::OfficeFault;
 use crate::groups::Groups;
-use crate::recorded::Recorded;
+use desk_seats::{Desk, OfficeFault, Pass, Passes, Recorded, SeatedHistory, refusal};
 use std::alloc::Global;
 use std::sync::{CondvarTimeouts, Mutex, Wait, ledger};
 use std::time::{Clock, Duration};
 
 /// What a waiting caller does in a state.
-#[derive(Clone, Copy, Debug, Drop, PartialEq, Eq)]
+#[derive(Clone, Copy, Drop, PartialEq, Eq)]
 pub enum Turn {
     Wait,
     /// Its step is answered.
@@ -31,7 +26,7 @@ pub enum Turn {
 }
 
 /// Why a wait ended.
-#[derive(Clone, Copy, Debug, Drop, PartialEq, Eq)]
+#[derive(Clone, Copy, Drop, PartialEq, Eq)]
 pub enum Waited<T> {
     Found(T),
     /// The time is up.

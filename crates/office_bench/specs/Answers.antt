@@ -13,8 +13,8 @@ use Rattle.cluster_steps.specs.declared.entry.Verdict.TheVariants as verdicts
 use Rattle.cluster_steps.specs.declared.fault.ClusterFault.{ClusterFault}
 use Rattle.cluster_steps.specs.declared.fault.ClusterFault.TheVariants as steps
 use Rattle.cluster_core.specs.Reading.{is_open_in, waiting_in}
-use Rattle.desk_lock.specs.declared.fault.OfficeFault.{OfficeFault}
-use Rattle.desk_lock.specs.declared.fault.OfficeFault.TheVariants as offices
+use Rattle.desk_seats.specs.declared.fault.OfficeFault.{OfficeFault}
+use Rattle.desk_seats.specs.declared.fault.OfficeFault.TheVariants as offices
 use Rattle.desk_lock.specs.declared.office.Turn.{Turn}
 use Rattle.desk_lock.specs.declared.office.Turn.TheVariants as turns
 use Rattle.http_door.specs.declared.bench.Answer.{Answer}

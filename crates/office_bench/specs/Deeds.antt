@@ -6,8 +6,8 @@ use Rattle.mails.specs.declared.call.Call.{Call}
 use Rattle.event_json.specs.declared.event.Event.{Event}
 use Rattle.cluster_steps.specs.declared.step.Step.{Step}
 use Rattle.cluster_steps.specs.declared.step.Step.TheVariants.{Send, Deliver, HangUp, Take}
-use Rattle.desk_lock.specs.Receipts.{AnswersBy, PassState}
-use Rattle.desk_lock.specs.declared.desk.pass.Receipt.{Receipt}
+use Rattle.desk_seats.specs.Receipts.{AnswersBy, PassState}
+use Rattle.desk_seats.specs.declared.desk.pass.Receipt.{Receipt}
 use Rattle.http_door.specs.Deeds.{Deed, calls, nexts, hangs_up}
 use Rattle.http_door.specs.declared.bench.Answer.{Answer}
 use Rattle.http_door.specs.declared.bench.Answer.TheVariants.{Refused}

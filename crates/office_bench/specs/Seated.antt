@@ -1,6 +1,6 @@
 -- What the bench of a connection did.
 use Rattle.std.specs.Prelude.{◌≡◌, Option, Some, None}
-use Rattle.desk_lock.specs.Receipts.{PassState}
+use Rattle.desk_seats.specs.Receipts.{PassState}
 use Rattle.recorded_cluster.specs.declared.given.Given.{Given}
 use Rattle.http_door.specs.Deeds.{Deed}
 use Rattle.office_bench.specs.Deeds.{Does, RefusesAll}

@@ -2,7 +2,7 @@
 
 ghost use Rattle.std.specs.Prelude.{◌≡◌, ◌⊎◌, ◌++◌, ◌∷◌, [], List, OnOk, OnErr, IfOk, IfErr, MatchBool};
 ghost use Rattle.cluster_steps.specs.declared.step.Step.TheVariants.{Send, Deliver, Take};
-ghost use Rattle.desk_lock.specs.declared.desk.pass.Receipt.{Receipt};
+ghost use Rattle.desk_seats.specs.declared.desk.pass.Receipt.{Receipt};
 ghost use Rattle.office_bench.specs.Answers.{IsOfOffice, answer_of};
 ghost use Rattle.office_bench.specs.Deeds.{Delivers, Does, Gets, Steps, call_number};
 ghost use Rattle.recorded_cluster.specs.declared.given.Given.{Given};
@@ -30,7 +30,7 @@ pub struct SeatBench<'a, L: ledger::Ledger, R: Wait> {
 }
 
 impl<'a, L: ledger::Ledger, R: Wait> Model for SeatBench<'a, L, R> {
-    ghost use Rattle.desk_lock.specs.Receipts.{PassState};
+    ghost use Rattle.desk_seats.specs.Receipts.{PassState};
     ghost use Rattle.recorded_cluster.specs.declared.given.Given.{Given};
 
     ghost Value = { PassState Given };

@@ -5,7 +5,7 @@ ghost use Rattle.std.specs.Prelude.{◌≡◌};
 use crate::given::Given;
 use crate::groups::groups_of;
 use cluster_core::{Cluster, ClusterFault, Entry, Step};
-use desk_lock::{FaultKind, Recorded};
+use desk_seats::{FaultKind, Recorded};
 use plain_data::Plain;
 use post_rules::Queues;
 use std::alloc::Global;

@@ -3,7 +3,7 @@
 use cluster_core::Taken;
 
 /// A step that was taken.
-#[derive(Debug, Drop)]
+#[derive(Drop)]
 pub struct Given {
     pub taken: Taken,
     /// How many calls and mails were sent before it: those that it sent have the numbers after this one, in order.

@@ -1,0 +1,4 @@
+pub mod Answered
+pub mod Keeps
+pub mod Rows
+pub mod Walks

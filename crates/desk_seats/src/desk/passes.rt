@@ -1,0 +1,96 @@
+//! The passes that are handed in at a close.
+
+ghost use Rattle.std.specs.Prelude.{◌≡◌, ◌+◌, ◌++◌, ◌∷◌, [], IfErr, OnOk, OnErr, length, option_map, option_to_list, unwrap_or};
+ghost use Rattle.desk_seats.specs.Receipts.{PassState};
+
+use crate::desk::pass::{Pass, Slip};
+use std::alloc::{AllocFailed, Global};
+use std::marker::Model;
+use std::sync::ledger;
+use std::sync::ledger::Share;
+
+/// Passes that are handed in. Their shares of the count are put together, so that they can be compared with its total.
+#[derive(Drop)]
+pub struct Passes<G, L: ledger::Ledger> {
+    pub(super) slips: Vec<Slip<G>>,
+    pub(super) share: Option<Share<L>>,
+}
+
+impl<G, L: ledger::Ledger> Model for Passes<G, L> {
+    ghost use Rattle.std.specs.Prelude.{◌≡◌, List, length, option_map, sum_by, unwrap_or};
+    ghost use Rattle.desk_seats.specs.Receipts.{PassState};
+
+    ghost Value = { List (PassState G) };
+
+    ghost view = { λ p. p.slips.items };
+
+    ghost invariant = { λ p. (unwrap_or (option_map (λ s. s.parts) p.share) 0 ≡ length p.slips.items) × (unwrap_or (option_map (λ s. s.amount) p.share) 0 ≡ sum_by (λ s. length s.receipts) p.slips.items) };
+}
+
+/// Two shares as one.
+fn merged<L: ledger::Ledger>(one: Option<Share<L>>, other: Share<L>) -> Share<L>
+    ensures parts { result.parts ≡ unwrap_or (option_map (λ s. s.parts) one) 0 + other.parts }
+    ensures amount { result.amount ≡ unwrap_or (option_map (λ s. s.amount) one) 0 + other.amount }
+{
+    match one {
+        Some(one) => {
+            let mut all = one;
+            all.merge(other);
+            all
+        }
+        None => other,
+    }
+}
+
+impl<G, L: ledger::Ledger> Passes<G, L> {
+    pub fn new(alloc: Global) -> Passes<G, L>
+        ensures { result ≡ [] }
+    {
+        Passes {
+            slips: Vec::new(alloc),
+            share: None,
+        }
+    }
+
+    pub fn len(&self) -> usize
+        ensures { result ≡ length self.now }
+    {
+        self.slips.len()
+    }
+
+    /// Hands in one more. Without memory it comes back.
+    pub fn push(&mut self, pass: Pass<G, L>) -> Result<(), AllocFailed<Pass<G, L>>>
+        ensures pushed { OnOk result (self.new ≡ self.old ++ pass ∷ []) }
+        ensures unchanged { OnErr result (self.new ≡ self.old) }
+        ensures returned { IfErr result (λ e. e.value ≡ pass) }
+    {
+        if self.slips.reserve(1).is_err() {
+            return Err(AllocFailed { value: pass });
+        }
+        let Pass { slip, share } = pass;
+        self.share = Some(merged(self.share.take(), share));
+        self.slips.push_reserved(slip);
+        Ok(())
+    }
+
+    /// Takes back the one that was handed in last.
+    pub fn pop(&mut self) -> Option<Pass<G, L>>
+        ensures { self.old ≡ self.new ++ option_to_list result }
+    {
+        let slip = self.slips.pop()?;
+        let count = slip.receipts().len() as u64;
+        match &mut self.share {
+            Some(all) => Some(Pass {
+                slip,
+                share: all.split_off(1, count),
+            }),
+            None => unreachable!(),
+        }
+    }
+
+    pub(super) fn slips(&self) -> &[Slip<G>]
+        ensures { result.now ≡ self.now }
+    {
+        self.slips.as_slice()
+    }
+}
