@@ -1,9 +1,9 @@
 #!/usr/bin/env python3
-"""Runs the built `text_cases` over the short lines of its table with one of its allocations refused, for many allocations in turn.
+"""Runs the built `case_tables` over the short lines of texts of its table with one of its allocations refused, for many allocations in turn.
 
 At most one line may then differ from the one that is due, and that line must tell of memory; or the program ends there, with status 1 and a message
 that tells of memory. A C compiler is asked for. It prints what it checked, and ends within a minute. PROGRAM=.. names another program than
-crates/text_cases/out/text_cases; MOST=.. how many allocations are refused, evenly spread (1000).
+crates/case_tables/out/case_tables; MOST=.. how many allocations are refused, evenly spread (1000).
 """
 
 import os
@@ -12,8 +12,8 @@ import sys
 import tempfile
 
 HERE = os.path.dirname(os.path.abspath(__file__))
-CRATE = f"{HERE}/../../crates/text_cases"
-PROGRAM = os.environ.get("PROGRAM", f"{CRATE}/out/text_cases")
+CRATE = f"{HERE}/../../crates/case_tables"
+PROGRAM = os.environ.get("PROGRAM", f"{CRATE}/out/case_tables")
 MOST = int(os.environ.get("MOST", "1000"))
 
 
@@ -21,7 +21,7 @@ def short_lines():
     """The lines of the table without a part that stands a thousand times or more, but for those whose last word alone is answered."""
     with open(f"{CRATE}/stdin", encoding="utf-8") as table:
         counts = lambda line: [part.split("*")[0] for part in line.split("~")[1::2]]
-        asked = [line for line in table if not line.startswith(("updates ", "issued "))]
+        asked = [line for line in table if not line.startswith(("named ", "updates ", "issued "))]
     lines = [line for line in asked if all(len(count) < 4 for count in counts(line))]
     return "".join(lines).encode()
 
@@ -60,7 +60,7 @@ def main():
             total = int(counted.read())
         refused = range(1, total + 1, max(1, total // MOST))
         ended = sum(check(due, run(shim, given, n)) for n in refused)
-    print(f"text_cases: {len(refused)} of {total} allocations refused in turn, {ended} runs ended early for it")
+    print(f"case_tables: {len(refused)} of {total} allocations refused in turn, {ended} runs ended early for it")
 
 
 if __name__ == "__main__":

@@ -6,6 +6,12 @@ mod of_activity_tests;
 #[cfg(test)]
 mod of_cluster_tests;
 #[cfg(test)]
+mod of_command_tests;
+#[cfg(test)]
+mod of_http_rows;
+#[cfg(test)]
+mod of_http_tests;
+#[cfg(test)]
 mod of_office_tests;
 #[cfg(test)]
 mod of_store_tests;

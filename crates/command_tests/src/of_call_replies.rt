@@ -43,16 +43,11 @@ fn ends_with(alloc: Global, input: &[u8], end: &[u8]) -> bool {
     }
 }
 
-fn are_limited(alloc: Global) -> bool {
+pub fn frameworks_are_limited(alloc: Global) -> bool {
     match too_many(alloc) {
         Some(input) => ends_with(alloc, &input, LIMITED),
         None => false,
     }
-}
-
-#[test]
-fn frameworks_are_limited(rt: HostRuntime) {
-    assert!(rt; are_limited(rt.alloc()));
 }
 
 /// A reader that gives a byte at a time, and fails after so many.
@@ -103,7 +98,7 @@ impl Write for Full {
 }
 
 /// The second call isn't whole where the read fails.
-fn read_fails(alloc: Global) -> bool {
+pub fn where_a_read_fails_a_beginning_was_written(alloc: Global) -> bool {
     let mut reader = Slow {
         left: SUBSCRIBE_TWICE,
         reads: 80,
@@ -112,21 +107,11 @@ fn read_fails(alloc: Global) -> bool {
     calls(alloc, &mut reader, &mut written).is_err() && written.as_slice() == SUBSCRIBED
 }
 
-#[test]
-fn where_a_read_fails_a_beginning_was_written(rt: HostRuntime) {
-    assert!(rt; read_fails(rt.alloc()));
-}
-
-fn write_fails(alloc: Global) -> bool {
+pub fn where_a_write_fails_a_beginning_was_written(alloc: Global) -> bool {
     let mut reader = SUBSCRIBE;
     let mut writer = Full {
         text: Vec::new(alloc),
         room: 10,
     };
     calls(alloc, &mut reader, &mut writer).is_err() && writer.text.as_slice() == &SUBSCRIBED[..10]
-}
-
-#[test]
-fn where_a_write_fails_a_beginning_was_written(rt: HostRuntime) {
-    assert!(rt; write_fails(rt.alloc()));
 }

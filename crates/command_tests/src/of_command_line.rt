@@ -59,13 +59,12 @@ fn fault_of<'a>(alloc: Global, words: &'a [&'a str]) -> Option<ErrorKind> {
     }
 }
 
-#[test]
-fn the_command_line_is_read(rt: HostRuntime) {
-    let alloc = rt.alloc();
-    assert!(rt; asks_for(alloc, &["mesos_node", "calls"], Action::Calls));
-    assert!(rt; asks_for(alloc, &["mesos_node", "replay"], Action::Replay));
-    assert!(rt; asks_for(alloc, &SERVE, SERVED));
-    assert!(rt; asks_for(alloc, &SERVE_SLOWLY, SERVED_SLOWLY));
+/// What the words of each command ask for.
+pub fn the_command_line_is_read(alloc: Global) -> bool {
+    asks_for(alloc, &["mesos_node", "calls"], Action::Calls)
+        && asks_for(alloc, &["mesos_node", "replay"], Action::Replay)
+        && asks_for(alloc, &SERVE, SERVED)
+        && asks_for(alloc, &SERVE_SLOWLY, SERVED_SLOWLY)
 }
 
 /// The port, interval and task seconds of `serve`, and whether they are in range.
@@ -95,8 +94,8 @@ fn fault_of_serve(alloc: Global, port: &str, interval: &str, seconds: &str) -> O
     fault_of(alloc, &words)
 }
 
-#[test]
-fn numbers_have_their_ranges(rt: HostRuntime) {
+/// Numbers out of their ranges are refused.
+pub fn numbers_have_their_ranges(alloc: Global) -> bool {
     for i in 0..NUMBERS.len() {
         let (port, interval, seconds, is_in_range) = NUMBERS[i];
         let fault = if is_in_range {
@@ -104,11 +103,11 @@ fn numbers_have_their_ranges(rt: HostRuntime) {
         } else {
             Some(ErrorKind::ValueValidation)
         };
-        assert!(rt;
-            fault_of_serve(rt.alloc(), port, interval, seconds) == fault,
-            "numbers {i}"
-        );
+        if fault_of_serve(alloc, port, interval, seconds) != fault {
+            return false;
+        }
     }
+    true
 }
 
 const HELP: [&str; 2] = ["mesos_node", "--help"];
@@ -121,13 +120,12 @@ const CALLS_NOW: [&str; 3] = ["mesos_node", "calls", "now"];
 
 const NO_PORT: [&str; 4] = ["mesos_node", "serve", "--agents=f", "--state=s"];
 
-#[test]
-fn words_are_refused(rt: HostRuntime) {
-    let alloc = rt.alloc();
-    assert!(rt; fault_of(alloc, &HELP) == Some(ErrorKind::DisplayHelp));
-    assert!(rt; fault_of(alloc, &CALLS_HELP) == Some(ErrorKind::DisplayHelp));
-    assert!(rt; fault_of(alloc, &FLY) == Some(ErrorKind::InvalidSubcommand));
-    assert!(rt; fault_of(alloc, &CALLS_NOW) == Some(ErrorKind::UnknownArgument));
-    assert!(rt; fault_of(alloc, &NO_PORT) == Some(ErrorKind::MissingRequiredArgument));
-    assert!(rt; fault_of(alloc, &["mesos_node"]) == Some(ErrorKind::MissingSubcommand));
+/// Words that ask for no action give the fault that they have.
+pub fn words_are_refused(alloc: Global) -> bool {
+    fault_of(alloc, &HELP) == Some(ErrorKind::DisplayHelp)
+        && fault_of(alloc, &CALLS_HELP) == Some(ErrorKind::DisplayHelp)
+        && fault_of(alloc, &FLY) == Some(ErrorKind::InvalidSubcommand)
+        && fault_of(alloc, &CALLS_NOW) == Some(ErrorKind::UnknownArgument)
+        && fault_of(alloc, &NO_PORT) == Some(ErrorKind::MissingRequiredArgument)
+        && fault_of(alloc, &["mesos_node"]) == Some(ErrorKind::MissingSubcommand)
 }

@@ -17,12 +17,12 @@ fn ends(reader: &mut Reader, alloc: Global, piece: &[u8], wanted: &[&[u8]]) -> b
     }
 }
 
-#[test]
-fn a_line_may_come_in_pieces(rt: HostRuntime) {
-    let mut reader = Reader::new(rt.alloc());
-    assert!(rt; ends(&mut reader, rt.alloc(), b"a", &[]));
-    assert!(rt; ends(&mut reader, rt.alloc(), b"b\n\nc", &[b"ab", b""]));
-    assert!(rt; reader.into_rest().as_slice() == b"c".as_slice());
+/// A line ends in the piece that has its line feed.
+pub fn a_line_may_come_in_pieces(alloc: Global) -> bool {
+    let mut reader = Reader::new(alloc);
+    let begun = ends(&mut reader, alloc, b"a", &[]);
+    let ended = ends(&mut reader, alloc, b"b\n\nc", &[b"ab", b""]);
+    begun && ended && reader.into_rest().as_slice() == b"c".as_slice()
 }
 
 /// How much is kept of a line that is too long.
@@ -36,7 +36,7 @@ fn kept_of_a_long_line(alloc: Global) -> Option<usize> {
     }
 }
 
-#[test]
-fn a_long_line_takes_no_more_memory(rt: HostRuntime) {
-    assert!(rt; kept_of_a_long_line(rt.alloc()) == Some(LONGEST_LINE + 1));
+/// Of a line that is too long one byte over the limit is kept.
+pub fn a_long_line_takes_no_more_memory(alloc: Global) -> bool {
+    kept_of_a_long_line(alloc) == Some(LONGEST_LINE + 1)
 }

@@ -65,14 +65,19 @@ fn ends_at(alloc: Global, length: usize) -> bool {
     }
 }
 
-/// Nothing is answered where there is no input.
-#[test]
-fn an_end_in_each_place(rt: HostRuntime) {
-    assert!(rt; is_answered(rt.alloc(), "", ""));
+/// Whether each end within the request is answered so.
+fn ends_everywhere(alloc: Global) -> bool {
     for length in 1..SUBSCRIBE.len() {
-        assert!(rt; ends_at(rt.alloc(), length), "behind {length} bytes");
+        if !ends_at(alloc, length) {
+            return false;
+        }
     }
-    assert!(rt; is_opened(rt.alloc(), SUBSCRIBE));
+    true
+}
+
+/// An input may end in each place. Nothing is answered where there is none.
+pub fn an_end_in_each_place(alloc: Global) -> bool {
+    is_answered(alloc, "", "") && ends_everywhere(alloc) && is_opened(alloc, SUBSCRIBE)
 }
 
 /// A SUBSCRIBE with these fields more.
@@ -123,32 +128,24 @@ fn is_taken(alloc: Global, fields: Option<String>) -> Option<bool> {
 }
 
 /// The head has two fields of its own.
-#[test]
-fn at_most_64_fields(rt: HostRuntime) {
-    let alloc = rt.alloc();
-    assert!(rt; is_taken(alloc, fields_of(alloc, 62)) == Some(true));
-    assert!(rt; is_taken(alloc, fields_of(alloc, 63)) == Some(false));
+pub fn at_most_64_fields(alloc: Global) -> bool {
+    let most = is_taken(alloc, fields_of(alloc, 62));
+    most == Some(true) && is_taken(alloc, fields_of(alloc, 63)) == Some(false)
 }
 
-#[test]
-fn at_most_16384_bytes_of_a_head(rt: HostRuntime) {
-    let alloc = rt.alloc();
+/// A head has at most 16,384 bytes.
+pub fn at_most_16384_bytes_of_a_head(alloc: Global) -> bool {
     let least = HEAD.len() + 5;
-    assert!(rt; is_taken(alloc, field_of(alloc, 16_384 - least)) == Some(true));
-    assert!(rt; is_taken(alloc, field_of(alloc, 16_385 - least)) == Some(false));
+    let most = is_taken(alloc, field_of(alloc, 16_384 - least));
+    most == Some(true) && is_taken(alloc, field_of(alloc, 16_385 - least)) == Some(false)
 }
 
 /// A body that is too long isn't read: only what came with the head is.
-fn leaves_the_body(alloc: Global) -> bool {
+pub fn a_body_that_is_too_long_is_not_read(alloc: Global) -> bool {
     match reply_to(alloc, LONG, LONG_HEAD.len()) {
         Some(reply) => {
             reply.got.as_slice() == TOO_LONG.as_bytes() && reply.left.as_slice() == BODY.as_bytes()
         }
         None => false,
     }
-}
-
-#[test]
-fn a_body_that_is_too_long_is_not_read(rt: HostRuntime) {
-    assert!(rt; leaves_the_body(rt.alloc()));
 }

@@ -60,16 +60,11 @@ fn get(alloc: Global, bench: &mut Beside, first: &str, second: &str) -> bool {
 }
 
 /// The framework subscribes again on another connection: its first stream is told so, and ends.
-fn fails_over(alloc: Global) -> bool {
+pub fn a_framework_fails_over(alloc: Global) -> bool {
     match beside(alloc, AGAIN, 1) {
         Some(mut bench) => get(alloc, &mut bench, FAILED_OVER, OTHER_STREAM),
         None => false,
     }
-}
-
-#[test]
-fn a_framework_fails_over(rt: HostRuntime) {
-    assert!(rt; fails_over(rt.alloc()));
 }
 
 /// Whether the first connection breaks off at the heartbeat, behind the head and the four parts of the first chunk, and the other one was refused beside it.
@@ -92,16 +87,11 @@ fn is_not_subscribed(alloc: Global, desk: &mut Desk) -> bool {
 }
 
 /// A call without its stream, while the stream is open and after it hung up.
-fn are_refused(alloc: Global) -> bool {
+pub fn a_call_without_its_stream(alloc: Global) -> bool {
     match beside(alloc, TEARDOWN, 15) {
         Some(mut bench) => {
             breaks_off(alloc, &mut bench) && is_not_subscribed(alloc, &mut bench.desk)
         }
         None => false,
     }
-}
-
-#[test]
-fn a_call_without_its_stream(rt: HostRuntime) {
-    assert!(rt; are_refused(rt.alloc()));
 }

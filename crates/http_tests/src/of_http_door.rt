@@ -173,15 +173,14 @@ fn first_other(alloc: Global, cases: &[(&str, &str)]) -> Option<usize> {
     None
 }
 
-#[test]
-fn heads(rt: HostRuntime) {
-    assert!(rt; first_other(rt.alloc(), &HEADS) == None);
+/// What is sent for an input that is no request, or whose head is refused.
+pub fn heads(alloc: Global) -> bool {
+    first_other(alloc, &HEADS).is_none()
 }
 
-#[test]
-fn bodies(rt: HostRuntime) {
-    assert!(rt; first_other(rt.alloc(), &BODIES) == None);
-    assert!(rt; is_sent(rt.alloc(), REVIVE, NOT_SUBSCRIBED, false));
+/// What is sent for a body that is refused, and for a call.
+pub fn bodies(alloc: Global) -> bool {
+    first_other(alloc, &BODIES).is_none() && is_sent(alloc, REVIVE, NOT_SUBSCRIBED, false)
 }
 
 const SUBSCRIBE: &str =
@@ -190,9 +189,9 @@ const SUBSCRIBE: &str =
 const STREAM: &str =
     "HTTP/1.1 200 OK\r\nContent-Type: application/json\r\nTransfer-Encoding: chunked\r\nMesos-Stream-Id: S1-1\r\n\r\n68\r\n100\n{\"subscribed\":{\"framework_id\":{\"value\":\"F1-1\"},\"heartbeat_interval_seconds\":15},\"type\":\"SUBSCRIBED\"}\r\n0\r\n\r\n";
 
-#[test]
-fn a_stream(rt: HostRuntime) {
-    assert!(rt; is_sent(rt.alloc(), SUBSCRIBE, STREAM, true));
+/// A stream of events.
+pub fn a_stream(alloc: Global) -> bool {
+    is_sent(alloc, SUBSCRIBE, STREAM, true)
 }
 
 /// How a connection ends whose outlet fails behind the head and the four parts of the first chunk, whether its stream is hung up, and how much was sent.
@@ -218,14 +217,10 @@ fn broken_off(alloc: Global, bytes: Vec<u8>) -> (Result<(), LinkFault>, bool, us
     (ended, bench.hung_up, sink.bytes.len())
 }
 
-fn is_hung_up(alloc: Global) -> bool {
+/// A stream is hung up where its outlet fails.
+pub fn a_stream_that_breaks_off_is_hung_up(alloc: Global) -> bool {
     match Vec::from_slice(alloc, SUBSCRIBE.as_bytes()) {
         Ok(bytes) => broken_off(alloc, bytes) == (Err(LinkFault::Failed), true, 212),
         Err(_) => false,
     }
-}
-
-#[test]
-fn a_stream_that_breaks_off_is_hung_up(rt: HostRuntime) {
-    assert!(rt; is_hung_up(rt.alloc()));
 }

@@ -42,11 +42,14 @@ const HEADS: [(&[u8], RequestFault); 9] = [
     ),
 ];
 
-#[test]
-fn heads_are_refused_in_order(rt: HostRuntime) {
+/// Each head is refused by its first fault.
+pub fn heads_are_refused_in_order() -> bool {
     for (text, fault) in HEADS {
-        assert!(rt; fault_of(text) == Some(fault));
+        if fault_of(text) != Some(fault) {
+            return false;
+        }
     }
+    true
 }
 
 const LENGTHS: [(&str, Result<Body, RequestFault>); 9] = [
@@ -81,11 +84,14 @@ fn body_of(alloc: Global, fields: &str) -> Option<Result<Body, RequestFault>> {
     }
 }
 
-#[test]
-fn length_fields_are_judged(rt: HostRuntime) {
+/// How a body comes, by its fields.
+pub fn length_fields_are_judged(alloc: Global) -> bool {
     for (fields, want) in LENGTHS {
-        assert!(rt; body_of(rt.alloc(), fields) == Some(want));
+        if body_of(alloc, fields) != Some(want) {
+            return false;
+        }
     }
+    true
 }
 
 /// Whether the body is waited for, whether the connection is closed then, and whether a stream is named.
@@ -102,10 +108,10 @@ const FIELDS: &str = "Expect: 100-Continue\r\nConnection: a , CLOSE\r\nMesos-Str
 const OTHER_FIELDS: &str =
     "Expect: 100-continue, x\r\nConnection: closed\r\nConnection: close\r\nMesos-Stream-Id: bad\r\nMesos-Stream-Id: S1-1\r\n";
 
-#[test]
-fn the_first_of_other_fields_counts(rt: HostRuntime) {
-    assert!(rt; others_of(rt.alloc(), FIELDS) == Some((true, true, true)));
-    assert!(rt; others_of(rt.alloc(), OTHER_FIELDS) == Some((false, false, false)));
+/// Of Expect, Connection and Mesos-Stream-Id the first field counts.
+pub fn the_first_of_other_fields_counts(alloc: Global) -> bool {
+    let first = others_of(alloc, FIELDS) == Some((true, true, true));
+    first && others_of(alloc, OTHER_FIELDS) == Some((false, false, false))
 }
 
 const PARTS: [(&[u8], Place, Option<usize>); 8] = [
@@ -124,11 +130,14 @@ fn cut_at(text: &[u8], place: Place) -> Option<usize> {
     scan.look(text)
 }
 
-#[test]
-fn parts_are_cut(rt: HostRuntime) {
+/// Where a head, a line and the lines behind a body end.
+pub fn parts_are_cut() -> bool {
     for (text, place, want) in PARTS {
-        assert!(rt; cut_at(text, place) == want);
+        if cut_at(text, place) != want {
+            return false;
+        }
     }
+    true
 }
 
 const LINES: [(&[u8], Option<u64>); 8] = [
@@ -142,11 +151,18 @@ const LINES: [(&[u8], Option<u64>); 8] = [
     (b"5\r\n1", None),
 ];
 
-#[test]
-fn chunk_lines_and_trailers(rt: HostRuntime) {
+fn lines_are_judged() -> bool {
     for (text, want) in LINES {
-        assert!(rt; judge_line(text) == want);
+        if judge_line(text) != want {
+            return false;
+        }
     }
-    assert!(rt; are_trailers(b"\r\n") && are_trailers(b"a: b\nc:\r\n\n"));
-    assert!(rt; !are_trailers(b"a b\r\n\r\n") && !are_trailers(b"a: b\r\n"));
+    true
+}
+
+/// The size lines of chunks, and the fields behind the last one.
+pub fn chunk_lines_and_trailers() -> bool {
+    let taken = are_trailers(b"\r\n") && are_trailers(b"a: b\nc:\r\n\n");
+    let refused = !are_trailers(b"a b\r\n\r\n") && !are_trailers(b"a: b\r\n");
+    lines_are_judged() && taken && refused
 }

@@ -1,6 +1,6 @@
 use http_text::{SizeLines, Status, refusal_response, size_lines, subscribed_response};
 use names_core::StreamId;
-use std::alloc::AllocError;
+use std::alloc::{AllocError, Global};
 
 const NO_SUCH_PATH: &[u8] =
     b"HTTP/1.1 404 Not Found\r\nContent-Type: text/plain\r\nContent-Length: 14\r\nConnection: close\r\n\r\nH2 NoSuchPath\n";
@@ -18,26 +18,19 @@ fn is(text: Result<Vec<u8>, AllocError>, wanted: &[u8]) -> bool {
     }
 }
 
-#[test]
-fn refusals(rt: HostRuntime) {
-    let alloc = rt.alloc();
-    assert!(rt;
-        is(
-            refusal_response(alloc, Status::NotFound, "H2 NoSuchPath"),
-            NO_SUCH_PATH
-        )
-    );
-    assert!(rt;
-        is(
-            refusal_response(alloc, Status::MethodNotAllowed, "H3 NotPost"),
-            NOT_POST
-        )
-    );
+fn is_refused(alloc: Global, status: Status, text: &str, wanted: &[u8]) -> bool {
+    is(refusal_response(alloc, status, text), wanted)
 }
 
-#[test]
-fn a_stream_opens(rt: HostRuntime) {
-    assert!(rt; is(subscribed_response(rt.alloc(), StreamId::new(1, 1)), OPENED));
+/// The responses to requests that are refused.
+pub fn refusals(alloc: Global) -> bool {
+    is_refused(alloc, Status::NotFound, "H2 NoSuchPath", NO_SUCH_PATH)
+        && is_refused(alloc, Status::MethodNotAllowed, "H3 NotPost", NOT_POST)
+}
+
+/// The head of a stream.
+pub fn a_stream_opens(alloc: Global) -> bool {
+    is(subscribed_response(alloc, StreamId::new(1, 1)), OPENED)
 }
 
 fn are(lines: Result<SizeLines, AllocError>, chunk: &str, record: &str) -> bool {
@@ -48,8 +41,7 @@ fn are(lines: Result<SizeLines, AllocError>, chunk: &str, record: &str) -> bool 
 }
 
 /// The record's size line counts as data of the chunk.
-#[test]
-fn sizes_of_a_chunk(rt: HostRuntime) {
-    assert!(rt; are(size_lines(rt.alloc(), 60), "3f\r\n", "60\n"));
-    assert!(rt; are(size_lines(rt.alloc(), 100), "68\r\n", "100\n"));
+pub fn sizes_of_a_chunk(alloc: Global) -> bool {
+    let short = are(size_lines(alloc, 60), "3f\r\n", "60\n");
+    short && are(size_lines(alloc, 100), "68\r\n", "100\n")
 }

@@ -1,6 +1,6 @@
-//! Says of each line of its input, a kind and a text, what that text is read as.
+//! Says of a line, a kind and a text, what that text is read as.
 //!
-//! An empty line and a line that begins with `#` are written again as they are. In a text `~LF~` stands for a line feed, and so do
+//! An empty line and a line that begins with `#` are answered by themselves. In a text `~LF~` stands for a line feed, and so do
 //! `NUL`, `CR`, `US`, `DEL` and `BOM` (the byte order mark) for theirs, and `~COUNT*PART~` for so many copies of a part. The kinds are
 //!
 //! - `earlier`: whether the first of two launch keys stands before the other;
@@ -16,21 +16,12 @@
 #![tactic(auto)]
 
 mod amounts;
-mod answer;
 mod events;
 mod frames;
+mod lines;
 mod marks;
 mod refusals;
 mod streams;
 mod texts;
 
-use answer::answer;
-use std::io;
-
-fn main(rt: HostRuntime) -> io::Result<()> {
-    for line in rt.lines(rt.alloc()) {
-        let text = answer(rt.alloc(), line?.as_str())?;
-        println!(rt; "{text}")?;
-    }
-    Ok(())
-}
+pub use lines::answer;
