@@ -46,16 +46,16 @@ fn first_master(alloc: Global) -> Result<Master, Stop>
     }
 }
 
-/// Answers the calls that a reader gives, which it reads by this buffer.
+/// Answers the calls that a reader gives, which it reads by this buffer, by a master that was asked nothing yet.
 fn answer_input<R: Read, W: Write>(
     alloc: Global,
     reader: &mut R,
     writer: &mut W,
     buffer: &mut [u8],
-    mut master: Master,
+    master: &mut Master,
 ) -> Result<Option<FrameFault>, Stop>
     requires buffer { 0 < length buffer.old }
-    requires master { master ≡ first_master }
+    requires master { master.old ≡ first_master }
     ensures ok { IfOk result (λ fault. IfSome (R.remaining reader.old) (λ input.
         (text : List ℕ) × IsAnswer input text fault × Appends (W.contents writer.old) (W.contents writer.new) text)) }
     ensures err { OnErr result (IfSome (R.remaining reader.old) (λ input. (text : List ℕ) (fault : Option FrameFault)
@@ -76,7 +76,7 @@ fn answer_input<R: Read, W: Write>(
             Ok(fed) => fed,
             Err(_) => return Err(Stop::FrameMemory),
         };
-        if let Err(stop) = answer_all(alloc, &mut master, &fed.records, writer) {
+        if let Err(stop) = answer_all(alloc, master, &fed.records, writer) {
             return Err(stop);
         }
         if let Some(fault) = fed.fault {
@@ -107,9 +107,9 @@ pub fn calls<R: Read, W: Write>(
         Ok(buffer) => buffer,
         Err(_) => return Err(Stop::FrameMemory),
     };
-    let master = match first_master(alloc) {
+    let mut master = match first_master(alloc) {
         Ok(master) => master,
         Err(stop) => return Err(stop),
     };
-    answer_input(alloc, reader, writer, &mut buffer, master)
+    answer_input(alloc, reader, writer, &mut buffer, &mut master)
 }

@@ -5,7 +5,7 @@ use Rattle.call_replies.proofs.answering.answer_input.Goals as goal
 
 pub loop-init : goal.loop-init
 loop-init g c =
-    begins (g.R.Read.remaining c.args.reader.now) (g.W.Write.contents c.args.writer.now) c.new-frames.result c.args.master c.new-frames.ensures c.requires.master
+    begins (g.R.Read.remaining c.args.reader.now) (g.W.Write.contents c.args.writer.now) c.new-frames.result c.args.master.now c.new-frames.ensures c.requires.master
 
 pub loop-preserved : goal.loop-preserved
 loop-preserved g c =
