@@ -1,15 +1,34 @@
 //! Keepers of files.
 
-ghost use Rattle.std.specs.Prelude.{◌≡◌, ◌≢◌, IfOk, IfErr};
+ghost use Rattle.std.specs.Prelude.{◌≡◌, ◌≢◌, Ok, IfOk, IfErr};
+ghost use Rattle.sqlite.specs.Held.{Held, state};
 ghost use Rattle.sqlite.specs.State.{HasCleanDisk};
 ghost use Rattle.sqlite.specs.Files.{file_state, HoldsDatabase};
 ghost use Rattle.sqlite.specs.WalFiles.{image_at};
 ghost use Rattle.sqlite_catalog.specs.Listing.{IsSound};
-ghost use Rattle.keep_store.specs.Tables.{IsReady, keeper_schema};
+ghost use Rattle.keep_store.specs.Tables.{IsReady, keeper_schema, no_schema};
 
 use crate::fault::{KeepFault, fault_of};
 use crate::keeper::Keeper;
-use sqlite::{Connection, FileFrom, FileStore, Start, Unknown};
+use sqlite::{Alter, Connection, Error, FileFrom, FileStore, Start, Unknown};
+
+/// The keeper over a connection, where it was opened. What else is left is dropped, and only why there is no keeper is told.
+fn keeper_over<S: Alter + Drop, T: Drop>(
+    opened: Result<Connection<S>, (Error, T)>,
+) -> Result<Keeper<S>, KeepFault>
+    ensures ready { IfOk result (λ keeper. HasCleanDisk (state S.Store keeper) → IsReady (state S.Store keeper)) }
+    ensures found { IfOk result (λ keeper. HasCleanDisk (state S.Store keeper) → (conn : Held S) × (opened ≡ Ok conn) × HasCleanDisk (state S.Store conn) × ((state S.Store conn).now.schema ≢ no_schema → (state S.Store keeper).now ≡ (state S.Store conn).now)) }
+    ensures unspent { IfErr result (λ e. e ≢ KeepFault.RunsSpent) }
+{
+    let conn = match opened {
+        Ok(conn) => conn,
+        Err((error, _)) => return Err(fault_of(error)),
+    };
+    match Keeper::adopt(conn) {
+        Ok(keeper) => Ok(keeper),
+        Err((fault, _)) => Err(fault),
+    }
+}
 
 impl<S: Start> Keeper<FileStore<FileFrom<S>>> {
     /// Opens the files at a path, or makes them. `S` stands for what they hold, and `start` is its value. Refusals are those of `adopt`.
@@ -22,14 +41,7 @@ impl<S: Start> Keeper<FileStore<FileFrom<S>>> {
         ensures found { IfOk result (λ keeper. HasCleanDisk (file_state keeper) → (db : _) → HoldsDatabase (image_at S.Start) db → IsSound keeper_schema db → (file_state keeper).now.trees ≡ db) }
         ensures unspent { IfErr result (λ e. e ≢ KeepFault.RunsSpent) }
     {
-        let conn = match Connection::open_from(rt, path, false, start) {
-            Ok(conn) => conn,
-            Err((error, _)) => return Err(fault_of(error)),
-        };
-        match Keeper::adopt(conn) {
-            Ok(keeper) => Ok(keeper),
-            Err((fault, _)) => Err(fault),
-        }
+        keeper_over(Connection::open_from(rt, path, false, start))
     }
 }
 

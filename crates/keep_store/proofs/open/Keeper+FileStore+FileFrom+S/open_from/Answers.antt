@@ -1,16 +1,20 @@
-use Rattle.std.proofs.Common.{ap, subst, ◌∙◌}
+use Rattle.std.proofs.Common.{ap, subst, ◌∙◌, IfOk, Result}
+use Rattle.std.proofs.lemmas.Result.{IfOk-at_ok, IfOk-weaker}
 use Rattle.sqlite.specs.Effect.{Database}
 use Rattle.sqlite.specs.Files.{file_state}
 use Rattle.sqlite_catalog.specs.Listing.{IsSound}
 use Rattle.keep_store.proofs.OpenLemmas.{not_new}
 use Rattle.keep_store.proofs.open.Keeper+FileStore+FileFrom+S.open_from.Goals as goal
 
-pub returns-in-Ok-adopt-clause-found : goal.returns-in-Ok-adopt-clause-found
-returns-in-Ok-adopt-clause-found g c clean db holds ours =
-    let conn = c.in-Ok.conn in
-    let early = c.in-Ok-adopt.ensures.clean clean in
-    let opened = c.in-Ok.ensures.opened early in
-    let trees = ap (λ (d : Database). d.trees) opened.0.clean ∙ (c.in-Ok.ensures.found early).holds db holds in
+then : {X Y : Type 0} (r : Result X Y) {P Q : X → Type 0} → IfOk r P → ((x : X) → P x → Q x) → IfOk r Q
+then r {P} {Q} h f = IfOk-weaker r P Q f h
+
+pub returns-clause-found : goal.returns-clause-found
+returns-clause-found g c = then c.keeper_over.result c.keeper_over.ensures.found (λ keeper told clean db holds ours.
+    let over = told clean in
+    let conn = over.0 in
+    let opened = IfOk-at_ok _ over.1 c.open_from.ensures.opened over.2 in
+    let trees = ap (λ (d : Database). d.trees) opened.0.clean ∙ (IfOk-at_ok _ over.1 c.open_from.ensures.found over.2).holds db holds in
     let live = opened.1 opened.0.is_open in
     let sound = subst (IsSound (file_state conn).now.schema) trees live.0 in
-    ap (λ (d : Database). d.trees) (c.in-Ok-adopt.ensures.found clean (not_new db (file_state conn).now.schema ours sound)) ∙ trees
+    ap (λ (d : Database). d.trees) (over.3 (not_new db (file_state conn).now.schema ours sound)) ∙ trees)
