@@ -36,7 +36,7 @@ pub enum Part<'a> {
 }
 
 /// How a thread's part ended.
-#[derive(Clone, Copy, Debug, Drop, PartialEq, Eq)]
+#[derive(Clone, Copy, Drop, PartialEq, Eq)]
 pub enum End {
     /// The office is finished, or the agent isn't configured.
     Finished,

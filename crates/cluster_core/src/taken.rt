@@ -17,7 +17,7 @@ pub struct History {
 }
 
 /// A step that was taken: its entry, which stands in the history too.
-#[derive(Debug, Drop)]
+#[derive(Drop)]
 pub struct Taken {
     pub entry: Entry,
     /// The record of the draft that a Prepare opened; it is to be saved before the draft is committed.

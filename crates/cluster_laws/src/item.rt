@@ -4,7 +4,7 @@ use mails::{Call as SentCall, ToAgent, ToMaster};
 use names_core::StreamId;
 
 /// A call with the stream that it came with, or a mail with its agent.
-#[derive(Debug, Drop)]
+#[derive(Drop)]
 pub enum Item {
     Call(Option<StreamId>, SentCall),
     ToAgent(ToAgent),

@@ -41,7 +41,7 @@ use std::alloc::Global;
 use told_streams::{Streams, kept_streams_follow, no_more_is_taken};
 
 /// What is for the master: a call with its stream, or a mail of an agent.
-#[derive(Debug, Drop)]
+#[derive(Drop)]
 enum ForMaster {
     Call(Option<StreamId>, SentCall),
     Mail(ToMaster),

@@ -22,7 +22,7 @@ use std::alloc::{AllocError, Global};
 use told_streams::Streams;
 
 /// How a step ended and what it brought out: its entry, but for the step. The outputs are there twice, to be kept and to be given away.
-#[derive(Debug, Drop)]
+#[derive(Drop)]
 pub struct Made {
     pub verdict: Verdict,
     pub outputs: Outputs,

@@ -10,7 +10,7 @@ use names_core::StreamId;
 use plain_data::Plain;
 
 /// How a step ended.
-#[derive(Clone, Copy, Debug, Drop, PartialEq, Eq)]
+#[derive(Clone, Copy, Drop, PartialEq, Eq)]
 pub enum Verdict {
     Ok,
     MasterRefused(MasterRefusal),
@@ -26,7 +26,7 @@ impl Plain for Verdict {
 }
 
 /// A call or a mail that was sent; a call's text is its step's.
-#[derive(Clone, Debug, Drop, PartialEq)]
+#[derive(Clone, Drop, PartialEq)]
 pub enum Sent {
     Call,
     ToAgent(ToAgent),
@@ -48,7 +48,7 @@ impl Plain for Sent {
 }
 
 /// What a step brought out.
-#[derive(Clone, Debug, Drop, PartialEq)]
+#[derive(Clone, Drop, PartialEq)]
 pub struct Outputs {
     /// In the order made.
     pub events: Listed<StreamEvent>,
@@ -74,7 +74,7 @@ impl Plain for Outputs {
 }
 
 /// A step of a history, with how it ended and what it brought out.
-#[derive(Clone, Debug, Drop, PartialEq)]
+#[derive(Clone, Drop, PartialEq)]
 pub struct Entry {
     pub step: Step,
     pub verdict: Verdict,

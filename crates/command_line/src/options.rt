@@ -10,7 +10,7 @@ use clap::{Arg, ArgMatches, Command};
 use std::alloc::{AllocError, Global};
 
 /// What a cluster is served with.
-#[derive(Clone, Copy, Debug, Drop, PartialEq, Eq)]
+#[derive(Clone, Copy, Drop, PartialEq, Eq)]
 pub struct ServeOptions<'a> {
     /// The port, from 1 to 65,535.
     pub port: u16,

@@ -9,7 +9,7 @@ use names_core::{AgentName, FrameworkId, OfferId};
 use plain_data::Plain;
 
 /// What the master tells a framework, as in the events of the Mesos scheduler HTTP API.
-#[derive(Clone, Debug, Drop, PartialEq)]
+#[derive(Clone, Drop, PartialEq)]
 pub enum Event {
     /// The stream is open, for the framework of this id.
     Subscribed { framework: FrameworkId },

@@ -7,7 +7,7 @@ use std::alloc::{AllocError, Global};
 use std::marker::Model;
 
 /// A text of at most 255 bytes.
-#[derive(Debug, Drop)]
+#[derive(Drop)]
 pub struct Message {
     text: String,
 }

@@ -14,7 +14,7 @@ use std::alloc::{AllocError, Global};
 use std::marker::Model;
 
 /// At most 256 offers.
-#[derive(Debug, Drop)]
+#[derive(Drop)]
 pub struct Offers {
     offers: Vec<Offer>,
 }

@@ -12,7 +12,7 @@ use serde_json::{Value, json};
 use std::alloc::{AllocError, Global};
 
 /// The state of a task. An update that has to be acknowledged has an id.
-#[derive(Clone, Debug, Drop, PartialEq)]
+#[derive(Clone, Drop, PartialEq)]
 pub struct TaskStatus {
     pub task: TaskName,
     pub state: TaskState,

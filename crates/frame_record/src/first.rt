@@ -14,7 +14,7 @@ use std::alloc::AllocError;
 pub const LIMIT: u64 = 1_048_576;
 
 /// What a size line takes of a piece.
-#[derive(Clone, Copy, Debug, PartialEq, Eq)]
+#[derive(Clone, Copy, PartialEq, Eq)]
 pub enum Line {
     /// All of it belongs to the line, which may go on.
     Partial,

@@ -10,7 +10,7 @@ use std::alloc::{AllocError, Global};
 use std::mem;
 
 /// The size line of a record so far, its size once the line is whole, and its data so far.
-#[derive(Debug, Drop)]
+#[derive(Drop)]
 pub struct Part {
     line: Vec<u8>,
     size: Option<usize>,
@@ -19,7 +19,7 @@ pub struct Part {
 
 /// What a reader took from the front of a piece: so many bytes, and the record that they completed
 /// or the fault that they showed (`F1` or `F2`), if any.
-#[derive(Debug, Drop)]
+#[derive(Drop)]
 pub struct Pulled {
     pub taken: usize,
     pub item: Option<Vec<u8>>,

@@ -12,7 +12,7 @@ use std::marker::Model;
 
 /// Where a reader stands on its stream: it keeps the record that is not whole yet, or the fault
 /// that it met.
-#[derive(Debug, Drop)]
+#[derive(Drop)]
 pub struct Reader {
     part: Part,
     fault: Option<FrameFault>,
@@ -30,7 +30,7 @@ impl Model for Reader {
 }
 
 /// What a piece brought: the records that it completed, in order, and the fault behind them, if one was met (`F1` or `F2`).
-#[derive(Debug, Drop)]
+#[derive(Drop)]
 pub struct Fed {
     pub records: Vec<Vec<u8>>,
     pub fault: Option<FrameFault>,

@@ -16,7 +16,7 @@ use std::alloc::{AllocError, Global};
 use std::marker::Model;
 
 /// The frameworks that are known in a run, in the order of their ids.
-#[derive(Debug, Drop)]
+#[derive(Drop)]
 pub struct Frameworks {
     items: Vec<Framework>,
 }

@@ -10,7 +10,7 @@ use names_core::StreamId;
 use std::alloc::AllocError;
 
 /// What became of a call.
-#[derive(Clone, Copy, Debug, Drop, PartialEq, Eq)]
+#[derive(Clone, Copy, Drop, PartialEq, Eq)]
 pub enum Answer {
     Accepted,
     /// It was accepted, and opened this event stream.

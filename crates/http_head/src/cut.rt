@@ -7,7 +7,7 @@ ghost use Rattle.http_head.specs.Cuts.{is_last, place_after, cut_len, HasSeen};
 pub const MAX_PART: usize = 16_384;
 
 /// Where in a part of a request the next byte stands.
-#[derive(Clone, Copy, Debug, Drop, PartialEq, Eq)]
+#[derive(Clone, Copy, Drop, PartialEq, Eq)]
 pub enum Place {
     /// At the start of a line, with nothing but empty lines before it. A head begins here.
     Front,

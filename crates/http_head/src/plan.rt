@@ -6,7 +6,7 @@ use names_core::StreamId;
 pub const MAX_BODY: usize = 1_048_576;
 
 /// How the body of a request comes (RFC 9112, section 6).
-#[derive(Clone, Copy, Debug, Drop, PartialEq, Eq)]
+#[derive(Clone, Copy, Drop, PartialEq, Eq)]
 pub enum Body {
     /// In so many bytes.
     Sized(usize),

@@ -4,7 +4,7 @@ ghost use Rattle.std.specs.Prelude.{◌≡◌};
 ghost use Rattle.http_text.specs.Responses.{status_lines};
 
 /// The status of a refusal (RFC 9110, section 15).
-#[derive(Clone, Copy, Debug, Drop, PartialEq, Eq)]
+#[derive(Clone, Copy, Drop, PartialEq, Eq)]
 pub enum Status {
     /// 400
     BadRequest,

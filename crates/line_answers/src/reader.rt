@@ -11,7 +11,7 @@ use std::mem;
 pub const LONGEST_LINE: usize = 1_048_576;
 
 /// Where a reader stands on its text: what it keeps of the line that hasn't ended yet.
-#[derive(Debug, Drop)]
+#[derive(Drop)]
 pub struct Reader {
     rest: Vec<u8>,
 }

@@ -7,7 +7,7 @@ use names_core::{LaunchKey, TaskState};
 use plain_data::Plain;
 
 /// What an agent acts on.
-#[derive(Clone, Debug, Drop, PartialEq)]
+#[derive(Clone, Drop, PartialEq)]
 pub enum Cause {
     /// It starts, and opens a new session with the master of its last run.
     Start,

@@ -6,7 +6,7 @@ use quantity::Resources;
 
 /// Resources of an agent that a framework refused, for some seconds (Mesos scheduler HTTP API, ACCEPT and DECLINE:
 /// `refuse_seconds`).
-#[derive(Debug, Drop)]
+#[derive(Drop)]
 pub struct Filter {
     pub agent: AgentName,
     /// The moment at which it was made, in seconds.
@@ -16,7 +16,7 @@ pub struct Filter {
 }
 
 /// A framework that is known in this run.
-#[derive(Debug, Drop)]
+#[derive(Drop)]
 pub struct Framework {
     pub id: FrameworkId,
     pub role: RoleName,

@@ -8,7 +8,7 @@ use names_core::{AgentName, FrameworkId, LaunchKey, OfferId, TaskState};
 use plain_data::Plain;
 
 /// What the master asks of an agent.
-#[derive(Clone, Debug, Drop, PartialEq)]
+#[derive(Clone, Drop, PartialEq)]
 pub enum Command {
     /// Start a task, from these offers.
     Launch(Job, Listed<OfferId>),
@@ -38,7 +38,7 @@ impl Plain for Command {
 }
 
 /// A mail from the master to an agent.
-#[derive(Clone, Debug, Drop, PartialEq)]
+#[derive(Clone, Drop, PartialEq)]
 pub enum MasterMail {
     /// The master's run, and the greatest session of the agent that this run has closed (0 if none).
     Hello {
@@ -68,7 +68,7 @@ impl Plain for MasterMail {
 }
 
 /// A mail from an agent to the master.
-#[derive(Clone, Debug, Drop, PartialEq)]
+#[derive(Clone, Drop, PartialEq)]
 pub enum AgentMail {
     /// The agent has opened this session with the master of this run, and has these tasks, by launch key.
     Report {
@@ -110,7 +110,7 @@ impl Plain for AgentMail {
 }
 
 /// A mail with the agent that it is for.
-#[derive(Clone, Debug, Drop, PartialEq)]
+#[derive(Clone, Drop, PartialEq)]
 pub struct ToAgent {
     pub agent: AgentName,
     pub mail: MasterMail,
@@ -125,7 +125,7 @@ impl Plain for ToAgent {
 }
 
 /// A mail with the agent that it is from.
-#[derive(Clone, Debug, Drop, PartialEq)]
+#[derive(Clone, Drop, PartialEq)]
 pub struct ToMaster {
     pub agent: AgentName,
     pub mail: AgentMail,

@@ -24,7 +24,7 @@ impl Plain for Job {
 }
 
 /// Resources of one agent that are offered to a framework.
-#[derive(Clone, Debug, Drop, PartialEq)]
+#[derive(Clone, Drop, PartialEq)]
 pub struct Offer {
     pub id: OfferId,
     pub framework: FrameworkId,
@@ -40,7 +40,7 @@ impl Plain for Offer {
 }
 
 /// A task in the master's books, and in the report of an agent.
-#[derive(Clone, Debug, Drop, PartialEq)]
+#[derive(Clone, Drop, PartialEq)]
 pub struct Booked {
     pub job: Job,
     /// Whether it has ended for good.

@@ -17,7 +17,7 @@ use offer_book::Account;
 use std::alloc::{AllocError, Global};
 
 /// Who refuses, at which moment, and for how many seconds.
-#[derive(Debug, Drop)]
+#[derive(Drop)]
 pub struct Refuser {
     pub framework: FrameworkId,
     pub moment: u32,

@@ -19,7 +19,7 @@ use quantity::Resources;
 use std::alloc::{AllocError, Global};
 
 /// Who accepts, and on which stream it is answered.
-#[derive(Debug, Drop)]
+#[derive(Drop)]
 pub struct Caller {
     pub framework: FrameworkId,
     pub stream: StreamId,
@@ -37,7 +37,7 @@ pub struct Progress {
 }
 
 /// What an answer tells of a held task.
-#[derive(Debug, Drop)]
+#[derive(Drop)]
 pub struct HeldTask {
     pub name: TaskName,
     pub agent: AgentName,

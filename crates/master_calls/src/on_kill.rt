@@ -16,7 +16,7 @@ use plain_data::Plain;
 use std::alloc::{AllocError, Global};
 
 /// What an answer tells of a booked task.
-#[derive(Debug, Drop)]
+#[derive(Drop)]
 pub struct HeldTask {
     pub name: TaskName,
     pub agent: AgentName,

@@ -48,7 +48,7 @@ impl Model for Master {
 }
 
 /// What a mail brought out, and why it was refused, if it was.
-#[derive(Debug, Drop)]
+#[derive(Drop)]
 pub struct HeardMail {
     pub outs: Outs,
     pub refusal: Option<MasterRefusal>,

@@ -15,7 +15,7 @@ use std::alloc::{AllocError, Global};
 use std::mem;
 
 /// An event on a stream.
-#[derive(Clone, Debug, Drop, PartialEq)]
+#[derive(Clone, Drop, PartialEq)]
 pub struct StreamEvent {
     pub stream: StreamId,
     pub event: Event,
@@ -30,7 +30,7 @@ impl Plain for StreamEvent {
 }
 
 /// What a step brings out.
-#[derive(Debug, Drop)]
+#[derive(Drop)]
 pub struct Outs {
     /// In the order made.
     pub events: Listed<StreamEvent>,

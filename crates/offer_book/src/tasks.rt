@@ -72,7 +72,7 @@ fn end_in(tasks: &mut Vec<Booked>, key: LaunchKey)
 }
 
 /// What an update of a task tells.
-#[derive(Clone, Copy, Debug, Drop)]
+#[derive(Clone, Copy, Drop)]
 pub struct Heard {
     pub key: LaunchKey,
     /// The update's number.

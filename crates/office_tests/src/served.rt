@@ -24,7 +24,7 @@ use std::thread::Threads;
 use std::time::Clock;
 
 /// What is seen at the close.
-#[derive(Clone, Copy, Debug, Drop, PartialEq, Eq)]
+#[derive(Clone, Copy, Drop, PartialEq, Eq)]
 pub struct Closed {
     /// How many moves of the script went as they are to go.
     pub moves: usize,

@@ -1,7 +1,7 @@
 //! The ways in which something is sent.
 
 /// Which way something was sent. An agent is named by its place.
-#[derive(Debug, Clone, Copy, PartialEq, Eq)]
+#[derive(Clone, Copy, PartialEq, Eq)]
 pub enum Direction {
     Call,
     ToAgent(usize),

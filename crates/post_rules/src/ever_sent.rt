@@ -8,7 +8,7 @@ use crate::post::Post;
 use std::alloc::{AllocError, Global};
 
 /// All that was ever put can be handed out, in any order and any number of times.
-#[derive(Debug, Drop)]
+#[derive(Drop)]
 pub struct EverSent {
     count: u64,
 }

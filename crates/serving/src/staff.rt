@@ -16,7 +16,7 @@ use std::thread::{JoinHandle, Scope, Threads};
 use std::time::Clock;
 
 /// How fast a cluster runs.
-#[derive(Clone, Copy, Debug, Drop)]
+#[derive(Clone, Copy, Drop)]
 pub struct Pace {
     /// So many seconds lie between two rounds of offers: 1 or more, since at 0 rounds follow without a pause.
     pub interval: u64,

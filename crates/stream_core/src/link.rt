@@ -11,7 +11,7 @@ use std::marker::Model;
 
 /// The sender's end: the commands that it issued and that aren't known to be applied, in order.
 /// Commands are numbered from 1.
-#[derive(Debug, Drop)]
+#[derive(Drop)]
 pub struct LinkOut<C> {
     waiting: VecDeque<C>,
     known: u32,
@@ -112,7 +112,7 @@ impl<C> LinkOut<C> {
 }
 
 /// The receiver's end: how many of the first commands it has taken.
-#[derive(Clone, Copy, Debug, Drop, PartialEq, Eq)]
+#[derive(Clone, Copy, Drop, PartialEq, Eq)]
 pub struct LinkIn {
     count: u32,
 }
