@@ -1,72 +1,93 @@
 //! The store of an agent's record.
 
+use crate::stores::{FilePlace, Place};
 use agent_core::{Cabinet, Record};
 use keep_store::{KeepFault, Keeper};
 use names_core::AgentName;
-use sqlite::{FileFrom, FileStore, Unknown};
+use sqlite::Alter;
 use std::alloc::Global;
-
-/// A store over files, whatever they hold.
-type FileKeeper = Keeper<FileStore<FileFrom<Unknown>>>;
 
 /// The file of an agent's record. It can go to another thread, and becomes a cabinet there.
 #[derive(Drop)]
 pub struct RecordFile<'a> {
-    rt: &'a HostRuntime,
     agent: AgentName,
-    path: String,
+    place: FilePlace<'a>,
 }
 
 impl<'a> RecordFile<'a> {
-    pub(crate) fn new(rt: &'a HostRuntime, agent: AgentName, path: String) -> RecordFile<'a> {
-        RecordFile { rt, agent, path }
+    pub(crate) fn new(agent: AgentName, place: FilePlace<'a>) -> RecordFile<'a> {
+        RecordFile { agent, place }
     }
 
     /// Whose record it is, and the store over the file.
     pub fn into_cabinet(self) -> (AgentName, FileCabinet<'a>) {
-        let RecordFile { rt, agent, path } = self;
+        let RecordFile { agent, place } = self;
         let keeper = None;
-        (agent, FileCabinet { rt, path, keeper })
+        (agent, PlaceCabinet { place, keeper })
     }
 }
 
-/// The store of an agent's record, over the file at a path. It is opened when it is first needed, and again after it failed.
+/// The store of an agent's record, over the file at a path.
+pub type FileCabinet<'a> = PlaceCabinet<FilePlace<'a>>;
+
+/// The store of an agent's record at a place. It is opened when it is first needed, and again after it failed.
 #[derive(Drop)]
-pub struct FileCabinet<'a> {
-    rt: &'a HostRuntime,
-    path: String,
-    keeper: Option<FileKeeper>,
+pub struct PlaceCabinet<P: Place> {
+    place: P,
+    keeper: Option<Keeper<P::Store>>,
 }
 
-impl<'a> Cabinet for FileCabinet<'a> {
+impl<P: Place> PlaceCabinet<P> {
+    /// The store, opened where it isn't open.
+    fn take(&mut self) -> Result<Keeper<P::Store>, KeepFault> {
+        match self.keeper.take() {
+            Some(keeper) => Ok(keeper),
+            None => self.place.open(),
+        }
+    }
+}
+
+/// The store, with a record kept in place of the one before.
+fn saved<S: Alter + Drop>(
+    mut keeper: Keeper<S>,
+    alloc: Global,
+    durable: &Record,
+) -> Result<Keeper<S>, KeepFault> {
+    match keeper.save(alloc, durable) {
+        Ok(()) => Ok(keeper),
+        Err(fault) => Err(fault),
+    }
+}
+
+/// A store that was opened, with the record that it keeps.
+fn loaded<S: Alter + Drop>(
+    mut keeper: Keeper<S>,
+    alloc: Global,
+) -> Result<(Keeper<S>, Option<Record>), KeepFault> {
+    match keeper.load(alloc) {
+        Ok(record) => Ok((keeper, record)),
+        Err(fault) => Err(fault),
+    }
+}
+
+impl<P: Place> Cabinet for PlaceCabinet<P> {
     ghost use Rattle.std.specs.Prelude.{true};
 
     type Fault = KeepFault;
 
-    // What a store over files at a path has kept is known to nobody; what a save leaves in a store is said of `Keeper::save`.
+    // What a store at a place has kept is known to nobody; what a save leaves in a store is said of `Keeper::save`.
     ghost saved = { λ _ _. true };
 
     fn save(&mut self, alloc: Global, durable: &Record) -> Result<(), KeepFault> {
-        let mut keeper = match self.keeper.take() {
-            Some(keeper) => keeper,
-            None => Keeper::open(self.rt, self.path.as_str())?,
-        };
-        keeper.save(alloc, durable)?;
-        self.keeper = Some(keeper);
+        let keeper = self.take()?;
+        self.keeper = Some(saved(keeper, alloc, durable)?);
         Ok(())
     }
 
     fn reopen(&mut self, alloc: Global) -> Result<Option<Record>, KeepFault> {
         self.keeper = None;
-        let mut keeper = Keeper::open(self.rt, self.path.as_str())?;
-        let record = keeper.load(alloc)?;
+        let (keeper, record) = loaded(self.place.open()?, alloc)?;
         self.keeper = Some(keeper);
         Ok(record)
     }
-}
-
-/// The record that the store at a path keeps. A store is made where there is none.
-pub(crate) fn load_at(rt: &HostRuntime, path: &str) -> Result<Option<Record>, KeepFault> {
-    let mut keeper = Keeper::open(rt, path)?;
-    keeper.load(rt.alloc())
 }

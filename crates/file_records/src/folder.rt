@@ -7,12 +7,12 @@ ghost use Rattle.cluster_model.specs.Openings.{GoodOpening};
 ghost use Rattle.file_records.specs.Refusals.{IsFileRefusal, IsFolderRefusal, IsRecordRefusal, IsStoreRefusal};
 ghost use Rattle.file_records.specs.declared.fault.FolderFault.TheVariants.{NoCluster};
 
-use crate::cabinet::{RecordFile, load_at};
+use crate::cabinet::RecordFile;
 use crate::fault::FolderFault;
+use crate::stores::{FilePlace, load_at, run_at};
 use agent_core::Record;
 use agent_sides::{Config, ConfiguredAgent};
 use cluster_openings::good_opening;
-use keep_store::{KeepFault, Keeper};
 use names_core::Run;
 use plain_data::Plain;
 use std::alloc::Global;
@@ -33,18 +33,13 @@ fn next_run(rt: &HostRuntime, folder: &str) -> Result<Run, FolderFault>
     ensures { IfErr result IsStoreRefusal }
 {
     let path = format!(in rt.alloc(); "{folder}/master.db")?;
-    match run_at(rt, path.as_str()) {
+    let place = FilePlace::new(rt, path);
+    match run_at(&place) {
         Ok(run) => Ok(run),
-        Err(fault) => Err(FolderFault::Store { path, fault }),
-    }
-}
-
-/// The next run, from the store at a path.
-fn run_at(rt: &HostRuntime, path: &str) -> Result<Run, KeepFault> {
-    let mut keeper = Keeper::open(rt, path)?;
-    match u16::try_from(keeper.next_run()?) {
-        Ok(run) if run > 0 => Ok(Run::new(run)),
-        _ => Err(KeepFault::Damaged),
+        Err(fault) => {
+            let path = place.into_path();
+            Err(FolderFault::Store { path, fault })
+        }
     }
 }
 
@@ -82,13 +77,17 @@ fn open_agent<'a>(
 {
     let name = agent.name.as_text();
     let path = format!(in rt.alloc(); "{folder}/agent-{name}.db")?;
-    let found = match load_at(rt, path.as_str()) {
+    let place = FilePlace::new(rt, path);
+    let found = match load_at(&place, rt.alloc()) {
         Ok(found) => found,
-        Err(fault) => return Err(FolderFault::Store { path, fault }),
+        Err(fault) => {
+            let path = place.into_path();
+            return Err(FolderFault::Store { path, fault });
+        }
     };
     let record = record_of(rt.alloc(), agent, found)?;
     let name = agent.name.copy()?;
-    Ok((record, RecordFile::new(rt, name, path)))
+    Ok((record, RecordFile::new(name, place)))
 }
 
 /// Refuses records that are those of no one cluster of these agents in this run.

@@ -4,6 +4,7 @@
 mod cabinet;
 mod fault;
 mod folder;
+mod stores;
 
 pub use cabinet::{FileCabinet, RecordFile};
 pub use fault::FolderFault;
