@@ -444,7 +444,7 @@ pub fn refused_steps<R: Wait + Clock>(rt: &R, alloc: Global) -> bool {
 }
 
 /// A fault of a step, with a text.
-#[derive(Drop)]
+#[derive(Debug, Drop)]
 struct Cause;
 
 impl std::fmt::Display for Cause {
