@@ -14,7 +14,7 @@ use mails::{AgentMail, AgentRefusal, Command, Job, RecordedTask};
 use names_core::{LaunchKey, OfferId, TaskState};
 use plain_data::push_copies;
 use recorded_tasks::{
-    acknowledged_all, push_fronts_at, stated_all, told_behind, without_framework,
+    acknowledged_all, front_sent_after, push_fronts_at, stated_all, without_framework,
 };
 use std::alloc::{AllocError, Global};
 use stream_core::{LinkIn, Updates};
@@ -89,8 +89,8 @@ impl State {
             }
             Command::Ack(key, k) => {
                 let tasks = acknowledged_all(alloc, key, k, self.tasks())?;
-                let told = told_behind(key, k, self.tasks());
-                self.applied_with(alloc, link, tasks, told)
+                let sent = front_sent_after(key, k, self.tasks());
+                self.applied_with(alloc, link, tasks, sent)
             }
             Command::EndFramework(framework) => {
                 let tasks = without_framework(alloc, framework, self.tasks())?;

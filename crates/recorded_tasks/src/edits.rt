@@ -111,8 +111,8 @@ pub fn is_front_at(key: LaunchKey, k: u32, tasks: &[RecordedTask]) -> bool
         .any(|task| is_of_key(key, task) && task.updates.is_front(k))
 }
 
-/// The key of the task whose front goes out behind an acknowledgement of its update `k`: none where that isn't its front.
-pub fn told_behind(key: LaunchKey, k: u32, tasks: &[RecordedTask]) -> Option<LaunchKey>
+/// The key of the task whose front is sent after an Ack of its update `k`: none where that update isn't its front.
+pub fn front_sent_after(key: LaunchKey, k: u32, tasks: &[RecordedTask]) -> Option<LaunchKey>
     ensures { result ≡ (if is_front_at key k tasks.now then Some key else None) }
 {
     if is_front_at(key, k, tasks) {

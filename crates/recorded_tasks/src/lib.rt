@@ -8,7 +8,7 @@ mod keys;
 mod room;
 
 pub use edits::{
-    acknowledged_all, has_ended_task, has_task, lacks_place, stated_all, told_behind,
+    acknowledged_all, front_sent_after, has_ended_task, has_task, lacks_place, stated_all,
     without_framework,
 };
 pub use fronts::{all_reported, push_fronts, push_fronts_at};
