@@ -4,7 +4,7 @@
 Three frameworks launch short tasks, each under a name of its own, and go on by their ids after each kill; at the end the server runs until all that was launched is settled.
 No task is lost that was told to run, and none runs twice: each is told TASK_RUNNING and TASK_FINISHED, updates 0 and 1 of one launch key, in this order. A task of which
 nothing was told is asked for, and where it is answered TASK_LOST nothing is ever told of it. After each kill the agents' records, as sqlite3 reads a copy of them, have each
-task once, and no agent's live tasks have more than it owns. KILLS is 25 where it isn't given.
+task once, and no agent's live tasks have more than it owns. KILLS is 50 where it isn't given.
 """
 import base64
 import json
@@ -22,7 +22,7 @@ from cluster import Folder, Framework, Server, amounts, check
 
 AGENTS = {"a1": {"cpus": 4}, "a2": {"cpus": 3}}
 FRAMEWORKS = 3
-KILLS, SEED = [int(it) for it in sys.argv[1:]] + [25, 1][len(sys.argv) - 1 :]
+KILLS, SEED = [int(it) for it in sys.argv[1:]] + [50, 1][len(sys.argv) - 1 :]
 # At most so many tasks of one framework are launched and not finished.
 MOST = 3
 
