@@ -51,7 +51,10 @@ fn last_state(states: &[TaskState]) -> TaskState
 fn task_front(alloc: Global, job: &Job) -> Result<String, AllocError>
     ensures { IfOk result (λ text. string_bytes text ≡ task_front job.now) }
 {
-    let (Ok(key), Ok(framework)) = (job.key.to_text(alloc), job.framework.to_text(alloc)) else {
+    let Ok(key) = job.key.to_text(alloc) else {
+        return Err(AllocError);
+    };
+    let Ok(framework) = job.framework.to_text(alloc) else {
         return Err(AllocError);
     };
     let name = job.name.as_text();

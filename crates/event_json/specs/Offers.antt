@@ -1,6 +1,6 @@
 -- Offers as JSON.
-use Rattle.std.specs.Prelude.{map, codes}
-use Rattle.serde_json.specs.Data.{Data, string, number, unsigned, array, object, no_members, member}
+use Rattle.std.specs.Prelude.{ℕ, List, map, codes}
+use Rattle.serde_json.specs.Data.{Data, string, number, unsigned, array, object, Members, no_members, member, put}
 use Rattle.serde_json.specs.View.{items_of}
 use Rattle.quantity.specs.declared.rows.Row.{Row}
 use Rattle.event_json.specs.Ids.{only, id_data, framework_data, offer_id_data}
@@ -13,6 +13,10 @@ row_data row = object
     (member (codes "role") (string (codes "*"))
     (member (codes "scalar") (only (codes "value") (number (unsigned row.amount)))
     (member (codes "type") (string (codes "SCALAR")) no_members))))
+
+-- members, and the name of the agent's host put to them
+abbrev pub hosted : List ℕ → Members → Data
+hosted agent ms = object (put (codes "hostname") (string agent) ms)
 
 unfoldable pub offer_data : Offer → Data
 offer_data offer = object

@@ -1,6 +1,6 @@
 -- The state of a task as JSON.
 use Rattle.std.specs.Prelude.{ℕ, List, codes, Option, None, Some, option_map}
-use Rattle.serde_json.specs.Data.{Data, string, object, Members, no_members, member}
+use Rattle.serde_json.specs.Data.{Data, string, object, Members, no_members, member, put}
 use Rattle.names_core.specs.States.{state_text}
 use Rattle.names_core.specs.Updates.{update_text}
 use Rattle.event_json.specs.Ids.{id_data}
@@ -10,6 +10,11 @@ use Rattle.event_json.specs.declared.status.TaskStatus.{TaskStatus}
 abbrev pub with_agent : Option (List ℕ) → Members → Members
 with_agent None others = others
 with_agent (Some agent) others = member (codes "agent_id") (id_data agent) others
+
+-- the id of an update put to members, where there is one
+abbrev pub with_uuid : Option (List ℕ) → Members → Members
+with_uuid None others = others
+with_uuid (Some uuid) others = put (codes "uuid") (string uuid) others
 
 -- the id of an update, where there is one
 abbrev pub uuid_alone : Option (List ℕ) → Members

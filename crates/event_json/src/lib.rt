@@ -3,6 +3,7 @@
 
 mod event;
 mod message;
+mod object;
 mod offer;
 mod offers;
 mod status;

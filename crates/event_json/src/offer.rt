@@ -1,17 +1,17 @@
 //! An offer.
 
 ghost use Rattle.std.proofs.Common.{rules};
-ghost use Rattle.std.specs.Prelude.{◌≡◌, map, IfOk};
-ghost use Rattle.names_core.specs.Ids.{InRange, id_text};
-ghost use Rattle.serde_json.specs.Data.{array, string};
-ghost use Rattle.serde_json.specs.View.{view, items_of};
+ghost use Rattle.std.specs.Prelude.{◌≡◌, [], map, IfOk, OnOk};
+ghost use Rattle.serde_json.specs.Data.{array, object};
+ghost use Rattle.serde_json.specs.View.{view, items_of, members_view};
 ghost use Rattle.event_json.specs.Bounds.{IsOffer};
-ghost use Rattle.event_json.specs.Offers.{row_data, offer_data};
+ghost use Rattle.event_json.specs.Offers.{row_data, hosted, offer_data};
 
+use crate::object::{framework_value, id_value, offer_id_value, only, put_text};
 use names_core::{AgentName, FrameworkId, OfferId};
 use plain_data::Plain;
 use quantity::{Resources, Row};
-use serde_json::{Value, json};
+use serde_json::{Map, Value, put};
 use std::alloc::{AllocError, Global};
 
 /// Resources of an agent that a framework may use.
@@ -31,13 +31,25 @@ impl Plain for Offer {
     ghost decided = { Prim.search (rules, resources_decided) };
 }
 
+/// Puts the members of an amount into an empty object.
 #[tactic(auto, unfolding(crate::specs::Offers::row_data))]
+fn put_row(members: &mut Map<String, Value>, alloc: Global, row: &Row) -> Result<(), AllocError>
+    requires { members.old.entries ≡ [] }
+    ensures { OnOk result (object (members_view members.new.entries) ≡ row_data row.now) }
+{
+    put_text(members, alloc, "name", row.name.as_str())?;
+    put_text(members, alloc, "role", "*")?;
+    let scalar = only(alloc, "value", Value::from(row.amount))?;
+    put(members, alloc, "scalar", scalar)?;
+    put_text(members, alloc, "type", "SCALAR")
+}
+
 fn row_value(alloc: Global, row: &Row) -> Result<Value, AllocError>
     ensures { IfOk result (λ v. view v ≡ row_data row.now) }
 {
-    let name = row.name.as_str();
-    let amount = row.amount;
-    json!(in alloc; {"name": name, "role": "*", "scalar": {"value": amount}, "type": "SCALAR"})
+    let mut members = Map::new(alloc);
+    put_row(&mut members, alloc, row)?;
+    Ok(Value::Object(members))
 }
 
 fn rows_value(alloc: Global, rows: &[Row]) -> Result<Value, AllocError>
@@ -50,39 +62,33 @@ fn rows_value(alloc: Global, rows: &[Row]) -> Result<Value, AllocError>
     Ok(Value::Array(values))
 }
 
-/// The id of a framework as a text.
-fn framework_value(alloc: Global, id: &FrameworkId) -> Result<Value, AllocError>
-    ensures value { IfOk result (λ v. view v ≡ string (id_text 70 id.now)) }
-    ensures range { InRange id.now }
-{
-    match id.to_text(alloc) {
-        Ok(text) => Ok(Value::String(text)),
-        Err(_) => Err(AllocError),
-    }
-}
-
-/// The id of an offer as a text.
-fn offer_id_value(alloc: Global, id: &OfferId) -> Result<Value, AllocError>
-    ensures value { IfOk result (λ v. view v ≡ string (id_text 79 id.now)) }
-    ensures range { InRange id.now }
-{
-    match id.to_text(alloc) {
-        Ok(text) => Ok(Value::String(text)),
-        Err(_) => Err(AllocError),
-    }
-}
-
+/// Puts the members of an offer into an empty object, all but the name of its agent's host.
 #[tactic(auto, unfolding(crate::specs::Offers::offer_data))]
+fn put_offer(
+    members: &mut Map<String, Value>,
+    alloc: Global,
+    offer: &Offer,
+) -> Result<(), AllocError>
+    requires { members.old.entries ≡ [] }
+    ensures value { OnOk result (hosted offer.now.agent (members_view members.new.entries) ≡ offer_data offer.now) }
+    ensures bounds { OnOk result (IsOffer offer.now) }
+{
+    let agent = id_value(alloc, offer.agent.as_text())?;
+    put(members, alloc, "agent_id", agent)?;
+    let framework = framework_value(alloc, &offer.framework)?;
+    put(members, alloc, "framework_id", framework)?;
+    let id = offer_id_value(alloc, &offer.id)?;
+    put(members, alloc, "id", id)?;
+    let resources = rows_value(alloc, offer.resources.rows())?;
+    put(members, alloc, "resources", resources)
+}
+
 pub fn offer_value(alloc: Global, offer: &Offer) -> Result<Value, AllocError>
     ensures value { IfOk result (λ v. view v ≡ offer_data offer.now) }
     ensures bounds { IfOk result (λ _. IsOffer offer.now) }
 {
-    let agent = offer.agent.as_text();
-    json!(in alloc; {
-        "agent_id": {"value": agent},
-        "framework_id": {"value": framework_value(alloc, &offer.framework)?},
-        "hostname": agent,
-        "id": {"value": offer_id_value(alloc, &offer.id)?},
-        "resources": rows_value(alloc, offer.resources.rows())?
-    })
+    let mut members = Map::new(alloc);
+    put_offer(&mut members, alloc, offer)?;
+    put_text(&mut members, alloc, "hostname", offer.agent.as_text())?;
+    Ok(Value::Object(members))
 }

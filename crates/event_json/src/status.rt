@@ -1,14 +1,17 @@
 //! What became of a task.
 
 ghost use Rattle.std.proofs.Common.{rules};
-ghost use Rattle.std.specs.Prelude.{◌≡◌, Some, None, IfOk};
-ghost use Rattle.serde_json.specs.View.{view};
-ghost use Rattle.event_json.specs.Bounds.{IsStatus};
-ghost use Rattle.event_json.specs.Statuses.{status_object, status_data};
+ghost use Rattle.std.specs.Prelude.{◌≡◌, [], option_map, IfOk, OnOk, IfSome};
+ghost use Rattle.serde_json.specs.Data.{object, no_members};
+ghost use Rattle.serde_json.specs.View.{view, members_view};
+ghost use Rattle.names_core.specs.Updates.{update_text};
+ghost use Rattle.event_json.specs.Bounds.{IsName, IsStatus};
+ghost use Rattle.event_json.specs.Statuses.{with_agent, with_uuid, status_data};
 
+use crate::object::{id_value, put_text};
 use names_core::{AgentName, TaskName, TaskState, UpdateId};
 use plain_data::Plain;
-use serde_json::{Value, json};
+use serde_json::{Map, Value, put};
 use std::alloc::{AllocError, Global};
 
 /// The state of a task. An update that has to be acknowledged has an id.
@@ -32,62 +35,63 @@ impl Plain for TaskStatus {
     ghost decided = { λ x y. (let agent : Decides (⟦<Option<AgentName> as PartialEq>⟧.eq x.agent y.agent) (x.agent ≡ y.agent) = Prim.search rules in let update : Decides (⟦<Option<UpdateId> as PartialEq>⟧.eq x.update y.update) (x.update ≡ y.update) = Prim.search rules in let d = and_decides (task_decided x.task y.task) (and_decides (state_decided x.state y.state) (and_decides agent update)) in ((λ h. let e = d.0 h in Prim.search rules), (λ e. d.1 (Prim.search rules)))) };
 }
 
-#[tactic(auto, unfolding(crate::specs::Statuses::status_object))]
-fn bare(alloc: Global, state: &str, task: &str) -> Result<Value, AllocError>
-    ensures { IfOk result (λ v. view v ≡ status_object None state.now task.now None) }
-{
-    json!(in alloc; {"state": state, "task_id": {"value": task}})
-}
-
-#[tactic(auto, unfolding(crate::specs::Statuses::status_object))]
-fn with_agent(alloc: Global, agent: &str, state: &str, task: &str) -> Result<Value, AllocError>
-    ensures { IfOk result (λ v. view v ≡ status_object (Some agent.now) state.now task.now None) }
-{
-    json!(in alloc; {"agent_id": {"value": agent}, "state": state, "task_id": {"value": task}})
-}
-
-#[tactic(auto, unfolding(crate::specs::Statuses::status_object))]
-fn with_uuid(alloc: Global, state: &str, task: &str, uuid: &str) -> Result<Value, AllocError>
-    ensures { IfOk result (λ v. view v ≡ status_object None state.now task.now (Some uuid.now)) }
-{
-    json!(in alloc; {"state": state, "task_id": {"value": task}, "uuid": uuid})
-}
-
-#[tactic(auto, unfolding(crate::specs::Statuses::status_object))]
-fn with_both(
+/// Puts the agent, where there is one, into an empty object.
+fn put_agent(
+    members: &mut Map<String, Value>,
     alloc: Global,
-    agent: &str,
-    state: &str,
-    task: &str,
-    uuid: &str,
-) -> Result<Value, AllocError>
-    ensures { IfOk result (λ v. view v ≡ status_object (Some agent.now) state.now task.now (Some uuid.now)) }
+    agent: &Option<AgentName>,
+) -> Result<(), AllocError>
+    requires { members.old.entries ≡ [] }
+    ensures value { OnOk result (members_view members.new.entries ≡ with_agent agent.now no_members) }
+    ensures name { OnOk result (IfSome agent.now IsName) }
 {
-    json!(in alloc; {
-        "agent_id": {"value": agent},
-        "state": state,
-        "task_id": {"value": task},
-        "uuid": uuid
-    })
+    let Some(agent) = agent else {
+        return Ok(());
+    };
+    let id = id_value(alloc, agent.as_text())?;
+    put(members, alloc, "agent_id", id)
+}
+
+/// Puts the id of an update, where there is one.
+fn put_uuid(
+    members: &mut Map<String, Value>,
+    alloc: Global,
+    update: &Option<UpdateId>,
+) -> Result<(), AllocError>
+    ensures { OnOk result (members_view members.new.entries
+        ≡ with_uuid (option_map update_text update.now) (members_view members.old.entries)) }
+{
+    let Some(update) = update else {
+        return Ok(());
+    };
+    let Ok(uuid) = update.to_text(alloc) else {
+        return Err(AllocError);
+    };
+    put(members, alloc, "uuid", Value::String(uuid))
+}
+
+/// Puts the members of a state into an empty object.
+fn put_status(
+    members: &mut Map<String, Value>,
+    alloc: Global,
+    status: &TaskStatus,
+) -> Result<(), AllocError>
+    requires { members.old.entries ≡ [] }
+    ensures value { OnOk result (object (members_view members.new.entries) ≡ status_data status.now) }
+    ensures bounds { OnOk result (IsStatus status.now) }
+{
+    put_agent(members, alloc, &status.agent)?;
+    put_text(members, alloc, "state", status.state.as_text())?;
+    let task = id_value(alloc, status.task.as_text())?;
+    put(members, alloc, "task_id", task)?;
+    put_uuid(members, alloc, &status.update)
 }
 
 pub fn status_value(alloc: Global, status: &TaskStatus) -> Result<Value, AllocError>
     ensures value { IfOk result (λ v. view v ≡ status_data status.now) }
     ensures bounds { IfOk result (λ _. IsStatus status.now) }
 {
-    let task = status.task.as_text();
-    let state = status.state.as_text();
-    let Some(update) = &status.update else {
-        return match &status.agent {
-            Some(agent) => with_agent(alloc, agent.as_text(), state, task),
-            None => bare(alloc, state, task),
-        };
-    };
-    let Ok(uuid) = update.to_text(alloc) else {
-        return Err(AllocError);
-    };
-    match &status.agent {
-        Some(agent) => with_both(alloc, agent.as_text(), state, task, uuid.as_str()),
-        None => with_uuid(alloc, state, task, uuid.as_str()),
-    }
+    let mut members = Map::new(alloc);
+    put_status(&mut members, alloc, status)?;
+    Ok(Value::Object(members))
 }

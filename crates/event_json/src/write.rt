@@ -1,37 +1,60 @@
 //! Events as texts.
 
-ghost use Rattle.std.specs.Prelude.{◌≡◌, ◌≤◌, length, IfOk};
+ghost use Rattle.std.specs.Prelude.{◌≡◌, ◌≤◌, codes, length, IfOk};
+ghost use Rattle.std.specs.List.{AllByRecursion};
 ghost use Rattle.names_core.specs.Ids.{InRange};
+ghost use Rattle.serde_json.specs.Data.{string};
 ghost use Rattle.serde_json.specs.View.{view};
-ghost use Rattle.event_json.specs.Bounds.{IsEvent, longest};
+ghost use Rattle.event_json.specs.Bounds.{IsEvent, IsOffer, IsStatus, longest};
 ghost use Rattle.event_json.specs.Events.{event_data, event_text};
+ghost use Rattle.event_json.specs.Ids.{pair};
 
 use crate::event::Event;
+use crate::object::{framework_value, id_value, offer_id_value, only, pair};
+use crate::offer::Offer;
 use crate::offers::offers_value;
-use crate::status::status_value;
+use crate::status::{TaskStatus, status_value};
 use names_core::{FrameworkId, OfferId};
-use serde_json::{Value, json};
+use serde_json::Value;
 use std::alloc::{AllocError, Global};
 
 /// In seconds.
 const HEARTBEAT_INTERVAL: u64 = 15;
+
+/// An object of a type.
+fn typed(alloc: Global, name: &str, body: Value, kind: &str) -> Result<Value, AllocError>
+    ensures { IfOk result (λ v. view v ≡ pair name.now (view body) (codes "type") (string kind.now)) }
+{
+    let kind = Value::try_from_str(alloc, kind)?;
+    pair(alloc, name, body, "type", kind)
+}
 
 #[tactic(auto, unfolding(crate::specs::Events::event_data))]
 fn subscribed(alloc: Global, framework: &FrameworkId) -> Result<Value, AllocError>
     ensures value { IfOk result (λ v. view v ≡ event_data (Event.Subscribed framework.now)) }
     ensures range { InRange framework.now }
 {
-    let Ok(id) = framework.to_text(alloc) else {
-        return Err(AllocError);
-    };
-    let id = id.as_str();
-    json!(in alloc; {
-        "subscribed": {
-            "framework_id": {"value": id},
-            "heartbeat_interval_seconds": HEARTBEAT_INTERVAL
-        },
-        "type": "SUBSCRIBED"
-    })
+    let id = framework_value(alloc, framework)?;
+    let seconds = Value::from(HEARTBEAT_INTERVAL);
+    let body = pair(
+        alloc,
+        "framework_id",
+        id,
+        "heartbeat_interval_seconds",
+        seconds,
+    )?;
+    typed(alloc, "subscribed", body, "SUBSCRIBED")
+}
+
+/// The event of offers.
+#[tactic(auto, unfolding(crate::specs::Events::event_data))]
+fn offered(alloc: Global, offers: &[Offer]) -> Result<Value, AllocError>
+    ensures value { IfOk result (λ v. view v ≡ event_data (Event.Offers offers.now)) }
+    ensures bounds { IfOk result (λ _. AllByRecursion IsOffer offers.now) }
+{
+    let list = offers_value(alloc, offers)?;
+    let body = only(alloc, "offers", list)?;
+    typed(alloc, "offers", body, "OFFERS")
 }
 
 #[tactic(auto, unfolding(crate::specs::Events::event_data))]
@@ -39,49 +62,61 @@ fn rescind(alloc: Global, offer: &OfferId) -> Result<Value, AllocError>
     ensures value { IfOk result (λ v. view v ≡ event_data (Event.Rescind offer.now)) }
     ensures range { InRange offer.now }
 {
-    let Ok(id) = offer.to_text(alloc) else {
-        return Err(AllocError);
-    };
-    let id = id.as_str();
-    json!(in alloc; {"rescind": {"offer_id": {"value": id}}, "type": "RESCIND"})
+    let id = offer_id_value(alloc, offer)?;
+    let body = only(alloc, "offer_id", id)?;
+    typed(alloc, "rescind", body, "RESCIND")
+}
+
+/// The event of a task's state.
+#[tactic(auto, unfolding(crate::specs::Events::event_data))]
+fn update(alloc: Global, status: &TaskStatus) -> Result<Value, AllocError>
+    ensures value { IfOk result (λ v. view v ≡ event_data (Event.Update status.now)) }
+    ensures bounds { IfOk result (λ _. IsStatus status.now) }
+{
+    let status = status_value(alloc, status)?;
+    let body = only(alloc, "status", status)?;
+    typed(alloc, "update", body, "UPDATE")
 }
 
 #[tactic(auto, unfolding(crate::specs::Events::event_data))]
 fn failure(alloc: Global, agent: &str) -> Result<Value, AllocError>
     ensures { IfOk result (λ v. view v ≡ event_data (Event.Failure agent.now)) }
 {
-    json!(in alloc; {"failure": {"agent_id": {"value": agent}}, "type": "FAILURE"})
+    let id = id_value(alloc, agent)?;
+    let body = only(alloc, "agent_id", id)?;
+    typed(alloc, "failure", body, "FAILURE")
 }
 
 #[tactic(auto, unfolding(crate::specs::Events::event_data))]
 fn error(alloc: Global, message: &str) -> Result<Value, AllocError>
     ensures { IfOk result (λ v. view v ≡ event_data (Event.Error message.now)) }
 {
-    json!(in alloc; {"error": {"message": message}, "type": "ERROR"})
+    let message = Value::try_from_str(alloc, message)?;
+    let body = only(alloc, "message", message)?;
+    typed(alloc, "error", body, "ERROR")
 }
 
+/// The event that says nothing.
 #[tactic(auto, unfolding(crate::specs::Events::event_data))]
+fn heartbeat(alloc: Global) -> Result<Value, AllocError>
+    ensures { IfOk result (λ v. view v ≡ event_data Event.Heartbeat) }
+{
+    let kind = Value::try_from_str(alloc, "HEARTBEAT")?;
+    only(alloc, "type", kind)
+}
+
 fn value_of(alloc: Global, event: &Event) -> Result<Value, AllocError>
     ensures value { IfOk result (λ v. view v ≡ event_data event.now) }
     ensures bounds { IfOk result (λ _. IsEvent event.now) }
 {
     match event {
         Event::Subscribed { framework } => subscribed(alloc, framework),
-        Event::Offers { offers } => {
-            let offers = offers.as_slice();
-            json!(in alloc; {
-                "offers": {"offers": offers_value(alloc, offers)?},
-                "type": "OFFERS"
-            })
-        }
+        Event::Offers { offers } => offered(alloc, offers.as_slice()),
         Event::Rescind { offer } => rescind(alloc, offer),
-        Event::Update { status } => json!(in alloc; {
-            "type": "UPDATE",
-            "update": {"status": status_value(alloc, status)?}
-        }),
+        Event::Update { status } => update(alloc, status),
         Event::Failure { agent } => failure(alloc, agent.as_text()),
         Event::Error { message } => error(alloc, message.as_text()),
-        Event::Heartbeat => json!(in alloc; {"type": "HEARTBEAT"}),
+        Event::Heartbeat => heartbeat(alloc),
     }
 }
 

@@ -1,6 +1,6 @@
 -- Mails as compact JSON, members in byte order of their names.
 use Rattle.std.specs.Prelude.{ℕ, Bool, List, codes}
-use Rattle.serde_json.specs.Data.{Data, boolean, string, object, no_members, member}
+use Rattle.serde_json.specs.Data.{Data, boolean, string, object, Members, no_members, member, put}
 use Rattle.serde_json.specs.Written.{compact_text}
 use Rattle.names_core.specs.Ids.{Numbered, id_text}
 use Rattle.names_core.specs.declared.state.TaskState.{TaskState}
@@ -20,6 +20,14 @@ use Rattle.record_text.specs.Texts.{whole, amounts, list_data}
 -- an object of one member
 abbrev pub only : List ℕ → Data → Data
 only name d = object (member name d no_members)
+
+-- an object of two members, in byte order of their names
+abbrev pub pair : List ℕ → Data → List ℕ → Data → Data
+pair a x b y = object (put b y (member a x no_members))
+
+-- an agent and its session put to members
+abbrev pub of_agent : List ℕ → ℕ → Members → Members
+of_agent agent session ms = put (codes "session") (whole session) (put (codes "agent") (string agent) ms)
 
 abbrev pub framework_data : Numbered → Data
 framework_data framework = string (id_text 70 framework)
@@ -76,6 +84,10 @@ booked_data t = object
     (member (codes "sent") (whole t.heard)
     (member (codes "state") (string (state_text t.state)) no_members)))))))
 
+-- members, and whether a task has ended put to them
+abbrev pub ending : Bool → Members → Data
+ending ended ms = object (put (codes "ended") (boolean ended) ms)
+
 unfoldable pub report_data : List ℕ → ℕ → ℕ → List Booked → Data
 report_data agent session run tasks = only (codes "report") (object
     (member (codes "agent") (string agent)
@@ -97,6 +109,14 @@ update_data agent session key k state ended = only (codes "update") (object
     (member (codes "key") (key_data key)
     (member (codes "session") (whole session)
     (member (codes "state") (string (state_text state)) no_members)))))))
+
+-- the members of an update, but for its agent and session
+abbrev pub told_members : Numbered → ℕ → TaskState → Bool → Members
+told_members key k state ended =
+    member (codes "ended") (boolean ended)
+    (member (codes "k") (whole k)
+    (member (codes "key") (key_data key)
+    (member (codes "state") (string (state_text state)) no_members)))
 
 abbrev pub agent_mail_data : List ℕ → AgentMail → Data
 agent_mail_data agent (Report session run tasks) = report_data agent session run tasks

@@ -1,6 +1,7 @@
 //! Mails as texts.
 #![tactic(auto)]
 
+mod object;
 mod to_agent;
 mod to_master;
 

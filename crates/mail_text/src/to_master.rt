@@ -1,33 +1,41 @@
 //! Mails from agents.
 
-ghost use Rattle.std.specs.Prelude.{◌≡◌, IfOk, string_bytes};
-ghost use Rattle.serde_json.specs.View.{view};
+ghost use Rattle.std.specs.Prelude.{◌≡◌, [], codes, IfOk, OnOk, string_bytes};
+ghost use Rattle.serde_json.specs.Data.{object};
+ghost use Rattle.serde_json.specs.View.{view, members_view};
 ghost use Rattle.record_text.specs.Texts.{list_data};
-ghost use Rattle.mail_text.specs.Mails.{agent_mail_data, applied_data, booked_data, report_data, to_master_form, update_data};
+ghost use Rattle.mail_text.specs.Mails.{agent_mail_data, applied_data, booked_data, ending, only, report_data, to_master_form, told_members, update_data};
 
+use crate::object::{only, put_origin, put_text};
 use mails::{AgentMail, Booked, ToMaster};
 use names_core::{LaunchKey, TaskState};
-use record_text::{amounts_value, framework_value, key_value};
-use serde_json::{Value, json};
+use record_text::{key_value, put_job};
+use serde_json::{Map, Value, put};
 use std::alloc::{AllocError, Global};
 
+/// Puts the members of a task into an empty object, all but whether it has ended.
 #[tactic(auto, unfolding(crate::specs::Mails::booked_data))]
+fn put_booked(
+    members: &mut Map<String, Value>,
+    alloc: Global,
+    task: &Booked,
+) -> Result<(), AllocError>
+    requires { members.old.entries ≡ [] }
+    ensures { OnOk result (ending task.now.ended (members_view members.new.entries) ≡ booked_data task.now) }
+{
+    put_job(members, alloc, &task.job)?;
+    put(members, alloc, "sent", Value::from(task.heard))?;
+    put_text(members, alloc, "state", task.state.as_text())
+}
+
 fn booked_value(alloc: Global, task: &Booked) -> Result<Value, AllocError>
     ensures { IfOk result (λ v. view v ≡ booked_data task.now) }
 {
+    let mut members = Map::new(alloc);
+    put_booked(&mut members, alloc, task)?;
     let ended = task.ended;
-    let name = task.job.name.as_text();
-    let sent = task.heard;
-    let state = task.state.as_text();
-    json!(in alloc; {
-        "ended": ended,
-        "framework": framework_value(alloc, &task.job.framework)?,
-        "key": key_value(alloc, &task.job.key)?,
-        "name": name,
-        "resources": amounts_value(alloc, &task.job.resources)?,
-        "sent": sent,
-        "state": state
-    })
+    put(&mut members, alloc, "ended", Value::from(ended))?;
+    Ok(Value::Object(members))
 }
 
 fn tasks_value(alloc: Global, tasks: &[Booked]) -> Result<Value, AllocError>
@@ -40,7 +48,26 @@ fn tasks_value(alloc: Global, tasks: &[Booked]) -> Result<Value, AllocError>
     Ok(Value::Array(values))
 }
 
+/// Puts the members of a report into an empty object.
 #[tactic(auto, unfolding(crate::specs::Mails::report_data))]
+fn put_report(
+    members: &mut Map<String, Value>,
+    alloc: Global,
+    agent: &str,
+    session: u32,
+    run: u32,
+    tasks: &[Booked],
+) -> Result<(), AllocError>
+    requires { members.old.entries ≡ [] }
+    ensures { OnOk result (only (codes "report") (object (members_view members.new.entries))
+        ≡ report_data agent.now session run tasks.now) }
+{
+    put_origin(members, alloc, agent, session)?;
+    put(members, alloc, "run", Value::from(run))?;
+    let tasks = tasks_value(alloc, tasks)?;
+    put(members, alloc, "tasks", tasks)
+}
+
 fn report_value(
     alloc: Global,
     agent: &str,
@@ -50,15 +77,38 @@ fn report_value(
 ) -> Result<Value, AllocError>
     ensures { IfOk result (λ v. view v ≡ report_data agent.now session run tasks.now) }
 {
-    let tasks = tasks_value(alloc, tasks)?;
-    json!(in alloc; {"report": {"agent": agent, "run": run, "session": session, "tasks": tasks}})
+    let mut members = Map::new(alloc);
+    put_report(&mut members, alloc, agent, session, run, tasks)?;
+    only(alloc, "report", Value::Object(members))
 }
 
 #[tactic(auto, unfolding(crate::specs::Mails::applied_data))]
 fn applied_value(alloc: Global, agent: &str, session: u32, count: u32) -> Result<Value, AllocError>
     ensures { IfOk result (λ v. view v ≡ applied_data agent.now session count) }
 {
-    json!(in alloc; {"applied": {"agent": agent, "n": count, "session": session}})
+    let mut members = Map::new(alloc);
+    put_origin(&mut members, alloc, agent, session)?;
+    put(&mut members, alloc, "n", Value::from(count))?;
+    only(alloc, "applied", Value::Object(members))
+}
+
+/// Puts the members of an update into an empty object, all but its agent and session.
+fn put_told(
+    members: &mut Map<String, Value>,
+    alloc: Global,
+    key: &LaunchKey,
+    k: u32,
+    state: TaskState,
+    ended: bool,
+) -> Result<(), AllocError>
+    requires { members.old.entries ≡ [] }
+    ensures { OnOk result (members_view members.new.entries ≡ told_members key.now k state ended) }
+{
+    put(members, alloc, "ended", Value::from(ended))?;
+    put(members, alloc, "k", Value::from(k))?;
+    let key = key_value(alloc, key)?;
+    put(members, alloc, "key", key)?;
+    put_text(members, alloc, "state", state.as_text())
 }
 
 #[tactic(auto, unfolding(crate::specs::Mails::update_data))]
@@ -66,28 +116,17 @@ fn update_value(
     alloc: Global,
     agent: &str,
     session: u32,
-    key: LaunchKey,
+    key: &LaunchKey,
     k: u32,
     state: TaskState,
     ended: bool,
 ) -> Result<Value, AllocError>
-    ensures { IfOk result (λ v. view v ≡ update_data agent.now session key k state ended) }
+    ensures { IfOk result (λ v. view v ≡ update_data agent.now session key.now k state ended) }
 {
-    let Ok(key) = key.to_text(alloc) else {
-        return Err(AllocError);
-    };
-    let key = key.as_str();
-    let state = state.as_text();
-    json!(in alloc; {
-        "update": {
-            "agent": agent,
-            "ended": ended,
-            "k": k,
-            "key": key,
-            "session": session,
-            "state": state
-        }
-    })
+    let mut members = Map::new(alloc);
+    put_told(&mut members, alloc, key, k, state, ended)?;
+    put_origin(&mut members, alloc, agent, session)?;
+    only(alloc, "update", Value::Object(members))
 }
 
 fn value_of(alloc: Global, to: &ToMaster) -> Result<Value, AllocError>
@@ -107,7 +146,7 @@ fn value_of(alloc: Global, to: &ToMaster) -> Result<Value, AllocError>
             k,
             state,
             ended,
-        } => update_value(alloc, agent, *session, *key, *k, *state, *ended),
+        } => update_value(alloc, agent, *session, key, *k, *state, *ended),
     }
 }
 

@@ -1,10 +1,11 @@
 -- Values read one after another, as a loop does.
-use Rattle.std.proofs.Common.{◌≡◌, ℕ, ◌+◌, ◌≤◌, ◌<◌, List, [], ◌∷◌, ◌++◌, length, take, drop, get_or, map, Option, Some, refl, sym, ap, subst, ◌∙◌, append_assoc, append-nil}
-use Rattle.std.proofs.lemmas.List.{drop_more, drop_all, take_more}
+use Rattle.std.proofs.Common.{rules, String, Global, string_bytes, ◌≡◌, ℕ, ◌+◌, ◌≤◌, ◌<◌, List, [], ◌∷◌, ◌++◌, length, take, drop, get_or, map, Option, Some, refl, sym, ap, subst, ◌∙◌, append_assoc, append-nil}
+use Rattle.std.proofs.lemmas.List.{drop_more, drop_all, take_more, take_all, map-append}
 use Rattle.std.specs.List.{AllByRecursion}
-use Rattle.serde_json.specs.Data.{Data}
+use Rattle.serde_json.specs.Data.{Data, string}
 use Rattle.serde_json.specs.View.{view, items_of}
 use Rattle.serde_json.specs.declared.value.Value.{Value}
+use Rattle.serde_json.specs.declared.value.Value as declared
 use Rattle.record_text.specs.declared.fault.RecordFault.{RecordFault}
 use Rattle.record_text.specs.declared.fault.RecordFault.TheVariants as faults
 use Rattle.record_text.specs.Reading.{◌>>=◌, Fails, adds, each_in, values_of}
@@ -54,3 +55,23 @@ pub all_more : {X : Type 0} (P : X → Type 0) (xs : List X) (i : ℕ) (x : X) �
 all_more P xs i x lt is h p =
     let more : take (i + 1) xs ≡ take i xs ++ x ∷ [] = take_more xs i x lt ∙ ap (λ w. take i xs ++ w ∷ []) (sym is) in
     subst (AllByRecursion P) (sym more) (all_push P (take i xs) x h p)
+
+-- what is written of one element more
+pub written_more : {X : Type 0} (g : X → Data) (xs : List X) (i : ℕ) (d x : X) (vs ws : List Value) (v : Value) → i < length xs → x ≡ get_or xs i d
+    → map view vs ≡ map g (take i xs) → view v ≡ g x → ws ≡ vs ++ v ∷ [] → map view ws ≡ map g (take (i + 1) xs)
+written_more g xs i d x vs ws v lt is so_far one pushed =
+    let more : take (i + 1) xs ≡ take i xs ++ x ∷ [] = take_more xs i d lt ∙ ap (λ w. take i xs ++ w ∷ []) (sym is) in
+    let left = ap (map view) pushed ∙ map-append view vs (v ∷ []) in
+    let right = ap (map g) more ∙ map-append g (take i xs) (x ∷ []) in
+    left ∙ (ap (λ (ds : List Data). ds ++ view v ∷ []) so_far ∙ (ap (λ (d : Data). map g (take i xs) ++ d ∷ []) one ∙ sym right))
+
+-- all are written
+pub written_all : {X : Type 0} (g : X → Data) (xs : List X) (i : ℕ) (vs : List Value) → length xs ≤ i → map view vs ≡ map g (take i xs) → map view vs ≡ map g xs
+written_all g xs i vs le so_far = so_far ∙ ap (map g) (take_all i xs le)
+
+-- all have P
+pub all_of_take : {X : Type 0} (P : X → Type 0) (xs : List X) (i : ℕ) → length xs ≤ i → AllByRecursion P (take i xs) → AllByRecursion P xs
+all_of_take P xs i le h = subst (AllByRecursion P) (take_all i xs le) h
+
+pub view-String : (s : String Global) → view (declared.String s) ≡ string (string_bytes s)
+view-String s = search (rules, declared.the_lemmas)

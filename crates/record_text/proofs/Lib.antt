@@ -3,4 +3,5 @@ pub mod Rows
 pub mod Each
 pub mod Data
 pub mod Floats
+pub mod Puts
 pub mod Again

@@ -1,11 +1,12 @@
 -- A record as compact JSON, members in byte order of their names.
 use Rattle.std.specs.Prelude.{ℕ, List, [], ◌∷◌, map, codes}
-use Rattle.serde_json.specs.Data.{Data, string, number, unsigned, array, object, Members, no_members, member}
+use Rattle.serde_json.specs.Data.{Data, string, number, unsigned, array, object, Members, no_members, member, put}
 use Rattle.serde_json.specs.View.{items_of}
 use Rattle.serde_json.specs.Written.{compact_text}
 use Rattle.names_core.specs.Ids.{id_text}
 use Rattle.names_core.specs.States.{state_text}
 use Rattle.quantity.specs.declared.rows.Row.{Row}
+use Rattle.mails.specs.declared.task.Job.{Job}
 use Rattle.mails.specs.declared.record.Durable.{Durable}
 use Rattle.mails.specs.declared.record.RecordedTask.{RecordedTask}
 
@@ -42,6 +43,18 @@ record_data d = object
     (member (codes "tasks") (list_data task_data d.tasks)
     (member (codes "total") (amounts d.total)
     (member (codes "version") (whole 1) no_members))))))
+
+-- the framework, key, name and resources of a task put to members
+abbrev pub with_job : Job → Members → Members
+with_job job ms =
+    put (codes "resources") (amounts job.resources)
+    (put (codes "name") (string job.name)
+    (put (codes "key") (string (id_text 76 job.key))
+    (put (codes "framework") (string (id_text 70 job.framework)) ms)))
+
+-- members, and the version put to them
+abbrev pub versioned : Members → Data
+versioned ms = object (put (codes "version") (whole 1) ms)
 
 -- the written form of a record
 abbrev pub record_form : Durable → List ℕ

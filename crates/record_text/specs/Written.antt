@@ -5,9 +5,14 @@ use Rattle.names_core.specs.Ids.{InRange}
 use Rattle.names_core.specs.Names.{is_name}
 use Rattle.quantity.specs.Rows.{AreRows}
 use Rattle.stream_core.specs.Updates.{are_updates}
+use Rattle.mails.specs.declared.task.Job.{Job}
 use Rattle.mails.specs.declared.record.Durable.{Durable}
 use Rattle.mails.specs.declared.record.RecordedTask.{RecordedTask}
 use Rattle.record_text.specs.Texts.{record_form}
+
+-- what the types of a job's parts keep: ids, a name and amounts
+abbrev pub IsJob : Job → Type 0
+IsJob job = InRange job.key × InRange job.framework × (is_name job.name ≡ true) × AreRows job.resources
 
 -- what the types of a task's parts keep: ids, a name, amounts, and updates of which so many are acknowledged
 pub record IsTask (t : RecordedTask) : Type 0 where

@@ -12,4 +12,4 @@ mod write;
 pub use fault::RecordFault;
 pub use laws::one_record;
 pub use read::record_of;
-pub use write::{amounts_value, framework_value, key_value, offers_value, record_text};
+pub use write::{framework_value, key_value, offers_value, put_job, record_text};

@@ -1,19 +1,19 @@
 //! Records written as JSON.
 
-ghost use Rattle.std.specs.Prelude.{◌≡◌, IfOk, string_bytes, ◌<◌};
+ghost use Rattle.std.specs.Prelude.{◌≡◌, [], IfOk, OnOk, string_bytes, ◌<◌};
 ghost use Rattle.std.specs.List.{AllByRecursion};
-ghost use Rattle.serde_json.specs.Data.{array, string};
+ghost use Rattle.serde_json.specs.Data.{array, object, string};
 ghost use Rattle.serde_json.specs.View.{view, members_view};
 ghost use Rattle.names_core.specs.Ids.{InRange, id_text};
 ghost use Rattle.names_core.specs.States.{state_text};
 ghost use Rattle.quantity.specs.Rows.{AreRows};
-ghost use Rattle.record_text.specs.Texts.{row_members, amounts, list_data, task_data, record_data, record_form};
-ghost use Rattle.record_text.specs.Written.{IsTask, IsDurable};
+ghost use Rattle.record_text.specs.Texts.{row_members, amounts, list_data, task_data, versioned, with_job, record_data, record_form};
+ghost use Rattle.record_text.specs.Written.{IsJob, IsTask, IsDurable};
 
-use mails::{Durable, RecordedTask};
+use mails::{Durable, Job, RecordedTask};
 use names_core::{FrameworkId, LaunchKey, OfferId, TaskState};
 use quantity::{Resources, Row};
-use serde_json::{Map, Value, json};
+use serde_json::{Map, Value, put};
 use std::alloc::{AllocError, Global};
 
 fn members_of(alloc: Global, rows: &[Row]) -> Result<Map<String, Value>, AllocError>
@@ -29,7 +29,7 @@ fn members_of(alloc: Global, rows: &[Row]) -> Result<Map<String, Value>, AllocEr
 }
 
 /// Amounts as an object: each under its resource's name.
-pub fn amounts_value(alloc: Global, resources: &Resources) -> Result<Value, AllocError>
+fn amounts_value(alloc: Global, resources: &Resources) -> Result<Value, AllocError>
     ensures value { IfOk result (λ v. view v ≡ amounts resources.now) }
     ensures ordered { AreRows resources.now }
 {
@@ -83,22 +83,49 @@ pub fn key_value(alloc: Global, key: &LaunchKey) -> Result<Value, AllocError>
     }
 }
 
+/// Puts the framework, key, name and resources of a task.
+pub fn put_job(members: &mut Map<String, Value>, alloc: Global, job: &Job) -> Result<(), AllocError>
+    ensures members { OnOk result (members_view members.new.entries
+        ≡ with_job job.now (members_view members.old.entries)) }
+    ensures is_job { OnOk result (IsJob job.now) }
+{
+    let framework = framework_value(alloc, &job.framework)?;
+    put(members, alloc, "framework", framework)?;
+    let key = key_value(alloc, &job.key)?;
+    put(members, alloc, "key", key)?;
+    let name = Value::try_from_str(alloc, job.name.as_text())?;
+    put(members, alloc, "name", name)?;
+    let resources = amounts_value(alloc, &job.resources)?;
+    put(members, alloc, "resources", resources)
+}
+
+/// Puts the members of a task into an empty object.
 #[tactic(auto, unfolding(crate::specs::Texts::task_data))]
+fn put_task(
+    members: &mut Map<String, Value>,
+    alloc: Global,
+    task: &RecordedTask,
+) -> Result<(), AllocError>
+    requires { members.old.entries ≡ [] }
+    ensures value { OnOk result (object (members_view members.new.entries) ≡ task_data task.now) }
+    ensures is_task { OnOk result (IsTask task.now) }
+{
+    put_job(members, alloc, &task.job)?;
+    let acked = Value::from(task.updates.acknowledged());
+    put(members, alloc, "acked", acked)?;
+    let offers = offers_value(alloc, task.offers.as_slice())?;
+    put(members, alloc, "offers", offers)?;
+    let updates = states_value(alloc, task.updates.states())?;
+    put(members, alloc, "updates", updates)
+}
+
 fn task_value(alloc: Global, task: &RecordedTask) -> Result<Value, AllocError>
     ensures value { IfOk result (λ v. view v ≡ task_data task.now) }
     ensures is_task { IfOk result (λ _. IsTask task.now) }
 {
-    let acked = task.updates.acknowledged();
-    let name = task.job.name.as_text();
-    json!(in alloc; {
-        "acked": acked,
-        "framework": framework_value(alloc, &task.job.framework)?,
-        "key": key_value(alloc, &task.job.key)?,
-        "name": name,
-        "offers": offers_value(alloc, task.offers.as_slice())?,
-        "resources": amounts_value(alloc, &task.job.resources)?,
-        "updates": states_value(alloc, task.updates.states())?
-    })
+    let mut members = Map::new(alloc);
+    put_task(&mut members, alloc, task)?;
+    Ok(Value::Object(members))
 }
 
 fn tasks_value(alloc: Global, tasks: &[RecordedTask]) -> Result<Value, AllocError>
@@ -112,22 +139,36 @@ fn tasks_value(alloc: Global, tasks: &[RecordedTask]) -> Result<Value, AllocErro
     Ok(Value::Array(values))
 }
 
-#[tactic(auto, unfolding(crate::specs::Texts::record_data))]
+/// Puts the members of a record into an empty object, all but its version.
+fn put_record(
+    members: &mut Map<String, Value>,
+    alloc: Global,
+    durable: &Durable,
+) -> Result<(), AllocError>
+    requires { members.old.entries ≡ [] }
+    ensures value { OnOk result (versioned (members_view members.new.entries) ≡ record_data durable.now) }
+    ensures durable { OnOk result (IsDurable durable.now) }
+{
+    let run = durable.run;
+    let session = durable.session;
+    let name = Value::try_from_str(alloc, durable.name.as_text())?;
+    put(members, alloc, "name", name)?;
+    put(members, alloc, "run", Value::from(run))?;
+    put(members, alloc, "session", Value::from(session))?;
+    let tasks = tasks_value(alloc, durable.tasks.as_slice())?;
+    put(members, alloc, "tasks", tasks)?;
+    let total = amounts_value(alloc, &durable.total)?;
+    put(members, alloc, "total", total)
+}
+
 fn record_value(alloc: Global, durable: &Durable) -> Result<Value, AllocError>
     ensures value { IfOk result (λ v. view v ≡ record_data durable.now) }
     ensures durable { IfOk result (λ _. IsDurable durable.now) }
 {
-    let name = durable.name.as_text();
-    let run = durable.run;
-    let session = durable.session;
-    json!(in alloc; {
-        "name": name,
-        "run": run,
-        "session": session,
-        "tasks": tasks_value(alloc, durable.tasks.as_slice())?,
-        "total": amounts_value(alloc, &durable.total)?,
-        "version": 1u64
-    })
+    let mut members = Map::new(alloc);
+    put_record(&mut members, alloc, durable)?;
+    put(&mut members, alloc, "version", Value::from(1u64))?;
+    Ok(Value::Object(members))
 }
 
 /// The written form of a record: compact JSON (RFC 8259), in which an object's members stand in byte order of their names, and
