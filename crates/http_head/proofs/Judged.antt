@@ -1,5 +1,5 @@
 -- What the parser answers about a text that was cut.
-use Rattle.std.proofs.Common.{◌≡◌, ◌≢◌, ℕ, ◌+◌, ◌≤◌, Bool, true, false, None, List, [], ◌∷◌, length, map, take, drop, sym, refl, subst, ap, ◌∙◌, arith}
+use Rattle.std.proofs.Common.{◌≡◌, ◌≢◌, ℕ, ◌+◌, ◌≤◌, Bool, true, false, None, List, [], ◌∷◌, length, map, take, drop, sym, refl, subst, ap, ◌∙◌, arith, ◌⊎◌, inr, Result, Ok, Err, IfOk, IfErr}
 use Rattle.std.proofs.lemmas.List.{drop_all, length-map, length-take, length-append}
 use Rattle.std.proofs.lemmas.Bool.{cond-true, cond-false}
 use Rattle.std.proofs.lemmas.Str.{IsUtf8-from_is_utf8, is_utf8-from_IsUtf8}
@@ -10,7 +10,10 @@ use Rattle.httparse.specs.declared.spans.HeaderSpan.{HeaderSpan}
 use Rattle.httparse.specs.declared.spans.RequestSpans.{RequestSpans}
 use Rattle.httparse.specs.Grammar.{RequestHead, ReadsRequest, ChunkLine, print_chunk_line}
 use Rattle.httparse.specs.Spans.{IsRequestAt, IsChunkLineAt, span_bytes, header_bytes}
-use Rattle.http_head.specs.Heads.{IsHead, check_of, head_check, stream_in}
+use Rattle.http_head.specs.declared.fault.RequestFault.{RequestFault}
+use Rattle.http_head.specs.declared.fault.RequestFault.TheVariants.{BadHead}
+use Rattle.http_head.specs.declared.plan.Plan.{Plan}
+use Rattle.http_head.specs.Heads.{IsHead, IsNoHead, check_of, head_check, stream_in}
 use Rattle.http_head.specs.Lines.{IsLine}
 
 pub is_head : (text : List ℕ) (headers : List HeaderSpan) (r : RequestSpans) (h : RequestHead) → IsRequestAt text headers r h
@@ -23,6 +26,15 @@ is_head text headers r h at whole room = record {
 pub check_is : (text : List ℕ) (headers : List HeaderSpan) (r : RequestSpans) (h : RequestHead) → IsRequestAt text headers r h
     → head_check h ≡ check_of r.version (span_bytes text r.path) (span_bytes text r.method) (map (header_bytes text) (take r.headers headers))
 check_is text headers r h at = rw (at.version, at.path, at.method, at.fields) refl
+
+-- what is answered of a head that parses, in the two ways that it is stated
+pub ok_judged : (r : Result Plan RequestFault) (text : List ℕ) (h : RequestHead) → IsHead text h → head_check h ≡ r → IfOk r (λ p. (x : RequestHead) × IsHead text x × (head_check x ≡ Ok p))
+ok_judged (Ok p) text h is e = (h, is, e)
+ok_judged (Err fault) text h is e = tt
+
+pub err_judged : (r : Result Plan RequestFault) (text : List ℕ) (h : RequestHead) → IsHead text h → head_check h ≡ r → IfErr r (λ fault. ((fault ≡ BadHead) × IsNoHead text) ⊎ ((x : RequestHead) × IsHead text x × (head_check x ≡ Err fault)))
+err_judged (Ok p) text h is e = tt
+err_judged (Err fault) text h is e = inr (h, is, e)
 
 -- a line that ends before the text does isn't the text
 pub no_line : (text : List ℕ) (len size : ℕ) → ((l : ChunkLine) × IsChunkLineAt text len size l) → len ≢ length text → (l : ChunkLine) → ¬ (IsLine text l)

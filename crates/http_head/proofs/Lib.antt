@@ -1,3 +1,4 @@
 pub mod Cuts
 mod CommaWords
+mod FieldsNamed
 pub mod Judged

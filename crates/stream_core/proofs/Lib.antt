@@ -1,2 +1,3 @@
+mod Links
 mod Lists
 mod Orders
