@@ -45,9 +45,13 @@ nothing = record { body = None; last = 0 }
 abbrev pub with_record : Durable → Kept → Kept
 with_record d kept = record { body = Some (Text (record_form d)); last = kept.last }
 
+-- with this as the last run that was given out
+abbrev pub with_last : ℕ → Kept → Kept
+with_last run kept = record { body = kept.body; last = run }
+
 -- with one run more given out
 abbrev pub with_run : Kept → Kept
-with_run kept = record { body = kept.body; last = suc kept.last }
+with_run kept = with_last (suc kept.last) kept
 
 -- the text of a row
 abbrev pub HoldsText : Option Value → List ℕ → Type 0

@@ -9,7 +9,7 @@ ghost use Rattle.mails.specs.declared.record.Durable.{Durable};
 ghost use Rattle.agent_core.specs.Records.{is_record};
 ghost use Rattle.record_text.specs.Texts.{record_form};
 ghost use Rattle.record_text.specs.Written.{IsDurable};
-ghost use Rattle.keep_store.specs.Kept.{Kept, kept_in, nothing, with_record, with_run, HoldsText, IsDamaged, IsLoaded, TellsRun, TellsNoRun, run_in, shown_body, shown_last};
+ghost use Rattle.keep_store.specs.Kept.{Kept, kept_in, nothing, with_last, with_record, with_run, HoldsText, IsDamaged, IsLoaded, TellsRun, TellsNoRun, run_in, shown_body, shown_last};
 ghost use Rattle.keep_store.specs.Stops.{LeavesEither, Stands};
 ghost use Rattle.keep_store.specs.Tables.{IsReady, Stays, no_schema};
 ghost use Rattle.keep_store.specs.declared.fault.KeepFault.TheVariants as faults;
@@ -174,6 +174,24 @@ impl<S: Alter> Keeper<S> {
         first_number(rows.as_slice())
     }
 
+    /// Gives out the run behind this one, which was the last; it is committed before it is answered.
+    fn run_behind(&mut self, last: u32) -> Result<u32, KeepFault>
+        ensures clean { HasCleanDisk (state S.Store self.new) → HasCleanDisk (state S.Store self.old) }
+        ensures given { IsReady (state S.Store self.old) → HasCleanDisk (state S.Store self.new) → IfOk result (λ n. IsReady (state S.Store self.new) × (n ≡ last + 1) × (kept_in (state S.Store self.new).now.trees ≡ with_last (last + 1) (kept_in (state S.Store self.old).now.trees))) }
+        ensures few { IfOk result (λ n. n ≤ 65535) }
+        ensures failed { IsReady (state S.Store self.old) → HasCleanDisk (state S.Store self.new) → OnErr result (Stays (state S.Store self.old) (state S.Store self.new)) }
+        ensures stop { IsReady (state S.Store self.old) → LeavesEither (state S.Store self.old) (state S.Store self.new) (with_last (last + 1)) }
+        ensures stands { Stands (state S.Store self.new) }
+        ensures undamaged { IfErr result (λ e. e ≢ KeepFault.Damaged) }
+        ensures spent { IsErrOf result KeepFault.RunsSpent → 65535 ≤ last }
+    {
+        if last >= LAST_RUN {
+            return Err(KeepFault::RunsSpent);
+        }
+        write_last(&mut self.conn, last + 1).map_err(fault_of)?;
+        Ok(last + 1)
+    }
+
     /// The next run of the master, one more than the last, from 1; it is committed before it is answered. K1 for an error of the store, K2
     /// where what is kept is no number, K3 where run 65,535 was given out, K4 for want of memory. After K1 and K4 the keeper is opened again.
     pub fn next_run(&mut self) -> Result<u32, KeepFault>
@@ -188,10 +206,6 @@ impl<S: Alter> Keeper<S> {
         ensures spent { IsReady (state S.Store self.old) → HasCleanDisk (state S.Store self.new) → IsErrOf result KeepFault.RunsSpent → 65535 ≤ (kept_in (state S.Store self.old).now.trees).last }
     {
         let last = self.last_run()?;
-        if last >= LAST_RUN {
-            return Err(KeepFault::RunsSpent);
-        }
-        write_last(&mut self.conn, last + 1).map_err(fault_of)?;
-        Ok(last + 1)
+        self.run_behind(last)
     }
 }

@@ -1,11 +1,11 @@
 //! ACCEPT.
 
-ghost use Rattle.std.specs.Prelude.{◌≡◌, ◌≤◌, ◌+◌, nat_lt, length, OnOk};
+ghost use Rattle.std.specs.Prelude.{◌≡◌, ◌≤◌, ◌+◌, fold, nat_lt, length, OnOk};
 ghost use Rattle.mails.specs.declared.call.Call.TheVariants as calls;
 ghost use Rattle.cluster_model.specs.Ids.{last_number};
 ghost use Rattle.cluster_model.specs.Calls.{called};
 ghost use Rattle.master_state.specs.Works.{Gave, master_of};
-ghost use Rattle.master_accept.specs.Accepts.{accepted_as, accepted_good, accepted_none, may_number, passes_limits};
+ghost use Rattle.master_accept.specs.Accepts.{accepted_as, accepted_good, accepted_none, accepted_so, bench, may_number, passes_limits, takes_one};
 
 use crate::launch::launch_all;
 use crate::take::{Caller, Progress, lose_all, take_all};
@@ -13,7 +13,7 @@ use agent_sides::GoodOffers;
 use listed::Listed;
 use mails::{MasterRefusal, TaskInfo};
 use master_state::{MasterFault, State};
-use names_core::{FrameworkId, OfferId, StreamId};
+use names_core::{AgentName, FrameworkId, OfferId, StreamId};
 use std::alloc::{AllocError, Global};
 
 /// As many tasks as an ACCEPT may leave booked.
@@ -66,6 +66,30 @@ fn accept_none(
     Ok(())
 }
 
+/// Offers on an agent are used, from whose sum `progress` begins: they are withdrawn, tasks are launched from it, and what is left is refused for some seconds.
+fn use_offers(
+    state: &mut State,
+    alloc: Global,
+    caller: &Caller,
+    agent: &AgentName,
+    progress: &mut Progress,
+    offers: &[OfferId],
+    tasks: &[TaskInfo],
+    seconds: u32,
+) -> Result<(), AllocError>
+    requires { progress.old.last_key + length tasks.now ≤ last_number }
+    ensures { OnOk result (state.new ≡ accepted_so caller.now agent.now offers.now seconds (fold (takes_one caller.now agent.now) (bench state.old progress.old) tasks.now)) }
+{
+    let framework = caller.framework;
+    take_all(state, alloc, caller, agent, progress, tasks)?;
+    state.sides.withdraw_used(agent, framework, offers);
+    launch_all(state, alloc, agent, offers, progress.launched.as_slice())?;
+    let moment = state.moment;
+    state
+        .frameworks
+        .refuse(alloc, framework, moment, seconds, agent, &progress.rest)
+}
+
 /// The offers are good: they are withdrawn, tasks are launched from their sum, and what is left is refused for some seconds.
 fn accept_good(
     state: &mut State,
@@ -79,29 +103,21 @@ fn accept_good(
     requires { state.old.last_key + length tasks.now ≤ last_number }
     ensures { OnOk result (state.new ≡ accepted_good caller.now good offers.now tasks.now seconds state.old) }
 {
-    let framework = caller.framework;
+    let GoodOffers { agent, sum } = good;
     let mut progress = Progress {
         launched: Listed::new(alloc),
-        rest: good.sum,
+        rest: sum,
         last_key: state.last_key,
     };
-    take_all(state, alloc, caller, &good.agent, &mut progress, tasks)?;
-    state.sides.withdraw_used(&good.agent, framework, offers);
-    launch_all(
+    use_offers(
         state,
         alloc,
-        &good.agent,
+        caller,
+        &agent,
+        &mut progress,
         offers,
-        progress.launched.as_slice(),
-    )?;
-    let moment = state.moment;
-    state.frameworks.refuse(
-        alloc,
-        framework,
-        moment,
+        tasks,
         seconds,
-        &good.agent,
-        &progress.rest,
     )
 }
 

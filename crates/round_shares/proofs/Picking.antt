@@ -22,9 +22,9 @@ use Rattle.drf_pick.specs.Shares.{Tally, is_holder}
 use Rattle.drf_pick.specs.Least.{better, better_client, comes_before, role_held}
 use Rattle.drf_pick.specs.Laws.{ArePositive}
 use Rattle.drf_pick.specs.Orders.{Among}
-use Rattle.drf_pick.specs.Sums.{IsSum, summed}
+use Rattle.share_sums.specs.Sums.{IsSum, summed}
 use Rattle.drf_pick.proofs.Standing.{amounts_decide}
-use Rattle.drf_pick.proofs.Summing.{no_sum, sum_is}
+use Rattle.share_sums.proofs.Summing.{no_sum, sum_is}
 use Rattle.round_shares.specs.Gifts.{Gift, all_rows, gifts_of, gifts_on, gifts_with, job_gift, made_gift, offer_gift, role_rows, rows_to, shares_with, side_gifts}
 use Rattle.round_shares.specs.Laws.{AddUp, CanBeSummed, PicksAlike}
 use Rattle.round_shares.specs.Picks.{better_eligible, picked}

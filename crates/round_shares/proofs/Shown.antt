@@ -18,8 +18,8 @@ use Rattle.drf_pick.specs.Shares.{Tally, at_first, entered, given, given_holders
 use Rattle.drf_pick.specs.Least.{held_of, role_held}
 use Rattle.drf_pick.specs.Laws.{SumsAdd}
 use Rattle.drf_pick.specs.Orders.{Among}
-use Rattle.drf_pick.specs.Sums.{greatest_sum, summed}
-use Rattle.drf_pick.proofs.Summing.{sums_add}
+use Rattle.share_sums.specs.Sums.{greatest_sum, summed}
+use Rattle.share_sums.proofs.Summing.{sums_add}
 use Rattle.round_shares.specs.Gifts.{Gift, all_rows, enters, gifts_of, holds, knows, no_shares, role_rows, rows_to, shares_of}
 use Rattle.round_shares.specs.Laws.{AddUp}
 use Rattle.round_shares.proofs.Rows.{NoneOf, all-append, all-one, both_true, find_none, is_in, none_behind, part, role-append, role-one, role_all, role_part, same_back, same_is, to-more, to_all}

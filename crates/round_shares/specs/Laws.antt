@@ -6,7 +6,7 @@ use Rattle.quantity.specs.Rows.{AreRows, amount}
 use Rattle.cluster_model.specs.Events.{MadeOffer}
 use Rattle.cluster_model.specs.Masters.{Master}
 use Rattle.cluster_model.specs.Rounds.{clients_of, pick, totals_of}
-use Rattle.drf_pick.specs.Sums.{greatest_sum}
+use Rattle.share_sums.specs.Sums.{greatest_sum}
 use Rattle.frameworks.specs.Frameworks.{are_ordered}
 use Rattle.round_shares.specs.Gifts.{all_rows, gifts_with, shares_with}
 use Rattle.round_shares.specs.Picks.{picked}

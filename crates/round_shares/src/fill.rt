@@ -2,7 +2,7 @@
 
 ghost use Rattle.std.specs.Prelude.{◌≡◌, fold, map, flat_map, OnOk, IfOk};
 ghost use Rattle.cluster_model.specs.Sides.{unended};
-ghost use Rattle.round_shares.specs.Gifts.{enters, gifts_on, holds, job_gift, knows, offer_gift, shares_of};
+ghost use Rattle.round_shares.specs.Gifts.{enters, gifts_of, gifts_on, holds, job_gift, knows, offer_gift, shares_of};
 
 use agent_sides::Sides;
 use drf_pick::Shares;
@@ -103,6 +103,22 @@ fn give_all(shares: &mut Shares, alloc: Global, accounts: &[Account]) -> Result<
     Ok(())
 }
 
+/// What agents own, the frameworks, and what these hold are counted in shares.
+fn count_in(
+    shares: &mut Shares,
+    alloc: Global,
+    sides: &Sides,
+    frameworks: &Frameworks,
+) -> Result<(), AllocError>
+    ensures { OnOk result (shares.new ≡ fold holds (fold knows (fold enters shares.old sides.now) frameworks.now) (gifts_of sides.now)) }
+{
+    let (entries, accounts) = sides.parts();
+    enter_all(shares, alloc, entries)?;
+    know_all(shares, alloc, frameworks.as_slice())?;
+    give_all(shares, alloc, accounts)?;
+    Ok(())
+}
+
 /// The shares of a round: what the agents with an open session own, the frameworks with their roles, and their current offers
 /// and booked tasks that haven't ended, on every agent.
 pub fn shares_of(
@@ -112,10 +128,7 @@ pub fn shares_of(
 ) -> Result<Shares, AllocError>
     ensures { IfOk result (λ shares. shares ≡ shares_of sides.now frameworks.now) }
 {
-    let (entries, accounts) = sides.parts();
     let mut shares = Shares::new(alloc);
-    enter_all(&mut shares, alloc, entries)?;
-    know_all(&mut shares, alloc, frameworks.as_slice())?;
-    give_all(&mut shares, alloc, accounts)?;
+    count_in(&mut shares, alloc, sides, frameworks)?;
     Ok(shares)
 }

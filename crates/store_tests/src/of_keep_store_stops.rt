@@ -108,25 +108,35 @@ fn connected<D: Disk + Drop>(
     }
 }
 
-fn adopted<D: Disk + Drop>(
-    conn: Connection<FileStore<D>>,
-) -> Result<Keeper<FileStore<D>>, Files<D>> {
-    match Keeper::adopt(conn) {
-        Ok(keeper) => Ok(keeper),
-        Err((_, conn)) => Err(conn.into_store().close()),
+/// A store over disks, which it gives back. What is done with one is written once, for every store.
+trait OverDisks: Alter + Drop {
+    type Disks: Drop;
+
+    fn into_disks(self) -> Self::Disks;
+}
+
+impl<D: Disk + Drop> OverDisks for FileStore<D> {
+    type Disks = Files<D>;
+
+    fn into_disks(self) -> Files<D> {
+        self.close()
     }
 }
 
-/// The keeper over these disks, or what is left of them.
-fn opened<D: Disk + Drop>(
-    alloc: Global,
-    disks: Files<D>,
-) -> Result<Keeper<FileStore<D>>, Files<D>> {
-    adopted(connected(alloc, disks)?)
+fn adopted<S: OverDisks>(conn: Connection<S>) -> Result<Keeper<S>, S::Disks> {
+    match Keeper::adopt(conn) {
+        Ok(keeper) => Ok(keeper),
+        Err((_, conn)) => Err(conn.into_store().into_disks()),
+    }
 }
 
-fn closed<D: Disk + Drop>(keeper: Keeper<FileStore<D>>) -> Files<D> {
-    keeper.into_connection().into_store().close()
+/// The keeper over a connection, or what is left of its disks.
+fn opened<S: OverDisks>(conn: Result<Connection<S>, S::Disks>) -> Result<Keeper<S>, S::Disks> {
+    adopted(conn?)
+}
+
+fn closed<S: OverDisks>(keeper: Keeper<S>) -> S::Disks {
+    keeper.into_connection().into_store().into_disks()
 }
 
 fn record(alloc: Global, session: u32) -> Option<Record> {
@@ -161,13 +171,13 @@ fn answers_of<S: Alter>(alloc: Global, keeper: &mut Keeper<S>, session: Option<u
     }
 }
 
-/// What a keeper over these disks answers, and the disks behind it.
-fn visited<D: Disk + Drop>(
+/// What a keeper over a connection answers, and the disks behind it.
+fn visited<S: OverDisks>(
     alloc: Global,
-    disks: Files<D>,
+    conn: Result<Connection<S>, S::Disks>,
     session: Option<u32>,
-) -> (Answers, Files<D>) {
-    match opened(alloc, disks) {
+) -> (Answers, S::Disks) {
+    match opened(conn) {
         Ok(mut keeper) => {
             let answers = answers_of(alloc, &mut keeper, session);
             (answers, closed(keeper))
@@ -185,7 +195,7 @@ fn visited_at(
     is_lossy: bool,
 ) -> Option<(Answers, Contents)> {
     let disks = disks_of(alloc, contents, calls)?;
-    let (answers, left) = visited(alloc, disks, session);
+    let (answers, left) = visited(alloc, connected(alloc, disks), session);
     match contents_of(alloc, left, is_lossy) {
         Some(left) => Some((answers, left)),
         None => None,
