@@ -1,7 +1,7 @@
 -- What a ticker's rounds add.
 use Rattle.std.proofs.Common.{List, [], ◌∷◌, ◌++◌, refl, subst}
 use Rattle.desk_seats.specs.Receipts.{PassState}
-use Rattle.recorded_cluster.specs.declared.given.Given.{Given}
+use Rattle.cluster_core.specs.declared.given.Given.{Given}
 use Rattle.activities.specs.Rounds.{AreRounds, IsRound}
 
 -- one round more

@@ -6,7 +6,7 @@ use Rattle.mails.specs.declared.record.Durable.{Durable}
 use Rattle.cluster_steps.specs.declared.step.Step.{Step}
 use Rattle.desk_seats.specs.declared.desk.pass.Receipt.{Receipt}
 use Rattle.desk_seats.specs.Receipts.{AnswersBy, PassState}
-use Rattle.recorded_cluster.specs.declared.given.Given.{Given}
+use Rattle.cluster_core.specs.declared.given.Given.{Given}
 use Rattle.activities.specs.Saved.{IsBehindSave, IsDraftIn, IsGrown, IsLastDraft, IsLastSaved, IsSaved, Keeps, SavedFrom, last_of, taker_of}
 
 -- one receipt more

@@ -9,8 +9,8 @@ use Rattle.desk_seats.specs.Receipts.{AnswersBy, PassState}
 use Rattle.desk_seats.specs.declared.desk.pass.Receipt.{Receipt}
 use Rattle.desk_seats.specs.declared.fault.OfficeFault.{OfficeFault}
 use Rattle.desk_seats.specs.declared.fault.OfficeFault.TheVariants.{Core, ForeignPass}
-use Rattle.recorded_cluster.specs.Recording.{IsSound, MayRefuse, Recorded, kind_of}
-use Rattle.recorded_cluster.specs.declared.given.Given.{Given}
+use Rattle.cluster_core.specs.Recording.{IsSound, MayRefuse, Recorded, kind_of}
+use Rattle.cluster_core.specs.declared.given.Given.{Given}
 
 -- the step is answered: the pass has one receipt more, which is of this step
 abbrev pub IsAnswered : Step → PassState Given → PassState Given → Type 0

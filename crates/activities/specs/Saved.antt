@@ -7,7 +7,7 @@ use Rattle.cluster_steps.specs.declared.step.StepCause.{StepCause}
 use Rattle.cluster_steps.specs.declared.step.Keep.TheVariants.{After}
 use Rattle.desk_seats.specs.declared.desk.pass.Receipt.{Receipt}
 use Rattle.desk_seats.specs.Receipts.{PassState}
-use Rattle.recorded_cluster.specs.declared.given.Given.{Given}
+use Rattle.cluster_core.specs.declared.given.Given.{Given}
 
 -- the receipt is of a Prepare of this agent, which opened a draft with this record
 pub record IsDraft (agent : List ℕ) (draft : Durable) (r : Receipt Given) : Type 0 where

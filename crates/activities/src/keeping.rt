@@ -10,11 +10,10 @@ use crate::receipts::{has_stopped, last_draft};
 use crate::records::is_own;
 use crate::worker::Worker;
 use agent_core::{Cabinet, Record};
-use cluster_core::{ClusterFault, Keep, StepCause};
+use cluster_core::{ClusterFault, Given, Keep, RecordedCluster, StepCause, agent_group};
 use desk_lock::{Pass, Waited};
 use names_core::AgentName;
 use plain_data::Plain;
-use recorded_cluster::{Given, RecordedCluster, agent_group};
 use std::sync::{Wait, ledger};
 use std::time::Clock;
 

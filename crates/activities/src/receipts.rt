@@ -4,11 +4,10 @@ ghost use Rattle.std.specs.Prelude.{None, IfSome};
 ghost use Rattle.activities.specs.Saved.{IsDraft, IsDraftIn, last_of};
 
 use agent_core::Record;
-use cluster_core::Step;
+use cluster_core::{Given, Step};
 use desk_lock::{Pass, Receipt};
 use names_core::AgentName;
 use plain_data::Plain;
-use recorded_cluster::Given;
 use std::sync::ledger;
 
 /// The record of the draft that a receipt's step opened, where the step is a Prepare of the agent.

@@ -4,9 +4,8 @@ ghost use Rattle.std.specs.Prelude.{◌≡◌, ◌⊎◌, MatchBool};
 ghost use Rattle.activities.specs.Rounds.{HasRounds, IsAsked, IsCutRound, IsRound, goes_on_after};
 ghost use Rattle.cluster_steps.specs.declared.step.Step.TheVariants.{Allocate, Tick};
 
-use cluster_core::{ClusterFault, Step};
+use cluster_core::{ClusterFault, Given, RecordedCluster, Step};
 use desk_lock::{Office, OfficeFault, Pass, Waited};
-use recorded_cluster::{Given, RecordedCluster};
 use std::alloc::Global;
 use std::sync::{Wait, ledger};
 use std::time::{Clock, Instant};

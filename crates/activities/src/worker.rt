@@ -5,11 +5,10 @@ ghost use Rattle.mails.specs.declared.record.Durable.{Durable as Record};
 ghost use Rattle.activities.specs.Saved.{IsBehindSave, IsLastSaved, Keeps, last_of};
 
 use crate::fault::{Stop, stop_of};
-use cluster_core::{ClusterFault, Keep, Step, StepCause};
+use cluster_core::{ClusterFault, Given, Keep, RecordedCluster, Step, StepCause, agent_group};
 use desk_lock::{Office, OfficeFault, Pass, Waited};
 use names_core::AgentName;
 use plain_data::Plain;
-use recorded_cluster::{Given, RecordedCluster, agent_group};
 use std::alloc::Global;
 use std::sync::{Wait, ledger};
 use std::time::Clock;

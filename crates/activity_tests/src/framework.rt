@@ -1,13 +1,12 @@
 //! A framework that launches a task on the one agent.
 
 use crate::offices::wait_for_entries;
-use cluster_core::{Keep, Step};
+use cluster_core::{Given, Keep, RecordedCluster, Step};
 use desk_lock::{Office, Pass};
 use listed::Listed;
 use mails::{Call, TaskInfo};
 use names_core::{AgentName, FrameworkId, OfferId, RoleName, StreamId, TaskName};
 use quantity::Resources;
-use recorded_cluster::{Given, RecordedCluster};
 use std::alloc::Global;
 use std::sync::{Wait, ledger};
 use std::time::Clock;

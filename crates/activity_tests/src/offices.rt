@@ -2,13 +2,12 @@
 
 ghost use Rattle.std.specs.Prelude.{◌≡◌, [], IfSome};
 
-use cluster_core::{Cluster, fresh_agents_open, fresh_records};
+use cluster_core::{Cluster, Given, RecordedCluster, fresh_agents_open, fresh_records};
 use desk_lock::{Desk, Office, Pass, Waited};
 use master_core::Config;
 use names_core::{AgentName, Run};
 use post_rules::Queues;
 use quantity::Resources;
-use recorded_cluster::{Given, RecordedCluster};
 use std::alloc::Global;
 use std::sync::ledger::Blank;
 use std::sync::{Wait, ledger};

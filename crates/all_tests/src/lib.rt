@@ -6,13 +6,13 @@ mod of_activity_tests;
 #[cfg(test)]
 mod of_cluster_tests;
 #[cfg(test)]
-mod of_command_tests;
-#[cfg(test)]
-mod of_http_rows;
-#[cfg(test)]
-mod of_http_tests;
+mod of_commands;
 #[cfg(test)]
 mod of_office_tests;
+#[cfg(test)]
+mod of_one_master;
+#[cfg(test)]
+mod of_requests;
 #[cfg(test)]
 mod of_store_tests;
 #[cfg(test)]

@@ -5,3 +5,4 @@ pub mod Telling
 pub mod SafeStories
 pub mod Posted
 pub mod Found
+pub mod RunSteps

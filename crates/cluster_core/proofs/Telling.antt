@@ -20,7 +20,7 @@ use Rattle.cluster_steps.specs.declared.fault.ClusterFault.TheVariants as faults
 use Rattle.cluster_steps.specs.declared.step.Step.{Step}
 use Rattle.cluster_steps.specs.Steps.{entry_of, marked_of, step_of}
 use Rattle.cluster_parts.specs.Handing.{MayRefuse}
-use Rattle.cluster_core.specs.Keeping.{IsKept, IsRefused, IsTaken, entry_made, taken_made}
+use Rattle.cluster_core.specs.Keeping.{IsKept, IsRefused, IsRefusedFirst, IsTaken, entry_made, taken_made}
 use Rattle.post_rules.specs.declared.direction.Direction.{Direction}
 use Rattle.cluster_parts.specs.Moves.{Reached}
 use Rattle.cluster_core.specs.Parts.{AreParts, PartsOf, Same, Stands, Takes, record_of}
@@ -83,8 +83,12 @@ are_parts law s opened p count ways k h = (state_of s, parts_of_story law s open
 marks : (c : Cluster) (m : Marked) → nat_le last_number c.entries ≡ false → step_marked c m ≡ (if m.fell then fallen_answer c m.step else answer c m.step)
 marks c m room = if_it_is_up (nat_le last_number c.entries) (Err model.HistoryFull) (if m.fell then fallen_answer c m.step else answer c m.step) room
 
-pub full_refused : CountLaw → (s : Story) (gives : ℕ → Bool) (step : model.Step) → IsLegal s → 4294967294 ≤ length s.entries → IsRefused (state_of s) gives step faults.HistoryFull
+full_refused : CountLaw → (s : Story) (gives : ℕ → Bool) (step : model.Step) → IsLegal s → 4294967294 ≤ length s.entries → IsRefused (state_of s) gives step faults.HistoryFull
 full_refused law s gives step l h = if_it_is_down (nat_le last_number (state_of s).entries) (Err model.HistoryFull) (answer (state_of s) step) (is_full law s l h)
+
+pub first_refused : CountLaw → (s : Story) (gives : ℕ → Bool) (step : model.Step) (fault : ClusterFault) → IsLegal s → IsRefusedFirst s fault → IsRefused (state_of s) gives step fault
+first_refused law s gives step fault l (inl e) = subst (IsRefused (state_of s) gives step) (sym e) tt
+first_refused law s gives step fault l (inr (e, h)) = subst (IsRefused (state_of s) gives step) (sym e) (full_refused law s gives step l h)
 
 refused_so : (c : Cluster) (gives : ℕ → Bool) (step : model.Step) (fault : ClusterFault) → nat_le last_number c.entries ≡ false → MayRefuse c gives step fault → IsRefused c gives step fault
 refused_so c gives step faults.NoSuchMail room (inl e) = inl (marks c (unmarked step) room ∙ e)

@@ -1,5 +1,5 @@
 -- What a cluster keeps true of its parts, and what a step makes of its story.
-use Rattle.std.specs.Prelude.{◌≡◌, ◌⊎◌, ◌<◌, ℕ, Bool, false, if◌then◌else◌, List, map, length, Option, Some, None, Ok, Err, drop, fold, ⊤}
+use Rattle.std.specs.Prelude.{◌≡◌, ◌⊎◌, ◌<◌, ◌≤◌, ℕ, Bool, false, if◌then◌else◌, List, map, length, Option, Some, None, Ok, Err, drop, fold, ⊤}
 use Rattle.cluster_model.specs.Clusters as model
 use Rattle.cluster_model.specs.Clusters.{Cluster, Post}
 use Rattle.cluster_model.specs.Masters.{Master}
@@ -69,6 +69,10 @@ IsRefused c gives step HistoryFull = step_marked c (unmarked step) ≡ Err model
 IsRefused c gives step TimeBack = step_marked c (unmarked step) ≡ Err model.TimeBack
 IsRefused c gives step NoSuchAgent = step_marked c (unmarked step) ≡ Err model.NoSuchAgent
 IsRefused c gives step OutOfMemory = ⊤
+
+-- before a step is looked at it is refused where the history is full, or for want of memory
+abbrev pub IsRefusedFirst : Story → ClusterFault → Type 0
+IsRefusedFirst s fault = (fault ≡ OutOfMemory) ⊎ ((fault ≡ HistoryFull) × (4294967294 ≤ length s.entries))
 
 -- what is known of a cluster: its story, and what it can hand out
 pub record Known (P : Type 0) : Type 0 where

@@ -5,3 +5,5 @@ pub mod Keeping
 pub mod Safety
 pub mod Reading
 pub mod Stopping
+pub mod Running
+pub mod Recording

@@ -1,7 +1,7 @@
 //! A history goes on by one step.
 
 ghost use Rattle.std.specs.Prelude.{◌≡◌, ◌<◌, ◌≤◌, ◌+◌, drop, fold, length, map, vec_capacity, vec_len, IfOk, IfErr, OnErr, OnOk, ℕ};
-ghost use Rattle.cluster_core.specs.Keeping.{IsKept, IsRefused, IsTaken, entry_made, known_after, story_of, taken_made};
+ghost use Rattle.cluster_core.specs.Keeping.{IsKept, IsRefused, IsRefusedFirst, IsTaken, entry_made, known_after, story_of, taken_made};
 ghost use Rattle.cluster_core.specs.Putting.{ArePut, direction_of, place_in, place_or_end, with_handed};
 ghost use Rattle.cluster_core.specs.Stories.{state_of, with_entry};
 ghost use Rattle.cluster_parts.specs.Handing.{IsGiven, handed};
@@ -97,6 +97,22 @@ fn hand_on<P: Post>(post: &mut P, parts: &Parts, before: usize, step: &Step)
     put_all(post, parts.config.agents(), parts.items.as_slice(), before);
 }
 
+/// Makes room for an entry more, and gives a copy of its step. C6 where the history is full, C9 for want of memory.
+fn make_room(history: &mut History, step: &Step) -> Result<Step, ClusterFault>
+    ensures copy { IfOk result (λ copy. copy ≡ step.now) }
+    ensures room { OnOk result (vec_len history.new.entries < vec_capacity history.new.entries) }
+    ensures within { OnOk result (length history.old.entries.items < 4294967294) }
+    ensures story { story_of history.new ≡ story_of history.old }
+    ensures opened { history.new.opened ≡ history.old.opened }
+    ensures refused { IfErr result (IsRefusedFirst (story_of history.old)) }
+{
+    if history.entries.len() as u64 >= MOST_ENTRIES {
+        return Err(ClusterFault::HistoryFull);
+    }
+    history.entries.reserve(1)?;
+    Ok(step.copy()?)
+}
+
 /// Writes an entry down, for which there is room, and gives it.
 fn write_down(history: &mut History, step: Step, copy: Step, made: Made) -> Taken
     requires room { vec_len history.old.entries < vec_capacity history.old.entries }
@@ -140,11 +156,7 @@ pub fn advance<P: Post>(
 {
     sent_items_stand();
     states_count_entries();
-    if history.entries.len() as u64 >= MOST_ENTRIES {
-        return Err(ClusterFault::HistoryFull);
-    }
-    history.entries.reserve(1)?;
-    let copy = step.copy()?;
+    let copy = make_room(history, &step)?;
     let before = parts.items.as_slice().len();
     match parts.take_step(post, alloc, &step) {
         Ok(made) => {

@@ -4,7 +4,11 @@
 
 mod advancing;
 mod cluster;
+mod given;
+mod groups;
 mod parts;
+mod recorded;
+mod running;
 mod safety;
 mod stopping;
 mod taken;
@@ -13,4 +17,8 @@ pub use agent_core::Record;
 pub use cluster::Cluster;
 pub use cluster_openings::{fresh_agents_open, fresh_records, good_opening};
 pub use cluster_steps::{ClusterFault, Entry, Keep, Outputs, Sent, Step, StepCause, Verdict};
+pub use given::Given;
+pub use groups::{agent_group, stream_group};
+pub use recorded::RecordedCluster;
+pub use running::{open_fresh, run};
 pub use taken::Taken;

@@ -1,6 +1,12 @@
-//! Reading and writing that interruptions don't disturb.
+//! Reading and writing that interruptions don't disturb, the lines of a text that comes in pieces, and a text that is answered line by line, as it comes.
 #![tactic(auto)]
 
+mod answers;
 mod output;
+mod reader;
+mod teller;
 
+pub use answers::{Stop, answer_lines};
 pub use output::{put, read_some};
+pub use reader::{LONGEST_LINE, Reader, first_lines_stay};
+pub use teller::Teller;

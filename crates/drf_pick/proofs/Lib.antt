@@ -1,7 +1,6 @@
 pub mod Lists
 pub mod Orders
 pub mod Standing
-pub mod Summing
 pub mod Names
 pub mod Places
 pub mod Picks

@@ -1,8 +1,7 @@
 -- What stands in a list.
-use Rattle.std.proofs.Common.{◌≡◌, ℕ, ◌+◌, ◌<◌, length, get_or, drop, Bool, true, false, ◌&&◌, ◌||◌, List, [], ◌∷◌, ◌⊎◌, inl, inr, refl, sym, ap, ◌∙◌}
+use Rattle.std.proofs.Common.{◌≡◌, Bool, true, false, ◌&&◌, ◌||◌, List, [], ◌∷◌, ◌⊎◌, inl, inr, refl, sym, ap, ◌∙◌}
 use Rattle.std.specs.List.{list_any, list_all}
 use Rattle.std.proofs.lemmas.Bool.{true≢false, false≢true, and_parts, and_from, and_cases, or_cases}
-use Rattle.std.proofs.lemmas.List.{drop_more}
 use Rattle.drf_pick.specs.Orders.{Among}
 
 pub all_at : {X : Type 0} (p : X → Bool) (xs : List X) (x : X) → list_all p xs ≡ true → Among x xs → p x ≡ true
@@ -49,9 +48,3 @@ pub any_not : {X : Type 0} (p : X → Bool) (xs : List X) (x : X) → list_any p
 any_not p [] x h i = absurd i
 any_not p (y ∷ ys) x h (inl e) = ap p e ∙ (or_parts (p y) (list_any p ys) h).0
 any_not p (y ∷ ys) x h (inr i) = any_not p ys x (or_parts (p y) (list_any p ys) h).1 i
-
--- one item that passes more
-pub all_more : {X : Type 0} (p : X → Bool) (xs : List X) (i : ℕ) (x : X) → i < length xs → x ≡ get_or xs i x → p x ≡ true → list_all p (drop (i + 1) xs) ≡ list_all p (drop i xs)
-all_more p xs i x within is passes =
-    sym (ap (list_all p) (drop_more xs i x within)
-    ∙ (ap (λ y. p y && list_all p (drop (i + 1) xs)) (sym is) ∙ ap (λ b. b && list_all p (drop (i + 1) xs)) passes))

@@ -1,11 +1,11 @@
 -- What holds of sums and of the order.
-use Rattle.std.specs.Prelude.{◌≡◌, ℕ, ◌+◌, ◌*◌, ◌≤◌, ◌<◌, ◌↔◌, true, false, List, [], fold, None, MatchOption}
+use Rattle.std.specs.Prelude.{◌≡◌, ℕ, ◌*◌, ◌≤◌, ◌<◌, ◌↔◌, true, false, List, [], fold, None, MatchOption}
 use Rattle.std.specs.List.{AllByRecursion}
 use Rattle.quantity.specs.declared.rows.Row.{Row}
 use Rattle.quantity.specs.Rows.{amount}
 use Rattle.quantity.specs.Laws.{SameAmounts}
 use Rattle.cluster_model.specs.Rounds.{stands_at_most_at}
-use Rattle.drf_pick.specs.Sums.{summed, greatest_sum}
+pub use Rattle.share_sums.specs.Sums.{SumsAdd}
 use Rattle.drf_pick.specs.Shares.{Tally, Holder}
 use Rattle.drf_pick.specs.Least.{comes_before, better}
 use Rattle.drf_pick.specs.Orders.{Among, IsPreorder}
@@ -31,11 +31,6 @@ AmountsDecide = (totals a b totals' a' b' : List Row) → ArePositive totals →
 -- any two stand in the order, and it goes on from one to the next
 abbrev pub StandingIsOrder : Type 0
 StandingIsOrder = (totals : List Row) → ArePositive totals → IsPreorder (stands_at_most_at totals)
-
--- sums that stay below the cap have the sums of the amounts
-abbrev pub SumsAdd : Type 0
-SumsAdd = (rows more : List Row) → ((name : List ℕ) → amount name rows + amount name more < greatest_sum)
-    → (name : List ℕ) → amount name (summed rows more) ≡ amount name rows + amount name more
 
 -- one of the frameworks, and none comes before it
 pub record IsLeast (t : Tally) (hs : List Holder) (h : Holder) : Type 0 where

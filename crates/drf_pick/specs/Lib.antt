@@ -1,4 +1,3 @@
-pub mod Sums
 pub mod Shares
 pub mod Least
 pub mod Orders

@@ -5,7 +5,7 @@ use Rattle.names_core.specs.Ids.{Numbered}
 use Rattle.quantity.specs.declared.rows.Row.{Row}
 use Rattle.quantity.specs.Rows.{covers, rest_of}
 use Rattle.cluster_model.specs.Ids.{same}
-use Rattle.drf_pick.specs.Sums.{summed}
+use Rattle.share_sums.specs.Sums.{summed}
 pub use Rattle.drf_pick.specs.declared.holder.Holder.{Holder}
 pub use Rattle.drf_pick.specs.declared.holder.RoleSum.{RoleSum}
 

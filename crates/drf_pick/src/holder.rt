@@ -4,8 +4,8 @@ ghost use Rattle.std.specs.Prelude.{◌≡◌};
 ghost use Rattle.cluster_model.specs.Ids.{before};
 ghost use Rattle.drf_pick.specs.Shares.{is_holder, is_role, holder_of, role_sum_of};
 
-use crate::sum::Sum;
 use names_core::{FrameworkId, RoleName};
+use share_sums::Sum;
 use std::alloc::Global;
 
 /// A framework that may be picked.

@@ -9,8 +9,8 @@ ghost use Rattle.drf_pick.specs.Least.{role_held, comes_before, better, better_c
 
 use crate::holder::{Client, Holder, RoleSum, is_before};
 use crate::shares::{Shares, find_holder, find_role, guess_of};
-use crate::sum::{Sum, stands_at_most_at};
 use names_core::{FrameworkId, RoleName};
+use share_sums::{Sum, stands_at_most_at};
 
 fn stands_first(totals: &Sum, first: &Sum, second: &Sum, tie: bool) -> bool
     ensures { result ≡ stands_first totals.now first.now second.now tie }

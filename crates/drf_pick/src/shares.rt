@@ -5,12 +5,11 @@ ghost use Rattle.std.specs.List.{find, position};
 ghost use Rattle.std.specs.Option.{option_copied};
 ghost use Rattle.drf_pick.specs.Shares.{HoldersOnce, RolesOnce, is_holder, is_role, at_first, role_holding, given_holders, given_roles, entered, given, holder_of, role_sum_of, roles_with, with_role, can_leave, departed, role_has, holder_has, can_back, role_returning, returned_holders, returned_roles, returned};
 
-use crate::fault::SharesFault;
 use crate::holder::{Holder, RoleSum, is_before};
-use crate::sum::Sum;
 use names_core::{FrameworkId, RoleName};
 use plain_data::Plain;
 use quantity::Resources;
+use share_sums::{SharesFault, Sum};
 use std::alloc::{AllocError, Global};
 use std::marker::Model;
 

@@ -8,7 +8,7 @@ use Rattle.mails.specs.declared.mail.AgentMail.TheVariants.{Report, Applied, Upd
 use Rattle.mails.specs.declared.refusal.MasterRefusal.{MasterRefusal}
 use Rattle.mails.specs.declared.refusal.MasterRefusal.TheVariants.{OtherRun, OldSession, Closed, NotOpen, NotSubscribed, WrongStream, NoSuchFramework, LimitExceeded}
 use Rattle.mails.specs.declared.task.Booked.{Booked}
-use Rattle.offer_book.specs.declared.tasks.Heard.{Heard}
+use Rattle.booked_tasks.specs.declared.tasks.Heard.{Heard}
 use Rattle.cluster_model.specs.Events.{Told}
 use Rattle.cluster_model.specs.Mails.{goes_with, hear_at, in_session, judged, judged_session, mailed, mailed_as, session_opens}
 use Rattle.cluster_model.specs.Masters.{AtSide, Doing, Master, nothing, saying}

@@ -7,7 +7,7 @@ use Rattle.mails.specs.declared.task.Booked.{Booked}
 use Rattle.mails.specs.declared.task.Offer.{Offer}
 use Rattle.event_json.specs.declared.event.Event as json
 use Rattle.event_json.specs.declared.event.Event.TheVariants as events
-use Rattle.offer_book.specs.declared.tasks.Heard.{Heard}
+use Rattle.booked_tasks.specs.declared.tasks.Heard.{Heard}
 use Rattle.cluster_model.specs.Ids.{same}
 use Rattle.cluster_model.specs.Events.{Event, Told, RESCIND, UPDATE}
 use Rattle.cluster_model.specs.Mails.{is_reported}

@@ -8,11 +8,11 @@ ghost use Rattle.cluster_model.specs.Mails.{FitsRecord};
 
 use crate::opening::open_session;
 use crate::tell;
+use booked_tasks::Heard;
 use listed::Listed;
 use mails::{AgentMail, Booked, MasterRefusal};
 use master_state::State;
 use names_core::AgentName;
-use offer_book::Heard;
 use std::alloc::{AllocError, Global};
 
 /// A Hello goes with every refusal but that of another run.

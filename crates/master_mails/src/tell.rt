@@ -11,13 +11,13 @@ ghost use Rattle.master_state.specs.Works.{written};
 ghost use Rattle.master_mails.specs.Tells.{loss_of, lost_event, news, rescind_of, updated_event};
 
 use crate::reported::Reported;
+use booked_tasks::Heard;
 use event_json::{Event, TaskStatus};
 use frameworks::{Frameworks, is_due};
 use listed::Listed;
 use mails::{Booked, Framework, Offer};
 use master_state::StreamEvent;
 use names_core::{AgentName, FrameworkId, LaunchKey, StreamId, TaskState, UpdateId};
-use offer_book::Heard;
 use plain_data::Plain;
 use std::alloc::{AllocError, Global};
 

@@ -5,8 +5,7 @@ ghost use Rattle.mesos_node.specs.Refusals.{is_refusal};
 ghost use Rattle.mesos_node.specs.declared.fault.ServeFault.TheVariants.{Agents, Folder, Memory};
 
 use agents_file::AgentsFault;
-use file_records::FolderFault;
-use serving::ServingFault;
+use serving::{FolderFault, ServingFault};
 use std::alloc::AllocError;
 use std::{fmt, io};
 

@@ -1,9 +1,8 @@
 -- What a book has of one agent (Mesos paper, section 3.1: offers).
-use Rattle.std.specs.Prelude.{ℕ, suc, Bool, false, true, not, ◌&&◌, ◌==◌, if◌then◌else◌, List, [], ◌∷◌, ◌++◌, map, filter}
+use Rattle.std.specs.Prelude.{ℕ, Bool, false, true, not, ◌&&◌, if◌then◌else◌, List, [], ◌∷◌, ◌++◌, map, filter}
 use Rattle.std.specs.List.{list_any, list_all}
 use Rattle.names_core.specs.Ids.{Numbered}
 use Rattle.names_core.specs.declared.state.TaskState.{TaskState}
-use Rattle.names_core.specs.States.{is_terminal}
 use Rattle.quantity.specs.declared.rows.Row.{Row}
 use Rattle.quantity.specs.Rows.{covers, rest_of}
 use Rattle.mails.specs.declared.task.Offer.{Offer}
@@ -13,6 +12,7 @@ use Rattle.cluster_model.specs.Ids.{same, is_among, is_repeated, is_empty}
 use Rattle.cluster_model.specs.Sides.{unended, job_rows, offer_rows, heard_update, forget_all, is_named}
 use Rattle.cluster_model.specs.Masters.{is_of}
 pub use Rattle.offer_book.specs.declared.account.Account.{Account}
+pub use Rattle.booked_tasks.specs.Tasks.{ended, has_key, has_tasks_of}
 
 -- an agent that has entered
 abbrev pub new_account : List ℕ → List Row → Account
@@ -78,22 +78,8 @@ without_named framework ids a = record a { offers = filter (λ o. not (is_named 
 
 -- booked tasks
 
-abbrev pub has_tasks_of : Numbered → List Booked → Bool
-has_tasks_of framework bs = list_any (λ b. same b.job.framework framework) bs
-
-abbrev pub has_key : Numbered → Booked → Bool
-has_key key b = same b.job.key key
-
--- its end is acknowledged by this: it has ended, and the last update that was heard of is this one and terminal
-abbrev pub is_acknowledged : Numbered → ℕ → Booked → Bool
-is_acknowledged key k b = b.ended && same b.job.key key && b.heard == suc k && is_terminal b.state
-
 abbrev pub with_task : Booked → Account → Account
 with_task b a = record a { booked = a.booked ++ b ∷ [] }
-
--- a task with this key has ended
-abbrev pub ended : Numbered → Booked → Booked
-ended key b = if has_key key b then record { job = b.job; ended = true; heard = b.heard; state = b.state } else b
 
 abbrev pub with_ended : Numbered → Account → Account
 with_ended key a = record a { booked = map (ended key) a.booked }

@@ -7,7 +7,7 @@ ghost use Rattle.offer_book.specs.Books.{is_agent};
 
 use crate::offers::Offers;
 use crate::rest;
-use crate::tasks::Tasks;
+use booked_tasks::Tasks;
 use listed::Listed;
 use mails::{Booked, Offer};
 use names_core::AgentName;

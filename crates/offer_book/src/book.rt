@@ -12,7 +12,7 @@ ghost use Rattle.offer_book.specs.Faults.{IsRefusal};
 use crate::account::Account;
 use crate::fault::BookFault;
 use crate::held;
-use crate::tasks::Heard;
+use booked_tasks::Heard;
 use listed::Listed;
 use mails::{Booked, Command, Offer};
 use names_core::{AgentName, FrameworkId, LaunchKey, OfferId, TaskName};

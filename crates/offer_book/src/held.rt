@@ -7,7 +7,7 @@ ghost use Rattle.offer_book.specs.Held.{place, is_of_name, first_at, first_in, f
 ghost use Rattle.offer_book.specs.Found.{made, offer_of, task_of};
 
 use crate::account::Account;
-use crate::ids::is_same_framework;
+use booked_tasks::is_same_framework;
 use mails::{Booked, Offer};
 use names_core::{AgentName, FrameworkId, LaunchKey, OfferId, TaskName};
 

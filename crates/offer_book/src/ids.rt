@@ -3,24 +3,12 @@
 ghost use Rattle.std.specs.Prelude.{◌≡◌};
 ghost use Rattle.cluster_model.specs.Ids.{same, is_among, is_repeated};
 
-use names_core::{FrameworkId, LaunchKey, OfferId};
+use names_core::OfferId;
 
 pub(crate) fn is_same_offer(id: OfferId, other: OfferId) -> bool
     ensures { result ≡ same id other }
 {
     id.number() == other.number() && id.run() == other.run()
-}
-
-pub(crate) fn is_same_framework(id: FrameworkId, other: FrameworkId) -> bool
-    ensures { result ≡ same id other }
-{
-    id.number() == other.number() && id.run() == other.run()
-}
-
-pub(crate) fn is_same_launch(key: LaunchKey, other: LaunchKey) -> bool
-    ensures { result ≡ same key other }
-{
-    key.number() == other.number() && key.run() == other.run()
 }
 
 pub(crate) fn is_among(ids: &[OfferId], id: OfferId) -> bool

@@ -10,12 +10,11 @@ mod laws;
 mod offers;
 mod rest;
 mod sum;
-mod tasks;
 
 pub use account::Account;
 pub use book::OfferBook;
+pub use booked_tasks::{Heard, Tasks};
 pub use fault::BookFault;
 pub use held::first_among;
 pub use laws::{ids_name_offers, rest_of_rest_is_sum};
 pub use offers::Offers;
-pub use tasks::{Heard, Tasks};

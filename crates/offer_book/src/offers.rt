@@ -8,7 +8,8 @@ ghost use Rattle.cluster_model.specs.Sides.{is_named};
 ghost use Rattle.cluster_model.specs.Masters.{is_of};
 ghost use Rattle.offer_book.specs.Accounts.{has_offer, are_good, is_offered_as};
 
-use crate::ids::{is_among, is_repeated, is_same_framework, is_same_offer};
+use crate::ids::{is_among, is_repeated, is_same_offer};
+use booked_tasks::is_same_framework;
 use mails::Offer;
 use names_core::{FrameworkId, OfferId};
 use std::alloc::{AllocError, Global};

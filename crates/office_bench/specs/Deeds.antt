@@ -12,7 +12,7 @@ use Rattle.http_door.specs.Deeds.{Deed, calls, nexts, hangs_up}
 use Rattle.http_door.specs.declared.bench.Answer.{Answer}
 use Rattle.http_door.specs.declared.bench.Answer.TheVariants.{Refused}
 use Rattle.http_door.specs.declared.refusal.BenchFault.{BenchFault}
-use Rattle.recorded_cluster.specs.declared.given.Given.{Given}
+use Rattle.cluster_core.specs.declared.given.Given.{Given}
 use Rattle.office_bench.specs.Answers.{IsOfOffice, answer_of, is_subscribe}
 
 -- a step was taken: the pass has one receipt more, and it is of this step

@@ -1,7 +1,7 @@
 -- What the bench of a connection did.
 use Rattle.std.specs.Prelude.{◌≡◌, Option, Some, None}
 use Rattle.desk_seats.specs.Receipts.{PassState}
-use Rattle.recorded_cluster.specs.declared.given.Given.{Given}
+use Rattle.cluster_core.specs.declared.given.Given.{Given}
 use Rattle.http_door.specs.Deeds.{Deed}
 use Rattle.office_bench.specs.Deeds.{Does, RefusesAll}
 use Rattle.office_bench.specs.declared.seating.Seating.{Seating}

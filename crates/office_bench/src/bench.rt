@@ -5,17 +5,16 @@ ghost use Rattle.cluster_steps.specs.declared.step.Step.TheVariants.{Send, Deliv
 ghost use Rattle.desk_seats.specs.declared.desk.pass.Receipt.{Receipt};
 ghost use Rattle.office_bench.specs.Answers.{IsOfOffice, answer_of};
 ghost use Rattle.office_bench.specs.Deeds.{Delivers, Does, Gets, Steps, call_number};
-ghost use Rattle.recorded_cluster.specs.declared.given.Given.{Given};
+ghost use Rattle.cluster_core.specs.declared.given.Given.{Given};
 
 use crate::fault::bench_fault;
 use crate::reading::{answer_of, is_subscribe, taken_event, turn_on};
-use cluster_core::Step;
+use cluster_core::{Given, RecordedCluster, Step, stream_group};
 use desk_lock::{Office, Pass, Receipt};
 use event_json::Event;
 use http_door::{Answer, Bench, BenchFault};
 use mails::Call;
 use names_core::StreamId;
-use recorded_cluster::{Given, RecordedCluster, stream_group};
 use std::alloc::{AllocError, Global};
 use std::marker::Model;
 use std::sync::{Wait, ledger};
@@ -31,7 +30,7 @@ pub struct SeatBench<'a, L: ledger::Ledger, R: Wait> {
 
 impl<'a, L: ledger::Ledger, R: Wait> Model for SeatBench<'a, L, R> {
     ghost use Rattle.desk_seats.specs.Receipts.{PassState};
-    ghost use Rattle.recorded_cluster.specs.declared.given.Given.{Given};
+    ghost use Rattle.cluster_core.specs.declared.given.Given.{Given};
 
     ghost Value = { PassState Given };
 

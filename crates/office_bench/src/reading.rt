@@ -8,7 +8,7 @@ ghost use Rattle.mails.specs.declared.call.Call.TheVariants.{Subscribe};
 ghost use Rattle.names_core.specs.Ids.{Numbered};
 ghost use Rattle.office_bench.specs.Answers.{EndsOnOpened, accepted, answer_of, is_subscribe, turn_on};
 
-use cluster_core::{Entry, Verdict};
+use cluster_core::{Entry, RecordedCluster, Verdict};
 use desk_lock::Turn;
 use event_json::Event;
 use http_door::{Answer, BenchFault};
@@ -16,7 +16,6 @@ use mails::Call;
 use master_state::StreamEvent;
 use names_core::StreamId;
 use plain_data::Plain;
-use recorded_cluster::RecordedCluster;
 use std::alloc::{AllocError, Global};
 
 pub(crate) fn is_subscribe(call: &Call) -> bool

@@ -4,12 +4,12 @@ ghost use Rattle.std.specs.Prelude.{◌≡◌};
 ghost use Rattle.office_bench.specs.Seated.{SeatingDoes, pass_of};
 
 use crate::bench::SeatBench;
+use cluster_core::Given;
 use desk_lock::Pass;
 use event_json::Event;
 use http_door::{Answer, Bench, BenchFault};
 use mails::Call;
 use names_core::StreamId;
-use recorded_cluster::Given;
 use std::alloc::AllocError;
 use std::sync::{Wait, ledger};
 

@@ -2,10 +2,9 @@
 
 use crate::gate::Overlap;
 use crate::scripts::Move;
-use cluster_core::{Step, StepCause};
+use cluster_core::{Given, RecordedCluster, Step, StepCause};
 use desk_lock::{Office, Pass};
 use names_core::{AgentName, StreamId};
-use recorded_cluster::{Given, RecordedCluster};
 use std::alloc::Global;
 use std::io::{Read, Write};
 use std::net::{Net, SocketAddr, TcpListener, TcpStream};

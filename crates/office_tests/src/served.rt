@@ -5,7 +5,9 @@ ghost use Rattle.std.specs.Prelude.{◌≡◌, [], IfSome};
 use crate::client::Client;
 use crate::gate::Overlap;
 use crate::scripts::Move;
-use cluster_core::{Cluster, Entry, Step, Verdict, fresh_agents_open, fresh_records};
+use cluster_core::{
+    Cluster, Entry, Given, RecordedCluster, Step, Verdict, fresh_agents_open, fresh_records,
+};
 use desk_lock::{Desk, Office, Pass, Passes};
 use http_door::Bench;
 use http_workers::serve_all;
@@ -14,7 +16,6 @@ use names_core::{AgentName, Run, StreamId};
 use office_bench::{SeatBench, Seating, TcpArrivals};
 use post_rules::Queues;
 use quantity::Resources;
-use recorded_cluster::{Given, RecordedCluster};
 use std::alloc::Global;
 use std::net::{Net, TcpListener, TcpStream};
 use std::sync::ledger::Blank;

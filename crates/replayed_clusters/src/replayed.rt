@@ -12,8 +12,7 @@ ghost use Rattle.post_rules.specs.Numbers.{is_number};
 ghost use Rattle.replayed_clusters.specs.Stories.{due, entry_in, fresh_story, greetings};
 
 use agent_sides::Config;
-use cluster_core::{Cluster, Taken};
-use cluster_runs::open_fresh;
+use cluster_core::{Cluster, Taken, open_fresh};
 use cluster_steps::{ClusterFault, Entry, Sent, Step, Verdict};
 use post_rules::EverSent;
 use std::alloc::{AllocError, Global};

@@ -3,7 +3,7 @@ use Rattle.std.proofs.Common.{◌≡◌, ◌<◌, ℕ, ◌+◌, ◌⊎◌, inl, 
 use Rattle.std.specs.Prelude.{nat_le}
 use Rattle.std.proofs.lemmas.Bool.Decides.{leb_tells, nat_tests}
 use Rattle.std.proofs.lemmas.List.{length-take, take_all}
-use Rattle.line_answers.specs.Texts.{kept, longest}
+use Rattle.device_io.specs.Texts.{kept, longest}
 use Rattle.step_lines.specs.Configs.{read_config}
 use Rattle.step_lines.specs.Lines.{longest_line, read_step}
 use Rattle.cluster_core.specs.Stories.{Story}

@@ -8,8 +8,8 @@ use Rattle.step_lines.specs.declared.fault.LineRefusal.TheVariants.{BadConfig}
 use Rattle.step_lines.specs.Configs.{read_config}
 use Rattle.step_lines.specs.Lines.{longest_line, read_step}
 use Rattle.entry_lines.specs.Lines.{opening_text}
-use Rattle.line_answers.specs.Answers.{after_all, answer}
-use Rattle.line_answers.specs.Texts.{all_lines}
+use Rattle.device_io.specs.Answers.{after_all, answer}
+use Rattle.device_io.specs.Texts.{all_lines}
 use Rattle.replays.specs.declared.fault.LineStop.{LineStop}
 use Rattle.replayed_clusters.specs.Stories.{due, fresh_story, greetings}
 use Rattle.replayed_clusters.specs.Outcomes.{Outcome, outcome}

@@ -10,7 +10,7 @@ ghost use Rattle.replayed_clusters.specs.Stories.{fresh_story};
 
 use crate::fault::LineStop;
 use agent_sides::Config;
-use line_answers::{LONGEST_LINE, Teller};
+use device_io::{LONGEST_LINE, Teller};
 use replayed_clusters::{Replayed, end_table, raised, take_step, tell_opening};
 use std::alloc::{AllocError, Global};
 use std::marker::Model;

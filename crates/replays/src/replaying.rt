@@ -8,7 +8,7 @@ ghost use Rattle.replays.specs.Replays.{beginning, replay_fault, replay_story, r
 
 use crate::fault::{LineStop, ReplayStop};
 use crate::replayer::Replayer;
-use line_answers::{Stop, answer_lines};
+use device_io::{Stop, answer_lines};
 use std::alloc::Global;
 use std::io::{Read, Write};
 

@@ -1,18 +1,17 @@
 //! A cluster that runs until its connections have ended.
 
 ghost use Rattle.std.specs.Prelude.{◌≡◌, [], IfOk};
-ghost use Rattle.recorded_cluster.specs.Recording.{IsSound};
+ghost use Rattle.cluster_core.specs.Recording.{IsSound};
 
+use crate::cabinet::RecordFile;
 use crate::fault::ServingFault;
 use crate::staff::{Leaver, Pace, start_all};
-use cluster_core::Cluster;
+use cluster_core::{Cluster, Given, RecordedCluster};
 use desk_lock::{Desk, Office, OfficeFault, Pass, Passes, SeatedHistory};
-use file_records::RecordFile;
 use http_door::NoGate;
 use http_workers::{HttpFault, serve_all};
 use office_bench::TcpArrivals;
 use post_rules::Queues;
-use recorded_cluster::{Given, RecordedCluster};
 use std::alloc::Global;
 use std::net::TcpListener;
 use std::sync::ledger::Blank;

@@ -2,14 +2,14 @@
 
 ghost use Rattle.std.specs.Prelude.{◌≡◌, []};
 
+use crate::cabinet::RecordFile;
 use crate::fault::ServingFault;
 use activities::{ActivityFault, activity, ticker};
+use cluster_core::{Given, RecordedCluster};
 use desk_lock::{Office, Pass};
-use file_records::RecordFile;
 use http_workers::HttpFault;
 use keep_store::KeepFault;
 use names_core::AgentName;
-use recorded_cluster::{Given, RecordedCluster};
 use std::alloc::Global;
 use std::sync::{Wait, ledger};
 use std::thread::{JoinHandle, Scope, Threads};

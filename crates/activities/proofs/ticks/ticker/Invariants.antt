@@ -1,6 +1,6 @@
 use Rattle.std.proofs.Common.{List}
 use Rattle.desk_seats.specs.Receipts.{PassState}
-use Rattle.recorded_cluster.specs.declared.given.Given.{Given}
+use Rattle.cluster_core.specs.declared.given.Given.{Given}
 use Rattle.activities.specs.Rounds.{AreRounds}
 use Rattle.activities.proofs.ticks.ticker.Given as goal
 

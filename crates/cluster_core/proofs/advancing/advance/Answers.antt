@@ -1,33 +1,36 @@
-use Rattle.std.proofs.Common.{◌≡◌, ◌<◌, ◌≤◌, ◌∙◌, List, ap, arith, drop, length, map, refl, sym, subst}
-use Rattle.std.specs.Prelude.{fold}
+use Rattle.std.proofs.Common.{rules, ◌≡◌, ◌<◌, ◌≤◌, ◌∙◌, List, ap, arith, drop, length, map, refl, sym, subst}
+use Rattle.std.specs.Prelude.{fold, IfErr}
+use Rattle.std.proofs.lemmas.Result.{IfErr-weaker}
 use Rattle.cluster_steps.specs.Steps.{step_of}
 use Rattle.cluster_steps.specs.declared.entry.Entry.{Entry}
 use Rattle.cluster_steps.specs.declared.entry.Outputs.{Outputs}
 use Rattle.cluster_laws.specs.Parts.{configured}
 use Rattle.cluster_parts.specs.Handing.{handed}
 use Rattle.cluster_core.specs.Putting.{direction_of, with_handed}
-use Rattle.cluster_core.specs.Keeping.{IsKept, IsTaken, entry_made, story_of, taken_made}
+use Rattle.cluster_core.specs.Keeping.{IsKept, IsRefused, IsRefusedFirst, IsTaken, entry_made, story_of, taken_made}
 use Rattle.cluster_core.specs.Stories.{Story, state_of, with_entry}
 use Rattle.cluster_core.specs.declared.taken.Taken.{Taken}
 use Rattle.cluster_core.proofs.Puttings.{put_since}
 use Rattle.cluster_core.proofs.Posted.{all_posts}
-use Rattle.cluster_core.proofs.Telling.{are_parts, full_refused, keeps_on, parts_of_story, stays, step_refused, takes_on}
+use Rattle.cluster_core.proofs.Telling.{are_parts, first_refused, keeps_on, parts_of_story, stays, step_refused, takes_on}
 use Rattle.cluster_core.proofs.advancing.advance.Goals as goal
 
-pub returns-then-len-ge-MOST_ENTRIES-clause-refused : goal.returns-then-len-ge-MOST_ENTRIES-clause-refused
-returns-then-len-ge-MOST_ENTRIES-clause-refused g c =
-    let h : 4294967294 ≤ length c.args.history.now.entries.items = omega arith in
-    full_refused c.states_count_entries.ensures (story_of c.args.history.now) (g.P.Post.gives (g.P.Post.known c.args.post.now)) (step_of c.args.step) c.requires.legal h
+pub returns-in_err-copy-clause-refused : goal.returns-in_err-copy-clause-refused
+returns-in_err-copy-clause-refused g c =
+    let s = story_of c.args.history.now in
+    let gives = g.P.Post.gives (g.P.Post.known c.args.post.now) in
+    let first : IfErr c.from_residual.result (IsRefusedFirst s) = search rules in
+    IfErr-weaker c.from_residual.result (IsRefusedFirst s) (IsRefused (state_of s) gives (step_of c.args.step)) (λ fault why. first_refused c.states_count_entries.ensures s gives (step_of c.args.step) fault c.requires.legal why) first
 
 pub take_step-requires : goal.take_step-requires
 take_step-requires g c =
-    let h : length c.args.history.now.entries.items < 4294967294 = omega arith in
+    let h : length c.args.history.now.entries.items < 4294967294 = c.in_ok-copy.ensures.within in
     are_parts c.states_count_entries.ensures (story_of c.args.history.now) c.args.history.now.opened c.args.parts.now (g.P.Post.count (g.P.Post.known c.args.post.now)) (g.P.Post.direction_at (g.P.Post.known c.args.post.now)) c.requires h
 
 pub returns-in-Ok-clause-kept : goal.returns-in-Ok-clause-kept
 returns-in-Ok-clause-kept g c =
     let s = story_of c.args.history.now in
-    let h : length c.args.history.now.entries.items < 4294967294 = omega arith in
+    let h : length c.args.history.now.entries.items < 4294967294 = c.in_ok-copy.ensures.within in
     let law = c.states_count_entries.ensures in
     let e = entry_made c.args.step c.in-Ok.made in
     let t = c.in-Ok.ensures.made (state_of s) (parts_of_story law s c.args.history.now.opened c.args.parts.now (g.P.Post.count (g.P.Post.known c.args.post.now)) (g.P.Post.direction_at (g.P.Post.known c.args.post.now)) c.requires h) in
@@ -36,19 +39,19 @@ returns-in-Ok-clause-kept g c =
     (g.P.Post.direction_at (g.P.Post.known c.args.post.now)) (g.P.Post.direction_at (g.P.Post.known c.take_step.new.post)) (g.P.Post.direction_at (g.P.Post.known c.hand_on.new.post)) c.args.step c.in-Ok.made c.requires h t c.take_step.ensures.config c.hand_on.ensures.count
     there (λ n. ap (λ k. g.P.Post.direction_at k n) c.take_step.ensures.post) c.hand_on.ensures.directions c.hand_on.ensures.put in
     let told : story_of c.write_down.new.history ≡ with_entry s e =
-    c.write_down.ensures.told ∙ ap (λ (xs : List Entry). with_entry (record { run = c.args.history.now.run; records = c.args.history.now.records.items; entries = xs }) e) c.reserve.ensures.items in
-    subst (λ (o : Outputs). IsKept (story_of c.write_down.new.history) o c.take_step.new.self (g.P.Post.count (g.P.Post.known c.hand_on.new.post)) (g.P.Post.direction_at (g.P.Post.known c.hand_on.new.post))) (sym c.write_down.ensures.opened)
+    c.write_down.ensures.told ∙ ap (λ (x : Story). with_entry x e) c.make_room.ensures.story in
+    subst (λ (o : Outputs). IsKept (story_of c.write_down.new.history) o c.take_step.new.self (g.P.Post.count (g.P.Post.known c.hand_on.new.post)) (g.P.Post.direction_at (g.P.Post.known c.hand_on.new.post))) (sym (c.write_down.ensures.opened ∙ c.make_room.ensures.opened))
     (subst (λ (x : Story). IsKept x c.args.history.now.opened c.take_step.new.self (g.P.Post.count (g.P.Post.known c.hand_on.new.post)) (g.P.Post.direction_at (g.P.Post.known c.hand_on.new.post))) (sym told) kept)
 
 pub returns-in-Ok-clause-taken : goal.returns-in-Ok-clause-taken
 returns-in-Ok-clause-taken g c =
     let s = story_of c.args.history.now in
-    let h : length c.args.history.now.entries.items < 4294967294 = omega arith in
+    let h : length c.args.history.now.entries.items < 4294967294 = c.in_ok-copy.ensures.within in
     let law = c.states_count_entries.ensures in
     let e = entry_made c.args.step c.in-Ok.made in
     let t = c.in-Ok.ensures.made (state_of s) (parts_of_story law s c.args.history.now.opened c.args.parts.now (g.P.Post.count (g.P.Post.known c.args.post.now)) (g.P.Post.direction_at (g.P.Post.known c.args.post.now)) c.requires h) in
     let told : story_of c.write_down.new.history ≡ with_entry s e =
-    c.write_down.ensures.told ∙ ap (λ (xs : List Entry). with_entry (record { run = c.args.history.now.run; records = c.args.history.now.records.items; entries = xs }) e) c.reserve.ensures.items in
+    c.write_down.ensures.told ∙ ap (λ (x : Story). with_entry x e) c.make_room.ensures.story in
     subst (λ (x : Taken). IsTaken s c.args.step x (story_of c.write_down.new.history)) (sym c.write_down.ensures.taken)
     (subst (IsTaken s c.args.step (taken_made c.args.step c.in-Ok.made)) (sym told) (takes_on law s c.take_step.new.self c.args.step c.in-Ok.made c.requires.legal h t))
 
@@ -69,7 +72,7 @@ returns-in-Ok-clause-known g c =
 
 pub returns-in-Err-clause-refused : goal.returns-in-Err-clause-refused
 returns-in-Err-clause-refused g c =
-    let h : length c.args.history.now.entries.items < 4294967294 = omega arith in
+    let h : length c.args.history.now.entries.items < 4294967294 = c.in_ok-copy.ensures.within in
     step_refused c.states_count_entries.ensures (story_of c.args.history.now) c.args.history.now.opened c.args.parts.now (g.P.Post.count (g.P.Post.known c.args.post.now)) (g.P.Post.direction_at (g.P.Post.known c.args.post.now)) (g.P.Post.gives (g.P.Post.known c.args.post.now)) (step_of c.args.step) c.in-Err.fault c.requires h c.in-Err.ensures.refused
 
 pub returns-in-Err-clause-kept : goal.returns-in-Err-clause-kept
@@ -80,4 +83,5 @@ returns-in-Err-clause-kept g c =
     let count = g.P.Post.count (g.P.Post.known c.take_step.new.post) in
     let ways = g.P.Post.direction_at (g.P.Post.known c.take_step.new.post) in
     let kept = stays (story_of c.args.history.now) opened p q (g.P.Post.count (g.P.Post.known c.args.post.now)) count (g.P.Post.direction_at (g.P.Post.known c.args.post.now)) ways c.requires c.in-Err.ensures.unchanged (ap g.P.Post.count c.take_step.ensures.post) (λ n. ap (λ k. g.P.Post.direction_at k n) c.take_step.ensures.post) in
-    subst (λ (xs : List Entry). IsKept (record { run = c.args.history.now.run; records = c.args.history.now.records.items; entries = xs }) opened q count ways) (sym {A = List Entry} c.reserve.ensures.items) kept
+    subst (λ (o : Outputs). IsKept (story_of c.make_room.new.history) o q count ways) (sym c.make_room.ensures.opened)
+    (subst (λ (x : Story). IsKept x opened q count ways) (sym c.make_room.ensures.story) kept)

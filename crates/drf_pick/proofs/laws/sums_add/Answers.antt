@@ -1,4 +1,4 @@
-use Rattle.drf_pick.proofs.Summing.{sums_add as law}
+use Rattle.share_sums.proofs.Summing.{sums_add as law}
 use Rattle.drf_pick.proofs.laws.sums_add.Goals as goal
 
 pub returns : goal.returns

@@ -1,5 +1,5 @@
 use Rattle.std.proofs.Common.{◌≡◌, ap, sym, ◌∙◌, refl}
-use Rattle.drf_pick.specs.Sums.{summed}
+use Rattle.share_sums.specs.Sums.{summed}
 use Rattle.drf_pick.specs.Shares.{Holder, is_holder, holding}
 use Rattle.drf_pick.proofs.Places.{first_at, none_at, unchanged}
 use Rattle.drf_pick.proofs.shares.give_in.Goals as goal

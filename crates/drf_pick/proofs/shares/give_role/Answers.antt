@@ -1,5 +1,5 @@
 use Rattle.std.proofs.Common.{◌≡◌, ap, sym, ◌∙◌}
-use Rattle.drf_pick.specs.Sums.{summed}
+use Rattle.share_sums.specs.Sums.{summed}
 use Rattle.drf_pick.specs.Shares.{RoleSum, is_role, role_holding}
 use Rattle.drf_pick.proofs.Places.{first_at, none_at, unchanged}
 use Rattle.drf_pick.proofs.shares.give_role.Goals as goal

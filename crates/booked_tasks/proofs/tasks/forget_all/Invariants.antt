@@ -1,0 +1,7 @@
+use Rattle.std.proofs.Common.{◌≡◌, drop}
+use Rattle.cluster_model.specs.Sides.{forget_all}
+use Rattle.booked_tasks.proofs.tasks.forget_all.Given as goal
+
+-- what the commands that are left let go of what is left now
+abbrev pub invariant-loop-command : goal.invariant-loop-command
+invariant-loop-command l = forget_all (drop l.command-index l.commands) l.tasks.items ≡ forget_all l.commands l.fn.tasks.items

@@ -1,0 +1,236 @@
+//! The booked tasks of one agent.
+
+ghost use Rattle.std.specs.Prelude.{◌≡◌, ◌++◌, ◌∷◌, [], not, filter, map, ◌<◌, OnOk, OnErr};
+ghost use Rattle.cluster_model.specs.Sides.{heard_update, forget, forget_all};
+ghost use Rattle.std.specs.List.{find, list_any};
+ghost use Rattle.std.specs.Option.{option_copied};
+ghost use Rattle.cluster_model.specs.Ids.{same};
+ghost use Rattle.booked_tasks.specs.Tasks.{has_tasks_of, has_key, ended, is_acknowledged};
+
+use crate::ids::{is_same_framework, is_same_launch};
+use listed::Listed;
+use mails::{Booked, Command};
+use names_core::{FrameworkId, LaunchKey, TaskState};
+use std::alloc::{AllocError, Global};
+use std::marker::Model;
+
+/// Booked tasks, in the order in which they were booked or reported.
+#[derive(Drop)]
+pub struct Tasks {
+    items: Vec<Booked>,
+}
+
+impl Model for Tasks {
+    ghost use Rattle.std.specs.Prelude.{List};
+    ghost use Rattle.mails.specs.declared.task.Booked.{Booked};
+
+    ghost Value = { List Booked };
+
+    ghost view = { λ tasks. tasks.items.items };
+}
+
+fn has_key(task: &Booked, key: LaunchKey) -> bool
+    ensures { result ≡ has_key key task.now }
+{
+    is_same_launch(task.job.key, key)
+}
+
+fn has_tasks_of(tasks: &[Booked], framework: FrameworkId) -> bool
+    ensures { result ≡ has_tasks_of framework tasks.now }
+{
+    tasks
+        .iter()
+        .any(|task| is_same_framework(task.job.framework, framework))
+}
+
+fn find_in(tasks: &[Booked], key: LaunchKey) -> Option<&Booked>
+    ensures { option_copied result ≡ find (has_key key) tasks.now }
+{
+    tasks.iter().find(|task| has_key(task, key))
+}
+
+fn is_booked(tasks: &[Booked], key: LaunchKey) -> bool
+    ensures { result ≡ list_any (has_key key) tasks.now }
+{
+    tasks.iter().any(|task| has_key(task, key))
+}
+
+fn end_one(task: &mut Booked, key: LaunchKey)
+    ensures { task.new ≡ ended key task.old }
+{
+    if is_same_launch(task.job.key, key) {
+        task.ended = true;
+    }
+}
+
+fn end_in(tasks: &mut Vec<Booked>, key: LaunchKey)
+    ensures { tasks.new.items ≡ map (ended key) tasks.old.items }
+{
+    for i in 0..tasks.len() {
+        end_one(&mut tasks[i], key);
+    }
+}
+
+/// What an update of a task tells.
+#[derive(Clone, Copy, Drop)]
+pub struct Heard {
+    pub key: LaunchKey,
+    /// The update's number.
+    pub k: u32,
+    pub state: TaskState,
+    /// Whether the task has ended, whichever update this is.
+    pub ended: bool,
+}
+
+fn hear_one(task: &mut Booked, update: &Heard)
+    requires { update.now.k < 4294967295 }
+    ensures { task.new ≡ heard_update update.now.key update.now.k update.now.state update.now.ended task.old }
+{
+    if is_same_launch(task.job.key, update.key) {
+        let count = update.k + 1;
+        if update.ended {
+            task.ended = true;
+        }
+        if task.heard <= count {
+            task.heard = count;
+            task.state = update.state;
+        }
+    }
+}
+
+fn hear_in(tasks: &mut Vec<Booked>, update: &Heard)
+    requires { update.now.k < 4294967295 }
+    ensures { tasks.new.items ≡ map (heard_update update.now.key update.now.k update.now.state update.now.ended) tasks.old.items }
+{
+    for i in 0..tasks.len() {
+        hear_one(&mut tasks[i], update);
+    }
+}
+
+fn is_acknowledged(task: &Booked, key: LaunchKey, k: u32) -> bool
+    ensures { result ≡ is_acknowledged key k task.now }
+{
+    let is_last = task.heard > 0 && task.heard - 1 == k;
+    task.ended && has_key(task, key) && is_last && task.state.is_terminal()
+}
+
+fn forget_acknowledged(tasks: &mut Vec<Booked>, key: LaunchKey, k: u32)
+    ensures { tasks.new.items ≡ filter (λ b. not (is_acknowledged key k b)) tasks.old.items }
+{
+    tasks.retain(|task| !is_acknowledged(task, key, k));
+}
+
+fn forget_of(tasks: &mut Vec<Booked>, framework: FrameworkId)
+    ensures { tasks.new.items ≡ filter (λ b. not (same b.job.framework framework)) tasks.old.items }
+{
+    tasks.retain(|task| !is_same_framework(task.job.framework, framework));
+}
+
+fn forget_key(tasks: &mut Vec<Booked>, key: LaunchKey)
+    ensures { tasks.new.items ≡ filter (λ b. not (has_key key b)) tasks.old.items }
+{
+    tasks.retain(|task| !has_key(task, key));
+}
+
+fn forget_by(tasks: &mut Vec<Booked>, command: &Command)
+    ensures { tasks.new.items ≡ forget command.now tasks.old.items }
+{
+    match command {
+        Command::Launch(..) | Command::Kill(_) => {}
+        Command::Ack(key, k) => forget_acknowledged(tasks, *key, *k),
+        Command::EndFramework(framework) => forget_of(tasks, *framework),
+    }
+}
+
+fn forget_all(tasks: &mut Vec<Booked>, commands: &[Command])
+    ensures { tasks.new.items ≡ forget_all commands.now tasks.old.items }
+{
+    for command in commands {
+        forget_by(tasks, command);
+    }
+}
+
+impl Tasks {
+    /// No task. It takes no memory.
+    pub fn new(alloc: Global) -> Tasks
+        ensures { result ≡ [] }
+    {
+        Tasks {
+            items: Vec::new(alloc),
+        }
+    }
+
+    /// Tasks that an agent reported.
+    pub fn from_list(tasks: Listed<Booked>) -> Tasks
+        ensures { result ≡ tasks }
+    {
+        Tasks {
+            items: tasks.into_vec(),
+        }
+    }
+
+    pub fn as_slice(&self) -> &[Booked]
+        ensures { result.now ≡ self.now }
+    {
+        self.items.as_slice()
+    }
+
+    /// The task of this key, if it is booked here.
+    pub fn find(&self, key: LaunchKey) -> Option<&Booked>
+        ensures { option_copied result ≡ find (has_key key) self.now }
+    {
+        find_in(&self.items, key)
+    }
+
+    /// Whether a task of this key is booked here.
+    pub fn is_booked(&self, key: LaunchKey) -> bool
+        ensures { result ≡ list_any (has_key key) self.now }
+    {
+        is_booked(&self.items, key)
+    }
+
+    /// Whether a task of the framework is booked here, ended or not.
+    pub fn has_tasks_of(&self, framework: FrameworkId) -> bool
+        ensures { result ≡ has_tasks_of framework self.now }
+    {
+        has_tasks_of(&self.items, framework)
+    }
+
+    /// One task more, the last. It fails for want of memory alone.
+    pub fn push(&mut self, task: Booked) -> Result<(), AllocError>
+        ensures ok { OnOk result (self.new ≡ self.old ++ task ∷ []) }
+        ensures err { OnErr result (self.new ≡ self.old) }
+    {
+        self.items.push(task)?;
+        Ok(())
+    }
+
+    /// The task of this key, if it is booked here, has ended.
+    pub fn end(&mut self, key: LaunchKey)
+        ensures { self.new ≡ map (ended key) self.old }
+    {
+        end_in(&mut self.items, key);
+    }
+
+    /// The task of this key isn't booked here any more.
+    pub fn forget(&mut self, key: LaunchKey)
+        ensures { self.new ≡ filter (λ b. not (has_key key b)) self.old }
+    {
+        forget_key(&mut self.items, key);
+    }
+
+    /// An update of the task of its launch key is heard.
+    pub fn hear(&mut self, update: &Heard)
+        requires { update.now.k < 4294967295 }
+        ensures { self.new ≡ map (heard_update update.now.key update.now.k update.now.state update.now.ended) self.old }
+    {
+        hear_in(&mut self.items, update);
+    }
+
+    /// The agent has applied these commands: a task is let go whose end is acknowledged by one, or whose framework one ends.
+    pub fn forget_by(&mut self, commands: &[Command])
+        ensures { self.new ≡ forget_all commands.now self.old }
+    {
+        forget_all(&mut self.items, commands);
+    }
+}

@@ -1,0 +1,65 @@
+//! Who waits for what a step brings out, in 64 groups: those of streams, and those of agents.
+
+use cluster_steps::{Entry, Sent, Step, Verdict};
+use master_state::StreamEvent;
+use names_core::{AgentName, StreamId};
+
+/// The group of those who wait for a stream's events, from 0 to 31.
+pub fn stream_group(stream: StreamId) -> u32 {
+    stream.number() % 32
+}
+
+/// The group of those who wait for mails to an agent, from 32 to 63.
+pub fn agent_group(agent: &AgentName) -> u32 {
+    let mut sum = 0u32;
+    for byte in agent.as_text().as_bytes() {
+        sum = sum.wrapping_add(*byte as u32);
+    }
+    32 + sum % 32
+}
+
+fn bit(group: u32) -> u64 {
+    1u64 << (group % 64)
+}
+
+fn groups_told(events: &[StreamEvent]) -> u64 {
+    let mut bits = 0;
+    for event in events {
+        bits |= bit(stream_group(event.stream));
+    }
+    bits
+}
+
+fn groups_closed(closed: &[StreamId]) -> u64 {
+    let mut bits = 0;
+    for stream in closed {
+        bits |= bit(stream_group(*stream));
+    }
+    bits
+}
+
+fn groups_sent(sent: &[Sent]) -> u64 {
+    let mut bits = 0;
+    for one in sent {
+        if let Sent::ToAgent(mail) = one {
+            bits |= bit(agent_group(&mail.agent));
+        }
+    }
+    bits
+}
+
+/// Whether a step ended a master or an agent: a master's streams close then, and the outputs don't name them.
+fn ends_a_part(entry: &Entry) -> bool {
+    matches!(entry.step, Step::StopMaster) || matches!(entry.verdict, Verdict::OutOfMemory)
+}
+
+/// The groups of those who wait for what a step brought out, a bit for each.
+pub(crate) fn groups_of(entry: &Entry) -> u64 {
+    if ends_a_part(entry) {
+        return u64::MAX;
+    }
+    let outputs = &entry.outputs;
+    groups_told(outputs.events.as_slice())
+        | groups_closed(outputs.closed.as_slice())
+        | groups_sent(outputs.sent.as_slice())
+}

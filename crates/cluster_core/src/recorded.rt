@@ -1,0 +1,106 @@
+//! A cluster as a desk stands over it: it takes one step after another, and records each.
+
+ghost use Rattle.std.specs.Prelude.{◌≡◌};
+
+use crate::cluster::Cluster;
+use crate::given::Given;
+use crate::groups::groups_of;
+use cluster_steps::{ClusterFault, Entry, Step};
+use desk_seats::{FaultKind, Recorded};
+use plain_data::Plain;
+use post_rules::Queues;
+use std::alloc::Global;
+use std::marker::Model;
+
+/// A cluster each of whose calls is handed out once, and its mails once and in their order.
+#[derive(Drop)]
+pub struct RecordedCluster {
+    cluster: Cluster<Queues>,
+}
+
+impl Model for RecordedCluster {
+    ghost use Rattle.cluster_core.specs.Keeping.{Known};
+    ghost use Rattle.post_rules.specs.Queueing.{Post};
+
+    ghost Value = { Known Post };
+
+    ghost view = { λ r. r.cluster };
+}
+
+impl RecordedCluster {
+    pub fn new(cluster: Cluster<Queues>) -> RecordedCluster
+        ensures { result ≡ cluster }
+    {
+        RecordedCluster { cluster }
+    }
+
+    pub fn cluster(&self) -> &Cluster<Queues>
+        ensures { result.now ≡ self.now }
+    {
+        &self.cluster
+    }
+}
+
+impl Recorded for RecordedCluster {
+    ghost use Rattle.cluster_core.specs.Recording as recording;
+
+    type Step = Step;
+
+    type Entry = Entry;
+
+    type Given = Given;
+
+    type Fault = ClusterFault;
+
+    ghost history = { λ c. c.story.entries };
+
+    ghost step_of = { λ e. e.step };
+
+    ghost entry_of = { λ g. g.taken.entry };
+
+    ghost kind_of = { recording.kind_of };
+
+    ghost sound = { λ c. recording.IsSound c };
+
+    ghost takes = { λ old step given new. recording.Takes old step given new };
+
+    ghost may_refuse = { λ c step fault. recording.MayRefuse c step fault };
+
+    ghost alike = { λ old new. recording.AreAlike old new };
+
+    fn step(&mut self, alloc: Global, step: Step) -> Result<Given, ClusterFault> {
+        let sent_before = self.cluster.sent_count();
+        let taken = self.cluster.step(alloc, step)?;
+        Ok(Given { taken, sent_before })
+    }
+
+    fn len(&self) -> u32 {
+        self.cluster.entry_count() as u32
+    }
+
+    fn is_entry(&self, index: usize, given: &Given) -> bool {
+        match self.cluster.history().get(index) {
+            Some(entry) => entry.is_same(&given.taken.entry),
+            None => false,
+        }
+    }
+
+    fn kind(fault: &ClusterFault) -> FaultKind {
+        match fault {
+            ClusterFault::HistoryFull => FaultKind::HistoryFull,
+            ClusterFault::OutOfMemory => FaultKind::OutOfMemory,
+            _ => FaultKind::Step,
+        }
+    }
+
+    fn frees(given: &Given) -> u64 {
+        groups_of(&given.taken.entry)
+    }
+
+    fn is_sound(&self) {
+        self.cluster.is_legal();
+        self.cluster.is_safe();
+    }
+
+    ghost alike_itself = { recording.alike_itself };
+}

@@ -1,0 +1,64 @@
+//! Steps are run over agents that never ran.
+
+ghost use Rattle.std.specs.Prelude.{◌≡◌, ◌≢◌, [], IfOk, IfErr, OnOk};
+ghost use Rattle.cluster_openings.specs.Fresh.{fresh_records};
+ghost use Rattle.cluster_core.specs.Safety.{Safe};
+ghost use Rattle.cluster_core.specs.Running.{Passes, Ran};
+ghost use Rattle.cluster_steps.specs.Steps.{step_of};
+ghost use Rattle.cluster_steps.specs.declared.fault.ClusterFault.TheVariants.{OutOfMemory};
+
+use crate::cluster::Cluster;
+use crate::taken::Taken;
+use agent_sides::Config;
+use cluster_openings::{fresh_agents_open, fresh_records};
+use cluster_steps::{ClusterFault, Step};
+use names_core::Run;
+use plain_data::Plain;
+use post_rules::EverSent;
+use std::alloc::Global;
+
+/// The cluster of configured agents that never ran, in run 1.
+pub fn open_fresh(alloc: Global, config: Config) -> Result<Cluster<EverSent>, ClusterFault>
+    ensures opened { IfOk result (λ cluster. cluster.story ≡ record { run = 1; records = fresh_records config; entries = [] }) }
+    ensures memory { IfErr result (λ fault. fault ≡ OutOfMemory) }
+{
+    fresh_agents_open(&config);
+    let records = fresh_records(alloc, &config)?;
+    Cluster::open(alloc, config, records, Run::new(1))
+}
+
+/// Of a step's refusals `C9 OutOfMemory` alone.
+fn unless_memory(taken: &Result<Taken, ClusterFault>) -> Result<(), ClusterFault>
+    ensures ok { OnOk result (IfErr taken.now (λ fault. fault ≢ OutOfMemory)) }
+    ensures memory { IfErr result (λ fault. fault ≡ OutOfMemory) }
+{
+    match taken {
+        Err(ClusterFault::OutOfMemory) => Err(ClusterFault::OutOfMemory),
+        _ => Ok(()),
+    }
+}
+
+/// Takes a step, or passes it over where it is refused.
+fn pass(cluster: &mut Cluster<EverSent>, alloc: Global, step: &Step) -> Result<(), ClusterFault>
+    ensures passed { OnOk result (Passes cluster.old.story (step_of step.now) cluster.new.story) }
+    ensures memory { IfErr result (λ fault. fault ≡ OutOfMemory) }
+{
+    cluster.has_all_sent();
+    let copy = step.copy()?;
+    let taken = cluster.step(alloc, copy);
+    unless_memory(&taken)
+}
+
+/// Runs steps over agents that never ran, in run 1. A refused step is passed over. Of the faults there is `C9 OutOfMemory` alone.
+pub fn run(alloc: Global, config: Config, steps: &[Step]) -> Result<Cluster<EverSent>, ClusterFault>
+    ensures ran { IfOk result (λ cluster. Ran (fresh_records config) steps.now cluster.story) }
+    ensures safe { IfOk result (λ cluster. Safe cluster.story) }
+    ensures memory { IfErr result (λ fault. fault ≡ OutOfMemory) }
+{
+    let mut cluster = open_fresh(alloc, config)?;
+    for step in steps {
+        pass(&mut cluster, alloc, step)?;
+    }
+    cluster.is_safe();
+    Ok(cluster)
+}

@@ -1,0 +1,183 @@
+//! The answer to a text.
+
+ghost use Rattle.std.specs.Prelude.{◌≡◌, ◌<◌, ◌++◌, length, vec_len, IfOk, IfSome, OnOk, OnErr};
+ghost use Rattle.std.specs.Io.KnownBytes.{Appends};
+ghost use Rattle.device_io.specs.Writes.{AppendsFront};
+ghost use Rattle.device_io.specs.Texts.{all_lines, bodies, last_line};
+ghost use Rattle.device_io.specs.Answers.{after_all, answer, told_all};
+
+use crate::output::{put, read_some};
+use crate::reader::{Reader, first_lines_stay};
+use crate::teller::Teller;
+use std::alloc::{AllocError, Global};
+use std::io::{self, ErrorKind, Read, Write};
+
+/// How many bytes are read at a time, at most.
+const PIECE: usize = 65_536;
+
+/// Why a text wasn't answered to its end.
+#[derive(Debug, Drop)]
+pub enum Stop {
+    /// Memory was refused.
+    Memory,
+    /// The reader or the writer failed.
+    Device(io::Error),
+}
+
+fn write_all<W: Write>(text: &[u8], writer: &mut W) -> Result<(), Stop>
+    ensures ok { OnOk result (Appends (W.contents writer.old) (W.contents writer.new) text.now) }
+    ensures err { OnErr result (AppendsFront (W.contents writer.old) (W.contents writer.new) text.now) }
+{
+    match put(writer, text) {
+        Ok(()) => Ok(()),
+        Err(e) => Err(Stop::Device(e)),
+    }
+}
+
+/// Writes what is told on a line.
+fn answer_one<T: Teller, W: Write>(
+    alloc: Global,
+    teller: &mut T,
+    line: &[u8],
+    writer: &mut W,
+) -> Result<(), Stop>
+    ensures ok { OnOk result (Appends (W.contents writer.old) (W.contents writer.new) (T.told teller.old line.now)) }
+    ensures after { OnOk result (teller.new ≡ T.after teller.old line.now) }
+    ensures err { OnErr result (AppendsFront (W.contents writer.old) (W.contents writer.new) (T.told teller.old line.now)) }
+{
+    let text = match teller.tell(alloc, line) {
+        Ok(text) => text,
+        Err(_) => return Err(Stop::Memory),
+    };
+    write_all(&text, writer)
+}
+
+/// Writes what is told on lines, each before the next one is looked at.
+fn answer_all<T: Teller, W: Write>(
+    alloc: Global,
+    teller: &mut T,
+    lines: &[Vec<u8>],
+    writer: &mut W,
+) -> Result<(), Stop>
+    ensures ok { OnOk result (Appends (W.contents writer.old) (W.contents writer.new) (told_all T.told T.after teller.old (bodies lines.now))) }
+    ensures after { OnOk result (teller.new ≡ after_all T.after teller.old (bodies lines.now)) }
+    ensures err { OnErr result (AppendsFront (W.contents writer.old) (W.contents writer.new) (told_all T.told T.after teller.old (bodies lines.now))) }
+{
+    for line in lines {
+        if let Err(stop) = answer_one(alloc, teller, line, writer) {
+            return Err(stop);
+        }
+    }
+    Ok(())
+}
+
+/// Writes what is told on the last line, which no line feed ended, where it has a byte.
+fn answer_last<T: Teller, W: Write>(
+    alloc: Global,
+    teller: &mut T,
+    rest: &[u8],
+    writer: &mut W,
+) -> Result<(), Stop>
+    ensures ok { OnOk result (Appends (W.contents writer.old) (W.contents writer.new) (told_all T.told T.after teller.old (last_line rest.now))) }
+    ensures after { OnOk result (teller.new ≡ after_all T.after teller.old (last_line rest.now)) }
+    ensures err { OnErr result (AppendsFront (W.contents writer.old) (W.contents writer.new) (told_all T.told T.after teller.old (last_line rest.now))) }
+{
+    if rest.is_empty() {
+        return Ok(());
+    }
+    answer_one(alloc, teller, rest, writer)
+}
+
+fn write_end<T: Teller, W: Write>(alloc: Global, teller: &T, writer: &mut W) -> Result<(), Stop>
+    ensures ok { OnOk result (Appends (W.contents writer.old) (W.contents writer.new) (T.ending teller.now)) }
+    ensures err { OnErr result (AppendsFront (W.contents writer.old) (W.contents writer.new) (T.ending teller.now)) }
+{
+    let text = match teller.end(alloc) {
+        Ok(text) => text,
+        Err(_) => return Err(Stop::Memory),
+    };
+    write_all(&text, writer)
+}
+
+/// Writes what is told on the last line, and at the end.
+fn answer_end<T: Teller, W: Write>(
+    alloc: Global,
+    teller: &mut T,
+    rest: &[u8],
+    writer: &mut W,
+) -> Result<(), Stop>
+    ensures ok { OnOk result (Appends (W.contents writer.old) (W.contents writer.new)
+        (told_all T.told T.after teller.old (last_line rest.now) ++ T.ending (after_all T.after teller.old (last_line rest.now)))) }
+    ensures after { OnOk result (teller.new ≡ after_all T.after teller.old (last_line rest.now)) }
+    ensures err { OnErr result (AppendsFront (W.contents writer.old) (W.contents writer.new)
+        (told_all T.told T.after teller.old (last_line rest.now) ++ T.ending (after_all T.after teller.old (last_line rest.now)))) }
+{
+    if let Err(stop) = answer_last(alloc, teller, rest, writer) {
+        return Err(stop);
+    }
+    write_end(alloc, teller, writer)
+}
+
+/// Answers the text that a reader gives, which it reads by this buffer.
+fn answer_pieces<R: Read, T: Teller, W: Write>(
+    alloc: Global,
+    reader: &mut R,
+    buffer: &mut [u8],
+    teller: &mut T,
+    writer: &mut W,
+) -> Result<(), Stop>
+    requires { 0 < length buffer.old }
+    ensures ok { OnOk result (IfSome (R.remaining reader.old) (λ input. Appends (W.contents writer.old) (W.contents writer.new) (answer T.told T.after T.ending teller.old input))) }
+    ensures after { OnOk result (IfSome (R.remaining reader.old) (λ input. teller.new ≡ after_all T.after teller.old (all_lines input))) }
+    ensures err { OnErr result (IfSome (R.remaining reader.old) (λ input. AppendsFront (W.contents writer.old) (W.contents writer.new) (answer T.told T.after T.ending teller.old input))) }
+{
+    first_lines_stay();
+    let mut lines = Reader::new(alloc);
+    for _ in 0..u64::MAX {
+        let count = match read_some(reader, buffer) {
+            Ok(count) => count,
+            Err(e) => return Err(Stop::Device(e)),
+        };
+        if count == 0 {
+            return answer_end(alloc, teller, &lines.into_rest(), writer);
+        }
+        let ended = match lines.feed(alloc, &buffer[..count]) {
+            Ok(ended) => ended,
+            Err(_) => return Err(Stop::Memory),
+        };
+        if let Err(stop) = answer_all(alloc, teller, &ended, writer) {
+            return Err(stop);
+        }
+        if !teller.goes_on() {
+            return answer_end(alloc, teller, &[], writer);
+        }
+    }
+    Err(Stop::Device(io::Error::from(ErrorKind::Other)))
+}
+
+fn new_buffer(alloc: Global) -> Result<Vec<u8>, AllocError>
+    ensures { IfOk result (λ buffer. 0 < vec_len buffer) }
+{
+    vec![in alloc; 0u8; PIECE]
+}
+
+/// Answers the text that a reader gives, line by line: what is told on a line is written as soon as the line has ended. A line feed ends a line; the last may lack
+/// it. Where the teller takes no further line, nothing further is read.
+pub fn answer_lines<R: Read, T: Teller, W: Write>(
+    alloc: Global,
+    reader: &mut R,
+    teller: &mut T,
+    writer: &mut W,
+) -> Result<(), Stop>
+    // What is written is the answer to the text,
+    ensures ok { OnOk result (IfSome (R.remaining reader.old) (λ input. Appends (W.contents writer.old) (W.contents writer.new) (answer T.told T.after T.ending teller.old input))) }
+    ensures after { OnOk result (IfSome (R.remaining reader.old) (λ input. teller.new ≡ after_all T.after teller.old (all_lines input))) }
+    // or a beginning of it, where memory, the reader or the writer fail.
+    ensures err { OnErr result (IfSome (R.remaining reader.old) (λ input. AppendsFront (W.contents writer.old) (W.contents writer.new) (answer T.told T.after T.ending teller.old input))) }
+{
+    let mut buffer = match new_buffer(alloc) {
+        Ok(buffer) => buffer,
+        Err(_) => return Err(Stop::Memory),
+    };
+    answer_pieces(alloc, reader, &mut buffer, teller, writer)
+}

@@ -1,0 +1,39 @@
+//! What answers lines.
+
+ghost use Rattle.std.specs.Prelude.{◌≡◌, [], List, ℕ, Bool, false, IfOk, OnOk};
+ghost use Rattle.device_io.specs.Texts.{kept};
+
+use std::alloc::{AllocError, Global};
+
+/// Something that tells a text on each line that it is given, until it takes no further ones, and a text at the end. Lines stand without their line feeds. Of a line
+/// of more than 1,048,576 bytes only the first 1,048,577 are given.
+pub trait Teller {
+    /// What it tells on a line.
+    ghost told: { Self → List ℕ → List ℕ };
+
+    /// How it stands behind a line.
+    ghost after: { Self → List ℕ → Self };
+
+    /// Whether it takes a further line.
+    ghost goes_on: { Self → Bool };
+
+    /// What it tells at the end.
+    ghost ending: { Self → List ℕ };
+
+    /// Takes a line. Where memory is refused nothing is known of how it stands.
+    fn tell(&mut self, alloc: Global, line: &[u8]) -> Result<Vec<u8>, AllocError>
+        ensures told { IfOk result (λ text. text.items ≡ told self.old line.now) }
+        ensures after { OnOk result (self.new ≡ after self.old line.now) };
+
+    fn goes_on(&self) -> bool
+        ensures { result ≡ goes_on self.now };
+
+    fn end(&self, alloc: Global) -> Result<Vec<u8>, AllocError>
+        ensures { IfOk result (λ text. text.items ≡ ending self.now) };
+
+    /// Where it takes no further line, one tells nothing and changes nothing.
+    ghost stays: { (s : Self) (line : List ℕ) → goes_on s ≡ false → (told s line ≡ []) × (after s line ≡ s) };
+
+    /// What is kept of a line is enough.
+    ghost enough: { (s : Self) (line : List ℕ) → (told s (kept line) ≡ told s line) × (after s (kept line) ≡ after s line) };
+}

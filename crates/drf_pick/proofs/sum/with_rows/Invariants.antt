@@ -1,6 +1,0 @@
-use Rattle.std.proofs.Common.{◌≡◌, take}
-use Rattle.drf_pick.specs.Sums.{summed}
-use Rattle.drf_pick.proofs.sum.with_rows.Given as goal
-
-abbrev pub invariant-loop-row : goal.invariant-loop-row
-invariant-loop-row l = l.sum.items ≡ summed l.rows (take l.row-index l.more)

@@ -1,5 +1,0 @@
-use Rattle.line_answers.proofs.Progress.{Progress}
-use Rattle.line_answers.proofs.answers.answer_pieces.Given as goal
-
-abbrev pub invariant-loop : goal.invariant-loop
-invariant-loop g l = Progress g.T.Teller.told g.T.Teller.after (g.R.Read.remaining l.initial.reader) (g.R.Read.remaining l.reader) (g.W.Write.contents l.initial.writer) (g.W.Write.contents l.writer) l.lines l.initial.teller l.teller

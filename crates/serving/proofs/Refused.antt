@@ -1,0 +1,13 @@
+-- A refusal of an agent's file is one of the folder.
+use Rattle.std.specs.Prelude.{List}
+use Rattle.std.specs.List.{Contains}
+use Rattle.agent_sides.specs.declared.config.ConfiguredAgent.{ConfiguredAgent}
+use Rattle.serving.specs.Refusals.{IsFileRefusal, IsFolderRefusal}
+use Rattle.serving.specs.declared.folder_fault.FolderFault.{FolderFault}
+use Rattle.serving.specs.declared.folder_fault.FolderFault.TheVariants.{Store, TotalDiffers, NoCluster, OutOfMemory}
+
+pub file_refused : (agents : List ConfiguredAgent) (a : ConfiguredAgent) (fault : FolderFault) → Contains agents a → IsFileRefusal a fault → IsFolderRefusal agents fault
+file_refused agents a (Store path fault) among h = tt
+file_refused agents a (TotalDiffers name) among h = (a, among, h)
+file_refused agents a NoCluster among h = tt
+file_refused agents a OutOfMemory among h = tt

@@ -1,0 +1,132 @@
+//! A folder of stores.
+
+ghost use Rattle.std.specs.Prelude.{◌≡◌, IfOk, IfErr, IfSome, IfNone, OnOk};
+ghost use Rattle.cluster_openings.specs.Records.{AreRecordsOf};
+ghost use Rattle.cluster_model.specs.Agents as agents;
+ghost use Rattle.cluster_model.specs.Openings.{GoodOpening};
+ghost use Rattle.serving.specs.Refusals.{IsFileRefusal, IsFolderRefusal, IsRecordRefusal, IsStoreRefusal};
+ghost use Rattle.serving.specs.declared.folder_fault.FolderFault.TheVariants.{NoCluster};
+
+use crate::cabinet::RecordFile;
+use crate::folder_fault::FolderFault;
+use crate::stores::{FilePlace, load_at, run_at};
+use agent_core::Record;
+use agent_sides::{Config, ConfiguredAgent};
+use cluster_openings::good_opening;
+use names_core::Run;
+use plain_data::Plain;
+use std::alloc::Global;
+
+/// What a folder keeps of a cluster.
+#[derive(Drop)]
+pub struct Folder<'a> {
+    /// The master's run, which was taken for it.
+    pub run: Run,
+    /// The agents' records, one for each.
+    pub records: Vec<Record>,
+    /// Where they are kept, in the order of the configuration.
+    pub files: Vec<RecordFile<'a>>,
+}
+
+/// The next run of the master, from the store of its runs in a folder.
+fn next_run(rt: &HostRuntime, folder: &str) -> Result<Run, FolderFault>
+    ensures { IfErr result IsStoreRefusal }
+{
+    let path = format!(in rt.alloc(); "{folder}/master.db")?;
+    let place = FilePlace::new(rt, path);
+    match run_at(&place) {
+        Ok(run) => Ok(run),
+        Err(fault) => {
+            let path = place.into_path();
+            Err(FolderFault::Store { path, fault })
+        }
+    }
+}
+
+/// The record of an agent: the one that was found, which has its total, or else a fresh one. Z1 where the one that was found has another total, K4 for want of
+/// memory.
+fn record_of(
+    alloc: Global,
+    agent: &ConfiguredAgent,
+    found: Option<Record>,
+) -> Result<Record, FolderFault>
+    ensures found { IfOk result (λ kept. IfSome found (λ d. kept ≡ d)) }
+    ensures fresh { IfOk result (λ kept. IfNone found (kept ≡ agents.fresh agent.now.name agent.now.total)) }
+    ensures total { IfOk result (λ kept. kept.total ≡ agent.now.total) }
+    ensures refused { IfErr result (IsRecordRefusal agent.now found) }
+{
+    let Some(record) = found else {
+        return Ok(Record::fresh(alloc, agent.name.copy()?, agent.total.copy()?));
+    };
+    if !record.parts().total.is_same(&agent.total) {
+        return Err(FolderFault::TotalDiffers {
+            agent: String::from_str(alloc, agent.name.as_text())?,
+        });
+    }
+    Ok(record)
+}
+
+/// The record of an agent, with the file where it is kept.
+fn open_agent<'a>(
+    rt: &'a HostRuntime,
+    folder: &str,
+    agent: &ConfiguredAgent,
+) -> Result<(Record, RecordFile<'a>), FolderFault>
+    ensures total { IfOk result (λ opened. opened.0.total ≡ agent.now.total) }
+    ensures refused { IfErr result (IsFileRefusal agent.now) }
+{
+    let name = agent.name.as_text();
+    let path = format!(in rt.alloc(); "{folder}/agent-{name}.db")?;
+    let place = FilePlace::new(rt, path);
+    let found = match load_at(&place, rt.alloc()) {
+        Ok(found) => found,
+        Err(fault) => {
+            let path = place.into_path();
+            return Err(FolderFault::Store { path, fault });
+        }
+    };
+    let record = record_of(rt.alloc(), agent, found)?;
+    let name = agent.name.copy()?;
+    Ok((record, RecordFile::new(name, place)))
+}
+
+/// Refuses records that are those of no one cluster of these agents in this run.
+fn check_opening(config: &Config, records: &mut [Record], run: Run) -> Result<(), FolderFault>
+    ensures good { OnOk result (GoodOpening run records.new) }
+    ensures records { OnOk result (AreRecordsOf config.now records.new) }
+    ensures refused { IfErr result (λ fault. (fault ≡ NoCluster) × ((GoodOpening run records.old × AreRecordsOf config.now records.old) → ⊥)) }
+{
+    if good_opening(config, records, run) {
+        Ok(())
+    } else {
+        Err(FolderFault::NoCluster)
+    }
+}
+
+/// Opens the stores of a folder, or makes those that lack: takes the master's next run, and reads the agents' records, a fresh one where there is none.
+/// The folder itself is to be there. Refusals come in the order: the store of runs, each agent's store and its total (Z1) in the order of their names, and
+/// then K2 where the records are those of no cluster.
+pub fn open_folder<'a>(
+    rt: &'a HostRuntime,
+    folder: &str,
+    config: &Config,
+) -> Result<Folder<'a>, FolderFault>
+    ensures good { IfOk result (λ opened. GoodOpening opened.run opened.records.items) }
+    ensures records { IfOk result (λ opened. AreRecordsOf config.now opened.records.items) }
+    ensures refused { IfErr result (IsFolderRefusal config.now) }
+{
+    let run = next_run(rt, folder)?;
+    let mut records = Vec::new(rt.alloc());
+    let mut files = Vec::new(rt.alloc());
+    for agent in config.agents() {
+        let (record, file) = open_agent(rt, folder, agent)?;
+        records.push(record)?;
+        files.push(file)?;
+    }
+    check_opening(config, records.as_mut_slice(), run)?;
+    Ok(Folder {
+        run,
+        records,
+        files,
+    })
+}
