@@ -1,8 +1,9 @@
 #!/usr/bin/env python3
-"""A framework of the Mesos scheduler HTTP API: examples/framework.py [PORT] [TASKS]
+"""A framework of the Mesos scheduler HTTP API: examples/framework.py [PORT [TASKS [ID]]]
 
 It subscribes to the master at 127.0.0.1:PORT (5050), launches TASKS tasks (3) of one cpu each as offers come, acknowledges every
-update, prints how each task goes on, and tears itself down when all have finished, or when one ended otherwise.
+update, prints how each task goes on, and tears itself down when all have finished, or when one ended otherwise. With an ID it goes on
+as the framework that had this id before, as behind a restart of the server: it launches nothing, and waits for its TASKS tasks to finish.
 """
 import http.client
 import json
@@ -10,6 +11,7 @@ import sys
 
 PORT = int(sys.argv[1]) if len(sys.argv) > 1 else 5050
 TASKS = int(sys.argv[2]) if len(sys.argv) > 2 else 3
+ID = {"value": sys.argv[3]} if len(sys.argv) > 3 else None
 
 
 def post(body, stream=None):
@@ -38,8 +40,9 @@ def task(name, offer):
 
 
 def main():
-    answer = post({"type": "SUBSCRIBE", "subscribe": {"framework_info": {"user": "me", "name": "example"}}})
-    stream, framework, launched, told = answer.getheader("Mesos-Stream-Id"), None, 0, {}
+    info = {"user": "me", "name": "example", **({"id": ID} if ID else {})}
+    answer = post({"type": "SUBSCRIBE", **({"framework_id": ID} if ID else {}), "subscribe": {"framework_info": info}})
+    stream, framework, launched, told = answer.getheader("Mesos-Stream-Id"), None, TASKS if ID else 0, {}
 
     def call(kind, **members):
         post({"type": kind, "framework_id": framework, **members}, stream)
