@@ -8,6 +8,7 @@ use master_core::Config;
 use names_core::{AgentName, Run};
 use post_rules::Queues;
 use quantity::Resources;
+use role_weights::Weights;
 use std::alloc::Global;
 use std::sync::ledger::Blank;
 use std::sync::{Wait, ledger};
@@ -57,7 +58,7 @@ fn recorded(alloc: Global, config: Config) -> Option<RecordedCluster>
     let Ok(records) = fresh_records(alloc, &config) else {
         return None;
     };
-    match Cluster::<Queues>::open(alloc, config, records, Run::new(1)) {
+    match Cluster::<Queues>::open(alloc, config, Weights::new(alloc), records, Run::new(1)) {
         Ok(cluster) => Some(RecordedCluster::new(cluster)),
         Err(_) => None,
     }

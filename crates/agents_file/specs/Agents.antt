@@ -1,8 +1,9 @@
 -- What the file of the agents says.
 use Rattle.std.specs.Prelude.{◌≡◌, ◌⊎◌, ◌++◌, ◌==◌, ℕ, List, [], ◌∷◌, false, Result, Ok, Err, ⊤}
 use Rattle.std.specs.List.{list_any}
-use Rattle.agent_sides.specs.declared.config.ConfiguredAgent.{ConfiguredAgent}
-use Rattle.step_lines.specs.Configs.{read_config}
+use Rattle.step_lines.specs.Configs.{Configured, read_config}
+use Rattle.step_lines.specs.Configurations.{configured_by}
+use Rattle.step_lines.specs.declared.config.Configuration.{Configuration}
 use Rattle.step_lines.specs.declared.fault.LineRefusal.{LineRefusal}
 use Rattle.agents_file.specs.declared.fault.AgentsFault.{AgentsFault}
 use Rattle.agents_file.specs.declared.fault.AgentsFault.TheVariants.{File, Lines, Config, Memory}
@@ -16,18 +17,18 @@ abbrev pub IsNoLine : List ℕ → Type 0
 IsNoLine text = (line : List ℕ) → IsLine text line → ⊥
 
 -- the text is one line, which the replayer reads so
-abbrev pub ReadsAs : List ℕ → Result (List ConfiguredAgent) LineRefusal → Type 0
+abbrev pub ReadsAs : List ℕ → Result Configured LineRefusal → Type 0
 ReadsAs text due = (line : List ℕ) × IsLine text line × (read_config line ≡ due)
 
--- what is said of a text: the agents that its one line configures, or that it isn't one line, or that its line is no configuration
-abbrev pub Says : List ℕ → Result (List ConfiguredAgent) AgentsFault → Type 0
-Says text (Ok agents) = ReadsAs text (Ok agents)
+-- what is said of a text: what its one line configures, or that it isn't one line, or that its line is no configuration
+abbrev pub Says : List ℕ → Result Configuration AgentsFault → Type 0
+Says text (Ok config) = ReadsAs text (Ok (configured_by config))
 Says text (Err Lines) = IsNoLine text
 Says text (Err Config) = (refusal : LineRefusal) × ReadsAs text (Err refusal)
 Says text (Err Memory) = ⊤
 Says text (Err f) = ⊥
 
 -- what is said of a file: what is said of some text, or that the file can't be read
-abbrev pub IsRead : Result (List ConfiguredAgent) AgentsFault → Type 0
+abbrev pub IsRead : Result Configuration AgentsFault → Type 0
 IsRead (Err (File error)) = ⊤
 IsRead due = (text : List ℕ) × Says text due

@@ -1,13 +1,12 @@
-//! The agents that a text says, and a file.
+//! The agents that a text says, and a file, with the weights of roles.
 
 ghost use Rattle.std.specs.Prelude.{MatchOption};
 ghost use Rattle.agents_file.specs.Agents.{IsLine, IsNoLine, IsRead, Says};
 
 use crate::fault::AgentsFault;
-use agent_sides::Config;
 use std::alloc::Global;
 use std::fs;
-use step_lines::{LineFault, read_config};
+use step_lines::{Configuration, LineFault, read_config};
 
 /// The text of one line, whose end may lack.
 fn only_line(text: &[u8]) -> Option<&[u8]>
@@ -23,9 +22,10 @@ fn only_line(text: &[u8]) -> Option<&[u8]>
     Some(line)
 }
 
-/// The agents that a text says: one line, whose line feed may lack, and which is a configuration as the replayer reads it, with 1 to 256 agents.
+/// The agents that a text says, and the weights of roles: one line, whose line feed may lack, and which is a configuration as the replayer reads it, with 1 to 256
+/// agents.
 /// `X3 BadConfig` where it isn't one line, and where its line is no configuration; `C9 OutOfMemory` may come before that is known.
-pub fn agents_in(alloc: Global, text: &[u8]) -> Result<Config, AgentsFault>
+pub fn agents_in(alloc: Global, text: &[u8]) -> Result<Configuration, AgentsFault>
     ensures { Says text.now result }
 {
     let Some(line) = only_line(text) else {
@@ -38,9 +38,9 @@ pub fn agents_in(alloc: Global, text: &[u8]) -> Result<Config, AgentsFault>
     }
 }
 
-/// The agents that the text of the file at this path says (see `agents_in`); `Z2 DeviceFault` where the file can't be read. Which text a file has no
+/// The agents and weights that the text of the file at this path says (see `agents_in`); `Z2 DeviceFault` where the file can't be read. Which text a file has no
 /// clause says.
-pub fn read_agents(rt: &HostRuntime, path: &str) -> Result<Config, AgentsFault>
+pub fn read_agents(rt: &HostRuntime, path: &str) -> Result<Configuration, AgentsFault>
     ensures { IsRead result }
 {
     match fs::read(rt, path) {

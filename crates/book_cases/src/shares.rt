@@ -23,6 +23,16 @@ fn role(shares: &mut Shares, alloc: Global, text: &str) -> Option<String> {
     told(alloc, &shares.role(alloc, framework, &role))
 }
 
+fn weigh(shares: &mut Shares, alloc: Global, text: &str) -> Option<String> {
+    let (role, weight) = first(text);
+    let role = RoleName::from_text(alloc, role).ok()?;
+    let weight = weight.parse::<u16>().ok()?;
+    if weight < 1 || weight > 1_000 {
+        return None;
+    }
+    told(alloc, &shares.weigh(alloc, &role, weight))
+}
+
 fn give(shares: &mut Shares, alloc: Global, text: &str) -> Option<String> {
     let (framework, rest) = first(text);
     let framework = FrameworkId::from_text(framework).ok()?;
@@ -58,6 +68,7 @@ pub fn answer(shares: &mut Shares, alloc: Global, kind: &str, text: &str) -> Opt
         "enter" => enter(shares, alloc, text),
         "leave" => leave(shares, alloc, text),
         "role" => role(shares, alloc, text),
+        "weigh" => weigh(shares, alloc, text),
         "give" => give(shares, alloc, text),
         "back" => back(shares, alloc, text),
         "pick" => least_of(shares, alloc, text),

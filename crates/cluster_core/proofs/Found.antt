@@ -11,7 +11,7 @@ use Rattle.cluster_model.specs.Agents.{Agent, Draft, live_tasks}
 use Rattle.cluster_model.specs.Sides.{Run}
 use Rattle.cluster_model.specs.Channels.{Channel, InRun, after, open_channel}
 use Rattle.cluster_model.specs.Openings.{GoodOpening}
-use Rattle.cluster_model.specs.Steps.{Marked, history}
+use Rattle.cluster_model.specs.Steps.{Setup, Marked, history}
 use Rattle.cluster_safe.specs.Facts.{Kept, Past, StateOk, drafted}
 use Rattle.cluster_safe.specs.Saved.{IsDraftOf, IsFound}
 use Rattle.cluster_safe.proofs.Histories.{history_ok}
@@ -42,8 +42,8 @@ opened_owners : (records : List Durable) → map owner_of (map open_channel reco
 opened_owners [] = refl
 opened_owners (d ∷ ds) = ap (λ (as_ : List ConfiguredAgent). configured d ∷ as_) (opened_owners ds)
 
-history_owners : (run : ℕ) (records : List Durable) (steps : List Marked) → map owner_of (history run records steps).state.world.channels ≡ map configured records
-history_owners run records steps = reached (λ w. map owner_of w.channels ≡ map configured records) (λ w h e. owners_grown w.channels (after w h).channels (world_grown w h) ∙ e) run records steps (opened_owners records)
+history_owners : (setup : Setup) (records : List Durable) (steps : List Marked) → map owner_of (history setup records steps).state.world.channels ≡ map configured records
+history_owners setup records steps = reached (λ w. map owner_of w.channels ≡ map configured records) (λ w h e. owners_grown w.channels (after w h).channels (world_grown w h) ∙ e) setup records steps (opened_owners records)
 
 -- ---- so are those of the records that are found
 
@@ -65,18 +65,18 @@ found_owners v run (c ∷ cs) [] k n f = absurd f
 found_owners v run (c ∷ cs) (d ∷ ds) k n f =
     ap (λ (a : ConfiguredAgent). a ∷ map configured ds) (found_owner (record { run = run; channel = c }) d k.0 n.0 f.0) ∙ ap (λ (as_ : List ConfiguredAgent). owner_of c ∷ as_) (found_owners v run cs ds k.1 n.1 f.1)
 
-found_configured : (run : ℕ) (records : List Durable) (steps : List Marked) (found : List Durable) → GoodOpening run records → IsFound (history run records steps).state.world.channels found → map configured records ≡ map configured found
-found_configured run records steps found good is =
-    let world = (history_ok run records steps good).sent.world in
-    sym (found_owners _ (history run records steps).state.world.run (history run records steps).state.world.channels found world.kept (history_named run records steps) is ∙ history_owners run records steps)
+found_configured : (setup : Setup) (records : List Durable) (steps : List Marked) (found : List Durable) → GoodOpening setup.run records → IsFound (history setup records steps).state.world.channels found → map configured records ≡ map configured found
+found_configured setup records steps found good is =
+    let world = (history_ok setup records steps good).sent.world in
+    sym (found_owners _ (history setup records steps).state.world.run (history setup records steps).state.world.channels found world.kept (history_named setup records steps) is ∙ history_owners setup records steps)
 
-pub found_of : (run : ℕ) (records : List Durable) (steps : List Marked) (found : List Durable) → GoodOpening run records → AreFound (history run records steps).state found → AreRecordsOf (map configured records) found
-found_of run records steps found good f = of_permuted (map configured records) f.by_agent found f.moved (of_configured (map configured records) f.by_agent (found_configured run records steps f.by_agent good f.is_found))
+pub found_of : (setup : Setup) (records : List Durable) (steps : List Marked) (found : List Durable) → GoodOpening setup.run records → AreFound (history setup records steps).state found → AreRecordsOf (map configured records) found
+found_of setup records steps found good f = of_permuted (map configured records) f.by_agent found f.moved (of_configured (map configured records) f.by_agent (found_configured setup records steps f.by_agent good f.is_found))
 
 -- ---- in the order of the agents they are as they were found
 
-pub found_in_order : (run : ℕ) (records : List Durable) (steps : List Marked) (later : ℕ) (found : List Durable) → GoodOpening run records → (f : AreFound (history run records steps).state found) → GoodOpening later found → in_order (map configured records) found ≡ f.by_agent
-found_in_order run records steps later found good f again = sym (stand_in_order (map configured records) found f.by_agent again.names_once (IsPermutation-sym f.by_agent found f.moved) (found_configured run records steps f.by_agent good f.is_found))
+pub found_in_order : (setup : Setup) (records : List Durable) (steps : List Marked) (later : ℕ) (found : List Durable) → GoodOpening setup.run records → (f : AreFound (history setup records steps).state found) → GoodOpening later found → in_order (map configured records) found ≡ f.by_agent
+found_in_order setup records steps later found good f again = sym (stand_in_order (map configured records) found f.by_agent again.names_once (IsPermutation-sym f.by_agent found f.moved) (found_configured setup records steps f.by_agent good f.is_found))
 
 -- ---- the live tasks of agents that come up over records
 

@@ -14,7 +14,7 @@ use Rattle.mails.specs.declared.record.Durable.{Durable}
 use Rattle.cluster_model.specs.Channels.{Channel}
 use Rattle.cluster_model.specs.Clusters as model
 use Rattle.cluster_model.specs.Clusters.{Cluster, Down, Up}
-use Rattle.cluster_model.specs.Steps.{Marked, history, post_at}
+use Rattle.cluster_model.specs.Steps.{Setup, Marked, history, post_at}
 use Rattle.cluster_laws.specs.Items.{StandIn, channel_at, down_item, item_of, names_of, to_agent, to_master, up_item}
 use Rattle.cluster_laws.specs.Parts.{configured}
 use Rattle.cluster_laws.specs.Premises.{IsDown, IsUp}
@@ -110,7 +110,7 @@ pub record Queued (c : Cluster) (agents : List ConfiguredAgent) (sent : List Ite
 
 -- the law that the agents keep their names
 abbrev pub NamesLaw : Type 0
-NamesLaw = (run : ℕ) (records : List Durable) (steps : List Marked) → names_of (history run records steps).state.world.channels ≡ map (λ d. d.name) records
+NamesLaw = (setup : Setup) (records : List Durable) (steps : List Marked) → names_of (history setup records steps).state.world.channels ≡ map (λ d. d.name) records
 
 configured_names : (records : List Durable) → map (λ (a : ConfiguredAgent). a.name) (map configured records) ≡ map (λ (d : Durable). d.name) records
 configured_names [] = refl
@@ -121,7 +121,7 @@ queued_so law s opened p queued k = record {
   stand = k.stands.as_others.as_items;
   counted = k.counted;
   put = k.put;
-  names = law s.run s.records (map marked_of s.entries) ∙ sym (ap (map (λ (a : ConfiguredAgent). a.name)) k.config ∙ configured_names s.records);
+  names = law s.setup s.records (map marked_of s.entries) ∙ sym (ap (map (λ (a : ConfiguredAgent). a.name)) k.config ∙ configured_names s.records);
 }
 
 -- ---- items, posts and directions

@@ -8,10 +8,11 @@ use Rattle.mails.specs.declared.mail.AgentMail.{AgentMail}
 use Rattle.mails.specs.declared.mail.ToAgent.{ToAgent}
 use Rattle.mails.specs.declared.record.Durable.{Durable}
 use Rattle.cluster_model.specs.Channels.{Channel}
-use Rattle.cluster_model.specs.Clusters.{Called, Cluster, Commit, Deliver, Down, LoseAgent, Post, Send, Step, Take, StopMaster, Up, MasterDown, NoSuchMail, master_of}
+use Rattle.role_weights.specs.Weights.{RoleWeight}
+use Rattle.cluster_model.specs.Clusters.{Allocate, Called, Cluster, Commit, Deliver, Down, LoseAgent, Post, Send, Step, Take, StopMaster, Up, MasterDown, NoSuchMail, master_of}
 use Rattle.cluster_model.specs.Masters.{Master}
 use Rattle.cluster_model.specs.Openings.{GoodOpening}
-use Rattle.cluster_model.specs.Steps.{Done, Marked, answer, channel_of, delivers, delivers_up, history, master_hears, post_at}
+use Rattle.cluster_model.specs.Steps.{Setup, Done, Marked, answer, channel_of, delivers, delivers_up, history, master_hears, post_at}
 use Rattle.cluster_laws.specs.Items.{StandIn}
 use Rattle.cluster_laws.specs.Parts.{Part, parts_of}
 use Rattle.cluster_laws.specs.declared.item.Item.{Item}
@@ -24,9 +25,9 @@ use Rattle.mails.specs.declared.call.Call.{Call}
 use Rattle.told_streams.specs.declared.kept.KeptStream.{KeptStream}
 use Rattle.cluster_parts.specs.Agents.{KeptAgent}
 use Rattle.cluster_parts.specs.Handing.{MayRefuse}
-use Rattle.cluster_parts.specs.Masters.{MasterMakes, Standing, StandingAt, StandingWith, StandsFor, kept_master}
+use Rattle.cluster_parts.specs.Masters.{MasterMakes, Standing, StandingAt, StandingBy, StandingWith, StandsFor, kept_master}
 use Rattle.cluster_parts.specs.Moves.{ComeInOrder, Makes, Reached, kept_agents, kept_part}
-use Rattle.cluster_core.specs.Parts.{AreParts, PartsOf, Takes, record_of}
+use Rattle.cluster_core.specs.Parts.{AreParts, ArePartsBy, PartsOf, Takes, record_of}
 use Rattle.cluster_parts.specs.Restarting.{Restarts, StandingOver}
 use Rattle.cluster_parts.specs.declared.masters.Made.{Made}
 use Rattle.cluster_core.specs.declared.parts.Parts.{Parts}
@@ -98,6 +99,9 @@ agent_takes c s made p q of m gives drafts master streams run tick = record {
 pub standing : (p : Parts) → AreParts p → Standing p.master p.items p.streams
 standing p (c, of) = (c, of.reached, of.stands.as_others)
 
+pub standing_by : (weights : List RoleWeight) (p : Parts) → ArePartsBy weights p → StandingBy weights p.master p.items p.streams
+standing_by weights p (c, of, same) = (c, of.reached, same, of.stands.as_others)
+
 pub standing_at : (p : Parts) → AreParts p → StandingAt p.last_tick p.master p.items p.streams
 standing_at p (c, of) = (c, of.reached, of.stands.as_moment, of.stands.as_others)
 
@@ -151,14 +155,14 @@ each_kept to fallen [] h = tt
 each_kept to fallen (x ∷ cs) h = (h.0, each_kept to fallen cs h.1)
 
 abbrev pub OrderLaw : Type 0
-OrderLaw = (run : ℕ) (records : List Durable) (steps : List Marked) (sent : List Item) (n : ℕ) (to : ToAgent) → GoodOpening run records →
-    StandIn (history run records steps).state sent → slice_get sent n ≡ Some (items.ToAgent to) → Each (λ x. is_in_order x.agent (Mail to) ≡ true) (history run records steps).state.world.channels
+OrderLaw = (setup : Setup) (records : List Durable) (steps : List Marked) (sent : List Item) (n : ℕ) (to : ToAgent) → GoodOpening setup.run records →
+    StandIn (history setup records steps).state sent → slice_get sent n ≡ Some (items.ToAgent to) → Each (λ x. is_in_order x.agent (Mail to) ≡ true) (history setup records steps).state.world.channels
 
 pub come_in_order : OrderLaw → (p : Parts) → AreParts p → ComeInOrder p.agents.items p.items
 come_in_order law p (c, of) = λ n to e.
     let r = of.reached in
     let each : Each (λ x. is_in_order x.agent (Mail to) ≡ true) c.world.channels =
-    subst (λ (x : Cluster). Each (λ y. is_in_order y.agent (Mail to) ≡ true) x.world.channels) (sym r.is) (law r.run r.records r.steps p.items n to r.good (subst (λ (x : Cluster). StandIn x p.items) r.is of.stands.as_others.as_items) e) in
+    subst (λ (x : Cluster). Each (λ y. is_in_order y.agent (Mail to) ≡ true) x.world.channels) (sym r.is) (law r.setup r.records r.steps p.items n to r.good (subst (λ (x : Cluster). StandIn x p.items) r.is of.stands.as_others.as_items) e) in
     subst (λ (as_ : List KeptAgent). Each (λ a. is_in_order a.part.agent (Mail to) ≡ true) as_) (sym of.stands.as_agents) (each_kept to c.fallen c.world.channels each)
 
 -- ---- what each step makes, of its own contract
@@ -170,6 +174,13 @@ pub by_master : (s : Step) (r : Result Made ClusterFault) (p q : Parts) → ((v 
     IfOk r (λ made. (c : Cluster) → Reached c → StandsFor c p.master p.items p.streams → MasterMakes c s c.last_tick made q.master q.items q.streams) → AllTake s r p q
 by_master s (Err e) p q none agents run tick h = tt
 by_master s (Ok made) p q none agents run tick h = λ c of. master_takes c s c.last_tick made p q of (h c of.reached of.stands.as_others) agents run (tick ∙ sym of.stands.as_moment) (none made.verdict)
+
+pub by_round : (weights : List RoleWeight) (r : Result Made ClusterFault) (p q : Parts) → q.agents.items ≡ p.agents.items → q.run ≡ p.run → q.last_tick ≡ p.last_tick →
+    IfOk r (λ made. (c : Cluster) → Reached c → c.weights ≡ weights → StandsFor c p.master p.items p.streams → MasterMakes c Allocate c.last_tick made q.master q.items q.streams) →
+    IfOk r (λ made. (c : Cluster) → PartsOf c p → c.weights ≡ weights → Takes c Allocate made q)
+by_round weights (Err e) p q agents run tick h = tt
+by_round weights (Ok made) p q agents run tick h = λ c of same.
+    master_takes c Allocate c.last_tick made p q of (h c of.reached same of.stands.as_others) agents run (tick ∙ sym of.stands.as_moment) refl
 
 pub by_loss : (name : List ℕ) (r : Result Made ClusterFault) (p q : Parts) (as_ : List KeptAgent) → as_ ≡ p.agents.items → q.agents.items ≡ p.agents.items → q.run ≡ p.run → q.last_tick ≡ p.last_tick →
     IfOk r (λ made. (c : Cluster) → Reached c → as_ ≡ kept_agents c → StandsFor c p.master p.items p.streams → MasterMakes c (LoseAgent name) c.last_tick made q.master q.items q.streams) → AllTake (LoseAgent name) r p q

@@ -9,7 +9,7 @@ use Rattle.mails.specs.declared.record.Durable.{Durable}
 use Rattle.cluster_model.specs.Channels.{Channel}
 use Rattle.cluster_model.specs.Clusters.{Cluster, Post, Called, Down, Up}
 use Rattle.cluster_model.specs.Openings.{GoodOpening}
-use Rattle.cluster_model.specs.Steps.{Done, Marked, history, step_marked}
+use Rattle.cluster_model.specs.Steps.{Setup, Done, Marked, history, step_marked}
 use Rattle.cluster_laws.specs.Items.{Stand, StandIn, channel_at, down_item, item_of, new_items, to_agent, to_master, up_item}
 use Rattle.cluster_laws.specs.declared.item.Item.{Item}
 use Rattle.cluster_laws.specs.declared.item.Item.TheVariants as items
@@ -18,8 +18,8 @@ use Rattle.cluster_core.specs.Putting.{ArePut, IsPut, Puts, direction_of, way_of
 
 -- the law that a step sends its items behind those that were sent before
 abbrev pub ItemsLaw : Type 0
-ItemsLaw = (run : ℕ) (records : List Durable) (steps : List Marked) (s : Marked) (d : Done) (sent : List Item) → GoodOpening run records →
-    step_marked (history run records steps).state s ≡ Ok d → StandIn (history run records steps).state sent → StandIn d.after (sent ++ new_items s.step d)
+ItemsLaw = (setup : Setup) (records : List Durable) (steps : List Marked) (s : Marked) (d : Done) (sent : List Item) → GoodOpening setup.run records →
+    step_marked (history setup records steps).state s ≡ Ok d → StandIn (history setup records steps).state sent → StandIn d.after (sent ++ new_items s.step d)
 
 -- ---- items are what stands for the posts
 

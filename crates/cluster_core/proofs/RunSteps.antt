@@ -4,7 +4,7 @@ use Rattle.std.specs.Prelude.{◌≢◌, IfErr, IfOk, OnErr, OnOk}
 use Rattle.std.proofs.lemmas.Bool.Decides.{nat_tests}
 use Rattle.mails.specs.declared.record.Durable.{Durable}
 use Rattle.cluster_model.specs.Clusters.{Step, StepRefusal}
-use Rattle.cluster_model.specs.Steps.{History, Marked, extended, history, opening, step_marked, unmarked}
+use Rattle.cluster_model.specs.Steps.{Setup, History, Marked, extended, history, opening, step_marked, unmarked}
 use Rattle.cluster_steps.specs.declared.entry.Entry.{Entry}
 use Rattle.cluster_steps.specs.declared.fault.ClusterFault.{ClusterFault}
 use Rattle.cluster_steps.specs.declared.fault.ClusterFault.TheVariants as faults
@@ -22,7 +22,7 @@ use Rattle.cluster_core.proofs.Posted.{never_withheld}
 -- ---- the history goes on
 
 history_more : (s : Story) (e : Entry) → history_of (with_entry s e) ≡ extended (history_of s) (step_marked (state_of s) (marked_of e))
-history_more s e = ap (history s.run s.records) (map_more s.entries e) ∙ extended_more (opening s.run s.records) (map marked_of s.entries) (marked_of e)
+history_more s e = ap (history s.setup s.records) (map_more s.entries e) ∙ extended_more (opening s.setup s.records) (map marked_of s.entries) (marked_of e)
 
 taken_passes : (s new : Story) (step : code.Step) (taken : Taken) → IsTaken s step taken new → Passes s (step_of step) new
 taken_passes s new step taken t =
@@ -31,7 +31,7 @@ taken_passes s new step taken t =
     record {
       fell = fell e.verdict;
       goes_on = ap history_of t.tells ∙ history_more s e ∙ ap (λ (x : code.Step). extended (history_of s) (step_marked (state_of s) (marked_as (fell e.verdict) (step_of x)))) same;
-      same_run = ap (λ (x : Story). x.run) t.tells;
+      same_setup = ap (λ (x : Story). x.setup) t.tells;
       same_records = ap (λ (x : Story). x.records) t.tells;
     }
 
@@ -39,7 +39,7 @@ passed_over : (s new : Story) (step : Step) (r : StepRefusal) → new ≡ s → 
 passed_over s new step r same e = record {
   fell = false;
   goes_on = ap history_of same ∙ sym (ap (extended (history_of s)) e);
-  same_run = ap (λ (x : Story). x.run) same;
+  same_setup = ap (λ (x : Story). x.setup) same;
   same_records = ap (λ (x : Story). x.records) same;
 }
 
@@ -74,22 +74,22 @@ map_of_more : (ss : List code.Step) (s : code.Step) → map step_of (ss ++ s ∷
 map_of_more [] s = refl
 map_of_more (x ∷ ss) s = ap (λ (ys : List Step). step_of x ∷ ys) (map_of_more ss s)
 
-pub none_ran : (records : List Durable) (s : Story) → s ≡ record { run = 1; records = records; entries = [] } → Ran records [] s
-none_ran records s e = record {
+pub none_ran : (setup : Setup) (records : List Durable) (s : Story) → s ≡ record { setup = setup; records = records; entries = [] } → Ran setup records [] s
+none_ran setup records s e = record {
   marks = [];
   of_steps = refl;
-  in_run = ap (λ (x : Story). x.run) e;
+  opened = ap (λ (x : Story). x.setup) e;
   over = ap (λ (x : Story). x.records) e;
   tells = ap history_of e;
 }
 
-pub one_ran : (records : List Durable) (steps : List code.Step) (s new : Story) (step : code.Step) → Ran records steps s → Passes s (step_of step) new → Ran records (steps ++ step ∷ []) new
-one_ran records steps s new step r p =
+pub one_ran : (setup : Setup) (records : List Durable) (steps : List code.Step) (s new : Story) (step : code.Step) → Ran setup records steps s → Passes s (step_of step) new → Ran setup records (steps ++ step ∷ []) new
+one_ran setup records steps s new step r p =
     let m = marked_as p.fell (step_of step) in
     record {
       marks = r.marks ++ m ∷ [];
       of_steps = map_step_more r.marks m ∙ ap (λ (ss : List Step). ss ++ step_of step ∷ []) r.of_steps ∙ sym (map_of_more steps step);
-      in_run = p.same_run ∙ r.in_run;
+      opened = p.same_setup ∙ r.opened;
       over = p.same_records ∙ r.over;
-      tells = p.goes_on ∙ ap (λ (h : History). extended h (step_marked h.state m)) r.tells ∙ sym (extended_more (opening 1 records) r.marks m);
+      tells = p.goes_on ∙ ap (λ (h : History). extended h (step_marked h.state m)) r.tells ∙ sym (extended_more (opening setup records) r.marks m);
     }

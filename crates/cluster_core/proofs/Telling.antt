@@ -6,7 +6,7 @@ use Rattle.mails.specs.declared.record.Durable.{Durable}
 use Rattle.cluster_model.specs.Clusters as model
 use Rattle.cluster_model.specs.Clusters.{Cluster, StepRefusal}
 use Rattle.cluster_model.specs.Ids.{last_number}
-use Rattle.cluster_model.specs.Steps.{Done, History, Marked, answer, extend_all, extended, fallen_answer, history, opening, step_marked, unmarked}
+use Rattle.cluster_model.specs.Steps.{Setup, Done, History, Marked, answer, extend_all, extended, fallen_answer, history, opening, step_marked, unmarked}
 use Rattle.cluster_laws.specs.Items.{StandIn, new_items}
 use Rattle.cluster_laws.specs.Parts.{configured}
 use Rattle.cluster_laws.specs.Premises.{AreRecorded}
@@ -23,7 +23,7 @@ use Rattle.cluster_parts.specs.Handing.{MayRefuse}
 use Rattle.cluster_core.specs.Keeping.{IsKept, IsRefused, IsRefusedFirst, IsTaken, entry_made, taken_made}
 use Rattle.post_rules.specs.declared.direction.Direction.{Direction}
 use Rattle.cluster_parts.specs.Moves.{Reached}
-use Rattle.cluster_core.specs.Parts.{AreParts, PartsOf, Same, Stands, Takes, record_of}
+use Rattle.cluster_core.specs.Parts.{AreParts, ArePartsBy, PartsOf, Same, Stands, Takes, record_of}
 use Rattle.cluster_core.specs.Putting.{ArePut}
 use Rattle.cluster_core.specs.Stories.{IsLegal, Legal, Story, history_of, state_of, with_entry}
 use Rattle.cluster_parts.specs.declared.masters.Made.{Made}
@@ -36,7 +36,7 @@ use Rattle.cluster_parts.proofs.Mastering.{extended_more}
 
 -- the law that a state counts the entries of its history
 abbrev pub CountLaw : Type 0
-CountLaw = (run : ℕ) (records : List Durable) (steps : List Marked) → (history run records steps).state.entries ≡ length (history run records steps).entries
+CountLaw = (setup : Setup) (records : List Durable) (steps : List Marked) → (history setup records steps).state.entries ≡ length (history setup records steps).entries
 
 counts : (h : History) (es : List Entry) (new : Cluster) → Legal h.state es new → length (extend_all h (map marked_of es)).entries ≡ length h.entries + length es
 counts h [] new l = omega arith
@@ -50,9 +50,9 @@ counts h (e ∷ es) new (d, step, is, rest) =
 
 pub state_counts : CountLaw → (s : Story) → IsLegal s → (state_of s).entries ≡ suc (length s.entries)
 state_counts law s l =
-    let all : length (history_of s).entries ≡ length (opening s.run s.records).entries + length s.entries = counts (opening s.run s.records) s.entries (state_of s) l.legal in
-    let first : length (opening s.run s.records).entries ≡ 1 = refl in
-    let counted : (state_of s).entries ≡ length (history_of s).entries = law s.run s.records (map marked_of s.entries) in
+    let all : length (history_of s).entries ≡ length (opening s.setup s.records).entries + length s.entries = counts (opening s.setup s.records) s.entries (state_of s) l.legal in
+    let first : length (opening s.setup s.records).entries ≡ 1 = refl in
+    let counted : (state_of s).entries ≡ length (history_of s).entries = law s.setup s.records (map marked_of s.entries) in
     omega (arith, all, first, counted)
 
 pub has_room : CountLaw → (s : Story) → IsLegal s → length s.entries < 4294967294 → nat_le last_number (state_of s).entries ≡ false
@@ -70,13 +70,21 @@ is_full law s l h = let e : (state_of s).entries ≡ suc (length s.entries) = st
 -- ---- what is known of the parts
 
 abbrev pub reached : CountLaw → (s : Story) → IsLegal s → length s.entries < 4294967294 → Reached (state_of s)
-reached law s l h = record { run = s.run; records = s.records; steps = map marked_of s.entries; good = l.good; recorded = l.recorded; is = refl; room = has_room law s l h }
+reached law s l h = record { setup = s.setup; records = s.records; steps = map marked_of s.entries; good = l.good; recorded = l.recorded; is = refl; room = has_room law s l h }
 
 pub parts_of_story : CountLaw → (s : Story) (opened : Outputs) (p : Parts) (count : ℕ) (ways : ℕ → Option Direction) → IsKept s opened p count ways → length s.entries < 4294967294 → PartsOf (state_of s) p
 parts_of_story law s opened p count ways k h = record { reached = reached law s k.legal h; config = k.config; stands = k.stands }
 
 pub are_parts : CountLaw → (s : Story) (opened : Outputs) (p : Parts) (count : ℕ) (ways : ℕ → Option Direction) → IsKept s opened p count ways → length s.entries < 4294967294 → AreParts p
 are_parts law s opened p count ways k h = (state_of s, parts_of_story law s opened p count ways k h)
+
+-- their rounds of offers go by the story's weights
+
+abbrev pub WeightsLaw : Type 0
+WeightsLaw = (setup : Setup) (records : List Durable) (steps : List Marked) → (history setup records steps).state.weights ≡ setup.weights
+
+pub parts_by : CountLaw → WeightsLaw → (s : Story) (opened : Outputs) (p : Parts) (count : ℕ) (ways : ℕ → Option Direction) → IsKept s opened p count ways → length s.entries < 4294967294 → ArePartsBy s.setup.weights p
+parts_by law weights s opened p count ways k h = (state_of s, parts_of_story law s opened p count ways k h, weights s.setup s.records (map marked_of s.entries))
 
 -- ---- refusals
 
@@ -121,8 +129,8 @@ map_more (x ∷ es) e = ap (λ (ms : List Marked). marked_of x ∷ ms) (map_more
 
 state_more : (s : Story) (e : Entry) (d : Done) → step_marked (state_of s) (marked_of e) ≡ Ok d → state_of (with_entry s e) ≡ d.after
 state_more s e d step =
-    ap (λ (ms : List Marked). (history s.run s.records ms).state) (map_more s.entries e)
-    ∙ ap (λ (x : History). x.state) (extended_more (opening s.run s.records) (map marked_of s.entries) (marked_of e))
+    ap (λ (ms : List Marked). (history s.setup s.records ms).state) (map_more s.entries e)
+    ∙ ap (λ (x : History). x.state) (extended_more (opening s.setup s.records) (map marked_of s.entries) (marked_of e))
     ∙ ap (λ (x : Result Done StepRefusal). (extended (history_of s) x).state) step
 
 legal_more : (c : Cluster) (es : List Entry) (e : Entry) (m : Cluster) (d : Done) → Legal c es m → step_marked m (marked_of e) ≡ Ok d → e ≡ entry_of e.step d.entry → Legal c (es ++ e ∷ []) d.after
@@ -133,7 +141,7 @@ pub story_more : (s : Story) (e : Entry) (d : Done) → IsLegal s → step_marke
 story_more s e d l step is = record {
   good = l.good;
   recorded = l.recorded;
-  legal = subst (Legal (opening s.run s.records).state (s.entries ++ e ∷ [])) (sym (state_more s e d step)) (legal_more (opening s.run s.records).state s.entries e (state_of s) d l.legal step is);
+  legal = subst (Legal (opening s.setup s.records).state (s.entries ++ e ∷ [])) (sym (state_more s e d step)) (legal_more (opening s.setup s.records).state s.entries e (state_of s) d l.legal step is);
 }
 
 made_marks : CountLaw → (s : Story) (step : Step) (made : Made) (q : Parts) → IsLegal s → length s.entries < 4294967294 → (t : Takes (state_of s) (step_of step) made q) → step_marked (state_of s) (marked_of (entry_made step made)) ≡ Ok t.done
@@ -154,7 +162,7 @@ keeps_on law items_law s opened p q count before more ways between news step mad
       stands = subst (λ (c : Cluster). Stands c q) (sym (state_more s e t.done step_is)) t.stands;
       counted = counted;
       put = (
-          let behind_all : StandIn t.done.after (p.items ++ new_items (step_of step) t.done) = items_law s.run s.records (map marked_of s.entries) (marked_of e) t.done p.items k.legal.good step_is k.stands.as_others.as_items in
+          let behind_all : StandIn t.done.after (p.items ++ new_items (step_of step) t.done) = items_law s.setup s.records (map marked_of s.entries) (marked_of e) t.done p.items k.legal.good step_is k.stands.as_others.as_items in
           let is : q.items ≡ p.items ++ new_items (step_of step) t.done = stand_alike t.done.after q.items (p.items ++ new_items (step_of step) t.done) t.stands.as_others.as_items behind_all in
           puts_on p.config q.config p.items q.items (new_items (step_of step) t.done) before ways between news config is there k.put same older behind
           );
@@ -194,9 +202,9 @@ stays s opened p q count more ways news k same m alike = record {
 
 -- ---- the opening
 
-pub opens_so : (run : ℕ) (records : List Durable) (es : List Entry) (opened : Outputs) (p : Parts) (o : Opened) (count : ℕ) (ways : ℕ → Option Direction) → es ≡ [] → GoodOpening run records → AreRecorded records → Opens run records o → p.config ≡ map configured records → p.agents.items ≡ o.agents.items →
-    p.master ≡ o.master → p.items ≡ o.items → p.streams ≡ o.streams → p.run ≡ run → p.last_tick ≡ 0 → opened ≡ o.outputs → count ≡ length p.items → ArePut 0 p.config p.items ways → IsKept (record { run = run; records = records; entries = es }) opened p count ways
-opens_so run records [] opened p o count ways none good recorded opens config agents master items streams in_run tick outputs counted put = record {
+pub opens_so : (setup : Setup) (records : List Durable) (es : List Entry) (opened : Outputs) (p : Parts) (o : Opened) (count : ℕ) (ways : ℕ → Option Direction) → es ≡ [] → GoodOpening setup.run records → AreRecorded records → Opens setup records o → p.config ≡ map configured records → p.agents.items ≡ o.agents.items →
+    p.master ≡ o.master → p.items ≡ o.items → p.streams ≡ o.streams → p.run ≡ setup.run → p.last_tick ≡ 0 → opened ≡ o.outputs → count ≡ length p.items → ArePut 0 p.config p.items ways → IsKept (record { setup = setup; records = records; entries = es }) opened p count ways
+opens_so setup records [] opened p o count ways none good recorded opens config agents master items streams in_run tick outputs counted put = record {
   legal = record { good = good; recorded = recorded; legal = refl };
   short = omega arith;
   begins = outputs ∙ opens.outputs;
@@ -205,7 +213,7 @@ opens_so run records [] opened p o count ways none good recorded opens config ag
     as_agents = agents ∙ opens.agents;
     as_others = record {
       as_master = master ∙ opens.stands.as_master;
-      as_items = subst (StandIn (opening run records).state) (sym items) opens.stands.as_items;
+      as_items = subst (StandIn (opening setup records).state) (sym items) opens.stands.as_items;
       as_streams = streams ∙ opens.stands.as_streams;
       within = opens.stands.within;
     };
@@ -215,4 +223,4 @@ opens_so run records [] opened p o count ways none good recorded opens config ag
   counted = counted;
   put = put;
 }
-opens_so run records (e ∷ es) opened p o count ways none good recorded opens config agents master items streams in_run tick outputs counted put = absurd (let clash : e ∷ es ≡ [] = none in cc)
+opens_so setup records (e ∷ es) opened p o count ways none good recorded opens config agents master items streams in_run tick outputs counted put = absurd (let clash : e ∷ es ≡ [] = none in cc)

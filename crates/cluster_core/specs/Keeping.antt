@@ -34,13 +34,13 @@ taken_made step made = record { entry = record { step = step; verdict = made.ver
 
 -- the story that a history tells
 abbrev pub story_of : History → Story
-story_of h = record { run = h.run; records = h.records.items; entries = h.entries.items }
+story_of h = record { setup = record { run = h.run; weights = h.weights }; records = h.records.items; entries = h.entries.items }
 
 -- its story is legal, its parts stand for the state in which the story ends, and the post has had all that was sent, each item in its direction
 pub record IsKept (s : Story) (opened : Outputs) (p : Parts) (count : ℕ) (directions : ℕ → Option Direction) : Type 0 where
   pub legal : IsLegal s
   pub short : length s.entries < 4294967295
-  pub begins : opened ≡ outputs_of (open_cluster s.run s.records).entry.outs
+  pub begins : opened ≡ outputs_of (open_cluster s.setup s.records).entry.outs
   pub config : p.config ≡ map configured s.records
   pub stands : Stands (state_of s) p
   pub counted : count ≡ length p.items

@@ -1,6 +1,7 @@
 -- The parts of a cluster, and what a step makes of them.
 use Rattle.std.specs.Prelude.{◌≡◌, if◌then◌else◌, List, map, Option, None, Ok}
 use Rattle.mails.specs.declared.record.Durable.{Durable}
+use Rattle.role_weights.specs.Weights.{RoleWeight}
 use Rattle.cluster_model.specs.Clusters.{Cluster, Step, Prepare}
 use Rattle.cluster_model.specs.Steps.{Done, answer, fallen_answer}
 use Rattle.cluster_laws.specs.Parts.{configured}
@@ -28,6 +29,10 @@ pub record PartsOf (c : Cluster) (p : Parts) : Type 0 where
 
 abbrev pub AreParts : Parts → Type 0
 AreParts p = (c : Cluster) × PartsOf c p
+
+-- with these weights of roles
+abbrev pub ArePartsBy : List RoleWeight → Parts → Type 0
+ArePartsBy weights p = (c : Cluster) × PartsOf c p × (c.weights ≡ weights)
 
 -- nothing changed
 pub record Same (old new : Parts) : Type 0 where

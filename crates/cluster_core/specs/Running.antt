@@ -2,7 +2,7 @@
 use Rattle.std.specs.Prelude.{◌≡◌, Bool, List, map}
 use Rattle.mails.specs.declared.record.Durable.{Durable}
 use Rattle.cluster_model.specs.Clusters as model
-use Rattle.cluster_model.specs.Steps.{Marked, extended, history, step_marked}
+use Rattle.cluster_model.specs.Steps.{Setup, Marked, extended, history, step_marked}
 use Rattle.cluster_steps.specs.Steps.{step_of}
 use Rattle.cluster_steps.specs.declared.step.Step.{Step}
 use Rattle.cluster_core.specs.Stories.{Story, history_of, state_of}
@@ -14,13 +14,13 @@ marked_as fell step = record { fell = fell; step = step }
 pub record Passes (s : Story) (step : model.Step) (new : Story) : Type 0 where
   pub fell : Bool
   pub goes_on : history_of new ≡ extended (history_of s) (step_marked (state_of s) (marked_as fell step))
-  pub same_run : new.run ≡ s.run
+  pub same_setup : new.setup ≡ s.setup
   pub same_records : new.records ≡ s.records
 
--- a story of run 1 over these records, whose history is that of the steps, each with a mark
-pub record Ran (records : List Durable) (steps : List Step) (s : Story) : Type 0 where
+-- a story that was opened so over these records, whose history is that of the steps, each with a mark
+pub record Ran (setup : Setup) (records : List Durable) (steps : List Step) (s : Story) : Type 0 where
   pub marks : List Marked
   pub of_steps : map (λ m. m.step) marks ≡ map step_of steps
-  pub in_run : s.run ≡ 1
+  pub opened : s.setup ≡ setup
   pub over : s.records ≡ records
-  pub tells : history_of s ≡ history 1 records marks
+  pub tells : history_of s ≡ history setup records marks

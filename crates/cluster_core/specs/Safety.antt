@@ -18,15 +18,15 @@ use Rattle.cluster_core.specs.Stories.{Story, history_of, state_of}
 
 -- the offers that were made and the accepted ones that were used, over a whole story
 abbrev pub trail_of : Story → List Mark
-trail_of s = trail (history_of s).happenings (open_world s.run s.records) []
+trail_of s = trail (history_of s).happenings (open_world s.setup.run s.records) []
 
 -- all entries of a story since its opening, the newest first, each with the state before it
 abbrev pub moments_of : Story → List Moment
-moments_of s = moments s.run s.records (map marked_of s.entries)
+moments_of s = moments s.setup s.records (map marked_of s.entries)
 
 -- the framework acknowledges only updates that were handed out before
 abbrev pub IsHonest : Numbered → Story → Type 0
-IsHonest framework s = Honest framework (opening s.run s.records) (map marked_of s.entries)
+IsHonest framework s = Honest framework (opening s.setup s.records) (map marked_of s.entries)
 
 -- a task of the framework was launched under the key, or stood under it at the opening
 abbrev pub IsKeyIn : Story → Numbered → Numbered → Type 0
@@ -34,7 +34,7 @@ IsKeyIn s framework key = IsKeyOf framework key (jobs_of (trail_of s) ++ recorde
 
 -- what the framework has acknowledged of the key is a beginning of the updates of its task
 abbrev pub AcknowledgesInOrder : Story → Numbered → Numbered → Type 0
-AcknowledgesInOrder s framework key = IsBeginningOf (updates_of key (history_of s).happenings (open_world s.run s.records)) (acknowledged_by s.records framework key (state_of s).posts)
+AcknowledgesInOrder s framework key = IsBeginningOf (updates_of key (history_of s).happenings (open_world s.setup.run s.records)) (acknowledged_by s.records framework key (state_of s).posts)
 
 -- of all that was ever offered and launched, also of tasks that have left their records: no offer id and no launch key is given out twice, each use of
 -- offers is covered by offers that were made before and that no use before it used, and the offers and the uses are those of the entries

@@ -10,7 +10,7 @@ ghost use Rattle.cluster_steps.specs.Steps.{step_of};
 use crate::parts::Parts;
 use crate::taken::{History, Taken};
 use agent_sides::ConfiguredAgent;
-use cluster_laws::{Item, sent_items_stand, states_count_entries};
+use cluster_laws::{Item, sent_items_stand, states_count_entries, weights_stay};
 use cluster_parts::Made;
 use cluster_steps::{ClusterFault, Entry, Step, StepCause};
 use names_core::AgentName;
@@ -156,9 +156,10 @@ pub fn advance<P: Post>(
 {
     sent_items_stand();
     states_count_entries();
+    weights_stay();
     let copy = make_room(history, &step)?;
     let before = parts.items.as_slice().len();
-    match parts.take_step(post, alloc, &step) {
+    match parts.take_step(post, alloc, &history.weights, &step) {
         Ok(made) => {
             hand_on(post, parts, before, &step);
             Ok(write_down(history, step, copy, made))

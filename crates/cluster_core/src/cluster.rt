@@ -11,7 +11,7 @@ ghost use Rattle.cluster_laws.specs.Parts.{configured};
 ghost use Rattle.cluster_model.specs.Clusters as model;
 ghost use Rattle.cluster_model.specs.Clusters.{master_of};
 ghost use Rattle.cluster_model.specs.Openings.{GoodOpening};
-ghost use Rattle.cluster_model.specs.Steps.{open_cluster};
+ghost use Rattle.cluster_model.specs.Steps.{Setup, open_cluster};
 ghost use Rattle.cluster_parts.specs.Agents.{agent_in, drafted_in, recorded, recorded_in};
 ghost use Rattle.cluster_parts.specs.Handing.{IsGiven};
 ghost use Rattle.cluster_parts.specs.Moves.{kept_agents};
@@ -34,6 +34,7 @@ use master_core::Config;
 use names_core::{AgentName, Run};
 use post_rules::Post;
 use quantity::Resources;
+use role_weights::Weights;
 use std::alloc::Global;
 use std::marker::Model;
 
@@ -57,16 +58,18 @@ impl<P: Post + Drop> Model for Cluster<P> {
 
 impl<P: Post + Drop> Cluster<P> {
     /// The cluster of configured agents that come up over their records, given in any order, whose first master begins this run and greets
-    /// each in the order of their names. Of the faults there is `C9 OutOfMemory` alone.
+    /// each in the order of their names. Its rounds of offers go by these weights of roles. Of the faults there is `C9 OutOfMemory` alone.
     pub fn open(
         alloc: Global,
         config: Config,
+        weights: Weights,
         records: Vec<Record>,
         run: Run,
     ) -> Result<Cluster<P>, ClusterFault>
         requires good { GoodOpening run records.items }
         requires records { AreRecordsOf config records.items }
-        ensures opened { IfOk result (λ cluster. cluster.story ≡ opened_over run config records.items) }
+        ensures opened { IfOk result (λ cluster. cluster.story
+            ≡ opened_over (record { run = run; weights = weights }) config records.items) }
         ensures memory { IfErr result (λ fault. fault ≡ OutOfMemory) }
     {
         let records = put_in_order(&config, records, run);
@@ -77,6 +80,7 @@ impl<P: Post + Drop> Cluster<P> {
         Ok(Cluster {
             history: History {
                 run,
+                weights,
                 records,
                 opened: opened.outputs,
                 entries: Vec::new(alloc),
@@ -137,8 +141,8 @@ impl<P: Post + Drop> Cluster<P> {
     pub fn found_records_open(&self)
         ensures good { (later : ℕ) (found : List Record) → (state_of self.now.story).world.run.number < later → AreFound (state_of self.now.story) found → GoodOpening later found }
         ensures records { (found : List Record) → AreFound (state_of self.now.story) found → AreRecordsOf (map configured self.now.story.records) found }
-        ensures live { (later : ℕ) (found : List Record) → (state_of self.now.story).world.run.number < later → (f : AreFound (state_of self.now.story) found) →
-            live_in (state_of (opened_over later (map configured self.now.story.records) found)) ≡ live_of f.by_agent }
+        ensures live { (later : Setup) (found : List Record) → (state_of self.now.story).world.run.number < later.run →
+            (f : AreFound (state_of self.now.story) found) → live_in (state_of (opened_over later (map configured self.now.story.records) found)) ≡ live_of f.by_agent }
     {
         stopped_stories_open_again();
         let _ = &self.history;
@@ -167,7 +171,8 @@ impl<P: Post + Drop> Cluster<P> {
 
     /// What the opening brought out: a Hello to every agent.
     pub fn opened(&self) -> &Outputs
-        ensures { result.now ≡ outputs_of (open_cluster self.now.story.run self.now.story.records).entry.outs }
+        ensures { result.now ≡ outputs_of
+            (open_cluster self.now.story.setup self.now.story.records).entry.outs }
     {
         &self.history.opened
     }

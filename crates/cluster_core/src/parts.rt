@@ -1,7 +1,7 @@
 //! The parts of a cluster, and the step that each makes of them.
 
 ghost use Rattle.std.specs.Prelude.{◌≡◌, false, true, length, IfOk, IfErr, OnErr};
-ghost use Rattle.cluster_core.specs.Parts.{AreParts, PartsOf, Same, Takes};
+ghost use Rattle.cluster_core.specs.Parts.{AreParts, ArePartsBy, PartsOf, Same, Takes};
 ghost use Rattle.cluster_model.specs.Clusters.{Allocate, Cluster, Commit, Deliver, HangUp, LoseAgent, Prepare, Send, StopAfter, StopBefore, StopMaster, Take, Tick};
 ghost use Rattle.cluster_parts.specs.Handing.{IsGiven, MayRefuse, is_withheld};
 ghost use Rattle.cluster_parts.specs.Moves.{Refuses};
@@ -17,6 +17,7 @@ use master_core::{Config, Master};
 use names_core::{AgentName, Run, StreamId};
 use plain_data::Plain;
 use post_rules::Post;
+use role_weights::Weights;
 use std::alloc::Global;
 use told_streams::Streams;
 
@@ -90,10 +91,16 @@ impl Parts {
         )
     }
 
-    /// The master makes a round of offers.
-    fn allocate<P: Post>(&mut self, post: &mut P, alloc: Global) -> Result<Made, ClusterFault>
-        requires { AreParts self.old }
-        ensures made { IfOk result (λ made. (c : Cluster) → PartsOf c self.old → Takes c Allocate made self.new) }
+    /// The master makes a round of offers, by the weights of roles.
+    fn allocate<P: Post>(
+        &mut self,
+        post: &mut P,
+        alloc: Global,
+        weights: &Weights,
+    ) -> Result<Made, ClusterFault>
+        requires { ArePartsBy weights.now self.old }
+        ensures made { IfOk result (λ made. (c : Cluster) → PartsOf c self.old →
+            c.weights ≡ weights.now → Takes c Allocate made self.new) }
         ensures refused { IfErr result (λ fault. (c : Cluster) → PartsOf c self.old → Refuses c Allocate fault) }
         ensures unchanged { OnErr result (Same self.old self.new) }
         ensures config { self.new.config ≡ self.old.config }
@@ -106,6 +113,7 @@ impl Parts {
             &mut self.streams,
             post,
             alloc,
+            weights,
         )
     }
 
@@ -300,15 +308,18 @@ impl Parts {
         Ok(ends_with(alloc, Verdict::Ok))
     }
 
-    /// Makes a step, of which the post has room for what it sends.
+    /// Makes a step, of which the post has room for what it sends; a round of offers goes by the weights of roles.
     pub fn take_step<P: Post>(
         &mut self,
         post: &mut P,
         alloc: Global,
+        weights: &Weights,
         step: &Step,
     ) -> Result<Made, ClusterFault>
-        requires { AreParts self.old }
-        ensures made { IfOk result (λ made. (c : Cluster) → PartsOf c self.old → Takes c (step_of step.now) made self.new) }
+        requires parts { AreParts self.old }
+        requires weights { ArePartsBy weights.now self.old }
+        ensures made { IfOk result (λ made. (c : Cluster) → PartsOf c self.old →
+            c.weights ≡ weights.now → Takes c (step_of step.now) made self.new) }
         ensures refused { IfErr result (λ fault. (c : Cluster) → PartsOf c self.old → MayRefuse c (P.gives (P.known post.old)) (step_of step.now) fault) }
         ensures unchanged { OnErr result (Same self.old self.new) }
         ensures config { self.new.config ≡ self.old.config }
@@ -319,7 +330,7 @@ impl Parts {
         match step {
             Step::Send { stream, call } => self.send(post, alloc, *stream, call),
             Step::Deliver(number) => self.deliver(post, alloc, *number),
-            Step::Allocate => self.allocate(post, alloc),
+            Step::Allocate => self.allocate(post, alloc, weights),
             Step::Tick(now) => self.tick(post, alloc, *now),
             Step::LoseAgent(agent) => self.lose_agent(post, alloc, agent),
             Step::HangUp(stream) => self.hang_up(post, alloc, *stream),

@@ -15,16 +15,26 @@ use cluster_steps::{ClusterFault, Step};
 use names_core::Run;
 use plain_data::Plain;
 use post_rules::EverSent;
+use role_weights::Weights;
 use std::alloc::Global;
 
-/// The cluster of configured agents that never ran, in run 1.
-pub fn open_fresh(alloc: Global, config: Config) -> Result<Cluster<EverSent>, ClusterFault>
-    ensures opened { IfOk result (λ cluster. cluster.story ≡ record { run = 1; records = fresh_records config; entries = [] }) }
+/// The cluster of configured agents that never ran, in run 1, with these weights of roles.
+pub fn open_fresh(
+    alloc: Global,
+    config: Config,
+    weights: Weights,
+) -> Result<Cluster<EverSent>, ClusterFault>
+    ensures opened { IfOk result (λ cluster. cluster.story
+        ≡ record {
+          setup = record { run = 1; weights = weights };
+          records = fresh_records config;
+          entries = [];
+        }) }
     ensures memory { IfErr result (λ fault. fault ≡ OutOfMemory) }
 {
     fresh_agents_open(&config);
     let records = fresh_records(alloc, &config)?;
-    Cluster::open(alloc, config, records, Run::new(1))
+    Cluster::open(alloc, config, weights, records, Run::new(1))
 }
 
 /// Of a step's refusals `C9 OutOfMemory` alone.
@@ -49,13 +59,19 @@ fn pass(cluster: &mut Cluster<EverSent>, alloc: Global, step: &Step) -> Result<(
     unless_memory(&taken)
 }
 
-/// Runs steps over agents that never ran, in run 1. A refused step is passed over. Of the faults there is `C9 OutOfMemory` alone.
-pub fn run(alloc: Global, config: Config, steps: &[Step]) -> Result<Cluster<EverSent>, ClusterFault>
-    ensures ran { IfOk result (λ cluster. Ran (fresh_records config) steps.now cluster.story) }
+/// Runs steps over agents that never ran, in run 1, with these weights of roles. A refused step is passed over. Of the faults there is `C9 OutOfMemory` alone.
+pub fn run(
+    alloc: Global,
+    config: Config,
+    weights: Weights,
+    steps: &[Step],
+) -> Result<Cluster<EverSent>, ClusterFault>
+    ensures ran { IfOk result (λ cluster. Ran (record { run = 1; weights = weights })
+        (fresh_records config) steps.now cluster.story) }
     ensures safe { IfOk result (λ cluster. Safe cluster.story) }
     ensures memory { IfErr result (λ fault. fault ≡ OutOfMemory) }
 {
-    let mut cluster = open_fresh(alloc, config)?;
+    let mut cluster = open_fresh(alloc, config, weights)?;
     for step in steps {
         pass(&mut cluster, alloc, step)?;
     }

@@ -6,6 +6,7 @@ ghost use Rattle.cluster_core.specs.Stopping.{AreFound, live_in, live_of};
 ghost use Rattle.cluster_core.specs.Stories.{IsLegal, Story, opened_over, state_of};
 ghost use Rattle.cluster_laws.specs.Parts.{configured};
 ghost use Rattle.cluster_model.specs.Openings.{GoodOpening};
+ghost use Rattle.cluster_model.specs.Steps.{Setup};
 ghost use Rattle.mails.specs.declared.record.Durable.{Durable as Record};
 
 use cluster_laws::masters_leave_agents;
@@ -15,7 +16,10 @@ use cluster_safe::found_records_open_again;
 pub(crate) fn stopped_stories_open_again()
     ensures good { (s : Story) (later : ℕ) (found : List Record) → IsLegal s → (state_of s).world.run.number < later → AreFound (state_of s) found → GoodOpening later found }
     ensures records { (s : Story) (found : List Record) → IsLegal s → AreFound (state_of s) found → AreRecordsOf (map configured s.records) found }
-    ensures live { (s : Story) (later : ℕ) (found : List Record) → IsLegal s → (state_of s).world.run.number < later → (f : AreFound (state_of s) found) → live_in (state_of (opened_over later (map configured s.records) found)) ≡ live_of f.by_agent }
+    ensures live { (s : Story) (later : Setup) (found : List Record) → IsLegal s →
+        (state_of s).world.run.number < later.run → (f : AreFound (state_of s) found) →
+        live_in (state_of (opened_over later (map configured s.records) found))
+        ≡ live_of f.by_agent }
 {
     found_records_open_again();
     masters_leave_agents();

@@ -3,12 +3,15 @@
 use agent_core::Record;
 use cluster_steps::{Entry, Outputs};
 use names_core::Run;
+use role_weights::Weights;
 
 /// How a cluster was opened, and every entry since.
 #[derive(Drop)]
 pub struct History {
     /// The first run of the master.
     pub run: Run,
+    /// The weights of roles, which stay.
+    pub weights: Weights,
     /// The agents' records at the opening.
     pub records: Vec<Record>,
     /// What the opening brought out.

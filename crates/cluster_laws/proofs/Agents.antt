@@ -12,8 +12,7 @@ use Rattle.cluster_model.specs.Agents.{Agent, Draft, hears_mail, next_of, recove
 use Rattle.cluster_model.specs.Sides.{Run, Side, halted, restarted, side_step}
 use Rattle.cluster_model.specs.Channels.{Channel, AgentStep, Draw, DrawMail, Adopt, StopWithout, StopWith, drawn, drawn_mail, adopted, stopped_with, is_own, agent_step, ChannelStep, ByMaster, Hear, ByAgent, heard_mail, happens, World, Happening, At, TearDown, Restart, Halt, behind, in_front, at_agent, with_side, after, open_channel}
 use Rattle.cluster_laws.proofs.Lists.{each_append}
-use Rattle.cluster_laws.proofs.Sides.{SameOwner, side_owner, heard_owner}
-use Rattle.cluster_laws.proofs.Grown.{agent_itself}
+use Rattle.cluster_laws.proofs.Sides.{side_owner, heard_owner}
 
 abbrev pub AllOk : (Draft → Type 0) → Result Draft AgentRefusal → Type 0
 AllOk P (Ok d) = P d

@@ -2,7 +2,6 @@
 use Rattle.std.proofs.Common.{◌≡◌, ℕ, suc, Bool, true, false, List, [], ◌∷◌, ◌++◌, map, Option, Some, None, Result, Ok, Err, refl, sym, ap, ◌∙◌, subst, append-nil, slice_get, bytes_eq, nat_lt, nat_le}
 use Rattle.std.specs.Prelude.{⊤, if◌then◌else◌}
 use Rattle.names_core.specs.Ids.{Numbered}
-use Rattle.mails.specs.declared.call.Call.{Call}
 use Rattle.mails.specs.declared.mail.MasterMail.{MasterMail}
 use Rattle.mails.specs.declared.mail.AgentMail.{AgentMail}
 use Rattle.mails.specs.declared.cause.Cause.TheVariants.{Start, Executor, Again}
@@ -19,7 +18,7 @@ use Rattle.cluster_model.specs.Rounds.{allocated}
 use Rattle.cluster_model.specs.Clusters.{Stream, Post, Called, Down, Up, Cluster, master_of, StepCause, ByStart, ByAgain, ByExecutor, ByMail, Step, Send, Deliver, Allocate, Tick, LoseAgent, HangUp, Prepare, Commit, StopBefore, StopAfter, StopMaster, Take, StepRefusal, MasterDown, AgentDown, DraftOpen, NoDraft, HistoryFull, TimeBack, Fine, AgentRefused, Fell}
 use Rattle.cluster_model.specs.Openings.{NamesOnce}
 use Rattle.cluster_model.specs.Steps.{Effect, Done, done, does, happening, effect_of, master_does, master_hears, channel_of, delivers_up, delivers, post_at, with_tick, ticks_at, stream_at, hangs_up, loses_agent, hello_to, drafts, draws_mail_at, draws_mail, prepares, commits, up_again, stops, with_master, at_channel, is_fallen, if_up, by_draft, without_draft, with_draft, takes_event, takes, answer, master_falls, new_master_falls, fallen_too, agent_falls, instead, fallen_answer, Marked, step_marked}
-use Rattle.cluster_laws.specs.Items.{names_of, Item, Stand, StandIn, items_sent, call_of}
+use Rattle.cluster_laws.specs.Items.{names_of, Item, StandIn, items_sent, call_of}
 use Rattle.cluster_laws.proofs.Sent.{happened_stand, stand_append}
 
 abbrev pub Posted : List Item → Cluster → Done → Type 0
@@ -28,6 +27,7 @@ Posted calls c d = (sent : List Item) → NamesOnce (names_of c.world.channels) 
 pub record Followed (calls : List Item) (c : Cluster) (d : Done) : Type 0 where
   pub world : d.after.world ≡ after_all d.happenings c.world
   pub entries : d.after.entries ≡ suc c.entries
+  pub weights : d.after.weights ≡ c.weights
   pub posted : Posted calls c d
 
 abbrev pub Follows : List Item → Cluster → Result Done StepRefusal → Type 0
@@ -39,13 +39,14 @@ by_test calls c true x y p q = p
 by_test calls c false x y p q = q
 
 pub effect_follows : (calls : List Item) (c : Cluster) (e : Effect) → Followed calls c (done c e)
-effect_follows calls c e = record { world = refl; entries = refl; posted = λ sent once h. happened_stand calls e.happenings c.world c.posts sent once h }
+effect_follows calls c e = record { world = refl; entries = refl; weights = refl; posted = λ sent once h. happened_stand calls e.happenings c.world c.posts sent once h }
 
 -- the same of a cluster that differs only beside its world, its posts and its entries
-beside_follows : (calls : List Item) (c : Cluster) (other : Cluster) (e : Effect) → other.world ≡ c.world → other.posts ≡ c.posts → other.entries ≡ c.entries → Followed calls other (done other e) → Followed calls c (done other e)
-beside_follows calls c other e w p n f = record {
+beside_follows : (calls : List Item) (c : Cluster) (other : Cluster) (e : Effect) → other.world ≡ c.world → other.posts ≡ c.posts → other.entries ≡ c.entries → other.weights ≡ c.weights → Followed calls other (done other e) → Followed calls c (done other e)
+beside_follows calls c other e w p n v f = record {
   world = f.world ∙ ap (after_all e.happenings) w;
   entries = f.entries ∙ ap suc n;
+  weights = f.weights ∙ v;
   posted = λ sent once h. f.posted sent (subst (λ x. NamesOnce (names_of x.channels)) (sym w) once) (rw (w, p) h);
 }
 
@@ -108,26 +109,26 @@ by_draft_follows calls c (Some d) without with_one p q = q
 stops_follows : (calls : List Item) (c : Cluster) (stop : AgentStep) (x : Channel) → Follows calls c (stops c stop x)
 stops_follows calls c stop x =
     let e = happening c Fine (At x.side.name (ByAgent stop) ∷ []) in
-    beside_follows calls c (up_again c x.side.name) e refl refl refl (effect_follows calls (up_again c x.side.name) e)
+    beside_follows calls c (up_again c x.side.name) e refl refl refl refl (effect_follows calls (up_again c x.side.name) e)
 
 ticks_follows : (calls : List Item) (c : Cluster) (now : ℕ) → Follows calls c (ticks_at c now)
 ticks_follows calls c now =
     let e = effect_of [] (ticked (master_of c) now) in
     by_test calls c (nat_lt now c.last_tick) (Err TimeBack) (master_does (with_tick c now) (ticked (master_of c) now)) tt
-    (beside_follows calls c (with_tick c now) e refl refl refl (effect_follows calls (with_tick c now) e))
+    (beside_follows calls c (with_tick c now) e refl refl refl refl (effect_follows calls (with_tick c now) e))
 
 takes_event_follows : (calls : List Item) (c : Cluster) (id : Numbered) (e : Option Event) → Follows calls c (takes_event c id e)
 takes_event_follows calls c id None = tt
-takes_event_follows calls c id (Some e) = record { world = refl; entries = refl; posted = λ sent once h. subst (StandIn c) (sym (append-nil sent)) h }
+takes_event_follows calls c id (Some e) = record { world = refl; entries = refl; weights = refl; posted = λ sent once h. subst (StandIn c) (sym (append-nil sent)) h }
 
 takes_follows : (calls : List Item) (c : Cluster) (id : Numbered) (s : Option Stream) → Follows calls c (takes c id s)
 takes_follows calls c id None = tt
 takes_follows calls c id (Some s) = takes_event_follows calls c id (slice_get s.events s.taken)
 
 answer_follows : (c : Cluster) (s : Step) → Follows (call_of s) c (answer c s)
-answer_follows c (Send stream call) = record { world = refl; entries = refl; posted = λ sent once h. stand_append c.world.channels c.posts (Called stream call ∷ []) sent (call_of (Send stream call)) h refl }
+answer_follows c (Send stream call) = record { world = refl; entries = refl; weights = refl; posted = λ sent once h. stand_append c.world.channels c.posts (Called stream call ∷ []) sent (call_of (Send stream call)) h refl }
 answer_follows c (Deliver number) = with_master_follows [] c (delivers c (post_at c number)) (delivers_follows [] c (post_at c number))
-answer_follows c Allocate = with_master_follows [] c (master_does c (allocated (master_of c))) (master_follows [] c (allocated (master_of c)))
+answer_follows c Allocate = with_master_follows [] c (master_does c (allocated c.weights (master_of c))) (master_follows [] c (allocated c.weights (master_of c)))
 answer_follows c (Tick now) = with_master_follows [] c (ticks_at c now) (ticks_follows [] c now)
 answer_follows c (LoseAgent agent) = at_channel_follows [] c (channel_of c agent) (λ x. with_master c (loses_agent c x)) (λ x. with_master_follows [] c (loses_agent c x) (master_follows [] c (agent_lost (master_of c) x.side)))
 answer_follows c (HangUp stream) = with_master_follows [] c (hangs_up c stream (stream_at c stream)) (hangs_up_follows [] c stream (stream_at c stream))
@@ -154,12 +155,12 @@ falls_follow : (calls : List Item) (c : Cluster) → Followed calls c (master_fa
 falls_follow calls c = effect_follows calls c (record (happening c Fell (Halt ∷ [])) { registers = new_registers })
 
 tick_falls_follow : (c : Cluster) (now : ℕ) → Followed [] c (master_falls (with_tick c now))
-tick_falls_follow c now = beside_follows [] c (with_tick c now) (record (happening (with_tick c now) Fell (Halt ∷ [])) { registers = new_registers }) refl refl refl (falls_follow [] (with_tick c now))
+tick_falls_follow c now = beside_follows [] c (with_tick c now) (record (happening (with_tick c now) Fell (Halt ∷ [])) { registers = new_registers }) refl refl refl refl (falls_follow [] (with_tick c now))
 
 agent_falls_follow : (c : Cluster) (agent : List ℕ) (stop : AgentStep) → Followed [] c (agent_falls c agent stop)
 agent_falls_follow c agent stop =
     let e = happening (fallen_too c agent) Fell (At agent (ByAgent stop) ∷ []) in
-    beside_follows [] c (fallen_too c agent) e refl refl refl (effect_follows [] (fallen_too c agent) e)
+    beside_follows [] c (fallen_too c agent) e refl refl refl refl (effect_follows [] (fallen_too c agent) e)
 
 fallen_follows : (c : Cluster) (s : Step) → Follows (call_of s) c (fallen_answer c s)
 fallen_follows c (Send stream call) = answer_follows c (Send stream call)

@@ -1,14 +1,14 @@
 -- What holds after every list of steps.
-use Rattle.std.proofs.Common.{◌≡◌, ℕ, suc, List, [], ◌∷◌, ◌++◌, length, length-append, map, Result, Ok, Err, refl, sym, ap, ◌∙◌, subst, arith}
+use Rattle.std.proofs.Common.{◌≡◌, List, [], ◌∷◌, ◌++◌, length, length-append, map, Result, Ok, Err, refl, sym, ◌∙◌, subst, arith}
 use Rattle.mails.specs.declared.record.Durable.{Durable}
 use Rattle.cluster_model.specs.Channels.{World, Happening, open_channel, open_world, after, after_all}
-use Rattle.cluster_model.specs.Clusters.{Cluster, StepRefusal}
+use Rattle.cluster_model.specs.Clusters.{StepRefusal}
 use Rattle.cluster_model.specs.Openings.{NamesOnce, GoodOpening}
-use Rattle.cluster_model.specs.Steps.{Done, greets_all, open_cluster, opened_over, Marked, step_marked, History, opening, extended, extend_all, history}
-use Rattle.cluster_laws.specs.Items.{names_of, Item, Stand, StandIn, items_sent, call_of, new_items}
+use Rattle.cluster_model.specs.Steps.{Setup, Done, greets_all, open_cluster, opened_over, Marked, step_marked, History, opening, extended, extend_all, history}
+use Rattle.cluster_laws.specs.Items.{names_of, Item, StandIn, items_sent, call_of, new_items}
 use Rattle.cluster_laws.proofs.Lists.{cons_same}
 use Rattle.cluster_laws.proofs.Grown.{worlds_named}
-use Rattle.cluster_laws.proofs.Follows.{Follows, Followed, effect_follows, step_follows}
+use Rattle.cluster_laws.proofs.Follows.{Follows, effect_follows, step_follows}
 
 -- what one happening keeps, all keep
 happened : (Q : World → Type 0) → ((w : World) (h : Happening) → Q w → Q (after w h)) → (hs : List Happening) (w : World) → Q w → Q (after_all hs w)
@@ -23,8 +23,8 @@ extended_all : (Q : World → Type 0) → ((w : World) (h : Happening) → Q w �
 extended_all Q f h [] q = q
 extended_all Q f h (s ∷ ss) q = extended_all Q f (extended h (step_marked h.state s)) ss (answered Q f h (call_of s.step) (step_marked h.state s) (step_follows h.state s) q)
 
-pub reached : (Q : World → Type 0) → ((w : World) (h : Happening) → Q w → Q (after w h)) → (run : ℕ) (records : List Durable) (steps : List Marked) → Q (open_world run records) → Q (history run records steps).state.world
-reached Q f run records steps q = extended_all Q f (opening run records) steps (happened Q f (greets_all (opened_over run records)).happenings (open_world run records) q)
+pub reached : (Q : World → Type 0) → ((w : World) (h : Happening) → Q w → Q (after w h)) → (setup : Setup) (records : List Durable) (steps : List Marked) → Q (open_world setup.run records) → Q (history setup records steps).state.world
+reached Q f setup records steps q = extended_all Q f (opening setup records) steps (happened Q f (greets_all (opened_over setup records)).happenings (open_world setup.run records) q)
 
 -- names
 
@@ -32,26 +32,26 @@ opened_names : (records : List Durable) → names_of (map open_channel records) 
 opened_names [] = refl
 opened_names (d ∷ ds) = cons_same d.name d.name (names_of (map open_channel ds)) (map (λ (x : Durable). x.name) ds) refl (opened_names ds)
 
-pub history_names : (run : ℕ) (records : List Durable) (steps : List Marked) → names_of (history run records steps).state.world.channels ≡ map (λ d. d.name) records
-history_names run records steps = reached (λ w. names_of w.channels ≡ map (λ (d : Durable). d.name) records) (λ w h e. worlds_named (h ∷ []) w ∙ e) run records steps (opened_names records)
+pub history_names : (setup : Setup) (records : List Durable) (steps : List Marked) → names_of (history setup records steps).state.world.channels ≡ map (λ d. d.name) records
+history_names setup records steps = reached (λ w. names_of w.channels ≡ map (λ (d : Durable). d.name) records) (λ w h e. worlds_named (h ∷ []) w ∙ e) setup records steps (opened_names records)
 
-pub history_once : (run : ℕ) (records : List Durable) (steps : List Marked) → GoodOpening run records → NamesOnce (names_of (history run records steps).state.world.channels)
-history_once run records steps good = subst NamesOnce (sym (history_names run records steps)) good.names_once
+pub history_once : (setup : Setup) (records : List Durable) (steps : List Marked) → GoodOpening setup.run records → NamesOnce (names_of (history setup records steps).state.world.channels)
+history_once setup records steps good = subst NamesOnce (sym (history_names setup records steps)) good.names_once
 
 -- items
 
-pub opening_stands : (run : ℕ) (records : List Durable) → GoodOpening run records → StandIn (opening run records).state (items_sent [] (open_cluster run records).entry.outs.sent)
-opening_stands run records good = (effect_follows [] (opened_over run records) (greets_all (opened_over run records))).posted [] (subst NamesOnce (sym (opened_names records)) good.names_once) refl
+pub opening_stands : (setup : Setup) (records : List Durable) → GoodOpening setup.run records → StandIn (opening setup records).state (items_sent [] (open_cluster setup records).entry.outs.sent)
+opening_stands setup records good = (effect_follows [] (opened_over setup records) (greets_all (opened_over setup records))).posted [] (subst NamesOnce (sym (opened_names records)) good.names_once) refl
 
 step_stands : (h : History) (calls : List Item) (r : Result Done StepRefusal) (d : Done) (sent : List Item) → Follows calls h.state r → NamesOnce (names_of h.state.world.channels) → r ≡ Ok d → StandIn h.state sent → StandIn d.after (sent ++ items_sent calls d.entry.outs.sent)
 step_stands h calls (Err refusal) d sent follows once e stand = absurd cc
 step_stands h calls (Ok x) d sent follows once e stand = let is : x ≡ d = cc in subst (λ (y : Done). StandIn y.after (sent ++ items_sent calls y.entry.outs.sent)) is (follows.posted sent once stand)
 
-pub history_stands : (run : ℕ) (records : List Durable) (steps : List Marked) (s : Marked) (d : Done) (sent : List Item) → GoodOpening run records → step_marked (history run records steps).state s ≡ Ok d →
-    StandIn (history run records steps).state sent → StandIn d.after (sent ++ new_items s.step d)
-history_stands run records steps s d sent good e stand =
-    let h = history run records steps in
-    step_stands h (call_of s.step) (step_marked h.state s) d sent (step_follows h.state s) (history_once run records steps good) e stand
+pub history_stands : (setup : Setup) (records : List Durable) (steps : List Marked) (s : Marked) (d : Done) (sent : List Item) → GoodOpening setup.run records → step_marked (history setup records steps).state s ≡ Ok d →
+    StandIn (history setup records steps).state sent → StandIn d.after (sent ++ new_items s.step d)
+history_stands setup records steps s d sent good e stand =
+    let h = history setup records steps in
+    step_stands h (call_of s.step) (step_marked h.state s) d sent (step_follows h.state s) (history_once setup records steps good) e stand
 
 -- entries
 
@@ -63,5 +63,18 @@ counted_all : (h : History) (steps : List Marked) → h.state.entries ≡ length
 counted_all h [] e = e
 counted_all h (s ∷ ss) e = counted_all (extended h (step_marked h.state s)) ss (counted_one h (call_of s.step) (step_marked h.state s) (step_follows h.state s) e)
 
-pub history_counted : (run : ℕ) (records : List Durable) (steps : List Marked) → (history run records steps).state.entries ≡ length (history run records steps).entries
-history_counted run records steps = counted_all (opening run records) steps refl
+-- weights
+
+weighed_all : (h : History) (steps : List Marked) → (extend_all h steps).state.weights ≡ h.state.weights
+weighed_all h [] = refl
+weighed_all h (s ∷ ss) = weighed_all (extended h (step_marked h.state s)) ss ∙ one (step_marked h.state s) (step_follows h.state s)
+  where
+    one : (r : Result Done StepRefusal) → Follows (call_of s.step) h.state r → (extended h r).state.weights ≡ h.state.weights
+    one (Ok d) follows = follows.weights
+    one (Err refusal) follows = refl
+
+pub history_weighed : (setup : Setup) (records : List Durable) (steps : List Marked) → (history setup records steps).state.weights ≡ setup.weights
+history_weighed setup records steps = weighed_all (opening setup records) steps
+
+pub history_counted : (setup : Setup) (records : List Durable) (steps : List Marked) → (history setup records steps).state.entries ≡ length (history setup records steps).entries
+history_counted setup records steps = counted_all (opening setup records) steps refl

@@ -1,10 +1,9 @@
 -- Each mail ever sent comes in order to the agent that it is handed to; and the mails of agents fit what the agents own.
-use Rattle.std.proofs.Common.{◌≡◌, ℕ, suc, Bool, true, false, ◌&&◌, List, [], ◌∷◌, map, Some, refl, sym, ap, ◌∙◌, subst, bytes_eq, eqb, slice_get, arith}
-use Rattle.std.specs.Prelude.{◌==◌, ◌<◌, ⊤}
+use Rattle.std.proofs.Common.{◌≡◌, ℕ, suc, Bool, true, false, ◌&&◌, List, [], ◌∷◌, Some, refl, sym, ap, ◌∙◌, subst, bytes_eq, slice_get, arith}
+use Rattle.std.specs.Prelude.{◌==◌, ◌<◌}
 use Rattle.std.specs.List.{AllByRecursion as Each, list_all}
 use Rattle.std.proofs.lemmas.Bool.Decides.{nat_tests}
 use Rattle.names_core.specs.Ids.{Numbered}
-use Rattle.mails.specs.declared.task.Job.{Job}
 use Rattle.mails.specs.declared.mail.Command.{Command}
 use Rattle.mails.specs.declared.mail.Command.TheVariants.{Launch, Kill, Ack, EndFramework}
 use Rattle.mails.specs.declared.mail.MasterMail.{MasterMail}
@@ -25,8 +24,8 @@ use Rattle.agent_core.specs.Drafts.{hears_in_order, is_in_order, is_next_command
 use Rattle.side_fits.specs.Fits.{MailFits, MailFitsAt}
 use Rattle.cluster_laws.specs.Items.{names_of, channel_at, item_of}
 use Rattle.cluster_laws.specs.declared.item.Item.TheVariants as items
-use Rattle.cluster_laws.proofs.Lists.{both_true, bytes_same, each_map, each_both, each_mapped}
-use Rattle.cluster_laws.proofs.Found.{FoundIn, found_all, found_has}
+use Rattle.cluster_laws.proofs.Lists.{both_true, bytes_same, each_both, each_mapped}
+use Rattle.cluster_laws.proofs.Found.{FoundIn, found_all}
 use Rattle.cluster_laws.proofs.Agents.{ChannelOk}
 use Rattle.cluster_laws.proofs.Named.{HasName, AnyMail}
 use Rattle.cluster_laws.proofs.Posts.{down_is, up_is}

@@ -1,6 +1,6 @@
 -- No agent's task has more updates than a record has room for, so no mail tells one of a greater number.
-use Rattle.std.proofs.Common.{◌≡◌, ℕ, suc, max, ◌≤◌, ◌<◌, Bool, true, false, not, ◌&&◌, ◌||◌, List, [], ◌∷◌, ◌++◌, length, length-append, map, filter, flat_map, Result, Ok, Err, inl, inr, refl, subst, nat_lt, nat_le, eqb, slice_get, Some, arith}
-use Rattle.std.specs.Prelude.{⊤, if◌then◌else◌, ◌==◌}
+use Rattle.std.proofs.Common.{◌≡◌, ℕ, suc, max, ◌≤◌, ◌<◌, Bool, true, false, not, ◌&&◌, ◌||◌, List, [], ◌∷◌, ◌++◌, length, length-append, map, filter, flat_map, Result, Ok, Err, inl, inr, refl, nat_lt, nat_le, eqb, Some, arith}
+use Rattle.std.specs.Prelude.{if◌then◌else◌, ◌==◌}
 use Rattle.std.specs.List.{AllByRecursion as Each, list_any}
 use Rattle.std.proofs.lemmas.Bool.{cond_both, cases_Bool}
 use Rattle.std.proofs.lemmas.Bool.Decides.{nat_tests}
@@ -8,10 +8,8 @@ use Rattle.names_core.specs.Ids.{Numbered}
 use Rattle.names_core.specs.declared.state.TaskState.{TaskState}
 use Rattle.names_core.specs.declared.state.TaskState.TheVariants.{Killed}
 use Rattle.names_core.specs.States.{is_terminal}
-use Rattle.stream_core.specs.Updates.{is_full, is_front, is_done, pushed, acknowledged_one, are_updates, most_updates, ends_last}
-use Rattle.mails.specs.declared.task.Job.{Job}
-use Rattle.mails.specs.declared.mail.AgentMail.{AgentMail}
-use Rattle.mails.specs.declared.mail.AgentMail.TheVariants.{Report, Applied, Update}
+use Rattle.stream_core.specs.Updates.{is_full, is_front, is_done, pushed, acknowledged_one, are_updates, ends_last}
+use Rattle.mails.specs.declared.mail.AgentMail.TheVariants.{Applied, Update}
 use Rattle.mails.specs.declared.mail.Command.{Command}
 use Rattle.mails.specs.declared.mail.Command.TheVariants.{Launch, Kill, Ack, EndFramework}
 use Rattle.mails.specs.declared.mail.MasterMail.{MasterMail}
@@ -24,18 +22,18 @@ use Rattle.mails.specs.declared.cause.Cause.TheVariants.{Start, Mail, Executor, 
 use Rattle.mails.specs.declared.refusal.AgentRefusal.{AgentRefusal}
 use Rattle.mails.specs.declared.refusal.AgentRefusal.TheVariants.{OldSession, NotNext, NoSuchTask, Ended, NoRoom, UpdatesFull, SessionsSpent}
 use Rattle.cluster_model.specs.Ids.{same, last_number}
-use Rattle.cluster_model.specs.Agents.{Agent, Draft, has_ended, is_task, state_at, front_of, fronts, front_at, reopened, reports, opens_next, stated, acknowledged, launched_task, tasks_after, is_front_at, fronts_after, with_tasks, after_command, applies, has_room, hears_mail, needs_place, executes, next_of, recovered_from}
-use Rattle.cluster_model.specs.Channels.{Channel, is_own, World}
+use Rattle.cluster_model.specs.Agents.{Agent, Draft, has_ended, is_task, state_at, front_of, fronts, front_at, reopened, reports, opens_next, stated, acknowledged, launched_task, tasks_after, is_front_at, fronts_after, with_tasks, after_command, applies, has_room, hears_mail, needs_place, executes, next_of}
+use Rattle.cluster_model.specs.Channels.{Channel, is_own}
 use Rattle.cluster_model.specs.Clusters.{Post}
-use Rattle.cluster_model.specs.Steps.{Marked, history}
+use Rattle.cluster_model.specs.Steps.{Setup, Marked, history}
 use Rattle.cluster_safe.specs.Acknowledged.{recorded_tasks}
 use Rattle.cluster_model.specs.Mails.{FitsRecord}
-use Rattle.cluster_laws.specs.Items.{channel_at, item_of}
+use Rattle.cluster_laws.specs.Items.{item_of}
 use Rattle.cluster_laws.specs.declared.item.Item.TheVariants as items
 use Rattle.cluster_laws.specs.Premises.{AreRecorded}
 use Rattle.cluster_laws.proofs.Lists.{both_true, each_all, each_append, each_at, each_both, each_filter, each_flat, each_map, each_mapped}
 use Rattle.cluster_laws.proofs.Found.{found_has}
-use Rattle.cluster_laws.proofs.Agents.{AllOk, all_if, Makes, Rules, ChannelOk, WorldOk, world_ok, opened_ok}
+use Rattle.cluster_laws.proofs.Agents.{AllOk, all_if, Rules, ChannelOk, WorldOk, world_ok, opened_ok}
 use Rattle.cluster_laws.proofs.Histories.{reached}
 use Rattle.cluster_laws.proofs.Posts.{up_is}
 
@@ -230,8 +228,8 @@ all_recorded (d ∷ ds) h =
     let parts = left_of (λ t. are_updates t.updates.states t.updates.acknowledged ≡ true) d.tasks (recorded_tasks ds) h in
     (each_map (λ t. are_updates t.updates.states t.updates.acknowledged ≡ true) IsWithin recorded_within d.tasks parts.0, all_recorded ds parts.1)
 
-pub history_roomy : (run : ℕ) (records : List Durable) (steps : List Marked) → AreRecorded records → WorldOk Roomy FitsRecord (history run records steps).state.world
-history_roomy run records steps h = reached (WorldOk Roomy FitsRecord) (world_ok Roomy FitsRecord limits_kept) run records steps (opened_ok Roomy FitsRecord records (all_recorded records h))
+pub history_roomy : (setup : Setup) (records : List Durable) (steps : List Marked) → AreRecorded records → WorldOk Roomy FitsRecord (history setup records steps).state.world
+history_roomy setup records steps h = reached (WorldOk Roomy FitsRecord) (world_ok Roomy FitsRecord limits_kept) setup records steps (opened_ok Roomy FitsRecord records (all_recorded records h))
 
 pub fits_record : (cs : List Channel) → Each (ChannelOk Roomy FitsRecord) cs → (p : Post) (to : ToMaster) → item_of cs p ≡ Some (items.ToMaster to) → FitsRecord to.mail
 fits_record cs ok p to e =

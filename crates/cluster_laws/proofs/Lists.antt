@@ -1,5 +1,5 @@
 -- Lists.
-use Rattle.std.proofs.Common.{◌≡◌, ◌≢◌, ℕ, suc, zero, Bool, true, false, ◌&&◌, List, [], ◌∷◌, ◌++◌, length, map, drop, filter, flat_map, slice_get, Some, refl, sym, ap, ◌∙◌, subst, bytes_eq}
+use Rattle.std.proofs.Common.{◌≡◌, ◌≢◌, ℕ, suc, zero, Bool, true, false, ◌&&◌, List, [], ◌∷◌, ◌++◌, length, map, drop, filter, flat_map, slice_get, Some, refl, sym, ap, subst, bytes_eq}
 use Rattle.std.specs.List.{AllByRecursion as Each}
 use Rattle.std.proofs.lemmas.Bool.{cond_both}
 use Rattle.std.specs.Cmp.Lexicographic.{bytes_decides}

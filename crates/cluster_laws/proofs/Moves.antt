@@ -1,5 +1,5 @@
 -- The master's steps leave the agents' parts alone, and an agent's steps the master and the other agents.
-use Rattle.std.proofs.Common.{◌≡◌, ◌≢◌, ◌+◌, ℕ, suc, zero, Bool, true, false, List, [], ◌∷◌, ◌++◌, length, map, drop, Option, Some, None, Result, Ok, Err, refl, sym, ap, ◌∙◌, subst, append-nil, bytes_eq, slice_get, nat_lt}
+use Rattle.std.proofs.Common.{◌≡◌, ◌≢◌, ◌+◌, ℕ, suc, zero, Bool, true, false, List, [], ◌∷◌, ◌++◌, length, map, drop, Option, Some, None, Result, Ok, Err, refl, sym, ap, ◌∙◌, append-nil, bytes_eq, slice_get, nat_lt}
 use Rattle.std.specs.Prelude.{slice_set, ⊤, if◌then◌else◌}
 use Rattle.std.specs.List.{AllByRecursion as Each}
 use Rattle.std.proofs.lemmas.Bool.{cond_both}
@@ -9,16 +9,16 @@ use Rattle.mails.specs.declared.record.Durable.{Durable}
 use Rattle.cluster_model.specs.Ids.{last_run}
 use Rattle.mails.specs.declared.cause.Cause.{Cause}
 use Rattle.mails.specs.declared.refusal.AgentRefusal.{AgentRefusal}
-use Rattle.cluster_model.specs.Agents.{Agent, Draft, hears_mail, next_of, recovered}
+use Rattle.cluster_model.specs.Agents.{Draft, hears_mail, next_of, recovered}
 use Rattle.cluster_model.specs.Sides.{Run, Side, halted, restarted, side_step, SendHello, new_run}
 use Rattle.cluster_model.specs.Channels.{Channel, AgentStep, Draw, DrawMail, Adopt, StopWithout, StopWith, drawn, drawn_mail, adopted, stopped_with, is_own, agent_step, ChannelStep, ByMaster, Hear, ByAgent, heard_mail, happens, World, Happening, At, TearDown, Restart, Halt, behind, in_front, at_agent, with_side, after, after_all, open_channel, open_world}
-use Rattle.cluster_model.specs.Masters.{Move, AtSide, TearDownAll, RestartAll, HaltAll, Doing, Master, new_registers}
-use Rattle.cluster_model.specs.Clusters.{Cluster, Sent, MailToAgent, MailToMaster, Post, sides_of, master_of, Verdict, Fine}
+use Rattle.cluster_model.specs.Masters.{Move, AtSide, TearDownAll, RestartAll, HaltAll, Doing, new_registers}
+use Rattle.cluster_model.specs.Clusters.{Cluster, MailToMaster, Post, sides_of, master_of, Verdict, Fine}
 use Rattle.cluster_model.specs.Openings.{NamesOnce}
-use Rattle.cluster_model.specs.Steps.{posts_in, sent_in, sent_between, posts_between, sent_by, posts_by, done, happening, happening_of, effect_of, hello_to, greets_all, master_stops, master_falls, new_master_falls, agent_falls, fallen_too, opened_over, open_cluster, streams_after}
+use Rattle.cluster_model.specs.Steps.{Setup, posts_in, sent_in, sent_between, posts_between, sent_by, posts_by, done, happening, happening_of, effect_of, hello_to, greets_all, master_stops, master_falls, new_master_falls, agent_falls, open_cluster, streams_after}
 use Rattle.cluster_laws.specs.Items.{names_of}
-use Rattle.cluster_laws.specs.Parts.{Part, part_of, parts_of, recovered_part, IsSilent, from_agent, greeting, anew, next_master}
-use Rattle.cluster_laws.proofs.Lists.{each_append, each_at, bytes_refl, bytes_differ, cons_same, append_same, drop_all}
+use Rattle.cluster_laws.specs.Parts.{part_of, parts_of, recovered_part, IsSilent, from_agent, greeting, anew, next_master}
+use Rattle.cluster_laws.proofs.Lists.{each_at, bytes_refl, bytes_differ, cons_same, append_same, drop_all}
 use Rattle.cluster_laws.proofs.Sides.{side_owner, heard_owner}
 use Rattle.cluster_laws.proofs.Grown.{agent_itself}
 
@@ -107,8 +107,8 @@ opened_part : (records : List Durable) → parts_of (map open_channel records) �
 opened_part [] = refl
 opened_part (d ∷ ds) = cons_same (part_of (open_channel d)) (recovered_part d) (parts_of (map open_channel ds)) (map recovered_part ds) refl (opened_part ds)
 
-pub opened_parts : (run : ℕ) (records : List Durable) → parts_of (open_cluster run records).after.world.channels ≡ map recovered_part records
-opened_parts run records = all_parts (map hello_to (open_world run records).channels) (open_world run records) (hellos_masters (open_world run records).channels) ∙ opened_part records
+pub opened_parts : (setup : Setup) (records : List Durable) → parts_of (open_cluster setup records).after.world.channels ≡ map recovered_part records
+opened_parts setup records = all_parts (map hello_to (open_world setup.run records).channels) (open_world setup.run records) (hellos_masters (open_world setup.run records).channels) ∙ opened_part records
 
 -- an agent's happenings
 
@@ -272,6 +272,7 @@ anew_after c = ap (make (map hello_to c.world.channels)) (none_posted c.world.ch
       streams = streams_after c.streams [] [];
       last_tick = c.last_tick;
       entries = suc c.entries;
+      weights = c.weights;
     }
 
 anew_sent : (c : Cluster) → (done c (record (happening c Fine (Restart ∷ map hello_to c.world.channels)) { registers = new_registers })).entry.outs.sent ≡ (done (anew c) (greets_all (anew c))).entry.outs.sent

@@ -1,7 +1,7 @@
 -- An agent and its draft have the name of their side.
 use Rattle.std.proofs.Common.{◌≡◌, ℕ, suc, max, true, not, ◌&&◌, ◌||◌, List, [], ◌∷◌, map, Result, Ok, Err, refl, ◌∙◌, nat_lt, nat_le, eqb}
 use Rattle.std.specs.Prelude.{⊤, if◌then◌else◌, ◌==◌}
-use Rattle.std.specs.List.{AllByRecursion as Each, list_any}
+use Rattle.std.specs.List.{list_any}
 use Rattle.names_core.specs.Ids.{Numbered}
 use Rattle.names_core.specs.declared.state.TaskState.{TaskState}
 use Rattle.stream_core.specs.Updates.{is_full}
@@ -16,10 +16,10 @@ use Rattle.mails.specs.declared.refusal.AgentRefusal.{AgentRefusal}
 use Rattle.mails.specs.declared.refusal.AgentRefusal.TheVariants.{OldSession, NotNext, NoSuchTask, Ended, NoRoom, UpdatesFull, SessionsSpent}
 use Rattle.cluster_model.specs.Ids.{last_number}
 use Rattle.cluster_model.specs.Agents.{Agent, Draft, has_ended, is_task, front_at, reopened, reports, opens_next, stated, with_tasks, applies, has_room, hears_mail, needs_place, executes, next_of}
-use Rattle.cluster_model.specs.Channels.{is_own, World, open_world}
-use Rattle.cluster_model.specs.Steps.{Marked, history}
+use Rattle.cluster_model.specs.Channels.{is_own}
+use Rattle.cluster_model.specs.Steps.{Setup, Marked, history}
 use Rattle.cluster_laws.proofs.Lists.{each_all}
-use Rattle.cluster_laws.proofs.Agents.{AllOk, all_if, all_wider, Makes, Rules, ChannelOk, WorldOk, world_ok, opened_ok}
+use Rattle.cluster_laws.proofs.Agents.{AllOk, all_if, all_wider, Makes, Rules, WorldOk, world_ok, opened_ok}
 use Rattle.cluster_laws.proofs.Histories.{reached}
 
 abbrev KeepsName : Agent → Draft → Type 0
@@ -84,5 +84,5 @@ names_kept = record {
   stops = λ name a h. h;
 }
 
-pub history_named : (run : ℕ) (records : List Durable) (steps : List Marked) → WorldOk HasName AnyMail (history run records steps).state.world
-history_named run records steps = reached (WorldOk HasName AnyMail) (world_ok HasName AnyMail names_kept) run records steps (opened_ok HasName AnyMail records (each_all (λ (d : Durable). d.name ≡ d.name) (λ d. refl) records))
+pub history_named : (setup : Setup) (records : List Durable) (steps : List Marked) → WorldOk HasName AnyMail (history setup records steps).state.world
+history_named setup records steps = reached (WorldOk HasName AnyMail) (world_ok HasName AnyMail names_kept) setup records steps (opened_ok HasName AnyMail records (each_all (λ (d : Durable). d.name ≡ d.name) (λ d. refl) records))

@@ -1,5 +1,5 @@
 -- The master's own steps stay in their run, and open no stream or the next one.
-use Rattle.std.proofs.Common.{◌≡◌, ℕ, suc, Bool, true, false, not, ◌&&◌, ◌||◌, List, [], ◌∷◌, ◌++◌, length, map, filter, refl, ap, inl, inr, Option, Some, None, nat_le}
+use Rattle.std.proofs.Common.{◌≡◌, ℕ, suc, Bool, true, false, not, ◌||◌, List, [], ◌∷◌, ◌++◌, length, map, filter, refl, ap, inl, inr, Option, Some, None, nat_le}
 use Rattle.std.specs.Prelude.{if◌then◌else◌}
 use Rattle.std.specs.List.{AllByRecursion as Each, find, list_any}
 use Rattle.names_core.specs.Ids.{Numbered}
@@ -12,8 +12,9 @@ use Rattle.mails.specs.declared.call.Call.{Call}
 use Rattle.mails.specs.declared.call.Call.TheVariants.{Subscribe, Teardown, Accept, Decline, Revive, Suppress, Acknowledge, Reconcile}
 use Rattle.mails.specs.declared.call.Call.TheVariants as calls
 use Rattle.mails.specs.declared.call.ReconciledTask.{ReconciledTask}
-use Rattle.cluster_model.specs.Ids.{is_empty, last_number}
-use Rattle.cluster_model.specs.Sides.{Side, opens, is_named, MakeOffer, SendKill, SendAck, SendEnd, SendHello, SendAgain, Lose}
+use Rattle.role_weights.specs.Weights.{RoleWeight}
+use Rattle.cluster_model.specs.Ids.{last_number}
+use Rattle.cluster_model.specs.Sides.{Side, opens, is_named, MakeOffer, SendKill, SendAck, SendEnd, SendHello, Lose}
 use Rattle.cluster_model.specs.Events.{MadeOffer, FAILURE}
 use Rattle.cluster_model.specs.Masters.{Framework, Registers, Master, Move, AtSide, TearDownAll, Doing, nothing, refused, saying, moving, framework_of, is_torn, with_framework, tells_all, Placed, all_booked, held, is_of, withdraws_on, withdraws, without_filters_on, side_of, has_numbers, may_have_numbers}
 use Rattle.cluster_model.specs.Calls.{frameworks_limit, to_list, subscribed, removed, resubscribed, is_unheard_of, sides_with_tasks, on_teardown, answers_held, Given, good_side, given_by, Accepting, accepts_all, accepted_as, passes_limits, accepted_from, on_accept, on_decline, on_revive, on_suppress, commanding, on_kill, is_last_heard, on_acknowledge, on_reconcile, is_stream, on_its_stream, by_known, called}
@@ -136,5 +137,5 @@ hung_by m stream (Some f) = plain m (hung_up_by m stream (Some f)) (withdraws_pl
 pub hung_ordinary : (m : Master) (stream : Numbered) → Ordinary m (hung_up m stream)
 hung_ordinary m stream = hung_by m stream (find (λ f. is_stream stream f.stream) m.registers.frameworks)
 
-pub allocated_ordinary : (m : Master) → Ordinary m (allocated m)
-allocated_ordinary m = plain m (allocated m) (mapped_plain (λ (g : MadeOffer). AtSide g.agent (MakeOffer g.offer)) (λ g. tt) (round m)) refl refl
+pub allocated_ordinary : (ws : List RoleWeight) (m : Master) → Ordinary m (allocated ws m)
+allocated_ordinary ws m = plain m (allocated ws m) (mapped_plain (λ (g : MadeOffer). AtSide g.agent (MakeOffer g.offer)) (λ g. tt) (round ws m)) refl refl

@@ -1,24 +1,22 @@
 -- What a master refuses it refuses alone.
-use Rattle.std.proofs.Common.{◌≡◌, ℕ, suc, Bool, true, false, not, ◌&&◌, ◌||◌, List, [], ◌∷◌, ◌++◌, length, map, filter, refl, ap, inl, inr, Option, Some, None, nat_le}
+use Rattle.std.proofs.Common.{◌≡◌, ℕ, suc, Bool, true, false, not, ◌||◌, List, [], ◌∷◌, ◌++◌, length, map, refl, ap, Option, Some, None, nat_le}
 use Rattle.std.specs.Prelude.{if◌then◌else◌}
-use Rattle.std.specs.List.{AllByRecursion as Each, find, list_any}
+use Rattle.std.specs.List.{find, list_any}
 use Rattle.names_core.specs.Ids.{Numbered}
-use Rattle.mails.specs.declared.task.Offer.{Offer}
-use Rattle.mails.specs.declared.mail.AgentMail.{AgentMail}
-use Rattle.mails.specs.declared.mail.AgentMail.TheVariants.{Report, Applied, Update}
 use Rattle.mails.specs.declared.refusal.MasterRefusal.{MasterRefusal}
-use Rattle.mails.specs.declared.refusal.MasterRefusal.TheVariants.{OtherRun, OldSession, Closed, NotOpen, NotSubscribed, WrongStream, NoSuchFramework, LimitExceeded}
+use Rattle.mails.specs.declared.refusal.MasterRefusal.TheVariants.{NotSubscribed, WrongStream, NoSuchFramework, LimitExceeded}
 use Rattle.mails.specs.declared.call.Call.{Call}
 use Rattle.mails.specs.declared.call.Call.TheVariants.{Subscribe, Teardown, Accept, Decline, Revive, Suppress, Acknowledge, Reconcile}
 use Rattle.mails.specs.declared.call.Call.TheVariants as calls
 use Rattle.mails.specs.declared.call.ReconciledTask.{ReconciledTask}
-use Rattle.cluster_model.specs.Ids.{is_empty, last_number}
-use Rattle.cluster_model.specs.Sides.{Side, opens, is_named, MakeOffer, SendKill, SendAck, SendEnd, SendHello, SendAgain, Lose}
-use Rattle.cluster_model.specs.Events.{MadeOffer, FAILURE}
-use Rattle.cluster_model.specs.Masters.{Framework, Registers, Master, Move, AtSide, TearDownAll, Doing, nothing, refused, saying, moving, framework_of, is_torn, with_framework, tells_all, Placed, all_booked, held, is_of, withdraws_on, withdraws, without_filters_on, side_of, has_numbers, may_have_numbers}
+use Rattle.role_weights.specs.Weights.{RoleWeight}
+use Rattle.cluster_model.specs.Ids.{last_number}
+use Rattle.cluster_model.specs.Sides.{Side, SendKill, SendAck, SendEnd, SendHello, Lose}
+use Rattle.cluster_model.specs.Events.{FAILURE}
+use Rattle.cluster_model.specs.Masters.{Framework, Master, Move, AtSide, TearDownAll, Doing, nothing, refused, saying, moving, framework_of, is_torn, with_framework, tells_all, Placed, all_booked, held, is_of, withdraws, without_filters_on, side_of, has_numbers, may_have_numbers}
 use Rattle.cluster_model.specs.Calls.{frameworks_limit, to_list, subscribed, removed, resubscribed, is_unheard_of, sides_with_tasks, on_teardown, answers_held, Given, good_side, given_by, Accepting, accepts_all, accepted_as, passes_limits, accepted_from, on_accept, on_decline, on_revive, on_suppress, commanding, on_kill, is_last_heard, on_acknowledge, on_reconcile, is_stream, on_its_stream, by_known, called}
-use Rattle.cluster_model.specs.Mails.{judged, rescinds, loses, is_to_end, session_opens, goes_with, mailed_as, mailed, ticks, ticked, agent_lost, hung_up_by, hung_up}
-use Rattle.cluster_model.specs.Rounds.{round, allocated}
+use Rattle.cluster_model.specs.Mails.{rescinds, loses, ticked, agent_lost, hung_up_by, hung_up}
+use Rattle.cluster_model.specs.Rounds.{allocated}
 use Rattle.cluster_laws.specs.Runs.{RefusesAlone}
 
 fine : (m : Master) (d : Doing) → d.refusal ≡ None → RefusesAlone m d
@@ -98,5 +96,5 @@ hang_ups_alone m stream = hung_by m stream (find (λ f. is_stream stream f.strea
 pub ticks_alone : (m : Master) (now : ℕ) → RefusesAlone m (ticked m now)
 ticks_alone m now = fine m (ticked m now) refl
 
-pub rounds_alone : (m : Master) → RefusesAlone m (allocated m)
-rounds_alone m = fine m (allocated m) refl
+pub rounds_alone : (ws : List RoleWeight) (m : Master) → RefusesAlone m (allocated ws m)
+rounds_alone ws m = fine m (allocated ws m) refl

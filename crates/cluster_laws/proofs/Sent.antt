@@ -1,11 +1,11 @@
 -- The posts of what happens stand for the mails that are sent by it.
-use Rattle.std.proofs.Common.{◌≡◌, ℕ, suc, List, [], ◌∷◌, ◌++◌, length, length-append, map, drop, flat_map, Option, Some, None, refl, sym, ap, ◌∙◌, subst, append_assoc, append-nil, slice_get, arith}
+use Rattle.std.proofs.Common.{◌≡◌, ℕ, suc, List, [], ◌∷◌, ◌++◌, length, length-append, map, Some, refl, sym, ap, ◌∙◌, subst, append_assoc, slice_get, arith}
 use Rattle.std.specs.List.{AllByRecursion as Each}
 use Rattle.std.proofs.lemmas.List.{map-append}
 use Rattle.mails.specs.declared.mail.MasterMail.{MasterMail}
 use Rattle.mails.specs.declared.mail.AgentMail.{AgentMail}
 use Rattle.cluster_model.specs.Channels.{Channel, World, Happening, after, after_all}
-use Rattle.cluster_model.specs.Clusters.{Post, Called, Down, Up, Sent, CallSent, MailToAgent, MailToMaster}
+use Rattle.cluster_model.specs.Clusters.{Post, Down, Up, Sent, MailToAgent, MailToMaster}
 use Rattle.cluster_model.specs.Steps.{places, new_to_agent, new_to_master, sent_in, posts_in, sent_between, posts_between, sent_by, posts_by}
 use Rattle.cluster_model.specs.Openings.{NamesOnce}
 use Rattle.cluster_laws.specs.Items.{names_of, channel_at, to_agent, to_master, down_item, up_item, item_of, Item, Stand, item_sent, items_sent}

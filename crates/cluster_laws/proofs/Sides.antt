@@ -1,5 +1,5 @@
 -- A side keeps its name and its total.
-use Rattle.std.proofs.Common.{◌≡◌, ◌-◌, ℕ, suc, ◌+◌, not, ◌&&◌, List, [], ◌∷◌, ◌++◌, length, map, take, drop, refl, ◌∙◌}
+use Rattle.std.proofs.Common.{◌≡◌, ◌-◌, suc, ◌+◌, not, ◌&&◌, List, [], ◌∷◌, ◌++◌, length, map, take, drop, refl, ◌∙◌}
 use Rattle.std.specs.Prelude.{◌==◌}
 use Rattle.std.proofs.lemmas.Bool.{cond_both}
 use Rattle.names_core.specs.Ids.{Numbered}

@@ -1,5 +1,5 @@
 -- The ids of streams rise, in the order in which they were opened.
-use Rattle.std.proofs.Common.{◌≡◌, ◌⊎◌, ℕ, suc, ◌≤◌, ◌<◌, Bool, true, false, ◌&&◌, ◌||◌, List, [], ◌∷◌, ◌++◌, map, Option, Some, None, Result, Ok, Err, inl, inr, refl, sym, ap, ◌∙◌, subst, append-nil, bytes_eq, slice_get, nat_lt, nat_le, arith}
+use Rattle.std.proofs.Common.{◌≡◌, ℕ, suc, ◌≤◌, Bool, true, false, List, [], ◌∷◌, ◌++◌, map, Option, Some, None, Result, Ok, Err, inl, inr, refl, sym, ap, ◌∙◌, subst, append-nil, bytes_eq, slice_get, nat_lt, nat_le, arith}
 use Rattle.std.specs.Prelude.{⊤, if◌then◌else◌}
 use Rattle.std.specs.List.{AllByRecursion as Each}
 use Rattle.std.proofs.lemmas.Bool.{cond_both}
@@ -15,19 +15,19 @@ use Rattle.mails.specs.declared.refusal.AgentRefusal.TheVariants.{NotForMe}
 use Rattle.cluster_model.specs.Ids.{same, before, last_number, last_run}
 use Rattle.cluster_model.specs.Agents.{Draft, hears_mail, next_of}
 use Rattle.cluster_model.specs.Sides.{Run}
-use Rattle.cluster_model.specs.Channels.{Channel, AgentStep, Draw, DrawMail, Adopt, StopWithout, StopWith, Hear, ByAgent, World, Happening, At, TearDown, Restart, Halt, after, after_all}
+use Rattle.cluster_model.specs.Channels.{Channel, AgentStep, Draw, DrawMail, Adopt, StopWithout, StopWith, Hear, ByAgent, Happening, At, Restart, Halt, after, after_all}
 use Rattle.cluster_model.specs.Events.{Event, Told}
-use Rattle.cluster_model.specs.Masters.{Doing, Registers, new_registers}
+use Rattle.cluster_model.specs.Masters.{Doing, new_registers}
 use Rattle.cluster_model.specs.Calls.{called, new_stream}
 use Rattle.cluster_model.specs.Mails.{mailed, ticked, agent_lost, hung_up}
 use Rattle.cluster_model.specs.Rounds.{allocated}
 use Rattle.cluster_model.specs.Clusters.{Stream, Post, Called, Down, Up, Cluster, master_of, StepCause, ByStart, ByAgain, ByExecutor, ByMail, Step, Send, Deliver, Allocate, Tick, LoseAgent, HangUp, Prepare, Commit, StopBefore, StopAfter, StopMaster, Take, StepRefusal, MasterDown, AgentDown, DraftOpen, NoDraft, HistoryFull, TimeBack, Verdict, Fine, AgentRefused, Fell}
 use Rattle.cluster_model.specs.Steps as steps
-use Rattle.cluster_model.specs.Steps.{Effect, Done, done, does, happening, effect_of, happening_of, master_does, master_hears, channel_of, delivers_up, delivers, post_at, with_tick, ticks_at, stream_at, hangs_up, loses_agent, hello_to, drafts, draws_mail_at, draws_mail, prepares, commits, up_again, stops, with_master, at_channel, is_fallen, if_up, by_draft, without_draft, with_draft, takes_one, takes_event, takes, answer, master_falls, new_master_falls, fallen_too, agent_falls, instead, fallen_answer, Marked, step_marked, hears, streams_after, History, opened_over, opening, extended, extend_all, history}
+use Rattle.cluster_model.specs.Steps.{Setup, Effect, Done, done, does, happening, effect_of, happening_of, master_does, master_hears, channel_of, delivers_up, delivers, post_at, with_tick, ticks_at, stream_at, hangs_up, loses_agent, hello_to, drafts, draws_mail_at, draws_mail, prepares, commits, up_again, stops, with_master, at_channel, is_fallen, if_up, by_draft, without_draft, with_draft, takes_one, takes_event, takes, answer, master_falls, new_master_falls, fallen_too, agent_falls, instead, fallen_answer, Marked, step_marked, hears, streams_after, History, opened_over, opening, extended, extend_all, history}
 use Rattle.cluster_laws.specs.Runs.{SameRun, OpensNext, ids_of, AreRising}
-use Rattle.cluster_laws.proofs.Lists.{each_append, each_map, each_all, cons_same}
+use Rattle.cluster_laws.proofs.Lists.{each_append, each_map, cons_same}
 use Rattle.cluster_laws.proofs.Ordinary.{Ordinary, called_ordinary, allocated_ordinary, ticked_ordinary, lost_ordinary, hung_ordinary, mailed_ordinary}
-use Rattle.cluster_laws.proofs.WithinRuns.{same_run, IsWithinRun, worlds_run, moves_within, keeps_run, hears_run}
+use Rattle.cluster_laws.proofs.WithinRuns.{IsWithinRun, worlds_run, moves_within}
 
 -- what holds of the streams of a cluster
 
@@ -242,7 +242,7 @@ takes_streamed c id (Some s) = takes_event_streamed c id (slice_get s.events s.t
 answer_streamed : (c : Cluster) (s : Step) → Streamed c (answer c s)
 answer_streamed c (Send stream call) = λ ok. ok
 answer_streamed c (Deliver number) = with_master_streamed c (delivers c (post_at c number)) (delivers_streamed c (post_at c number))
-answer_streamed c Allocate = with_master_streamed c (master_does c (allocated (master_of c))) (does_streamed c (allocated (master_of c)) (allocated_ordinary (master_of c)))
+answer_streamed c Allocate = with_master_streamed c (master_does c (allocated c.weights (master_of c))) (does_streamed c (allocated c.weights (master_of c)) (allocated_ordinary c.weights (master_of c)))
 answer_streamed c (Tick now) = with_master_streamed c (ticks_at c now) (ticks_streamed c now)
 answer_streamed c (LoseAgent agent) = at_channel_streamed c (channel_of c agent) (λ x. with_master c (loses_agent c x)) (λ x. with_master_streamed c (loses_agent c x) (does_streamed c (agent_lost (master_of c) x.side) (lost_ordinary (master_of c) x.side)))
 answer_streamed c (HangUp stream) = with_master_streamed c (hangs_up c stream (stream_at c stream)) (hangs_up_streamed c stream (stream_at c stream))
@@ -292,8 +292,8 @@ all_streamed : (h : History) (ss : List Marked) → ClusterOk h.state → Cluste
 all_streamed h [] ok = ok
 all_streamed h (s ∷ ss) ok = all_streamed (extended h (step_marked h.state s)) ss (extended_streamed h (step_marked h.state s) (step_streamed h.state s) ok)
 
-opened_streamed : (run : ℕ) (records : List Durable) → ClusterOk (opening run records).state
-opened_streamed run records = quiet_streamed (opened_over run records) Fine (map hello_to (opened_over run records).world.channels) (hellos_within (opened_over run records).world.channels) (record { rising = tt; runs = tt; given = λ e. tt })
+opened_streamed : (setup : Setup) (records : List Durable) → ClusterOk (opening setup records).state
+opened_streamed setup records = quiet_streamed (opened_over setup records) Fine (map hello_to (opened_over setup records).world.channels) (hellos_within (opened_over setup records).world.channels) (record { rising = tt; runs = tt; given = λ e. tt })
 
-pub history_streams : (run : ℕ) (records : List Durable) (ss : List Marked) → AreRising (ids_of (history run records ss).state.streams)
-history_streams run records ss = (all_streamed (opening run records) ss (opened_streamed run records)).rising
+pub history_streams : (setup : Setup) (records : List Durable) (ss : List Marked) → AreRising (ids_of (history setup records ss).state.streams)
+history_streams setup records ss = (all_streamed (opening setup records) ss (opened_streamed setup records)).rising

@@ -9,7 +9,7 @@ use Rattle.cluster_model.specs.Channels.{Channel, open_channel}
 use Rattle.cluster_model.specs.Clusters.{Cluster, master_of, sides_of}
 use Rattle.cluster_model.specs.Mails.{agent_lost, mailed}
 use Rattle.cluster_model.specs.Masters.{new_registers, nothing}
-use Rattle.cluster_model.specs.Steps.{channel_of, opened_over}
+use Rattle.cluster_model.specs.Steps.{Setup, channel_of, opened_over}
 use Rattle.agent_sides.specs.Named.{lost_by, mailed_by}
 use Rattle.master_state.specs.States.{fresh}
 use Rattle.master_state.specs.Works.{master_of as master_in}
@@ -37,5 +37,5 @@ sides_are : (records : List Durable) → map side_of (map configured records) �
 sides_are [] = refl
 sides_are (d ∷ ds) = ap (λ ss. side_of (configured d) ∷ ss) (sides_are ds)
 
-pub fresh_is : (run : ℕ) (records : List Durable) → master_in (fresh run (map configured records)) ≡ master_of (opened_over run records)
-fresh_is run records = ap (λ (ss : List Side). record { run = new_run run; sides = ss; registers = new_registers }) (sides_are records)
+pub fresh_is : (setup : Setup) (records : List Durable) → master_in (fresh setup.run (map configured records)) ≡ master_of (opened_over setup records)
+fresh_is setup records = ap (λ (ss : List Side). record { run = new_run setup.run; sides = ss; registers = new_registers }) (sides_are records)

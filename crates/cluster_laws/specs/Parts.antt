@@ -1,12 +1,11 @@
 -- The agents' own parts of a cluster, and what each step leaves of them and of the master.
-use Rattle.std.specs.Prelude.{◌+◌, ℕ, List, [], ◌∷◌, map, Option, Some, None, ⊤}
+use Rattle.std.specs.Prelude.{◌+◌, ℕ, List, map, Option, None, ⊤}
 use Rattle.mails.specs.declared.mail.AgentMail.{AgentMail}
-use Rattle.mails.specs.declared.mail.ToMaster.{ToMaster}
 use Rattle.mails.specs.declared.record.Durable.{Durable}
 use Rattle.agent_sides.specs.declared.config.ConfiguredAgent.{ConfiguredAgent}
 use Rattle.cluster_model.specs.Agents.{Agent, Draft, recovered_from}
 use Rattle.cluster_model.specs.Sides.{SendHello, restarted, new_run}
-use Rattle.cluster_model.specs.Channels.{Channel, AgentStep, Draw, DrawMail, Adopt, StopWithout, StopWith, Happening, At, TearDown, Restart, Halt, ByMaster, Hear, ByAgent, after}
+use Rattle.cluster_model.specs.Channels.{Channel, AgentStep, Draw, DrawMail, Adopt, StopWithout, StopWith, Restart, after}
 use Rattle.cluster_model.specs.Masters.{AtSide, Doing, Master, moving, new_registers}
 use Rattle.cluster_model.specs.Clusters.{Cluster, Sent, MailToMaster}
 

@@ -6,7 +6,7 @@ use Rattle.mails.specs.declared.mail.ToAgent.{ToAgent}
 use Rattle.mails.specs.declared.mail.ToMaster.{ToMaster}
 use Rattle.mails.specs.declared.record.Durable.{Durable}
 use Rattle.cluster_model.specs.Channels.{Channel}
-use Rattle.cluster_model.specs.Clusters.{Cluster, Called, Down, Up}
+use Rattle.cluster_model.specs.Clusters.{Cluster, Down, Up}
 use Rattle.cluster_model.specs.Steps.{channel_of}
 use Rattle.cluster_safe.specs.Acknowledged.{recorded_tasks}
 

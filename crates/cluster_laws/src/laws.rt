@@ -8,7 +8,7 @@ ghost use Rattle.cluster_laws.specs.Premises.{AreRecorded, IsDown, IsUp};
 ghost use Rattle.cluster_laws.specs.declared.item.Item.TheVariants as items;
 ghost use Rattle.cluster_model.specs.Clusters.{Called, Cluster, sides_of};
 ghost use Rattle.cluster_model.specs.Openings.{GoodOpening, NamesOnce};
-ghost use Rattle.cluster_model.specs.Steps.{Done, Marked, history, open_cluster, opening, step_marked};
+ghost use Rattle.cluster_model.specs.Steps.{Setup, Done, Marked, history, open_cluster, opening, step_marked};
 ghost use Rattle.mails.specs.declared.call.Call.{Call};
 ghost use Rattle.mails.specs.declared.cause.Cause.TheVariants.{Mail};
 ghost use Rattle.mails.specs.declared.mail.ToAgent.{ToAgent};
@@ -22,20 +22,27 @@ use cluster_safe::mails_meet_their_premises;
 
 /// The agents keep their names and their order, and no name stands twice. Each agent's record has its name.
 pub fn agents_keep_their_names()
-    ensures names { (run : ℕ) (records : List Durable) (steps : List Marked) → names_of (history run records steps).state.world.channels ≡ map (λ d. d.name) records }
-    ensures once { (run : ℕ) (records : List Durable) (steps : List Marked) → GoodOpening run records → NamesOnce (names_of (history run records steps).state.world.channels) }
-    ensures recorded { (run : ℕ) (records : List Durable) (steps : List Marked) → Each (λ x. x.agent.durable.name ≡ x.side.name) (history run records steps).state.world.channels }
+    ensures names { (setup : Setup) (records : List Durable) (steps : List Marked) →
+        names_of (history setup records steps).state.world.channels ≡ map (λ d. d.name) records }
+    ensures once { (setup : Setup) (records : List Durable) (steps : List Marked) →
+        GoodOpening setup.run records →
+        NamesOnce (names_of (history setup records steps).state.world.channels) }
+    ensures recorded { (setup : Setup) (records : List Durable) (steps : List Marked) →
+        Each (λ x. x.agent.durable.name ≡ x.side.name)
+        (history setup records steps).state.world.channels }
 {}
 
 /// The mails of the opening stand for its posts, one for one.
 pub fn opening_items_stand()
-    ensures { (run : ℕ) (records : List Durable) → GoodOpening run records → StandIn (opening run records).state (items_sent [] (open_cluster run records).entry.outs.sent) }
+    ensures { (setup : Setup) (records : List Durable) → GoodOpening setup.run records →
+        StandIn (opening setup records).state
+        (items_sent [] (open_cluster setup records).entry.outs.sent) }
 {}
 
 /// Where items stand for all posts, they stand so after each step, with the items that it sends behind them.
 pub fn sent_items_stand()
-    ensures { (run : ℕ) (records : List Durable) (steps : List Marked) (s : Marked) (d : Done) (sent : List Item) → GoodOpening run records →
-        step_marked (history run records steps).state s ≡ Ok d → StandIn (history run records steps).state sent → StandIn d.after (sent ++ new_items s.step d) }
+    ensures { (setup : Setup) (records : List Durable) (steps : List Marked) (s : Marked) (d : Done) (sent : List Item) → GoodOpening setup.run records →
+        step_marked (history setup records steps).state s ≡ Ok d → StandIn (history setup records steps).state sent → StandIn d.after (sent ++ new_items s.step d) }
 {}
 
 /// From an item at its place, which is its number less 1, to its post, and to the mail in its channel.
@@ -49,10 +56,10 @@ pub fn items_are_posts()
 /// Each mail of an agent that was ever sent tells an update of a number that a record has room for, where the records of the opening have
 /// updates as their type allows, and the tasks that it reports fit what the agent owns.
 pub fn mails_of_agents_fit()
-    ensures number { (run : ℕ) (records : List Durable) (steps : List Marked) (sent : List Item) (n : ℕ) (to : ToMaster) → AreRecorded records →
-        StandIn (history run records steps).state sent → slice_get sent n ≡ Some (items.ToMaster to) → FitsRecord to.mail }
-    ensures fits { (run : ℕ) (records : List Durable) (steps : List Marked) (sent : List Item) (n : ℕ) (to : ToMaster) → GoodOpening run records →
-        StandIn (history run records steps).state sent → slice_get sent n ≡ Some (items.ToMaster to) → MailFitsAt to.agent to.mail (sides_of (history run records steps).state.world.channels) }
+    ensures number { (setup : Setup) (records : List Durable) (steps : List Marked) (sent : List Item) (n : ℕ) (to : ToMaster) → AreRecorded records →
+        StandIn (history setup records steps).state sent → slice_get sent n ≡ Some (items.ToMaster to) → FitsRecord to.mail }
+    ensures fits { (setup : Setup) (records : List Durable) (steps : List Marked) (sent : List Item) (n : ℕ) (to : ToMaster) → GoodOpening setup.run records →
+        StandIn (history setup records steps).state sent → slice_get sent n ≡ Some (items.ToMaster to) → MailFitsAt to.agent to.mail (sides_of (history setup records steps).state.world.channels) }
 {
     mails_meet_their_premises();
 }
@@ -60,8 +67,8 @@ pub fn mails_of_agents_fit()
 /// Each mail to an agent that was ever sent comes in order: a Hello tells a run above 0, and a Launch that is next has a key behind all those of the
 /// record of the agent that it is handed to.
 pub fn mails_to_agents_come_in_order()
-    ensures { (run : ℕ) (records : List Durable) (steps : List Marked) (sent : List Item) (n : ℕ) (to : ToAgent) → GoodOpening run records →
-        StandIn (history run records steps).state sent → slice_get sent n ≡ Some (items.ToAgent to) → Each (λ x. is_in_order x.agent (Mail to) ≡ true) (history run records steps).state.world.channels }
+    ensures { (setup : Setup) (records : List Durable) (steps : List Marked) (sent : List Item) (n : ℕ) (to : ToAgent) → GoodOpening setup.run records →
+        StandIn (history setup records steps).state sent → slice_get sent n ≡ Some (items.ToAgent to) → Each (λ x. is_in_order x.agent (Mail to) ≡ true) (history setup records steps).state.world.channels }
 {
     mails_meet_their_premises();
 }

@@ -18,5 +18,6 @@ pub use parts::{
 };
 pub use runs::{
     masters_open_next_streams, masters_stay_in_their_run, states_count_entries, streams_rise,
+    weights_stay,
 };
 pub use ties::{fresh_masters_open, named_agents_are_found, refusals_stand_alone};

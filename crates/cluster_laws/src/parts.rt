@@ -10,7 +10,7 @@ ghost use Rattle.cluster_model.specs.Ids.{last_run};
 ghost use Rattle.cluster_model.specs.Masters.{Doing};
 ghost use Rattle.cluster_model.specs.Openings.{NamesOnce};
 ghost use Rattle.cluster_model.specs.Sides.{Side, new_side, restarted};
-ghost use Rattle.cluster_model.specs.Steps.{agent_falls, done, effect_of, greets_all, happening, master_falls, master_stops, new_master_falls, open_cluster};
+ghost use Rattle.cluster_model.specs.Steps.{Setup, agent_falls, done, effect_of, greets_all, happening, master_falls, master_stops, new_master_falls, open_cluster};
 ghost use Rattle.mails.specs.declared.cause.Cause.{Cause};
 ghost use Rattle.mails.specs.declared.mail.MasterMail.{MasterMail};
 ghost use Rattle.mails.specs.declared.record.Durable.{Durable};
@@ -23,7 +23,8 @@ pub fn masters_leave_agents()
     ensures stops { (c : Cluster) → parts_of (done c (master_stops c)).after.world.channels ≡ parts_of c.world.channels }
     ensures falls { (c : Cluster) → parts_of (master_falls c).after.world.channels ≡ parts_of c.world.channels }
     ensures new_falls { (c : Cluster) → parts_of (new_master_falls c).after.world.channels ≡ parts_of c.world.channels }
-    ensures opening { (run : ℕ) (records : List Durable) → parts_of (open_cluster run records).after.world.channels ≡ map recovered_part records }
+    ensures opening { (setup : Setup) (records : List Durable) →
+        parts_of (open_cluster setup records).after.world.channels ≡ map recovered_part records }
 {}
 
 /// An agent's step leaves the master and all other agents as they are.

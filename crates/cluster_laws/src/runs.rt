@@ -2,6 +2,7 @@
 
 ghost use Rattle.std.specs.Prelude.{◌≡◌, ◌∷◌, List, [], length, Option, ℕ};
 ghost use Rattle.cluster_laws.specs.Runs.{AreRising, KeepsRun, OpensNext, SameRun, ids_of};
+ghost use Rattle.role_weights.specs.Weights.{RoleWeight};
 ghost use Rattle.cluster_model.specs.Calls.{called};
 ghost use Rattle.cluster_model.specs.Channels.{At, Hear};
 ghost use Rattle.cluster_model.specs.Clusters.{Cluster, master_of};
@@ -9,7 +10,7 @@ ghost use Rattle.cluster_model.specs.Mails.{agent_lost, hung_up, mailed, ticked}
 ghost use Rattle.cluster_model.specs.Masters.{Master};
 ghost use Rattle.cluster_model.specs.Rounds.{allocated};
 ghost use Rattle.cluster_model.specs.Sides.{Side};
-ghost use Rattle.cluster_model.specs.Steps.{Marked, done, effect_of, history};
+ghost use Rattle.cluster_model.specs.Steps.{Setup, Marked, done, effect_of, history};
 ghost use Rattle.mails.specs.declared.call.Call.{Call};
 ghost use Rattle.mails.specs.declared.mail.AgentMail.{AgentMail};
 ghost use Rattle.mails.specs.declared.record.Durable.{Durable};
@@ -19,7 +20,7 @@ ghost use Rattle.names_core.specs.Ids.{Numbered};
 /// serves if it did.
 pub fn masters_stay_in_their_run()
     ensures calls { (c : Cluster) (stream : Option Numbered) (call : Call) → KeepsRun c (called (master_of c) stream call) }
-    ensures rounds { (c : Cluster) → KeepsRun c (allocated (master_of c)) }
+    ensures rounds { (c : Cluster) → KeepsRun c (allocated c.weights (master_of c)) }
     ensures ticks { (c : Cluster) (now : ℕ) → KeepsRun c (ticked (master_of c) now) }
     ensures losses { (c : Cluster) (s : Side) → KeepsRun c (agent_lost (master_of c) s) }
     ensures hang_ups { (c : Cluster) (stream : Numbered) → KeepsRun c (hung_up (master_of c) stream) }
@@ -29,7 +30,7 @@ pub fn masters_stay_in_their_run()
 /// A master opens no stream in a step, or the one with the number behind the last one.
 pub fn masters_open_next_streams()
     ensures calls { (m : Master) (stream : Option Numbered) (call : Call) → OpensNext m (called m stream call) }
-    ensures rounds { (m : Master) → OpensNext m (allocated m) }
+    ensures rounds { (weights : List RoleWeight) (m : Master) → OpensNext m (allocated weights m) }
     ensures ticks { (m : Master) (now : ℕ) → OpensNext m (ticked m now) }
     ensures losses { (m : Master) (s : Side) → OpensNext m (agent_lost m s) }
     ensures hang_ups { (m : Master) (stream : Numbered) → OpensNext m (hung_up m stream) }
@@ -38,10 +39,18 @@ pub fn masters_open_next_streams()
 
 /// A state counts the entries of its history.
 pub fn states_count_entries()
-    ensures { (run : ℕ) (records : List Durable) (steps : List Marked) → (history run records steps).state.entries ≡ length (history run records steps).entries }
+    ensures { (setup : Setup) (records : List Durable) (steps : List Marked) →
+        (history setup records steps).state.entries ≡ length (history setup records steps).entries }
+{}
+
+/// The roles' weights stay those of the opening.
+pub fn weights_stay()
+    ensures { (setup : Setup) (records : List Durable) (steps : List Marked) →
+        (history setup records steps).state.weights ≡ setup.weights }
 {}
 
 /// The ids of the streams that were ever opened rise, by run and then by number, so that none stands twice.
 pub fn streams_rise()
-    ensures { (run : ℕ) (records : List Durable) (steps : List Marked) → AreRising (ids_of (history run records steps).state.streams) }
+    ensures { (setup : Setup) (records : List Durable) (steps : List Marked) →
+        AreRising (ids_of (history setup records steps).state.streams) }
 {}

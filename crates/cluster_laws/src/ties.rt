@@ -2,6 +2,7 @@
 
 ghost use Rattle.std.specs.Prelude.{◌≡◌, List, map, Option, Some, ℕ};
 ghost use Rattle.cluster_laws.specs.Parts.{configured};
+ghost use Rattle.role_weights.specs.Weights.{RoleWeight};
 ghost use Rattle.cluster_model.specs.Channels.{Channel};
 ghost use Rattle.cluster_model.specs.Clusters.{Cluster, master_of};
 ghost use Rattle.cluster_laws.specs.Runs.{RefusesAlone};
@@ -12,7 +13,7 @@ ghost use Rattle.cluster_model.specs.Rounds.{allocated};
 ghost use Rattle.cluster_model.specs.Sides.{Side};
 ghost use Rattle.mails.specs.declared.call.Call.{Call};
 ghost use Rattle.names_core.specs.Ids.{Numbered};
-ghost use Rattle.cluster_model.specs.Steps.{channel_of, opened_over};
+ghost use Rattle.cluster_model.specs.Steps.{Setup, channel_of, opened_over};
 ghost use Rattle.mails.specs.declared.mail.AgentMail.{AgentMail};
 ghost use Rattle.mails.specs.declared.record.Durable.{Durable};
 ghost use Rattle.agent_sides.specs.Named.{lost_by, mailed_by};
@@ -27,13 +28,16 @@ pub fn named_agents_are_found()
 
 /// A master that begins a run over the agents of records is the one that the opening has before it greets them.
 pub fn fresh_masters_open()
-    ensures { (run : ℕ) (records : List Durable) → master_in (fresh run (map configured records)) ≡ master_of (opened_over run records) }
+    ensures { (setup : Setup) (records : List Durable) →
+        master_in (fresh setup.run (map configured records))
+        ≡ master_of (opened_over setup records) }
 {}
 
 /// What a master refuses, but for a mail, it refuses alone: nothing moves, nothing is told, and no stream opens or closes.
 pub fn refusals_stand_alone()
     ensures calls { (m : Master) (stream : Option Numbered) (call : Call) → RefusesAlone m (called m stream call) }
-    ensures rounds { (m : Master) → RefusesAlone m (allocated m) }
+    ensures rounds { (weights : List RoleWeight) (m : Master) →
+        RefusesAlone m (allocated weights m) }
     ensures ticks { (m : Master) (now : ℕ) → RefusesAlone m (ticked m now) }
     ensures losses { (m : Master) (s : Side) → RefusesAlone m (agent_lost m s) }
     ensures hang_ups { (m : Master) (stream : Numbered) → RefusesAlone m (hung_up m stream) }

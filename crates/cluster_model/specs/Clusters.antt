@@ -7,6 +7,7 @@ use Rattle.mails.specs.declared.mail.ToAgent.{ToAgent}
 use Rattle.mails.specs.declared.mail.ToMaster.{ToMaster}
 use Rattle.mails.specs.declared.refusal.AgentRefusal.{AgentRefusal}
 use Rattle.mails.specs.declared.refusal.MasterRefusal.{MasterRefusal}
+use Rattle.role_weights.specs.Weights.{RoleWeight}
 use Rattle.cluster_model.specs.Sides.{Side}
 use Rattle.cluster_model.specs.Channels.{Channel, World}
 use Rattle.cluster_model.specs.Events.{Event, Told}
@@ -32,6 +33,7 @@ pub record Cluster : Type 0 where
   pub streams : List Stream
   pub last_tick : ℕ
   pub entries : ℕ  -- how many entries there are
+  pub weights : List RoleWeight  -- of the roles, for rounds of offers
 
 -- the master alone, without the agents' own parts
 abbrev pub sides_of : List Channel → List Side

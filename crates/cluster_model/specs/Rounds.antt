@@ -4,16 +4,27 @@ use Rattle.std.specs.List.{list_any, list_all}
 use Rattle.names_core.specs.Ids.{Numbered}
 use Rattle.quantity.specs.declared.rows.Row.{Row}
 use Rattle.quantity.specs.Rows.{amount, covers, rest_of}
+use Rattle.role_weights.specs.Weights.{RoleWeight, weight_of}
 use Rattle.cluster_model.specs.Ids.{same, before, following, bytes_before, last_number}
 use Rattle.cluster_model.specs.Sides.{Side, MakeOffer, taken, offer_rows, job_rows, unended}
 use Rattle.cluster_model.specs.Events.{MadeOffer, Told, OFFERS}
 use Rattle.cluster_model.specs.Masters.{Master, Framework, Filter, Doing, Move, AtSide, moved, on_stream}
 
--- Stands at most at: for each name i of the totals there is a name j at which the second's share is no less than the first's share of i
-abbrev pub is_at_most_at : List Row → List Row → List Row → Row → Row → Bool
-is_at_most_at totals a b i j = nat_le (amount i.name a * amount j.name totals) (amount j.name b * amount i.name totals)
+-- what is held, and its weight: how much of all that agents own is its due, beside the others'
+pub record Share : Type 0 where
+  pub held : List Row
+  pub weight : ℕ
 
-abbrev pub stands_at_most_at : List Row → List Row → List Row → Bool
+abbrev pub share : List Row → ℕ → Share
+share held weight = record { held = held; weight = weight }
+
+-- Stands at most at: for each name i of the totals there is a name j at which the second's share by its weight is no less than the
+-- first's share of i by its own
+abbrev pub is_at_most_at : List Row → Share → Share → Row → Row → Bool
+is_at_most_at totals a b i j =
+    nat_le (amount i.name a.held * (amount j.name totals * b.weight)) (amount j.name b.held * (amount i.name totals * a.weight))
+
+abbrev pub stands_at_most_at : List Row → Share → Share → Bool
 stands_at_most_at totals a b = list_all (λ i. list_any (λ j. is_at_most_at totals a b i j) totals) totals
 
 -- allocations
@@ -43,24 +54,31 @@ abbrev pub clients_of : Master → List Client
 clients_of m = map (λ f. record { framework = f; allocation = allocation_of m f.id }) m.registers.frameworks
 
 -- with the offers of the round so far
-abbrev pub share_of : List MadeOffer → Client → List Row
-share_of made c = c.allocation ++ given_to c.framework.id made
+abbrev pub held_with : List MadeOffer → Client → List Row
+held_with made c = c.allocation ++ given_to c.framework.id made
 
-abbrev pub role_share : List Client → List MadeOffer → List ℕ → List Row
-role_share cs made role = flat_map (λ c. if bytes_eq c.framework.role role then share_of made c else []) cs
+-- frameworks of one role count alike
+abbrev pub share_of : List MadeOffer → Client → Share
+share_of made c = share (held_with made c) 1
+
+abbrev pub role_rows : List Client → List MadeOffer → List ℕ → List Row
+role_rows cs made role = flat_map (λ c. if bytes_eq c.framework.role role then held_with made c else []) cs
+
+abbrev pub role_share : List RoleWeight → List Client → List MadeOffer → List ℕ → Share
+role_share weights cs made role = share (role_rows cs made role) (weight_of weights role)
 
 -- the least client
 
 -- by two shares, and by the tie where they stand alike
-abbrev pub stands_first : List Row → List Row → List Row → Bool → Bool
+abbrev pub stands_first : List Row → Share → Share → Bool → Bool
 stands_first totals a b tie = stands_at_most_at totals a b && (tie || not (stands_at_most_at totals b a))
 
 -- the first is served rather than the second: by their roles, and within a role by themselves
-abbrev pub comes_before : List Row → List Client → List MadeOffer → Client → Client → Bool
-comes_before totals cs made c d =
+abbrev pub comes_before : List RoleWeight → List Row → List Client → List MadeOffer → Client → Client → Bool
+comes_before weights totals cs made c d =
     if bytes_eq c.framework.role d.framework.role
     then stands_first totals (share_of made c) (share_of made d) (before c.framework.id d.framework.id)
-    else stands_first totals (role_share cs made c.framework.role) (role_share cs made d.framework.role) (bytes_before c.framework.role d.framework.role)
+    else stands_first totals (role_share weights cs made c.framework.role) (role_share weights cs made d.framework.role) (bytes_before c.framework.role d.framework.role)
 
 abbrev pub first_client : (Client → Client → Bool) → Option Client → Client → Option Client
 first_client comes None c = Some c
@@ -83,8 +101,8 @@ may_be_offered now agent free f = is_subscribed f.stream && not f.suppressed && 
 abbrev pub is_eligible : ℕ → List ℕ → List Row → Client → Bool
 is_eligible now agent free c = may_be_offered now agent free c.framework
 
-abbrev pub pick : ℕ → List Row → List Client → List MadeOffer → List ℕ → List Row → Option Client
-pick now totals cs made agent free = fold (first_client (comes_before totals cs made)) None (filter (is_eligible now agent free) cs)
+abbrev pub pick : List RoleWeight → ℕ → List Row → List Client → List MadeOffer → List ℕ → List Row → Option Client
+pick weights now totals cs made agent free = fold (first_client (comes_before weights totals cs made)) None (filter (is_eligible now agent free) cs)
 
 -- the round
 
@@ -101,20 +119,20 @@ offers_to r agent free (Some c) = record {
 }
 
 -- a free part that isn't empty goes whole to the least eligible client, while ids are left
-abbrev pub offers_free : ℕ → List Row → List Client → Round → List ℕ → List Row → Round
-offers_free now totals cs r agent [] = r
-offers_free now totals cs r agent (row ∷ rows) =
+abbrev pub offers_free : List RoleWeight → ℕ → List Row → List Client → Round → List ℕ → List Row → Round
+offers_free weights now totals cs r agent [] = r
+offers_free weights now totals cs r agent (row ∷ rows) =
     if nat_lt last_number r.next.n then r
-    else offers_to r agent (row ∷ rows) (pick now totals cs r.made agent (row ∷ rows))
+    else offers_to r agent (row ∷ rows) (pick weights now totals cs r.made agent (row ∷ rows))
 
 abbrev pub free : Side → List Row
 free s = rest_of s.total (taken s)
 
-abbrev pub visits : ℕ → List Row → List Client → Round → Side → Round
-visits now totals cs r s = if s.is_open then offers_free now totals cs r s.name (free s) else r
+abbrev pub visits : List RoleWeight → ℕ → List Row → List Client → Round → Side → Round
+visits weights now totals cs r s = if s.is_open then offers_free weights now totals cs r s.name (free s) else r
 
-abbrev pub round : Master → List MadeOffer
-round m = (fold (visits m.registers.now (totals_of m) (clients_of m)) (record { made = []; next = m.run.next_offer }) m.sides).made
+abbrev pub round : List RoleWeight → Master → List MadeOffer
+round weights m = (fold (visits weights m.registers.now (totals_of m) (clients_of m)) (record { made = []; next = m.run.next_offer }) m.sides).made
 
 -- the offers that entered the current ones
 
@@ -134,15 +152,15 @@ tells_offers f (made ∷ more) = on_stream f.stream (OFFERS (made ∷ more))
 abbrev pub offers_of : List MadeOffer → Framework → List Told
 offers_of made f = tells_offers f (filter (λ g. same g.offer.framework f.id) made)
 
-abbrev pub making : Master → List Move
-making m = map (λ g. AtSide g.agent (MakeOffer g.offer)) (round m)
+abbrev pub making : List RoleWeight → Master → List Move
+making weights m = map (λ g. AtSide g.agent (MakeOffer g.offer)) (round weights m)
 
 -- the events tell the offers that are then current and weren't before
-abbrev pub allocated : Master → Doing
-allocated m = record {
+abbrev pub allocated : List RoleWeight → Master → Doing
+allocated weights m = record {
   refusal = None;
-  moves = making m;
-  events = flat_map (offers_of (entered m.sides (moved m (making m)).sides)) m.registers.frameworks;
+  moves = making weights m;
+  events = flat_map (offers_of (entered m.sides (moved m (making weights m)).sides)) m.registers.frameworks;
   opens = [];
   closes = [];
   registers = m.registers;

@@ -11,6 +11,7 @@ use Rattle.mails.specs.declared.cause.Cause.TheVariants as causes
 use Rattle.mails.specs.declared.refusal.AgentRefusal.{AgentRefusal}
 use Rattle.mails.specs.declared.refusal.AgentRefusal.TheVariants.{NotForMe}
 use Rattle.mails.specs.declared.refusal.MasterRefusal.{MasterRefusal}
+use Rattle.role_weights.specs.Weights.{RoleWeight}
 use Rattle.cluster_model.specs.Ids.{same, last_number, last_run}
 use Rattle.cluster_model.specs.Agents.{Draft, next_of, hears_mail}
 use Rattle.cluster_model.specs.Sides.{SendHello}
@@ -108,6 +109,7 @@ done c e = record {
     streams = streams_after c.streams e.opens e.events;
     last_tick = c.last_tick;
     entries = suc c.entries;
+    weights = c.weights;
   };
 }
 
@@ -276,7 +278,7 @@ takes c id (Some s) = takes_event c id (slice_get s.events s.taken)
 abbrev pub answer : Cluster → Step → Result Done StepRefusal
 answer c (Send stream call) = Ok (sends c stream call)
 answer c (Deliver number) = with_master c (delivers c (post_at c number))
-answer c Allocate = with_master c (master_does c (allocated (master_of c)))
+answer c Allocate = with_master c (master_does c (allocated c.weights (master_of c)))
 answer c (Tick now) = with_master c (ticks_at c now)
 answer c (LoseAgent agent) = at_channel (channel_of c agent) (λ x. with_master c (loses_agent c x))
 answer c (HangUp stream) = with_master c (hangs_up c stream (stream_at c stream))
@@ -334,15 +336,33 @@ unmarked s = record { fell = false; step = s }
 
 -- histories
 
+-- how a cluster starts over its agents' records: the first master's run, and the weights of roles
+pub record Setup : Type 0 where
+  pub run : ℕ
+  pub weights : List RoleWeight
+
+-- all roles count alike
+abbrev pub unweighted : ℕ → Setup
+unweighted run = record { run = run; weights = [] }
+
 -- the opening: a Hello to every agent
-abbrev pub opened_over : ℕ → List Durable → Cluster
-opened_over run records = record { world = open_world run records; registers = new_registers; fallen = []; posts = []; streams = []; last_tick = 0; entries = 0 }
+abbrev pub opened_over : Setup → List Durable → Cluster
+opened_over setup records = record {
+  world = open_world setup.run records;
+  registers = new_registers;
+  fallen = [];
+  posts = [];
+  streams = [];
+  last_tick = 0;
+  entries = 0;
+  weights = setup.weights;
+}
 
 abbrev pub greets_all : Cluster → Effect
 greets_all c = happening c Fine (map hello_to c.world.channels)
 
-abbrev pub open_cluster : ℕ → List Durable → Done
-open_cluster run records = let c = opened_over run records in done c (greets_all c)
+abbrev pub open_cluster : Setup → List Durable → Done
+open_cluster setup records = let c = opened_over setup records in done c (greets_all c)
 
 -- entries, the oldest first; all that happened in the channels; and the state after them
 pub record History : Type 0 where
@@ -350,8 +370,8 @@ pub record History : Type 0 where
   pub happenings : List Happening
   pub state : Cluster
 
-abbrev pub opening : ℕ → List Durable → History
-opening run records = let d = open_cluster run records in record { entries = d.entry ∷ []; happenings = d.happenings; state = d.after }
+abbrev pub opening : Setup → List Durable → History
+opening setup records = let d = open_cluster setup records in record { entries = d.entry ∷ []; happenings = d.happenings; state = d.after }
 
 -- a step that is refused adds no entry
 abbrev pub extended : History → Result Done StepRefusal → History
@@ -363,5 +383,5 @@ extend_all h [] = h
 extend_all h (s ∷ ss) = extend_all (extended h (step_marked h.state s)) ss
 
 -- the history of a list of steps, from an opening
-abbrev pub history : ℕ → List Durable → List Marked → History
-history run records steps = extend_all (opening run records) steps
+abbrev pub history : Setup → List Durable → List Marked → History
+history setup records steps = extend_all (opening setup records) steps

@@ -1,5 +1,5 @@
 -- Each Ack that was ever sent is of an update that its task's framework acknowledged.
-use Rattle.std.proofs.Common.{◌≡◌, ℕ, List, [], ◌++◌, sym, ap, ◌∙◌, subst}
+use Rattle.std.proofs.Common.{◌≡◌, List, [], ◌++◌, sym, ap, ◌∙◌, subst}
 use Rattle.std.specs.Prelude.{◌⊎◌}
 use Rattle.std.specs.List.{AllByRecursion as Each}
 use Rattle.mails.specs.declared.mail.MasterMail.{MasterMail}
@@ -8,7 +8,7 @@ use Rattle.mails.specs.declared.task.Job.{Job}
 use Rattle.cluster_model.specs.Channels.{Channel, open_world}
 use Rattle.cluster_model.specs.Clusters.{Post}
 use Rattle.cluster_model.specs.Openings.{recorded_jobs, KeysOnce, GoodOpening}
-use Rattle.cluster_model.specs.Steps.{History, Marked, history}
+use Rattle.cluster_model.specs.Steps.{Setup, History, Marked, history}
 use Rattle.cluster_safe.specs.Acknowledged.{WasSent, WasCounted, recorded_tasks}
 use Rattle.cluster_safe.specs.Origin.{Mark, jobs_of, trail}
 use Rattle.cluster_safe.proofs.Orders.{each_map}
@@ -23,17 +23,17 @@ owners_ack records marks posts once mail told = λ session number framework key 
     let same : a.0 ≡ of.0 = once_same (jobs_of marks ++ recorded_jobs records) a.0 of.0 once a.1 of.1 (a.2 ∙ sym of.2) in
     subst (λ f. WasSent f key k posts ⊎ WasCounted key k (recorded_tasks records)) (ap (λ (j : Job). j.framework) same ∙ of.3) a.3
 
-pub history_acks : (run : ℕ) (records : List Durable) (steps : List Marked) → GoodOpening run records →
-    AcksAreOwners records (jobs_of (trail (history run records steps).happenings (open_world run records) []) ++ recorded_jobs records) (history run records steps).state.world (history run records steps).state.posts
-history_acks run records steps good = each_map (Carried Always (AckedBy records marks h.state.posts)) (λ (c : Channel). Each (IsOwnersAck records (jobs_of marks ++ recorded_jobs records) h.state.posts) c.to_agent)
+pub history_acks : (setup : Setup) (records : List Durable) (steps : List Marked) → GoodOpening setup.run records →
+    AcksAreOwners records (jobs_of (trail (history setup records steps).happenings (open_world setup.run records) []) ++ recorded_jobs records) (history setup records steps).state.world (history setup records steps).state.posts
+history_acks setup records steps good = each_map (Carried Always (AckedBy records marks h.state.posts)) (λ (c : Channel). Each (IsOwnersAck records (jobs_of marks ++ recorded_jobs records) h.state.posts) c.to_agent)
     (λ c k. each_map (DownTold Always (AckedBy records marks h.state.posts)) (IsOwnersAck records (jobs_of marks ++ recorded_jobs records) h.state.posts) (owners_ack records marks h.state.posts all.origin.keys.once) c.to_agent k.downs)
     h.state.world.channels all.acked
   where
     h : History
-    h = history run records steps
+    h = history setup records steps
 
     marks : List Mark
-    marks = trail (history run records steps).happenings (open_world run records) []
+    marks = trail (history setup records steps).happenings (open_world setup.run records) []
 
-    all : HistoryOk records (open_world run records) (history run records steps)
-    all = history_ok run records steps good
+    all : HistoryOk records (open_world setup.run records) (history setup records steps)
+    all = history_ok setup records steps good

@@ -15,6 +15,7 @@ use Rattle.mails.specs.declared.record.Durable.{Durable}
 use Rattle.mails.specs.declared.refusal.AgentRefusal.{AgentRefusal}
 use Rattle.mails.specs.declared.refusal.AgentRefusal.TheVariants.{NotForMe}
 use Rattle.mails.specs.declared.task.Job.{Job}
+use Rattle.role_weights.specs.Weights.{RoleWeight}
 use Rattle.cluster_model.specs.Ids.{last_number, last_run}
 use Rattle.cluster_model.specs.Agents.{Draft, hears_mail, next_of}
 use Rattle.cluster_model.specs.Sides.{LaunchFrom, MakeOffer, may_offer, used_offers}
@@ -25,7 +26,7 @@ use Rattle.cluster_model.specs.Calls.{called}
 use Rattle.cluster_model.specs.Mails.{mailed, ticked, agent_lost, hung_up}
 use Rattle.cluster_model.specs.Rounds.{round, allocated}
 use Rattle.cluster_model.specs.Clusters.{Sent, Stream, Post, Called, Down, Up, Cluster, master_of, StepCause, ByStart, ByAgain, ByExecutor, ByMail, Step, Send, Deliver, Allocate, Tick, LoseAgent, HangUp, Prepare, Commit, StopBefore, StopAfter, StopMaster, Take, StepRefusal, MasterDown, AgentDown, DraftOpen, NoDraft, HistoryFull, TimeBack, Fine, AgentRefused, Fell}
-use Rattle.cluster_model.specs.Steps.{sent_between, sent_by, Effect, Done, done, does, happening, happening_of, verdict_of, effect_of, master_does, master_hears, channel_of, delivers_up, delivers, post_at, with_tick, ticks_at, stream_at, hangs_up, loses_agent, hello_to, drafts, draws_mail_at, draws_mail, prepares, commits, up_again, stops, with_master, at_channel, is_fallen, if_up, by_draft, without_draft, with_draft, takes_event, takes, answer, master_falls, new_master_falls, fallen_too, agent_falls, instead, fallen_answer, Marked, step_marked, History, opening, extended, extend_all, history}
+use Rattle.cluster_model.specs.Steps.{Setup, sent_between, sent_by, Effect, Done, done, does, happening, happening_of, verdict_of, effect_of, master_does, master_hears, channel_of, delivers_up, delivers, post_at, with_tick, ticks_at, stream_at, hangs_up, loses_agent, hello_to, drafts, draws_mail_at, draws_mail, prepares, commits, up_again, stops, with_master, at_channel, is_fallen, if_up, by_draft, without_draft, with_draft, takes_event, takes, answer, master_falls, new_master_falls, fallen_too, agent_falls, instead, fallen_answer, Marked, step_marked, History, opening, extended, extend_all, history}
 use Rattle.cluster_safe.specs.Listed.{IsListed, MoveFrom, IsAcceptOf}
 use Rattle.cluster_safe.specs.Offered.{IsAmong}
 use Rattle.cluster_safe.specs.Origin.{Mark, Made, Used, Use, marks_at, marks_in, jobs_of, trail}
@@ -200,30 +201,30 @@ offers_send (g ∷ gs) w =
         cond_both (bytes_eq c.side.name g.agent) (marks_at w.run c.side (MakeOffer g.offer)) (marks_in g.agent (ByMaster (MakeOffer g.offer)) w.run cs) (λ ms. jobs_of ms ≡ [])
         (λ e. cond_both (may_offer w.run c.side g.offer) (Made (record { agent = c.side.name; offer = g.offer }) ∷ []) [] (λ ms. jobs_of ms ≡ []) (λ d. refl) (λ d. refl)) (λ e. rest)
 
-no_jobs : (m : Master) (marks : List Mark) → Each (IsToldBy m) marks → jobs_of marks ≡ []
-no_jobs m [] h = refl
-no_jobs m (Made g ∷ marks) h = no_jobs m marks h.1
-no_jobs m (Used u ∷ marks) h = absurd h.0
+no_jobs : (ws : List RoleWeight) (m : Master) (marks : List Mark) → Each (IsToldBy ws m) marks → jobs_of marks ≡ []
+no_jobs ws m [] h = refl
+no_jobs ws m (Made g ∷ marks) h = no_jobs ws m marks h.1
+no_jobs ws m (Used u ∷ marks) h = absurd h.0
 
-round_sourced : (c : Cluster) (s : Marked) → s.step ≡ Allocate → Sourced c s (master_does c (allocated (master_of c)))
+round_sourced : (c : Cluster) (s : Marked) → s.step ≡ Allocate → Sourced c s (master_does c (allocated c.weights (master_of c)))
 round_sourced c s e = (
   refl,
-  each_map (IsToldBy (master_of c)) (IsSource moment) source marks (round_told c),
-  each_map (IsToldBy (master_of c)) (Stood moment) stood marks (round_told c),
-  λ q. offers_send (round (master_of c)) c.world ∙ sym (no_jobs (master_of c) marks (round_told c)),
+  each_map (IsToldBy c.weights (master_of c)) (IsSource moment) source marks (round_told c),
+  each_map (IsToldBy c.weights (master_of c)) (Stood moment) stood marks (round_told c),
+  λ q. offers_send (round c.weights (master_of c)) c.world ∙ sym (no_jobs c.weights (master_of c) marks (round_told c)),
 )
   where
     moment : Moment
-    moment = record { before = c; step = s; did = done c (effect_of [] (allocated (master_of c))) }
+    moment = record { before = c; step = s; did = done c (effect_of [] (allocated c.weights (master_of c))) }
 
     marks : List Mark
-    marks = trail (map happening_of (allocated (master_of c)).moves) c.world []
+    marks = trail (map happening_of (allocated c.weights (master_of c)).moves) c.world []
 
-    source : (mark : Mark) → IsToldBy (master_of c) mark → IsSource (record { before = c; step = s; did = done c (effect_of [] (allocated (master_of c))) }) mark
+    source : (mark : Mark) → IsToldBy c.weights (master_of c) mark → IsSource (record { before = c; step = s; did = done c (effect_of [] (allocated c.weights (master_of c))) }) mark
     source (Made g) h = record { step = e; told = h }
     source (Used u) h = absurd h
 
-    stood : (mark : Mark) → IsToldBy (master_of c) mark → Stood (record { before = c; step = s; did = done c (effect_of [] (allocated (master_of c))) }) mark
+    stood : (mark : Mark) → IsToldBy c.weights (master_of c) mark → Stood (record { before = c; step = s; did = done c (effect_of [] (allocated c.weights (master_of c))) }) mark
     stood (Made g) h = tt
     stood (Used u) h = absurd h
 
@@ -279,7 +280,7 @@ takes_sourced c s id (Some x) = takes_event_sourced c s id (slice_get x.events x
 answer_sourced : (c : Cluster) (s : Marked) (step : Step) → s.step ≡ step → Sourced c s (answer c step)
 answer_sourced c s (Send stream call) e = (refl, tt, tt, λ q. refl)
 answer_sourced c s (Deliver number) e = with_master_sourced c s (delivers c (post_at c number)) (delivers_sourced c s number e (post_at c number) refl)
-answer_sourced c s Allocate e = with_master_sourced c s (master_does c (allocated (master_of c))) (round_sourced c s e)
+answer_sourced c s Allocate e = with_master_sourced c s (master_does c (allocated c.weights (master_of c))) (round_sourced c s e)
 answer_sourced c s (Tick now) e = with_master_sourced c s (ticks_at c now) (by_test c s (nat_lt now c.last_tick) (Err TimeBack) (master_does (with_tick c now) (ticked (master_of c) now)) tt (unmarked_sourced c (with_tick c now) s (effect_of [] (ticked (master_of c) now)) refl (ticks_unmarked (master_of c).sides) (λ q. absurd (q (subst IsTick (sym e) tt)))))
 answer_sourced c s (LoseAgent agent) e = at_channel_sourced c s (channel_of c agent) (λ x. with_master c (loses_agent c x)) (λ x. with_master_sourced c s (loses_agent c x) (silent c c s (effect_of [] (agent_lost (master_of c) x.side)) refl (moves_silent (agent_lost (master_of c) x.side).moves (lost_quiet (master_of c) x.side))))
 answer_sourced c s (HangUp stream) e = with_master_sourced c s (hangs_up c stream (stream_at c stream)) (hangs_up_sourced c s stream (stream_at c stream))
@@ -349,5 +350,5 @@ all_go : (start : World) (ss : List Marked) (h : History) (older : List Moment) 
 all_go start [] h older goes = goes
 all_go start (s ∷ ss) h older goes = all_go start ss (extended h (step_marked h.state s)) (noted h.state s (step_marked h.state s) older) (goes_on start h older s (step_marked h.state s) (step_sourced h.state s) goes)
 
-pub history_traced : (run : ℕ) (records : List Durable) (steps : List Marked) → Traced (moments run records steps) (trail (history run records steps).happenings (open_world run records) [])
-history_traced run records steps = (all_go (open_world run records) steps (opening run records) [] (record { path = refl; traced = trail_silent (map hello_to (open_world run records).channels) (unmarked (map hello_to (open_world run records).channels) (hellos_silent (open_world run records).channels)) (open_world run records) [] })).traced
+pub history_traced : (setup : Setup) (records : List Durable) (steps : List Marked) → Traced (moments setup records steps) (trail (history setup records steps).happenings (open_world setup.run records) [])
+history_traced setup records steps = (all_go (open_world setup.run records) steps (opening setup records) [] (record { path = refl; traced = trail_silent (map hello_to (open_world setup.run records).channels) (unmarked (map hello_to (open_world setup.run records).channels) (hellos_silent (open_world setup.run records).channels)) (open_world setup.run records) [] })).traced

@@ -28,7 +28,7 @@ use Rattle.cluster_model.specs.Sides.{Run, Side, Sending, sends_nothing, issue, 
 use Rattle.cluster_model.specs.Steps.{Done, happening_of, verdict_of, master_does, delivers, with_master, answer, master_falls, instead, fallen_answer, Marked, step_marked}
 use Rattle.cluster_safe.specs.Facts.{Less}
 use Rattle.cluster_safe.specs.Offered.{IsAmong}
-use Rattle.cluster_safe.specs.Origin.{Mark, Made, Used, WasMade, NotMade, IsTrail, marks_by}
+use Rattle.cluster_safe.specs.Origin.{Mark, Made, Used, WasMade, marks_by}
 use Rattle.cluster_safe.proofs.Drafts.{both_true}
 use Rattle.cluster_safe.proofs.Ids.{same_is, same_refl, less_upto}
 use Rattle.cluster_safe.proofs.Orders.{each_append, each_map}

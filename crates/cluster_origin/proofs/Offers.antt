@@ -4,6 +4,7 @@ use Rattle.std.specs.Prelude.{◌⊎◌, ⊤}
 use Rattle.std.specs.List.{AllByRecursion as Each}
 use Rattle.std.proofs.Math.Seq.{drop-append_seam}
 use Rattle.mails.specs.declared.task.Offer.{Offer}
+use Rattle.role_weights.specs.Weights.{RoleWeight}
 use Rattle.cluster_model.specs.Sides.{Run, Side, MakeOffer, may_offer, offered}
 use Rattle.cluster_model.specs.Channels.{Channel, ByMaster, happens, World, at_agent, after_all}
 use Rattle.cluster_model.specs.Events.{MadeOffer}
@@ -146,15 +147,15 @@ all_made olds (g ∷ gs) w marks grew h =
     all_made olds gs (at_agent g.agent (ByMaster (MakeOffer g.offer)) w.run w.channels) (marks_in g.agent (ByMaster (MakeOffer g.offer)) w.run w.channels ++ marks) step.grew
     (entered_wider olds w.channels (at_agent g.agent (ByMaster (MakeOffer g.offer)) w.run w.channels).channels marks (marks_in g.agent (ByMaster (MakeOffer g.offer)) w.run w.channels) step h)
 
-abbrev pub IsToldBy : Master → Mark → Type 0
-IsToldBy m (Made g) = IsTold m.registers.frameworks (allocated m).events g
-IsToldBy m (Used u) = ⊥
+abbrev pub IsToldBy : List RoleWeight → Master → Mark → Type 0
+IsToldBy ws m (Made g) = IsTold m.registers.frameworks (allocated ws m).events g
+IsToldBy ws m (Used u) = ⊥
 
-pub round_told : (c : Cluster) → Each (IsToldBy (master_of c)) (trail (map happening_of (allocated (master_of c)).moves) c.world [])
-round_told c = each_map (IsEntered (sides_of c.world.channels) (moved (master_of c) (making (master_of c))).sides) (IsToldBy (master_of c)) told (trail (map happening_of (making (master_of c))) c.world [])
-    (subst (λ news. Each (IsEntered (sides_of c.world.channels) news) (trail (map happening_of (making (master_of c))) c.world [])) (ap (λ (m : Master). m.sides) (master_alone c (allocated (master_of c))))
-    (all_made (sides_of c.world.channels) (round (master_of c)) c.world [] (grew_first (sides_of c.world.channels)) tt))
+pub round_told : (c : Cluster) → Each (IsToldBy c.weights (master_of c)) (trail (map happening_of (allocated c.weights (master_of c)).moves) c.world [])
+round_told c = each_map (IsEntered (sides_of c.world.channels) (moved (master_of c) (making c.weights (master_of c))).sides) (IsToldBy c.weights (master_of c)) told (trail (map happening_of (making c.weights (master_of c))) c.world [])
+    (subst (λ news. Each (IsEntered (sides_of c.world.channels) news) (trail (map happening_of (making c.weights (master_of c))) c.world [])) (ap (λ (m : Master). m.sides) (master_alone c (allocated c.weights (master_of c))))
+    (all_made (sides_of c.world.channels) (round c.weights (master_of c)) c.world [] (grew_first (sides_of c.world.channels)) tt))
   where
-    told : (mark : Mark) → IsEntered (sides_of c.world.channels) (moved (master_of c) (making (master_of c))).sides mark → IsToldBy (master_of c) mark
-    told (Made g) h = each_among (IsTold c.registers.frameworks (allocated (master_of c)).events) (entered (sides_of c.world.channels) (moved (master_of c) (making (master_of c))).sides) g (offers_told (master_of c)) h
+    told : (mark : Mark) → IsEntered (sides_of c.world.channels) (moved (master_of c) (making c.weights (master_of c))).sides mark → IsToldBy c.weights (master_of c) mark
+    told (Made g) h = each_among (IsTold c.registers.frameworks (allocated c.weights (master_of c)).events) (entered (sides_of c.world.channels) (moved (master_of c) (making c.weights (master_of c))).sides) g (offers_told c.weights (master_of c)) h
     told (Used u) h = absurd h

@@ -16,7 +16,7 @@ use Rattle.cluster_model.specs.Clusters.{Cluster, Step, Tick, Sent, CallSent, Ma
 use Rattle.cluster_model.specs.Ids.{same, is_among}
 use Rattle.cluster_model.specs.Openings.{GoodOpening, KeysOnce, recorded_jobs}
 use Rattle.cluster_model.specs.Sides.{is_named, job_rows, offer_rows}
-use Rattle.cluster_model.specs.Steps.{Done, hello_to, Marked, History, step_marked, opening, extended, extend_all, history}
+use Rattle.cluster_model.specs.Steps.{Setup, Done, hello_to, Marked, History, step_marked, opening, extended, extend_all, history}
 use Rattle.cluster_safe.specs.Facts.{AtMost}
 use Rattle.cluster_safe.specs.Listed.{IsListed}
 use Rattle.cluster_safe.specs.Offered.{IsAmong}
@@ -131,12 +131,12 @@ all_go : (records : List Durable) (start : World) (ss : List Marked) (h : Histor
 all_go records start [] h older goes = goes
 all_go records start (s ∷ ss) h older goes = all_go records start ss (extended h (step_marked h.state s)) (noted h.state s (step_marked h.state s) older) (goes_on records start h older s (step_marked h.state s) refl (step_sourced h.state s) goes)
 
-history_goes : (run : ℕ) (records : List Durable) (steps : List Marked) → GoodOpening run records → Goes records (open_world run records) (history run records steps) (moments run records steps)
-history_goes run records steps good = all_go records (open_world run records) steps (opening run records) [] (record {
+history_goes : (setup : Setup) (records : List Durable) (steps : List Marked) → GoodOpening setup.run records → Goes records (open_world setup.run records) (history setup records steps) (moments setup records steps)
+history_goes setup records steps good = all_go records (open_world setup.run records) steps (opening setup records) [] (record {
   path = refl;
-  origin = origin_all records (map hello_to (open_world run records).channels) (open_world run records) [] (origin_opened run records good);
-  came = trail_silent (map hello_to (open_world run records).channels) (unmarked (map hello_to (open_world run records).channels) (hellos_silent (open_world run records).channels)) (open_world run records) [];
-  waits = all_wait (map hello_to (open_world run records).channels) (open_world run records) (open_waits records);
+  origin = origin_all records (map hello_to (open_world setup.run records).channels) (open_world setup.run records) [] (origin_opened setup.run records good);
+  came = trail_silent (map hello_to (open_world setup.run records).channels) (unmarked (map hello_to (open_world setup.run records).channels) (hellos_silent (open_world setup.run records).channels)) (open_world setup.run records) [];
+  waits = all_wait (map hello_to (open_world setup.run records).channels) (open_world setup.run records) (open_waits records);
   spent = tt;
   once = tt;
 })
@@ -325,20 +325,20 @@ is_launched records (m ∷ older) marks agent j c is keys once h =
     by rest (inl f) = ([], m, older, refl, launches_first records m older agent j c.0 c.1 c.4 c.5 c.6 c.7 split once f)
     by rest (inr k) = later k (rest k)
 
-pub history_launches : (run : ℕ) (records : List Durable) (steps : List Marked) → GoodOpening run records → Origin records (history run records steps).state.world (moments run records steps)
-history_launches run records steps good = record {
-  tasks = each_map (λ (c : Channel). Each (λ t. From records c.side.name marks t.job) c.agent.durable.tasks) (HaveOrigin records (moments run records steps))
-      (λ c h. each_map (λ t. From records c.side.name marks t.job) (λ t. IsLaunchedOrRecorded records (moments run records steps) c.side.name t.job) (λ t k. launched_as c.side.name t.job k) c.agent.durable.tasks h)
-      (history run records steps).state.world.channels (has_origin records (history run records steps).state.world marks goes.origin).tasks;
+pub history_launches : (setup : Setup) (records : List Durable) (steps : List Marked) → GoodOpening setup.run records → Origin records (history setup records steps).state.world (moments setup records steps)
+history_launches setup records steps good = record {
+  tasks = each_map (λ (c : Channel). Each (λ t. From records c.side.name marks t.job) c.agent.durable.tasks) (HaveOrigin records (moments setup records steps))
+      (λ c h. each_map (λ t. From records c.side.name marks t.job) (λ t. IsLaunchedOrRecorded records (moments setup records steps) c.side.name t.job) (λ t k. launched_as c.side.name t.job k) c.agent.durable.tasks h)
+      (history setup records steps).state.world.channels (has_origin records (history setup records steps).state.world marks goes.origin).tasks;
   offers = goes.once;
 }
   where
     marks : List Mark
-    marks = trail (history run records steps).happenings (open_world run records) []
+    marks = trail (history setup records steps).happenings (open_world setup.run records) []
 
-    goes : Goes records (open_world run records) (history run records steps) (moments run records steps)
-    goes = history_goes run records steps good
+    goes : Goes records (open_world setup.run records) (history setup records steps) (moments setup records steps)
+    goes = history_goes setup records steps good
 
-    launched_as : (agent : List ℕ) (j : Job) → From records agent (trail (history run records steps).happenings (open_world run records) []) j → IsLaunchedOrRecorded records (moments run records steps) agent j
-    launched_as agent j (inl h) = inl (is_launched records (moments run records steps) marks agent j goes.came goes.origin.trail.is goes.origin.keys.once goes.once h)
+    launched_as : (agent : List ℕ) (j : Job) → From records agent (trail (history setup records steps).happenings (open_world setup.run records) []) j → IsLaunchedOrRecorded records (moments setup records steps) agent j
+    launched_as agent j (inl h) = inl (is_launched records (moments setup records steps) marks agent j goes.came goes.origin.trail.is goes.origin.keys.once goes.once h)
     launched_as agent j (inr h) = inr h

@@ -10,7 +10,7 @@ use Rattle.cluster_model.specs.Channels.{Channel, open_world}
 use Rattle.cluster_model.specs.Clusters.{Deliver, Allocate}
 use Rattle.cluster_model.specs.Events.{MadeOffer}
 use Rattle.cluster_model.specs.Openings.{GoodOpening}
-use Rattle.cluster_model.specs.Steps.{Marked, history}
+use Rattle.cluster_model.specs.Steps.{Setup, Marked, history}
 use Rattle.cluster_safe.specs.Offered.{IsAmong}
 use Rattle.cluster_safe.specs.Origin.{Mark, Made, Used, Use, IsOneOf, IsTrail, From, HasOrigin, WasMade, NotUsed, jobs_on, recorded_on, trail}
 use Rattle.cluster_safe.proofs.Histories.{history_origin}
@@ -103,17 +103,17 @@ was_launched (m ∷ older) marks agent j t is h =
     by rest (inl k) = inl k.0
     by rest (inr k) = inr (rest k)
 
-pub history_sources : (run : ℕ) (records : List Durable) (steps : List Marked) → GoodOpening run records → HaveSources records (history run records steps).state.world (moments run records steps)
-history_sources run records steps good = each_map (λ (c : Channel). Each (λ t. From records c.side.name marks t.job) c.agent.durable.tasks) (λ (c : Channel). Each (λ t. WasLaunched (moments run records steps) c.side.name t.job ⊎ IsOneOf t.job (recorded_on c.side.name records)) c.agent.durable.tasks)
-    (λ c h. each_map (λ t. From records c.side.name marks t.job) (λ t. WasLaunched (moments run records steps) c.side.name t.job ⊎ IsOneOf t.job (recorded_on c.side.name records)) (λ t k. source c.side.name t.job k) c.agent.durable.tasks h)
-    (history run records steps).state.world.channels origin.tasks
+pub history_sources : (setup : Setup) (records : List Durable) (steps : List Marked) → GoodOpening setup.run records → HaveSources records (history setup records steps).state.world (moments setup records steps)
+history_sources setup records steps good = each_map (λ (c : Channel). Each (λ t. From records c.side.name marks t.job) c.agent.durable.tasks) (λ (c : Channel). Each (λ t. WasLaunched (moments setup records steps) c.side.name t.job ⊎ IsOneOf t.job (recorded_on c.side.name records)) c.agent.durable.tasks)
+    (λ c h. each_map (λ t. From records c.side.name marks t.job) (λ t. WasLaunched (moments setup records steps) c.side.name t.job ⊎ IsOneOf t.job (recorded_on c.side.name records)) (λ t k. source c.side.name t.job k) c.agent.durable.tasks h)
+    (history setup records steps).state.world.channels origin.tasks
   where
     marks : List Mark
-    marks = trail (history run records steps).happenings (open_world run records) []
+    marks = trail (history setup records steps).happenings (open_world setup.run records) []
 
-    origin : HasOrigin records (history run records steps).state.world (trail (history run records steps).happenings (open_world run records) [])
-    origin = history_origin run records steps good
+    origin : HasOrigin records (history setup records steps).state.world (trail (history setup records steps).happenings (open_world setup.run records) [])
+    origin = history_origin setup records steps good
 
-    source : (agent : List ℕ) (j : Job) → From records agent (trail (history run records steps).happenings (open_world run records) []) j → WasLaunched (moments run records steps) agent j ⊎ IsOneOf j (recorded_on agent records)
-    source agent j (inl h) = inl (was_launched (moments run records steps) (trail (history run records steps).happenings (open_world run records) []) agent j (history_traced run records steps) origin.uses h)
+    source : (agent : List ℕ) (j : Job) → From records agent (trail (history setup records steps).happenings (open_world setup.run records) []) j → WasLaunched (moments setup records steps) agent j ⊎ IsOneOf j (recorded_on agent records)
+    source agent j (inl h) = inl (was_launched (moments setup records steps) (trail (history setup records steps).happenings (open_world setup.run records) []) agent j (history_traced setup records steps) origin.uses h)
     source agent j (inr h) = inr h

@@ -1,8 +1,8 @@
 -- The entries of a history, each with the state before it.
-use Rattle.std.specs.Prelude.{ℕ, List, [], ◌∷◌, Result, Ok, Err}
+use Rattle.std.specs.Prelude.{List, [], ◌∷◌, Result, Ok, Err}
 use Rattle.mails.specs.declared.record.Durable.{Durable}
 use Rattle.cluster_model.specs.Clusters.{Cluster, StepRefusal}
-use Rattle.cluster_model.specs.Steps.{Done, History, Marked, extended, opening, step_marked}
+use Rattle.cluster_model.specs.Steps.{Setup, Done, History, Marked, extended, opening, step_marked}
 
 -- a step that was taken: the state before it, and what it did, its entry among that
 pub record Moment : Type 0 where
@@ -21,5 +21,5 @@ moments_from h [] older = older
 moments_from h (s ∷ ss) older = moments_from (extended h (step_marked h.state s)) ss (noted h.state s (step_marked h.state s) older)
 
 -- all entries since the opening, the newest first
-abbrev pub moments : ℕ → List Durable → List Marked → List Moment
-moments run records steps = moments_from (opening run records) steps []
+abbrev pub moments : Setup → List Durable → List Marked → List Moment
+moments setup records steps = moments_from (opening setup records) steps []

@@ -12,7 +12,7 @@ use Rattle.cluster_model.specs.Mails.{having_heard, mailed}
 use Rattle.cluster_model.specs.Masters.{Doing, Master, after_doing, moved}
 use Rattle.cluster_model.specs.Openings.{GoodOpening}
 use Rattle.cluster_model.specs.Sides.{Side, halted}
-use Rattle.cluster_model.specs.Steps.{Done, Marked, answer, channel_of, delivers, delivers_up, done, effect_of, fallen_answer, history, instead, master_falls, master_hears, post_at}
+use Rattle.cluster_model.specs.Steps.{Setup, Done, Marked, answer, channel_of, delivers, delivers_up, done, effect_of, fallen_answer, history, instead, master_falls, master_hears, post_at}
 use Rattle.cluster_model.specs.Steps as steps
 use Rattle.cluster_laws.proofs.Found.{found_has}
 use Rattle.cluster_laws.proofs.Lists.{each_all}
@@ -65,10 +65,10 @@ pub record HearLaws : Type 0 where
   pub parts : (c : Cluster) (agent : List ℕ) (place : ℕ) (d : Doing) → parts_of (done c (effect_of (At agent (Hear place) ∷ []) d)).after.world.channels ≡ parts_of c.world.channels
   pub run : (c : Cluster) (agent : List ℕ) (place : ℕ) (s : Side) (mail : AgentMail) → SameRun c.world.run (done c (effect_of (At agent (Hear place) ∷ []) (mailed (master_of c) s mail))).after.world.run
   pub named : (c : Cluster) (agent : List ℕ) (x : Channel) (mail : AgentMail) → channel_of c agent ≡ Some x → mailed_by (master_of c) agent mail ≡ mailed (master_of c) x.side mail
-  pub number : (run : ℕ) (records : List Durable) (steps : List Marked) (sent : List Item) (n : ℕ) (to : ToMaster) → AreRecorded records →
-      StandIn (history run records steps).state sent → slice_get sent n ≡ Some (sent_items.ToMaster to) → FitsRecord to.mail
-  pub fits : (run : ℕ) (records : List Durable) (steps : List Marked) (sent : List Item) (n : ℕ) (to : ToMaster) → GoodOpening run records →
-      StandIn (history run records steps).state sent → slice_get sent n ≡ Some (sent_items.ToMaster to) → MailFitsAt to.agent to.mail (sides_of (history run records steps).state.world.channels)
+  pub number : (setup : Setup) (records : List Durable) (steps : List Marked) (sent : List Item) (n : ℕ) (to : ToMaster) → AreRecorded records →
+      StandIn (history setup records steps).state sent → slice_get sent n ≡ Some (sent_items.ToMaster to) → FitsRecord to.mail
+  pub fits : (setup : Setup) (records : List Durable) (steps : List Marked) (sent : List Item) (n : ℕ) (to : ToMaster) → GoodOpening setup.run records →
+      StandIn (history setup records steps).state sent → slice_get sent n ≡ Some (sent_items.ToMaster to) → MailFitsAt to.agent to.mail (sides_of (history setup records steps).state.world.channels)
 
 abbrev told_with : List StreamEvent → List Numbered → List code.Sent → Outputs
 told_with events closed sent = record { events = events; closed = closed; sent = sent; taken = None }
@@ -262,7 +262,7 @@ rise_here laws c number to (Ok h) after r serves come (why, outs, next) =
     subst (λ (o : Outs). AreRising (kept_ids (kept_streams c.streams) ++ o.opened)) (sym (outs ∙ ap (outs_of (having_heard (master_of c) to.agent to.mail)) (laws.named c to.agent come.x to.mail come.channel)))
     (subst AreRising (laws.more.ids c.streams d.opens d.events)
     (subst (λ (x : Cluster). AreRising (ids_of x.streams)) (state_then c r (delivering false number) (hearing c to come.place come.x) (it_answers c number to serves come))
-    (laws.more.rising r.run r.records (r.steps ++ delivering false number ∷ []))))
+    (laws.more.rising r.setup r.records (r.steps ++ delivering false number ∷ []))))
   where
     d : Doing
     d = mailed (master_of c) come.x.side to.mail
@@ -277,13 +277,13 @@ hear_rise laws c number to before after answered items ss r stands e h =
 pub hear_number : HearLaws → (c : Cluster) (number : ℕ) (to : ToMaster) (master : Option (Option Master)) (items : List Item) (ss : List KeptStream) → Reached c → StandsFor c master items ss → item_at number items ≡ Some (sent_items.ToMaster to) → FitsRecord to.mail
 hear_number laws c zero to master items ss r stands e = absurd (let clash : None ≡ Some (sent_items.ToMaster to) = e in cc)
 hear_number laws c (suc k) to master items ss r stands e =
-    laws.number r.run r.records r.steps items k to r.recorded (subst (λ (x : Cluster). StandIn x items) r.is stands.as_items) (sym (item_behind k items) ∙ e)
+    laws.number r.setup r.records r.steps items k to r.recorded (subst (λ (x : Cluster). StandIn x items) r.is stands.as_items) (sym (item_behind k items) ∙ e)
 
 fits_here : HearLaws → (c : Cluster) (number : ℕ) (to : ToMaster) (items : List Item) → Reached c → StandIn c items → item_at number items ≡ Some (sent_items.ToMaster to) → MailFitsAt to.agent to.mail (sides_of c.world.channels)
 fits_here laws c zero to items r stand e = absurd (let clash : None ≡ Some (sent_items.ToMaster to) = e in cc)
 fits_here laws c (suc k) to items r stand e =
     subst (λ (x : Cluster). MailFitsAt to.agent to.mail (sides_of x.world.channels)) (sym r.is)
-    (laws.fits r.run r.records r.steps items k to r.good (subst (λ (x : Cluster). StandIn x items) r.is stand) (sym (item_behind k items) ∙ e))
+    (laws.fits r.setup r.records r.steps items k to r.good (subst (λ (x : Cluster). StandIn x items) r.is stand) (sym (item_behind k items) ∙ e))
 
 pub hear_fits : HearLaws → (c : Cluster) (number : ℕ) (to : ToMaster) (before : Option Master) (items : List Item) (ss : List KeptStream) → Reached c → StandsFor c (Some before) items ss → item_at number items ≡ Some (sent_items.ToMaster to) →
     IfSome before (λ m. MailFitsAt to.agent to.mail m.sides)

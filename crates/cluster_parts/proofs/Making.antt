@@ -9,7 +9,7 @@ use Rattle.cluster_model.specs.Agents.{Draft, hears_mail, next_of, recovered}
 use Rattle.cluster_model.specs.Channels.{Channel, AgentStep, Draw, DrawMail, Adopt, StopWithout, StopWith, At, ByAgent, agent_step, is_own}
 use Rattle.cluster_model.specs.Clusters.{Cluster, Sent, Step, Stream, HistoryFull, Verdict, master_of}
 use Rattle.cluster_model.specs.Openings.{GoodOpening, NamesOnce}
-use Rattle.cluster_model.specs.Steps.{Done, Marked, answer, done, fallen_answer, happening, hears, history, step_marked, streams_after}
+use Rattle.cluster_model.specs.Steps.{Setup, Done, Marked, answer, done, fallen_answer, happening, hears, history, step_marked, streams_after}
 use Rattle.cluster_laws.specs.declared.item.Item.{Item}
 use Rattle.cluster_laws.specs.Items.{StandIn, call_of, items_sent, names_of, new_items}
 use Rattle.cluster_laws.specs.Parts.{IsSilent, Part, from_agent, part_of, parts_of}
@@ -20,9 +20,9 @@ use Rattle.cluster_parts.proofs.Finding.{SameBut, one_changes}
 
 -- what the laws give
 pub record Laws : Type 0 where
-  pub once : (run : ℕ) (records : List Durable) (steps : List Marked) → GoodOpening run records → NamesOnce (names_of (history run records steps).state.world.channels)
-  pub stand : (run : ℕ) (records : List Durable) (steps : List Marked) (s : Marked) (d : Done) (sent : List Item) → GoodOpening run records →
-      step_marked (history run records steps).state s ≡ Ok d → StandIn (history run records steps).state sent → StandIn d.after (sent ++ new_items s.step d)
+  pub once : (setup : Setup) (records : List Durable) (steps : List Marked) → GoodOpening setup.run records → NamesOnce (names_of (history setup records steps).state.world.channels)
+  pub stand : (setup : Setup) (records : List Durable) (steps : List Marked) (s : Marked) (d : Done) (sent : List Item) → GoodOpening setup.run records →
+      step_marked (history setup records steps).state s ≡ Ok d → StandIn (history setup records steps).state sent → StandIn d.after (sent ++ new_items s.step d)
   pub master : (c : Cluster) (verdict : Verdict) (agent : List ℕ) (step : AgentStep) → master_of (done c (happening c verdict (At agent (ByAgent step) ∷ []))).after ≡ master_of c
   pub one : (c : Cluster) (verdict : Verdict) (agent : List ℕ) (step : AgentStep) (place : ℕ) (x : Channel) → NamesOnce (names_of c.world.channels) → slice_get c.world.channels place ≡ Some x → x.side.name ≡ agent →
       parts_of (done c (happening c verdict (At agent (ByAgent step) ∷ []))).after.world.channels ≡ slice_set (parts_of c.world.channels) place (part_of (agent_step x step))
@@ -39,7 +39,7 @@ pub record Laws : Type 0 where
 -- ---- what holds of a state that is reached
 
 pub names_once : Laws → (c : Cluster) → Reached c → NamesOnce (names_of c.world.channels)
-names_once laws c r = subst (λ (x : Cluster). NamesOnce (names_of x.world.channels)) (sym r.is) (laws.once r.run r.records r.steps r.good)
+names_once laws c r = subst (λ (x : Cluster). NamesOnce (names_of x.world.channels)) (sym r.is) (laws.once r.setup r.records r.steps r.good)
 
 -- a step's answer, where the history has room
 pub marked : (c : Cluster) (m : Marked) (d : Done) → nat_le last_number c.entries ≡ false → (if m.fell then fallen_answer c m.step else answer c m.step) ≡ Ok d → step_marked c m ≡ Ok d
@@ -47,12 +47,12 @@ marked c m d room e = subst (λ (b : Bool). (if b then Err HistoryFull else (if 
 
 -- the law that the items stand for the posts after each step
 abbrev pub ItemsStand : Type 0
-ItemsStand = (run : ℕ) (records : List Durable) (steps : List Marked) (s : Marked) (d : Done) (sent : List Item) → GoodOpening run records →
-    step_marked (history run records steps).state s ≡ Ok d → StandIn (history run records steps).state sent → StandIn d.after (sent ++ new_items s.step d)
+ItemsStand = (setup : Setup) (records : List Durable) (steps : List Marked) (s : Marked) (d : Done) (sent : List Item) → GoodOpening setup.run records →
+    step_marked (history setup records steps).state s ≡ Ok d → StandIn (history setup records steps).state sent → StandIn d.after (sent ++ new_items s.step d)
 
 pub items_by : ItemsStand → (c : Cluster) (m : Marked) (d : Done) (sent : List Item) → Reached c → (if m.fell then fallen_answer c m.step else answer c m.step) ≡ Ok d → StandIn c sent → StandIn d.after (sent ++ new_items m.step d)
 items_by law c m d sent r e stand =
-    law r.run r.records r.steps m d sent r.good
+    law r.setup r.records r.steps m d sent r.good
     (subst (λ (x : Cluster). step_marked x m ≡ Ok d) r.is (marked c m d r.room e))
     (subst (λ (x : Cluster). StandIn x sent) r.is stand)
 

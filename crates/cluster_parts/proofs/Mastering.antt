@@ -10,7 +10,7 @@ use Rattle.cluster_model.specs.Clusters.{Cluster, MailToAgent, Sent, Step, Strea
 use Rattle.cluster_model.specs.Events.{Told}
 use Rattle.cluster_model.specs.Masters.{Doing, Master, after_doing, moved, refused}
 use Rattle.cluster_model.specs.Sides.{halted}
-use Rattle.cluster_model.specs.Steps.{Done, History, Marked, answer, extend_all, extended, history, opening, step_marked, done, effect_of, fallen_answer, instead, master_does, master_falls, sent_between, streams_after, with_tick}
+use Rattle.cluster_model.specs.Steps.{Setup, Done, History, Marked, answer, extend_all, extended, history, opening, step_marked, done, effect_of, fallen_answer, instead, master_does, master_falls, sent_between, streams_after, with_tick}
 use Rattle.cluster_model.specs.Steps as steps
 use Rattle.cluster_laws.specs.declared.item.Item.{Item}
 use Rattle.cluster_laws.specs.Items.{StandIn, call_of, items_sent}
@@ -42,7 +42,7 @@ pub record MasterLaws : Type 0 where
   pub parts_fallen : (c : Cluster) → parts_of (master_falls c).after.world.channels ≡ parts_of c.world.channels
   pub down : (c : Cluster) → (master_falls c).after.world.run.serves ≡ false
   pub hears : (streams : List Stream) (opens : List Numbered) (told : List Told) → AreWithin streams → kept_streams (streams_after streams opens told) ≡ heard opens (map written told) (kept_streams streams)
-  pub rising : (run : ℕ) (records : List Durable) (steps : List Marked) → AreRising (ids_of (history run records steps).state.streams)
+  pub rising : (setup : Setup) (records : List Durable) (steps : List Marked) → AreRising (ids_of (history setup records steps).state.streams)
   pub ids : (streams : List Stream) (opens : List Numbered) (told : List Told) → ids_of (streams_after streams opens told) ≡ kept_ids (kept_streams streams) ++ opens
   pub within : (streams : List Stream) (opens : List Numbered) (told : List Told) → AreWithin streams → AreWithin (streams_after streams opens told)
 
@@ -223,10 +223,10 @@ extended_more h [] m = refl
 extended_more h (s ∷ ss) m = extended_more (extended h (step_marked h.state s)) ss m
 
 -- the state after a step is reached by one more step
-pub state_then : (c : Cluster) (r : Reached c) (m : Marked) (d : Done) → (if m.fell then fallen_answer c m.step else answer c m.step) ≡ Ok d → (history r.run r.records (r.steps ++ m ∷ [])).state ≡ d.after
+pub state_then : (c : Cluster) (r : Reached c) (m : Marked) (d : Done) → (if m.fell then fallen_answer c m.step else answer c m.step) ≡ Ok d → (history r.setup r.records (r.steps ++ m ∷ [])).state ≡ d.after
 state_then c r m d e =
-    let steps_so : step_marked (history r.run r.records r.steps).state m ≡ Ok d = subst (λ (x : Cluster). step_marked x m ≡ Ok d) r.is (marked c m d r.room e) in
-    ap (λ (x : History). x.state) (extended_more (opening r.run r.records) r.steps m) ∙ ap (λ (x : Result Done StepRefusal). (extended (history r.run r.records r.steps) x).state) steps_so
+    let steps_so : step_marked (history r.setup r.records r.steps).state m ≡ Ok d = subst (λ (x : Cluster). step_marked x m ≡ Ok d) r.is (marked c m d r.room e) in
+    ap (λ (x : History). x.state) (extended_more (opening r.setup r.records) r.steps m) ∙ ap (λ (x : Result Done StepRefusal). (extended (history r.setup r.records r.steps) x).state) steps_so
 
 pub streams_then_rise : MasterLaws → (c : Cluster) (s : Step) (moment : ℕ) (doing : Master → Doing) (answered : Result Outs MasterFault) (after : Option Master) → Reached c → Does c s moment (doing (master_of c)) → Answers answered (Some (master_of c)) after doing →
     IfOk answered (λ outs. AreRising (kept_ids (kept_streams c.streams) ++ outs.opened))
@@ -235,7 +235,7 @@ streams_then_rise more c s moment doing (Ok outs) after r how (fine, is, next) =
     subst (λ (o : Outs). AreRising (kept_ids (kept_streams c.streams) ++ o.opened)) (sym is)
     (subst AreRising (more.ids c.streams (doing (master_of c)).opens (doing (master_of c)).events)
     (subst (λ (x : Cluster). AreRising (ids_of x.streams)) (state_then c r (unfallen s) (done (with_tick c moment) (effect_of [] (doing (master_of c)))) how.answers)
-    (more.rising r.run r.records (r.steps ++ unfallen s ∷ []))))
+    (more.rising r.setup r.records (r.steps ++ unfallen s ∷ []))))
 
 -- a master is there exactly where it serves
 pub serves_if : (m : Master) (o : Option Master) → Some o ≡ kept_master m → (m.run.serves ≡ true) × (o ≡ Some m)

@@ -6,7 +6,7 @@ use Rattle.mails.specs.declared.record.Durable.{Durable}
 use Rattle.cluster_model.specs.Clusters.{Cluster, MailToAgent, Sent, master_of}
 use Rattle.cluster_model.specs.Masters.{Master, moved}
 use Rattle.cluster_model.specs.Openings.{GoodOpening}
-use Rattle.cluster_model.specs.Steps.{Done, open_cluster, opened_over, opening}
+use Rattle.cluster_model.specs.Steps.{Setup, Done, open_cluster, opened_over, opening, unweighted}
 use Rattle.cluster_laws.specs.declared.item.Item.{Item}
 use Rattle.cluster_laws.specs.Items.{StandIn, items_sent}
 use Rattle.cluster_laws.specs.Parts.{configured, greeting, parts_of, recovered_part}
@@ -29,46 +29,46 @@ use Rattle.cluster_parts.proofs.Outgoing.{kept_so, told_so}
 
 pub record OpenLaws : Type 0 where
   pub greet : GreetLaws
-  pub fresh : (run : ℕ) (records : List Durable) → new_master run (map configured records) ≡ master_of (opened_over run records)
-  pub stand : (run : ℕ) (records : List Durable) → GoodOpening run records → StandIn (opening run records).state (items_sent [] (open_cluster run records).entry.outs.sent)
-  pub parts : (run : ℕ) (records : List Durable) → parts_of (open_cluster run records).after.world.channels ≡ map recovered_part records
+  pub fresh : (setup : Setup) (records : List Durable) → new_master setup.run (map configured records) ≡ master_of (opened_over setup records)
+  pub stand : (setup : Setup) (records : List Durable) → GoodOpening setup.run records → StandIn (opening setup records).state (items_sent [] (open_cluster setup records).entry.outs.sent)
+  pub parts : (setup : Setup) (records : List Durable) → parts_of (open_cluster setup records).after.world.channels ≡ map recovered_part records
 
 all_up : (records : List Durable) → map up_over records ≡ map (kept_part []) (map recovered_part records)
 all_up [] = refl
 all_up (d ∷ ds) = ap (λ as_. up_over d ∷ as_) (all_up ds)
 
-pub agents_open : OpenLaws → (run : ℕ) (records : List Durable) → map up_over records ≡ kept_agents (opening run records).state
-agents_open laws run records = all_up records ∙ ap (map (kept_part [])) (sym (laws.parts run records))
+pub agents_open : OpenLaws → (setup : Setup) (records : List Durable) → map up_over records ≡ kept_agents (opening setup records).state
+agents_open laws setup records = all_up records ∙ ap (map (kept_part [])) (sym (laws.parts setup records))
 
 -- what the first master brings out, in the words of the model
-first_outs : OpenLaws → (run : ℕ) (records : List Durable) (outs : Outs) → outs ≡ outs_of (new_master run (map configured records)) (greeting (new_master run (map configured records))) →
-    outs ≡ outs_of (master_of (opened_over run records)) (greeting (master_of (opened_over run records)))
-first_outs laws run records outs is = is ∙ ap (λ (m : Master). outs_of m (greeting m)) (laws.fresh run records)
+first_outs : OpenLaws → (setup : Setup) (records : List Durable) (outs : Outs) → outs ≡ outs_of (new_master setup.run (map configured records)) (greeting (new_master setup.run (map configured records))) →
+    outs ≡ outs_of (master_of (opened_over setup records)) (greeting (master_of (opened_over setup records)))
+first_outs laws setup records outs is = is ∙ ap (λ (m : Master). outs_of m (greeting m)) (laws.fresh setup records)
 
-parts_open : OpenLaws → (run : ℕ) (records : List Durable) (outs : Outs) (made : Made) (started n : Option (Option Master)) (js : List Item) (ts : List KeptStream) →
-    GoodOpening run records → started ≡ Some (Some (new_master run (map configured records))) → outs ≡ outs_of (new_master run (map configured records)) (greeting (new_master run (map configured records))) → Tells outs made started n [] js [] ts →
-    StandsFor (opening run records).state n js ts × (made.outputs ≡ outputs_of (open_cluster run records).entry.outs)
-parts_open laws run records outs made started n js ts good begins brings t = (stands, outputs)
+parts_open : OpenLaws → (setup : Setup) (records : List Durable) (outs : Outs) (made : Made) (started n : Option (Option Master)) (js : List Item) (ts : List KeptStream) →
+    GoodOpening setup.run records → started ≡ Some (Some (new_master setup.run (map configured records))) → outs ≡ outs_of (new_master setup.run (map configured records)) (greeting (new_master setup.run (map configured records))) → Tells outs made started n [] js [] ts →
+    StandsFor (opening setup records).state n js ts × (made.outputs ≡ outputs_of (open_cluster setup records).entry.outs)
+parts_open laws setup records outs made started n js ts good begins brings t = (stands, outputs)
   where
     first : Cluster
-    first = opened_over run records
+    first = opened_over setup records
 
     D : Done
-    D = open_cluster run records
+    D = open_cluster setup records
 
     mails : List ToAgent
     mails = (moved (master_of first) (greeting (master_of first)).moves).sent
 
     outs_so : outs ≡ outs_of (master_of first) (greeting (master_of first))
-    outs_so = first_outs laws run records outs brings
+    outs_so = first_outs laws setup records outs brings
 
     sends : D.entry.outs.sent ≡ map MailToAgent mails
     sends = greeting_mails laws.greet first
 
     stands : StandsFor D.after n js ts
     stands = record {
-      as_master = t.same_master ∙ begins ∙ ap (λ (m : Master). Some (Some m)) (laws.fresh run records) ∙ sym (ap kept_master (greeted_master laws.greet first));
-      as_items = subst (StandIn D.after) (ap (items_sent []) sends ∙ kept_so mails ∙ sym (t.more_items ∙ ap (λ (o : Outs). map item_to o.mails) outs_so)) (laws.stand run records good);
+      as_master = t.same_master ∙ begins ∙ ap (λ (m : Master). Some (Some m)) (laws.fresh setup records) ∙ sym (ap kept_master (greeted_master laws.greet first));
+      as_items = subst (StandIn D.after) (ap (items_sent []) sends ∙ kept_so mails ∙ sym (t.more_items ∙ ap (λ (o : Outs). map item_to o.mails) outs_so)) (laws.stand setup records good);
       as_streams = t.more_streams ∙ ap (λ (o : Outs). heard o.opened o.events []) outs_so;
       within = tt;
     }
@@ -79,17 +79,17 @@ parts_open laws run records outs made started n js ts good begins brings t = (st
 no_fall : {A : Type 0} (made : Made) → made ≡ ends_with verdicts.OutOfMemory → made.verdict ≡ verdicts.Ok → A
 no_fall {A = A} made is fine = absurd (let clash : verdicts.OutOfMemory ≡ verdicts.Ok = sym (ap (λ (m : Made). m.verdict) is) ∙ fine in cc)
 
-pub open_made : OpenLaws → (run : ℕ) (records : List Durable) (answered : Result Outs MasterFault) (made : Made) (started n : Option (Option Master)) (js : List Item) (ts : List KeptStream) →
-    GoodOpening run records → Starts answered started run (map configured records) → Settles answered made started n [] js [] ts → made.verdict ≡ verdicts.Ok →
-    StandsFor (opening run records).state n js ts × (made.outputs ≡ outputs_of (open_cluster run records).entry.outs)
-open_made laws run records (Ok outs) made started n js ts good begins (inl t) fine = parts_open laws run records outs made started n js ts good begins.0 begins.1 t
-open_made laws run records (Ok outs) made started n js ts good begins (inr f) fine = no_fall made f.is fine
-open_made laws run records (Err fault.OutOfMemory) made started n js ts good begins f fine = no_fall made f.is fine
-open_made laws run records (Err (fault.Refused refusal)) made started n js ts good begins t fine = absurd begins
+pub open_made : OpenLaws → (setup : Setup) (records : List Durable) (answered : Result Outs MasterFault) (made : Made) (started n : Option (Option Master)) (js : List Item) (ts : List KeptStream) →
+    GoodOpening setup.run records → Starts answered started setup.run (map configured records) → Settles answered made started n [] js [] ts → made.verdict ≡ verdicts.Ok →
+    StandsFor (opening setup records).state n js ts × (made.outputs ≡ outputs_of (open_cluster setup records).entry.outs)
+open_made laws setup records (Ok outs) made started n js ts good begins (inl t) fine = parts_open laws setup records outs made started n js ts good begins.0 begins.1 t
+open_made laws setup records (Ok outs) made started n js ts good begins (inr f) fine = no_fall made f.is fine
+open_made laws setup records (Err fault.OutOfMemory) made started n js ts good begins f fine = no_fall made f.is fine
+open_made laws setup records (Err (fault.Refused refusal)) made started n js ts good begins t fine = absurd begins
 
 pub open_rise : OpenLaws → (run : ℕ) (records : List Durable) (answered : Result Outs MasterFault) (started : Option (Option Master)) → Starts answered started run (map configured records) → IfOk answered (λ outs. AreRising (kept_ids [] ++ outs.opened))
 open_rise laws run records (Err e) started begins = tt
-open_rise laws run records (Ok outs) started begins = subst (λ (o : Outs). AreRising (kept_ids [] ++ o.opened)) (sym (first_outs laws run records outs begins.1)) tt
+open_rise laws run records (Ok outs) started begins = subst (λ (o : Outs). AreRising (kept_ids [] ++ o.opened)) (sym (first_outs laws (unweighted run) records outs begins.1)) tt
 
-pub open_run : OpenLaws → (run : ℕ) (records : List Durable) → (opening run records).state.world.run.number ≡ run
-open_run laws run records = ap (λ (m : Master). m.run.number) (greeted_master laws.greet (opened_over run records))
+pub open_run : OpenLaws → (setup : Setup) (records : List Durable) → (opening setup records).state.world.run.number ≡ setup.run
+open_run laws setup records = ap (λ (m : Master). m.run.number) (greeted_master laws.greet (opened_over setup records))

@@ -19,7 +19,7 @@ use Rattle.cluster_model.specs.Agents.{Draft, hears_mail, next_of, recovered}
 use Rattle.cluster_model.specs.Channels.{Channel, AgentStep, Draw, DrawMail, StopWithout, agent_step}
 use Rattle.cluster_model.specs.Clusters.{Cluster, Post, Called, Down, Up, Prepare, Step, StepRefusal, AgentDown, DraftOpen, NoSuchAgent, NoSuchMail, Fine, AgentRefused, Fell, Verdict}
 use Rattle.cluster_model.specs.Clusters as model
-use Rattle.cluster_model.specs.Steps.{Done, Marked, answer, agent_falls, at_channel, by_draft, channel_of, done, drafts, draws_mail, draws_mail_at, does, happening, history, if_up, instead, post_at, prepares, without_draft}
+use Rattle.cluster_model.specs.Steps.{Setup, Done, Marked, answer, agent_falls, at_channel, by_draft, channel_of, done, drafts, draws_mail, draws_mail_at, does, happening, history, if_up, instead, post_at, prepares, without_draft}
 use Rattle.cluster_laws.specs.declared.item.Item.{Item}
 use Rattle.cluster_laws.specs.declared.item.Item.TheVariants as items
 use Rattle.cluster_laws.specs.Items.{StandIn}
@@ -42,7 +42,7 @@ use Rattle.cluster_parts.proofs.Committing.{if_it_is_down, if_it_is_up}
 
 pub record MoreLaws : Type 0 where
   pub laws : Laws
-  pub recorded : (run : ℕ) (records : List Durable) (steps : List Marked) → Each (λ x. x.agent.durable.name ≡ x.side.name) (history run records steps).state.world.channels
+  pub recorded : (setup : Setup) (records : List Durable) (steps : List Marked) → Each (λ x. x.agent.durable.name ≡ x.side.name) (history setup records steps).state.world.channels
   pub calls : (c : Cluster) (sent : List Item) (n : ℕ) (stream : Option Numbered) (call : Call) → StandIn c sent → slice_get sent n ≡ Some (items.Call stream call) → slice_get c.posts n ≡ Some (Called stream call)
   pub to_agents : (c : Cluster) (sent : List Item) (n : ℕ) (to : ToAgent) → StandIn c sent → slice_get sent n ≡ Some (items.ToAgent to) → IsDown c n to
   pub to_master : (c : Cluster) (sent : List Item) (n : ℕ) (to : ToMaster) → StandIn c sent → slice_get sent n ≡ Some (items.ToMaster to) → IsUp c n to
@@ -86,7 +86,7 @@ record Drawing (c : Cluster) (x : Channel) (cause : StepCause) (given : Cause) :
   becomes : (d : Draft) → next_of x.agent given ≡ Ok d → part_of (agent_step x step) ≡ drawn_part x d
 
 named : MoreLaws → (c : Cluster) (place : ℕ) (x : Channel) → Reached c → slice_get c.world.channels place ≡ Some x → x.agent.durable.name ≡ x.side.name
-named more c place x r e = each_at c.world.channels place x (subst (λ (s : Cluster). Each (λ y. y.agent.durable.name ≡ y.side.name) s.world.channels) (sym r.is) (more.recorded r.run r.records r.steps)) e
+named more c place x r e = each_at c.world.channels place x (subst (λ (s : Cluster). Each (λ y. y.agent.durable.name ≡ y.side.name) s.world.channels) (sym r.is) (more.recorded r.setup r.records r.steps)) e
   where
     each_at : (cs : List Channel) (k : ℕ) (x : Channel) → Each (λ y. y.agent.durable.name ≡ y.side.name) cs → slice_get cs k ≡ Some x → x.agent.durable.name ≡ x.side.name
     each_at [] k x h e = absurd (let clash : None ≡ Some x = e in cc)

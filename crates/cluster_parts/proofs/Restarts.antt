@@ -10,7 +10,7 @@ use Rattle.cluster_model.specs.Events.{Told}
 use Rattle.cluster_model.specs.Ids.{last_run}
 use Rattle.cluster_model.specs.Masters.{Master, moved, new_registers}
 use Rattle.cluster_model.specs.Sides.{Side, halted, new_run, new_side, restarted}
-use Rattle.cluster_model.specs.Steps.{Done, Effect, Marked, answer, done, fallen_answer, greets_all, happening, hello_to, history, master_stops, new_master_falls, opened_over, sent_between, streams_after}
+use Rattle.cluster_model.specs.Steps.{Setup, unweighted, Done, Effect, Marked, answer, done, fallen_answer, greets_all, happening, hello_to, history, master_stops, new_master_falls, opened_over, sent_between, streams_after}
 use Rattle.cluster_laws.proofs.Grown.{Grown, world_grown}
 use Rattle.cluster_laws.proofs.Histories.{reached}
 use Rattle.cluster_laws.proofs.Lists.{append_same, cons_same}
@@ -42,7 +42,7 @@ use Rattle.cluster_parts.proofs.Outgoing.{kept_so, sides_send_nothing, told_so}
 pub record StopLaws : Type 0 where
   pub greet : GreetLaws
   pub stand : ItemsStand
-  pub fresh : (run : ℕ) (records : List Durable) → new_master run (map configured records) ≡ master_of (opened_over run records)
+  pub fresh : (setup : Setup) (records : List Durable) → new_master setup.run (map configured records) ≡ master_of (opened_over setup records)
   pub state : (c : Cluster) → nat_lt c.world.run.number last_run ≡ true → (done c (master_stops c)).after ≡ (done (anew c) (greets_all (anew c))).after
   pub mails : (c : Cluster) → nat_lt c.world.run.number last_run ≡ true → (done c (master_stops c)).entry.outs.sent ≡ (done (anew c) (greets_all (anew c))).entry.outs.sent
   pub master : (c : Cluster) → master_of (anew c) ≡ next_master (master_of c)
@@ -50,7 +50,7 @@ pub record StopLaws : Type 0 where
   pub parts_fallen : (c : Cluster) → parts_of (new_master_falls c).after.world.channels ≡ parts_of c.world.channels
   pub hears : (streams : List Stream) (opens : List Numbered) (told : List Told) → AreWithin streams → kept_streams (streams_after streams opens told) ≡ heard opens (map written told) (kept_streams streams)
   pub ids : (streams : List Stream) (opens : List Numbered) (told : List Told) → ids_of (streams_after streams opens told) ≡ kept_ids (kept_streams streams) ++ opens
-  pub rising : (run : ℕ) (records : List Durable) (steps : List Marked) → AreRising (ids_of (history run records steps).state.streams)
+  pub rising : (setup : Setup) (records : List Durable) (steps : List Marked) → AreRising (ids_of (history setup records steps).state.streams)
 
 -- ---- of its sides a new master has the names and totals of the opening's records
 
@@ -67,15 +67,15 @@ opened_again : (records : List Durable) → map restarted (sides_of (map open_ch
 opened_again [] = refl
 opened_again (d ∷ ds) = ap (λ (ss : List Side). new_side d.name d.total ∷ ss) (opened_again ds)
 
-history_restarted : (run : ℕ) (records : List Durable) (steps : List Marked) → map restarted (sides_of (history run records steps).state.world.channels) ≡ sides_of (map open_channel records)
-history_restarted run records steps =
-    reached (λ w. map restarted (sides_of w.channels) ≡ sides_of (map open_channel records)) (λ w h e. restarted_grown w.channels (after w h).channels (world_grown w h) ∙ e) run records steps (opened_again records)
+history_restarted : (setup : Setup) (records : List Durable) (steps : List Marked) → map restarted (sides_of (history setup records steps).state.world.channels) ≡ sides_of (map open_channel records)
+history_restarted setup records steps =
+    reached (λ w. map restarted (sides_of w.channels) ≡ sides_of (map open_channel records)) (λ w h e. restarted_grown w.channels (after w h).channels (world_grown w h) ∙ e) setup records steps (opened_again records)
 
 -- the master that begins the next run is the model's next one
 next_is_new : StopLaws → (c : Cluster) (r : Reached c) → new_master (1 + c.world.run.number) (map configured r.records) ≡ master_of (anew c)
 next_is_new laws c r =
-    laws.fresh (1 + c.world.run.number) r.records
-    ∙ ap (λ (ss : List Side). record { run = new_run (1 + c.world.run.number); sides = ss; registers = new_registers }) (sym (subst (λ (x : Cluster). map restarted (sides_of x.world.channels) ≡ sides_of (map open_channel r.records)) (sym r.is) (history_restarted r.run r.records r.steps)))
+    laws.fresh (unweighted (1 + c.world.run.number)) r.records
+    ∙ ap (λ (ss : List Side). record { run = new_run (1 + c.world.run.number); sides = ss; registers = new_registers }) (sym (subst (λ (x : Cluster). map restarted (sides_of x.world.channels) ≡ sides_of (map open_channel r.records)) (sym r.is) (history_restarted r.setup r.records r.steps)))
     ∙ sym (laws.master c)
 
 -- ---- what it makes
@@ -245,7 +245,7 @@ rise_here : StopLaws → (c : Cluster) → Reached c → AreRising (kept_ids (ke
 rise_here laws c r =
     subst AreRising (laws.ids c.streams [] [])
     (subst (λ (xs : List Stream). AreRising (ids_of xs)) (sym (quiet_streams c.streams))
-    (subst (λ (x : Cluster). AreRising (ids_of x.streams)) (sym r.is) (laws.rising r.run r.records r.steps)))
+    (subst (λ (x : Cluster). AreRising (ids_of x.streams)) (sym r.is) (laws.rising r.setup r.records r.steps)))
 
 pub anew_rise : StopLaws → (c : Cluster) (r : Reached c) (answered : Result Outs MasterFault) (master started : Option (Option Master)) (items : List Item) (ss : List KeptStream) (run : ℕ) → StandsFor c master items ss → Starts answered started run (map configured r.records) →
     IfOk answered (λ outs. AreRising (kept_ids ss ++ outs.opened))

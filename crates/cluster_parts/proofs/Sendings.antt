@@ -1,5 +1,5 @@
 -- Calls are sent, and events are taken.
-use Rattle.std.proofs.Common.{◌≡◌, ℕ, suc, Bool, false, List, [], ◌∷◌, ◌++◌, map, Option, Some, None, option_map, Ok, Err, refl, sym, ap, ◌∙◌, subst}
+use Rattle.std.proofs.Common.{◌≡◌, suc, Bool, false, List, [], ◌∷◌, ◌++◌, map, Option, Some, None, option_map, Ok, Err, refl, sym, ap, ◌∙◌, subst}
 use Rattle.event_json.specs.declared.event.Event as json
 use Rattle.mails.specs.declared.call.Call.{Call}
 use Rattle.mails.specs.declared.record.Durable.{Durable}
@@ -8,7 +8,7 @@ use Rattle.names_core.specs.Ids.{Numbered}
 use Rattle.cluster_model.specs.Clusters.{Cluster, Send, Step, Stream, Take, NoSuchMail, Fine}
 use Rattle.cluster_model.specs.Events.{Event}
 use Rattle.cluster_model.specs.Masters.{Master}
-use Rattle.cluster_model.specs.Steps.{Done, Marked, answer, history, sends, takes_event, takes_one}
+use Rattle.cluster_model.specs.Steps.{Setup, Done, Marked, answer, history, sends, takes_event, takes_one}
 use Rattle.cluster_laws.specs.declared.item.Item.{Item}
 use Rattle.cluster_laws.specs.declared.item.Item.TheVariants as items
 use Rattle.cluster_laws.specs.Items.{StandIn}
@@ -40,7 +40,7 @@ send_made law c stream call sent r stand = record {
 
 pub record TakeLaws : Type 0 where
   pub stand : ItemsStand
-  pub rising : (run : ℕ) (records : List Durable) (steps : List Marked) → AreRising (ids_of (history run records steps).state.streams)
+  pub rising : (setup : Setup) (records : List Durable) (steps : List Marked) → AreRising (ids_of (history setup records steps).state.streams)
   pub next : (c : Cluster) (id : Numbered) → next_on id (kept_streams c.streams) ≡ option_map event_of (untaken c id)
   pub answers : (c : Cluster) (id : Numbered) → answer c (Take id) ≡ takes_event c id (untaken c id)
   pub takes : (streams : List Stream) (id : Numbered) → kept_streams (map (takes_one id) streams) ≡ taken id (kept_streams streams)
@@ -66,7 +66,7 @@ take_one laws c id event master sent r stands e = record {
     as_master = stands.as_master;
     as_items = subst (StandIn (taken_so c id event).after) (append_nothing sent) (items_by laws.stand c (marks_so false (Take id)) (taken_so c id event) sent r answers stands.as_items);
     as_streams = sym (laws.takes c.streams id);
-    within = laws.within c id event (subst (λ (x : Cluster). AreRising (ids_of x.streams)) (sym r.is) (laws.rising r.run r.records r.steps)) stands.within e;
+    within = laws.within c id event (subst (λ (x : Cluster). AreRising (ids_of x.streams)) (sym r.is) (laws.rising r.setup r.records r.steps)) stands.within e;
   };
   leaves_parts = refl;
   leaves_fallen = refl;

@@ -7,6 +7,7 @@ use Rattle.cluster_model.specs.Calls.{called}
 use Rattle.cluster_model.specs.Channels.{Channel}
 use Rattle.cluster_model.specs.Clusters.{Allocate, Called, Cluster, Deliver, HangUp, LoseAgent, Stream, StepRefusal, MasterDown, TimeBack, Tick, master_of}
 use Rattle.cluster_model.specs.Mails.{agent_lost, hung_up, ticked}
+use Rattle.role_weights.specs.Weights.{RoleWeight}
 use Rattle.cluster_model.specs.Masters.{Master}
 use Rattle.cluster_model.specs.Rounds.{allocated}
 use Rattle.cluster_model.specs.Sides.{Side}
@@ -17,12 +18,12 @@ use Rattle.cluster_parts.proofs.Committing.{if_it_is_down, if_it_is_up}
 
 pub record DoingLaws : Type 0 where
   pub calls : (c : Cluster) (stream : Option Numbered) (call : Call) → KeepsRun c (called (master_of c) stream call)
-  pub rounds : (c : Cluster) → KeepsRun c (allocated (master_of c))
+  pub rounds : (c : Cluster) → KeepsRun c (allocated c.weights (master_of c))
   pub ticks : (c : Cluster) (now : ℕ) → KeepsRun c (ticked (master_of c) now)
   pub losses : (c : Cluster) (s : Side) → KeepsRun c (agent_lost (master_of c) s)
   pub hang_ups : (c : Cluster) (stream : Numbered) → KeepsRun c (hung_up (master_of c) stream)
   pub alone_calls : (m : Master) (stream : Option Numbered) (call : Call) → RefusesAlone m (called m stream call)
-  pub alone_rounds : (m : Master) → RefusesAlone m (allocated m)
+  pub alone_rounds : (weights : List RoleWeight) (m : Master) → RefusesAlone m (allocated weights m)
   pub alone_ticks : (m : Master) (now : ℕ) → RefusesAlone m (ticked m now)
   pub alone_losses : (m : Master) (s : Side) → RefusesAlone m (agent_lost m s)
   pub alone_hang_ups : (m : Master) (stream : Numbered) → RefusesAlone m (hung_up m stream)
@@ -39,13 +40,13 @@ does_calls laws c n stream call serves post = record {
   alone = laws.alone_calls (master_of c) stream call;
 }
 
-pub does_rounds : DoingLaws → (c : Cluster) → c.world.run.serves ≡ true → Does c Allocate c.last_tick (allocated (master_of c))
-does_rounds laws c serves = record {
-  answers = up c (master_does c (allocated (master_of c))) serves;
+pub does_rounds : DoingLaws → (c : Cluster) (weights : List RoleWeight) → c.weights ≡ weights → c.world.run.serves ≡ true → Does c Allocate c.last_tick (allocated weights (master_of c))
+does_rounds laws c weights same serves = subst (λ ws. Does c Allocate c.last_tick (allocated ws (master_of c))) same (record {
+  answers = up c (master_does c (allocated c.weights (master_of c))) serves;
   falls = refl;
   keeps = laws.rounds c;
-  alone = laws.alone_rounds (master_of c);
-}
+  alone = laws.alone_rounds c.weights (master_of c);
+})
 
 pub does_ticks : DoingLaws → (c : Cluster) (now : ℕ) → c.world.run.serves ≡ true → nat_lt now c.last_tick ≡ false → Does c (Tick now) now (ticked (master_of c) now)
 does_ticks laws c now serves later = record {

@@ -4,6 +4,7 @@ use Rattle.event_json.specs.declared.event.Event.{Event}
 use Rattle.names_core.specs.Ids.{Numbered}
 use Rattle.mails.specs.declared.mail.ToAgent.{ToAgent}
 use Rattle.mails.specs.declared.refusal.MasterRefusal.{MasterRefusal}
+use Rattle.role_weights.specs.Weights.{RoleWeight}
 use Rattle.cluster_model.specs.Clusters.{Cluster, Step, master_of}
 use Rattle.cluster_model.specs.Masters.{Doing, Master}
 use Rattle.cluster_model.specs.Steps.{Done, answer, fallen_answer, instead, master_does, master_falls, with_tick}
@@ -116,6 +117,10 @@ taking id event = record { verdict = verdicts.Ok; outputs = taking_out id event;
 -- with the moment of its last tick
 abbrev pub StandingAt : ℕ → Option (Option Master) → List Item → List KeptStream → Type 0
 StandingAt moment master items_sent streams = (c : Cluster) × Reached c × (c.last_tick ≡ moment) × StandsFor c master items_sent streams
+
+-- with these weights of roles
+abbrev pub StandingBy : List RoleWeight → Option (Option Master) → List Item → List KeptStream → Type 0
+StandingBy weights master items_sent streams = (c : Cluster) × Reached c × (c.weights ≡ weights) × StandsFor c master items_sent streams
 
 -- with its agents
 abbrev pub StandingWith : List KeptAgent → Option (Option Master) → List Item → List KeptStream → Type 0

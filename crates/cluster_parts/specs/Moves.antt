@@ -8,7 +8,7 @@ use Rattle.agent_core.specs.Drafts.{is_in_order}
 use Rattle.cluster_model.specs.Ids.{last_number}
 use Rattle.cluster_model.specs.Clusters.{Cluster, Step, NoSuchMail, MasterDown, AgentDown, DraftOpen, NoDraft, HistoryFull, TimeBack, NoSuchAgent, master_of}
 use Rattle.cluster_model.specs.Openings.{GoodOpening}
-use Rattle.cluster_model.specs.Steps.{Done, Marked, answer, fallen_answer, history}
+use Rattle.cluster_model.specs.Steps.{Setup, Done, Marked, answer, fallen_answer, history}
 use Rattle.cluster_laws.specs.declared.item.Item.{Item}
 use Rattle.cluster_laws.specs.Items.{StandIn}
 use Rattle.cluster_laws.specs.Parts.{Part, parts_of}
@@ -24,12 +24,12 @@ use Rattle.cluster_parts.specs.Agents.{KeptAgent}
 
 -- a state that is reached from a good opening, where the history has room for one more entry
 pub record Reached (c : Cluster) : Type 0 where
-  pub run : ℕ
+  pub setup : Setup
   pub records : List Durable
   pub steps : List Marked
-  pub good : GoodOpening run records
+  pub good : GoodOpening setup.run records
   pub recorded : AreRecorded records
-  pub is : c ≡ (history run records steps).state
+  pub is : c ≡ (history setup records steps).state
   pub room : nat_le last_number c.entries ≡ false
 
 -- the agents, as they are kept

@@ -3,7 +3,7 @@ use Rattle.std.specs.Prelude.{◌≡◌, ℕ, false, List, Option, Some, Result,
 use Rattle.mails.specs.declared.record.Durable.{Durable}
 use Rattle.agent_sides.specs.declared.config.ConfiguredAgent.{ConfiguredAgent}
 use Rattle.cluster_model.specs.Masters.{Master}
-use Rattle.cluster_model.specs.Steps.{open_cluster, opening}
+use Rattle.cluster_model.specs.Steps.{Setup, open_cluster, opening}
 use Rattle.cluster_laws.specs.Parts.{recovered_part}
 use Rattle.cluster_steps.specs.Steps.{outputs_of}
 use Rattle.master_core.specs.Steps.{greeting, outs_of}
@@ -32,8 +32,8 @@ Starts (Err fault.OutOfMemory) master run agents = ⊤
 Starts (Err (fault.Refused refusal)) master run agents = ⊥
 
 -- what stands for the opening, and what its entry tells
-pub record Opens (run : ℕ) (records : List Durable) (opened : Opened) : Type 0 where
-  pub agents : opened.agents.items ≡ kept_agents (opening run records).state
-  pub stands : StandsFor (opening run records).state opened.master opened.items opened.streams
-  pub in_run : (opening run records).state.world.run.number ≡ run
-  pub outputs : opened.outputs ≡ outputs_of (open_cluster run records).entry.outs
+pub record Opens (setup : Setup) (records : List Durable) (opened : Opened) : Type 0 where
+  pub agents : opened.agents.items ≡ kept_agents (opening setup records).state
+  pub stands : StandsFor (opening setup records).state opened.master opened.items opened.streams
+  pub in_run : (opening setup records).state.world.run.number ≡ setup.run
+  pub outputs : opened.outputs ≡ outputs_of (open_cluster setup records).entry.outs

@@ -8,9 +8,10 @@ ghost use Rattle.cluster_parts.specs.declared.masters.Made.{Made as MadeSo};
 ghost use Rattle.cluster_laws.specs.Parts.{configured};
 ghost use Rattle.cluster_laws.specs.Runs.{AreRising};
 ghost use Rattle.cluster_laws.specs.declared.item.Item.{Item};
+ghost use Rattle.role_weights.specs.Weights.{RoleWeight};
 ghost use Rattle.cluster_model.specs.Masters.{Master as ModelMaster};
 ghost use Rattle.cluster_model.specs.Openings.{GoodOpening};
-ghost use Rattle.cluster_model.specs.Steps.{open_cluster, opening};
+ghost use Rattle.cluster_model.specs.Steps.{Setup, open_cluster, opening};
 ghost use Rattle.cluster_steps.specs.Steps.{outputs_of};
 ghost use Rattle.cluster_steps.specs.declared.entry.Verdict.TheVariants as verdicts;
 ghost use Rattle.cluster_steps.specs.declared.fault.ClusterFault.TheVariants.{OutOfMemory};
@@ -48,10 +49,12 @@ pub struct Opened {
 
 /// A new master that greets every agent stands for the opening, and so do agents that come up over their records.
 fn openings_are_made()
-    ensures made { (run : ℕ) (records : List Record) (answered : Result OutsSo Fault) (made : MadeSo) (started n : Option (Option ModelMaster)) (js : List Item) (ts : List KeptStream) →
-        GoodOpening run records → Starts answered started run (map configured records) → Settles answered made started n [] js [] ts → made.verdict ≡ verdicts.Ok → StandsFor (opening run records).state n js ts × (made.outputs ≡ outputs_of (open_cluster run records).entry.outs) }
-    ensures runs { (run : ℕ) (records : List Record) → (opening run records).state.world.run.number ≡ run }
-    ensures agents { (run : ℕ) (records : List Record) → map up_over records ≡ kept_agents (opening run records).state }
+    ensures made { (setup : Setup) (records : List Record) (answered : Result OutsSo Fault) (made : MadeSo) (started n : Option (Option ModelMaster)) (js : List Item) (ts : List KeptStream) →
+        GoodOpening setup.run records → Starts answered started setup.run (map configured records) → Settles answered made started n [] js [] ts → made.verdict ≡ verdicts.Ok → StandsFor (opening setup records).state n js ts × (made.outputs ≡ outputs_of (open_cluster setup records).entry.outs) }
+    ensures runs { (setup : Setup) (records : List Record) →
+        (opening setup records).state.world.run.number ≡ setup.run }
+    ensures agents { (setup : Setup) (records : List Record) →
+        map up_over records ≡ kept_agents (opening setup records).state }
     ensures rise { (run : ℕ) (records : List Record) (answered : Result OutsSo Fault) (started : Option (Option ModelMaster)) → Starts answered started run (map configured records) → IfOk answered (λ outs. AreRising (kept_ids [] ++ outs.opened)) }
 {
     fresh_masters_open();
@@ -101,7 +104,8 @@ pub fn open_parts<P: Post>(
 ) -> Result<Opened, ClusterFault>
     requires good { GoodOpening run records.now }
     requires configured { config.now ≡ map configured records.now }
-    ensures opens { IfOk result (Opens run records.now) }
+    ensures opens { (weights : List RoleWeight) →
+        IfOk result (Opens (record { run = run; weights = weights }) records.now) }
     ensures refused { IfErr result (λ fault. fault ≡ OutOfMemory) }
     ensures post { P.known post.new ≡ P.known post.old }
     ensures room { IfOk result (λ opened. length opened.items ≤ P.room post.new) }

@@ -3,7 +3,7 @@
 ghost use Rattle.std.specs.Prelude.{◌≡◌, is_some, length, Some, IfOk, IfErr, OnErr};
 ghost use Rattle.cluster_parts.specs.Agents.{place_in};
 ghost use Rattle.cluster_parts.specs.Causes.{item_at};
-ghost use Rattle.cluster_parts.specs.Masters.{MasterMakes, Standing, StandingAt, StandingWith, StandsFor};
+ghost use Rattle.cluster_parts.specs.Masters.{MasterMakes, Standing, StandingAt, StandingBy, StandingWith, StandsFor};
 ghost use Rattle.cluster_parts.specs.Moves.{Reached, Refuses, kept_agents};
 ghost use Rattle.cluster_parts.specs.Posts.{Grows};
 ghost use Rattle.cluster_laws.specs.declared.item.Item.TheVariants as sent;
@@ -20,10 +20,11 @@ use mails::Call;
 use master_core::Master;
 use names_core::{AgentName, StreamId};
 use post_rules::Post;
+use role_weights::Weights;
 use std::alloc::Global;
 use told_streams::{Streams, kept_streams_are_found};
 
-/// The master makes a round of offers. It is refused with `C2 MasterDown` where no master serves. A master that runs out of memory in the
+/// The master makes a round of offers by the weights of roles. It is refused with `C2 MasterDown` where no master serves. A master that runs out of memory in the
 /// step is down.
 pub fn allocate<P: Post>(
     master: &mut Option<Master>,
@@ -31,9 +32,12 @@ pub fn allocate<P: Post>(
     streams: &mut Streams,
     post: &mut P,
     alloc: Global,
+    weights: &Weights,
 ) -> Result<Made, ClusterFault>
-    requires { Standing master.old items.old streams.old }
-    ensures made { IfOk result (λ made. (c : Cluster) → Reached c → StandsFor c master.old items.old streams.old → MasterMakes c Allocate c.last_tick made master.new items.new streams.new) }
+    requires { StandingBy weights.now master.old items.old streams.old }
+    ensures made { IfOk result (λ made. (c : Cluster) → Reached c → c.weights ≡ weights.now →
+        StandsFor c master.old items.old streams.old →
+        MasterMakes c Allocate c.last_tick made master.new items.new streams.new) }
     ensures refused { IfErr result (λ fault. (c : Cluster) → StandsFor c master.old items.old streams.old → Refuses c Allocate fault) }
     ensures unchanged { OnErr result ((master.new ≡ master.old) × (items.new ≡ items.old) × (streams.new ≡ streams.old)) }
     ensures post { P.known post.new ≡ P.known post.old }
@@ -44,7 +48,7 @@ pub fn allocate<P: Post>(
     let Some(serving) = master else {
         return Err(ClusterFault::MasterDown);
     };
-    let answer = serving.allocate(alloc);
+    let answer = serving.allocate(alloc, weights);
     Ok(settle(master, items, streams, post, alloc, answer))
 }
 

@@ -14,6 +14,7 @@ use Rattle.mails.specs.declared.mail.AgentMail.TheVariants.{Report, Applied, Upd
 use Rattle.mails.specs.declared.refusal.MasterRefusal.{MasterRefusal}
 use Rattle.mails.specs.declared.call.Call.{Call}
 use Rattle.mails.specs.declared.call.ReconciledTask.{ReconciledTask}
+use Rattle.role_weights.specs.Weights.{RoleWeight}
 use Rattle.cluster_model.specs.Ids.{is_among, last_number}
 use Rattle.cluster_model.specs.Sides.{Run, Side, offer_rows, sends_nothing, Launching, launch_all, is_named, is_good, used_offers, without_used, accepted, last_session, opens, shut, SideStep, MakeOffer, Withdraw, LaunchFrom, SendKill, SendAck, SendEnd, SendHello, SendAgain, Lose}
 use Rattle.cluster_model.specs.Channels.{Channel, ChannelStep, ByMaster, Hear, ByAgent, happens, World, Happening, At, TearDown, Restart, Halt, behind, in_front, at_agent, with_side, after, after_all}
@@ -219,5 +220,5 @@ hung_by_ok A n m stream (Some f) = withdraws_ok A n (is_of f.id) m
 pub hung_ok : (A : Numbered → ℕ → Type 0) (n : ℕ) (m : Master) (stream : Numbered) → Each (MoveOk A n) (hung_up m stream).moves
 hung_ok A n m stream = hung_by_ok A n m stream (find (λ f. is_stream stream f.stream) m.registers.frameworks)
 
-pub allocated_ok : (A : Numbered → ℕ → Type 0) (n : ℕ) (m : Master) → Each (MoveOk A n) (allocated m).moves
-allocated_ok A n m = mapped_ok A n (λ (g : MadeOffer). AtSide g.agent (MakeOffer g.offer)) (λ g. tt) (round m)
+pub allocated_ok : (A : Numbered → ℕ → Type 0) (n : ℕ) (ws : List RoleWeight) (m : Master) → Each (MoveOk A n) (allocated ws m).moves
+allocated_ok A n ws m = mapped_ok A n (λ (g : MadeOffer). AtSide g.agent (MakeOffer g.offer)) (λ g. tt) (round ws m)

@@ -14,6 +14,7 @@ use Rattle.mails.specs.declared.call.Call.{Call}
 use Rattle.mails.specs.declared.call.ReconciledTask.{ReconciledTask}
 use Rattle.mails.specs.declared.call.TaskInfo.{TaskInfo}
 use Rattle.names_core.specs.declared.state.TaskState.TheVariants.{Lost, Error}
+use Rattle.role_weights.specs.Weights.{RoleWeight}
 use Rattle.cluster_model.specs.Ids.{same, last_number}
 use Rattle.cluster_model.specs.Sides.{Side, opens, SendKill, SendAck, SendEnd, SendHello, Lose}
 use Rattle.cluster_model.specs.Events.{REMOVED, MadeOffer, Event, SUBSCRIBED, OFFERS, RESCIND, UPDATE, FAILURE, FAILED_OVER, HEARTBEAT, Told}
@@ -179,8 +180,8 @@ offers_events : (A : List ℕ → Numbered → ℕ → TaskState → Type 0) (f 
 offers_events A f [] = tt
 offers_events A f (g ∷ more) = on_ok A f.stream (OFFERS (g ∷ more)) tt
 
-pub allocated_events : (A : List ℕ → Numbered → ℕ → TaskState → Type 0) (m : Master) → Each (EventOk A) (allocated m).events
-allocated_events A m = flat_ok A (offers_of (entered m.sides (moved m (making m)).sides)) (λ f. offers_events A f (filter (λ g. same g.offer.framework f.id) (entered m.sides (moved m (making m)).sides))) m.registers.frameworks
+pub allocated_events : (A : List ℕ → Numbered → ℕ → TaskState → Type 0) (ws : List RoleWeight) (m : Master) → Each (EventOk A) (allocated ws m).events
+allocated_events A ws m = flat_ok A (offers_of (entered m.sides (moved m (making ws m)).sides)) (λ f. offers_events A f (filter (λ g. same g.offer.framework f.id) (entered m.sides (moved m (making ws m)).sides))) m.registers.frameworks
 
 pub event_wider : (A B : List ℕ → Numbered → ℕ → TaskState → Type 0) → ((agent : List ℕ) (key : Numbered) (k : ℕ) (state : TaskState) → A agent key k state → B agent key k state) → (e : Event) → TellOk A e → TellOk B e
 event_wider A B f (SUBSCRIBED framework) h = tt

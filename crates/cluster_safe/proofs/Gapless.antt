@@ -19,7 +19,7 @@ use Rattle.cluster_model.specs.Channels.{Channel, World, Happening, after_all, o
 use Rattle.cluster_model.specs.Clusters.{Post, Called, Down, Up, Step, Send, Entry, StepRefusal}
 use Rattle.cluster_model.specs.Events.{Event, SUBSCRIBED, OFFERS, RESCIND, UPDATE, FAILURE, FAILED_OVER, REMOVED, HEARTBEAT, Told}
 use Rattle.cluster_model.specs.Openings.{GoodOpening, recorded_jobs}
-use Rattle.cluster_model.specs.Steps.{Done, History, Marked, step_marked, extended, extend_all, history, opening, hello_to}
+use Rattle.cluster_model.specs.Steps.{Setup, Done, History, Marked, step_marked, extended, extend_all, history, opening, hello_to}
 use Rattle.cluster_safe.specs.Acknowledged.{Names, WasSent, WasCounted, recorded_tasks}
 use Rattle.cluster_safe.specs.Honest.{Tells, WasTold, handed_in, IsHonestCall, IsHonestStep, Honest, has_number, noted, up_to, counted, acknowledged_by, IsKeyOf, IsBeginningOf}
 use Rattle.cluster_safe.specs.Updates.{longer, states_under, recorded_states, updates_of, AcknowledgeTheirs}
@@ -289,17 +289,17 @@ all_gapless records start framework key (s ∷ ss) h ok origin honest owns g =
     (extended_gapless records start h framework key (step_marked h.state s) ok origin (λ j x e. owns j (jobs_kept records start (s ∷ ss) h j x) e)
     (step_legal (AckedBy records (trail h.happenings start []) h.state.posts) (Tellable records start h.happenings h.state.posts) (λ stream call. IsHonestCall framework h.entries call) h.state (all_room (updates_in start h.happenings) h.state.world ok.sent.world) (number_tells records h.state (trail h.happenings start []) ok.origin ok.known) (all_tell records start h ok) s (honest_send framework h.entries s.step honest.0)) g)
 
-opening_gapless : (run : ℕ) (records : List Durable) (framework key : Numbered) → AcknowledgeTheirs records → Gapless (told_count (open_world run records) (opening run records).happenings key) (acknowledged_by records framework key (opening run records).state.posts)
-opening_gapless run records framework key theirs = (
+opening_gapless : (setup : Setup) (records : List Durable) (framework key : Numbered) → AcknowledgeTheirs records → Gapless (told_count (open_world setup.run records) (opening setup records).happenings key) (acknowledged_by records framework key (opening setup records).state.posts)
+opening_gapless setup records framework key theirs = (
   counted key (recorded_tasks records),
-  fold_quiet framework key (opening run records).state.posts (up_to (counted key (recorded_tasks records))) (no_calls (map hello_to (open_world run records).channels) (open_world run records)),
-  le_trans (subst (λ ts. counted key (recorded_tasks records) ≤ count ts key) (sym (opened_tasks records)) (counted_within key (recorded_tasks records) theirs)) (over_more key (map hello_to (open_world run records).channels) (open_world run records) (recorded_states key (open_world run records))),
+  fold_quiet framework key (opening setup records).state.posts (up_to (counted key (recorded_tasks records))) (no_calls (map hello_to (open_world setup.run records).channels) (open_world setup.run records)),
+  le_trans (subst (λ ts. counted key (recorded_tasks records) ≤ count ts key) (sym (opened_tasks records)) (counted_within key (recorded_tasks records) theirs)) (over_more key (map hello_to (open_world setup.run records).channels) (open_world setup.run records) (recorded_states key (open_world setup.run records))),
 )
 
-pub history_acknowledges : (run : ℕ) (records : List Durable) (steps : List Marked) (framework key : Numbered) → GoodOpening run records → AcknowledgeTheirs records → Honest framework (opening run records) steps → IsKeyOf framework key (jobs_of (trail (history run records steps).happenings (open_world run records) []) ++ recorded_jobs records) →
-    IsBeginningOf (updates_of key (history run records steps).happenings (open_world run records)) (acknowledged_by records framework key (history run records steps).state.posts)
-history_acknowledges run records steps framework key good theirs honest of =
-    all_gapless records (open_world run records) framework key steps (opening run records) (opening_ok run records good) (origin_opened run records good) honest owns (opening_gapless run records framework key theirs)
+pub history_acknowledges : (setup : Setup) (records : List Durable) (steps : List Marked) (framework key : Numbered) → GoodOpening setup.run records → AcknowledgeTheirs records → Honest framework (opening setup records) steps → IsKeyOf framework key (jobs_of (trail (history setup records steps).happenings (open_world setup.run records) []) ++ recorded_jobs records) →
+    IsBeginningOf (updates_of key (history setup records steps).happenings (open_world setup.run records)) (acknowledged_by records framework key (history setup records steps).state.posts)
+history_acknowledges setup records steps framework key good theirs honest of =
+    all_gapless records (open_world setup.run records) framework key steps (opening setup records) (opening_ok setup records good) (origin_opened setup.run records good) honest owns (opening_gapless setup records framework key theirs)
   where
-    owns : Owns framework key (all_jobs records (open_world run records) (history run records steps).happenings)
-    owns j x e = ap (λ (i : Job). i.framework) (once_same (all_jobs records (open_world run records) (history run records steps).happenings) j of.0 (history_ok run records steps good).origin.keys.once x of.1 (e ∙ sym of.2)) ∙ of.3
+    owns : Owns framework key (all_jobs records (open_world setup.run records) (history setup records steps).happenings)
+    owns j x e = ap (λ (i : Job). i.framework) (once_same (all_jobs records (open_world setup.run records) (history setup records steps).happenings) j of.0 (history_ok setup records steps good).origin.keys.once x of.1 (e ∙ sym of.2)) ∙ of.3

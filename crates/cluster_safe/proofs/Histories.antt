@@ -30,7 +30,7 @@ use Rattle.cluster_model.specs.Calls.{is_last_heard, called}
 use Rattle.cluster_model.specs.Mails.{mailed, ticked, agent_lost, hung_up}
 use Rattle.cluster_model.specs.Rounds.{allocated}
 use Rattle.cluster_model.specs.Clusters.{Stream, Post, Called, Down, Up, Cluster, sides_of, master_of, StepCause, ByStart, ByAgain, ByExecutor, ByMail, Step, Send, Deliver, Allocate, Tick, LoseAgent, HangUp, Prepare, Commit, StopBefore, StopAfter, StopMaster, Take, StepRefusal, MasterDown, AgentDown, DraftOpen, NoDraft, HistoryFull, TimeBack, Verdict, Fine, MasterRefused, AgentRefused, Fell, Entry}
-use Rattle.cluster_model.specs.Steps.{posts_by, Effect, Done, done, does, happening, verdict_of, effect_of, master_does, master_hears, channel_of, delivers_up, delivers, post_at, with_tick, ticks_at, stream_at, hangs_up, loses_agent, hello_to, drafts, draws_mail_at, draws_mail, prepares, commits, up_again, stops, with_master, at_channel, is_fallen, if_up, by_draft, without_draft, with_draft, takes_event, takes, answer, master_falls, new_master_falls, fallen_too, agent_falls, instead, fallen_answer, Marked, step_marked, History, opening, extended, extend_all, history}
+use Rattle.cluster_model.specs.Steps.{Setup, posts_by, Effect, Done, done, does, happening, verdict_of, effect_of, master_does, master_hears, channel_of, delivers_up, delivers, post_at, with_tick, ticks_at, stream_at, hangs_up, loses_agent, hello_to, drafts, draws_mail_at, draws_mail, prepares, commits, up_again, stops, with_master, at_channel, is_fallen, if_up, by_draft, without_draft, with_draft, takes_event, takes, answer, master_falls, new_master_falls, fallen_too, agent_falls, instead, fallen_answer, Marked, step_marked, History, opening, extended, extend_all, history}
 use Rattle.cluster_safe.specs.Facts.{HasRoom, RoomForAll}
 use Rattle.cluster_safe.specs.Acknowledged.{Names, WasSent, WasCounted, recorded_tasks, AcknowledgedByOwner}
 use Rattle.cluster_safe.specs.Saved.{IsFound}
@@ -260,7 +260,7 @@ at_channel_legal A T S c agent step rooms p = found Roomy (λ x. bytes_eq x.side
 answer_legal : (A : Numbered → ℕ → Type 0) (T : List ℕ → Numbered → ℕ → TaskState → Type 0) (S : Option Numbered → Call → Type 0) (c : Cluster) → Each Roomy c.world.channels → ((number : ℕ) → PostOk A (master_of c) (post_at c number)) → AllTell T c.world → (s : Step) → ((stream : Option Numbered) (call : Call) → s ≡ Send stream call → S stream call) → Legal A T S c (answer c s)
 answer_legal A T S c rooms acks acked (Send stream call) sends = (refl, tt, tt, tt, (Called stream call ∷ [], refl, inr (sends stream call refl)), (λ k. (k, tt)), λ k. k)
 answer_legal A T S c rooms acks acked (Deliver number) sends = with_master_legal A T S c (delivers c (post_at c number)) (delivers_legal A T S c (post_at c number) (acks number) acked)
-answer_legal A T S c rooms acks acked Allocate sends = with_master_legal A T S c (master_does c (allocated (master_of c))) (master_legal A T S c (allocated (master_of c)) (allocated_ok A c.world.run.number (master_of c)) (allocated_events T (master_of c)) (λ k. k))
+answer_legal A T S c rooms acks acked Allocate sends = with_master_legal A T S c (master_does c (allocated c.weights (master_of c))) (master_legal A T S c (allocated c.weights (master_of c)) (allocated_ok A c.world.run.number c.weights (master_of c)) (allocated_events T c.weights (master_of c)) (λ k. k))
 answer_legal A T S c rooms acks acked (Tick now) sends = with_master_legal A T S c (ticks_at c now) (by_test A T S c (nat_lt now c.last_tick) (Err TimeBack) (master_does (with_tick c now) (ticked (master_of c) now)) tt (legal_effect A T S (with_tick c now) (effect_of [] (ticked (master_of c) now)) (ticked_events T (master_of c) now) tt (happenings_ok A c.world.run.number (ticked (master_of c) now).moves (ticked_ok A c.world.run.number (master_of c) now)) (λ k. ticked_up_to c.world.run.number (master_of c) now k)))
 answer_legal A T S c rooms acks acked (LoseAgent agent) sends = at_channel_legal A T S c agent (λ x. with_master c (loses_agent c x)) rooms (λ x h. with_master_legal A T S c (loses_agent c x) (master_legal A T S c (agent_lost (master_of c) x.side) (lost_ok A c.world.run.number (master_of c) x.side) (lost_events T (master_of c) x.side) (λ k. lost_up_to c.world.run.number (master_of c) x.side k)))
 answer_legal A T S c rooms acks acked (HangUp stream) sends = with_master_legal A T S c (hangs_up c stream (stream_at c stream)) (hangs_up_legal A T S c stream (stream_at c stream))
@@ -531,50 +531,50 @@ channels_acked records posts (d ∷ ds) f g = (
   channels_acked records posts ds (λ j h. f j (in_behind (map (λ t. t.job) d.tasks) (recorded_jobs ds) j h)) (λ key k h. g key k (counted_right key k d.tasks (recorded_tasks ds) h)),
 )
 
-opening_acked : (run : ℕ) (records : List Durable) → AllAcked (AckedBy records (trail (opening run records).happenings (open_world run records) []) (opening run records).state.posts) (opening run records).state.world
-opening_acked run records = each_map (Carried Always (AckedBy records [] [])) (Carried Always (AckedBy records (trail hs (open_world run records) []) (opening run records).state.posts))
-    (λ c k. told_wider Always Always (AckedBy records [] []) (AckedBy records (trail hs (open_world run records) []) (opening run records).state.posts) (λ j x. x) (λ key i x. acked_more records hs (open_world run records) [] [] (opening run records).state.posts key i x) c k)
-    (opening run records).state.world.channels (worlds_acked (AckedBy records [] []) run hs (open_world run records) (hellos_ok (AckedBy records [] []) run (open_world run records).channels) (channels_acked records [] records (λ j h. h) (λ key k h. h)))
+opening_acked : (setup : Setup) (records : List Durable) → AllAcked (AckedBy records (trail (opening setup records).happenings (open_world setup.run records) []) (opening setup records).state.posts) (opening setup records).state.world
+opening_acked setup records = each_map (Carried Always (AckedBy records [] [])) (Carried Always (AckedBy records (trail hs (open_world setup.run records) []) (opening setup records).state.posts))
+    (λ c k. told_wider Always Always (AckedBy records [] []) (AckedBy records (trail hs (open_world setup.run records) []) (opening setup records).state.posts) (λ j x. x) (λ key i x. acked_more records hs (open_world setup.run records) [] [] (opening setup records).state.posts key i x) c k)
+    (opening setup records).state.world.channels (worlds_acked (AckedBy records [] []) setup.run hs (open_world setup.run records) (hellos_ok (AckedBy records [] []) setup.run (open_world setup.run records).channels) (channels_acked records [] records (λ j h. h) (λ key k h. h)))
   where
     hs : List Happening
-    hs = map hello_to (open_world run records).channels
+    hs = map hello_to (open_world setup.run records).channels
 
-pub opening_ok : (run : ℕ) (records : List Durable) → GoodOpening run records → HistoryOk records (open_world run records) (opening run records)
-opening_ok run records good = record {
+pub opening_ok : (setup : Setup) (records : List Durable) → GoodOpening setup.run records → HistoryOk records (open_world setup.run records) (opening setup records)
+opening_ok setup records good = record {
   path = refl;
-  sent = worlds_sent records (map hello_to (open_world run records).channels) (open_world run records) [] (λ name key. states_on name key (open_world run records).channels) (origin_opened run records good) (opened_sent records run (origin_opened run records good) (world_opened run records (opening_good run records good)));
+  sent = worlds_sent records (map hello_to (open_world setup.run records).channels) (open_world setup.run records) [] (λ name key. states_on name key (open_world setup.run records).channels) (origin_opened setup.run records good) (opened_sent records setup.run (origin_opened setup.run records good) (world_opened setup.run records (opening_good setup.run records good)));
   verdicts = (tt, tt);
-  origin = origin_all records (map hello_to (open_world run records).channels) (open_world run records) [] (origin_opened run records good);
-  acked = opening_acked run records;
+  origin = origin_all records (map hello_to (open_world setup.run records).channels) (open_world setup.run records) [] (origin_opened setup.run records good);
+  acked = opening_acked setup records;
   told = (tt, tt);
   streams = tt;
   handed = (tt, tt);
   known = tt;
-  launches = worlds_from (AckedBy records [] []) run records (map hello_to (open_world run records).channels) (open_world run records) [] (le_refl run) (hellos_ok (AckedBy records [] []) run (open_world run records).channels) (origin_opened run records good) (opened_from run records (opening_from run records good));
+  launches = worlds_from (AckedBy records [] []) setup.run records (map hello_to (open_world setup.run records).channels) (open_world setup.run records) [] (le_refl setup.run) (hellos_ok (AckedBy records [] []) setup.run (open_world setup.run records).channels) (origin_opened setup.run records good) (opened_from setup.run records (opening_from setup.run records good));
 }
 
-pub history_ok : (run : ℕ) (records : List Durable) (steps : List Marked) → GoodOpening run records → HistoryOk records (open_world run records) (history run records steps)
-history_ok run records steps good = extend_ok records (open_world run records) steps (opening run records) (opening_ok run records good)
+pub history_ok : (setup : Setup) (records : List Durable) (steps : List Marked) → GoodOpening setup.run records → HistoryOk records (open_world setup.run records) (history setup records steps)
+history_ok setup records steps good = extend_ok records (open_world setup.run records) steps (opening setup records) (opening_ok setup records good)
 
 -- the laws
 
 no_lack : (v : Verdict) → NotNoRoom v → v ≢ AgentRefused NoRoom
 no_lack v h e = subst NotNoRoom e h
 
-pub history_fits : (run : ℕ) (records : List Durable) (steps : List Marked) → GoodOpening run records → AllFit (history run records steps).state.world
-history_fits run records steps good = all_fit (updates_in (open_world run records) (history run records steps).happenings) (history run records steps).state.world (history_ok run records steps good).sent.world
+pub history_fits : (setup : Setup) (records : List Durable) (steps : List Marked) → GoodOpening setup.run records → AllFit (history setup records steps).state.world
+history_fits setup records steps good = all_fit (updates_in (open_world setup.run records) (history setup records steps).happenings) (history setup records steps).state.world (history_ok setup records steps good).sent.world
 
-pub history_has_room : (run : ℕ) (records : List Durable) (steps : List Marked) → GoodOpening run records → Each (λ (e : Entry). e.verdict ≢ AgentRefused NoRoom) (history run records steps).entries
-history_has_room run records steps good = each_map (λ (e : Entry). NotNoRoom e.verdict) (λ (e : Entry). e.verdict ≢ AgentRefused NoRoom) (λ e h. no_lack e.verdict h) (history run records steps).entries (history_ok run records steps good).verdicts
+pub history_has_room : (setup : Setup) (records : List Durable) (steps : List Marked) → GoodOpening setup.run records → Each (λ (e : Entry). e.verdict ≢ AgentRefused NoRoom) (history setup records steps).entries
+history_has_room setup records steps good = each_map (λ (e : Entry). NotNoRoom e.verdict) (λ (e : Entry). e.verdict ≢ AgentRefused NoRoom) (λ e h. no_lack e.verdict h) (history setup records steps).entries (history_ok setup records steps good).verdicts
 
-pub history_origin : (run : ℕ) (records : List Durable) (steps : List Marked) → GoodOpening run records → HasOrigin records (history run records steps).state.world (trail (history run records steps).happenings (open_world run records) [])
-history_origin run records steps good = has_origin records (history run records steps).state.world (trail (history run records steps).happenings (open_world run records) []) (history_ok run records steps good).origin
+pub history_origin : (setup : Setup) (records : List Durable) (steps : List Marked) → GoodOpening setup.run records → HasOrigin records (history setup records steps).state.world (trail (history setup records steps).happenings (open_world setup.run records) [])
+history_origin setup records steps good = has_origin records (history setup records steps).state.world (trail (history setup records steps).happenings (open_world setup.run records) []) (history_ok setup records steps good).origin
 
-pub history_found : (run : ℕ) (records : List Durable) (steps : List Marked) (later : ℕ) (found : List Durable) → GoodOpening run records → (history run records steps).state.world.run.number < later → IsFound (history run records steps).state.world.channels found → GoodOpening later found
-history_found run records steps later found good lt is =
-    found_good (updates_in (open_world run records) (history run records steps).happenings) records (trail (history run records steps).happenings (open_world run records) []) (history run records steps).state.world later found
-    (history_ok run records steps good).sent.world (history_ok run records steps good).origin (history_ok run records steps good).launches
-    (subst (λ w. AllNamed w.channels) (sym (history_ok run records steps good).path) (worlds_named (history run records steps).happenings (open_world run records) (open_named records))) lt is
+pub history_found : (setup : Setup) (records : List Durable) (steps : List Marked) (later : ℕ) (found : List Durable) → GoodOpening setup.run records → (history setup records steps).state.world.run.number < later → IsFound (history setup records steps).state.world.channels found → GoodOpening later found
+history_found setup records steps later found good lt is =
+    found_good (updates_in (open_world setup.run records) (history setup records steps).happenings) records (trail (history setup records steps).happenings (open_world setup.run records) []) (history setup records steps).state.world later found
+    (history_ok setup records steps good).sent.world (history_ok setup records steps good).origin (history_ok setup records steps good).launches
+    (subst (λ w. AllNamed w.channels) (sym (history_ok setup records steps good).path) (worlds_named (history setup records steps).happenings (open_world setup.run records) (open_named records))) lt is
 
 -- jobs with one key are one job
 pub once_same : (js : List Job) (i j : Job) → KeysOnce js → IsOneOf i js → IsOneOf j js → i.key ≡ j.key → i ≡ j
@@ -594,21 +594,21 @@ channel_owned : (records : List Durable) (run : Run) (marks : List Mark) (posts 
 channel_owned records run marks posts c once ok acked = each_both (TaskTold (From records c.side.name marks) Any) (TaskTold Always (AckedBy records marks posts)) (λ t. (k : ℕ) → k < t.updates.acknowledged → WasSent t.job.framework t.job.key k posts ⊎ WasCounted t.job.key k (recorded_tasks records))
     (λ t f a. task_acked records marks posts c.side.name t once f.0 a) c.agent.durable.tasks ok.1.states.0 acked.states.0
 
-pub history_acknowledged : (run : ℕ) (records : List Durable) (steps : List Marked) → GoodOpening run records → AcknowledgedByOwner records (history run records steps).state.world (history run records steps).state.posts
-history_acknowledged run records steps good = each_both (ChannelOk records h.state.world.run marks) (Carried Always (AckedBy records marks h.state.posts)) (λ c. Each (λ t. (k : ℕ) → k < t.updates.acknowledged → WasSent t.job.framework t.job.key k h.state.posts ⊎ WasCounted t.job.key k (recorded_tasks records)) c.agent.durable.tasks)
+pub history_acknowledged : (setup : Setup) (records : List Durable) (steps : List Marked) → GoodOpening setup.run records → AcknowledgedByOwner records (history setup records steps).state.world (history setup records steps).state.posts
+history_acknowledged setup records steps good = each_both (ChannelOk records h.state.world.run marks) (Carried Always (AckedBy records marks h.state.posts)) (λ c. Each (λ t. (k : ℕ) → k < t.updates.acknowledged → WasSent t.job.framework t.job.key k h.state.posts ⊎ WasCounted t.job.key k (recorded_tasks records)) c.agent.durable.tasks)
     (λ c ok acked. channel_owned records h.state.world.run marks h.state.posts c all.origin.keys.once ok acked) h.state.world.channels all.origin.channels all.acked
   where
     h : History
-    h = history run records steps
+    h = history setup records steps
 
     marks : List Mark
-    marks = trail (history run records steps).happenings (open_world run records) []
+    marks = trail (history setup records steps).happenings (open_world setup.run records) []
 
-    all : HistoryOk records (open_world run records) (history run records steps)
-    all = history_ok run records steps good
+    all : HistoryOk records (open_world setup.run records) (history setup records steps)
+    all = history_ok setup records steps good
 
-pub history_premises : (run : ℕ) (records : List Durable) (steps : List Marked) → GoodOpening run records → Each MeetsPremises (history run records steps).state.world.channels
-history_premises run records steps good = all_premises (updates_in (open_world run records) (history run records steps).happenings) (history run records steps).state.world (history_ok run records steps good).sent.world
+pub history_premises : (setup : Setup) (records : List Durable) (steps : List Marked) → GoodOpening setup.run records → Each MeetsPremises (history setup records steps).state.world.channels
+history_premises setup records steps good = all_premises (updates_in (open_world setup.run records) (history setup records steps).happenings) (history setup records steps).state.world (history_ok setup records steps good).sent.world
 
 -- updates have the states of their numbers
 
@@ -625,38 +625,38 @@ event_tells records start hs posts origin REMOVED h = tt
 event_tells records start hs posts origin HEARTBEAT h = tt
 
 -- what is told over a whole history
-abbrev pub ToldOver : ℕ → List Durable → List Marked → List ℕ → Numbered → ℕ → TaskState → Type 0
-ToldOver run records steps = Tellable records (open_world run records) (history run records steps).happenings (history run records steps).state.posts
+abbrev pub ToldOver : Setup → List Durable → List Marked → List ℕ → Numbered → ℕ → TaskState → Type 0
+ToldOver setup records steps = Tellable records (open_world setup.run records) (history setup records steps).happenings (history setup records steps).state.posts
 
-abbrev pub IsTelling : ℕ → List Durable → List Marked → Told → Type 0
-IsTelling run records steps t = TellsUpdate (history run records steps).happenings (open_world run records) t.event
+abbrev pub IsTelling : Setup → List Durable → List Marked → Told → Type 0
+IsTelling setup records steps t = TellsUpdate (history setup records steps).happenings (open_world setup.run records) t.event
 
-all_telling : (run : ℕ) (records : List Durable) (steps : List Marked) → GoodOpening run records → (ts : List Told) → Each (EventOk (ToldOver run records steps)) ts → Each (IsTelling run records steps) ts
-all_telling run records steps good ts h = each_map (EventOk (ToldOver run records steps)) (IsTelling run records steps) (λ t x. event_tells records (open_world run records) (history run records steps).happenings (history run records steps).state.posts (origin_opened run records good) t.event x) ts h
+all_telling : (setup : Setup) (records : List Durable) (steps : List Marked) → GoodOpening setup.run records → (ts : List Told) → Each (EventOk (ToldOver setup records steps)) ts → Each (IsTelling setup records steps) ts
+all_telling setup records steps good ts h = each_map (EventOk (ToldOver setup records steps)) (IsTelling setup records steps) (λ t x. event_tells records (open_world setup.run records) (history setup records steps).happenings (history setup records steps).state.posts (origin_opened setup.run records good) t.event x) ts h
 
-pub history_tells : (run : ℕ) (records : List Durable) (steps : List Marked) → GoodOpening run records → TellsUpdates (open_world run records) (history run records steps)
-history_tells run records steps good = each_map (EntryOk (ToldOver run records steps)) (λ (e : Entry). Each (IsTelling run records steps) e.outs.events) (λ e h. all_telling run records steps good e.outs.events h) (history run records steps).entries (history_ok run records steps good).told
+pub history_tells : (setup : Setup) (records : List Durable) (steps : List Marked) → GoodOpening setup.run records → TellsUpdates (open_world setup.run records) (history setup records steps)
+history_tells setup records steps good = each_map (EntryOk (ToldOver setup records steps)) (λ (e : Entry). Each (IsTelling setup records steps) e.outs.events) (λ e h. all_telling setup records steps good e.outs.events h) (history setup records steps).entries (history_ok setup records steps good).told
 
-pub history_hands : (run : ℕ) (records : List Durable) (steps : List Marked) → GoodOpening run records → HandsUpdates (open_world run records) (history run records steps)
-history_hands run records steps good = each_map (HandedOk (ToldOver run records steps)) (λ (e : Entry). Each (IsTelling run records steps) e.outs.taken) (λ e h. all_telling run records steps good e.outs.taken h) (history run records steps).entries (history_ok run records steps good).handed
+pub history_hands : (setup : Setup) (records : List Durable) (steps : List Marked) → GoodOpening setup.run records → HandsUpdates (open_world setup.run records) (history setup records steps)
+history_hands setup records steps good = each_map (HandedOk (ToldOver setup records steps)) (λ (e : Entry). Each (IsTelling setup records steps) e.outs.taken) (λ e h. all_telling setup records steps good e.outs.taken h) (history setup records steps).entries (history_ok setup records steps good).handed
 
-pub history_there : (run : ℕ) (records : List Durable) (steps : List Marked) (agent : List ℕ) (j : Job) → GoodOpening run records → From records agent (trail (history run records steps).happenings (open_world run records) []) j → updates_of j.key (history run records steps).happenings (open_world run records) ≡ updates_on agent j.key (history run records steps).happenings (open_world run records)
-history_there run records steps agent j good from = updates_there records (history run records steps).happenings (open_world run records) agent j (origin_opened run records good) from
+pub history_there : (setup : Setup) (records : List Durable) (steps : List Marked) (agent : List ℕ) (j : Job) → GoodOpening setup.run records → From records agent (trail (history setup records steps).happenings (open_world setup.run records) []) j → updates_of j.key (history setup records steps).happenings (open_world setup.run records) ≡ updates_on agent j.key (history setup records steps).happenings (open_world setup.run records)
+history_there setup records steps agent j good from = updates_there records (history setup records steps).happenings (open_world setup.run records) agent j (origin_opened setup.run records good) from
 
-pub history_has_all : (run : ℕ) (records : List Durable) (steps : List Marked) → GoodOpening run records → HaveAllUpdates (history run records steps).happenings (open_world run records) (history run records steps).state.world
-history_has_all run records steps good = each_both (ChannelOk records h.state.world.run marks) (λ c. Each (IsExact (updates_in start h.happenings c.side.name)) c.agent.durable.tasks) (λ c. Each (λ t. t.updates.states ≡ updates_of t.job.key h.happenings start) c.agent.durable.tasks)
-    (λ c o x. each_both (λ t. From records c.side.name marks t.job) (IsExact (updates_in start h.happenings c.side.name)) (λ t. t.updates.states ≡ updates_of t.job.key h.happenings start)
-    (λ t from e. e ∙ sym (updates_there records h.happenings start c.side.name t.job (origin_opened run records good) from)) c.agent.durable.tasks (tasks_from records h.state.world.run marks c o) x)
-    h.state.world.channels ok.origin.channels (all_exact (updates_in start h.happenings) h.state.world ok.sent)
+pub history_has_all : (setup : Setup) (records : List Durable) (steps : List Marked) → GoodOpening setup.run records → HaveAllUpdates (history setup records steps).happenings (open_world setup.run records) (history setup records steps).state.world
+history_has_all setup records steps good = each_both (ChannelOk records h.state.world.run marks) (λ c. Each (IsExact (updates_in first h.happenings c.side.name)) c.agent.durable.tasks) (λ c. Each (λ t. t.updates.states ≡ updates_of t.job.key h.happenings first) c.agent.durable.tasks)
+    (λ c o x. each_both (λ t. From records c.side.name marks t.job) (IsExact (updates_in first h.happenings c.side.name)) (λ t. t.updates.states ≡ updates_of t.job.key h.happenings first)
+    (λ t from e. e ∙ sym (updates_there records h.happenings first c.side.name t.job (origin_opened setup.run records good) from)) c.agent.durable.tasks (tasks_from records h.state.world.run marks c o) x)
+    h.state.world.channels ok.origin.channels (all_exact (updates_in first h.happenings) h.state.world ok.sent)
   where
     h : History
-    h = history run records steps
+    h = history setup records steps
 
-    start : World
-    start = open_world run records
+    first : World
+    first = open_world setup.run records
 
     marks : List Mark
-    marks = trail (history run records steps).happenings (open_world run records) []
+    marks = trail (history setup records steps).happenings (open_world setup.run records) []
 
-    ok : HistoryOk records (open_world run records) (history run records steps)
-    ok = history_ok run records steps good
+    ok : HistoryOk records (open_world setup.run records) (history setup records steps)
+    ok = history_ok setup records steps good

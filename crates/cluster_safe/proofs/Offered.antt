@@ -7,6 +7,7 @@ use Rattle.std.proofs.Math.Seq.{drop-append_seam}
 use Rattle.names_core.specs.Ids.{Numbered}
 use Rattle.quantity.specs.declared.rows.Row.{Row}
 use Rattle.mails.specs.declared.task.Offer.{Offer}
+use Rattle.role_weights.specs.Weights.{RoleWeight}
 use Rattle.cluster_model.specs.Ids.{same, following, last_number}
 use Rattle.cluster_model.specs.Events.{MadeOffer, OFFERS, Told}
 use Rattle.cluster_model.specs.Sides.{Run, Side, MakeOffer, may_offer, offered, sends_nothing}
@@ -50,14 +51,14 @@ offers_have : (fs : List Framework) (r : Round) (agent : List ℕ) (rest : List 
 offers_have fs r agent rest None k h = h
 offers_have fs r agent rest (Some c) k h = each_append (λ (g : MadeOffer). HasStream fs g.offer.framework) r.made (record { agent = agent; offer = record { id = r.next; framework = c.framework.id; resources = rest } } ∷ []) h (k, tt)
 
-free_have : (fs : List Framework) (now : ℕ) (totals : List Row) (cs : List Client) (r : Round) (agent : List ℕ) (rows : List Row) → Each (λ c. IsAmong c.framework fs) cs → AllHave fs r.made → AllHave fs (offers_free now totals cs r agent rows).made
-free_have fs now totals cs r agent [] k h = h
-free_have fs now totals cs r agent (row ∷ rows) k h = cond_both (nat_lt last_number r.next.n) r (offers_to r agent (row ∷ rows) (pick now totals cs r.made agent (row ∷ rows))) (λ (x : Round). AllHave fs x.made) (λ e. h)
-    (λ e. offers_have fs r agent (row ∷ rows) (pick now totals cs r.made agent (row ∷ rows)) (first_has (λ c. HasStream fs c.framework.id) (comes_before totals cs r.made) (filter (is_eligible now agent (row ∷ rows)) cs) None tt (eligible fs now agent (row ∷ rows) cs k)) h)
+free_have : (fs : List Framework) (ws : List RoleWeight) (now : ℕ) (totals : List Row) (cs : List Client) (r : Round) (agent : List ℕ) (rows : List Row) → Each (λ c. IsAmong c.framework fs) cs → AllHave fs r.made → AllHave fs (offers_free ws now totals cs r agent rows).made
+free_have fs ws now totals cs r agent [] k h = h
+free_have fs ws now totals cs r agent (row ∷ rows) k h = cond_both (nat_lt last_number r.next.n) r (offers_to r agent (row ∷ rows) (pick ws now totals cs r.made agent (row ∷ rows))) (λ (x : Round). AllHave fs x.made) (λ e. h)
+    (λ e. offers_have fs r agent (row ∷ rows) (pick ws now totals cs r.made agent (row ∷ rows)) (first_has (λ c. HasStream fs c.framework.id) (comes_before ws totals cs r.made) (filter (is_eligible now agent (row ∷ rows)) cs) None tt (eligible fs now agent (row ∷ rows) cs k)) h)
 
-visits_have : (fs : List Framework) (now : ℕ) (totals : List Row) (cs : List Client) (ss : List Side) (r : Round) → Each (λ c. IsAmong c.framework fs) cs → AllHave fs r.made → AllHave fs (fold (visits now totals cs) r ss).made
-visits_have fs now totals cs [] r k h = h
-visits_have fs now totals cs (s ∷ ss) r k h = visits_have fs now totals cs ss (visits now totals cs r s) k (cond_both s.is_open (offers_free now totals cs r s.name (free s)) r (λ (x : Round). AllHave fs x.made) (λ e. free_have fs now totals cs r s.name (free s) k h) (λ e. h))
+visits_have : (fs : List Framework) (ws : List RoleWeight) (now : ℕ) (totals : List Row) (cs : List Client) (ss : List Side) (r : Round) → Each (λ c. IsAmong c.framework fs) cs → AllHave fs r.made → AllHave fs (fold (visits ws now totals cs) r ss).made
+visits_have fs ws now totals cs [] r k h = h
+visits_have fs ws now totals cs (s ∷ ss) r k h = visits_have fs ws now totals cs ss (visits ws now totals cs r s) k (cond_both s.is_open (offers_free ws now totals cs r s.name (free s)) r (λ (x : Round). AllHave fs x.made) (λ e. free_have fs ws now totals cs r s.name (free s) k h) (λ e. h))
 
 each_grown : {A B : Type 0} (P Q : A → Type 0) (f : A → B) (R : B → Type 0) → ((x : A) → P x → R (f x)) → (xs : List A) → Each P xs → Each R (map f xs)
 each_grown P Q f R g [] h = tt
@@ -70,8 +71,8 @@ each_among P (x ∷ xs) f = (f x (inl refl), each_among P xs (λ y h. f y (inr h
 clients_are : (m : Master) → Each (λ c. IsAmong c.framework m.registers.frameworks) (clients_of m)
 clients_are m = each_grown (λ f. IsAmong f m.registers.frameworks) (λ f. ⊤) _ (λ (c : Client). IsAmong c.framework m.registers.frameworks) (λ f h. h) m.registers.frameworks (each_among (λ f. IsAmong f m.registers.frameworks) m.registers.frameworks (λ f h. h))
 
-round_has : (m : Master) → AllHave m.registers.frameworks (round m)
-round_has m = visits_have m.registers.frameworks m.registers.now (totals_of m) (clients_of m) m.sides (record { made = []; next = m.run.next_offer }) (clients_are m) tt
+round_has : (ws : List RoleWeight) (m : Master) → AllHave m.registers.frameworks (round ws m)
+round_has ws m = visits_have m.registers.frameworks ws m.registers.now (totals_of m) (clients_of m) m.sides (record { made = []; next = m.run.next_offer }) (clients_are m) tt
 
 -- and so are those that enter the current ones
 
@@ -150,14 +151,14 @@ each_is P [] h x k = absurd k
 each_is P (y ∷ xs) h x (inl is) = subst P is h.0
 each_is P (y ∷ xs) h x (inr k) = each_is P xs h.1 x k
 
-pub offers_told : (m : Master) → Each (IsTold m.registers.frameworks (allocated m).events) (entered m.sides (moved m (allocated m).moves).sides)
-offers_told m = each_among (IsTold m.registers.frameworks (allocated m).events) made (λ g k. of g k (each_is (λ (g : MadeOffer). HasStream m.registers.frameworks g.offer.framework) made have g k))
+pub offers_told : (ws : List RoleWeight) (m : Master) → Each (IsTold m.registers.frameworks (allocated ws m).events) (entered m.sides (moved m (allocated ws m).moves).sides)
+offers_told ws m = each_among (IsTold m.registers.frameworks (allocated ws m).events) made (λ g k. of g k (each_is (λ (g : MadeOffer). HasStream m.registers.frameworks g.offer.framework) made have g k))
   where
     made : List MadeOffer
-    made = entered m.sides (moved m (making m)).sides
+    made = entered m.sides (moved m (making ws m)).sides
 
-    have : Each (λ (g : MadeOffer). HasStream m.registers.frameworks g.offer.framework) (entered m.sides (moved m (making m)).sides)
-    have = entered_have (λ o. HasStream m.registers.frameworks o.framework) m.sides (moved m (making m)).sides (grown_all (λ o. HasStream m.registers.frameworks o.framework) m.sides (round m) (unmoved m) (round_has m) (grown_first (λ o. HasStream m.registers.frameworks o.framework) m.sides))
+    have : Each (λ (g : MadeOffer). HasStream m.registers.frameworks g.offer.framework) (entered m.sides (moved m (making ws m)).sides)
+    have = entered_have (λ o. HasStream m.registers.frameworks o.framework) m.sides (moved m (making ws m)).sides (grown_all (λ o. HasStream m.registers.frameworks o.framework) m.sides (round ws m) (unmoved m) (round_has ws m) (grown_first (λ o. HasStream m.registers.frameworks o.framework) m.sides))
 
-    of : (g : MadeOffer) → IsAmong g (entered m.sides (moved m (making m)).sides) → HasStream m.registers.frameworks g.offer.framework → IsTold m.registers.frameworks (allocated m).events g
-    of g k h = (h.0, h.1, told_to (entered m.sides (moved m (making m)).sides) g h.0 m.registers.frameworks h.1.0 h.1.1 h.1.2 h.1.3 k)
+    of : (g : MadeOffer) → IsAmong g (entered m.sides (moved m (making ws m)).sides) → HasStream m.registers.frameworks g.offer.framework → IsTold m.registers.frameworks (allocated ws m).events g
+    of g k h = (h.0, h.1, told_to (entered m.sides (moved m (making ws m)).sides) g h.0 m.registers.frameworks h.1.0 h.1.1 h.1.2 h.1.3 k)

@@ -14,6 +14,7 @@ use Rattle.mails.specs.declared.call.Call.{Call}
 use Rattle.mails.specs.declared.call.ReconciledTask.{ReconciledTask}
 use Rattle.mails.specs.declared.call.TaskInfo.{TaskInfo}
 use Rattle.names_core.specs.declared.state.TaskState.TheVariants.{Error}
+use Rattle.role_weights.specs.Weights.{RoleWeight}
 use Rattle.cluster_model.specs.Ids.{same, is_empty, last_number}
 use Rattle.cluster_model.specs.Sides.{Side, is_named, opens, MakeOffer, SendKill, SendAck, SendEnd, SendHello, SendAgain, Lose}
 use Rattle.cluster_model.specs.Events.{MadeOffer, FAILURE}
@@ -164,5 +165,5 @@ hung_by_without m stream (Some f) = withdraws_without (is_of f.id) m
 pub hung_without : (m : Master) (stream : Numbered) → Each MoveWithout (hung_up m stream).moves
 hung_without m stream = hung_by_without m stream (find (λ f. is_stream stream f.stream) m.registers.frameworks)
 
-pub allocated_without : (m : Master) → Each MoveWithout (allocated m).moves
-allocated_without m = mapped_without (λ (g : MadeOffer). AtSide g.agent (MakeOffer g.offer)) (λ g. tt) (round m)
+pub allocated_without : (ws : List RoleWeight) (m : Master) → Each MoveWithout (allocated ws m).moves
+allocated_without ws m = mapped_without (λ (g : MadeOffer). AtSide g.agent (MakeOffer g.offer)) (λ g. tt) (round ws m)

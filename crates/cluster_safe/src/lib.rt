@@ -1,6 +1,7 @@
 //! The safety law of the cluster: what holds after every list of steps, over every good opening.
 #![tactic(auto)]
 
+ghost use Rattle.role_weights.specs.Weights.{RoleWeight};
 ghost use Rattle.cluster_model.specs.Agents.{Agent, Draft, next_of};
 ghost use Rattle.cluster_model.specs.Channels.{AllFit};
 ghost use Rattle.cluster_model.specs.Channels.{At, Channel, Hear, open_world};
@@ -11,7 +12,7 @@ ghost use Rattle.cluster_model.specs.Rounds.{allocated, entered};
 ghost use Rattle.cluster_model.specs.Sides.{Side, sends_nothing};
 ghost use Rattle.cluster_model.specs.Masters.{Doing, Framework, Master, after_doing, moved};
 ghost use Rattle.cluster_model.specs.Openings.{GoodOpening, recorded_jobs};
-ghost use Rattle.cluster_model.specs.Steps.{Marked, channel_of, done, effect_of, history, opening};
+ghost use Rattle.cluster_model.specs.Steps.{Setup, Marked, channel_of, done, effect_of, history, opening};
 ghost use Rattle.cluster_safe.specs.Acknowledged.{AcknowledgedByOwner};
 ghost use Rattle.cluster_safe.specs.Growth.{OnlyGrow};
 ghost use Rattle.cluster_safe.specs.Honest.{Honest, IsBeginningOf, IsKeyOf, acknowledged_by};
@@ -34,34 +35,36 @@ ghost use Rattle.std.specs.Prelude.{◌≡◌, ◌<◌, List, [], ◌∷◌, ◌
 
 /// On every agent, current offers and live tasks together never exceed what it owns.
 pub fn offers_and_tasks_fit()
-    ensures { (run : ℕ) (records : List Durable) (steps : List Marked) → GoodOpening run records → AllFit (history run records steps).state.world }
+    ensures { (setup : Setup) (records : List Durable) (steps : List Marked) →
+        GoodOpening setup.run records → AllFit (history setup records steps).state.world }
 {}
 
 /// No agent is ever without room for a task that the master launches.
 pub fn agents_have_room()
-    ensures { (run : ℕ) (records : List Durable) (steps : List Marked) → GoodOpening run records → NeverLacksRoom (history run records steps) }
+    ensures { (setup : Setup) (records : List Durable) (steps : List Marked) →
+        GoodOpening setup.run records → NeverLacksRoom (history setup records steps) }
 {}
 
 /// Each task was launched by exactly one ACCEPT of its framework, out of offers of its agent that were made before and that no other ACCEPT uses,
 /// or it stood in a record at the opening.
 pub fn tasks_have_their_origin()
-    ensures { (run : ℕ) (records : List Durable) (steps : List Marked) → GoodOpening run records →
-        HasOrigin records (history run records steps).state.world (trail (history run records steps).happenings (open_world run records) []) }
+    ensures { (setup : Setup) (records : List Durable) (steps : List Marked) → GoodOpening setup.run records →
+        HasOrigin records (history setup records steps).state.world (trail (history setup records steps).happenings (open_world setup.run records) []) }
 {}
 
 /// Each update that an agent's record counts as acknowledged was named by an ACKNOWLEDGE that the task's own framework sent before,
 /// or was counted in a record at the opening.
 pub fn acknowledged_by_the_owner()
-    ensures { (run : ℕ) (records : List Durable) (steps : List Marked) → GoodOpening run records →
-        AcknowledgedByOwner records (history run records steps).state.world (history run records steps).state.posts }
+    ensures { (setup : Setup) (records : List Durable) (steps : List Marked) → GoodOpening setup.run records →
+        AcknowledgedByOwner records (history setup records steps).state.world (history setup records steps).state.posts }
 {}
 
 /// What a framework has acknowledged of a task of its own, if it acknowledges only updates that were handed out before, is a beginning of the
 /// task's updates over the whole history: 0, 1, 2 and so on without gap.
 pub fn acknowledgements_are_prefixes()
-    ensures { (run : ℕ) (records : List Durable) (steps : List Marked) (framework key : Numbered) → GoodOpening run records → AcknowledgeTheirs records → Honest framework (opening run records) steps →
-        IsKeyOf framework key (jobs_of (trail (history run records steps).happenings (open_world run records) []) ++ recorded_jobs records) →
-        IsBeginningOf (updates_of key (history run records steps).happenings (open_world run records)) (acknowledged_by records framework key (history run records steps).state.posts) }
+    ensures { (setup : Setup) (records : List Durable) (steps : List Marked) (framework key : Numbered) → GoodOpening setup.run records → AcknowledgeTheirs records → Honest framework (opening setup records) steps →
+        IsKeyOf framework key (jobs_of (trail (history setup records steps).happenings (open_world setup.run records) []) ++ recorded_jobs records) →
+        IsBeginningOf (updates_of key (history setup records steps).happenings (open_world setup.run records)) (acknowledged_by records framework key (history setup records steps).state.posts) }
 {}
 
 /// The updates of a task only grow at their end, as long as it stays in its agent's record; a new task has none.
@@ -71,33 +74,40 @@ pub fn updates_only_grow()
 
 /// Each update that is told or handed out has the state of its number among the updates of its launch key, which stand in the record of the agent that it names.
 pub fn updates_have_the_states_of_their_numbers()
-    ensures told { (run : ℕ) (records : List Durable) (steps : List Marked) → GoodOpening run records → TellsUpdates (open_world run records) (history run records steps) }
-    ensures taken { (run : ℕ) (records : List Durable) (steps : List Marked) → GoodOpening run records → HandsUpdates (open_world run records) (history run records steps) }
+    ensures told { (setup : Setup) (records : List Durable) (steps : List Marked) →
+        GoodOpening setup.run records →
+        TellsUpdates (open_world setup.run records) (history setup records steps) }
+    ensures taken { (setup : Setup) (records : List Durable) (steps : List Marked) →
+        GoodOpening setup.run records →
+        HandsUpdates (open_world setup.run records) (history setup records steps) }
 {}
 
 /// A task in a record has all updates that ever stood for its launch key: none is lost or changed over stops.
 pub fn records_have_all_updates()
-    ensures { (run : ℕ) (records : List Durable) (steps : List Marked) → GoodOpening run records → HaveAllUpdates (history run records steps).happenings (open_world run records) (history run records steps).state.world }
+    ensures { (setup : Setup) (records : List Durable) (steps : List Marked) →
+        GoodOpening setup.run records →
+        HaveAllUpdates (history setup records steps).happenings (open_world setup.run records)
+        (history setup records steps).state.world }
 {}
 
 /// All updates of a launch key stand in the record of the agent on which the task was launched, or stood at the opening.
 pub fn updates_stand_with_their_agent()
-    ensures { (run : ℕ) (records : List Durable) (steps : List Marked) (agent : List ℕ) (j : Job) → GoodOpening run records →
-        From records agent (trail (history run records steps).happenings (open_world run records) []) j →
-        updates_of j.key (history run records steps).happenings (open_world run records) ≡ updates_on agent j.key (history run records steps).happenings (open_world run records) }
+    ensures { (setup : Setup) (records : List Durable) (steps : List Marked) (agent : List ℕ) (j : Job) → GoodOpening setup.run records →
+        From records agent (trail (history setup records steps).happenings (open_world setup.run records) []) j →
+        updates_of j.key (history setup records steps).happenings (open_world setup.run records) ≡ updates_on agent j.key (history setup records steps).happenings (open_world setup.run records) }
 {}
 
 /// Whatever is found of the agents' records after a stop, each the record before or the record of an open draft, is a good opening for any later run.
 pub fn found_records_open_again()
-    ensures { (run : ℕ) (records : List Durable) (steps : List Marked) (later : ℕ) (found : List Durable) → GoodOpening run records →
-        (history run records steps).state.world.run.number < later → IsFound (history run records steps).state.world.channels found → GoodOpening later found }
+    ensures { (setup : Setup) (records : List Durable) (steps : List Marked) (later : ℕ) (found : List Durable) → GoodOpening setup.run records →
+        (history setup records steps).state.world.run.number < later → IsFound (history setup records steps).state.world.channels found → GoodOpening later found }
 {}
 
 /// Of every mail ever sent: a Launch that is next has a key behind all those of its agent's record, a Hello tells a run above 0, and the tasks of
 /// a Report fit the agent's total.
 pub fn mails_meet_their_premises()
-    ensures { (run : ℕ) (records : List Durable) (steps : List Marked) → GoodOpening run records →
-        Each MeetsPremises (history run records steps).state.world.channels }
+    ensures { (setup : Setup) (records : List Durable) (steps : List Marked) → GoodOpening setup.run records →
+        Each MeetsPremises (history setup records steps).state.world.channels }
 {}
 
 /// The master of a cluster after a step, and the mails of the entry, are those that the master's own moves make, without the agents' parts.
@@ -112,7 +122,8 @@ pub fn masters_step_alone()
 
 /// Each offer that enters the current ones in a round is told in an OFFERS event, on the stream of its framework, which is subscribed.
 pub fn entered_offers_are_told()
-    ensures { (m : Master) → Each (IsTold m.registers.frameworks (allocated m).events) (entered m.sides (moved m (allocated m).moves).sides) }
+    ensures { (weights : List RoleWeight) (m : Master) →
+        Each (IsTold m.registers.frameworks (allocated weights m).events) (entered m.sides (moved m (allocated weights m).moves).sides) }
 {}
 
 /// A launch comes from an ACCEPT alone: of its framework, with the offers that it names, and of tasks that it lists on that agent.
@@ -122,7 +133,8 @@ pub fn launches_come_from_accepts()
     ensures ticks { (m : Master) (now : ℕ) → Each MoveWithout (ticked m now).moves }
     ensures losses { (m : Master) (s : Side) → Each MoveWithout (agent_lost m s).moves }
     ensures hang_ups { (m : Master) (stream : Numbered) → Each MoveWithout (hung_up m stream).moves }
-    ensures rounds { (m : Master) → Each MoveWithout (allocated m).moves }
+    ensures rounds { (weights : List RoleWeight) (m : Master) →
+        Each MoveWithout (allocated weights m).moves }
 {}
 
 /// An ACCEPT of good offers launches each task for which it answers nothing: no launch is passed over unseen.

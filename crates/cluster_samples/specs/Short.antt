@@ -17,7 +17,7 @@ use Rattle.cluster_model.specs.Sides.{offer_rows}
 use Rattle.cluster_model.specs.Channels.{Channel}
 use Rattle.cluster_model.specs.Events.{Event, MadeOffer, Told}
 use Rattle.cluster_model.specs.Clusters.{Cluster, Step, StepRefusal, Verdict, Sent, MailToAgent, MailToMaster, Entry}
-use Rattle.cluster_model.specs.Steps.{Done, Marked, unmarked, step_marked, open_cluster}
+use Rattle.cluster_model.specs.Steps.{Done, Marked, unmarked, step_marked, open_cluster, unweighted}
 
 abbrev pub id : ℕ → ℕ → Numbered
 id run n = record { run = run; n = n }
@@ -95,7 +95,7 @@ abbrev pub begun : Done → Run
 begun d = record { lines = Entered d.entry ∷ []; state = d.after }
 
 abbrev pub run_marked : ℕ → List Durable → List Marked → Run
-run_marked number records steps = run_all (begun (open_cluster number records)) steps
+run_marked number records steps = run_all (begun (open_cluster (unweighted number) records)) steps
 
 abbrev pub run : ℕ → List Durable → List Step → Run
 run number records steps = run_marked number records (map unmarked steps)

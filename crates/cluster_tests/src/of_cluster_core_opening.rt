@@ -7,6 +7,7 @@ use master_core::Config;
 use names_core::Run;
 use post_rules::EverSent;
 use record_text::record_of;
+use role_weights::Weights;
 use std::alloc::Global;
 use step_lines::read_config;
 
@@ -73,7 +74,7 @@ fn push_record(records: &mut Vec<Record>, alloc: Global, text: &str) -> Option<(
 }
 
 fn configured(alloc: Global) -> Option<Config> {
-    read_config(alloc, AGENTS.as_bytes()).ok()
+    Some(read_config(alloc, AGENTS.as_bytes()).ok()?.agents)
 }
 
 fn is_good(alloc: Global, records: &mut [Record], run: u16) -> Option<bool>
@@ -123,7 +124,7 @@ fn greets(alloc: Global, config: Config, mut records: Vec<Record>) -> bool {
     if !good_opening(&config, records.as_mut_slice(), run) {
         return false;
     }
-    match Cluster::<EverSent>::open(alloc, config, records, run) {
+    match Cluster::<EverSent>::open(alloc, config, Weights::new(alloc), records, run) {
         Ok(cluster) => greets_a_first(&cluster),
         Err(_) => false,
     }

@@ -7,6 +7,7 @@ use desk_lock::{Desk, Office, Pass, Passes, Recorded};
 use master_core::Config;
 use names_core::Run;
 use post_rules::Queues;
+use role_weights::Weights;
 use std::alloc::Global;
 use std::marker::Brand;
 use std::sync::ledger::Blank;
@@ -25,7 +26,11 @@ type Closed = (u32, Vec<u32>);
 type Seats = (Option<Seen>, Option<Seen>, Option<Closed>);
 
 fn one_agent(alloc: Global) -> Option<Config> {
-    read_config(alloc, br#"{"agents":{"a1":{"cpus":4}}}"#).ok()
+    Some(
+        read_config(alloc, br#"{"agents":{"a1":{"cpus":4}}}"#)
+            .ok()?
+            .agents,
+    )
 }
 
 /// The agent answers the master's Hello, which has the number 1, by a Report, which has the number 2.
@@ -157,7 +162,7 @@ fn recorded(alloc: Global, config: Config) -> Option<RecordedCluster>
     let Ok(records) = fresh_records(alloc, &config) else {
         return None;
     };
-    match Cluster::<Queues>::open(alloc, config, records, Run::new(1)) {
+    match Cluster::<Queues>::open(alloc, config, Weights::new(alloc), records, Run::new(1)) {
         Ok(cluster) => Some(RecordedCluster::new(cluster)),
         Err(_) => None,
     }

@@ -9,6 +9,7 @@ use master_core::Config;
 use names_core::Run;
 use post_rules::EverSent;
 use record_text::record_of;
+use role_weights::Weights;
 use std::alloc::Global;
 use step_lines::{read_config, read_step};
 
@@ -19,7 +20,7 @@ const RECORD: &str =
     r#"{"name":"a1","run":1,"session":1,"tasks":[{"acked":0,"framework":"F1-1","key":"L1-1","name":"t1","offers":["O1-1"],"resources":{"cpus":2,"mem":1024},"updates":[]}],"total":{"cpus":4,"mem":4096},"version":1}"#;
 
 fn one_agent(alloc: Global) -> Option<Config> {
-    read_config(alloc, AGENT.as_bytes()).ok()
+    Some(read_config(alloc, AGENT.as_bytes()).ok()?.agents)
 }
 
 /// The record of a text; none where memory was refused, or no agent can have it.
@@ -45,7 +46,7 @@ fn opened(
     run: Run,
 ) -> Option<Cluster<EverSent>> {
     if good_opening(&config, records.as_mut_slice(), run) {
-        Cluster::open(alloc, config, records, run).ok()
+        Cluster::open(alloc, config, Weights::new(alloc), records, run).ok()
     } else {
         None
     }
@@ -230,7 +231,7 @@ fn entries(cluster: &Cluster<EverSent>) -> usize {
 
 /// How many entries the run of a list of steps has.
 fn entries_of(alloc: Global, steps: &[Step]) -> Option<usize> {
-    match run_of(alloc, one_agent(alloc)?, steps) {
+    match run_of(alloc, one_agent(alloc)?, Weights::new(alloc), steps) {
         Ok(cluster) => Some(entries(&cluster)),
         Err(_) => None,
     }

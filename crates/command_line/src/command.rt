@@ -47,6 +47,11 @@ const REPLAY_HELP: &str = "The first line says which agents there are, and what 
 It has 1 to 256 agents, whose names have 1 to 64 ASCII letters, digits, `-`, `_` and `.`. An agent owns up to 8 resources: each has a name
 of 1 to 64 bytes without control characters, spaces, `/` and `\\`, and an amount that is a whole number from 1 to 1099511627776 (2^40).
 
+Roles may have weights: a role of weight 2 is due twice as much as one of weight 1, which each role has that isn't named. Up to 4096
+roles have a whole number from 1 to 1000:
+
+  {\"agents\":{\"a1\":{\"cpus\":4,\"mem\":4096}},\"weights\":{\"prod\":2}}
+
 Each other line is a step. Its members, of which only `stream` of a send may lack:
 
   {\"step\":\"send\",\"stream\":\"S1-1\",\"call\":CALL}      a framework sends a call of the Mesos scheduler API

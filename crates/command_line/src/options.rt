@@ -36,6 +36,11 @@ const SERVE_HELP: &str = "FILE is one line that says which agents there are, and
 It has 1 to 256 agents, whose names have 1 to 64 ASCII letters, digits, `-`, `_` and `.`. An agent owns up to 8 resources: each has a name
 of 1 to 64 bytes without control characters, spaces, `/` and `\\`, and an amount that is a whole number from 1 to 1099511627776 (2^40).
 
+Roles may have weights: a role of weight 2 is due twice as much as one of weight 1, which each role has that isn't named. Up to 4096
+roles have a whole number from 1 to 1000:
+
+  {\"agents\":{\"a1\":{\"cpus\":4,\"mem\":4096}},\"weights\":{\"prod\":2}}
+
 DIR is a folder that is there. Each agent keeps its record in `agent-NAME.db` in it, and the master the number of its run in
 `master.db`; both are SQLite stores. Started again on the same folder, the agents come up over their records, with their tasks,
 and frameworks resubscribe by their ids. Have one process at a time on a folder: from an agent's first save on, soon after the

@@ -5,7 +5,7 @@ use Rattle.std.proofs.lemmas.List.Sums.{position_or_len_is}
 use Rattle.std.proofs.lemmas.Bool.{true≢false, lt-ltb}
 use Rattle.std.proofs.lemmas.Slice.Eq.{bytes_eq-Decides}
 use Rattle.quantity.specs.declared.rows.Row.{Row}
-use Rattle.drf_pick.specs.Shares.{Holder, RoleSum, RolesOnce, is_role, at_first, given_roles, returned_roles, role_holding, role_returning, role_sum_of, roles_with}
+use Rattle.drf_pick.specs.Shares.{Holder, RoleSum, RolesOnce, is_role, at_first, given_roles, returned_roles, role_holding, role_returning, role_sum_of, roles_with, weighed_roles, weighing}
 use Rattle.drf_pick.proofs.Once.{none_here}
 
 same_name : (a b name : List ℕ) → bytes_eq a name ≡ true → bytes_eq b name ≡ true → bytes_eq b a ≡ true
@@ -92,6 +92,9 @@ given_once rows (Some h) rs once = changed_once h.role (role_holding rows) (λ r
 pub returned_once : (rows : List Row) (o : Option Holder) (rs : List RoleSum) → RolesOnce rs → RolesOnce (returned_roles rows o rs)
 returned_once rows None rs once = once
 returned_once rows (Some h) rs once = changed_once h.role (role_returning rows) (λ r. refl) rs once
+
+pub weighed_once : (name : List ℕ) (weight : ℕ) (rs : List RoleSum) → RolesOnce rs → RolesOnce (weighed_roles name weight rs)
+weighed_once name weight rs once = changed_once name (weighing weight) (λ r. refl) (roles_with name rs (find (is_role name) rs)) (with_once name rs once)
 
 -- whether they changed or stayed
 pub roles_either : {T E : Type 0} (X : Type 0) (r : Result T E) (now changed before : List RoleSum) → OnOk r (now ≡ changed) → OnErr r (X × (now ≡ before)) → RolesOnce changed → RolesOnce before → RolesOnce now

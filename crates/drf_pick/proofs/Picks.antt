@@ -1,7 +1,7 @@
 -- What is picked stands least.
-use Rattle.std.proofs.Common.{◌≡◌, ℕ, Bool, true, false, not, ◌&&◌, ◌||◌, ◌==◌, cond, nat_lt, nat_le, List, [], ◌∷◌, ◌⊎◌, inl, inr, Some, refl, sym, ap, ◌∙◌, subst, arith}
+use Rattle.std.proofs.Common.{◌≡◌, ℕ, ◌<◌, Bool, true, false, not, ◌&&◌, ◌||◌, ◌==◌, cond, nat_lt, nat_le, List, [], ◌∷◌, ◌⊎◌, inl, inr, Some, refl, sym, ap, ◌∙◌, subst, arith}
 use Rattle.std.specs.Prelude.{bytes_eq}
-use Rattle.std.specs.List.{fold}
+use Rattle.std.specs.List.{find, fold}
 use Rattle.std.specs.Ordering.{nat_cmp, is_le, is_lt, is_gt, ordering_reverse}
 use Rattle.std.specs.declared.cmp.Ordering.{Ordering}
 use Rattle.std.specs.declared.cmp.Ordering.TheVariants.{Less, Equal, Greater}
@@ -12,11 +12,11 @@ use Rattle.std.proofs.lemmas.Bool.Decides.{nat_tests}
 use Rattle.quantity.proofs.Orders.{level_same}
 use Rattle.names_core.specs.Ids.{Numbered}
 use Rattle.cluster_model.specs.Ids.{before, bytes_before}
-use Rattle.cluster_model.specs.Rounds.{stands_at_most_at, stands_first}
-use Rattle.drf_pick.specs.Shares.{Tally, Holder}
-use Rattle.drf_pick.specs.Least.{role_held, comes_before, better}
+use Rattle.cluster_model.specs.Rounds.{share, stands_at_most_at, stands_first}
+use Rattle.drf_pick.specs.Shares.{Tally, Holder, RoleSum, is_role}
+use Rattle.drf_pick.specs.Least.{role_share, share_of_sum, comes_before, better}
 use Rattle.drf_pick.specs.Orders.{Among, IsPreorder}
-use Rattle.drf_pick.specs.Laws.{ArePositive, PicksLeast}
+use Rattle.drf_pick.specs.Laws.{ArePositive, AreWeighed, PicksLeast, Weighed}
 use Rattle.drf_pick.proofs.Orders.{comes_first, first_preorder}
 use Rattle.drf_pick.proofs.Standing.{standing_is_order}
 use Rattle.drf_pick.proofs.Names.{before_text}
@@ -100,45 +100,64 @@ turn_first true false false f = refl
 turn_first false true tie f = refl
 turn_first false false tie f = absurd (false≢true (f refl))
 
+-- all agents own some of each name of the totals, and each role has some weight
+abbrev Sound : Tally → Type 0
+Sound t = ArePositive t.totals × AreWeighed t.roles
+
+-- frameworks within a role count alike
+abbrev alone : Holder → Weighed
+alone c = record { share = share c.held 1; some = omega arith }
+
+some_weight : (rs : List RoleSum) (role : List ℕ) → AreWeighed rs → 0 < (role_share rs role).weight
+some_weight [] role are = omega arith
+some_weight (r ∷ rs) role are = by_case (is_role role r) (some_weight rs role are.1)
+  where
+    by_case : (b : Bool) → 0 < (role_share rs role).weight → 0 < (share_of_sum (cond b (Some r) (find (is_role role) rs))).weight
+    by_case true behind = are.0
+    by_case false behind = behind
+
+abbrev of_role : (t : Tally) → Sound t → List ℕ → Weighed
+of_role t sound role = record { share = role_share t.roles role; some = some_weight t.roles role sound.1 }
+
 abbrev by_roles : Tally → List ℕ → List ℕ → Bool
-by_roles t = comes_first (λ a b. stands_at_most_at t.totals (role_held t.roles a) (role_held t.roles b)) name_le
+by_roles t = comes_first (λ a b. stands_at_most_at t.totals (role_share t.roles a) (role_share t.roles b)) name_le
 
 abbrev by_holders : Tally → Holder → Holder → Bool
-by_holders t = comes_first (λ c d. stands_at_most_at t.totals c.held d.held) (λ c d. id_le c.framework d.framework)
+by_holders t = comes_first (λ c d. stands_at_most_at t.totals (share c.held 1) (share d.held 1)) (λ c d. id_le c.framework d.framework)
 
 pulled : {X Y : Type 0} (f : X → Y) (le : Y → Y → Bool) → IsPreorder le → IsPreorder (λ x y. le (f x) (f y))
 pulled f le o = record { total = λ x y h. o.total (f x) (f y) h; trans = λ x y z h g. o.trans (f x) (f y) (f z) h g }
 
-roles_order : (t : Tally) → ArePositive t.totals → IsPreorder (by_roles t)
-roles_order t positive = first_preorder _ name_le (pulled (role_held t.roles) (stands_at_most_at t.totals) (standing_is_order t.totals positive)) names
+roles_order : (t : Tally) → Sound t → IsPreorder (by_roles t)
+roles_order t sound = first_preorder _ name_le (pulled (of_role t sound) (λ a b. stands_at_most_at t.totals a.share b.share) (standing_is_order t.totals sound.0)) names
 
-holders_order : (t : Tally) → ArePositive t.totals → IsPreorder (by_holders t)
-holders_order t positive =
-    first_preorder _ _ (pulled (λ (c : Holder). c.held) (stands_at_most_at t.totals) (standing_is_order t.totals positive)) (pulled (λ (c : Holder). c.framework) id_le ids)
+holders_order : (t : Tally) → Sound t → IsPreorder (by_holders t)
+holders_order t sound =
+    first_preorder _ _ (pulled alone (λ a b. stands_at_most_at t.totals a.share b.share) (standing_is_order t.totals sound.0)) (pulled (λ (c : Holder). c.framework) id_le ids)
 
 abbrev whole : Tally → Holder → Holder → Bool
 whole t = comes_first (λ c d. by_roles t c.role d.role) (by_holders t)
 
-whole_order : (t : Tally) → ArePositive t.totals → IsPreorder (whole t)
-whole_order t positive = first_preorder _ (by_holders t) (pulled (λ (c : Holder). c.role) (by_roles t) (roles_order t positive)) (holders_order t positive)
+whole_order : (t : Tally) → Sound t → IsPreorder (whole t)
+whole_order t sound = first_preorder _ (by_holders t) (pulled (λ (c : Holder). c.role) (by_roles t) (roles_order t sound)) (holders_order t sound)
 
 -- the second isn't served before the first
 abbrev le_of : Tally → Holder → Holder → Bool
 le_of t c d = not (comes_before t d c)
 
-within_role : (t : Tally) → ArePositive t.totals → (c d : Holder) → not (stands_first t.totals d.held c.held (before d.framework c.framework)) ≡ by_holders t c d
-within_role t positive c d =
-    turn_first (stands_at_most_at t.totals d.held c.held) (stands_at_most_at t.totals c.held d.held) (before d.framework c.framework) ((standing_is_order t.totals positive).total d.held c.held)
-    ∙ ap (λ v. stands_at_most_at t.totals c.held d.held && (not (stands_at_most_at t.totals d.held c.held) || v)) (not_before c.framework.run c.framework.n d.framework.run d.framework.n)
+within_role : (t : Tally) → Sound t → (c d : Holder) → not (stands_first t.totals (share d.held 1) (share c.held 1) (before d.framework c.framework)) ≡ by_holders t c d
+within_role t sound c d =
+    turn_first (stands_at_most_at t.totals (share d.held 1) (share c.held 1)) (stands_at_most_at t.totals (share c.held 1) (share d.held 1)) (before d.framework c.framework) ((standing_is_order t.totals sound.0).total (alone d) (alone c))
+    ∙ ap (λ v. stands_at_most_at t.totals (share c.held 1) (share d.held 1) && (not (stands_at_most_at t.totals (share d.held 1) (share c.held 1)) || v)) (not_before c.framework.run c.framework.n d.framework.run d.framework.n)
 
-across_roles : (t : Tally) → ArePositive t.totals → (a b : List ℕ) → not (stands_first t.totals (role_held t.roles b) (role_held t.roles a) (bytes_before b a)) ≡ by_roles t a b
-across_roles t positive a b =
-    turn_first (stands_at_most_at t.totals (role_held t.roles b) (role_held t.roles a)) (stands_at_most_at t.totals (role_held t.roles a) (role_held t.roles b)) (bytes_before b a)
-    ((standing_is_order t.totals positive).total (role_held t.roles b) (role_held t.roles a))
-    ∙ ap (λ v. stands_at_most_at t.totals (role_held t.roles a) (role_held t.roles b) && (not (stands_at_most_at t.totals (role_held t.roles b) (role_held t.roles a)) || v)) (not_name_before a b)
+across_roles : (t : Tally) → Sound t → (a b : List ℕ) → not (stands_first t.totals (role_share t.roles b) (role_share t.roles a) (bytes_before b a)) ≡ by_roles t a b
+across_roles t sound a b =
+    turn_first (stands_at_most_at t.totals (role_share t.roles b) (role_share t.roles a)) (stands_at_most_at t.totals (role_share t.roles a) (role_share t.roles b)) (bytes_before b a)
+    ((standing_is_order t.totals sound.0).total (of_role t sound b) (of_role t sound a))
+    ∙ ap (λ v. stands_at_most_at t.totals (role_share t.roles a) (role_share t.roles b) && (not (stands_at_most_at t.totals (role_share t.roles b) (role_share t.roles a)) || v)) (not_name_before a b)
 
 abbrev role_stands : Tally → List ℕ → List ℕ → Bool
-role_stands t x y = stands_at_most_at t.totals (role_held t.roles x) (role_held t.roles y)
+role_stands t x y = stands_at_most_at t.totals (role_share t.roles x) (role_share t.roles y)
 
 -- two that stand beside each other by roles are of one role
 one_role : (t : Tally) (a b : List ℕ) → by_roles t a b ≡ true → by_roles t b a ≡ true → b ≡ a
@@ -151,8 +170,8 @@ one_role t a b h g = one_name a b (tie a b h g) (tie b a g h)
         by_case (inl e) = absurd (false≢true (sym (ap not (and_parts (role_stands t y x) (not (role_stands t x y) || name_le y x) l).0) ∙ e))
         by_case (inr e) = e
 
-is_whole : (t : Tally) → ArePositive t.totals → (c d : Holder) → le_of t c d ≡ whole t c d
-is_whole t positive c d = by_role (bytes_eq d.role c.role) refl
+is_whole : (t : Tally) → Sound t → (c d : Holder) → le_of t c d ≡ whole t c d
+is_whole t sound c d = by_role (bytes_eq d.role c.role) refl
   where
     F : Bool
     F = by_holders t c d
@@ -163,21 +182,21 @@ is_whole t positive c d = by_role (bytes_eq d.role c.role) refl
     lone false y f = refl
 
     by_role : (b : Bool) → bytes_eq d.role c.role ≡ b
-        → not (cond b (stands_first t.totals d.held c.held (before d.framework c.framework)) (stands_first t.totals (role_held t.roles d.role) (role_held t.roles c.role) (bytes_before d.role c.role)))
+        → not (cond b (stands_first t.totals (share d.held 1) (share c.held 1) (before d.framework c.framework)) (stands_first t.totals (role_share t.roles d.role) (role_share t.roles c.role) (bytes_before d.role c.role)))
         ≡ whole t c d
     by_role true e =
         let same : d.role ≡ c.role = (bytes_decides d.role c.role).0 e in
-        let one : by_roles t c.role d.role ≡ true = subst (λ r. by_roles t c.role r ≡ true) (sym same) (itself (by_roles t) (roles_order t positive) c.role) in
-        let two : by_roles t d.role c.role ≡ true = subst (λ r. by_roles t r c.role ≡ true) (sym same) (itself (by_roles t) (roles_order t positive) c.role) in
-        within_role t positive c d ∙ sym (ap (λ v. v && (not (by_roles t d.role c.role) || F)) one ∙ ap (λ v. not v || F) two)
+        let one : by_roles t c.role d.role ≡ true = subst (λ r. by_roles t c.role r ≡ true) (sym same) (itself (by_roles t) (roles_order t sound) c.role) in
+        let two : by_roles t d.role c.role ≡ true = subst (λ r. by_roles t r c.role ≡ true) (sym same) (itself (by_roles t) (roles_order t sound) c.role) in
+        within_role t sound c d ∙ sym (ap (λ v. v && (not (by_roles t d.role c.role) || F)) one ∙ ap (λ v. not v || F) two)
     by_role false e =
-        across_roles t positive c.role d.role
+        across_roles t sound c.role d.role
         ∙ lone (by_roles t c.role d.role) (by_roles t d.role c.role) (λ h g. true≢false (sym ((bytes_decides d.role c.role).1 (one_role t c.role d.role h g)) ∙ e))
 
-le_order : (t : Tally) → ArePositive t.totals → IsPreorder (le_of t)
-le_order t positive =
-    let o = whole_order t positive in
-    let is = is_whole t positive in
+le_order : (t : Tally) → Sound t → IsPreorder (le_of t)
+le_order t sound =
+    let o = whole_order t sound in
+    let is = is_whole t sound in
     record {
       total = λ x y h. is y x ∙ o.total x y (sym (is x y) ∙ h);
       trans = λ x y z h g. is x z ∙ o.trans x y z (sym (is x y) ∙ h) (sym (is y z) ∙ g);
@@ -231,7 +250,7 @@ not_true true h = absurd (false≢true h)
 not_true false h = refl
 
 pub picks_least : PicksLeast
-picks_least t [] positive = refl
-picks_least t (h ∷ hs) positive =
-    let w = low t (le_order t positive) h hs in
+picks_least t [] positive weighed = refl
+picks_least t (h ∷ hs) positive weighed =
+    let w = low t (le_order t (positive, weighed)) h hs in
     rw (folds t h hs) (record { there = w.there; least = λ g i. not_true (comes_before t g (fold (lesser t) h hs)) (w.least g i) })

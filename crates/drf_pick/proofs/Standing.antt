@@ -1,33 +1,26 @@
 -- The order of shares.
-use Rattle.std.proofs.Common.{◌≡◌, ℕ, ◌+◌, ◌*◌, ◌≤◌, ◌<◌, Bool, true, false, nat_eq, List, [], ◌∷◌, ◌⊎◌, inl, inr, refl, sym, subst, arith}
+use Rattle.std.proofs.Common.{◌≡◌, ℕ, zero, suc, ◌*◌, ◌≤◌, ◌<◌, Bool, true, false, nat_eq, List, [], ◌∷◌, inl, inr, refl, sym, subst, arith}
 use Rattle.std.specs.List.{list_any}
 use Rattle.std.specs.Cmp.Lexicographic.{pointwise, bytes_decides}
-use Rattle.std.proofs.lemmas.Bool.{leb-true, leb-false, le-leb, cases_lt}
-use Rattle.std.proofs.Math.Nat.{mul-le-mul_left}
+use Rattle.std.proofs.lemmas.Bool.{leb-true, leb-false, le-leb}
 use Rattle.quantity.specs.declared.rows.Row.{Row}
 use Rattle.quantity.specs.Rows.{amount, part_of}
 use Rattle.quantity.proofs.Amounts.{amount-cons, part_of_own}
-use Rattle.cluster_model.specs.Rounds.{is_at_most_at, stands_at_most_at}
+use Rattle.cluster_model.specs.Rounds.{Share, is_at_most_at, stands_at_most_at}
 use Rattle.drf_pick.specs.Orders.{Among}
-use Rattle.drf_pick.specs.Laws.{ArePositive, StandsAtMost, TestIsRelation, AmountsDecide, StandingIsOrder}
-use Rattle.drf_pick.proofs.Lists.{all_at, all_from, all_not, any_from, any_at, any_not}
+use Rattle.drf_pick.specs.Laws.{Amounts, ArePositive, StandsAtMost, TestIsRelation, AmountsDecide, StandingIsOrder, amounts_of}
+use Rattle.share_sums.proofs.Dominating.{cross}
+use Rattle.share_sums.proofs.Lists.{all_at, all_from, all_not, any_from, any_at, any_not}
 
-cross : (a b e ti tj tk : ℕ) → 0 < tj → a * tj ≤ b * ti → b * tk ≤ e * tj → a * tk ≤ e * ti
-cross a b e ti tj tk pos h g = by_case (cases_lt (e * ti) (a * tk)) where
-  by_case : ((e * ti < a * tk) ⊎ (a * tk ≤ e * ti)) → a * tk ≤ e * ti
-  by_case (inr le) = le
-  by_case (inl lt) =
-      let one : tk * (a * tj) ≤ tk * (b * ti) = mul-le-mul_left tk h in
-      let two : ti * (b * tk) ≤ ti * (e * tj) = mul-le-mul_left ti g in
-      let next : e * ti + 1 ≤ a * tk = omega arith in
-      let three : tj * (e * ti + 1) ≤ tj * (a * tk) = mul-le-mul_left tj next in
-      absurd (omega (arith, one, two, three, pos))
+some_more : (t w : ℕ) → 0 < t → 0 < w → 0 < t * w
+some_more zero w h k = absurd (omega arith)
+some_more (suc t) w h k = omega (arith, k)
 
-pub at_most_trans : (t a b e : List ℕ → ℕ) → StandsAtMost t a b → StandsAtMost t b e → StandsAtMost t a e
-at_most_trans t a b e f g i pos =
+pub at_most_trans : (t : List ℕ → ℕ) (a b e : Amounts) → 0 < b.weight → StandsAtMost t a b → StandsAtMost t b e → StandsAtMost t a e
+at_most_trans t a b e some f g i pos =
     let x = f i pos in
     let y = g x.0 x.1 in
-    (y.0, y.1, cross (a i) (b x.0) (e y.0) (t i) (t x.0) (t y.0) x.1 x.2 y.2)
+    (y.0, y.1, cross (a.of i) (b.of x.0) (e.of y.0) (t i * a.weight) (t x.0 * b.weight) (t y.0 * e.weight) (some_more (t x.0) b.weight x.1 some) x.2 y.2)
 
 -- a name with some amount has a row
 row_named : (rows : List Row) (i : List ℕ) → 0 < amount i rows → (r : Row) × Among r rows × (r.name ≡ i)
@@ -50,26 +43,29 @@ row_counts (s ∷ rows) r positive (inl e) =
     subst (λ (x : Row). 0 < amount x.name (s ∷ rows)) (sym e) here
 row_counts (s ∷ rows) r positive (inr i) = omega (arith, row_counts rows r positive.1 i, amount-cons r.name s rows)
 
-abbrev met : List Row → List Row → List Row → Row → Bool
+abbrev met : List Row → Share → Share → Row → Bool
 met totals a b i = list_any (λ j. is_at_most_at totals a b i j) totals
 
-is_relation : (totals a b : List Row) → ArePositive totals → stands_at_most_at totals a b ≡ true → StandsAtMost (λ name. amount name totals) (λ name. amount name a) (λ name. amount name b)
+abbrev total_of : List Row → List ℕ → ℕ
+total_of totals name = amount name totals
+
+is_relation : (totals : List Row) (a b : Share) → ArePositive totals → stands_at_most_at totals a b ≡ true → StandsAtMost (total_of totals) (amounts_of a) (amounts_of b)
 is_relation totals a b positive h i pos =
     let w = row_named totals i pos in
     let here : met totals a b w.0 ≡ true = all_at (met totals a b) totals w.0 h w.1 in
     let x = any_at (λ j. is_at_most_at totals a b w.0 j) totals here in
-    let le : amount w.0.name a * amount x.0.name totals ≤ amount x.0.name b * amount w.0.name totals = leb-true _ _ x.2 in
-    (x.0.name, row_counts totals x.0 positive x.1, subst (λ n. amount n a * amount x.0.name totals ≤ amount x.0.name b * amount n totals) w.2 le)
+    let le : amount w.0.name a.held * (amount x.0.name totals * b.weight) ≤ amount x.0.name b.held * (amount w.0.name totals * a.weight) = leb-true _ _ x.2 in
+    (x.0.name, row_counts totals x.0 positive x.1, subst (λ n. amount n a.held * (amount x.0.name totals * b.weight) ≤ amount x.0.name b.held * (amount n totals * a.weight)) w.2 le)
 
-from_relation : (totals a b : List Row) → ArePositive totals → StandsAtMost (λ name. amount name totals) (λ name. amount name a) (λ name. amount name b) → stands_at_most_at totals a b ≡ true
+from_relation : (totals : List Row) (a b : Share) → ArePositive totals → StandsAtMost (total_of totals) (amounts_of a) (amounts_of b) → stands_at_most_at totals a b ≡ true
 from_relation totals a b positive h = all_from (met totals a b) totals here
   where
     here : (r : Row) → Among r totals → met totals a b r ≡ true
     here r i =
         let x = h r.name (row_counts totals r positive i) in
         let w = row_named totals x.0 x.1 in
-        let le : amount r.name a * amount w.0.name totals ≤ amount w.0.name b * amount r.name totals =
-        subst (λ n. amount r.name a * amount n totals ≤ amount n b * amount r.name totals) (sym w.2) x.2 in
+        let le : amount r.name a.held * (amount w.0.name totals * b.weight) ≤ amount w.0.name b.held * (amount r.name totals * a.weight) =
+        subst (λ n. amount r.name a.held * (amount n totals * b.weight) ≤ amount n b.held * (amount r.name totals * a.weight)) (sym w.2) x.2 in
         any_from (λ j. is_at_most_at totals a b r j) totals w.0 w.1 (le-leb _ _ le)
 
 pub test_is_relation : TestIsRelation
@@ -80,23 +76,30 @@ same_tests true y f g = sym (f refl)
 same_tests false true f g = g refl
 same_tests false false f g = refl
 
+-- the same amounts
+abbrev SameAmount : Amounts → Amounts → Type 0
+SameAmount a b = ((n : List ℕ) → a.of n ≡ b.of n) × (a.weight ≡ b.weight)
+
 -- the relation of some amounts is that of the same amounts
-carried : (t a b t' a' b' : List ℕ → ℕ) → ((n : List ℕ) → t n ≡ t' n) → ((n : List ℕ) → a n ≡ a' n) → ((n : List ℕ) → b n ≡ b' n) → StandsAtMost t a b → StandsAtMost t' a' b'
+carried : (t : List ℕ → ℕ) (a b : Amounts) (t' : List ℕ → ℕ) (a' b' : Amounts) → ((n : List ℕ) → t n ≡ t' n) → SameAmount a a' → SameAmount b b' → StandsAtMost t a b → StandsAtMost t' a' b'
 carried t a b t' a' b' et ea eb h i pos =
     let some : 0 < t i = subst (λ m. 0 < m) (sym (et i)) pos in
     let x = h i some in
     let positive : 0 < t' x.0 = subst (λ m. 0 < m) (et x.0) x.1 in
-    let le : a' i * t' x.0 ≤ b' x.0 * t' i = rw (sym (ea i), sym (et x.0), sym (eb x.0), sym (et i)) x.2 in
+    let le : a'.of i * (t' x.0 * b'.weight) ≤ b'.of x.0 * (t' i * a'.weight) = rw (sym (ea.0 i), sym (et x.0), sym (eb.0 x.0), sym (et i), sym ea.1, sym eb.1) x.2 in
     (x.0, positive, le)
+
+back : (a b : Amounts) → SameAmount a b → SameAmount b a
+back a b same = (λ n. sym (same.0 n), sym same.1)
 
 pub amounts_decide : AmountsDecide
 amounts_decide totals a b totals' a' b' positive positive' et ea eb =
     same_tests (stands_at_most_at totals a b) (stands_at_most_at totals' a' b')
     (λ h. from_relation totals' a' b' positive' (carried _ _ _ _ _ _ et ea eb (is_relation totals a b positive h)))
-    (λ h. from_relation totals a b positive (carried _ _ _ _ _ _ (λ n. sym (et n)) (λ n. sym (ea n)) (λ n. sym (eb n)) (is_relation totals' a' b' positive' h)))
+    (λ h. from_relation totals a b positive (carried _ _ _ _ _ _ (λ n. sym (et n)) (back (amounts_of a) (amounts_of a') ea) (back (amounts_of b) (amounts_of b') eb) (is_relation totals' a' b' positive' h)))
 
-total_of : (totals : List Row) → ArePositive totals → (a b : List Row) → stands_at_most_at totals a b ≡ false → stands_at_most_at totals b a ≡ true
-total_of totals positive a b h =
+all_total : (totals : List Row) → ArePositive totals → (a b : Share) → stands_at_most_at totals a b ≡ false → stands_at_most_at totals b a ≡ true
+all_total totals positive a b h =
     let x = all_not (met totals a b) totals h in
     all_from (met totals b a) totals (λ r i. any_from (λ j. is_at_most_at totals b a r j) totals x.0 x.1 (lower x.0 r x.2 i))
   where
@@ -108,7 +111,8 @@ total_of totals positive a b h =
 pub standing_is_order : StandingIsOrder
 standing_is_order totals positive =
     record {
-      total = total_of totals positive;
-      trans = λ a b e h g. from_relation totals a e positive
-          (at_most_trans (λ n. amount n totals) (λ n. amount n a) (λ n. amount n b) (λ n. amount n e) (is_relation totals a b positive h) (is_relation totals b e positive g));
+      total = λ a b. all_total totals positive a.share b.share;
+      trans = λ a b e h g. from_relation totals a.share e.share positive
+          (at_most_trans (total_of totals) (amounts_of a.share) (amounts_of b.share) (amounts_of e.share) b.some
+          (is_relation totals a.share b.share positive h) (is_relation totals b.share e.share positive g));
     }

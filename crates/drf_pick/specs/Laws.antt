@@ -4,9 +4,9 @@ use Rattle.std.specs.List.{AllByRecursion}
 use Rattle.quantity.specs.declared.rows.Row.{Row}
 use Rattle.quantity.specs.Rows.{amount}
 use Rattle.quantity.specs.Laws.{SameAmounts}
-use Rattle.cluster_model.specs.Rounds.{stands_at_most_at}
+use Rattle.cluster_model.specs.Rounds.{Share, stands_at_most_at}
 pub use Rattle.share_sums.specs.Sums.{SumsAdd}
-use Rattle.drf_pick.specs.Shares.{Tally, Holder}
+use Rattle.drf_pick.specs.Shares.{Tally, Holder, RoleSum}
 use Rattle.drf_pick.specs.Least.{comes_before, better}
 use Rattle.drf_pick.specs.Orders.{Among, IsPreorder}
 
@@ -14,23 +14,44 @@ use Rattle.drf_pick.specs.Orders.{Among, IsPreorder}
 abbrev pub ArePositive : List Row → Type 0
 ArePositive rows = AllByRecursion (λ r. 0 < r.amount) rows
 
+-- amounts of each name, and their weight
+pub record Amounts : Type 0 where
+  pub of : List ℕ → ℕ
+  pub weight : ℕ
+
+abbrev pub amounts_of : Share → Amounts
+amounts_of s = record { of = λ name. amount name s.held; weight = s.weight }
+
 -- Stands at most at, of amounts as functions of a name: t are the totals, a what the first holds, b what the second holds
-abbrev pub StandsAtMost : (List ℕ → ℕ) → (List ℕ → ℕ) → (List ℕ → ℕ) → Type 0
-StandsAtMost t a b = (i : List ℕ) → 0 < t i → (j : List ℕ) × (0 < t j) × (a i * t j ≤ b j * t i)
+abbrev pub StandsAtMost : (List ℕ → ℕ) → Amounts → Amounts → Type 0
+StandsAtMost t a b = (i : List ℕ) → 0 < t i → (j : List ℕ) × (0 < t j) × (a.of i * (t j * b.weight) ≤ b.of j * (t i * a.weight))
 
 -- the test over rows is the relation over all names
 abbrev pub TestIsRelation : Type 0
-TestIsRelation = (totals a b : List Row) → ArePositive totals
-    → (stands_at_most_at totals a b ≡ true) ↔ StandsAtMost (λ name. amount name totals) (λ name. amount name a) (λ name. amount name b)
+TestIsRelation = (totals : List Row) (a b : Share) → ArePositive totals
+    → (stands_at_most_at totals a b ≡ true) ↔ StandsAtMost (λ name. amount name totals) (amounts_of a) (amounts_of b)
 
--- rows with the same amounts of every name stand alike
+-- the same amounts of every name, with the same weight
+abbrev pub SameShare : Share → Share → Type 0
+SameShare a b = SameAmounts a.held b.held × (a.weight ≡ b.weight)
+
+-- shares of the same amounts stand alike
 abbrev pub AmountsDecide : Type 0
-AmountsDecide = (totals a b totals' a' b' : List Row) → ArePositive totals → ArePositive totals'
-    → SameAmounts totals totals' → SameAmounts a a' → SameAmounts b b' → stands_at_most_at totals a b ≡ stands_at_most_at totals' a' b'
+AmountsDecide = (totals : List Row) (a b : Share) (totals' : List Row) (a' b' : Share) → ArePositive totals → ArePositive totals'
+    → SameAmounts totals totals' → SameShare a a' → SameShare b b' → stands_at_most_at totals a b ≡ stands_at_most_at totals' a' b'
 
--- any two stand in the order, and it goes on from one to the next
+-- a share of some weight
+pub record Weighed : Type 0 where
+  pub share : Share
+  pub some : 0 < share.weight
+
+-- any two of some weight stand in the order, and it goes on from one to the next
 abbrev pub StandingIsOrder : Type 0
-StandingIsOrder = (totals : List Row) → ArePositive totals → IsPreorder (stands_at_most_at totals)
+StandingIsOrder = (totals : List Row) → ArePositive totals → IsPreorder (λ (a b : Weighed). stands_at_most_at totals a.share b.share)
+
+-- each role has some weight
+abbrev pub AreWeighed : List RoleSum → Type 0
+AreWeighed rs = AllByRecursion (λ r. 0 < r.weight) rs
 
 -- one of the frameworks, and none comes before it
 pub record IsLeast (t : Tally) (hs : List Holder) (h : Holder) : Type 0 where
@@ -38,4 +59,4 @@ pub record IsLeast (t : Tally) (hs : List Holder) (h : Holder) : Type 0 where
   pub least : (g : Holder) → Among g hs → comes_before t g h ≡ false
 
 abbrev pub PicksLeast : Type 0
-PicksLeast = (t : Tally) (hs : List Holder) → ArePositive t.totals → MatchOption (fold (better t) None hs) (hs ≡ []) (IsLeast t hs)
+PicksLeast = (t : Tally) (hs : List Holder) → ArePositive t.totals → AreWeighed t.roles → MatchOption (fold (better t) None hs) (hs ≡ []) (IsLeast t hs)

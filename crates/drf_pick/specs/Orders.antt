@@ -1,9 +1,6 @@
 -- Orders.
-use Rattle.std.specs.Prelude.{◌≡◌, Bool, true, false, List, [], ◌∷◌, ◌⊎◌}
-
-abbrev pub Among : {X : Type 0} → X → List X → Type 0
-Among x [] = ⊥
-Among x (y ∷ ys) = (x ≡ y) ⊎ Among x ys
+use Rattle.std.specs.Prelude.{◌≡◌, Bool, true, false}
+pub use Rattle.share_sums.specs.Lists.{Among}
 
 -- a test that compares any two, and goes on from one to the next
 pub record IsPreorder {X : Type 0} (le : X → X → Bool) : Type 0 where

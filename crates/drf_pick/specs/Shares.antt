@@ -12,7 +12,7 @@ pub use Rattle.drf_pick.specs.declared.holder.RoleSum.{RoleSum}
 pub record Tally : Type 0 where
   pub totals : List Row  -- what all agents own
   pub holders : List Holder  -- the frameworks that a role was told of, with what they hold
-  pub roles : List RoleSum  -- with what their frameworks hold
+  pub roles : List RoleSum  -- with what their frameworks hold, and their weights
 
 abbrev pub is_holder : Numbered → Holder → Bool
 is_holder framework h = same h.framework framework
@@ -52,7 +52,7 @@ abbrev pub holder_of : Numbered → List ℕ → Holder
 holder_of framework role = record { framework = framework; role = role; held = [] }
 
 abbrev pub role_sum_of : List ℕ → RoleSum
-role_sum_of role = record { role = role; held = [] }
+role_sum_of role = record { role = role; held = []; weight = 1 }
 
 abbrev pub roles_with : List ℕ → List RoleSum → Option RoleSum → List RoleSum
 roles_with role rs None = rs ++ role_sum_of role ∷ []
@@ -68,6 +68,17 @@ with_holder framework role t None = record t {
 -- a framework of this role is known, and holds nothing yet; the first role that is told of a framework counts
 abbrev pub with_role : Numbered → List ℕ → Tally → Tally
 with_role framework role t = with_holder framework role t (find (is_holder framework) t.holders)
+
+-- a role has this weight
+abbrev pub weighing : ℕ → RoleSum → RoleSum
+weighing weight r = record r { weight = weight }
+
+abbrev pub weighed_roles : List ℕ → ℕ → List RoleSum → List RoleSum
+weighed_roles role weight rs = at_first (is_role role) (weighing weight) (roles_with role rs (find (is_role role) rs))
+
+-- a role is known, and has this weight
+abbrev pub weighed : List ℕ → ℕ → Tally → Tally
+weighed role weight t = record t { roles = weighed_roles role weight t.roles }
 
 -- what is taken away again
 

@@ -22,11 +22,13 @@ pub struct Holder {
     pub held: Sum,
 }
 
-/// A role, and the sum of what its frameworks hold.
+/// A role, the sum of what its frameworks hold, and its weight.
 #[derive(Drop)]
 pub struct RoleSum {
     pub role: RoleName,
     pub held: Sum,
+    /// 1 to 1,000: how much of all is the role's due, beside the others'.
+    pub weight: u16,
 }
 
 impl Holder {
@@ -54,6 +56,7 @@ impl RoleSum {
         RoleSum {
             role,
             held: Sum::new(alloc),
+            weight: 1,
         }
     }
 

@@ -8,17 +8,17 @@ pub fn test_is_relation()
     ensures { TestIsRelation }
 {}
 
-/// How two stand depends on the amounts of each name alone.
+/// How two stand depends on the amounts of each name and on the weights alone.
 pub fn amounts_decide()
     ensures { AmountsDecide }
 {}
 
-/// The order compares any two and is transitive.
+/// The order compares any two of some weight and is transitive.
 pub fn standing_is_order()
     ensures { StandingIsOrder }
 {}
 
-/// Sums that stay below 2^64 - 1 have the sums of the amounts.
+/// Sums that stay within 2^48 have the sums of the amounts.
 pub fn sums_add()
     ensures { SumsAdd }
 {}

@@ -3,7 +3,8 @@
 ghost use Rattle.std.specs.Prelude.{◌≡◌, ◌++◌, ◌∷◌, [], true, false, Err, OnOk, OnErr};
 ghost use Rattle.std.specs.List.{find, position};
 ghost use Rattle.std.specs.Option.{option_copied};
-ghost use Rattle.drf_pick.specs.Shares.{HoldersOnce, RolesOnce, is_holder, is_role, at_first, role_holding, given_holders, given_roles, entered, given, holder_of, role_sum_of, roles_with, with_role, can_leave, departed, role_has, holder_has, can_back, role_returning, returned_holders, returned_roles, returned};
+ghost use Rattle.role_weights.specs.Weights.{IsWeight};
+ghost use Rattle.drf_pick.specs.Shares.{HoldersOnce, RolesOnce, is_holder, is_role, at_first, role_holding, given_holders, given_roles, entered, given, holder_of, role_sum_of, roles_with, weighed, weighing, with_role, can_leave, departed, role_has, holder_has, can_back, role_returning, returned_holders, returned_roles, returned};
 
 use crate::holder::{Holder, RoleSum, is_before};
 use names_core::{FrameworkId, RoleName};
@@ -58,11 +59,26 @@ fn role_place(roles: &[RoleSum], guess: usize, role: &RoleName) -> Option<usize>
     roles.iter().position(|sum| sum.is_of(role))
 }
 
-pub(crate) fn find_holder(holders: &[Holder], framework: FrameworkId) -> Option<&Holder>
+/// The place of a framework's holder. It is found at once where the guess is right.
+fn holder_near(holders: &[Holder], guess: usize, framework: FrameworkId) -> Option<usize>
+    requires { HoldersOnce holders.now }
+    ensures { result ≡ position (is_holder framework) holders.now }
+{
+    if guess < holders.len() && holders[guess].is_of(framework) {
+        return Some(guess);
+    }
+    holder_place(holders, framework)
+}
+
+pub(crate) fn find_holder(
+    holders: &[Holder],
+    guess: usize,
+    framework: FrameworkId,
+) -> Option<&Holder>
     requires { HoldersOnce holders.now }
     ensures { option_copied result ≡ find (is_holder framework) holders.now }
 {
-    let place = holder_place(holders, framework)?;
+    let place = holder_near(holders, guess, framework)?;
     Some(&holders[place])
 }
 
@@ -79,16 +95,8 @@ pub(crate) fn find_role<'a>(
 }
 
 /// Where the role of the holder at a place is likely to stand.
-fn guess_at(role_places: &[usize], place: usize) -> usize {
+pub(crate) fn guess_at(role_places: &[usize], place: usize) -> usize {
     role_places.get(place).copied().unwrap_or(0)
-}
-
-/// Where the role of a holder is likely to stand.
-pub(crate) fn guess_of(shares: &Shares, holder: &Holder) -> usize {
-    match holder_place(&shares.holders, holder.framework) {
-        Some(place) => guess_at(&shares.role_places, place),
-        None => 0,
-    }
 }
 
 fn give_role(
@@ -199,18 +207,39 @@ fn push_role(roles: &mut Vec<RoleSum>, alloc: Global, role: &RoleName) -> Result
     Ok(())
 }
 
-/// The place of a role's sum, which is added where there is none.
-fn add_role(roles: &mut Vec<RoleSum>, alloc: Global, role: &RoleName) -> Result<usize, AllocError>
+/// A role has this weight, where it is known.
+fn weigh_in(roles: &mut Vec<RoleSum>, guess: usize, role: &RoleName, weight: u16)
+    requires { RolesOnce roles.old.items }
+    ensures { roles.new.items ≡ at_first (is_role role.now) (weighing weight) roles.old.items }
+{
+    let Some(place) = role_place(roles, guess, role) else {
+        return;
+    };
+    roles[place].weight = weight;
+}
+
+/// The place of a role's sum, which is added where there is none. It is found at once where the guess is right.
+fn add_role(
+    roles: &mut Vec<RoleSum>,
+    alloc: Global,
+    guess: usize,
+    role: &RoleName,
+) -> Result<usize, AllocError>
     requires { RolesOnce roles.old.items }
     ensures ok { OnOk result (roles.new.items ≡ roles_with role.now roles.old.items (find (is_role role.now) roles.old.items)) }
     ensures err { OnErr result (roles.new.items ≡ roles.old.items) }
 {
-    let count = roles.len();
-    if let Some(place) = role_place(roles, count, role) {
+    if let Some(place) = role_place(roles, guess, role) {
         return Ok(place);
     }
+    let count = roles.len();
     push_role(roles, alloc, role)?;
     Ok(count)
+}
+
+/// Where the role of the last holder is likely to stand.
+fn last_place(role_places: &[usize]) -> usize {
+    role_places.last().copied().unwrap_or(0)
 }
 
 /// There is room for the place of the role of the holder that comes next.
@@ -241,9 +270,10 @@ fn add_holder(
     ensures err { OnErr result ((holders.new.items ≡ holders.old.items) × (roles.new.items ≡ roles.old.items)) }
 {
     let count = holders.len();
+    let guess = last_place(role_places);
     make_room(role_places, count)?;
     holders.push(Holder::new(alloc, framework, role.copy()?))?;
-    match add_role(roles, alloc, role) {
+    match add_role(roles, alloc, guess, role) {
         Ok(place) => {
             keep_place(role_places, count, place);
             Ok(())
@@ -289,7 +319,8 @@ impl Shares {
         ensures ok { OnOk result (self.new ≡ with_role framework role.now self.old) }
         ensures err { OnErr result (self.new ≡ self.old) }
     {
-        if find_holder(&self.holders, framework).is_some() {
+        let count = self.holders.len();
+        if find_holder(&self.holders, count, framework).is_some() {
             return Ok(());
         }
         add_holder(
@@ -300,6 +331,18 @@ impl Shares {
             framework,
             role,
         )?;
+        Ok(())
+    }
+
+    /// A role has this weight from now on, 1 to 1,000; one that was given none has 1. `P2 OutOfMemory` changes nothing.
+    pub fn weigh(&mut self, alloc: Global, role: &RoleName, weight: u16) -> Result<(), SharesFault>
+        requires { IsWeight weight }
+        ensures ok { OnOk result (self.new ≡ weighed role.now weight self.old) }
+        ensures err { OnErr result (self.new ≡ self.old) }
+    {
+        let guess = last_place(&self.role_places);
+        let place = add_role(&mut self.roles, alloc, guess, role)?;
+        weigh_in(&mut self.roles, place, role, weight);
         Ok(())
     }
 

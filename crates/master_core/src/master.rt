@@ -24,6 +24,7 @@ use master_rounds::allocate;
 use master_state::{MasterFault, Outs, State};
 use names_core::{AgentName, FrameworkId, Run, StreamId};
 use quantity::Resources;
+use role_weights::Weights;
 use side_fits::{hearing_keeps_fits, moves_keep_fits};
 use std::alloc::{AllocError, Global};
 use std::marker::Model;
@@ -144,15 +145,15 @@ impl Master {
     }
 
     /// A round of offers: what is free on each agent with an open session goes whole to the eligible framework that stands least by
-    /// dominant shares (DRF paper, section 4).
-    pub fn allocate(&mut self, alloc: Global) -> Result<Outs, MasterFault>
-        ensures { Answers result self.old self.new allocated }
+    /// dominant shares and the weights of roles (DRF paper, sections 4 and 4.3).
+    pub fn allocate(&mut self, alloc: Global, weights: &Weights) -> Result<Outs, MasterFault>
+        ensures { Answers result self.old self.new (allocated weights.now) }
     {
         moves_keep_fits();
         let Some(state) = &mut self.state else {
             return Err(MasterFault::OutOfMemory);
         };
-        let done = of_memory(allocate(state, alloc));
+        let done = of_memory(allocate(state, alloc, weights));
         settle(&mut self.state, alloc, done)
     }
 

@@ -1,25 +1,26 @@
 -- How much all that is held can be.
-use Rattle.std.proofs.Common.{◌≡◌, ◌⊎◌, ℕ, suc, ◌+◌, ◌-◌, ◌*◌, ◌<◌, ◌≤◌, ◌^◌, Bool, true, false, cond, List, [], ◌∷◌, ◌++◌, map, flat_map, fold, length, Option, Some, None, refl, sym, ap, ◌∙◌, subst, arith, inl, inr, zero-le}
+use Rattle.std.proofs.Common.{◌≡◌, ◌⊎◌, ℕ, ◌+◌, ◌*◌, ◌≤◌, Bool, true, false, List, [], ◌∷◌, ◌++◌, map, flat_map, length, Option, Some, None, refl, sym, ap, ◌∙◌, subst, arith, inl, inr, zero-le}
 use Rattle.std.specs.Prelude.{if◌then◌else◌, nat_lt}
 use Rattle.std.specs.List.{AllByRecursion}
 use Rattle.names_core.specs.Ids.{Numbered}
 use Rattle.quantity.specs.declared.rows.Row.{Row}
-use Rattle.quantity.specs.Rows.{AreRows, IsRow, amount, greatest_amount, rest_of}
-use Rattle.quantity.specs.Merging.{count_below, front_amount, rows_from}
+use Rattle.quantity.specs.Rows.{AreRows, IsRow, amount, greatest_amount}
+use Rattle.quantity.specs.Merging.{count_below, rows_from}
 use Rattle.quantity.proofs.Amounts.{amount-append}
 use Rattle.quantity.proofs.Rests.{rests_are_less}
 use Rattle.quantity.proofs.Walks.{all_drop, front_is, front_small}
 use Rattle.mails.specs.declared.task.Job.{Job}
 use Rattle.mails.specs.declared.task.Offer.{Offer}
+use Rattle.role_weights.specs.Weights.{RoleWeight}
 use Rattle.cluster_model.specs.Ids.{following, last_number}
 use Rattle.cluster_model.specs.Sides.{Side, job_rows, offer_rows, taken, unended}
 use Rattle.cluster_model.specs.Events.{MadeOffer}
 use Rattle.cluster_model.specs.Masters.{Master}
-use Rattle.cluster_model.specs.Rounds.{Client, Round, free, offers_free, offers_to, pick, totals_of, visits}
+use Rattle.cluster_model.specs.Rounds.{Client, Round, free, offers_free, offers_to, pick, visits}
 use Rattle.frameworks.specs.Frameworks.{are_ordered}
-use Rattle.side_fits.specs.Fits.{AllFitTotals, FitsTotal, most_sides}
-use Rattle.round_shares.specs.Gifts.{all_rows, gifts_of, gifts_with, job_gift, made_gift, offer_gift, side_gifts}
-use Rattle.round_shares.specs.Laws.{AddUp, CanBeSummed}
+use Rattle.side_fits.specs.Fits.{AllFitTotals, most_sides}
+use Rattle.round_shares.specs.Gifts.{all_rows, gifts_of, job_gift, made_gift, offer_gift, side_gifts}
+use Rattle.round_shares.specs.Laws.{CanBeSummed}
 use Rattle.round_shares.proofs.Rows.{all-append}
 
 abbrev pub HaveRows : List Side → Type 0
@@ -57,10 +58,20 @@ side_held s =
     ∙ ap (λ rows. rows ++ all_rows (map job_gift (unended s.booked))) (offers_held s.offers)
     ∙ ap (λ rows. offer_rows s.offers ++ rows) (jobs_held (unended s.booked))
 
-all_held : (name : List ℕ) (ss : List Side) → AllFitTotals ss → amount name (all_rows (gifts_of ss)) ≤ amount name (total_rows ss)
-all_held name [] fits = zero-le
-all_held name (s ∷ ss) fits =
-    omega (arith, ap (amount name) (all-append (side_gifts s) (gifts_of ss)), amount-append name (all_rows (side_gifts s)) (all_rows (gifts_of ss)), ap (amount name) (side_held s), fits.0 name, total_one name s ss, all_held name ss fits.1)
+-- what is free on some agents
+abbrev pub free_rows : List Side → List Row
+free_rows ss = flat_map free ss
+
+free_one : (name : List ℕ) (s : Side) (ss : List Side) → amount name (free_rows (s ∷ ss)) ≡ amount name (free s) + amount name (free_rows ss)
+free_one name s ss = amount-append name (free s) (free_rows ss)
+
+-- what is held and what is free are what all own
+all_held : (name : List ℕ) (ss : List Side) → HaveRows ss → AllFitTotals ss → amount name (all_rows (gifts_of ss)) + amount name (free_rows ss) ≤ amount name (total_rows ss)
+all_held name [] rows fits = zero-le
+all_held name (s ∷ ss) rows fits =
+    let this : amount name (all_rows (gifts_of (s ∷ ss))) ≡ amount name (taken s) + amount name (all_rows (gifts_of ss)) =
+    omega (arith, ap (amount name) (all-append (side_gifts s) (gifts_of ss)), amount-append name (all_rows (side_gifts s)) (all_rows (gifts_of ss)), ap (amount name) (side_held s)) in
+    omega (arith, this, rests_are_less s.total (taken s) rows.0 name, fits.0 name, free_one name s ss, total_one name s ss, all_held name ss rows.1 fits.1)
 
 owned_held : (name : List ℕ) (ss : List Side) → amount name (flat_map (λ s. if s.is_open then s.total else []) ss) ≤ amount name (total_rows ss)
 owned_held name [] = zero-le
@@ -93,19 +104,19 @@ picked_visited : (r : Round) (s : Side) (rows : List Row) (o : Option Client) �
 picked_visited r s rows None e is = inl refl
 picked_visited r s rows (Some c) e is = inr (c.framework.id, is, ap (more_rows r s c.framework.id) e)
 
-free_visited : (now : ℕ) (totals : List Row) (cs : List Client) (r : Round) (s : Side) (rows : List Row) → rows ≡ free s → s.is_open ≡ true → Visited r s (offers_free now totals cs r s.name rows)
-free_visited now totals cs r s [] e is = inl refl
-free_visited now totals cs r s (row ∷ rows) e is = by (nat_lt last_number r.next.n)
+free_visited : (ws : List RoleWeight) (now : ℕ) (totals : List Row) (cs : List Client) (r : Round) (s : Side) (rows : List Row) → rows ≡ free s → s.is_open ≡ true → Visited r s (offers_free ws now totals cs r s.name rows)
+free_visited ws now totals cs r s [] e is = inl refl
+free_visited ws now totals cs r s (row ∷ rows) e is = by (nat_lt last_number r.next.n)
   where
-    by : (b : Bool) → Visited r s (if b then r else offers_to r s.name (row ∷ rows) (pick now totals cs r.made s.name (row ∷ rows)))
+    by : (b : Bool) → Visited r s (if b then r else offers_to r s.name (row ∷ rows) (pick ws now totals cs r.made s.name (row ∷ rows)))
     by true = inl refl
-    by false = picked_visited r s (row ∷ rows) (pick now totals cs r.made s.name (row ∷ rows)) e is
+    by false = picked_visited r s (row ∷ rows) (pick ws now totals cs r.made s.name (row ∷ rows)) e is
 
-pub visited : (now : ℕ) (totals : List Row) (cs : List Client) (r : Round) (s : Side) → Visited r s (visits now totals cs r s)
-visited now totals cs r s = by s.is_open refl
+pub visited : (ws : List RoleWeight) (now : ℕ) (totals : List Row) (cs : List Client) (r : Round) (s : Side) → Visited r s (visits ws now totals cs r s)
+visited ws now totals cs r s = by s.is_open refl
   where
-    by : (b : Bool) → s.is_open ≡ b → Visited r s (if b then offers_free now totals cs r s.name (free s) else r)
-    by true e = free_visited now totals cs r s (free s) refl e
+    by : (b : Bool) → s.is_open ≡ b → Visited r s (if b then offers_free ws now totals cs r s.name (free s) else r)
+    by true e = free_visited ws now totals cs r s (free s) refl e
     by false e = inl refl
 
 -- how much a round gives
@@ -124,19 +135,16 @@ made_append (h ∷ made) g = ap (λ rows. h.offer.resources ++ rows) (made_appen
 made_one : (name : List ℕ) (made : List MadeOffer) (g : MadeOffer) → amount name (made_rows (made ++ g ∷ [])) ≡ amount name (made_rows made) + amount name g.offer.resources
 made_one name made g = omega (arith, ap (amount name) (made_append made g), amount-append name (made_rows made) (made_rows (g ∷ [])), amount-append name g.offer.resources [])
 
-free_less : (name : List ℕ) (s : Side) → AreRows s.total → amount name (free s) ≤ amount name s.total
-free_less name s are = omega (arith, rests_are_less s.total (taken s) are name)
+made_less : (name : List ℕ) (r : Round) (s : Side) (after : Round) → Visited r s after → amount name (made_rows after.made) ≤ amount name (made_rows r.made) + amount name (free s)
+made_less name r s after (inl e) = omega (arith, ap (λ (x : Round). amount name (made_rows x.made)) e)
+made_less name r s after (inr v) = omega (arith, ap (λ (x : Round). amount name (made_rows x.made)) v.2, made_one name r.made (made_at s r.next v.0))
 
-made_less : (name : List ℕ) (r : Round) (s : Side) (after : Round) → AreRows s.total → Visited r s after → amount name (made_rows after.made) ≤ amount name (made_rows r.made) + amount name s.total
-made_less name r s after are (inl e) = omega (arith, ap (λ (x : Round). amount name (made_rows x.made)) e)
-made_less name r s after are (inr v) = omega (arith, ap (λ (x : Round). amount name (made_rows x.made)) v.2, made_one name r.made (made_at s r.next v.0), free_less name s are)
-
--- what was given, and what the agents that weren't visited own, is no more than all own
+-- what was given, and what is free on the agents that weren't visited, is no more than was free on all
 abbrev pub Within : Master → Round → List Side → Type 0
-Within m r ss = (name : List ℕ) → amount name (made_rows r.made) + amount name (total_rows ss) ≤ amount name (total_rows m.sides)
+Within m r ss = (name : List ℕ) → amount name (made_rows r.made) + amount name (free_rows ss) ≤ amount name (free_rows m.sides)
 
-pub within_next : (m : Master) (r : Round) (s : Side) (ss : List Side) (after : Round) → AreRows s.total → Visited r s after → Within m r (s ∷ ss) → Within m after ss
-within_next m r s ss after are v w name = omega (arith, w name, total_one name s ss, made_less name r s after are v)
+pub within_next : (m : Master) (r : Round) (s : Side) (ss : List Side) (after : Round) → Visited r s after → Within m r (s ∷ ss) → Within m after ss
+within_next m r s ss after v w name = omega (arith, w name, free_one name s ss, made_less name r s after v)
 
 -- so all can be summed
 pub can_be_summed : (m : Master) (r : Round) (ss : List Side) → are_ordered m.registers.frameworks ≡ true → HaveRows m.sides → AllFitTotals m.sides → length m.sides ≤ most_sides → Within m r ss → CanBeSummed m r.made
@@ -144,5 +152,5 @@ can_be_summed m r ss ordered rows fits few w = record {
   ordered = ordered;
   rows = rows;
   totals = λ name. omega (arith, owned_held name m.sides, total_small name m.sides rows, few);
-  held = λ name. omega (arith, ap (amount name) (all-append (gifts_of m.sides) (map made_gift r.made)), amount-append name (all_rows (gifts_of m.sides)) (made_rows r.made), all_held name m.sides fits, total_small name m.sides rows, few, w name);
+  held = λ name. omega (arith, ap (amount name) (all-append (gifts_of m.sides) (map made_gift r.made)), amount-append name (all_rows (gifts_of m.sides)) (made_rows r.made), all_held name m.sides rows fits, total_small name m.sides rows, few, w name);
 }

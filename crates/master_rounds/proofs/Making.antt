@@ -1,21 +1,20 @@
 -- All offers of a round are made at their agents.
-use Rattle.std.proofs.Common.{◌≡◌, ◌⊎◌, ℕ, zero, suc, ◌+◌, ◌-◌, ◌<◌, ◌≤◌, Bool, true, false, ◌&&◌, ◌||◌, ◌==◌, cond, List, [], ◌∷◌, ◌++◌, map, drop, fold, length, refl, sym, ap, ◌∙◌, subst, arith, inl, inr, bytes_eq, append_assoc, append-nil}
+use Rattle.std.proofs.Common.{◌≡◌, ℕ, ◌≤◌, true, false, cond, List, [], ◌∷◌, ◌++◌, map, drop, fold, length, refl, sym, ap, ◌∙◌, arith, inl, inr, bytes_eq, append_assoc, append-nil}
 use Rattle.std.specs.List.{AllByRecursion, list_all, list_any}
 use Rattle.std.proofs.lemmas.Bool.Decides.{nat_tests}
 use Rattle.names_core.specs.Ids.{Numbered}
 use Rattle.quantity.specs.declared.rows.Row.{Row}
-use Rattle.quantity.specs.Rows.{AreRows, amount, covers}
-use Rattle.quantity.specs.Laws.{AtLeast}
+use Rattle.quantity.specs.Rows.{AreRows, covers}
 use Rattle.quantity.proofs.Amounts.{amount-append, covers_is_at_least}
 use Rattle.quantity.proofs.Rests.{rests_are_less}
 use Rattle.mails.specs.declared.task.Offer.{Offer}
 use Rattle.mails.specs.declared.mail.ToAgent.{ToAgent}
-use Rattle.event_json.specs.declared.offer.Offer as json_offer
 use Rattle.cluster_model.specs.Ids.{before, bytes_before, following, same}
-use Rattle.cluster_model.specs.Sides.{MakeOffer, Run, Side, Sending, may_offer, offered, sends_nothing, taken}
+use Rattle.cluster_model.specs.Sides.{MakeOffer, Run, Side, may_offer, offered, sends_nothing, taken}
 use Rattle.cluster_model.specs.Events.{MadeOffer}
 use Rattle.cluster_model.specs.Masters.{AtSide, Move, Moved, at_side, at_this_side, move, move_all, past_side, sending_more}
-use Rattle.cluster_model.specs.Rounds.{Client, Round, entered, entered_on, free, visits}
+use Rattle.role_weights.specs.Weights.{RoleWeight}
+use Rattle.cluster_model.specs.Rounds.{Client, Round, entered, free, visits}
 use Rattle.agent_sides.specs.Changes.{offering}
 use Rattle.agent_sides.specs.Configs.{are_ordered}
 use Rattle.agent_sides.specs.Joined.{side_names}
@@ -26,7 +25,7 @@ use Rattle.round_shares.proofs.Rows.{same_itself}
 use Rattle.master_state.specs.Works.{offer_of}
 use Rattle.master_state.proofs.Doings.{none_more}
 use Rattle.master_state.proofs.Moves.{before_differs, both_true, itself, moved_so}
-use Rattle.master_rounds.specs.News.{offers_all, offers_at, plain}
+use Rattle.master_rounds.specs.News.{offers_all, offers_at}
 use Rattle.master_rounds.proofs.Bounds.{HaveRows, Visited, made_at, more, visited}
 
 abbrev pub offer_move : MadeOffer → Move
@@ -161,16 +160,16 @@ next_goes : (r : Round) (s : Side) (after : Round) → Visited r s after → Goe
 next_goes r s after (inl e) = inl (ap (λ (x : Round). x.next) e)
 next_goes r s after (inr v) = inr (ap (λ (x : Round). x.next) v.2)
 
-pub all_made : (now : ℕ) (totals : List Row) (cs : List Client) (ss : List Side) (r : Round) → HaveRows ss → AllFitTotals ss → AllByRecursion (OffersBefore r.next) ss → are_ordered (side_names ss) ≡ true
-    → Made r ss (fold (visits now totals cs) r ss)
-all_made now totals cs [] r rows fits below ordered = nothing_made r
-all_made now totals cs (s ∷ ss) r rows fits below ordered =
-    by (visited now totals cs r s)
-    (all_made now totals cs ss (visits now totals cs r s) rows.1 fits.1 (sides_later r.next (visits now totals cs r s).next (next_goes r s (visits now totals cs r s) (visited now totals cs r s)) ss below.1) both.1)
+pub all_made : (ws : List RoleWeight) (now : ℕ) (totals : List Row) (cs : List Client) (ss : List Side) (r : Round) → HaveRows ss → AllFitTotals ss → AllByRecursion (OffersBefore r.next) ss → are_ordered (side_names ss) ≡ true
+    → Made r ss (fold (visits ws now totals cs) r ss)
+all_made ws now totals cs [] r rows fits below ordered = nothing_made r
+all_made ws now totals cs (s ∷ ss) r rows fits below ordered =
+    by (visited ws now totals cs r s)
+    (all_made ws now totals cs ss (visits ws now totals cs r s) rows.1 fits.1 (sides_later r.next (visits ws now totals cs r s).next (next_goes r s (visits ws now totals cs r s) (visited ws now totals cs r s)) ss below.1) both.1)
   where
     both : (list_all (bytes_before s.name) (side_names ss) ≡ true) × (are_ordered (side_names ss) ≡ true)
     both = both_true (list_all (bytes_before s.name) (side_names ss)) (are_ordered (side_names ss)) ordered
 
-    by : Visited r s (visits now totals cs r s) → Made (visits now totals cs r s) ss (fold (visits now totals cs) (visits now totals cs r s) ss) → Made r (s ∷ ss) (fold (visits now totals cs) (visits now totals cs r s) ss)
-    by (inl e) k = passed_over r s ss (visits now totals cs r s) (fold (visits now totals cs) (visits now totals cs r s) ss) e both.0 k
-    by (inr v) k = made_first r s ss v.0 (visits now totals cs r s) (fold (visits now totals cs) (visits now totals cs r s) ss) rows.0 fits.0 below.0 v.1 v.2 both.0 k
+    by : Visited r s (visits ws now totals cs r s) → Made (visits ws now totals cs r s) ss (fold (visits ws now totals cs) (visits ws now totals cs r s) ss) → Made r (s ∷ ss) (fold (visits ws now totals cs) (visits ws now totals cs r s) ss)
+    by (inl e) k = passed_over r s ss (visits ws now totals cs r s) (fold (visits ws now totals cs) (visits ws now totals cs r s) ss) e both.0 k
+    by (inr v) k = made_first r s ss v.0 (visits ws now totals cs r s) (fold (visits ws now totals cs) (visits ws now totals cs r s) ss) rows.0 fits.0 below.0 v.1 v.2 both.0 k

@@ -1,13 +1,12 @@
 -- The events of a round, and all that a master holds after it.
-use Rattle.std.proofs.Common.{◌≡◌, ℕ, suc, ◌≤◌, Bool, true, false, cond, List, [], ◌∷◌, ◌++◌, map, filter, flat_map, fold, length, Option, Some, None, refl, sym, ap, ◌∙◌, subst, arith, append_assoc}
+use Rattle.std.proofs.Common.{◌≡◌, ℕ, suc, ◌≤◌, Bool, true, false, cond, List, [], ◌∷◌, ◌++◌, map, filter, flat_map, fold, length, Option, Some, None, refl, sym, ap, ◌∙◌, arith}
 use Rattle.names_core.specs.Ids.{Numbered}
 use Rattle.mails.specs.declared.framework.Framework.{Framework}
-use Rattle.mails.specs.declared.mail.ToAgent.{ToAgent}
-use Rattle.event_json.specs.declared.offer.Offer as json_offer
 use Rattle.cluster_model.specs.Ids.{same}
 use Rattle.cluster_model.specs.Sides.{Side}
 use Rattle.cluster_model.specs.Events.{MadeOffer, Told}
 use Rattle.cluster_model.specs.Masters.{Moved, move_all, moved}
+use Rattle.role_weights.specs.Weights.{RoleWeight}
 use Rattle.cluster_model.specs.Rounds as rounds
 use Rattle.cluster_model.specs.Rounds.{Round, allocated, clients_of, entered, making, offers_of, round, tells_offers, totals_of}
 use Rattle.frameworks.specs.Frameworks as frameworks
@@ -16,12 +15,12 @@ use Rattle.agent_sides.specs.Joined.{side_names}
 use Rattle.side_fits.specs.Fits.{SidesFit}
 use Rattle.master_state.specs.declared.state.State.{State}
 use Rattle.master_state.specs.declared.state.StreamEvent.{StreamEvent}
-use Rattle.master_state.specs.Works.{Work, done, event_of, master_of, offer_of, registers_of, run_of, work_of, written}
+use Rattle.master_state.specs.Works.{Work, done, master_of, offer_of, registers_of, run_of, work_of, written}
 use Rattle.master_state.proofs.Doings.{none_more}
 use Rattle.master_state.proofs.Moves.{moved_so}
-use Rattle.master_rounds.specs.News.{event_on, news_of, offers_all, offers_event}
-use Rattle.master_rounds.specs.Visits.{Progress, round_of, starts, visits}
-use Rattle.master_rounds.proofs.Agreeing.{Agrees, Allocates, rounds_alike}
+use Rattle.master_rounds.specs.News.{event_on, news_of, offers_all}
+use Rattle.master_rounds.specs.Visits.{round_of, starts}
+use Rattle.master_rounds.proofs.Agreeing.{Agrees, rounds_alike}
 use Rattle.master_rounds.proofs.Bounds.{HaveRows}
 use Rattle.master_rounds.proofs.Making.{Made, all_made, offer_move, with_next}
 
@@ -71,8 +70,8 @@ told_all made (f ∷ fs) =
 abbrev start_of : State → Round
 start_of s = record { made = []; next = record { run = s.run; n = s.next_offer } }
 
-abbrev round_after : State → Round
-round_after s = fold (rounds.visits s.moment (totals_of (master_of s)) (clients_of (master_of s))) (start_of s) s.sides
+abbrev round_after : List RoleWeight → State → Round
+round_after ws s = fold (rounds.visits ws s.moment (totals_of (master_of s)) (clients_of (master_of s))) (start_of s) s.sides
 
 -- what a master holds that has allocated
 pub record Holds (s : State) : Type 0 where
@@ -81,23 +80,23 @@ pub record Holds (s : State) : Type 0 where
   pub rows : HaveRows s.sides
   pub fit : SidesFit (run_of s) s.sides
 
-starts_agree : (s : State) → Agrees (master_of s) s.run (start_of s) (starts s)
-starts_agree s = record { made = refl; next = refl; shares = refl }
+starts_agree : (ws : List RoleWeight) (s : State) → Agrees ws (master_of s) s.run (start_of s) (starts ws s)
+starts_agree ws s = record { made = refl; next = refl; shares = refl }
 
-agreed : (s : State) → Holds s → Agrees (master_of s) s.run (round_after s) (round_of s)
-agreed s h = rounds_alike (master_of s) s.run (record { ordered = h.ordered; rows = h.rows; fits = h.fit.totals; few = h.fit.few }) s.sides h.rows (start_of s) (starts s) (λ name. omega arith) (starts_agree s)
+agreed : (ws : List RoleWeight) (s : State) → Holds s → Agrees ws (master_of s) s.run (round_after ws s) (round_of ws s)
+agreed ws s h = rounds_alike ws (master_of s) s.run (record { ordered = h.ordered; rows = h.rows; fits = h.fit.totals; few = h.fit.few }) s.sides h.rows (start_of s) (starts ws s) (λ name. omega arith) (starts_agree ws s)
 
-made_of : (s : State) → Holds s → Made (start_of s) s.sides (round_after s)
-made_of s h = all_made s.moment (totals_of (master_of s)) (clients_of (master_of s)) s.sides (start_of s) h.rows h.fit.totals h.fit.ids h.names
+made_of : (ws : List RoleWeight) (s : State) → Holds s → Made (start_of s) s.sides (round_after ws s)
+made_of ws s h = all_made ws s.moment (totals_of (master_of s)) (clients_of (master_of s)) s.sides (start_of s) h.rows h.fit.totals h.fit.ids h.names
 
 length_mapped : (gs : List MadeOffer) → length (map offer_of gs) ≡ length gs
 length_mapped [] = refl
 length_mapped (g ∷ gs) = ap suc (length_mapped gs)
 
-pub few_made : (s : State) → Holds s → length (round_of s).made ≤ 256
-few_made s h =
-    let k = made_of s h in
-    omega (arith, ap length (agreed s h).made, length_mapped (round_after s).made, ap length k.made, k.few, h.fit.few)
+pub few_made : (ws : List RoleWeight) (s : State) → Holds s → length (round_of ws s).made ≤ 256
+few_made ws s h =
+    let k = made_of ws s h in
+    omega (arith, ap length (agreed ws s h).made, length_mapped (round_after ws s).made, ap length k.made, k.few, h.fit.few)
 
 abbrev pub with_all : State → ℕ → List Side → List StreamEvent → Work
 with_all s next ss events = record {
@@ -111,33 +110,33 @@ with_all s next ss events = record {
 abbrev with_moved : State → Moved → List StreamEvent → Work
 with_moved s x events = record { moved = x; registers = registers_of s; events = events; opens = s.outs.opened; closes = s.outs.closed }
 
-abbrev with_opens : State → List Numbered → List Numbered → Work
-with_opens s opens closes = record {
-  moved = move_all (making (master_of s)) (moved_so (run_of s) s.sides s.outs.mails);
+abbrev with_opens : List RoleWeight → State → List Numbered → List Numbered → Work
+with_opens ws s opens closes = record {
+  moved = move_all (making ws (master_of s)) (moved_so (run_of s) s.sides s.outs.mails);
   registers = registers_of s;
-  events = s.outs.events ++ map written (allocated (master_of s)).events;
+  events = s.outs.events ++ map written (allocated ws (master_of s)).events;
   opens = opens;
   closes = closes;
 }
 
-pub allocated_so : (s : State) → Holds s → with_all s (round_of s).next (offers_all (round_of s).made s.sides) (s.outs.events ++ flat_map (news_of (round_of s).made) s.frameworks) ≡ done (allocated (master_of s)) (work_of s)
-allocated_so s h =
-    ap (λ os. with_all s (round_of s).next (offers_all os s.sides) (s.outs.events ++ flat_map (news_of os) s.frameworks)) (a.made ∙ ap (map offer_of) k.made)
-    ∙ ap (λ ss. with_all s (round_of s).next ss (s.outs.events ++ flat_map (news_of (map offer_of k.gs)) s.frameworks)) k.code
+pub allocated_so : (ws : List RoleWeight) (s : State) → Holds s → with_all s (round_of ws s).next (offers_all (round_of ws s).made s.sides) (s.outs.events ++ flat_map (news_of (round_of ws s).made) s.frameworks) ≡ done (allocated ws (master_of s)) (work_of s)
+allocated_so ws s h =
+    ap (λ os. with_all s (round_of ws s).next (offers_all os s.sides) (s.outs.events ++ flat_map (news_of os) s.frameworks)) (a.made ∙ ap (map offer_of) k.made)
+    ∙ ap (λ ss. with_all s (round_of ws s).next ss (s.outs.events ++ flat_map (news_of (map offer_of k.gs)) s.frameworks)) k.code
     ∙ ap (λ id. with_moved s (moved_so (with_next id (run_of s)) k.news s.outs.mails) (s.outs.events ++ flat_map (news_of (map offer_of k.gs)) s.frameworks)) (sym a.next)
     ∙ ap (λ x. with_moved s x (s.outs.events ++ flat_map (news_of (map offer_of k.gs)) s.frameworks)) (sym (k.moves (run_of s) s.outs.mails refl))
     ∙ ap (λ gs. with_moved s (move_all (map offer_move gs) (moved_so (run_of s) s.sides s.outs.mails)) (s.outs.events ++ flat_map (news_of (map offer_of k.gs)) s.frameworks)) (sym k.made)
-    ∙ ap (λ es. with_moved s (move_all (making (master_of s)) (moved_so (run_of s) s.sides s.outs.mails)) (s.outs.events ++ es)) (told_all k.gs s.frameworks ∙ ap (λ gs. map written (flat_map (offers_of gs) s.frameworks)) (sym all_entered))
-    ∙ ap (λ opens. with_opens s opens s.outs.closed) (sym (none_more s.outs.opened))
-    ∙ ap (with_opens s (s.outs.opened ++ [])) (sym (none_more s.outs.closed))
+    ∙ ap (λ es. with_moved s (move_all (making ws (master_of s)) (moved_so (run_of s) s.sides s.outs.mails)) (s.outs.events ++ es)) (told_all k.gs s.frameworks ∙ ap (λ gs. map written (flat_map (offers_of gs) s.frameworks)) (sym all_entered))
+    ∙ ap (λ opens. with_opens ws s opens s.outs.closed) (sym (none_more s.outs.opened))
+    ∙ ap (with_opens ws s (s.outs.opened ++ [])) (sym (none_more s.outs.closed))
   where
-    k : Made (start_of s) s.sides (round_after s)
-    k = made_of s h
+    k : Made (start_of s) s.sides (round_after ws s)
+    k = made_of ws s h
 
-    a : Agrees (master_of s) s.run (round_after s) (round_of s)
-    a = agreed s h
+    a : Agrees ws (master_of s) s.run (round_after ws s) (round_of ws s)
+    a = agreed ws s h
 
-    all_entered : entered s.sides (moved (master_of s) (making (master_of s))).sides ≡ k.gs
+    all_entered : entered s.sides (moved (master_of s) (making ws (master_of s))).sides ≡ k.gs
     all_entered =
         ap (λ gs. entered s.sides (move_all (map offer_move gs) (moved_so (run_of s) s.sides [])).sides) k.made
         ∙ ap (λ (x : Moved). entered s.sides x.sides) (k.moves (run_of s) [] refl)

@@ -1,5 +1,5 @@
 -- Offers that are made at their agents, and told to their frameworks.
-use Rattle.std.specs.Prelude.{ℕ, List, [], ◌∷◌, filter, fold, Option, Some, None}
+use Rattle.std.specs.Prelude.{List, [], ◌∷◌, filter, fold, Option, Some, None}
 use Rattle.names_core.specs.Ids.{Numbered}
 use Rattle.mails.specs.declared.framework.Framework.{Framework}
 use Rattle.mails.specs.declared.task.Offer as mails_offer

@@ -4,6 +4,7 @@ use Rattle.names_core.specs.Ids.{Numbered}
 use Rattle.quantity.specs.declared.rows.Row.{Row}
 use Rattle.mails.specs.declared.framework.Framework.{Framework}
 use Rattle.event_json.specs.declared.offer.Offer as json_offer
+use Rattle.role_weights.specs.Weights.{RoleWeight}
 use Rattle.cluster_model.specs.Ids.{is_empty, last_number}
 use Rattle.cluster_model.specs.Sides.{Side}
 use Rattle.drf_pick.specs.Shares.{given}
@@ -33,8 +34,8 @@ visits_part run now fs p (Some part) = offers_free run now fs p part.0 part.1
 abbrev pub visits : ℕ → ℕ → List Framework → Progress → Side → Progress
 visits run now fs p s = visits_part run now fs p (open_part s)
 
-abbrev pub starts : State → Progress
-starts s = record { made = []; next = s.next_offer; shares = shares_of s.sides s.frameworks }
+abbrev pub starts : List RoleWeight → State → Progress
+starts weights s = record { made = []; next = s.next_offer; shares = shares_of weights s.sides s.frameworks }
 
-abbrev pub round_of : State → Progress
-round_of s = fold (visits s.run s.moment s.frameworks) (starts s) s.sides
+abbrev pub round_of : List RoleWeight → State → Progress
+round_of weights s = fold (visits s.run s.moment s.frameworks) (starts weights s) s.sides

@@ -16,6 +16,7 @@ use master_state::State;
 use names_core::{AgentName, FrameworkId, OfferId, Run};
 use plain_data::Plain;
 use quantity::Resources;
+use role_weights::Weights;
 use round_shares::{picked, shares_of};
 use std::alloc::{AllocError, Global};
 
@@ -139,14 +140,14 @@ fn visit_all(
 
 /// The offers of a round: each agent's whole free part goes to the eligible framework that stands least, counted before the
 /// next agent is visited.
-pub fn round_of(state: &State, alloc: Global) -> Result<Progress, AllocError>
+pub fn round_of(state: &State, alloc: Global, weights: &Weights) -> Result<Progress, AllocError>
     requires { 0 < state.now.next_offer }
-    ensures { IfOk result (λ progress. progress ≡ round_of state.now) }
+    ensures { IfOk result (λ progress. progress ≡ round_of weights.now state.now) }
 {
     let mut progress = Progress {
         made: Listed::new(alloc),
         next: state.next_offer,
-        shares: shares_of(alloc, &state.sides, &state.frameworks)?,
+        shares: shares_of(alloc, weights, &state.sides, &state.frameworks)?,
     };
     visit_all(
         &mut progress,

@@ -11,8 +11,7 @@ ghost use Rattle.mesos_node.specs.Refusals.{is_refusal};
 
 use crate::ends::tell;
 use crate::fault::ServeFault;
-use agent_sides::Config;
-use agents_file::read_agents;
+use agents_file::{Configuration, read_agents};
 use cluster_core::Cluster;
 use command_line::ServeOptions;
 use device_io::put;
@@ -36,12 +35,12 @@ fn serve_folder<R: Threads + Wait + Clock + Sync>(
     rt: &HostRuntime,
     threads: &R,
     options: &ServeOptions,
-    config: Config,
+    config: Configuration,
     folder: Folder,
     listener: &TcpListener,
 ) -> Result<Vec<u8>, ServeFault>
     requires good { GoodOpening folder.run folder.records.items }
-    requires records { AreRecordsOf config folder.records.items }
+    requires records { AreRecordsOf config.agents folder.records.items }
     ensures { IfOk result (λ text. IsEndTable text.items) }
 {
     let Folder {
@@ -49,7 +48,8 @@ fn serve_folder<R: Threads + Wait + Clock + Sync>(
         records,
         files,
     } = folder;
-    let cluster: Cluster<Queues> = match Cluster::open(rt.alloc(), config, records, run) {
+    let Configuration { agents, weights } = config;
+    let cluster = match Cluster::<Queues>::open(rt.alloc(), agents, weights, records, run) {
         Ok(cluster) => cluster,
         Err(_) => return Err(ServeFault::Memory),
     };
@@ -75,7 +75,7 @@ fn serve<R: Net<Listener = TcpListener, Stream = TcpStream> + Threads + Wait + C
     ensures { IfOk result (λ text. IsEndTable text.items) }
 {
     let config = read_agents(rt, options.agents)?;
-    let folder = open_folder(rt, options.state, &config)?;
+    let folder = open_folder(rt, options.state, &config.agents)?;
     let port = options.port;
     let listener = match TcpListener::bind(threads, ("127.0.0.1", port)) {
         Ok(listener) => listener,

@@ -16,6 +16,7 @@ use names_core::{AgentName, Run, StreamId};
 use office_bench::{SeatBench, Seating, TcpArrivals};
 use post_rules::Queues;
 use quantity::Resources;
+use role_weights::Weights;
 use std::alloc::Global;
 use std::net::{Net, TcpListener, TcpStream};
 use std::sync::ledger::Blank;
@@ -55,7 +56,7 @@ fn recorded(alloc: Global) -> Option<RecordedCluster>
     let Ok(records) = fresh_records(alloc, &config) else {
         return None;
     };
-    match Cluster::<Queues>::open(alloc, config, records, Run::new(1)) {
+    match Cluster::<Queues>::open(alloc, config, Weights::new(alloc), records, Run::new(1)) {
         Ok(cluster) => Some(RecordedCluster::new(cluster)),
         Err(_) => None,
     }

@@ -30,7 +30,7 @@ use Rattle.replayed_clusters.specs.Stories.{due, entry_in, entry_or_fault, greet
 
 -- ---- the opening
 
-pub greetings_there : (s : Story) (outputs : Outputs) → outputs ≡ outputs_of (open_cluster s.run s.records).entry.outs → outputs.sent ≡ greetings s
+pub greetings_there : (s : Story) (outputs : Outputs) → outputs ≡ outputs_of (open_cluster s.setup s.records).entry.outs → outputs.sent ≡ greetings s
 unfolding greetings
 greetings_there s outputs e = ap (λ (o : Outputs). o.sent) e
 

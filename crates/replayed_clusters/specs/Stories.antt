@@ -3,6 +3,7 @@ use Rattle.std.specs.Prelude.{ℕ, ◌+◌, List, [], length, map, Result, Ok, E
 use Rattle.mails.specs.declared.record.Durable.{Durable}
 use Rattle.quantity.specs.declared.rows.Row.{Row}
 use Rattle.agent_sides.specs.declared.config.ConfiguredAgent.{ConfiguredAgent}
+use Rattle.role_weights.specs.Weights.{RoleWeight}
 use Rattle.master_core.specs.Steps.{offered_on}
 use Rattle.cluster_model.specs.Clusters.{StepRefusal, master_of}
 use Rattle.cluster_model.specs.Steps.{Done, open_cluster, step_marked, unmarked}
@@ -15,13 +16,13 @@ use Rattle.cluster_openings.specs.Fresh.{fresh_records}
 use Rattle.cluster_core.specs.declared.taken.Taken.{Taken}
 use Rattle.cluster_core.specs.Stories.{Story, state_of}
 
--- a cluster of agents that never ran, in run 1
-abbrev pub fresh_story : List ConfiguredAgent → Story
-fresh_story agents = record { run = 1; records = fresh_records agents; entries = [] }
+-- a cluster of agents that never ran, in run 1, with these weights of roles
+abbrev pub fresh_story : List ConfiguredAgent → List RoleWeight → Story
+fresh_story agents weights = record { setup = record { run = 1; weights = weights }; records = fresh_records agents; entries = [] }
 
 -- the mails that the opening sends
 unfoldable pub greetings : Story → List Sent
-greetings s = map sent_of (open_cluster s.run s.records).entry.outs.sent
+greetings s = map sent_of (open_cluster s.setup s.records).entry.outs.sent
 
 abbrev pub entry_in : Taken → Entry
 entry_in taken = taken.entry

@@ -15,6 +15,7 @@ use agent_sides::Config;
 use cluster_core::{Cluster, Taken, open_fresh};
 use cluster_steps::{ClusterFault, Entry, Sent, Step, Verdict};
 use post_rules::EverSent;
+use role_weights::Weights;
 use std::alloc::{AllocError, Global};
 use std::marker::Model;
 
@@ -53,11 +54,11 @@ fn unless_fell(step: Taken) -> Result<Entry, ClusterFault>
 }
 
 impl Replayed {
-    /// A cluster of configured agents that never ran, in run 1.
-    pub fn open(alloc: Global, config: Config) -> Result<Replayed, AllocError>
-        ensures { IfOk result (λ replayed. replayed ≡ fresh_story config) }
+    /// A cluster of configured agents that never ran, in run 1, with these weights of roles.
+    pub fn open(alloc: Global, config: Config, weights: Weights) -> Result<Replayed, AllocError>
+        ensures { IfOk result (λ replayed. replayed ≡ fresh_story config weights) }
     {
-        match open_fresh(alloc, config) {
+        match open_fresh(alloc, config, weights) {
             Ok(cluster) => Ok(Replayed { cluster }),
             Err(_) => Err(AllocError),
         }

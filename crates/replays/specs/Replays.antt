@@ -1,11 +1,10 @@
 -- What a replay writes for its lines.
 use Rattle.std.specs.Prelude.{ℕ, ◌+◌, ◌==◌, ◌&&◌, ◌||◌, not, Bool, List, [], length, nat_le, is_some, Option, Some, None, Result, Ok, Err, if◌then◌else◌}
 use Rattle.std.specs.List.{list_all}
-use Rattle.agent_sides.specs.declared.config.ConfiguredAgent.{ConfiguredAgent}
 use Rattle.cluster_steps.specs.declared.step.Step.{Step}
 use Rattle.step_lines.specs.declared.fault.LineRefusal.{LineRefusal}
 use Rattle.step_lines.specs.declared.fault.LineRefusal.TheVariants.{BadConfig}
-use Rattle.step_lines.specs.Configs.{read_config}
+use Rattle.step_lines.specs.Configs.{Configured, read_config}
 use Rattle.step_lines.specs.Lines.{longest_line, read_step}
 use Rattle.entry_lines.specs.Lines.{opening_text}
 use Rattle.device_io.specs.Answers.{after_all, answer}
@@ -42,9 +41,9 @@ stops r refusal = record { text = []; after = record r { lines = r.lines + 1; fa
 abbrev pub opened : Replay → Story → Told
 opened r s = record { text = opening_text (greetings s); after = record r { story = Some s; lines = r.lines + 1; sent = length (greetings s) } }
 
-abbrev pub opens : Replay → Result (List ConfiguredAgent) LineRefusal → Told
+abbrev pub opens : Replay → Result Configured LineRefusal → Told
 opens r (Err refusal) = stops r refusal
-opens r (Ok agents) = opened r (fresh_story agents)
+opens r (Ok config) = opened r (fresh_story config.agents config.weights)
 
 -- each other line is a step
 

@@ -9,12 +9,11 @@ ghost use Rattle.replays.specs.Replays as replays;
 ghost use Rattle.replayed_clusters.specs.Stories.{fresh_story};
 
 use crate::fault::LineStop;
-use agent_sides::Config;
 use device_io::{LONGEST_LINE, Teller};
 use replayed_clusters::{Replayed, end_table, raised, take_step, tell_opening};
 use std::alloc::{AllocError, Global};
 use std::marker::Model;
-use step_lines::{LineFault, LineRefusal, read_config, read_step};
+use step_lines::{Configuration, LineFault, LineRefusal, read_config, read_step};
 
 /// Tells what comes of the lines of a replay: the first says which agents there are, and each other one is a step.
 #[derive(Drop)]
@@ -108,12 +107,20 @@ impl Replayer {
         self.fault = Some(LineStop { line, refusal });
     }
 
-    /// The cluster of these agents is opened.
-    fn begin(&mut self, alloc: Global, number: u64, config: Config) -> Result<Vec<u8>, AllocError>
+    /// The cluster that is configured so is opened.
+    fn begin(
+        &mut self,
+        alloc: Global,
+        number: u64,
+        config: Configuration,
+    ) -> Result<Vec<u8>, AllocError>
         requires { number ≡ self.old.lines + 1 }
-        ensures { IfOk result (λ text. replays.opened self.old (fresh_story config) ≡ record { text = text.items; after = self.new }) }
+        ensures { IfOk result (λ text. replays.opened self.old
+            (fresh_story config.agents config.weights)
+            ≡ record { text = text.items; after = self.new }) }
     {
-        self.cluster = Some(Replayed::open(alloc, config)?);
+        let Configuration { agents, weights } = config;
+        self.cluster = Some(Replayed::open(alloc, agents, weights)?);
         let Some(cluster) = &self.cluster else {
             return Err(AllocError);
         };

@@ -1,10 +1,10 @@
 -- Agents' sessions and accounts are their sides.
-use Rattle.std.proofs.Common.{◌≡◌, Bool, true, false, cond, List, [], ◌∷◌, ◌++◌, map, flat_map, fold, refl, sym, ap, ◌∙◌}
+use Rattle.std.proofs.Common.{◌≡◌, List, [], ◌∷◌, ◌++◌, flat_map, fold, refl, ap}
 use Rattle.cluster_model.specs.Sides.{Side}
 use Rattle.offer_book.specs.declared.account.Account.{Account}
 use Rattle.drf_pick.specs.Shares.{Tally}
-use Rattle.agent_sides.specs.Joined.{AreOfOne, join, joined}
-use Rattle.round_shares.specs.Gifts.{Gift, enters, gifts_of, gifts_on}
+use Rattle.agent_sides.specs.Joined.{AreOfOne, joined}
+use Rattle.round_shares.specs.Gifts.{enters, gifts_of, gifts_on}
 
 pub entered_parts : (t : Tally) (ss : List Side) (as_ : List Account) → AreOfOne ss as_ → fold enters t ss ≡ fold enters t (joined ss as_)
 entered_parts t [] as_ one = refl

@@ -1,5 +1,5 @@
 -- What is picked.
-use Rattle.std.proofs.Common.{◌≡◌, ℕ, ◌+◌, ◌*◌, ◌<◌, ◌≤◌, Bool, true, false, not, ◌&&◌, ◌||◌, ◌==◌, cond, List, [], ◌∷◌, ◌++◌, map, filter, flat_map, Option, Some, None, option_map, refl, sym, ap, ◌∙◌, subst, arith, bytes_eq, append_assoc, inl, inr}
+use Rattle.std.proofs.Common.{◌≡◌, ℕ, Bool, true, false, not, ◌&&◌, ◌||◌, cond, List, [], ◌∷◌, ◌++◌, map, filter, flat_map, Option, Some, None, option_map, refl, sym, ap, ◌∙◌, subst, arith, bytes_eq, inl, inr}
 use Rattle.std.specs.Prelude.{if◌then◌else◌}
 use Rattle.std.specs.List.{AllByRecursion, find, fold}
 use Rattle.names_core.specs.Ids.{Numbered}
@@ -9,25 +9,25 @@ use Rattle.quantity.specs.Laws.{SameAmounts}
 use Rattle.mails.specs.declared.framework.Framework.{Framework}
 use Rattle.mails.specs.declared.task.Job.{Job}
 use Rattle.mails.specs.declared.task.Offer.{Offer}
-use Rattle.mails.specs.declared.task.Booked.{Booked}
+use Rattle.role_weights.specs.Weights.{RoleWeight}
 use Rattle.cluster_model.specs.Ids.{before, bytes_before, same}
 use Rattle.cluster_model.specs.Sides.{Side, job_rows, offer_rows, unended}
 use Rattle.cluster_model.specs.Events.{MadeOffer}
 use Rattle.cluster_model.specs.Masters.{Master}
 use Rattle.cluster_model.specs.Rounds as rounds
-use Rattle.cluster_model.specs.Rounds.{Client, allocated_on, allocation_of, clients_of, first_client, given_to, is_eligible, may_be_offered, pick, role_share, share_of, stands_at_most_at, stands_first, totals_of}
+use Rattle.cluster_model.specs.Rounds.{Client, Share, allocated_on, allocation_of, clients_of, first_client, given_to, held_with, is_eligible, may_be_offered, pick, share, share_of, stands_at_most_at, stands_first, totals_of}
 use Rattle.frameworks.specs.Frameworks.{are_ordered}
 use Rattle.drf_pick.specs.declared.holder.Holder.{Holder}
 use Rattle.drf_pick.specs.Shares.{Tally, is_holder}
-use Rattle.drf_pick.specs.Least.{better, better_client, comes_before, role_held}
-use Rattle.drf_pick.specs.Laws.{ArePositive}
+use Rattle.drf_pick.specs.Least.{better, better_client, comes_before, role_share}
+use Rattle.drf_pick.specs.Laws.{ArePositive, SameShare}
 use Rattle.drf_pick.specs.Orders.{Among}
 use Rattle.share_sums.specs.Sums.{IsSum, summed}
 use Rattle.drf_pick.proofs.Standing.{amounts_decide}
 use Rattle.share_sums.proofs.Summing.{no_sum, sum_is}
-use Rattle.round_shares.specs.Gifts.{Gift, all_rows, gifts_of, gifts_on, gifts_with, job_gift, made_gift, offer_gift, role_rows, rows_to, shares_with, side_gifts}
-use Rattle.round_shares.specs.Laws.{AddUp, CanBeSummed, PicksAlike}
-use Rattle.round_shares.specs.Picks.{better_eligible, picked}
+use Rattle.round_shares.specs.Gifts.{gifts_of, gifts_with, job_gift, made_gift, offer_gift, role_rows, rows_to, shares_with, side_gifts}
+use Rattle.round_shares.specs.Laws.{AddUp, PicksAlike}
+use Rattle.round_shares.specs.Picks.{better_eligible}
 use Rattle.round_shares.proofs.Rows.{find_own, to-append}
 use Rattle.round_shares.proofs.Shown.{Alike, Shows, TallyShows, entered_amounts, enters_row, found_alike, is_known, owned_rows, shares_show}
 
@@ -71,16 +71,16 @@ made_to id (g ∷ made) = ap (λ rows. cond (same g.offer.framework id) g.offer.
 abbrev client : Master → Framework → Client
 client m f = record { framework = f; allocation = allocation_of m f.id }
 
-share_is : (m : Master) (made : List MadeOffer) (f : Framework) → share_of made (client m f) ≡ rows_to f.id (gifts_with m.sides made)
+share_is : (m : Master) (made : List MadeOffer) (f : Framework) → held_with made (client m f) ≡ rows_to f.id (gifts_with m.sides made)
 share_is m made f =
     ap (λ rows. rows ++ given_to f.id made) (sides_to f.id m.sides)
     ∙ ap (λ rows. rows_to f.id (gifts_of m.sides) ++ rows) (made_to f.id made)
     ∙ sym (to-append f.id (gifts_of m.sides) (map made_gift made))
 
-role_is : (m : Master) (made : List MadeOffer) (role : List ℕ) (fs : List Framework) → role_share (map (client m) fs) made role ≡ role_rows fs role (gifts_with m.sides made)
+role_is : (m : Master) (made : List MadeOffer) (role : List ℕ) (fs : List Framework) → rounds.role_rows (map (client m) fs) made role ≡ role_rows fs role (gifts_with m.sides made)
 role_is m made role [] = refl
 role_is m made role (f ∷ fs) =
-    ap (λ rows. cond (bytes_eq f.role role) rows [] ++ role_share (map (client m) fs) made role) (share_is m made f)
+    ap (λ rows. cond (bytes_eq f.role role) rows [] ++ rounds.role_rows (map (client m) fs) made role) (share_is m made f)
     ∙ ap (λ rows. cond (bytes_eq f.role role) (rows_to f.id (gifts_with m.sides made)) [] ++ rows) (role_is m made role fs)
 
 owned_alike : (ss : List Side) → AddUp ([] ++ owned_rows ss) → (name : List ℕ) → amount name (fold enters_row [] ss) ≡ amount name (owned_rows ss)
@@ -88,14 +88,14 @@ owned_alike ss below name = omega (arith, entered_amounts ss [] below name)
 
 -- two frameworks stand alike
 
-first_alike : (t a b t' a' b' : List Row) (tie : Bool) → ArePositive t → ArePositive t' → SameAmounts t t' → SameAmounts a a' → SameAmounts b b' → stands_first t a b tie ≡ stands_first t' a' b' tie
+first_alike : (t : List Row) (a b : Share) (t' : List Row) (a' b' : Share) (tie : Bool) → ArePositive t → ArePositive t' → SameAmounts t t' → SameShare a a' → SameShare b b' → stands_first t a b tie ≡ stands_first t' a' b' tie
 first_alike t a b t' a' b' tie p p' et ea eb =
     ap (λ v. v && (tie || not (stands_at_most_at t b a))) (amounts_decide t a b t' a' b' p p' et ea eb)
     ∙ ap (λ v. stands_at_most_at t' a' b' && (tie || not v)) (amounts_decide t b a t' b' a' p p' et eb ea)
 
 -- the shares and the books of a master that they show
-record Shown (m : Master) (made : List MadeOffer) (t : Tally) : Type 0 where
-  pub shows : TallyShows (gifts_with m.sides made) m.registers.frameworks t.totals t
+record Shown (ws : List RoleWeight) (m : Master) (made : List MadeOffer) (t : Tally) : Type 0 where
+  pub shows : TallyShows ws (gifts_with m.sides made) m.registers.frameworks t.totals t
   pub positive : ArePositive t.totals
   pub owned : ArePositive (totals_of m)
   pub totals : SameAmounts t.totals (totals_of m)
@@ -105,32 +105,34 @@ known_role fs [] t f k i = absurd i
 known_role fs (g ∷ gs) t f k (inl e) = ap (λ (x : Framework). is_known t.roles x.role) e ∙ k.0
 known_role fs (g ∷ gs) t f k (inr i) = known_role fs gs t f k.1 i
 
-role_alike : (m : Master) (made : List MadeOffer) (t : Tally) (f : Framework) → Shown m made t → Among f m.registers.frameworks → SameAmounts (role_held t.roles f.role) (role_share (clients_of m) made f.role)
-role_alike m made t f s i name =
-    s.shows.roles f.role (known_role m.registers.frameworks m.registers.frameworks t f s.shows.known i) name ∙ ap (amount name) (sym (role_is m made f.role m.registers.frameworks))
+role_alike : (ws : List RoleWeight) (m : Master) (made : List MadeOffer) (t : Tally) (f : Framework) → Shown ws m made t → Among f m.registers.frameworks → SameShare (role_share t.roles f.role) (rounds.role_share ws (clients_of m) made f.role)
+role_alike ws m made t f s i = (λ name. s.shows.roles f.role known name ∙ ap (amount name) (sym (role_is m made f.role m.registers.frameworks)), s.shows.weights f.role known)
+  where
+    known : is_known t.roles f.role ≡ true
+    known = known_role m.registers.frameworks m.registers.frameworks t f s.shows.known i
 
-share_alike : (m : Master) (made : List MadeOffer) (h : Holder) (f : Framework) → Shows (gifts_with m.sides made) h f → SameAmounts h.held (share_of made (client m f))
-share_alike m made h f s name = s.2 name ∙ ap (amount name) (sym (share_is m made f))
+share_alike : (m : Master) (made : List MadeOffer) (h : Holder) (f : Framework) → Shows (gifts_with m.sides made) h f → SameShare (share h.held 1) (share_of made (client m f))
+share_alike m made h f s = (λ name. s.2 name ∙ ap (amount name) (sym (share_is m made f)), refl)
 
 abbrev of_tally : Tally → Holder → Holder → List ℕ → List ℕ → Numbered → Numbered → Bool
 of_tally t h k q r i j =
-    if bytes_eq q r then stands_first t.totals h.held k.held (before i j)
-    else stands_first t.totals (role_held t.roles q) (role_held t.roles r) (bytes_before q r)
+    if bytes_eq q r then stands_first t.totals (share h.held 1) (share k.held 1) (before i j)
+    else stands_first t.totals (role_share t.roles q) (role_share t.roles r) (bytes_before q r)
 
-comes_alike : (m : Master) (made : List MadeOffer) (t : Tally) (h k : Holder) (f g : Framework) → Shown m made t → Among f m.registers.frameworks → Among g m.registers.frameworks
-    → Shows (gifts_with m.sides made) h f → Shows (gifts_with m.sides made) k g → comes_before t h k ≡ rounds.comes_before (totals_of m) (clients_of m) made (client m f) (client m g)
-comes_alike m made t h k f g s i j sf sg =
+comes_alike : (ws : List RoleWeight) (m : Master) (made : List MadeOffer) (t : Tally) (h k : Holder) (f g : Framework) → Shown ws m made t → Among f m.registers.frameworks → Among g m.registers.frameworks
+    → Shows (gifts_with m.sides made) h f → Shows (gifts_with m.sides made) k g → comes_before t h k ≡ rounds.comes_before ws (totals_of m) (clients_of m) made (client m f) (client m g)
+comes_alike ws m made t h k f g s i j sf sg =
     ap (λ x. of_tally t h k x k.role h.framework k.framework) sf.1
     ∙ ap (λ x. of_tally t h k f.role x h.framework k.framework) sg.1
     ∙ ap (λ x. of_tally t h k f.role g.role x k.framework) sf.0
     ∙ ap (λ x. of_tally t h k f.role g.role f.id x) sg.0
     ∙ by (bytes_eq f.role g.role)
   where
-    by : (b : Bool) → (if b then stands_first t.totals h.held k.held (before f.id g.id) else stands_first t.totals (role_held t.roles f.role) (role_held t.roles g.role) (bytes_before f.role g.role))
+    by : (b : Bool) → (if b then stands_first t.totals (share h.held 1) (share k.held 1) (before f.id g.id) else stands_first t.totals (role_share t.roles f.role) (role_share t.roles g.role) (bytes_before f.role g.role))
         ≡ (if b then stands_first (totals_of m) (share_of made (client m f)) (share_of made (client m g)) (before f.id g.id)
-        else stands_first (totals_of m) (role_share (clients_of m) made f.role) (role_share (clients_of m) made g.role) (bytes_before f.role g.role))
-    by true = first_alike t.totals h.held k.held (totals_of m) (share_of made (client m f)) (share_of made (client m g)) (before f.id g.id) s.positive s.owned s.totals (share_alike m made h f sf) (share_alike m made k g sg)
-    by false = first_alike t.totals (role_held t.roles f.role) (role_held t.roles g.role) (totals_of m) (role_share (clients_of m) made f.role) (role_share (clients_of m) made g.role) (bytes_before f.role g.role) s.positive s.owned s.totals (role_alike m made t f s i) (role_alike m made t g s j)
+        else stands_first (totals_of m) (rounds.role_share ws (clients_of m) made f.role) (rounds.role_share ws (clients_of m) made g.role) (bytes_before f.role g.role))
+    by true = first_alike t.totals (share h.held 1) (share k.held 1) (totals_of m) (share_of made (client m f)) (share_of made (client m g)) (before f.id g.id) s.positive s.owned s.totals (share_alike m made h f sf) (share_alike m made k g sg)
+    by false = first_alike t.totals (role_share t.roles f.role) (role_share t.roles g.role) (totals_of m) (rounds.role_share ws (clients_of m) made f.role) (rounds.role_share ws (clients_of m) made g.role) (bytes_before f.role g.role) s.positive s.owned s.totals (role_alike ws m made t f s i) (role_alike ws m made t g s j)
 
 -- the best so far is the same
 
@@ -140,43 +142,43 @@ Best m made None (Some c) = ⊥
 Best m made (Some h) None = ⊥
 Best m made (Some h) (Some c) = (f : Framework) × (c ≡ client m f) × Among f m.registers.frameworks × Shows (gifts_with m.sides made) h f
 
-abbrev comes : Master → List MadeOffer → Client → Client → Bool
-comes m made c d = rounds.comes_before (totals_of m) (clients_of m) made c d
+abbrev comes : List RoleWeight → Master → List MadeOffer → Client → Client → Bool
+comes ws m made c d = rounds.comes_before ws (totals_of m) (clients_of m) made c d
 
-best_more : (m : Master) (made : List MadeOffer) (t : Tally) (best : Option Holder) (first : Option Client) (h : Holder) (f : Framework) → Shown m made t → Among f m.registers.frameworks → Shows (gifts_with m.sides made) h f
-    → Best m made best first → Best m made (better t best h) (first_client (comes m made) first (client m f))
-best_more m made t None None h f s i sf b = (f, refl, i, sf)
-best_more m made t None (Some c) h f s i sf b = absurd b
-best_more m made t (Some k) None h f s i sf b = absurd b
-best_more m made t (Some k) (Some c) h f s i sf b = rw (same_test) (by (comes m made (client m f) c))
+best_more : (ws : List RoleWeight) (m : Master) (made : List MadeOffer) (t : Tally) (best : Option Holder) (first : Option Client) (h : Holder) (f : Framework) → Shown ws m made t → Among f m.registers.frameworks → Shows (gifts_with m.sides made) h f
+    → Best m made best first → Best m made (better t best h) (first_client (comes ws m made) first (client m f))
+best_more ws m made t None None h f s i sf b = (f, refl, i, sf)
+best_more ws m made t None (Some c) h f s i sf b = absurd b
+best_more ws m made t (Some k) None h f s i sf b = absurd b
+best_more ws m made t (Some k) (Some c) h f s i sf b = rw (same_test) (by (comes ws m made (client m f) c))
   where
-    same_test : comes_before t h k ≡ comes m made (client m f) c
-    same_test = comes_alike m made t h k f b.0 s i b.2 sf b.3 ∙ ap (comes m made (client m f)) (sym b.1)
+    same_test : comes_before t h k ≡ comes ws m made (client m f) c
+    same_test = comes_alike ws m made t h k f b.0 s i b.2 sf b.3 ∙ ap (comes ws m made (client m f)) (sym b.1)
 
     by : (v : Bool) → Best m made (if v then Some h else Some k) (if v then Some (client m f) else Some c)
     by true = (f, refl, i, sf)
     by false = b
 
-best_found : (m : Master) (made : List MadeOffer) (t : Tally) (best : Option Holder) (first : Option Client) (f : Framework) → Shown m made t → are_ordered m.registers.frameworks ≡ true → Among f m.registers.frameworks
-    → Best m made best first → Best m made (better_client t best (record { framework = f.id })) (first_client (comes m made) first (client m f))
-best_found m made t best first f s ordered i b = by (find (is_holder f.id) t.holders) refl
+best_found : (ws : List RoleWeight) (m : Master) (made : List MadeOffer) (t : Tally) (best : Option Holder) (first : Option Client) (f : Framework) → Shown ws m made t → are_ordered m.registers.frameworks ≡ true → Among f m.registers.frameworks
+    → Best m made best first → Best m made (better_client t best (record { framework = f.id })) (first_client (comes ws m made) first (client m f))
+best_found ws m made t best first f s ordered i b = by (find (is_holder f.id) t.holders) refl
     (subst (Alike (gifts_with m.sides made) (find (is_holder f.id) t.holders)) (find_own m.registers.frameworks f ordered i) (found_alike (gifts_with m.sides made) f.id t.holders m.registers.frameworks s.shows.holders))
   where
-    by : (o : Option Holder) → find (is_holder f.id) t.holders ≡ o → Alike (gifts_with m.sides made) (find (is_holder f.id) t.holders) (Some f) → Best m made (better_client t best (record { framework = f.id })) (first_client (comes m made) first (client m f))
+    by : (o : Option Holder) → find (is_holder f.id) t.holders ≡ o → Alike (gifts_with m.sides made) (find (is_holder f.id) t.holders) (Some f) → Best m made (better_client t best (record { framework = f.id })) (first_client (comes ws m made) first (client m f))
     by None e a = absurd (let n : Alike (gifts_with m.sides made) None (Some f) = subst (λ o. Alike (gifts_with m.sides made) o (Some f)) e a in n)
-    by (Some h) e a = rw e (best_more m made t best first h f s i (let n : Alike (gifts_with m.sides made) (Some h) (Some f) = subst (λ o. Alike (gifts_with m.sides made) o (Some f)) e a in n) b)
+    by (Some h) e a = rw e (best_more ws m made t best first h f s i (let n : Alike (gifts_with m.sides made) (Some h) (Some f) = subst (λ o. Alike (gifts_with m.sides made) o (Some f)) e a in n) b)
 
-best_all : (m : Master) (made : List MadeOffer) (t : Tally) (agent : List ℕ) (free : List Row) → Shown m made t → are_ordered m.registers.frameworks ≡ true
+best_all : (ws : List RoleWeight) (m : Master) (made : List MadeOffer) (t : Tally) (agent : List ℕ) (free : List Row) → Shown ws m made t → are_ordered m.registers.frameworks ≡ true
     → (fs : List Framework) → ((f : Framework) → Among f fs → Among f m.registers.frameworks) → (best : Option Holder) (first : Option Client) → Best m made best first
-    → Best m made (fold (better_eligible m.registers.now agent free t) best fs) (fold (first_client (comes m made)) first (filter (is_eligible m.registers.now agent free) (map (client m) fs)))
-best_all m made t agent free s ordered [] among best first b = b
-best_all m made t agent free s ordered (f ∷ fs) among best first b =
-    by (may_be_offered m.registers.now agent free f) (best_all m made t agent free s ordered fs (λ g i. among g (inr i)))
+    → Best m made (fold (better_eligible m.registers.now agent free t) best fs) (fold (first_client (comes ws m made)) first (filter (is_eligible m.registers.now agent free) (map (client m) fs)))
+best_all ws m made t agent free s ordered [] among best first b = b
+best_all ws m made t agent free s ordered (f ∷ fs) among best first b =
+    by (may_be_offered m.registers.now agent free f) (best_all ws m made t agent free s ordered fs (λ g i. among g (inr i)))
   where
-    by : (v : Bool) → ((bs : Option Holder) (fr : Option Client) → Best m made bs fr → Best m made (fold (better_eligible m.registers.now agent free t) bs fs) (fold (first_client (comes m made)) fr (filter (is_eligible m.registers.now agent free) (map (client m) fs))))
+    by : (v : Bool) → ((bs : Option Holder) (fr : Option Client) → Best m made bs fr → Best m made (fold (better_eligible m.registers.now agent free t) bs fs) (fold (first_client (comes ws m made)) fr (filter (is_eligible m.registers.now agent free) (map (client m) fs))))
         → Best m made (fold (better_eligible m.registers.now agent free t) (if v then better_client t best (record { framework = f.id }) else best) fs)
-        (fold (first_client (comes m made)) first (if v then client m f ∷ filter (is_eligible m.registers.now agent free) (map (client m) fs) else filter (is_eligible m.registers.now agent free) (map (client m) fs)))
-    by true ih = ih (better_client t best (record { framework = f.id })) (first_client (comes m made) first (client m f)) (best_found m made t best first f s ordered (among f (inl refl)) b)
+        (fold (first_client (comes ws m made)) first (if v then client m f ∷ filter (is_eligible m.registers.now agent free) (map (client m) fs) else filter (is_eligible m.registers.now agent free) (map (client m) fs)))
+    by true ih = ih (better_client t best (record { framework = f.id })) (first_client (comes ws m made) first (client m f)) (best_found ws m made t best first f s ordered (among f (inl refl)) b)
     by false ih = ih best first b
 
 same_id : (m : Master) (made : List MadeOffer) (o : Option Holder) (p : Option Client) → Best m made o p → option_map (λ h. h.framework) o ≡ option_map (λ c. c.framework.id) p
@@ -208,16 +210,16 @@ owned_positive (s ∷ ss) rows = by s.is_open (owned_positive ss rows.1)
     by false ih = ih
 
 pub picks_alike : PicksAlike
-picks_alike m made agent free can =
-    same_id m made (fold (better_eligible m.registers.now agent free (shares_with m made)) None m.registers.frameworks) (pick m.registers.now (totals_of m) (clients_of m) made agent free)
-    (best_all m made (shares_with m made) agent free shown can.ordered m.registers.frameworks (λ f i. i) None None tt)
+picks_alike ws m made agent free can =
+    same_id m made (fold (better_eligible m.registers.now agent free (shares_with ws m made)) None m.registers.frameworks) (pick ws m.registers.now (totals_of m) (clients_of m) made agent free)
+    (best_all ws m made (shares_with ws m made) agent free shown can.ordered m.registers.frameworks (λ f i. i) None None tt)
   where
-    shows : TallyShows (gifts_with m.sides made) m.registers.frameworks (fold enters_row [] m.sides) (shares_with m made)
-    shows = shares_show m.sides m.registers.frameworks (map made_gift made) can.ordered can.held
+    shows : TallyShows ws (gifts_with m.sides made) m.registers.frameworks (fold enters_row [] m.sides) (shares_with ws m made)
+    shows = shares_show ws m.sides m.registers.frameworks (map made_gift made) can.ordered can.held
 
-    shown : Shown m made (shares_with m made)
+    shown : Shown ws m made (shares_with ws m made)
     shown = record {
-      shows = record { totals_are = refl; holders = shows.holders; known = shows.known; roles = shows.roles };
+      shows = record { totals_are = refl; holders = shows.holders; known = shows.known; roles = shows.roles; weights = shows.weights };
       positive = subst ArePositive (sym shows.totals_are) (sums_positive m.sides [] no_sum can.rows).positive;
       owned = owned_positive m.sides can.rows;
       totals = λ name. ap (amount name) shows.totals_are ∙ owned_alike m.sides can.totals name;

@@ -1,10 +1,8 @@
 -- Amounts of what is held, by frameworks and by roles.
-use Rattle.std.proofs.Common.{◌≡◌, ℕ, ◌+◌, ◌≤◌, Bool, true, false, not, ◌&&◌, ◌||◌, ◌==◌, cond, List, [], ◌∷◌, ◌++◌, map, flat_map, Option, Some, None, refl, sym, ap, ◌∙◌, subst, arith, bytes_eq, zero-le, append_assoc, inl, inr}
-use Rattle.std.specs.Prelude.{nat_lt}
+use Rattle.std.proofs.Common.{◌≡◌, ℕ, ◌+◌, ◌≤◌, Bool, true, false, ◌&&◌, cond, List, [], ◌∷◌, ◌++◌, Option, Some, None, refl, sym, ap, ◌∙◌, arith, bytes_eq, zero-le, append_assoc, inl, inr}
 use Rattle.std.specs.List.{find, list_all}
 use Rattle.std.proofs.lemmas.Bool.Decides.{nat_tests}
 use Rattle.names_core.specs.Ids.{Numbered}
-use Rattle.quantity.specs.declared.rows.Row.{Row}
 use Rattle.quantity.specs.Rows.{amount}
 use Rattle.quantity.proofs.Amounts.{amount-append}
 use Rattle.mails.specs.declared.framework.Framework.{Framework}

@@ -1,5 +1,5 @@
 -- The shares show what is held.
-use Rattle.std.proofs.Common.{◌≡◌, ℕ, ◌+◌, ◌<◌, ◌≤◌, Bool, true, false, not, ◌&&◌, ◌||◌, ◌==◌, cond, List, [], ◌∷◌, ◌++◌, map, flat_map, Option, Some, None, refl, sym, ap, ◌∙◌, subst, arith, bytes_eq, zero-le, append_assoc, append-nil, inl, inr}
+use Rattle.std.proofs.Common.{◌≡◌, ℕ, ◌+◌, ◌≤◌, Bool, true, false, ◌||◌, cond, List, [], ◌∷◌, ◌++◌, map, flat_map, Option, Some, None, refl, sym, ap, ◌∙◌, subst, arith, bytes_eq, zero-le, append_assoc, append-nil}
 use Rattle.std.specs.List.{AllByRecursion, find, fold, list_all, list_any}
 use Rattle.std.specs.Cmp.Lexicographic.{bytes_decides}
 use Rattle.std.proofs.lemmas.Bool.Decides.{nat_tests}
@@ -9,20 +9,19 @@ use Rattle.quantity.specs.Rows.{amount}
 use Rattle.quantity.specs.Laws.{SameAmounts}
 use Rattle.quantity.proofs.Amounts.{amount-append}
 use Rattle.mails.specs.declared.framework.Framework.{Framework}
+use Rattle.role_weights.specs.Weights.{RoleWeight, weight_of}
 use Rattle.cluster_model.specs.Ids.{before, same}
 use Rattle.cluster_model.specs.Sides.{Side}
 use Rattle.frameworks.specs.Frameworks.{are_ordered}
 use Rattle.drf_pick.specs.declared.holder.Holder.{Holder}
 use Rattle.drf_pick.specs.declared.holder.RoleSum.{RoleSum}
-use Rattle.drf_pick.specs.Shares.{Tally, at_first, entered, given, given_holders, given_roles, holder_of, holding, is_holder, is_role, role_holding, role_sum_of, roles_with, with_holder, with_role}
-use Rattle.drf_pick.specs.Least.{held_of, role_held}
-use Rattle.drf_pick.specs.Laws.{SumsAdd}
-use Rattle.drf_pick.specs.Orders.{Among}
-use Rattle.share_sums.specs.Sums.{greatest_sum, summed}
+use Rattle.drf_pick.specs.Shares.{Tally, at_first, entered, given_holders, given_roles, holder_of, holding, is_holder, is_role, role_holding, role_sum_of, roles_with, weighed, weighed_roles, weighing, with_holder}
+use Rattle.drf_pick.specs.Least.{role_share, share_of_sum}
+use Rattle.share_sums.specs.Sums.{summed}
 use Rattle.share_sums.proofs.Summing.{sums_add}
 use Rattle.round_shares.specs.Gifts.{Gift, all_rows, enters, gifts_of, holds, knows, no_shares, role_rows, rows_to, shares_of}
 use Rattle.round_shares.specs.Laws.{AddUp}
-use Rattle.round_shares.proofs.Rows.{NoneOf, all-append, all-one, both_true, find_none, is_in, none_behind, part, role-append, role-one, role_all, role_part, same_back, same_is, to-more, to_all}
+use Rattle.round_shares.proofs.Rows.{NoneOf, all-one, both_true, none_behind, part, role-append, role-one, role_all, role_part, same_back, to-more, to_all}
 
 or_false : (x y : Bool) → (x || y) ≡ false → (x ≡ false) × (y ≡ false)
 or_false true y e = absurd cc
@@ -48,6 +47,96 @@ changed_known q role rows (r ∷ rs) = by (is_role q r) (changed_known q role ro
     by true ih = refl
     by false ih = ap (λ b. is_role role r || b) ih
 
+-- what a role holds, and its weight
+
+abbrev pub held_of : Option RoleSum → List Row
+held_of o = (share_of_sum o).held
+
+abbrev pub weight_in : Option RoleSum → ℕ
+weight_in o = (share_of_sum o).weight
+
+abbrev pub role_held : List RoleSum → List ℕ → List Row
+role_held rs role = (role_share rs role).held
+
+abbrev pub role_weight : List RoleSum → List ℕ → ℕ
+role_weight rs role = (role_share rs role).weight
+
+-- with another weight of some role, the same roles are known and hold what they held
+
+known_weighing : (q role : List ℕ) (weight : ℕ) (rs : List RoleSum) → is_known (at_first (is_role q) (weighing weight) rs) role ≡ is_known rs role
+known_weighing q role weight [] = refl
+known_weighing q role weight (r ∷ rs) = by (is_role q r) (known_weighing q role weight rs)
+  where
+    by : (b : Bool) → is_known (at_first (is_role q) (weighing weight) rs) role ≡ is_known rs role
+        → is_known (cond b (weighing weight r ∷ rs) (r ∷ at_first (is_role q) (weighing weight) rs)) role ≡ is_known (r ∷ rs) role
+    by true ih = refl
+    by false ih = ap (λ b. is_role role r || b) ih
+
+held_weighing : (q role : List ℕ) (weight : ℕ) (rs : List RoleSum) → role_held (at_first (is_role q) (weighing weight) rs) role ≡ role_held rs role
+held_weighing q role weight [] = refl
+held_weighing q role weight (r ∷ rs) = by (is_role q r) (held_weighing q role weight rs)
+  where
+    first : (c : Bool) → held_of (cond c (Some (weighing weight r)) (find (is_role role) rs)) ≡ held_of (cond c (Some r) (find (is_role role) rs))
+    first true = refl
+    first false = refl
+
+    rest : (c : Bool) → role_held (at_first (is_role q) (weighing weight) rs) role ≡ role_held rs role
+        → held_of (cond c (Some r) (find (is_role role) (at_first (is_role q) (weighing weight) rs))) ≡ held_of (cond c (Some r) (find (is_role role) rs))
+    rest true ih = refl
+    rest false ih = ih
+
+    by : (b : Bool) → role_held (at_first (is_role q) (weighing weight) rs) role ≡ role_held rs role
+        → role_held (cond b (weighing weight r ∷ rs) (r ∷ at_first (is_role q) (weighing weight) rs)) role ≡ role_held (r ∷ rs) role
+    by true ih = first (is_role role r)
+    by false ih = rest (is_role role r) ih
+
+-- where one holds more, each has the weight that it had
+weight_holding : (q role : List ℕ) (rows : List Row) (rs : List RoleSum) → role_weight (at_first (is_role q) (role_holding rows) rs) role ≡ role_weight rs role
+weight_holding q role rows [] = refl
+weight_holding q role rows (r ∷ rs) = by (is_role q r) (weight_holding q role rows rs)
+  where
+    first : (c : Bool) → weight_in (cond c (Some (role_holding rows r)) (find (is_role role) rs)) ≡ weight_in (cond c (Some r) (find (is_role role) rs))
+    first true = refl
+    first false = refl
+
+    rest : (c : Bool) → role_weight (at_first (is_role q) (role_holding rows) rs) role ≡ role_weight rs role
+        → weight_in (cond c (Some r) (find (is_role role) (at_first (is_role q) (role_holding rows) rs))) ≡ weight_in (cond c (Some r) (find (is_role role) rs))
+    rest true ih = refl
+    rest false ih = ih
+
+    by : (b : Bool) → role_weight (at_first (is_role q) (role_holding rows) rs) role ≡ role_weight rs role
+        → role_weight (cond b (role_holding rows r ∷ rs) (r ∷ at_first (is_role q) (role_holding rows) rs)) role ≡ role_weight (r ∷ rs) role
+    by true ih = first (is_role role r)
+    by false ih = rest (is_role role r) ih
+
+-- the role itself has the weight, and every other role what it had
+
+own_weight : (q : List ℕ) (weight : ℕ) (rs : List RoleSum) → is_known rs q ≡ true → role_weight (at_first (is_role q) (weighing weight) rs) q ≡ weight
+own_weight q weight [] h = absurd (let n : false ≡ true = h in cc)
+own_weight q weight (r ∷ rs) h = by (is_role q r) refl h (own_weight q weight rs)
+  where
+    by : (b : Bool) → is_role q r ≡ b → (b || is_known rs q) ≡ true → (is_known rs q ≡ true → role_weight (at_first (is_role q) (weighing weight) rs) q ≡ weight)
+        → role_weight (cond b (weighing weight r ∷ rs) (r ∷ at_first (is_role q) (weighing weight) rs)) q ≡ weight
+    by true e k ih = rw (e, role_weight) refl
+    by false e k ih = rw (e, role_weight) (ih k)
+
+other_weight : (q role : List ℕ) (weight : ℕ) (rs : List RoleSum) → bytes_eq q role ≡ false → role_weight (at_first (is_role q) (weighing weight) rs) role ≡ role_weight rs role
+other_weight q role weight [] h = refl
+other_weight q role weight (r ∷ rs) h = by (is_role q r) refl (other_weight q role weight rs h)
+  where
+    other : is_role q r ≡ true → is_role role r ≡ false
+    other e = ap (λ n. bytes_eq n role) (name_is r.role q e) ∙ h
+
+    rest : (c : Bool) → role_weight (at_first (is_role q) (weighing weight) rs) role ≡ role_weight rs role
+        → weight_in (cond c (Some r) (find (is_role role) (at_first (is_role q) (weighing weight) rs))) ≡ weight_in (cond c (Some r) (find (is_role role) rs))
+    rest true ih = refl
+    rest false ih = ih
+
+    by : (b : Bool) → is_role q r ≡ b → role_weight (at_first (is_role q) (weighing weight) rs) role ≡ role_weight rs role
+        → role_weight (cond b (weighing weight r ∷ rs) (r ∷ at_first (is_role q) (weighing weight) rs)) role ≡ role_weight (r ∷ rs) role
+    by true e ih = rw (other e, role_weight) refl
+    by false e ih = rest (is_role role r) ih
+
 -- another role holds what it held
 other_held : (q role : List ℕ) (rows : List Row) (rs : List RoleSum) → bytes_eq q role ≡ false → role_held (at_first (is_role q) (role_holding rows) rs) role ≡ role_held rs role
 other_held q role rows [] h = refl
@@ -62,7 +151,7 @@ other_held q role rows (r ∷ rs) h = by (is_role q r) refl (other_held q role r
 
     by : (b : Bool) → is_role q r ≡ b → role_held (at_first (is_role q) (role_holding rows) rs) role ≡ role_held rs role
         → role_held (cond b (role_holding rows r ∷ rs) (r ∷ at_first (is_role q) (role_holding rows) rs)) role ≡ role_held (r ∷ rs) role
-    by true e ih = rw (other e) refl
+    by true e ih = rw (other e, role_held) refl
     by false e ih = rest (is_role role r) ih
 
 -- the role itself holds more
@@ -72,8 +161,8 @@ more_held q rows (r ∷ rs) h = by (is_role q r) refl h (more_held q rows rs)
   where
     by : (b : Bool) → is_role q r ≡ b → (b || is_known rs q) ≡ true → (is_known rs q ≡ true → role_held (at_first (is_role q) (role_holding rows) rs) q ≡ summed (role_held rs q) rows)
         → role_held (cond b (role_holding rows r ∷ rs) (r ∷ at_first (is_role q) (role_holding rows) rs)) q ≡ summed (held_of (cond b (Some r) (find (is_role q) rs))) rows
-    by true e k ih = rw e refl
-    by false e k ih = rw e (ih k)
+    by true e k ih = rw (e, role_held) refl
+    by false e k ih = rw (e, role_held) (ih k)
 
 -- holders that show what frameworks hold
 
@@ -180,23 +269,33 @@ roles_more gs g fs rs below ordered (Some h) (Some f) found a s role known name 
 
 -- a tally
 
-pub record TallyShows (gs : List Gift) (fs : List Framework) (totals : List Row) (t : Tally) : Type 0 where
+-- each known role has its weight
+abbrev pub WeightsShow : List RoleWeight → List RoleSum → Type 0
+WeightsShow ws rs = (role : List ℕ) → is_known rs role ≡ true → role_weight rs role ≡ weight_of ws role
+
+pub record TallyShows (ws : List RoleWeight) (gs : List Gift) (fs : List Framework) (totals : List Row) (t : Tally) : Type 0 where
   pub totals_are : t.totals ≡ totals
   pub holders : HoldersShow gs t.holders fs
   pub known : AllByRecursion (λ f. is_known t.roles f.role ≡ true) fs
   pub roles : RolesShow gs fs t.roles
+  pub weights : WeightsShow ws t.roles
+
+still_weighed : (ws : List RoleWeight) (g : Gift) (o : Option Holder) (rs : List RoleSum) → WeightsShow ws rs → WeightsShow ws (given_roles g.resources o rs)
+still_weighed ws g None rs w = w
+still_weighed ws g (Some h) rs w = λ role k. weight_holding h.role role g.resources rs ∙ w role (sym (changed_known h.role role g.resources rs) ∙ k)
 
 still_known : (g : Gift) (o : Option Holder) (rs : List RoleSum) (fs : List Framework) → AllByRecursion (λ f. is_known rs f.role ≡ true) fs → AllByRecursion (λ f. is_known (given_roles g.resources o rs) f.role ≡ true) fs
 still_known g o rs [] k = tt
 still_known g None rs (f ∷ fs) k = k
 still_known g (Some h) rs (f ∷ fs) k = (changed_known h.role f.role g.resources rs ∙ k.0, still_known g (Some h) rs fs k.1)
 
-tally_more : (gs : List Gift) (g : Gift) (fs : List Framework) (totals : List Row) (t : Tally) → AddUp (all_rows (gs ++ g ∷ [])) → are_ordered fs ≡ true → TallyShows gs fs totals t → TallyShows (gs ++ g ∷ []) fs totals (holds t g)
-tally_more gs g fs totals t below ordered s = record {
+tally_more : (ws : List RoleWeight) (gs : List Gift) (g : Gift) (fs : List Framework) (totals : List Row) (t : Tally) → AddUp (all_rows (gs ++ g ∷ [])) → are_ordered fs ≡ true → TallyShows ws gs fs totals t → TallyShows ws (gs ++ g ∷ []) fs totals (holds t g)
+tally_more ws gs g fs totals t below ordered s = record {
   totals_are = s.totals_are;
   holders = holders_more gs g t.holders fs below ordered s.holders;
   known = still_known g (find (is_holder g.framework) t.holders) t.roles fs s.known;
   roles = roles_more gs g fs t.roles below ordered (find (is_holder g.framework) t.holders) (find (λ f. same f.id g.framework) fs) refl (found_alike gs g.framework t.holders fs s.holders) s.roles;
+  weights = still_weighed ws g (find (is_holder g.framework) t.holders) t.roles s.weights;
 }
 
 fewer_add_up : (gs hs : List Gift) → AddUp (all_rows (gs ++ hs)) → AddUp (all_rows gs)
@@ -207,11 +306,11 @@ fewer_add_up (g ∷ gs) hs h name = omega (arith, all-one name g (gs ++ hs), all
     less [] = zero-le
     less (k ∷ ks) = omega (arith, all-one name k (ks ++ hs), all-one name k ks, less ks)
 
-pub gifts_shown : (gs hs : List Gift) (fs : List Framework) (totals : List Row) (t : Tally) → AddUp (all_rows (gs ++ hs)) → are_ordered fs ≡ true → TallyShows gs fs totals t → TallyShows (gs ++ hs) fs totals (fold holds t hs)
-gifts_shown gs [] fs totals t below ordered s = subst (λ ks. TallyShows ks fs totals t) (sym (append-nil gs)) s
-gifts_shown gs (h ∷ hs) fs totals t below ordered s =
-    subst (λ ks. TallyShows ks fs totals (fold holds (holds t h) hs)) together
-    (gifts_shown (gs ++ h ∷ []) hs fs totals (holds t h) all ordered (tally_more gs h fs totals t (fewer_add_up (gs ++ h ∷ []) hs all) ordered s))
+pub gifts_shown : (ws : List RoleWeight) (gs hs : List Gift) (fs : List Framework) (totals : List Row) (t : Tally) → AddUp (all_rows (gs ++ hs)) → are_ordered fs ≡ true → TallyShows ws gs fs totals t → TallyShows ws (gs ++ hs) fs totals (fold holds t hs)
+gifts_shown ws gs [] fs totals t below ordered s = subst (λ ks. TallyShows ws ks fs totals t) (sym (append-nil gs)) s
+gifts_shown ws gs (h ∷ hs) fs totals t below ordered s =
+    subst (λ ks. TallyShows ws ks fs totals (fold holds (holds t h) hs)) together
+    (gifts_shown ws (gs ++ h ∷ []) hs fs totals (holds t h) all ordered (tally_more ws gs h fs totals t (fewer_add_up (gs ++ h ∷ []) hs all) ordered s))
   where
     together : (gs ++ h ∷ []) ++ hs ≡ gs ++ h ∷ hs
     together = append_assoc gs (h ∷ []) hs
@@ -299,12 +398,13 @@ nothing_with q (r ∷ rs) None n role = by (is_role role r) (n role)
     by false e = last rs e
 
 -- what is known of some frameworks before anything is held
-pub record Starts (known fs : List Framework) (totals : List Row) (t : Tally) : Type 0 where
+pub record Starts (ws : List RoleWeight) (known fs : List Framework) (totals : List Row) (t : Tally) : Type 0 where
   pub totals_are : t.totals ≡ totals
   pub holders : t.holders ≡ map new_holder known
   pub others : NoHolders t.holders fs
   pub known_roles : AllByRecursion (λ f. is_known t.roles f.role ≡ true) known
   pub nothing : HoldNothing t.roles
+  pub weights : WeightsShow ws t.roles
 
 each_known : (q : List ℕ) (o : Option RoleSum) (rs : List RoleSum) (fs : List Framework) → AllByRecursion (λ f. is_known rs f.role ≡ true) fs → AllByRecursion (λ f. is_known (roles_with q rs o) f.role ≡ true) fs
 each_known q o rs [] k = tt
@@ -318,26 +418,84 @@ map_snoc : (fs : List Framework) (f : Framework) → map new_holder fs ++ new_ho
 map_snoc [] f = refl
 map_snoc (g ∷ fs) f = ap (λ hs. new_holder g ∷ hs) (map_snoc fs f)
 
-abbrev told : Framework → Tally → Tally
-told f t = record t { holders = t.holders ++ holder_of f.id f.role ∷ []; roles = roles_with f.role t.roles (find (is_role f.role) t.roles) }
+-- of another role than the one that is added, the weight stays
+weight_with : (q role : List ℕ) (rs : List RoleSum) (o : Option RoleSum) → bytes_eq q role ≡ false → role_weight (roles_with q rs o) role ≡ role_weight rs role
+weight_with q role rs (Some r) h = refl
+weight_with q role [] None h = rw h refl
+weight_with q role (r ∷ rs) None h = by (is_role role r) (weight_with q role rs None h)
+  where
+    by : (b : Bool) → role_weight (rs ++ role_sum_of q ∷ []) role ≡ role_weight rs role → weight_in (cond b (Some r) (find (is_role role) (rs ++ role_sum_of q ∷ []))) ≡ weight_in (cond b (Some r) (find (is_role role) rs))
+    by true ih = refl
+    by false ih = ih
 
-knows_is : (f : Framework) (t : Tally) → find (is_holder f.id) t.holders ≡ None → knows t f ≡ told f t
-knows_is f t none = ap (with_holder f.id f.role t) none
+-- a role of another name that is known with one role more was known before
+known_before : (q role : List ℕ) (rs : List RoleSum) (o : Option RoleSum) → bytes_eq q role ≡ false → is_known (roles_with q rs o) role ≡ true → is_known rs role ≡ true
+known_before q role rs (Some r) h k = k
+known_before q role [] None h k = absurd (let n : (bytes_eq q role || false) ≡ true = k in let m : false ≡ true = rw h at n in cc)
+known_before q role (r ∷ rs) None h k = by (is_role role r) k (known_before q role rs None h)
+  where
+    by : (b : Bool) → (b || is_known (rs ++ role_sum_of q ∷ []) role) ≡ true → (is_known (rs ++ role_sum_of q ∷ []) role ≡ true → is_known rs role ≡ true) → (b || is_known rs role) ≡ true
+    by true n ih = refl
+    by false n ih = ih n
 
-one_known : (known fs : List Framework) (f : Framework) (totals : List Row) (t : Tally) → are_ordered (f ∷ fs) ≡ true → Starts known (f ∷ fs) totals t → Starts (known ++ f ∷ []) fs totals (knows t f)
-one_known known fs f totals t ordered s = subst (Starts (known ++ f ∷ []) fs totals) (sym (knows_is f t s.others.0)) (record {
+-- the roles with one more, which has its weight
+
+abbrev pub with_known : List RoleWeight → List ℕ → List RoleSum → List RoleSum
+with_known ws q rs = weighed_roles q (weight_of ws q) rs
+
+known_weighed : (ws : List RoleWeight) (q role : List ℕ) (rs : List RoleSum) → is_known rs role ≡ true → is_known (with_known ws q rs) role ≡ true
+known_weighed ws q role rs k = known_weighing q role (weight_of ws q) (roles_with q rs (find (is_role q) rs)) ∙ known_with q role rs (find (is_role q) rs) k
+
+found_weighed : (ws : List RoleWeight) (q : List ℕ) (rs : List RoleSum) → is_known (with_known ws q rs) q ≡ true
+found_weighed ws q rs = known_weighing q q (weight_of ws q) (roles_with q rs (find (is_role q) rs)) ∙ found_known q rs (find (is_role q) rs) refl
+
+nothing_weighed : (ws : List RoleWeight) (q : List ℕ) (rs : List RoleSum) → HoldNothing rs → HoldNothing (with_known ws q rs)
+nothing_weighed ws q rs n role = held_weighing q role (weight_of ws q) (roles_with q rs (find (is_role q) rs)) ∙ nothing_with q rs (find (is_role q) rs) n role
+
+weights_weighed : (ws : List RoleWeight) (q : List ℕ) (rs : List RoleSum) → ((role : List ℕ) → bytes_eq q role ≡ false → is_known rs role ≡ true → role_weight rs role ≡ weight_of ws role) → WeightsShow ws (with_known ws q rs)
+weights_weighed ws q rs w role k = by (bytes_eq q role) refl
+  where
+    more : List RoleSum
+    more = roles_with q rs (find (is_role q) rs)
+
+    by : (b : Bool) → bytes_eq q role ≡ b → role_weight (with_known ws q rs) role ≡ weight_of ws role
+    by true e = subst (λ r. role_weight (with_known ws q rs) r ≡ weight_of ws r) (name_is q role e) (own_weight q (weight_of ws q) more (found_known q rs (find (is_role q) rs) refl))
+    by false e =
+        other_weight q role (weight_of ws q) more e ∙ weight_with q role rs (find (is_role q) rs) e
+        ∙ w role e (known_before q role rs (find (is_role q) rs) e (sym (known_weighing q role (weight_of ws q) more) ∙ k))
+
+each_weighed : (ws : List RoleWeight) (q : List ℕ) (rs : List RoleSum) (fs : List Framework) → AllByRecursion (λ f. is_known rs f.role ≡ true) fs → AllByRecursion (λ f. is_known (with_known ws q rs) f.role ≡ true) fs
+each_weighed ws q rs [] k = tt
+each_weighed ws q rs (f ∷ fs) k = (known_weighed ws q f.role rs k.0, each_weighed ws q rs fs k.1)
+
+abbrev one_more : List ℕ → List RoleSum → List RoleSum
+one_more q rs = roles_with q rs (find (is_role q) rs)
+
+abbrev told : List RoleWeight → Framework → Tally → Tally
+told ws f t = record t { holders = t.holders ++ holder_of f.id f.role ∷ []; roles = with_known ws f.role (one_more f.role t.roles) }
+
+knows_is : (ws : List RoleWeight) (f : Framework) (t : Tally) → find (is_holder f.id) t.holders ≡ None → knows ws t f ≡ told ws f t
+knows_is ws f t none = ap (λ o. weighed f.role (weight_of ws f.role) (with_holder f.id f.role t o)) none
+
+one_known : (ws : List RoleWeight) (known fs : List Framework) (f : Framework) (totals : List Row) (t : Tally) → are_ordered (f ∷ fs) ≡ true → Starts ws known (f ∷ fs) totals t → Starts ws (known ++ f ∷ []) fs totals (knows ws t f)
+one_known ws known fs f totals t ordered s = subst (Starts ws (known ++ f ∷ []) fs totals) (sym (knows_is ws f t s.others.0)) (record {
   totals_are = s.totals_are;
   holders = ap (λ hs. hs ++ new_holder f ∷ []) s.holders ∙ map_snoc known f;
   others = none_more f t.holders fs (both_true (list_all (λ k. before f.id k.id) fs) (are_ordered fs) ordered).0 s.others.1;
-  known_roles = all_snoc (roles_with f.role t.roles (find (is_role f.role) t.roles)) known f (each_known f.role (find (is_role f.role) t.roles) t.roles known s.known_roles) (found_known f.role t.roles (find (is_role f.role) t.roles) refl);
-  nothing = nothing_with f.role t.roles (find (is_role f.role) t.roles) s.nothing;
+  known_roles = all_snoc (with_known ws f.role more) known f (each_weighed ws f.role more known (each_known f.role (find (is_role f.role) t.roles) t.roles known s.known_roles)) (found_weighed ws f.role more);
+  nothing = nothing_weighed ws f.role more (nothing_with f.role t.roles (find (is_role f.role) t.roles) s.nothing);
+  weights = weights_weighed ws f.role more
+      (λ role e k. weight_with f.role role t.roles (find (is_role f.role) t.roles) e ∙ s.weights role (known_before f.role role t.roles (find (is_role f.role) t.roles) e k));
 })
+  where
+    more : List RoleSum
+    more = one_more f.role t.roles
 
-all_known : (known fs : List Framework) (totals : List Row) (t : Tally) → are_ordered fs ≡ true → Starts known fs totals t → Starts (known ++ fs) [] totals (fold knows t fs)
-all_known known [] totals t ordered s = subst (λ ks. Starts ks [] totals t) (sym (append-nil known)) s
-all_known known (f ∷ fs) totals t ordered s =
-    subst (λ ks. Starts ks [] totals (fold knows (knows t f) fs)) (append_assoc known (f ∷ []) fs)
-    (all_known (known ++ f ∷ []) fs totals (knows t f) (both_true (list_all (λ k. before f.id k.id) fs) (are_ordered fs) ordered).1 (one_known known fs f totals t ordered s))
+all_known : (ws : List RoleWeight) (known fs : List Framework) (totals : List Row) (t : Tally) → are_ordered fs ≡ true → Starts ws known fs totals t → Starts ws (known ++ fs) [] totals (fold (knows ws) t fs)
+all_known ws known [] totals t ordered s = subst (λ ks. Starts ws ks [] totals t) (sym (append-nil known)) s
+all_known ws known (f ∷ fs) totals t ordered s =
+    subst (λ ks. Starts ws ks [] totals (fold (knows ws) (knows ws t f) fs)) (append_assoc known (f ∷ []) fs)
+    (all_known ws (known ++ f ∷ []) fs totals (knows ws t f) (both_true (list_all (λ k. before f.id k.id) fs) (are_ordered fs) ordered).1 (one_known ws known fs f totals t ordered s))
 
 new_show : (fs : List Framework) → HoldersShow [] (map new_holder fs) fs
 new_show [] = tt
@@ -351,12 +509,13 @@ no_roles (f ∷ fs) role = by (bytes_eq f.role role) (no_roles fs role)
     by true ih = ih
     by false ih = ih
 
-known_shows : (fs : List Framework) (totals : List Row) (t : Tally) → Starts fs [] totals t → TallyShows [] fs totals t
-known_shows fs totals t s = record {
+known_shows : (ws : List RoleWeight) (fs : List Framework) (totals : List Row) (t : Tally) → Starts ws fs [] totals t → TallyShows ws [] fs totals t
+known_shows ws fs totals t s = record {
   totals_are = s.totals_are;
   holders = subst (λ hs. HoldersShow [] hs fs) (sym s.holders) (new_show fs);
   known = s.known_roles;
   roles = λ role k name. ap (amount name) (s.nothing role ∙ sym (no_roles fs role));
+  weights = s.weights;
 }
 
 none_at_start : (fs : List Framework) → NoHolders [] fs
@@ -397,14 +556,17 @@ entered_amounts (s ∷ ss) totals below name = by s.is_open below (entered_amoun
         let fewer : AddUp (totals ++ owned_rows ss) = below_all in
         ih totals fewer name
 
-pub shares_show : (ss : List Side) (fs : List Framework) (more : List Gift) → are_ordered fs ≡ true → AddUp (all_rows (gifts_of ss ++ more)) → TallyShows (gifts_of ss ++ more) fs (fold enters_row [] ss) (fold holds (shares_of ss fs) more)
-shares_show ss fs more ordered below =
-    gifts_shown (gifts_of ss) more fs (fold enters_row [] ss) (shares_of ss fs) below ordered
-    (gifts_shown [] (gifts_of ss) fs (fold enters_row [] ss) start (fewer_add_up (gifts_of ss) more below) ordered
-    (known_shows fs (fold enters_row [] ss) start (all_known [] fs (fold enters_row [] ss) (fold enters no_shares ss) ordered first)))
+pub shares_show : (ws : List RoleWeight) (ss : List Side) (fs : List Framework) (more : List Gift) → are_ordered fs ≡ true → AddUp (all_rows (gifts_of ss ++ more)) → TallyShows ws (gifts_of ss ++ more) fs (fold enters_row [] ss) (fold holds (shares_of ws ss fs) more)
+shares_show ws ss fs more ordered below =
+    gifts_shown ws (gifts_of ss) more fs (fold enters_row [] ss) (shares_of ws ss fs) below ordered
+    (gifts_shown ws [] (gifts_of ss) fs (fold enters_row [] ss) start (fewer_add_up (gifts_of ss) more below) ordered
+    (known_shows ws fs (fold enters_row [] ss) start (all_known ws [] fs (fold enters_row [] ss) (fold enters no_shares ss) ordered first)))
   where
     start : Tally
-    start = fold knows (fold enters no_shares ss) fs
+    start = fold (knows ws) (fold enters no_shares ss) fs
 
-    first : Starts [] fs (fold enters_row [] ss) (fold enters no_shares ss)
-    first = subst (Starts [] fs (fold enters_row [] ss)) (sym (enters_is ss [])) (record { totals_are = refl; holders = refl; others = none_at_start fs; known_roles = tt; nothing = λ role. refl })
+    unknown : (role : List ℕ) → false ≡ true → 1 ≡ weight_of ws role
+    unknown role k = absurd cc
+
+    first : Starts ws [] fs (fold enters_row [] ss) (fold enters no_shares ss)
+    first = subst (Starts ws [] fs (fold enters_row [] ss)) (sym (enters_is ss [])) (record { totals_are = refl; holders = refl; others = none_at_start fs; known_roles = tt; nothing = λ role. refl; weights = unknown })

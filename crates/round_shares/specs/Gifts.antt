@@ -6,11 +6,12 @@ use Rattle.mails.specs.declared.framework.Framework.{Framework}
 use Rattle.mails.specs.declared.task.Job.{Job}
 use Rattle.mails.specs.declared.task.Offer.{Offer}
 use Rattle.mails.specs.declared.task.Booked.{Booked}
+use Rattle.role_weights.specs.Weights.{RoleWeight, weight_of}
 use Rattle.cluster_model.specs.Ids.{same}
 use Rattle.cluster_model.specs.Sides.{Side, unended}
 use Rattle.cluster_model.specs.Events.{MadeOffer}
 use Rattle.cluster_model.specs.Masters.{Master}
-use Rattle.drf_pick.specs.Shares.{Tally, entered, given, with_role}
+use Rattle.drf_pick.specs.Shares.{Tally, entered, given, weighed, with_role}
 
 -- resources that a framework holds
 pub record Gift : Type 0 where
@@ -59,15 +60,16 @@ no_shares = record { totals = []; holders = []; roles = [] }
 abbrev pub enters : Tally → Side → Tally
 enters t s = if s.is_open then entered s.total t else t
 
-abbrev pub knows : Tally → Framework → Tally
-knows t f = with_role f.id f.role t
+-- a framework is known with its role, and the role has its weight
+abbrev pub knows : List RoleWeight → Tally → Framework → Tally
+knows weights t f = weighed f.role (weight_of weights f.role) (with_role f.id f.role t)
 
 abbrev pub holds : Tally → Gift → Tally
 holds t g = given g.framework g.resources t
 
 -- what the agents with an open session own, the frameworks with their roles, and what they hold
-abbrev pub shares_of : List Side → List Framework → Tally
-shares_of ss fs = fold holds (fold knows (fold enters no_shares ss) fs) (gifts_of ss)
+abbrev pub shares_of : List RoleWeight → List Side → List Framework → Tally
+shares_of weights ss fs = fold holds (fold (knows weights) (fold enters no_shares ss) fs) (gifts_of ss)
 
-abbrev pub shares_with : Master → List MadeOffer → Tally
-shares_with m made = fold holds (shares_of m.sides m.registers.frameworks) (map made_gift made)
+abbrev pub shares_with : List RoleWeight → Master → List MadeOffer → Tally
+shares_with weights m made = fold holds (shares_of weights m.sides m.registers.frameworks) (map made_gift made)

@@ -1,5 +1,5 @@
 -- The eligible framework that stands least.
-use Rattle.std.specs.Prelude.{ℕ, if◌then◌else◌, List, fold, Option, Some, None, option_map}
+use Rattle.std.specs.Prelude.{ℕ, if◌then◌else◌, List, fold, Option, None, option_map}
 use Rattle.names_core.specs.Ids.{Numbered}
 use Rattle.quantity.specs.declared.rows.Row.{Row}
 use Rattle.mails.specs.declared.framework.Framework.{Framework}

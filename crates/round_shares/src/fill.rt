@@ -2,15 +2,18 @@
 
 ghost use Rattle.std.specs.Prelude.{◌≡◌, fold, map, flat_map, OnOk, IfOk};
 ghost use Rattle.cluster_model.specs.Sides.{unended};
+ghost use Rattle.role_weights.specs.Weights.{weight_of};
+ghost use Rattle.drf_pick.specs.Shares.{weighed, with_role};
 ghost use Rattle.round_shares.specs.Gifts.{enters, gifts_of, gifts_on, holds, job_gift, knows, offer_gift, shares_of};
 
 use agent_sides::Sides;
 use drf_pick::Shares;
 use frameworks::Frameworks;
 use mails::{Booked, Framework, Offer};
-use names_core::FrameworkId;
+use names_core::{FrameworkId, RoleName};
 use offer_book::Account;
 use quantity::Resources;
+use role_weights::Weights;
 use roster::RosterEntry;
 use std::alloc::{AllocError, Global};
 
@@ -35,8 +38,8 @@ fn enter_all(shares: &mut Shares, alloc: Global, entries: &[RosterEntry]) -> Res
     Ok(())
 }
 
-fn know(shares: &mut Shares, alloc: Global, framework: &Framework) -> Result<(), AllocError>
-    ensures { OnOk result (shares.new ≡ knows shares.old framework.now) }
+fn enter_role(shares: &mut Shares, alloc: Global, framework: &Framework) -> Result<(), AllocError>
+    ensures { OnOk result (shares.new ≡ with_role framework.now.id framework.now.role shares.old) }
 {
     match shares.role(alloc, framework.id, &framework.role) {
         Ok(()) => Ok(()),
@@ -44,11 +47,43 @@ fn know(shares: &mut Shares, alloc: Global, framework: &Framework) -> Result<(),
     }
 }
 
-fn know_all(shares: &mut Shares, alloc: Global, frameworks: &[Framework]) -> Result<(), AllocError>
-    ensures { OnOk result (shares.new ≡ fold knows shares.old frameworks.now) }
+fn weigh(
+    shares: &mut Shares,
+    alloc: Global,
+    weights: &Weights,
+    role: &RoleName,
+) -> Result<(), AllocError>
+    ensures { OnOk result (shares.new
+        ≡ weighed role.now (weight_of weights.now role.now) shares.old) }
+{
+    match shares.weigh(alloc, role, weights.of(role)) {
+        Ok(()) => Ok(()),
+        Err(_) => Err(AllocError),
+    }
+}
+
+fn know(
+    shares: &mut Shares,
+    alloc: Global,
+    weights: &Weights,
+    framework: &Framework,
+) -> Result<(), AllocError>
+    ensures { OnOk result (shares.new ≡ knows weights.now shares.old framework.now) }
+{
+    enter_role(shares, alloc, framework)?;
+    weigh(shares, alloc, weights, &framework.role)
+}
+
+fn know_all(
+    shares: &mut Shares,
+    alloc: Global,
+    weights: &Weights,
+    frameworks: &[Framework],
+) -> Result<(), AllocError>
+    ensures { OnOk result (shares.new ≡ fold (knows weights.now) shares.old frameworks.now) }
 {
     for framework in frameworks {
-        know(shares, alloc, framework)?;
+        know(shares, alloc, weights, framework)?;
     }
     Ok(())
 }
@@ -107,28 +142,31 @@ fn give_all(shares: &mut Shares, alloc: Global, accounts: &[Account]) -> Result<
 fn count_in(
     shares: &mut Shares,
     alloc: Global,
+    weights: &Weights,
     sides: &Sides,
     frameworks: &Frameworks,
 ) -> Result<(), AllocError>
-    ensures { OnOk result (shares.new ≡ fold holds (fold knows (fold enters shares.old sides.now) frameworks.now) (gifts_of sides.now)) }
+    ensures { OnOk result (shares.new
+        ≡ fold holds (fold (knows weights.now) (fold enters shares.old sides.now) frameworks.now) (gifts_of sides.now)) }
 {
     let (entries, accounts) = sides.parts();
     enter_all(shares, alloc, entries)?;
-    know_all(shares, alloc, frameworks.as_slice())?;
+    know_all(shares, alloc, weights, frameworks.as_slice())?;
     give_all(shares, alloc, accounts)?;
     Ok(())
 }
 
-/// The shares of a round: what the agents with an open session own, the frameworks with their roles, and their current offers
-/// and booked tasks that haven't ended, on every agent.
+/// The shares of a round: what the agents with an open session own, the frameworks with their roles and the weights of these, and their current
+/// offers and booked tasks that haven't ended, on every agent.
 pub fn shares_of(
     alloc: Global,
+    weights: &Weights,
     sides: &Sides,
     frameworks: &Frameworks,
 ) -> Result<Shares, AllocError>
-    ensures { IfOk result (λ shares. shares ≡ shares_of sides.now frameworks.now) }
+    ensures { IfOk result (λ shares. shares ≡ shares_of weights.now sides.now frameworks.now) }
 {
     let mut shares = Shares::new(alloc);
-    count_in(&mut shares, alloc, sides, frameworks)?;
+    count_in(&mut shares, alloc, weights, sides, frameworks)?;
     Ok(shares)
 }

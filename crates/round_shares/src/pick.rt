@@ -20,12 +20,14 @@ fn best_of<'a>(
     ensures { option_copied result ≡ fold (better_eligible now agent.now free.now shares.entry.now) None frameworks.now }
 {
     let mut best = None;
-    for framework in frameworks {
+    let mut best_place = 0;
+    for place in 0..frameworks.len() {
+        let framework = &frameworks[place];
         if is_eligible(framework, now, agent, free) {
             let client = Client {
                 framework: framework.id,
             };
-            best = better_client(shares, best, client);
+            best = better_client(shares, best, &mut best_place, client, place);
         }
     }
     best

@@ -4,7 +4,7 @@ use Rattle.mails.specs.declared.call.Call.TheVariants.{Subscribe, Accept}
 use Rattle.mails.specs.declared.record.Durable.{Durable}
 use Rattle.cluster_model.specs.Channels.{World}
 use Rattle.cluster_model.specs.Clusters.{Step, Send, Deliver, Allocate, Prepare, Commit, ByMail}
-use Rattle.cluster_model.specs.Steps.{history, unmarked}
+use Rattle.cluster_model.specs.Steps.{history, unmarked, unweighted}
 use Rattle.cluster_samples.specs.Short.{id, wanted}
 use Rattle.safe_samples.specs.Agents.{n_a1, n_t1, cpus}
 
@@ -27,4 +27,4 @@ updates = Deliver 3 ∷ []
 
 -- a cluster's channels after steps
 abbrev pub world_after : ℕ → List Durable → List Step → World
-world_after run records steps = (history run records (map unmarked steps)).state.world
+world_after run records steps = (history (unweighted run) records (map unmarked steps)).state.world

@@ -1,5 +1,5 @@
--- Sums of amounts by name: of any number of names, and of amounts up to 2^64 - 1.
-use Rattle.std.specs.Prelude.{◌≡◌, ℕ, ◌+◌, ◌<◌, nat_eq, nat_lt, if◌then◌else◌, List, [], ◌∷◌, fold}
+-- Sums of amounts by name: of any number of names, and of amounts up to 2^48.
+use Rattle.std.specs.Prelude.{◌≡◌, ℕ, ◌+◌, ◌<◌, ◌≤◌, nat_eq, nat_lt, if◌then◌else◌, List, [], ◌∷◌, fold}
 use Rattle.std.specs.List.{AllByRecursion}
 use Rattle.std.specs.List.Sorted.{IsStrictlySortedBy}
 use Rattle.std.specs.Ordering.{nat_cmp, match_ordering}
@@ -7,8 +7,9 @@ use Rattle.std.specs.Cmp.Lexicographic.{pointwise, slice_cmp}
 use Rattle.quantity.specs.declared.rows.Row.{Row}
 use Rattle.quantity.specs.Rows.{amount, name_order, row}
 
+-- as much as 256 agents can own of a name
 abbrev pub greatest_sum : ℕ
-greatest_sum = 18446744073709551615
+greatest_sum = 281474976710656
 
 -- no sum is kept above this
 abbrev pub capped : ℕ → ℕ
@@ -32,12 +33,13 @@ abbrev pub first_amount : List ℕ → List Row → ℕ
 first_amount name [] = 0
 first_amount name (r ∷ rows) = if pointwise nat_eq r.name name then r.amount else first_amount name rows
 
--- rows of different names, in byte order of these, each of some amount
+-- rows of different names, in byte order of these, each of some amount, and none above the cap
 pub record IsSum (rows : List Row) : Type 0 where
   pub ordered : IsStrictlySortedBy name_order rows
   pub positive : AllByRecursion (λ r. 0 < r.amount) rows
+  pub few : AllByRecursion (λ r. r.amount ≤ greatest_sum) rows
 
--- sums that stay below the cap have the sums of the amounts
+-- sums that stay within the cap have the sums of the amounts
 abbrev pub SumsAdd : Type 0
-SumsAdd = (rows more : List Row) → ((name : List ℕ) → amount name rows + amount name more < greatest_sum)
+SumsAdd = (rows more : List Row) → ((name : List ℕ) → amount name rows + amount name more ≤ greatest_sum)
     → (name : List ℕ) → amount name (summed rows more) ≡ amount name rows + amount name more

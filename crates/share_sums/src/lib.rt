@@ -2,7 +2,9 @@
 #![tactic(auto)]
 
 mod fault;
+mod share;
 mod sum;
 
 pub use fault::SharesFault;
-pub use sum::{Sum, stands_at_most_at};
+pub use share::{stands_at_most_at, stands_first};
+pub use sum::Sum;

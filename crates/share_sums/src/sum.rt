@@ -1,10 +1,8 @@
 //! Sums of amounts by name.
 
-ghost use Rattle.std.specs.Prelude.{◌≡◌, ◌+◌, [], true, false, Err, OnOk, IfOk};
-ghost use Rattle.std.specs.List.{list_any};
+ghost use Rattle.std.specs.Prelude.{◌≡◌, ◌+◌, ◌≤◌, [], true, false, Err, OnOk, IfOk};
 ghost use Rattle.quantity.specs.Rows.{amount, covers, rest_of};
-ghost use Rattle.cluster_model.specs.Rounds.{is_at_most_at, stands_at_most_at};
-ghost use Rattle.share_sums.specs.Sums.{capped, with_more, summed, first_amount, IsSum};
+ghost use Rattle.share_sums.specs.Sums.{capped, first_amount, greatest_sum, summed, with_more, IsSum};
 
 use crate::fault::SharesFault;
 use plain_data::{Plain, push_copies};
@@ -13,7 +11,10 @@ use std::alloc::{AllocError, Global};
 use std::cmp::Ordering;
 use std::marker::Model;
 
-/// Amounts of any number of names, in byte order of these; an amount stays at 2^64 - 1 once it is reached.
+/// No amount is kept above this: what 256 agents own of a name, of at most 2^40 each.
+const GREATEST_SUM: u64 = 281_474_976_710_656;
+
+/// Amounts of any number of names, in byte order of these; an amount stays at 2^48 once it is reached.
 #[derive(Drop)]
 pub struct Sum {
     rows: Vec<Row>,
@@ -35,10 +36,10 @@ fn capped(amount: u64, more: u64) -> u64
     ensures { result ≡ capped (amount + more) }
 {
     let sum = u128::from(amount) + u128::from(more);
-    if sum < 18_446_744_073_709_551_615 {
+    if sum < u128::from(GREATEST_SUM) {
         sum as u64
     } else {
-        18_446_744_073_709_551_615
+        GREATEST_SUM
     }
 }
 
@@ -113,40 +114,6 @@ fn without(alloc: Global, rows: &[Row], less: &Resources) -> Result<Vec<Row>, Al
     Ok(rest)
 }
 
-/// Whether the first's share of one row's name is at most the second's share of another's.
-fn is_at_most_at(totals: &Sum, first: &Sum, second: &Sum, row: &Row, other: &Row) -> bool
-    ensures { result ≡ is_at_most_at totals.now first.now second.now row.now other.now }
-{
-    let left = u128::from(first.amount(row.name.as_str()))
-        * u128::from(totals.amount(other.name.as_str()));
-    let right = u128::from(second.amount(other.name.as_str()))
-        * u128::from(totals.amount(row.name.as_str()));
-    left <= right
-}
-
-fn is_met(totals: &Sum, first: &Sum, second: &Sum, row: &Row) -> bool
-    ensures { result ≡ list_any (λ j. is_at_most_at totals.now first.now second.now row.now j) totals.now }
-{
-    for other in totals.rows() {
-        if is_at_most_at(totals, first, second, row, other) {
-            return true;
-        }
-    }
-    false
-}
-
-/// Whether the first stands at most at the second: at each name of the totals its share is at most the second's share of some name.
-pub fn stands_at_most_at(totals: &Sum, first: &Sum, second: &Sum) -> bool
-    ensures { result ≡ stands_at_most_at totals.now first.now second.now }
-{
-    for row in totals.rows() {
-        if !is_met(totals, first, second, row) {
-            return false;
-        }
-    }
-    true
-}
-
 impl Sum {
     /// Nothing of any name. It takes no memory.
     pub fn new(alloc: Global) -> Sum
@@ -167,7 +134,8 @@ impl Sum {
 
     /// The amount of a name, 0 where there is none. It takes no memory.
     pub fn amount(&self, name: &str) -> u64
-        ensures { result ≡ amount name.now self.now }
+        ensures amount { result ≡ amount name.now self.now }
+        ensures range { result ≤ greatest_sum }
     {
         amount_in(&self.rows, name)
     }

@@ -2,3 +2,4 @@ pub mod Answers
 pub mod Members
 pub mod Lines
 pub mod Configs
+pub mod Configurations

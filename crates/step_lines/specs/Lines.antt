@@ -1,10 +1,10 @@
 -- Which step a line is.
-use Rattle.std.specs.Prelude.{ℕ, Bool, List, codes, length, bytes_eq, nat_lt, is_some, Option, Some, None, Result, Ok, Err, if◌then◌else◌}
+use Rattle.std.specs.Prelude.{ℕ, List, codes, length, bytes_eq, nat_lt, is_some, Option, Some, None, Result, Ok, Err, if◌then◌else◌}
 use Rattle.std.specs.Str.{is_utf8}
 use Rattle.serde_json.specs.Data.{Data}
-use Rattle.serde_json.specs.Find.{get, as_str}
+use Rattle.serde_json.specs.Find.{get}
 use Rattle.serde_json.specs.Read.{read}
-use Rattle.names_core.specs.Ids.{Numbered, id_of}
+use Rattle.names_core.specs.Ids.{Numbered}
 use Rattle.number_trim.specs.Trim.{trim}
 use Rattle.mails.specs.declared.call.Call.{Call}
 use Rattle.call_members.specs.declared.fault.Refusal.{Refusal}

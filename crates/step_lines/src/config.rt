@@ -1,19 +1,34 @@
-//! The first line: which agents there are, and what each owns.
+//! The first line: which agents there are, what each owns, and how much roles count.
 
-ghost use Rattle.std.specs.Prelude.{◌≡◌, []};
+ghost use Rattle.std.specs.Prelude.{◌≡◌, [], IfSome, option_map};
 ghost use Rattle.serde_json.specs.View.{view, members_view};
 ghost use Rattle.step_lines.specs.Answers.{Gives};
+ghost use Rattle.names_core.specs.Names.{is_role};
+ghost use Rattle.role_weights.specs.Weights.{IsWeight};
 ghost use Rattle.step_lines.specs.Configs as configs;
+ghost use Rattle.step_lines.specs.Configurations.{configured_by};
+ghost use Rattle.step_lines.specs.Members.{where_true};
 
 use crate::fault::{LineFault, LineRefusal};
 use crate::members::has_members;
 use crate::read::LONGEST_LINE;
 use agent_sides::{Config, ConfigFault};
-use names_core::{AgentName, NameFault};
+use names_core::{AgentName, NameFault, RoleName};
 use number_trim::trim;
 use quantity::{QuantityFault, Resources};
+use role_weights::Weights;
 use serde_json::{Map, Value};
 use std::alloc::Global;
+
+/// As many roles as a configuration names at most.
+const MOST_WEIGHTS: usize = 4_096;
+
+/// The agents of a cluster with what each owns, and the weights of roles.
+#[derive(Drop)]
+pub struct Configuration {
+    pub agents: Config,
+    pub weights: Weights,
+}
 
 /// The line has no form of a configuration.
 const BAD_CONFIG: LineFault = LineFault::Refused(LineRefusal::BadConfig);
@@ -100,13 +115,10 @@ fn agents_of(alloc: Global, members: &Map<String, Value>) -> Result<Config, Line
     Ok(config)
 }
 
-#[tactic(auto, unfolding(crate::specs::Configs::config_of))]
-fn config_of(alloc: Global, value: &Value) -> Result<Config, LineFault>
-    ensures { Gives (λ c. c) result (configs.configured (configs.config_of (view value.now))) }
+#[tactic(auto, unfolding(crate::specs::Configs::agents_of))]
+fn some_agents(alloc: Global, value: &Value) -> Result<Config, LineFault>
+    ensures { Gives (λ c. c) result (configs.configured (configs.agents_of (view value.now))) }
 {
-    if !has_members(value, 1) {
-        return Err(BAD_CONFIG);
-    }
     let Some(members) = value.get("agents").and_then(Value::as_object) else {
         return Err(BAD_CONFIG);
     };
@@ -117,9 +129,99 @@ fn config_of(alloc: Global, value: &Value) -> Result<Config, LineFault>
     Ok(config)
 }
 
+/// The weight of a role.
+fn weight_of(value: &Value) -> Option<u16>
+    ensures weight { result ≡ configs.weight_of (view value.now) }
+    ensures range { IfSome result IsWeight }
+{
+    let weight = value.as_u64()?;
+    if weight < 1 || weight > 1_000 {
+        return None;
+    }
+    Some(weight as u16)
+}
+
+fn role_of(alloc: Global, name: &str) -> Result<RoleName, LineFault>
+    ensures { Gives (λ n. n) result (configs.configured (where_true (is_role name.now) name.now)) }
+{
+    match RoleName::from_text(alloc, name) {
+        Ok(role) => Ok(role),
+        Err(NameFault::BadName) => Err(BAD_CONFIG),
+        Err(_) => Err(LineFault::OutOfMemory),
+    }
+}
+
+#[tactic(auto, unfolding(crate::specs::Configs::weight_more))]
+fn add_weight(
+    alloc: Global,
+    weights: &mut Weights,
+    name: &str,
+    value: &Value,
+) -> Result<(), LineFault>
+    ensures { Gives (λ _. weights.new) result (configs.configured (configs.weight_more name.now
+        (view value.now) weights.old)) }
+{
+    let role = role_of(alloc, name)?;
+    let Some(weight) = weight_of(value) else {
+        return Err(BAD_CONFIG);
+    };
+    weights.set(alloc, &role, weight)?;
+    Ok(())
+}
+
+fn all_weights(alloc: Global, members: &Map<String, Value>) -> Result<Weights, LineFault>
+    ensures { Gives (λ w. w) result (configs.configured (configs.weights_in []
+        (members_view members.now.entries))) }
+{
+    let mut weights = Weights::new(alloc);
+    for (name, value) in members.iter() {
+        add_weight(alloc, &mut weights, name.as_str(), value)?;
+    }
+    Ok(weights)
+}
+
+fn few_weights(alloc: Global, members: &Map<String, Value>) -> Result<Weights, LineFault>
+    ensures { Gives (λ w. w) result (configs.configured (configs.few_weights
+        (members_view members.now.entries))) }
+{
+    if members.len() > MOST_WEIGHTS {
+        return Err(BAD_CONFIG);
+    }
+    all_weights(alloc, members)
+}
+
+/// The weights of roles, where they are named.
+fn weights_named(alloc: Global, value: Option<&Value>) -> Result<Weights, LineFault>
+    ensures { Gives (λ w. w) result (configs.configured (configs.weights_named (option_map (λ v.
+        view v.now) value.entry))) }
+{
+    let Some(value) = value else {
+        return Ok(Weights::new(alloc));
+    };
+    match value.as_object() {
+        Some(members) => few_weights(alloc, members),
+        None => Err(BAD_CONFIG),
+    }
+}
+
+#[tactic(auto, unfolding(crate::specs::Configs::config_of))]
+fn config_of(alloc: Global, value: &Value) -> Result<Configuration, LineFault>
+    ensures { Gives (λ c. configured_by c) result (configs.configured (configs.config_of
+        (view value.now))) }
+{
+    let weights = value.get("weights");
+    let count = if weights.is_some() { 2 } else { 1 };
+    if !has_members(value, count) {
+        return Err(BAD_CONFIG);
+    }
+    let agents = some_agents(alloc, value)?;
+    let weights = weights_named(alloc, weights)?;
+    Ok(Configuration { agents, weights })
+}
+
 #[tactic(auto, unfolding(crate::specs::Configs::config_json))]
-fn config_json(alloc: Global, bytes: &[u8]) -> Result<Config, LineFault>
-    ensures { Gives (λ c. c) result (configs.config_json bytes.now) }
+fn config_json(alloc: Global, bytes: &[u8]) -> Result<Configuration, LineFault>
+    ensures { Gives (λ c. configured_by c) result (configs.config_json bytes.now) }
 {
     match Value::from_slice(alloc, bytes) {
         Ok(value) => config_of(alloc, &value),
@@ -133,10 +235,11 @@ fn config_json(alloc: Global, bytes: &[u8]) -> Result<Config, LineFault>
     }
 }
 
-/// The agents that a line configures: `{"agents":{"a1":{"cpus":4,"mem":4096}}}`, with 1 to 256 agents, whose names have 1 to 64 ASCII letters, digits, `-`, `_`
-/// and `.`; an agent owns up to 8 amounts, each a whole number from 1 to 2^40. Every other line is `X3 BadConfig`; `X4 OutOfMemory` may come before it.
-pub fn read_config(alloc: Global, line: &[u8]) -> Result<Config, LineFault>
-    ensures { Gives (λ c. c) result (configs.read_config line.now) }
+/// What a line configures: `{"agents":{"a1":{"cpus":4,"mem":4096}},"weights":{"prod":2}}`, with 1 to 256 agents, whose names have 1 to 64 ASCII letters,
+/// digits, `-`, `_` and `.`; an agent owns up to 8 amounts, each a whole number from 1 to 2^40. `weights` may lack; it names at most 4,096 roles, each with a whole
+/// number from 1 to 1,000, and a role that it doesn't name has 1. Every other line is `X3 BadConfig`; `X4 OutOfMemory` may come before it.
+pub fn read_config(alloc: Global, line: &[u8]) -> Result<Configuration, LineFault>
+    ensures { Gives (λ c. configured_by c) result (configs.read_config line.now) }
 {
     if line.len() > LONGEST_LINE {
         return Err(BAD_CONFIG);

@@ -10,6 +10,6 @@ mod members;
 mod read;
 mod send;
 
-pub use config::read_config;
+pub use config::{Configuration, read_config};
 pub use fault::{LineFault, LineRefusal};
 pub use read::{read_step, step_of};

@@ -4,6 +4,7 @@ use agent_sides::{Config, ConfiguredAgent};
 use agents_file::agents_in;
 use call_json::read_call;
 use mails::Call;
+use names_core::RoleName;
 use number_trim::trim;
 use record_text::{record_of, record_text};
 use std::alloc::{AllocError, Global};
@@ -83,14 +84,28 @@ fn configured(alloc: Global, config: &Config) -> Result<String, AllocError> {
 
 fn config(alloc: Global, text: &str) -> Result<String, AllocError> {
     match read_config(alloc, text.as_bytes()) {
-        Ok(config) => configured(alloc, &config),
+        Ok(config) => configured(alloc, &config.agents),
+        Err(fault) => format!(in alloc; "{fault}"),
+    }
+}
+
+/// The weight of a role, whose name stands before the first blank.
+fn weight(alloc: Global, text: &str) -> Result<String, AllocError> {
+    let Some((name, line)) = text.split_once(' ') else {
+        return "no blank".to_string(alloc);
+    };
+    let Ok(role) = RoleName::from_text(alloc, name) else {
+        return "no role".to_string(alloc);
+    };
+    match read_config(alloc, line.as_bytes()) {
+        Ok(config) => format!(in alloc; "{}", config.weights.of(&role)),
         Err(fault) => format!(in alloc; "{fault}"),
     }
 }
 
 fn agents(alloc: Global, text: &str) -> Result<String, AllocError> {
     match agents_in(alloc, text.as_bytes()) {
-        Ok(config) => configured(alloc, &config),
+        Ok(config) => configured(alloc, &config.agents),
         Err(fault) => format!(in alloc; "{fault}"),
     }
 }
@@ -104,6 +119,7 @@ pub fn of_texts(alloc: Global, kind: &str, text: &str) -> Result<String, AllocEr
         "written" => written(alloc, text),
         "step" => step(alloc, text),
         "config" => config(alloc, text),
+        "weight" => weight(alloc, text),
         "agents" => agents(alloc, text),
         _ => "no kind".to_string(alloc),
     }

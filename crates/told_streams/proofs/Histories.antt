@@ -17,7 +17,7 @@ use Rattle.cluster_model.specs.Calls.{called}
 use Rattle.cluster_model.specs.Mails.{mailed, ticked, agent_lost, hung_up}
 use Rattle.cluster_model.specs.Rounds.{allocated}
 use Rattle.cluster_model.specs.Clusters.{Stream, Post, Called, Down, Up, Cluster, master_of, StepCause, ByStart, ByAgain, ByExecutor, ByMail, Step, Send, Deliver, Allocate, Tick, LoseAgent, HangUp, Prepare, Commit, StopBefore, StopAfter, StopMaster, Take, StepRefusal, MasterDown, AgentDown, DraftOpen, NoDraft, HistoryFull, TimeBack, Fine, AgentRefused, Fell}
-use Rattle.cluster_model.specs.Steps.{Effect, Done, does, happening, effect_of, master_does, master_hears, channel_of, delivers_up, delivers, post_at, with_tick, ticks_at, stream_at, streams_after, hangs_up, loses_agent, hello_to, drafts, draws_mail_at, draws_mail, prepares, commits, up_again, stops, with_master, at_channel, is_fallen, if_up, by_draft, without_draft, with_draft, takes_event, answer, master_falls, new_master_falls, fallen_too, agent_falls, instead, fallen_answer, Marked, step_marked, History, opening, extended, extend_all, history}
+use Rattle.cluster_model.specs.Steps.{Setup, Effect, Done, does, happening, effect_of, master_does, master_hears, channel_of, delivers_up, delivers, post_at, with_tick, ticks_at, stream_at, streams_after, hangs_up, loses_agent, hello_to, drafts, draws_mail_at, draws_mail, prepares, commits, up_again, stops, with_master, at_channel, is_fallen, if_up, by_draft, without_draft, with_draft, takes_event, answer, master_falls, new_master_falls, fallen_too, agent_falls, instead, fallen_answer, Marked, step_marked, History, opening, extended, extend_all, history}
 use Rattle.cluster_laws.specs.Runs.{AreRising, ids_of}
 use Rattle.cluster_laws.proofs.Streams.{history_streams}
 use Rattle.told_streams.specs.Streams.{kept_ids}
@@ -103,7 +103,7 @@ takes_keeps c id (Some event) is = λ rising h. take_within c id event rising h 
 answer_keeps : (c : Cluster) (s : Step) → Keeps c (answer c s)
 answer_keeps c (Send stream call) = λ rising h. h
 answer_keeps c (Deliver number) = with_master_keeps c (delivers c (post_at c number)) (delivers_keeps c (post_at c number))
-answer_keeps c Allocate = with_master_keeps c (master_does c (allocated (master_of c))) (does_keeps c (effect_of [] (allocated (master_of c))))
+answer_keeps c Allocate = with_master_keeps c (master_does c (allocated c.weights (master_of c))) (does_keeps c (effect_of [] (allocated c.weights (master_of c))))
 answer_keeps c (Tick now) = with_master_keeps c (ticks_at c now) (ticks_keeps c now)
 answer_keeps c (LoseAgent agent) = at_channel_keeps c (channel_of c agent) (λ x. with_master c (loses_agent c x)) (λ x. with_master_keeps c (loses_agent c x) (does_keeps c (effect_of [] (agent_lost (master_of c) x.side))))
 answer_keeps c (HangUp stream) = with_master_keeps c (hangs_up c stream (stream_at c stream)) (hangs_up_keeps c stream (stream_at c stream))
@@ -158,24 +158,24 @@ extended_keeps : (h : History) (r : Result Done StepRefusal) → Keeps h.state r
 extended_keeps h (Ok d) f rising within = f rising within
 extended_keeps h (Err refusal) f rising within = within
 
-abbrev WithinAfter : ℕ → List Durable → List Marked → Type 0
-WithinAfter run records steps = AreWithin (history run records steps).state.streams
+abbrev WithinAfter : Setup → List Durable → List Marked → Type 0
+WithinAfter setup records steps = AreWithin (history setup records steps).state.streams
 
-grown : (run : ℕ) (records : List Durable) (past rest : List Marked) → WithinAfter run records past → WithinAfter run records (past ++ rest)
-grown run records past [] h = subst (WithinAfter run records) (sym (append-nil past)) h
-grown run records past (s ∷ rest) h =
-    let old = history run records past in
-    let one = extended_keeps old (step_marked old.state s) (step_keeps old.state s) (history_streams run records past) h in
-    let next : WithinAfter run records (past ++ s ∷ []) = subst (λ (x : History). AreWithin x.state.streams) (sym (extend_more (opening run records) past s)) one in
-    subst (WithinAfter run records) (append_assoc past (s ∷ []) rest) (grown run records (past ++ s ∷ []) rest next)
+grown : (setup : Setup) (records : List Durable) (past rest : List Marked) → WithinAfter setup records past → WithinAfter setup records (past ++ rest)
+grown setup records past [] h = subst (WithinAfter setup records) (sym (append-nil past)) h
+grown setup records past (s ∷ rest) h =
+    let old = history setup records past in
+    let one = extended_keeps old (step_marked old.state s) (step_keeps old.state s) (history_streams setup records past) h in
+    let next : WithinAfter setup records (past ++ s ∷ []) = subst (λ (x : History). AreWithin x.state.streams) (sym (extend_more (opening setup records) past s)) one in
+    subst (WithinAfter setup records) (append_assoc past (s ∷ []) rest) (grown setup records (past ++ s ∷ []) rest next)
 
-pub never_more : (run : ℕ) (records : List Durable) (steps : List Marked) → WithinAfter run records steps
-never_more run records steps = grown run records [] steps tt
+pub never_more : (setup : Setup) (records : List Durable) (steps : List Marked) → WithinAfter setup records steps
+never_more setup records steps = grown setup records [] steps tt
 
-pub may_open : (run : ℕ) (records : List Durable) (steps : List Marked) (s : Marked) (d : Done) (opens : List Numbered) (told : List Told) → step_marked (history run records steps).state s ≡ Ok d
-    → d.after.streams ≡ streams_after (history run records steps).state.streams opens told → AreRising (kept_ids (kept_streams (history run records steps).state.streams) ++ opens)
-may_open run records steps s d opens told step is =
-    let old = history run records steps in
-    let next : history run records (steps ++ s ∷ []) ≡ extended old (Ok d) = extend_more (opening run records) steps s ∙ ap (extended old) step in
-    let rising : AreRising (ids_of d.after.streams) = subst (λ (h : History). AreRising (ids_of h.state.streams)) next (history_streams run records (steps ++ s ∷ [])) in
+pub may_open : (setup : Setup) (records : List Durable) (steps : List Marked) (s : Marked) (d : Done) (opens : List Numbered) (told : List Told) → step_marked (history setup records steps).state s ≡ Ok d
+    → d.after.streams ≡ streams_after (history setup records steps).state.streams opens told → AreRising (kept_ids (kept_streams (history setup records steps).state.streams) ++ opens)
+may_open setup records steps s d opens told step is =
+    let old = history setup records steps in
+    let next : history setup records (steps ++ s ∷ []) ≡ extended old (Ok d) = extend_more (opening setup records) steps s ∙ ap (extended old) step in
+    let rising : AreRising (ids_of d.after.streams) = subst (λ (h : History). AreRising (ids_of h.state.streams)) next (history_streams setup records (steps ++ s ∷ [])) in
     subst AreRising (ap (λ (ss : List Stream). ids_of ss) is ∙ ids_kept old.state.streams opens told) rising

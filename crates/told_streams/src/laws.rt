@@ -4,7 +4,7 @@ ghost use Rattle.std.specs.Prelude.{◌≡◌, ◌++◌, List, map, option_map, 
 ghost use Rattle.cluster_laws.specs.Runs.{AreRising, ids_of};
 ghost use Rattle.cluster_model.specs.Clusters.{Cluster, Stream, Take};
 ghost use Rattle.cluster_model.specs.Events.{Event, Told};
-ghost use Rattle.cluster_model.specs.Steps.{Done, Marked, answer, history, step_marked, stream_at, streams_after, takes_event, takes_one};
+ghost use Rattle.cluster_model.specs.Steps.{Setup, Done, Marked, answer, history, step_marked, stream_at, streams_after, takes_event, takes_one};
 ghost use Rattle.mails.specs.declared.record.Durable.{Durable};
 ghost use Rattle.master_state.specs.Works.{event_of, written};
 ghost use Rattle.names_core.specs.Ids.{Numbered};
@@ -29,11 +29,12 @@ pub fn kept_streams_are_found()
 pub fn no_more_is_taken()
     ensures hears { (streams : List Stream) (opens : List Numbered) (told : List Told) → AreWithin streams → AreWithin (streams_after streams opens told) }
     ensures takes { (c : Cluster) (id : Numbered) (event : Event) → AreRising (ids_of c.streams) → AreWithin c.streams → untaken c id ≡ Some event → AreWithin (map (takes_one id) c.streams) }
-    ensures histories { (run : ℕ) (records : List Durable) (steps : List Marked) → AreWithin (history run records steps).state.streams }
+    ensures histories { (setup : Setup) (records : List Durable) (steps : List Marked) →
+        AreWithin (history setup records steps).state.streams }
 {}
 
 /// The streams that a step opens rise above those that stand.
 pub fn opened_streams_rise()
-    ensures { (run : ℕ) (records : List Durable) (steps : List Marked) (s : Marked) (d : Done) (opens : List Numbered) (told : List Told) → step_marked (history run records steps).state s ≡ Ok d →
-        d.after.streams ≡ streams_after (history run records steps).state.streams opens told → AreRising (kept_ids (kept_streams (history run records steps).state.streams) ++ opens) }
+    ensures { (setup : Setup) (records : List Durable) (steps : List Marked) (s : Marked) (d : Done) (opens : List Numbered) (told : List Told) → step_marked (history setup records steps).state s ≡ Ok d →
+        d.after.streams ≡ streams_after (history setup records steps).state.streams opens told → AreRising (kept_ids (kept_streams (history setup records steps).state.streams) ++ opens) }
 {}

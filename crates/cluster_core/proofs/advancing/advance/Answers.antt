@@ -1,18 +1,18 @@
-use Rattle.std.proofs.Common.{rules, ◌≡◌, ◌<◌, ◌≤◌, ◌∙◌, List, ap, arith, drop, length, map, refl, sym, subst}
+use Rattle.std.proofs.Common.{rules, ◌≡◌, ◌<◌, ◌∙◌, ap, drop, length, map, refl, sym, subst}
 use Rattle.std.specs.Prelude.{fold, IfErr}
 use Rattle.std.proofs.lemmas.Result.{IfErr-weaker}
-use Rattle.cluster_steps.specs.Steps.{step_of}
-use Rattle.cluster_steps.specs.declared.entry.Entry.{Entry}
+use Rattle.cluster_steps.specs.Steps.{marked_of, step_of}
 use Rattle.cluster_steps.specs.declared.entry.Outputs.{Outputs}
 use Rattle.cluster_laws.specs.Parts.{configured}
 use Rattle.cluster_parts.specs.Handing.{handed}
+use Rattle.cluster_core.specs.Parts.{ArePartsBy}
 use Rattle.cluster_core.specs.Putting.{direction_of, with_handed}
 use Rattle.cluster_core.specs.Keeping.{IsKept, IsRefused, IsRefusedFirst, IsTaken, entry_made, story_of, taken_made}
 use Rattle.cluster_core.specs.Stories.{Story, state_of, with_entry}
 use Rattle.cluster_core.specs.declared.taken.Taken.{Taken}
 use Rattle.cluster_core.proofs.Puttings.{put_since}
 use Rattle.cluster_core.proofs.Posted.{all_posts}
-use Rattle.cluster_core.proofs.Telling.{are_parts, first_refused, keeps_on, parts_of_story, stays, step_refused, takes_on}
+use Rattle.cluster_core.proofs.Telling.{are_parts, first_refused, keeps_on, parts_by, parts_of_story, stays, step_refused, takes_on}
 use Rattle.cluster_core.proofs.advancing.advance.Goals as goal
 
 pub returns-in_err-copy-clause-refused : goal.returns-in_err-copy-clause-refused
@@ -24,8 +24,15 @@ returns-in_err-copy-clause-refused g c =
 
 pub take_step-requires : goal.take_step-requires
 take_step-requires g c =
+    let s = story_of c.args.history.now in
+    let count = g.P.Post.count (g.P.Post.known c.args.post.now) in
+    let ways = g.P.Post.direction_at (g.P.Post.known c.args.post.now) in
     let h : length c.args.history.now.entries.items < 4294967294 = c.in_ok-copy.ensures.within in
-    are_parts c.states_count_entries.ensures (story_of c.args.history.now) c.args.history.now.opened c.args.parts.now (g.P.Post.count (g.P.Post.known c.args.post.now)) (g.P.Post.direction_at (g.P.Post.known c.args.post.now)) c.requires h
+    let kept : c.make_room.new.history.weights ≡ c.args.history.now.weights = ap (λ (x : Story). x.setup.weights) c.make_room.ensures.story in
+    record {
+      parts = are_parts c.states_count_entries.ensures s c.args.history.now.opened c.args.parts.now count ways c.requires h;
+      weights = subst (λ ws. ArePartsBy ws c.args.parts.now) (sym kept) (parts_by c.states_count_entries.ensures c.weights_stay.ensures s c.args.history.now.opened c.args.parts.now count ways c.requires h);
+    }
 
 pub returns-in-Ok-clause-kept : goal.returns-in-Ok-clause-kept
 returns-in-Ok-clause-kept g c =
@@ -33,7 +40,8 @@ returns-in-Ok-clause-kept g c =
     let h : length c.args.history.now.entries.items < 4294967294 = c.in_ok-copy.ensures.within in
     let law = c.states_count_entries.ensures in
     let e = entry_made c.args.step c.in-Ok.made in
-    let t = c.in-Ok.ensures.made (state_of s) (parts_of_story law s c.args.history.now.opened c.args.parts.now (g.P.Post.count (g.P.Post.known c.args.post.now)) (g.P.Post.direction_at (g.P.Post.known c.args.post.now)) c.requires h) in
+    let weighed : (state_of s).weights ≡ c.make_room.new.history.weights = c.weights_stay.ensures s.setup s.records (map marked_of s.entries) ∙ sym (ap (λ (x : Story). x.setup.weights) c.make_room.ensures.story) in
+    let t = c.in-Ok.ensures.made (state_of s) (parts_of_story law s c.args.history.now.opened c.args.parts.now (g.P.Post.count (g.P.Post.known c.args.post.now)) (g.P.Post.direction_at (g.P.Post.known c.args.post.now)) c.requires h) weighed in
     let there : length c.as_slice-before.result.now ≡ length c.args.parts.now.items = ap length c.as_slice-before.ensures in
     let kept = keeps_on law c.sent_items_stand.ensures s c.args.history.now.opened c.args.parts.now c.take_step.new.self (g.P.Post.count (g.P.Post.known c.args.post.now)) (length c.as_slice-before.result.now) (g.P.Post.count (g.P.Post.known c.hand_on.new.post))
     (g.P.Post.direction_at (g.P.Post.known c.args.post.now)) (g.P.Post.direction_at (g.P.Post.known c.take_step.new.post)) (g.P.Post.direction_at (g.P.Post.known c.hand_on.new.post)) c.args.step c.in-Ok.made c.requires h t c.take_step.ensures.config c.hand_on.ensures.count
@@ -49,7 +57,8 @@ returns-in-Ok-clause-taken g c =
     let h : length c.args.history.now.entries.items < 4294967294 = c.in_ok-copy.ensures.within in
     let law = c.states_count_entries.ensures in
     let e = entry_made c.args.step c.in-Ok.made in
-    let t = c.in-Ok.ensures.made (state_of s) (parts_of_story law s c.args.history.now.opened c.args.parts.now (g.P.Post.count (g.P.Post.known c.args.post.now)) (g.P.Post.direction_at (g.P.Post.known c.args.post.now)) c.requires h) in
+    let weighed : (state_of s).weights ≡ c.make_room.new.history.weights = c.weights_stay.ensures s.setup s.records (map marked_of s.entries) ∙ sym (ap (λ (x : Story). x.setup.weights) c.make_room.ensures.story) in
+    let t = c.in-Ok.ensures.made (state_of s) (parts_of_story law s c.args.history.now.opened c.args.parts.now (g.P.Post.count (g.P.Post.known c.args.post.now)) (g.P.Post.direction_at (g.P.Post.known c.args.post.now)) c.requires h) weighed in
     let told : story_of c.write_down.new.history ≡ with_entry s e =
     c.write_down.ensures.told ∙ ap (λ (x : Story). with_entry x e) c.make_room.ensures.story in
     subst (λ (x : Taken). IsTaken s c.args.step x (story_of c.write_down.new.history)) (sym c.write_down.ensures.taken)

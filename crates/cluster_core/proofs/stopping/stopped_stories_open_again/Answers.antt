@@ -13,12 +13,12 @@ use Rattle.cluster_core.proofs.stopping.stopped_stories_open_again.Goals as goal
 pub returns : goal.returns
 returns c = record {
   good = good;
-  records = λ s found legal f. found_of s.run s.records (map marked_of s.entries) found legal.good f;
+  records = λ s found legal f. found_of s.setup s.records (map marked_of s.entries) found legal.good f;
   live = λ s later found legal above f.
       let records = in_order (map configured s.records) found in
       live_so (state_of (opened_over later (map configured s.records) found)).world.channels records (c.masters_leave_agents.ensures.opening later records)
-      ∙ ap live_of (found_in_order s.run s.records (map marked_of s.entries) later found legal.good f (good s later found legal above f));
+      ∙ ap live_of (found_in_order s.setup s.records (map marked_of s.entries) later.run found legal.good f (good s later.run found legal above f));
 }
   where
     good : (s : Story) (later : ℕ) (found : List Durable) → IsLegal s → (state_of s).world.run.number < later → AreFound (state_of s) found → GoodOpening later found
-    good s later found legal above f = good_permuted later f.by_agent found f.moved (c.found_records_open_again.ensures s.run s.records (map marked_of s.entries) later f.by_agent legal.good above f.is_found)
+    good s later found legal above f = good_permuted later f.by_agent found f.moved (c.found_records_open_again.ensures s.setup s.records (map marked_of s.entries) later f.by_agent legal.good above f.is_found)

@@ -11,5 +11,5 @@ pub returns : goal.returns
 returns c = record {
   names = history_names;
   once = history_once;
-  recorded = λ run records steps. each_map (ChannelOk HasName AnyMail) (λ (x : Channel). x.agent.durable.name ≡ x.side.name) (λ x n. n.agent) (history run records steps).state.world.channels (history_named run records steps);
+  recorded = λ setup records steps. each_map (ChannelOk HasName AnyMail) (λ (x : Channel). x.agent.durable.name ≡ x.side.name) (λ x n. n.agent) (history setup records steps).state.world.channels (history_named setup records steps);
 }

@@ -7,13 +7,13 @@ use Rattle.cluster_laws.proofs.Posts.{post_for}
 use Rattle.cluster_laws.proofs.laws.mails_of_agents_fit.Goals as goal
 
 pub returns-clause-number : goal.returns-clause-number
-returns-clause-number c run records steps sent n to recorded stand e =
-    let s = (history run records steps).state in
+returns-clause-number c setup records steps sent n to recorded stand e =
+    let s = (history setup records steps).state in
     let p = post_for s.world.channels s.posts sent stand n (items.ToMaster to) e in
-    fits_record s.world.channels (history_roomy run records steps recorded) p.0 to p.2
+    fits_record s.world.channels (history_roomy setup records steps recorded) p.0 to p.2
 
 pub returns-clause-fits : goal.returns-clause-fits
-returns-clause-fits c run records steps sent n to good stand e =
-    let s = (history run records steps).state in
+returns-clause-fits c setup records steps sent n to good stand e =
+    let s = (history setup records steps).state in
     let p = post_for s.world.channels s.posts sent stand n (items.ToMaster to) e in
-    fits_sides s.world.channels (history_once run records steps good) (c.mails_meet_their_premises.ensures run records steps good) p.0 to p.2
+    fits_sides s.world.channels (history_once setup records steps good) (c.mails_meet_their_premises.ensures setup records steps good) p.0 to p.2

@@ -9,7 +9,7 @@ use Rattle.cluster_laws.proofs.runs.masters_stay_in_their_run.Goals as goal
 pub returns : goal.returns
 returns x = record {
   calls = λ c stream call. keeps_run c (called (master_of c) stream call) (called_ordinary (master_of c) stream call).moves;
-  rounds = λ c. keeps_run c (allocated (master_of c)) (allocated_ordinary (master_of c)).moves;
+  rounds = λ c. keeps_run c (allocated c.weights (master_of c)) (allocated_ordinary c.weights (master_of c)).moves;
   ticks = λ c now. keeps_run c (ticked (master_of c) now) (ticked_ordinary (master_of c) now).moves;
   losses = λ c s. keeps_run c (agent_lost (master_of c) s) (lost_ordinary (master_of c) s).moves;
   hang_ups = λ c stream. keeps_run c (hung_up (master_of c) stream) (hung_ordinary (master_of c) stream).moves;

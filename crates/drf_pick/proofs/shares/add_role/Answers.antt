@@ -1,4 +1,4 @@
-use Rattle.std.proofs.Common.{◌≡◌, sym, ◌∙◌, refl}
+use Rattle.std.proofs.Common.{sym, ◌∙◌, refl}
 use Rattle.drf_pick.specs.Shares.{is_role}
 use Rattle.drf_pick.proofs.Places.{found_at, none_at}
 use Rattle.drf_pick.proofs.shares.add_role.Goals as goal

@@ -1,4 +1,4 @@
-use Rattle.std.proofs.Common.{◌≡◌, sym, ◌∙◌}
+use Rattle.std.proofs.Common.{sym, ◌∙◌}
 use Rattle.drf_pick.specs.Shares.{is_role}
 use Rattle.drf_pick.proofs.Places.{first_at, none_at}
 use Rattle.drf_pick.proofs.shares.find_role.Goals as goal

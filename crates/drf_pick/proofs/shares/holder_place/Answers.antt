@@ -1,4 +1,4 @@
-use Rattle.std.proofs.Common.{◌≡◌, sym, ◌∙◌, arith}
+use Rattle.std.proofs.Common.{sym, ◌∙◌, arith}
 use Rattle.drf_pick.proofs.Once.{placed}
 use Rattle.drf_pick.proofs.shares.holder_place.Goals as goal
 

@@ -1,4 +1,4 @@
-use Rattle.std.proofs.Common.{◌≡◌, sym, ◌∙◌, arith}
+use Rattle.std.proofs.Common.{sym, ◌∙◌, arith}
 use Rattle.drf_pick.proofs.OnceRoles.{placed_role}
 use Rattle.drf_pick.proofs.shares.role_place.Goals as goal
 

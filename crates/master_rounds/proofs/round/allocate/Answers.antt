@@ -7,7 +7,7 @@ use Rattle.master_rounds.proofs.round.allocate.Goals as goal
 pub tell_all-requires : goal.tell_all-requires
 tell_all-requires c =
     let holds : Holds c.args.state.now = record { ordered = c.as_slice-frameworks.ensures.ordered; names = c.stand_in_order.ensures; rows = c.own_rows.ensures; fit = c.requires } in
-    subst (λ n. n ≤ 256) (sym (ap length (c.as_slice-2.ensures ∙ ap (λ p. p.made) c.in_ok-progress.ensures))) (few_made c.args.state.now holds)
+    subst (λ n. n ≤ 256) (sym (ap length (c.as_slice-2.ensures ∙ ap (λ p. p.made) c.in_ok-progress.ensures))) (few_made c.args.weights.now c.args.state.now holds)
 
 pub returns : goal.returns
 returns c =
@@ -21,5 +21,5 @@ returns c =
     (λ e. ap (λ es. with_all s p.next c.offer_all.new.sides es) (e ∙ ap (λ os. s.outs.events ++ flat_map (news_of os) c.as_slice-frameworks.result.now) offers ∙ ap (λ fs. s.outs.events ++ flat_map (news_of p.made) fs) frameworks)
     ∙ ap (λ ss. with_all s p.next ss (s.outs.events ++ flat_map (news_of p.made) s.frameworks)) sides
     ∙ ap (λ q. with_all s q.next (offers_all q.made s.sides) (s.outs.events ++ flat_map (news_of q.made) s.frameworks)) c.in_ok-progress.ensures
-    ∙ allocated_so s holds)
+    ∙ allocated_so c.args.weights.now s holds)
     c.tell_all.ensures

@@ -11,5 +11,5 @@ returns c =
     let ss = c.args.sides.now in
     let start = c.args.shares.now in
     let entered = c.in_ok-enter_all.ensures ∙ entered_parts start es accounts c.parts.ensures.one ∙ ap (fold enters start) c.parts.ensures.joined in
-    let known = c.in_ok-know_all.ensures ∙ ap (λ t. fold knows t c.as_slice.result.now) entered ∙ ap (fold knows (fold enters start ss)) c.as_slice.ensures.items in
+    let known = c.in_ok-know_all.ensures ∙ ap (λ t. fold (knows c.args.weights.now) t c.as_slice.result.now) entered ∙ ap (fold (knows c.args.weights.now) (fold enters start ss)) c.as_slice.ensures.items in
     c.in_ok-give_all.ensures ∙ ap (fold holds c.know_all.new.shares) (given_parts es accounts c.parts.ensures.one ∙ ap gifts_of c.parts.ensures.joined) ∙ ap (λ t. fold holds t (gifts_of ss)) known

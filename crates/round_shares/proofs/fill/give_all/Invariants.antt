@@ -1,6 +1,5 @@
-use Rattle.std.proofs.Common.{◌≡◌, None, map, flat_map, take, drop, fold}
-use Rattle.cluster_model.specs.Sides.{unended}
-use Rattle.round_shares.specs.Gifts.{enters, gifts_on, holds, job_gift, knows, offer_gift}
+use Rattle.std.proofs.Common.{◌≡◌, flat_map, drop, fold}
+use Rattle.round_shares.specs.Gifts.{gifts_on, holds}
 use Rattle.round_shares.proofs.fill.give_all.Given as goal
 
 abbrev pub invariant-loop-account : goal.invariant-loop-account

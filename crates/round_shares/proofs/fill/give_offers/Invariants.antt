@@ -1,6 +1,5 @@
-use Rattle.std.proofs.Common.{◌≡◌, None, map, flat_map, take, drop, fold}
-use Rattle.cluster_model.specs.Sides.{unended}
-use Rattle.round_shares.specs.Gifts.{enters, gifts_on, holds, job_gift, knows, offer_gift}
+use Rattle.std.proofs.Common.{◌≡◌, map, drop, fold}
+use Rattle.round_shares.specs.Gifts.{holds, offer_gift}
 use Rattle.round_shares.proofs.fill.give_offers.Given as goal
 
 abbrev pub invariant-loop-offer : goal.invariant-loop-offer

@@ -1,6 +1,6 @@
-use Rattle.std.proofs.Common.{◌≡◌, None, map, flat_map, take, drop, fold}
+use Rattle.std.proofs.Common.{◌≡◌, map, drop, fold}
 use Rattle.cluster_model.specs.Sides.{unended}
-use Rattle.round_shares.specs.Gifts.{enters, gifts_on, holds, job_gift, knows, offer_gift}
+use Rattle.round_shares.specs.Gifts.{holds, job_gift}
 use Rattle.round_shares.proofs.fill.give_tasks.Given as goal
 
 abbrev pub invariant-loop-task : goal.invariant-loop-task

@@ -1,7 +1,5 @@
 use Rattle.std.proofs.Common.{ℕ, ◌==◌, ap, sym}
-use Rattle.serde_json.specs.View.{view, members_view}
 use Rattle.serde_json.proofs.Views.{members_len-members_view}
-use Rattle.step_lines.specs.Members.{counts}
 use Rattle.step_lines.proofs.members.has_members.Goals as goal
 
 pub returns-in-Some : goal.returns-in-Some

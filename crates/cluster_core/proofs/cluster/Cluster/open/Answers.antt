@@ -2,6 +2,7 @@ use Rattle.std.proofs.Common.{◌≡◌, ◌∙◌, List, ap, length, refl, subs
 use Rattle.agent_sides.specs.declared.config.ConfiguredAgent.{ConfiguredAgent}
 use Rattle.cluster_laws.specs.Premises.{AreRecorded}
 use Rattle.cluster_laws.specs.declared.item.Item.{Item}
+use Rattle.cluster_model.specs.Steps.{Setup}
 use Rattle.cluster_parts.specs.Opening.{Opens}
 use Rattle.mails.specs.declared.record.Durable.{Durable}
 use Rattle.cluster_core.specs.Putting.{ArePut}
@@ -14,9 +15,10 @@ invariant_of-result g c =
     let opened = c.in_ok-opened.opened in
     let ways = g.P.Post.direction_at (g.P.Post.known c.put_all.new.post) in
     let recorded : AreRecorded records = subst AreRecorded c.as_slice.ensures.value c.records_are_recorded.ensures in
-    let opens : Opens c.args.run records opened = subst (λ (rs : List Durable). Opens c.args.run rs opened) c.as_slice-2.ensures.value c.in_ok-opened.ensures.opens in
+    let setup : Setup = record { run = c.args.run; weights = c.args.weights } in
+    let opens : Opens setup records opened = subst (λ (rs : List Durable). Opens setup rs opened) c.as_slice-2.ensures.value (c.in_ok-opened.ensures.opens c.args.weights) in
     let count : g.P.Post.count (g.P.Post.known c.put_all.new.post) ≡ length opened.items = c.put_all.ensures.count ∙ ap length c.as_slice-3.ensures in
     let put : ArePut 0 c.args.config opened.items ways =
     subst (λ (items : List Item). ArePut 0 c.args.config items ways) c.as_slice-3.ensures
     (subst (λ (agents : List ConfiguredAgent). ArePut 0 agents c.as_slice-3.result.now ways) c.agents.ensures.agents c.put_all.ensures.put) in
-    opens_so c.args.run records c.new.result.items _ _ opened _ _ c.new.ensures.items c.put_in_order-records.ensures.good recorded opens c.put_in_order-records.ensures.configured refl refl refl refl refl refl refl count put
+    opens_so setup records c.new.result.items _ _ opened _ _ c.new.ensures.items c.put_in_order-records.ensures.good recorded opens c.put_in_order-records.ensures.configured refl refl refl refl refl refl refl count put

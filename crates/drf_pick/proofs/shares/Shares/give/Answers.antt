@@ -1,4 +1,4 @@
-use Rattle.std.proofs.Common.{◌≡◌, subst, sym, refl}
+use Rattle.std.proofs.Common.{subst, sym, refl}
 use Rattle.std.specs.List.{find}
 use Rattle.drf_pick.specs.Shares.{HoldersOnce, RolesOnce, holding, is_holder}
 use Rattle.drf_pick.proofs.Once.{once_changed}

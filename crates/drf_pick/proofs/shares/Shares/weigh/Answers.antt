@@ -1,0 +1,12 @@
+use Rattle.std.proofs.Common.{◌≡◌, subst, sym}
+use Rattle.drf_pick.specs.Shares.{RolesOnce, weighed_roles}
+use Rattle.drf_pick.proofs.OnceRoles.{weighed_once, with_once}
+use Rattle.drf_pick.proofs.shares.Shares.weigh.Goals as goal
+
+pub weigh_in-requires : goal.weigh_in-requires
+weigh_in-requires c = subst RolesOnce (sym c.in_ok-place.ensures.ok) (with_once c.args.role.now c.self.inside.roles.items c.self.invariant.0.1)
+
+pub invariant_of-self-2 : goal.invariant_of-self-2
+invariant_of-self-2 c =
+    let all : c.weigh_in.new.roles.items ≡ weighed_roles c.args.role.now c.args.weight c.self.inside.roles.items = rw c.in_ok-place.ensures.ok at c.weigh_in.ensures in
+    ((c.self.invariant.0.0, subst RolesOnce (sym all) (weighed_once c.args.role.now c.args.weight c.self.inside.roles.items c.self.invariant.0.1)), c.self.invariant.1)
