@@ -9,15 +9,17 @@ use Rattle.names_core.specs.declared.state.TaskState.TheVariants.{Staging, Runni
 use Rattle.names_core.specs.Ids.{Numbered, InRange, id_text}
 use Rattle.names_core.specs.States.{state_text, state_of}
 use Rattle.names_core.proofs.IdTexts.{id_again}
+use Rattle.quantity.specs.declared.rows.Row.{Row}
+use Rattle.quantity.specs.Rows.{AreRows}
 use Rattle.mails.specs.declared.record.Durable.{Durable}
 use Rattle.mails.specs.declared.record.RecordedTask.{RecordedTask}
-use Rattle.record_text.specs.Texts.{task_data, record_data, record_form}
+use Rattle.record_text.specs.Texts.{amounts, row_members, task_data, task_form, total_form, record_data, record_form}
 use Rattle.record_text.specs.Written.{IsTask, IsDurable, IsWritten}
-use Rattle.record_text.specs.Reading.{◌>>=◌, offer_of, update_of, offers_in, updates_in, task_of, tasks_in, parts_of, record_in}
+use Rattle.record_text.specs.Reading.{◌>>=◌, offer_of, update_of, offers_in, updates_in, task_of, tasks_in, parts_of, record_in, task_in, total_in}
 use Rattle.record_text.proofs.Compact.{read_compact}
 use Rattle.record_text.proofs.Rows.{rows_again}
 use Rattle.record_text.proofs.Each.{each_again, values_of_items}
-use Rattle.record_text.proofs.Data.{few_updates, record_plain, record_depth}
+use Rattle.record_text.proofs.Data.{few_updates, record_plain, record_depth, task_plain, task_depth, plain_amounts, rows_depth}
 
 state_again : (s : TaskState) → state_of (state_text s) ≡ Some s
 unfolding state_of state_text
@@ -74,3 +76,19 @@ some_is o x y p q = cc
 
 pub one_record : (d e : Durable) → IsDurable d → IsDurable e → record_form d ≡ record_form e → d ≡ e
 one_record d e p q same = some_is (read (record_form d) >>= parts_of) d e (read_again d (record_form d) p refl) (read_again e (record_form d) q same)
+
+-- the written form of a task is read as that task
+pub task_form_again : (t : RecordedTask) → IsTask t → task_in (task_form t) ≡ Some t
+unfolding task_in
+task_form_again t is =
+    let whole = read_compact (task_data t) (task_plain t is) (omega (arith, task_depth t)) in
+    let same : bytes_eq (task_form t) (task_form t) ≡ true = (bytes_eq-Decides (task_form t) (task_form t)).1 refl in
+    rw (whole, task_again t is, same) refl
+
+-- the written form of a total is read as that total
+pub total_form_again : (rows : List Row) → AreRows rows → total_in (total_form rows) ≡ Some rows
+unfolding total_in
+total_form_again rows are =
+    let whole = read_compact (amounts rows) (plain_amounts rows are) (omega (arith, rows_depth rows)) in
+    let same : bytes_eq (total_form rows) (total_form rows) ≡ true = (bytes_eq-Decides (total_form rows) (total_form rows)).1 refl in
+    rw (whole, rows_again [] rows are, same) refl

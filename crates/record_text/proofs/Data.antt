@@ -29,10 +29,10 @@ all_texts : {A : Type 0} (f : A → List ℕ) (xs : List A) → AllByRecursion (
 all_texts f [] = tt
 all_texts f (x ∷ xs) = (tt, all_texts f xs)
 
-plain_amounts : (rows : List Row) → AreRows rows → IsPlain (amounts rows)
+pub plain_amounts : (rows : List Row) → AreRows rows → IsPlain (amounts rows)
 plain_amounts rows are = (plain_rows rows are.each, puts_rows [] rows are.ordered)
 
-rows_depth : (rows : List Row) → members_depth (row_members rows) ≡ 0
+pub rows_depth : (rows : List Row) → members_depth (row_members rows) ≡ 0
 rows_depth [] = refl
 rows_depth (r ∷ rows) = omega (arith, rows_depth rows)
 
@@ -57,7 +57,7 @@ task_plain t is =
     let updates = plain_list (λ state. string (state_text state)) t.updates.states (all_texts state_text t.updates.states) in
     ((omega (arith, acked), (tt, (tt, (tt, (offers, (plain_amounts t.job.resources is.resources, (updates, tt))))))), refl)
 
-task_depth : (t : RecordedTask) → depth (task_data t) ≤ 2
+pub task_depth : (t : RecordedTask) → depth (task_data t) ≤ 2
 unfolding task_data
 task_depth t =
     let offers = shallow_list 0 (λ offer. string (id_text 79 offer)) (λ x. omega arith) t.offers in

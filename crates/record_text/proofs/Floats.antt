@@ -14,11 +14,11 @@ none_of : {X : Type 0} (f : X → Data) → ((x : X) → has_float (f x) ≡ fal
 none_of f h [] = refl
 none_of f h (x ∷ xs) = rw (h x) (none_of f h xs)
 
-rows : (rs : List Row) → members_have_float (row_members rs) ≡ false
+pub rows : (rs : List Row) → members_have_float (row_members rs) ≡ false
 rows [] = refl
 rows (r ∷ rs) = rows rs
 
-task : (t : RecordedTask) → has_float (task_data t) ≡ false
+pub task : (t : RecordedTask) → has_float (task_data t) ≡ false
 unfolding task_data
 task t = rw (none_of (λ offer. string (id_text 79 offer)) (λ x. refl) t.offers, rows t.job.resources, none_of (λ state. string (state_text state)) (λ x. refl) t.updates.states) refl
 

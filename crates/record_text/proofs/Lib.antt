@@ -5,3 +5,4 @@ pub mod Data
 pub mod Floats
 pub mod Puts
 pub mod Again
+pub mod Utf8

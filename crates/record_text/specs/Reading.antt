@@ -1,4 +1,4 @@
--- Reading a record, for private clauses: what each function gives.
+-- Reading a record and its parts: what each function gives.
 use Rattle.std.specs.Prelude.{◌≡◌, ℕ, ◌^◌, Bool, List, [], ◌∷◌, ◌++◌, codes, bytes_eq, nat_lt, Option, None, Some, Result, Ok, Err, if◌then◌else◌}
 use Rattle.std.specs.Result.{result_ok}
 use Rattle.serde_json.specs.Data.{Data, Items, no_items, item, Members, no_members, member}
@@ -13,7 +13,7 @@ use Rattle.quantity.specs.Rows.{added}
 use Rattle.stream_core.specs.Updates.{Updates, are_updates}
 use Rattle.mails.specs.declared.record.Durable.{Durable}
 use Rattle.mails.specs.declared.record.RecordedTask.{RecordedTask}
-use Rattle.record_text.specs.Texts.{record_form}
+use Rattle.record_text.specs.Texts.{record_form, task_form, total_form}
 use Rattle.record_text.specs.declared.fault.RecordFault.{RecordFault}
 use Rattle.record_text.specs.declared.fault.RecordFault.TheVariants.{Damaged, OutOfMemory}
 
@@ -135,3 +135,20 @@ record_in text = do
   value ← read text
   found ← parts_of value
   where_true (bytes_eq (record_form found) text) found
+
+-- the task of a text that is its written form
+unfoldable pub task_in : List ℕ → Option RecordedTask
+task_in text = do
+  value ← read text
+  found ← task_of value
+  where_true (bytes_eq (task_form found) text) found
+
+abbrev pub total_of : Data → Option (List Row)
+total_of d = as_object d >>= rows_in []
+
+-- the total of a text that is its written form
+unfoldable pub total_in : List ℕ → Option (List Row)
+total_in text = do
+  value ← read text
+  found ← total_of value
+  where_true (bytes_eq (total_form found) text) found

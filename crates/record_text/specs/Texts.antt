@@ -59,3 +59,11 @@ versioned ms = object (put (codes "version") (whole 1) ms)
 -- the written form of a record
 abbrev pub record_form : Durable → List ℕ
 record_form d = compact_text (record_data d)
+
+-- the written form of a task
+abbrev pub task_form : RecordedTask → List ℕ
+task_form t = compact_text (task_data t)
+
+-- the written form of a total
+abbrev pub total_form : List Row → List ℕ
+total_form rows = compact_text (amounts rows)

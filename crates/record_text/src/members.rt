@@ -75,7 +75,7 @@ fn add(
     }
 }
 
-fn all_of(alloc: Global, members: &Map<String, Value>) -> Result<Resources, RecordFault>
+pub fn all_of(alloc: Global, members: &Map<String, Value>) -> Result<Resources, RecordFault>
     ensures { Gives (λ r. r) result (rows_in [] (members_view members.now.entries)) }
 {
     let mut resources = Resources::new(alloc);

@@ -39,7 +39,7 @@ fn parts_of(alloc: Global, value: &Value) -> Result<Durable, RecordFault>
     })
 }
 
-fn value_of(alloc: Global, text: &str) -> Result<Value, RecordFault>
+pub fn value_of(alloc: Global, text: &str) -> Result<Value, RecordFault>
     ensures { Gives view result (read text.now) }
 {
     match Value::from_str(alloc, text) {

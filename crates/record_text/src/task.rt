@@ -38,7 +38,7 @@ fn key_in(value: &Value) -> Result<LaunchKey, RecordFault>
 }
 
 #[tactic(auto, unfolding(crate::specs::Reading::task_of))]
-fn task_of(alloc: Global, value: &Value) -> Result<RecordedTask, RecordFault>
+pub fn task_of(alloc: Global, value: &Value) -> Result<RecordedTask, RecordFault>
     ensures { Gives (λ t. t) result (task_of (view value.now)) }
 {
     let framework = framework_in(value)?;

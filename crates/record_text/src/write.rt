@@ -29,7 +29,7 @@ fn members_of(alloc: Global, rows: &[Row]) -> Result<Map<String, Value>, AllocEr
 }
 
 /// Amounts as an object: each under its resource's name.
-fn amounts_value(alloc: Global, resources: &Resources) -> Result<Value, AllocError>
+pub fn amounts_value(alloc: Global, resources: &Resources) -> Result<Value, AllocError>
     ensures value { IfOk result (λ v. view v ≡ amounts resources.now) }
     ensures ordered { AreRows resources.now }
 {
@@ -119,7 +119,7 @@ fn put_task(
     put(members, alloc, "updates", updates)
 }
 
-fn task_value(alloc: Global, task: &RecordedTask) -> Result<Value, AllocError>
+pub fn task_value(alloc: Global, task: &RecordedTask) -> Result<Value, AllocError>
     ensures value { IfOk result (λ v. view v ≡ task_data task.now) }
     ensures is_task { IfOk result (λ _. IsTask task.now) }
 {
