@@ -1,7 +1,7 @@
 #!/usr/bin/env python3
 """Served clusters whose stores fail: a read, a write, a change of length or a flush of a file, once or for good, each in its turn: tests/failing_calls/stores.py [COUNT [SEED]]
 
-At the start, over an empty folder and over one with a record, each such call fails for good, and one in three once: the server ends with K1 and status 3, or serves. Then another one is started on
+At the start, over an empty folder, one with a record, and one whose record stands as one text, which a start moves, each such call fails for good, and one in three once: the server ends with K1 and status 3, or serves. Then another one is started on
 the folder: its run is above each that was told, and where there was a record it is still there, so that another total is refused with Z1. And in the middle: of the
 calls from a task's ACCEPT to its end COUNT (12) fail, spread over all, once and for good; SEED (1) moves them. The task is told to run and to have finished, once
 each, or it is told lost and nothing else; then all that the agent owns is offered. A server whose store fails for good ends with K1, and one that is started again
@@ -17,9 +17,15 @@ import tempfile
 from failing import SECONDS, Control
 from task import AT_ONCE, OWNS, run
 from cluster import PROGRAM, Folder, Server, check, free_port, run_serve
-from store_files import RECORD_KEPT, made, run_kept
+from store_files import FIRST_KEPT, FIRST_TABLES, RECORD_KEPT, TABLES, made, run_kept
 
 FAULT = "K1 Store "
+# What a folder has at a start: the statements of the agent's store, and of the master's.
+FOLDERS = {
+    "an empty folder": None,
+    "a record": (RECORD_KEPT, run_kept(1, TABLES)),
+    "a record of one text": (FIRST_KEPT, run_kept(1, FIRST_TABLES)),
+}
 
 
 def words(folder, port):
@@ -55,26 +61,26 @@ def next_run(folder, last):
     return given
 
 
-def try_start(has_record, control, number, rest):
+def try_start(kept, control, number, rest):
     """What comes of a start whose call of this number fails, once or for good. None where no such call is made."""
     with Folder({"a1": OWNS}) as folder:
-        if has_record:
-            made(f"{folder.state}/agent-a1.db", RECORD_KEPT)
-            made(f"{folder.state}/master.db", run_kept(1))
+        if kept:
+            made(f"{folder.state}/agent-a1.db", kept[0])
+            made(f"{folder.state}/master.db", kept[1])
         control.arm(Control.FILES, number, rest=rest, scope=Control.ALL)
         run_told = start(folder, control)
         _, failed = control.disarm()
-        if has_record:
+        if kept:
             check_record(folder)
-        next_run(folder, run_told or int(has_record))
+        next_run(folder, run_told or int(kept is not None))
     return ("served" if run_told else "K1") if failed else None
 
 
-def try_starts(work, has_record, rest):
+def try_starts(work, name, rest):
     """Calls at the start fail in turn, each for good, and one in three once, until a start has no such call."""
-    control, tally = Control(work, f"control-{has_record}-{rest}"), collections.Counter()
+    control, tally = Control(work, f"control-{name.replace(' ', '_')}-{rest}"), collections.Counter()
     for number in range(1, 1000, 1 if rest else 3):
-        came = try_start(has_record, control, number, rest)
+        came = try_start(FOLDERS[name], control, number, rest)
         if came is None:
             return tally
         tally[came] += 1
@@ -100,10 +106,10 @@ def main():
         ample = run(work, "control", Control.FILES, 0)
         check(ample.stands and ample.ways == ["the task ran"], f"with a store that doesn't fail: {ample.ways}")
         numbers = sorted({1 + int((i + offset) * ample.count / count) for i in range(count)})
-        starts = {(has_record, rest): pool.submit(try_starts, work, has_record, rest) for has_record in (False, True) for rest in (False, True)}
-        for (has_record, rest), tally in starts.items():
+        starts = {(name, rest): pool.submit(try_starts, work, name, rest) for name in FOLDERS for rest in (False, True)}
+        for (name, rest), tally in starts.items():
             told = ", ".join(f"{it} {n}" for it, n in sorted(tally.result().items()))
-            print(f"a start over {'a record' if has_record else 'an empty folder'}, a call failing {'for good' if rest else 'once'}: {told}")
+            print(f"a start over {name}, a call failing {'for good' if rest else 'once'}: {told}")
         for rest in (False, True):
             tally = collections.Counter(pool.map(lambda number: try_task(work, number, rest), numbers))
             told = "; ".join(f"{it} {n}" for it, n in sorted(tally.items()))

@@ -19,6 +19,7 @@ import time
 from contextlib import closing
 
 from cluster import Folder, Framework, Server, amounts, check
+from store_files import record_text
 
 AGENTS = {"a1": {"cpus": 4}, "a2": {"cpus": 3}}
 FRAMEWORKS = 3
@@ -101,8 +102,8 @@ def check_records(folder):
         for path in (it.path for it in os.scandir(copy) if it.name.startswith("agent-") and it.name.endswith(".db")):
             with closing(sqlite3.connect(path)) as it:
                 check(it.execute("PRAGMA integrity_check").fetchone() == ("ok",), f"{path} is sound")
-                bodies = it.execute("SELECT body FROM agent_record").fetchall()
-            for record in (json.loads(body) for (body,) in bodies):
+                text = record_text(it)
+            for record in [json.loads(text)] if text else []:
                 live = [task for task in record["tasks"] if "TASK_FINISHED" not in task["updates"]]
                 check(sum(task["resources"]["cpus"] for task in live) <= record["total"]["cpus"], f"{record['name']} has more live than it owns: {live}")
                 names = [task["name"] for task in record["tasks"]]

@@ -6,6 +6,7 @@ import sqlite3
 from contextlib import closing
 
 from cluster import Folder, Framework, Server, amounts, check, check_finished, note, states
+from store_files import record_text
 
 # Six tasks of one cpu each on seven cpus, so that one cpu is free while all run.
 AGENTS = {"a1": {"cpus": 4}, "a2": {"cpus": 3}}
@@ -62,15 +63,10 @@ def recorded(folder):
     for path in sorted(glob.glob(f"{folder.state}/agent-*.db")):
         with closing(sqlite3.connect(path)) as it:
             check(it.execute("PRAGMA integrity_check").fetchone() == ("ok",), f"{path} is sound")
-            names = [name for (name,) in it.execute("SELECT name FROM sqlite_master WHERE type = 'table'")]
-            for name in names:
-                for row in it.execute(f"SELECT * FROM {name}"):
-                    for value in row:
-                        if isinstance(value, str) and value.startswith("{"):
-                            record = json.loads(value)
-                            for task in record["tasks"]:
-                                check(task["name"] not in tasks, f"{task['name']} stands in one record")
-                                tasks[task["name"]] = record["name"]
+            record = json.loads(record_text(it))
+            for task in record["tasks"]:
+                check(task["name"] not in tasks, f"{task['name']} stands in one record")
+                tasks[task["name"]] = record["name"]
     return tasks
 
 

@@ -1,14 +1,21 @@
 #!/usr/bin/env python3
-"""Records in files that SQLite wrote, cut, overwritten or of another program: a good one is opened again, each other one is refused, and stays as it is."""
+"""Records in files that SQLite wrote, cut, overwritten or of another program: a good one is opened again, each other one is refused, and stays as it is.
+
+A record stands in rows, a head's and each task's, or as one text, as stores had it before: such a one is opened as well, and its first save moves it.
+"""
 import json
 import os
 import sqlite3
 from contextlib import closing
 
 from cluster import TOLD, Folder, Framework, Server, check, run_serve, tell
-from store_files import RECORD, RECORD_KEPT, made, run_kept
+from store_files import (
+    FIRST_KEPT, FIRST_TABLES, HEAD_KEPT, RECORD, RECORD_KEPT, TABLES, TASK, TASK_KEPT, made, record_text, run_kept, task_text,
+)
 
 AGENTS = {"a1": {"cpus": 2}}
+# What a task holds it holds while the script runs.
+PACE = ("--task-seconds", "1000")
 
 
 class Stores:
@@ -28,29 +35,35 @@ class Stores:
         self.clear()
         return made(path, statements)
 
-    def lay(self, data, last=1):
+    def lay(self, data, last=1, tables=TABLES):
         """Puts these bytes as the agent's store beside the master's, in which this run was given out last."""
-        master = self.make(self.master, run_kept(last))
+        master = self.make(self.master, run_kept(last, tables))
         self.clear()
         for path, it in ((self.master, master), (self.agent, data)):
             with open(path, "wb") as file:
                 file.write(it)
 
+    def rows(self, query):
+        """What SQLite reads of the agent's store, with texts as bytes."""
+        with closing(sqlite3.connect(self.agent)) as agent:
+            agent.text_factory = bytes
+            return agent.execute(query).fetchall()
+
     def kept(self):
         """The session and the run of the agent's record, and the last run that was given out."""
         with closing(sqlite3.connect(self.agent)) as agent, closing(sqlite3.connect(self.master)) as master:
-            ((record,),) = agent.execute("SELECT body FROM agent_record").fetchall()
+            record = json.loads(record_text(agent))
             ((last,),) = master.execute("SELECT last FROM run_number").fetchall()
-        record = json.loads(record)
         return record["session"], record["run"], last
 
-    def serve(self, case, run, session):
-        """A master of this run is served over the stores, and the agent opens this session with it."""
-        with Server(self.folder) as server:
+    def serve(self, case, run, session, free):
+        """A master of this run is served over the stores, the agent opens this session with it, and this is offered of it."""
+        with Server(self.folder, *PACE) as server:
             check(server.said.startswith(f"run {run} serves at "), f"{case}: run {run} serves: {server.said}")
-            check(Framework(server.port).next_offer({"cpus": 2}), f"{case}: a1 is offered")
+            check(Framework(server.port).next_offer(free), f"{case}: a1 is offered")
             server.kill()
         check(self.kept() == (session, run, run), f"{case}: session, run and last run are kept: {self.kept()}")
+        check(self.rows("SELECT count(*) FROM agent_record") == [(0,)], f"{case}: no record stands as one text")
 
     def refuse(self, case, data, code):
         """These bytes are refused, and stay as they are."""
@@ -58,6 +71,15 @@ class Stores:
         tell(case, run_serve(self.folder), 3, code)
         with open(self.agent, "rb") as it:
             check(it.read() == data, f"{case}: the file is as it was, byte by byte")
+
+    def refuse_text(self, case, data):
+        """A record that stands as one text is refused, and stays as it is: the store has two tables more, which are empty."""
+        self.lay(data)
+        before = self.rows("SELECT * FROM agent_record")
+        tell(case, run_serve(self.folder), 3, "K2 Damaged: ")
+        check(self.rows("SELECT * FROM agent_record") == before, f"{case}: the text is as it was")
+        for table in ("agent_head", "agent_task"):
+            check(self.rows(f"SELECT count(*) FROM {table}") == [(0,)], f"{case}: {table} is empty")
 
 
 def overwritten(data, at, others):
@@ -67,21 +89,49 @@ def overwritten(data, at, others):
 def try_good(stores, whole):
     """A record that SQLite wrote is opened over, and so is what is made of it: an agent's session and the master's run are counted on."""
     stores.lay(whole)
-    stores.serve("a record", run=2, session=6)
-    stores.serve("a record that was saved", run=3, session=7)
+    stores.serve("a record", run=2, session=6, free={"cpus": 1})
+    stores.serve("a record that was saved", run=3, session=7, free={"cpus": 1})
+    check(stores.rows("SELECT run, n, body FROM agent_task") == [(1, 1, TASK.encode())], "the task's row is as it was")
+
+
+def try_first(stores):
+    """A record that stands as one text is opened over, and moved: it stands in rows then, whose task is the one that stood in the text."""
+    stores.lay(stores.make(stores.agent, FIRST_KEPT), tables=FIRST_TABLES)
+    stores.serve("a record of one text", run=2, session=6, free={"cpus": 1})
+    check(stores.rows("SELECT run, n, body FROM agent_task") == [(1, 1, TASK.encode())], "the task's row has what the text had")
+    head = stores.rows("SELECT * FROM agent_head")
+    check(head == [(1, b"a1", 2, 6, b'{"cpus":2}', 1)], f"the head's row is that of session 6: {head}")
+    stores.serve("a record that was moved", run=3, session=7, free={"cpus": 1})
+
+
+def try_launched(stores, folder):
+    """An agent recorded a task of which nothing was told yet: all but what the task holds is offered, from a store of each form."""
+    folder.write({"agents": {"a1": {"cpus": 4, "mem": 4096}}})
+    body = task_text(1, "t1", {"cpus": 2, "mem": 1024}, [])
+    total = '{"cpus":4,"mem":4096}'
+    text = f'{{"name":"a1","run":1,"session":1,"tasks":[{body}],"total":{total},"version":1}}'
+    rows = f"INSERT INTO agent_head VALUES (1, 'a1', 1, 1, '{total}', 1); INSERT INTO agent_task VALUES (1, 1, '{body}');"
+    for case, statements in (
+        ("one text", f"{FIRST_TABLES} INSERT INTO agent_record VALUES (1, '{text}');"),
+        ("rows", f"{TABLES} {rows}"),
+    ):
+        stores.lay(stores.make(stores.agent, statements))
+        stores.serve(f"a task in {case}", run=2, session=2, free={"cpus": 2, "mem": 3072})
+    folder.write({"agents": AGENTS})
 
 
 def try_new(stores):
     """A file that isn't there is made, and one of no bytes is as new, so a record that is gone with its whole file isn't missed."""
+    whole = {"cpus": 2}
     stores.clear()
-    stores.serve("no file", run=1, session=1)
+    stores.serve("no file", run=1, session=1, free=whole)
     stores.lay(b"")
-    stores.serve("an agent's file of no bytes", run=2, session=1)
-    stores.serve("a record in it", run=3, session=2)
+    stores.serve("an agent's file of no bytes", run=2, session=1, free=whole)
+    stores.serve("a record in it", run=3, session=2, free=whole)
     stores.clear()
     with open(stores.master, "wb"), open(stores.agent, "wb"):
         pass
-    stores.serve("two files of no bytes", run=1, session=1)
+    stores.serve("two files of no bytes", run=1, session=1, free=whole)
 
 
 def try_others(stores):
@@ -89,6 +139,9 @@ def try_others(stores):
     stores.refuse("other tables", stores.make(stores.agent, "CREATE TABLE note (id INTEGER PRIMARY KEY, words TEXT);"), "K2 Damaged: ")
     loose = "CREATE TABLE agent_record (id INTEGER PRIMARY KEY, body TEXT); CREATE TABLE run_number (id INTEGER PRIMARY KEY, last INTEGER);"
     stores.refuse("tables without their limits", stores.make(stores.agent, loose), "K2 Damaged: ")
+    three = FIRST_TABLES + "CREATE TABLE agent_task(run INTEGER NOT NULL, n INTEGER NOT NULL, body TEXT NOT NULL, PRIMARY KEY (run, n));"
+    stores.refuse("three tables of the four", stores.make(stores.agent, three), "K2 Damaged: ")
+    stores.refuse("a table more", stores.make(stores.agent, f"{TABLES} CREATE TABLE note (id INTEGER PRIMARY KEY);"), "K2 Damaged: ")
 
 
 def try_cuts(stores, whole, page):
@@ -102,25 +155,50 @@ def try_overwritten(stores, whole, page):
     for at in (0, 16, 21, 100):
         stores.refuse(f"byte {at} overwritten", overwritten(whole, at, b"\x03"), "K1 Store ")
     stores.refuse("no header", overwritten(whole, 0, bytes(100)), "K1 Store ")
-    text = whole.index(RECORD.encode())
-    start = text - text % page
-    # No page is of the kind 3.
-    stores.refuse("a page of no kind", overwritten(whole, start, b"\x03"), "K1 Store ")
-    stores.refuse("a page of zeros", overwritten(whole, start, bytes(page)), "K1 Store ")
-    stores.refuse("a list for a record", overwritten(whole, text, b"["), "K2 Damaged: ")
-    stores.refuse("a record that isn't UTF-8", overwritten(whole, text, b"\xff\xff"), "K2 Damaged: ")
+    for table, words in (("head", b'{"cpus":2}'), ("task", TASK.encode())):
+        text = whole.index(words)
+        start = text - text % page
+        # No page is of the kind 3.
+        stores.refuse(f"a {table}'s page of no kind", overwritten(whole, start, b"\x03"), "K1 Store ")
+        stores.refuse(f"a {table}'s page of zeros", overwritten(whole, start, bytes(page)), "K1 Store ")
+        stores.refuse(f"a list in the {table}", overwritten(whole, text, b"["), "K2 Damaged: ")
+        stores.refuse(f"a {table} that isn't UTF-8", overwritten(whole, text, b"\xff\xff"), "K2 Damaged: ")
 
 
-def try_bodies(stores):
-    """A record is written in one form, and has no session where its agent had no run."""
+def try_texts(stores):
+    """A record of one text is written in one form, and has no session where its agent had no run."""
     for case, text in (
         ("a record with a blank", RECORD.replace('"name":', '"name": ')),
         ("a session of run 0", RECORD.replace('"run":1', '"run":0')),
         ("a record of another version", RECORD.replace('"version":1', '"version":2')),
         ("a record without its end", RECORD[:-1]),
+        ("a list for a record", f"[{RECORD[1:]}"),
     ):
         check(text != RECORD, f"{case} is another")
-        stores.refuse(case, stores.make(stores.agent, RECORD_KEPT.replace(RECORD, text)), "K2 Damaged: ")
+        stores.refuse_text(case, stores.make(stores.agent, FIRST_KEPT.replace(RECORD, text)))
+
+
+def try_rows(stores):
+    """A record stands in one form; the head's row has its written total, and a task's row the written form of the task of its key."""
+    text = f"INSERT INTO agent_record VALUES (1, '{RECORD}');"
+    for case, statements in (
+        ("rows of both forms", RECORD_KEPT + text),
+        ("tasks without a head", TABLES + TASK_KEPT),
+        ("a text beside tasks", TABLES + TASK_KEPT + text),
+        ("a body of another key", RECORD_KEPT.replace("agent_task VALUES (1, 1,", "agent_task VALUES (1, 2,")),
+        ("a body of another run", RECORD_KEPT.replace("agent_task VALUES (1, 1,", "agent_task VALUES (2, 1,")),
+        ("a key past 32 bits", RECORD_KEPT.replace("agent_task VALUES (1, 1,", "agent_task VALUES (1, 4294967297,")),
+        ("a body with a blank", RECORD_KEPT.replace('"name":"t1"', '"name": "t1"')),
+        ("a body that is no text", TABLES + HEAD_KEPT + f"INSERT INTO agent_task VALUES (1, 1, CAST('{TASK}' AS BLOB));"),
+        ("a task that is settled", RECORD_KEPT.replace('["TASK_RUNNING"]', '["TASK_FINISHED"]')),
+        ("tasks that hold more than there is", RECORD_KEPT.replace('"resources":{"cpus":1}', '"resources":{"cpus":3}')),
+        ("a head of another version", RECORD_KEPT.replace("""'{"cpus":2}', 1)""", """'{"cpus":2}', 2)""")),
+        ("a total with a blank", RECORD_KEPT.replace('{"cpus":2}', '{"cpus": 2}')),
+        ("a session past 32 bits", RECORD_KEPT.replace("'a1', 1, 5,", "'a1', 1, 4294967296,")),
+        ("a session of run 0 in rows", RECORD_KEPT.replace("'a1', 1, 5,", "'a1', 0, 5,")),
+    ):
+        check(statements != RECORD_KEPT, f"{case} is another")
+        stores.refuse(case, stores.make(stores.agent, statements), "K2 Damaged: ")
 
 
 def try_runs(stores, whole):
@@ -134,7 +212,7 @@ def try_runs(stores, whole):
         stores.lay(whole, last)
         tell(f"run {last} was given out", run_serve(stores.folder), status, code)
     stores.lay(whole, 65_534)
-    stores.serve("the last run", run=65_535, session=6)
+    stores.serve("the last run", run=65_535, session=6, free={"cpus": 1})
     tell("no run behind the last", run_serve(stores.folder), 3, "K3 RunsSpent: ")
 
 
@@ -144,13 +222,17 @@ def main():
         whole = stores.make(stores.agent, RECORD_KEPT)
         page = int.from_bytes(whole[16:18], "big")
         try_good(stores, whole)
+        try_first(stores)
+        try_launched(stores, folder)
         try_new(stores)
         try_others(stores)
-        try_bodies(stores)
+        try_texts(stores)
+        try_rows(stores)
         try_runs(stores, whole)
         try_cuts(stores, whole, page)
         try_overwritten(stores, whole, page)
-        print(f"a store that SQLite wrote is opened again, one that isn't there or has no bytes is new; {len(TOLD)} others are refused, and stay as they are")
+        print("a store that SQLite wrote is opened again, in rows or with its record as one text, which is moved; one that isn't there or has no bytes is new; "
+              f"{len(TOLD)} others are refused, and stay as they are")
 
 
 main()

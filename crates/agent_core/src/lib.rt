@@ -18,4 +18,4 @@ pub use cabinet::Cabinet;
 pub use draft::Draft;
 pub use fault::AgentFault;
 pub use mails::Durable;
-pub use record::Record;
+pub use record::{Record, keys_rise};

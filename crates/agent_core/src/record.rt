@@ -53,7 +53,8 @@ fn is_behind(last: Option<LaunchKey>, key: LaunchKey) -> bool
     }
 }
 
-fn keys_rise(tasks: &[RecordedTask]) -> bool
+/// Whether launch keys rise.
+pub fn keys_rise(tasks: &[RecordedTask]) -> bool
     ensures { result ≡ keys_rise tasks.now }
 {
     let mut last = None;

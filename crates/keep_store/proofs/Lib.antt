@@ -3,3 +3,12 @@ pub mod RowLemmas
 pub mod StepLemmas
 pub mod ReadLemmas
 pub mod OpenLemmas
+pub mod StoreLemmas
+pub mod QueryLemmas
+pub mod TaskLemmas
+pub mod ToldLemmas
+pub mod LoadLemmas
+pub mod SaveLemmas
+pub mod SeenLemmas
+pub mod MakeLemmas
+pub mod FoundLemmas

@@ -1,10 +1,8 @@
 -- What the queries show, and what a refusal leaves.
 use Rattle.std.proofs.Common.{◌≡◌, inl, inr, ℕ, List, [], ◌∷◌, length, map, false, Ok, Err, Result, IfOk, IfErr, OnOk, OnErr, refl, sym, ap, subst, ◌∙◌, arith}
 use Rattle.std.specs.List.Sorted.{IsPermutation}
-use Rattle.std.proofs.lemmas.List.Sorted.{length_permutation, IsPermutation-map}
-use Rattle.sqlite.specs.Order.{Row, column}
-use Rattle.sqlite.specs.Query.{Query, IsAnswer, Output, output, page, matches_as, end}
-use Rattle.std.specs.List.{flat_map}
+use Rattle.std.proofs.lemmas.List.Sorted.{length_permutation}
+use Rattle.sqlite.specs.Order.{Row}
 use Rattle.sqlite.specs.Program.{overlay}
 use Rattle.sqlite.specs.Tree.{Trees, rowid}
 use Rattle.sqlite.specs.Command.TheVariants.{Select}
@@ -14,36 +12,34 @@ use Rattle.sqlite.specs.declared.types.Value.TheVariants.{Null}
 use Rattle.std.specs.Prelude.{Vec, IsTrue}
 use Rattle.std.specs.declared.alloc.Global.{Global}
 use Rattle.sqlite.specs.Listing.{understood, reads_listing}
-use Rattle.sqlite.specs.State.{State, IsUnchanged, IsRolledBack, Fails, IsNotRun, shows_rows, ExecutesIn, Executes, FailsToQuery, FailsToShow, Shown, ShowsRows}
+use Rattle.sqlite.specs.State.{State, IsUnchanged, IsRolledBack, Fails, IsNotRun, shows_rows, ExecutesIn, Executes, FailsToQuery, FailsToShow, Shown, ShowsRows, KeepsCommit, IsTooLate}
+use Rattle.sqlite.specs.State.{HasCleanDisk, Survives}
+use Rattle.sqlite.proofs.StateLemmas.{survives_then}
 use Rattle.sqlite.proofs.Callers.{IsPlain, command_of, reads_as, one_permutation}
 use Rattle.std.proofs.lemmas.Bool.{cases_Bool}
-use Rattle.keep_store.specs.Tables.{keeper_schema, AreIds, IsLone, IsReady, Stays, values_of}
-use Rattle.keep_store.specs.Kept.{shown_body, shown_last, body_in, last_in}
-use Rattle.keep_store.proofs.TextLemmas.{query_of, ids_of_table}
+use Rattle.std.proofs.Common.{◌⊎◌, MatchResult}
+use Rattle.sqlite.specs.Effect.{Database}
+use Rattle.keep_store.specs.Tables.{keeper_schema, AreIds, HasNoRow, IsLone, IsReady, IsSame, IsWriting, Stays, WritesOn, values_of}
+use Rattle.keep_store.specs.Kept.{shown_body, shown_last, value_in, last_in, kept_in, nothing, task_shown}
+use Rattle.std.proofs.Common.{true, filter}
+use Rattle.sqlite.specs.Term.{Term}
+use Rattle.sqlite_value.specs.declared.keys.Key.{Key}
+use Rattle.keep_store.proofs.TextLemmas.{query_of, whole}
+use Rattle.keep_store.proofs.QueryLemmas.{answered, shows}
 
-empty : {X : Type 0} (xs : List X) → IsPermutation [] xs → xs ≡ []
-empty [] h = refl
-empty (x ∷ xs) h = absurd (omega (arith, length_permutation [] (x ∷ xs) h))
+all_pass : (rows : List Row) → filter (λ row. true) rows ≡ rows
+all_pass [] = refl
+all_pass (r ∷ rows) = ap (λ all. r ∷ all) (all_pass rows)
 
-pub answered : (tree : ℕ) (db : Trees) → overlay db [] tree ≡ db tree → IsLone (db tree) → (rows : List Row) → IsAnswer (query_of tree) (overlay db []) [] rows → rows ≡ values_of (db tree)
-answered tree db plain one rows a = go (db tree) refl one
+-- of at most one row there is one order
+pub in_order : (f : Row → Row) (held rows : List Row) → IsLone held → IsPermutation (map f held) rows → rows ≡ map f held
+in_order f [] rows one same = none rows (length_permutation [] rows same)
   where
-    q : Query
-    q = query_of tree
-
-    go : (held : List Row) → db tree ≡ held → IsLone held → rows ≡ values_of held
-    go [] is one =
-        let staged : a.staged ≡ [] = a.grouped ∙ rw (plain, is) refl in
-        let kept : a.kept ≡ [] = a.distinct ∙ ap (map (output q)) staged in
-        let ordered = empty a.ordered (subst (λ k. IsPermutation k a.ordered) kept a.same) in
-        a.shown ∙ ap (λ xs. page q [] (map (λ (p : Output). p.1) xs)) ordered
-    go (r ∷ []) is one =
-        let staged : a.staged ≡ ([] ∷ r ∷ []) ∷ [] = a.grouped ∙ rw (plain, is) refl in
-        let o : Output = ([], column r 2 ∷ []) in
-        let kept : a.kept ≡ o ∷ [] = a.distinct ∙ ap (map (output q)) staged in
-        let ordered = one_permutation o a.ordered (subst (λ k. IsPermutation k a.ordered) kept a.same) in
-        a.shown ∙ ap (λ xs. page q [] (map (λ (p : Output). p.1) xs)) ordered
-    go (r ∷ s ∷ more) is one = absurd one
+    none : (rows : List Row) → length rows ≡ 0 → rows ≡ []
+    none [] e = refl
+    none (r ∷ rows) e = absurd (omega (arith, e))
+in_order f (r ∷ []) rows one same = one_permutation (f r) rows same
+in_order f (r ∷ s ∷ more) rows one same = absurd one
 
 pub unchanged_stays : (old new : State) → IsReady old → IsUnchanged old new → Stays old new
 unchanged_stays old new ready h = record {
@@ -98,49 +94,77 @@ shown_stays old new sql params rows plain h =
     let none = (subst IsPlain h.1.is plain).0 in
     (subst (ShowsRows old new sql h.0 (timed params h.0.formats h.1.now) rows) none h.2).3
 
--- a query of one of the two tables
-module _ (sql : List ℕ) (tree : ℕ) (over : (db : Trees) → overlay db [] tree ≡ db tree) (names : List (List ℕ))
-    (is : (command_of (understood keeper_schema sql) ≡ Select (record { lets = []; body = query_of tree }) names) × (reads_listing keeper_schema sql ≡ false)) (plain : IsPlain (understood keeper_schema sql)) where
-  pub reads : (old new : State) (r : Result (Vec Row Global) Error) → IsReady old → IsLone (old.now.trees tree)
+-- a query of all rows of one table
+module _ (sql : List ℕ) (tree : ℕ) (project : List Term) (order : List (Term × Key)) (over : (db : Trees) → overlay db [] tree ≡ db tree) (names : List (List ℕ))
+    (is : (command_of (understood keeper_schema sql) ≡ Select (whole (record (query_of tree [] project) { order = order })) names) × (reads_listing keeper_schema sql ≡ false)) (plain : IsPlain (understood keeper_schema sql)) where
+  abbrev pub shows_row : Row → Row
+  shows_row = shows tree [] project order []
+
+  shown_rows : (old new : State) (rows : List Row) → old.now.schema ≡ keeper_schema → Shown sql [] old new rows → IsPermutation (map shows_row (old.now.trees tree)) rows × IsUnchanged old new
+  shown_rows old new rows has ok =
+      let got = reads_as sql [] old new keeper_schema has _ is.0 plain is.1 rows ok in
+      let same = answered tree [] project order [] old.now.trees rows (over old.now.trees) (got.answer Null) in
+      (subst (λ all. IsPermutation (map shows_row all) rows) (all_pass (old.now.trees tree)) same, shown_stays old new sql [] rows (subst (λ s. IsPlain (understood s sql)) (sym has) plain) ok)
+
+  pub reads : (old new : State) (r : Result (Vec Row Global) Error) → IsReady old
       → IfOk r (λ rows. Shown sql [] old new rows.items) → IfErr r (FailsToQuery sql [] old new)
-      → IfOk r (λ rows. rows.items ≡ values_of (old.now.trees tree)) × Stays old new × OnOk r (IsTrue new.is_open)
-  reads old new (Ok rows) ready one ok err =
-      let got = reads_as sql [] old new keeper_schema ready.ours.schema _ is.0 plain is.1 rows.items ok in
-      let same = shown_stays old new sql [] rows.items (subst (λ s. IsPlain (understood s sql)) (sym ready.ours.schema) plain) ok in
-      (answered tree old.now.trees (over old.now.trees) one rows.items (got.answer Null), unchanged_stays old new ready same, same.0.is_open)
-  reads old new (Err e) ready one ok err =
+      → IfOk r (λ rows. IsPermutation (map shows_row (old.now.trees tree)) rows.items) × Stays old new × OnOk r (IsTrue new.is_open)
+  reads old new (Ok rows) ready ok err =
+      let got = shown_rows old new rows.items ready.ours.schema ok in
+      (got.0, unchanged_stays old new ready got.1, got.1.0.is_open)
+  reads old new (Err e) ready ok err =
       (tt, query_stays old new sql [] e ready (subst (λ s. IsPlain (understood s sql)) (sym ready.ours.schema) plain) err, tt)
 
--- a query of the ids, over any rows
-module _ (sql : List ℕ) (tree : ℕ) (over : (db : Trees) → overlay db [] tree ≡ db tree) (names : List (List ℕ))
-    (is : (command_of (understood keeper_schema sql) ≡ Select (record { lets = []; body = ids_of_table tree }) names) × (reads_listing keeper_schema sql ≡ false)) (plain : IsPlain (understood keeper_schema sql)) where
-  staged_are : (db : List Row) → flat_map (λ (r : Row). matches_as Null (λ _. []) [] end ([] ∷ r ∷ [])) db ≡ map (λ r. [] ∷ r ∷ []) db
-  staged_are [] = refl
-  staged_are (r ∷ more) = ap (λ all. ([] ∷ r ∷ []) ∷ all) (staged_are more)
+  pub reads_lone : (old new : State) (r : Result (Vec Row Global) Error) → IsReady old → IsLone (old.now.trees tree) → IfOk r (λ rows. IsPermutation (map shows_row (old.now.trees tree)) rows.items)
+      → IfOk r (λ rows. rows.items ≡ map shows_row (old.now.trees tree))
+  reads_lone old new (Ok rows) ready one same = in_order shows_row (old.now.trees tree) rows.items one same
+  reads_lone old new (Err e) ready one same = tt
 
-  shows_ids : (db : List Row) → map (λ (p : Output). p.1) (map (output (ids_of_table tree)) (map (λ (r : Row). [] ∷ r ∷ []) db)) ≡ map (λ row. rowid row ∷ []) db
-  shows_ids [] = refl
-  shows_ids (r ∷ more) = ap (λ all. (rowid r ∷ []) ∷ all) (shows_ids more)
-
-  all_ids : (db : Trees) (rows : List Row) → IsAnswer (ids_of_table tree) (overlay db []) [] rows → AreIds rows (db tree)
-  all_ids db rows a =
-      let staged : a.staged ≡ map (λ r. [] ∷ r ∷ []) (db tree) = a.grouped ∙ (rw (over db) (staged_are (db tree))) in
-      let kept : a.kept ≡ map (output (ids_of_table tree)) (map (λ r. [] ∷ r ∷ []) (db tree)) = a.distinct ∙ ap (map (output (ids_of_table tree))) staged in
-      let mapped = IsPermutation-map (λ (p : Output). p.1) a.kept a.ordered a.same in
-      subst (IsPermutation (map (λ row. rowid row ∷ []) (db tree))) (sym a.shown) (subst (λ all. IsPermutation all (map (λ (p : Output). p.1) a.ordered)) (ap (map (λ (p : Output). p.1)) kept ∙ shows_ids (db tree)) mapped)
-
-  pub reads_ids : (old new : State) (rows : Vec Row Global) → old.now.schema ≡ keeper_schema → Shown sql [] old new rows.items → AreIds rows.items (old.now.trees tree) × IsUnchanged old new
-  reads_ids old new rows has ok =
-      let got = reads_as sql [] old new keeper_schema has _ is.0 plain is.1 rows.items ok in
-      (all_ids old.now.trees rows.items (got.answer Null), shown_stays old new sql [] rows.items (subst (λ s. IsPlain (understood s sql)) (sym has) plain) ok)
-
-  pub ids_if : (old new : State) (r : Result (Vec Row Global) Error) → old.now.schema ≡ keeper_schema → IfOk r (λ rows. Shown sql [] old new rows.items) → IfOk r (λ rows. AreIds rows.items (old.now.trees tree))
-  ids_if old new (Ok rows) has ok = (reads_ids old new rows has ok).0
-  ids_if old new (Err e) has ok = tt
+  pub rows_if : (old new : State) (r : Result (Vec Row Global) Error) → old.now.schema ≡ keeper_schema → IfOk r (λ rows. Shown sql [] old new rows.items) → IfOk r (λ rows. IsPermutation (map shows_row (old.now.trees tree)) rows.items)
+  rows_if old new (Ok rows) has ok = (shown_rows old new rows.items has ok).0
+  rows_if old new (Err e) has ok = tt
 
   pub unchanged_if : (old new : State) (r : Result (Vec Row Global) Error) → old.now.schema ≡ keeper_schema → IfOk r (λ rows. Shown sql [] old new rows.items) → OnOk r (IsUnchanged old new)
-  unchanged_if old new (Ok rows) has ok = (reads_ids old new rows has ok).1
+  unchanged_if old new (Ok rows) has ok = (shown_rows old new rows.items has ok).1
   unchanged_if old new (Err e) has ok = tt
+
+-- ---- in a transaction
+
+pub unchanged_keeps : (old new : State) → IsUnchanged old new → KeepsCommit old new
+unchanged_keeps old new same = record { was_open = λ _. same.0.was_open; committed = λ _. same.0.committed_is }
+
+rolled_keeps : (old new : State) → IsRolledBack old new → KeepsCommit old new
+rolled_keeps old new undone = record { was_open = undone.was_open; committed = λ up. (undone.undone up).1 }
+
+not_run_keeps : (old new : State) (sql : List ℕ) (params : Row) (e : Error) → IsNotRun old new sql params e → KeepsCommit old new
+unfolding IsNotRun
+not_run_keeps old new sql params e (inl h) = unchanged_keeps old new h.1
+not_run_keeps old new sql params e (inr h) = rolled_keeps old new h.3
+
+query_keeps : (old new : State) (sql : List ℕ) (params : Row) (e : Error) → IsPlain (understood old.now.schema sql) → FailsToQuery sql params old new e → KeepsCommit old new
+unfolding FailsToQuery
+query_keeps old new sql params e plain (inl h) = not_run_keeps old new sql params e h
+query_keeps old new sql params e plain (inr h) =
+    let none = (subst IsPlain h.1.is plain).0 in
+    let it = subst (FailsToShow old new sql h.0 (timed params h.0.formats h.1.now) e) none h.2 in
+    unchanged_keeps old new it.3
+
+late_keeps : (old new : State) (sql : List ℕ) (params : Row) (e : Error) → IsTooLate sql params old new e → KeepsCommit old new
+late_keeps old new sql params e h = unchanged_keeps old new h.5
+
+module _ (sql : List ℕ) (tree : ℕ) (project : List Term) (order : List (Term × Key)) (over : (db : Trees) → overlay db [] tree ≡ db tree) (names : List (List ℕ))
+    (is : (command_of (understood keeper_schema sql) ≡ Select (whole (record (query_of tree [] project) { order = order })) names) × (reads_listing keeper_schema sql ≡ false)) (plain : IsPlain (understood keeper_schema sql)) where
+  pub asks : (old new : State) (r : Result (Vec Row Global) Error) → IsWriting old → IfOk r (λ rows. Shown sql [] old new rows.items) → IfErr r (λ e. FailsToQuery sql [] old new e ⊎ IsTooLate sql [] old new e)
+      → MatchResult r (λ _. WritesOn IsSame old new) (λ _. KeepsCommit old new)
+  asks old new (Ok rows) writing ok err =
+      let same = unchanged_if sql tree project order over names is plain old new (Ok rows) writing.schema ok in
+      record {
+        writing = record { is_open = same.0.is_open; schema = ap (λ (d : Database). d.schema) same.0.now_is ∙ writing.schema; mode = same.0.mode ∙ writing.mode };
+        committed = same.0.committed_is;
+        changes = ap (λ (d : Database). d.trees) same.0.now_is;
+      }
+  asks old new (Err e) writing ok (inl h) = query_keeps old new sql [] e (subst (λ s. IsPlain (understood s sql)) (sym writing.schema) plain) h
+  asks old new (Err e) writing ok (inr h) = late_keeps old new sql [] e h
 
 pub lone_shown : (held rows : List Row) → AreIds rows held → IsLone rows → IsLone held
 lone_shown [] rows same one = tt
@@ -155,10 +179,54 @@ none_shown [] rows same none = refl
 none_shown (r ∷ more) rows same none = absurd (omega (arith, none, length_permutation _ _ same))
 
 -- what the shown rows say is what the table's rows say
-pub body_shown : (held : List Row) → shown_body (values_of held) ≡ body_in held
+pub body_shown : (held : List Row) → shown_body (values_of held) ≡ value_in held
 body_shown [] = refl
 body_shown (row ∷ more) = refl
 
 pub last_shown : (held : List Row) → shown_last (values_of held) ≡ last_in held
 last_shown [] = refl
 last_shown (row ∷ more) = refl
+
+-- where no task is shown, there is none
+pub no_task_shown : (held rows : List Row) → IsPermutation (map task_shown held) rows → length rows ≡ 0 → held ≡ []
+no_task_shown [] rows same none = refl
+no_task_shown (r ∷ more) rows same none = absurd (omega (arith, none, length_permutation _ _ same))
+
+pub nothing_kept : (db : Trees) → HasNoRow db → db 3 ≡ [] → kept_in db ≡ nothing
+nothing_kept db none no_task = rw (none.records, none.runs, none.heads, no_task) refl
+
+-- a query behind calls that committed nothing commits nothing
+pub then_quiet : (a b c : State) → (HasCleanDisk b → IsReady b) → Survives a b (λ _. ⊥) → Survives b c (λ _. IsReady b → ⊥) → Survives a c (λ _. ⊥)
+then_quiet a b c ready one two = survives_then a b c _ _ _ (λ _ db none. none) (λ clean db none. none (ready (omega (arith, two.clean)))) one two
+
+-- what the ids of three tables tell
+module _ (old s1 s2 s3 : State) (records runs heads : List Row) (one : IsUnchanged old s1) (two : IsUnchanged s1 s2) (three : IsUnchanged s2 s3)
+    (are_records : AreIds records (old.now.trees 0)) (are_runs : AreIds runs (s1.now.trees 1)) (are_heads : AreIds heads (s2.now.trees 2)) where
+  same_now : s3.now ≡ old.now
+  same_now = three.0.now_is ∙ two.0.now_is ∙ one.0.now_is
+
+  old_runs : AreIds runs (old.now.trees 1)
+  old_runs = subst (λ (d : Database). AreIds runs (d.trees 1)) one.0.now_is are_runs
+
+  old_heads : AreIds heads (old.now.trees 2)
+  old_heads = subst (λ (d : Database). AreIds heads (d.trees 2)) (two.0.now_is ∙ one.0.now_is) are_heads
+
+  pub checked : old.now.schema ≡ keeper_schema → old.committed ≡ old.now → old.in_transaction ≡ false → IsLone records × IsLone runs × IsLone heads → IsReady s3
+  checked has settled mode lone = record {
+    is_open = three.0.is_open;
+    ours = subst Rattle.keep_store.specs.Tables.IsOurs (sym same_now) (record {
+      schema = has;
+      one_record = lone_shown (old.now.trees 0) records are_records lone.0;
+      one_run = lone_shown (old.now.trees 1) runs old_runs lone.1;
+      one_head = lone_shown (old.now.trees 2) heads old_heads lone.2;
+    });
+    committed = three.0.committed_is ∙ two.0.committed_is ∙ one.0.committed_is ∙ settled ∙ sym same_now;
+    mode = three.0.mode ∙ two.0.mode ∙ one.0.mode ∙ mode;
+  }
+
+  pub emptied : (length records ≡ 0) × (length runs ≡ 0) × (length heads ≡ 0) → HasNoRow s3.now.trees
+  emptied none = subst (λ (d : Database). HasNoRow d.trees) (sym same_now) (record {
+    records = none_shown (old.now.trees 0) records are_records none.0;
+    runs = none_shown (old.now.trees 1) runs old_runs none.1;
+    heads = none_shown (old.now.trees 2) heads old_heads none.2;
+  })

@@ -22,8 +22,17 @@ use Rattle.sqlite_rules.specs.Lists.{Has}
 use Rattle.sqlite_rules.specs.Calls.{ids_of}
 use Rattle.sqlite_schema.specs.declared.command.Conflict.TheVariants.{Replace}
 use Rattle.sqlite_schema.specs.declared.schema.Keys.TheVariants.{Enforced}
-use Rattle.keep_store.specs.Tables.{table_of, keeper_schema, row_of}
+use Rattle.sqlite_rules.specs.Edit.{IsNoIndex}
+use Rattle.keep_store.specs.Tables.{lone_table, column_of, keeper_schema, row_of}
 use Rattle.keep_store.proofs.TextLemmas.{terms}
+
+-- a table of an id and one other column
+abbrev pub table_of : List ℕ → ℕ → List ℕ → Kind → Table
+table_of name tree column kind = lone_table name tree (column_of column kind true ∷ [])
+
+-- a tree that is no index
+pub no_index : (t : ℕ) → t ≢ 4 → IsNoIndex keeper_schema t
+no_index t other = ((λ same. other (sym same)), tt)
 
 -- a part that gave a value did not stop on the way
 pub went : {B E R : Type 0} {b : B} {Stops : E → Type 0} → ((stop : E) × Stops stop × (Ok b ≡ Err stop)) ⊎ R → R
@@ -37,7 +46,7 @@ either : (b : Bool) (x : Value) → cond b x x ≡ x
 either true x = refl
 either false x = refl
 
-cast_null : cast Integer Null ≡ Null
+pub cast_null : cast Integer Null ≡ Null
 unfolding unary
 cast_null = either _ Null
 
@@ -85,7 +94,7 @@ module _ (name : List ℕ) (tree : ℕ) (column : List ℕ) (kind : Kind) (value
   taken rows r is one fresh = never (sym (subst (λ rs. are_fresh rs (row_of value ∷ []) ≡ false) (sym is) (rw (one, same_id) refl)) ∙ fresh)
 
   pub puts : (limit : Option ℕ) (db : Trees) (w : Written) → (db tree ≡ []) ⊎ ((r : Row) × (db tree ≡ r ∷ []) × (rowid r ≡ Int (pos 1))) → Puts (task limit) (row_of value) db (Ok w)
-      → (w.trees tree ≡ row_of value ∷ []) × ((t : ℕ) → t ≢ tree → w.trees t ≡ db t)
+      → (w.trees tree ≡ row_of value ∷ []) × ((t : ℕ) → t ≢ tree → t ≢ 4 → w.trees t ≡ db t)
   puts limit db w lone h =
       let done = went h in
       let step = one_step keeper_schema Enforced db done.0 (putting db) refl done.1 in
@@ -93,11 +102,11 @@ module _ (name : List ℕ) (tree : ℕ) (column : List ℕ) (kind : Kind) (value
       let none : db tree ≡ [] = elim lone [ inl none ↦ none | inr some ↦ absurd (taken (db tree) some.0 some.1 some.2 fresh) ] in
       let trees : w.trees ≡ done.0 = ap (λ (it : Written). it.trees) (same_value done.2) in
       let row : done.0 tree ≡ row_of value ∷ [] = step.rows ∙ ap (λ news. put_all (db tree) news) (news_is db) ∙ rw none refl in
-      (ap (λ (t : Trees). t tree) trees ∙ row, λ t other. ap (λ (all : Trees). all t) trees ∙ step.others t other tt)
+      (ap (λ (t : Trees). t tree) trees ∙ row, λ t other free. ap (λ (all : Trees). all t) trees ∙ step.others t other (no_index t free))
 
   pub clears : (limit : Option ℕ) (db : Trees) (w : Written) (found : List Row) → (db tree ≡ []) ⊎ ((r : Row) × (db tree ≡ r ∷ []) × (rowid r ≡ Int (pos 1)))
       → ((x : Row) → Has found x → (r : Row) × Has (db tree) r × (x ≡ rowid r ∷ [])) → Clears (task limit) Replace (row_of value) db found (Ok w)
-      → (w.trees tree ≡ row_of value ∷ []) × ((t : ℕ) → t ≢ tree → w.trees t ≡ db t)
+      → (w.trees tree ≡ row_of value ∷ []) × ((t : ℕ) → t ≢ tree → t ≢ 4 → w.trees t ≡ db t)
   clears limit db w [] lone sound h = puts limit db w lone h
   clears limit db w (x ∷ more) lone sound h =
       let went_on = went h in
@@ -109,7 +118,7 @@ module _ (name : List ℕ) (tree : ℕ) (column : List ℕ) (kind : Kind) (value
         | inr some ↦ emptied (db tree) some.0 (ids_of more) (id_in (rowid x)) some.1 some.2 (ap (λ (row : Row). id_in (rowid row)) (at.2 ∙ ap (λ v. v ∷ []) (ap rowid (only (db tree) some.0 at.0 some.1 at.1) ∙ some.2)))
       ] in
       let done = puts limit went_on.0 w (inl (step.rows ∙ left)) went_on.2 in
-      (done.0, λ t other. done.1 t other ∙ step.others t other tt)
+      (done.0, λ t other free. done.1 t other free ∙ step.others t other (no_index t free))
 
   judged : (limit : Option ℕ) (db : Trees) (w : Written) (verdict : Option Refusal) → Judged (task limit) Replace [] (row_of value) db verdict (Ok w) → Upserts (task limit) Replace (row_of value) db [] (Ok w)
   judged limit db w None h = h
@@ -120,7 +129,7 @@ module _ (name : List ℕ) (tree : ℕ) (column : List ℕ) (kind : Kind) (value
   tries limit db w (inr h) = judged limit db w h.0 h.2
 
   pub replaces : (limit : Option ℕ) (db : Trees) (w : Written) → (db tree ≡ []) ⊎ ((r : Row) × (db tree ≡ r ∷ []) × (rowid r ≡ Int (pos 1))) → InsertsOr (task limit) Replace [] (Values terms 3) db (Ok w)
-      → (w.trees tree ≡ row_of value ∷ []) × ((t : ℕ) → t ≢ tree → w.trees t ≡ db t)
+      → (w.trees tree ≡ row_of value ∷ []) × ((t : ℕ) → t ≢ tree → t ≢ 4 → w.trees t ≡ db t)
   replaces limit db w lone h =
       let given = went h in
       let counted = went given.2 in
@@ -133,4 +142,4 @@ module _ (name : List ℕ) (tree : ℕ) (column : List ℕ) (kind : Kind) (value
       let first : each.0.0.trees ≡ tried.0.trees = ap (λ (it : Written × ℤ). it.0.trees) (same_value tried.2) in
       let next : done.0 ≡ each.0.0.trees = same_value done.1 in
       let trees : w.trees ≡ tried.0.trees = ap (λ (it : Written). it.trees) (same_value done.2) ∙ next ∙ first in
-      (ap (λ (t : Trees). t tree) trees ∙ done_one.0, λ t other. ap (λ (all : Trees). all t) trees ∙ done_one.1 t other)
+      (ap (λ (t : Trees). t tree) trees ∙ done_one.0, λ t other free. ap (λ (all : Trees). all t) trees ∙ done_one.1 t other free)

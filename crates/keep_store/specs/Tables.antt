@@ -1,63 +1,14 @@
--- The two tables of a store, and what a database is that has them.
-use Rattle.std.specs.Prelude.{IsPermutation, Bool, IsTrue, true, false, ◌≡◌, ⊤, [], ◌∷◌, Some, codes, List, ℕ, pos, map}
-use Rattle.sqlite.specs.Collation.TheVariants.{Binary}
+-- The tables of a store, and what a database is that has them.
+use Rattle.std.specs.Prelude.{IsPermutation, IsTrue, true, false, ◌≡◌, ◌≢◌, ◌⊎◌, ◌+◌, ◌*◌, ◌^◌, ◌<◌, ⊤, [], ◌∷◌, List, ℕ, pos, map}
 use Rattle.sqlite.specs.declared.types.Value.{Value}
-use Rattle.sqlite.specs.declared.types.Value.TheVariants.{Null, Int}
+use Rattle.sqlite.specs.declared.types.Value.TheVariants.{Null, Int, Text}
 use Rattle.sqlite.specs.Order.{Row, column}
 use Rattle.sqlite.specs.Tree.{Trees, rowid}
-use Rattle.sqlite.specs.Table.{Table}
-use Rattle.sqlite_schema.specs.declared.schema.Column.{Column}
-use Rattle.sqlite_schema.specs.declared.schema.Stamps.{Stamps}
-use Rattle.sqlite.specs.Schema.{Schema}
-use Rattle.sqlite.specs.Kind.{Kind}
-use Rattle.sqlite.specs.Kind.TheVariants.{Integer, Text as Words}
-use Rattle.sqlite.specs.Term.{Term, lit, col, op2}
-use Rattle.sqlite_sql.specs.declared.ops.BinaryOp.TheVariants.{Compare}
-use Rattle.sqlite_sql.specs.declared.ops.CompareOp.TheVariants.{Eq}
+use Rattle.sqlite_rules.specs.Lists.{Has}
 use Rattle.sqlite.specs.Effect.{Database}
 use Rattle.sqlite.specs.State.{State}
-
-abbrev pub column_of : List ℕ → Kind → Bool → Column
-column_of name kind not_null = record { name = name; kind = kind; is_strict = false; not_null = not_null; default = Null; collation = Binary }
-
-abbrev pub columns_of : List ℕ → Kind → List Column
-columns_of name kind = column_of (codes "id") Integer false ∷ column_of name kind true ∷ []
-
--- the id is 1
-abbrev pub id_check : List Term
-id_check = op2 (Compare Eq Binary) (col 1 0) (lit (Int (pos 1))) ∷ []
-
-abbrev pub no_stamps : Stamps
-no_stamps = record { places = []; terms = []; formats = [] }
-
--- a table of an id, which is 1, and another column
-abbrev pub table_of : List ℕ → ℕ → List ℕ → Kind → Table
-table_of name tree column kind = record {
-  name = name;
-  tree = tree;
-  columns = columns_of column kind;
-  key = Some 0;
-  primary = 0 ∷ [];
-  uniques = [];
-  orders = [];
-  checks = id_check;
-  references = [];
-  computed = [];
-  stamps = no_stamps;
-  is_counted = false;
-}
-
-abbrev pub record_table : Table
-record_table = table_of (codes "agent_record") 0 (codes "body") Words
-
-abbrev pub run_table : Table
-run_table = table_of (codes "run_number") 1 (codes "last") Integer
-
-abbrev pub keeper_schema : Schema
-keeper_schema = record { tables = record_table ∷ run_table ∷ []; indexes = []; views = [] }
-
-abbrev pub no_schema : Schema
-no_schema = record { tables = []; indexes = []; views = [] }
+use Rattle.names_core.specs.Ids.{Numbered}
+pub use Rattle.keep_tables.specs.Schemas.{column_of, id_check, no_stamps, lone_table, record_columns, run_columns, head_columns, task_columns, record_table, run_table, head_table, task_table, task_index, keeper_schema, first_schema, no_schema}
 
 -- at most the row with the rowid 1
 abbrev pub IsLone : List Row → Type 0
@@ -65,13 +16,14 @@ IsLone [] = ⊤
 IsLone (row ∷ []) = rowid row ≡ Int (pos 1)
 IsLone (row ∷ next ∷ more) = ⊥
 
--- a database of the two tables, with at most one row in each
+-- a database of the four tables, with at most one row in each but that of the tasks
 pub record IsOurs (db : Database) : Type 0 where
   pub schema : db.schema ≡ keeper_schema
   pub one_record : IsLone (db.trees 0)
   pub one_run : IsLone (db.trees 1)
+  pub one_head : IsLone (db.trees 2)
 
--- open, with the two tables, and with nothing that waits for a commit
+-- open, with the four tables, and with nothing that waits for a commit
 pub record IsReady (s : State) : Type 0 where
   pub is_open : IsTrue s.is_open
   pub ours : IsOurs s.now
@@ -85,20 +37,20 @@ pub record Stays (old new : State) : Type 0 where
 
 -- ---- for private clauses
 
--- the row of a table, with its id and its value
+-- the row of a table of an id and a value
 abbrev pub row_of : Value → Row
 row_of value = Int (pos 1) ∷ Null ∷ value ∷ []
 
--- one table has this row alone, and the other is as it was
-pub record Replaced (at other : ℕ) (value : Value) (old new : Trees) : Type 0 where
+-- one table has this row alone, and the others are as they were
+pub record Replaced (at : ℕ) (value : Value) (old new : Trees) : Type 0 where
   pub row : new at ≡ row_of value ∷ []
-  pub rest : new other ≡ old other
+  pub rest : (t : ℕ) → t ≢ at → t ≢ 4 → new t ≡ old t
 
--- the database has this row, in one of its two tables, and was committed
-pub record Wrote (at other : ℕ) (value : Value) (old new : State) : Type 0 where
+-- the database has this row, and was committed
+pub record Wrote (at : ℕ) (value : Value) (old new : State) : Type 0 where
   pub is_open : IsTrue new.is_open
   pub schema : new.now.schema ≡ keeper_schema
-  pub changed : Replaced at other value old.now.trees new.now.trees
+  pub changed : Replaced at value old.now.trees new.now.trees
   pub committed : new.committed ≡ new.now
   pub mode : new.in_transaction ≡ false
 
@@ -109,3 +61,77 @@ values_of = map (λ row. column row 2 ∷ [])
 -- the rows are the ids of the table's rows
 abbrev pub AreIds : List Row → List Row → Type 0
 AreIds rows held = IsPermutation (map (λ row. rowid row ∷ []) held) rows
+
+-- ---- in a transaction
+
+-- the rowid of a task's row: its launch key as one number
+abbrev pub place_of : Numbered → ℕ
+place_of key = key.run * 2 ^ 32 + key.n
+
+-- the row of a task
+abbrev pub task_row : Numbered → List ℕ → Row
+task_row key body = Int (pos (place_of key)) ∷ Int (pos key.run) ∷ Int (pos key.n) ∷ Text body ∷ []
+
+-- the row of the head
+abbrev pub head_row : List ℕ → ℕ → ℕ → List ℕ → Row
+head_row name run session total = Int (pos 1) ∷ Null ∷ Text name ∷ Int (pos run) ∷ Int (pos session) ∷ Text total ∷ Int (pos 1) ∷ []
+
+-- open, with the four tables, in a transaction
+pub record IsWriting (s : State) : Type 0 where
+  pub is_open : IsTrue s.is_open
+  pub schema : s.now.schema ≡ keeper_schema
+  pub mode : s.in_transaction ≡ true
+
+-- a transaction goes on, and changed this of the trees
+pub record WritesOn (Changes : Trees → Trees → Type 0) (old new : State) : Type 0 where
+  pub writing : IsWriting new
+  pub committed : new.committed ≡ old.committed
+  pub changes : Changes old.now.trees new.now.trees
+
+-- all tables but one are as they were
+abbrev pub SparesOthers : ℕ → Trees → Trees → Type 0
+SparesOthers at old new = (t : ℕ) → t ≢ at → t ≢ 4 → new t ≡ old t
+
+-- the table has no row; what it had is in no other's
+pub record Empties (at : ℕ) (old new : Trees) : Type 0 where
+  pub lone : IsLone (old at) → new at ≡ []
+  pub others : SparesOthers at old new
+
+-- the row at this place is gone, and no other that has a number above 0 for its rowid
+pub record Cuts (place : ℕ) (old new : Trees) : Type 0 where
+  pub had : (r : Row) → Has (new 3) r → Has (old 3) r × (rowid r ≢ Int (pos place))
+  pub kept : (r : Row) (other : ℕ) → Has (old 3) r → rowid r ≡ Int (pos other) → 0 < other → other ≢ place → Has (new 3) r
+  pub others : SparesOthers 3 old new
+
+-- one table has one row more
+pub record Puts (at : ℕ) (row : Row) (old new : Trees) : Type 0 where
+  pub had : (r : Row) → Has (new at) r → (r ≡ row) ⊎ Has (old at) r
+  pub kept : (r : Row) → Has (old at) r → Has (new at) r
+  pub there : Has (new at) row
+  pub first : old at ≡ [] → new at ≡ row ∷ []
+  pub others : SparesOthers at old new
+
+-- the four tables are as they were
+abbrev pub IsSame : Trees → Trees → Type 0
+IsSame old new = new ≡ old
+
+-- no table has a row
+pub record HasNoRow (db : Trees) : Type 0 where
+  pub records : db 0 ≡ []
+  pub runs : db 1 ≡ []
+  pub heads : db 2 ≡ []
+
+-- the tables of heads and of tasks are new beside those of records and runs
+pub record AddsTables (old new : Trees) : Type 0 where
+  pub records : new 0 ≡ old 0
+  pub runs : new 1 ≡ old 1
+  pub heads : new 2 ≡ []
+  pub tasks : new 3 ≡ []
+
+-- a transaction was committed, and changed this of the trees
+pub record IsCommitted (Changes : Trees → Trees → Type 0) (old new : State) : Type 0 where
+  pub is_open : IsTrue new.is_open
+  pub schema : new.now.schema ≡ keeper_schema
+  pub committed : new.committed ≡ new.now
+  pub mode : new.in_transaction ≡ false
+  pub changes : Changes old.now.trees new.now.trees

@@ -1,14 +1,16 @@
-//! Whether a connection shows the two tables.
+//! Whether a connection shows a keeper's tables.
 
-ghost use Rattle.std.specs.Prelude.{◌≡◌, ◌≢◌, IsTrue, IfOk, IfErr, OnOk};
+ghost use Rattle.std.specs.Prelude.{◌≡◌, ◌≢◌, length, IsTrue, IfOk, IfErr, OnOk};
 ghost use Rattle.sqlite.specs.State.{HasCleanDisk};
 ghost use Rattle.sqlite.specs.Held.{state};
-ghost use Rattle.keep_store.specs.Kept.{kept_in, nothing};
-ghost use Rattle.keep_store.specs.Tables.{IsReady, IsLone, no_schema};
+ghost use Rattle.keep_store.specs.Kept.{first_kept, kept_in, nothing};
+ghost use Rattle.keep_store.specs.Tables.{IsReady, IsLone, HasNoRow, first_schema, no_schema};
 
 use crate::fault::{KeepFault, fault_of};
-use crate::shape::{is_new, is_ours};
-use crate::statements::{make_tables, read_record_ids, read_run_ids};
+use crate::statements::{
+    make_first_tables, make_task_tables, read_head_ids, read_record_ids, read_run_ids, read_tasks,
+};
+use keep_tables::{is_first, is_new, is_ours};
 use sqlite::{Alter, Connection, Row};
 
 /// At most one row, which begins with 1.
@@ -22,13 +24,26 @@ fn is_lone(rows: &[Row]) -> bool
     }
 }
 
-/// The two tables are there and no other, with at most one row each; and whether both are empty.
-#[tactic(auto, using(crate::proofs::ReadLemmas::lone_shown, crate::proofs::ReadLemmas::none_shown))]
+/// None of the three has a row.
+fn are_empty(records: &[Row], runs: &[Row], heads: &[Row]) -> bool
+    ensures { IsTrue result → (length records.now ≡ 0) × (length runs.now ≡ 0) × (length heads.now ≡ 0) }
+{
+    records.is_empty() && runs.is_empty() && heads.is_empty()
+}
+
+/// Each of the three has at most one row.
+fn are_lone(records: &[Row], runs: &[Row], heads: &[Row]) -> bool
+    ensures { IsTrue result → IsLone records.now × IsLone runs.now × IsLone heads.now }
+{
+    is_lone(records) && is_lone(runs) && is_lone(heads)
+}
+
+/// The four tables are there and no other, with at most one row each but that of the tasks; and whether those are empty.
 fn check_tables<S: Alter>(conn: &mut Connection<S>) -> Result<bool, KeepFault>
     ensures clean { HasCleanDisk (state S.Store conn.new) → HasCleanDisk (state S.Store conn.old) }
     ensures ready { HasCleanDisk (state S.Store conn.new) → OnOk result (IsReady (state S.Store conn.new)) }
     ensures found { HasCleanDisk (state S.Store conn.new) → OnOk result ((state S.Store conn.new).now ≡ (state S.Store conn.old).now) }
-    ensures empty { HasCleanDisk (state S.Store conn.new) → IfOk result (λ empty. IsTrue empty → kept_in (state S.Store conn.new).now.trees ≡ nothing) }
+    ensures empty { HasCleanDisk (state S.Store conn.new) → IfOk result (λ empty. IsTrue empty → HasNoRow (state S.Store conn.new).now.trees) }
     ensures unspent { IfErr result (λ e. e ≢ KeepFault.RunsSpent) }
 {
     if !conn.is_autocommit() || !is_ours(conn.schema()) {
@@ -36,30 +51,53 @@ fn check_tables<S: Alter>(conn: &mut Connection<S>) -> Result<bool, KeepFault>
     }
     let records = read_record_ids(conn).map_err(fault_of)?;
     let runs = read_run_ids(conn).map_err(fault_of)?;
-    if is_lone(records.as_slice()) && is_lone(runs.as_slice()) {
-        Ok(records.is_empty() && runs.is_empty())
+    let heads = read_head_ids(conn).map_err(fault_of)?;
+    if !are_lone(records.as_slice(), runs.as_slice(), heads.as_slice()) {
+        return Err(KeepFault::Damaged);
+    }
+    Ok(are_empty(records.as_slice(), runs.as_slice(), heads.as_slice()))
+}
+
+/// The four tables are there, and none has a row.
+#[tactic(auto, using(crate::proofs::ReadLemmas::no_task_shown, crate::proofs::ReadLemmas::nothing_kept))]
+fn check_new<S: Alter>(conn: &mut Connection<S>) -> Result<(), KeepFault>
+    ensures clean { HasCleanDisk (state S.Store conn.new) → HasCleanDisk (state S.Store conn.old) }
+    ensures ready { HasCleanDisk (state S.Store conn.new) → OnOk result (IsReady (state S.Store conn.new)) }
+    ensures fresh { HasCleanDisk (state S.Store conn.new) → OnOk result (kept_in (state S.Store conn.new).now.trees ≡ nothing) }
+    ensures unspent { IfErr result (λ e. e ≢ KeepFault.RunsSpent) }
+{
+    let is_empty = check_tables(conn)?;
+    let tasks = read_tasks(conn).map_err(fault_of)?;
+    if is_empty && tasks.is_empty() {
+        Ok(())
     } else {
         Err(KeepFault::Damaged)
     }
 }
 
-/// Makes the tables where there are none, and tests them.
+/// Makes the tables that a new store lacks, or one that kept a record as one text, and tests them.
 pub fn prepare<S: Alter>(conn: &mut Connection<S>) -> Result<(), KeepFault>
     ensures clean { HasCleanDisk (state S.Store conn.new) → HasCleanDisk (state S.Store conn.old) }
     ensures ready { HasCleanDisk (state S.Store conn.new) → OnOk result (IsReady (state S.Store conn.new)) }
-    ensures found { HasCleanDisk (state S.Store conn.new) → (state S.Store conn.old).now.schema ≢ no_schema → OnOk result ((state S.Store conn.new).now ≡ (state S.Store conn.old).now) }
+    ensures found { HasCleanDisk (state S.Store conn.new) → (state S.Store conn.old).now.schema ≢ no_schema → (state S.Store conn.old).now.schema ≢ first_schema → OnOk result ((state S.Store conn.new).now ≡ (state S.Store conn.old).now) }
     ensures fresh { HasCleanDisk (state S.Store conn.new) → (state S.Store conn.old).now.schema ≡ no_schema → OnOk result (kept_in (state S.Store conn.new).now.trees ≡ nothing) }
+    ensures moved { HasCleanDisk (state S.Store conn.new)
+        → (state S.Store conn.old).now.schema ≡ first_schema
+        → OnOk result (kept_in (state S.Store conn.new).now.trees
+        ≡ first_kept (state S.Store conn.old).now.trees) }
     ensures unspent { IfErr result (λ e. e ≢ KeepFault.RunsSpent) }
 {
     let is_new = is_new(conn.schema());
+    let lacks_tasks = is_new || is_first(conn.schema());
     if is_new && conn.is_autocommit() {
-        make_tables(conn).map_err(fault_of)?;
+        make_first_tables(conn).map_err(fault_of)?;
     }
-    if is_new && !check_tables(conn)? {
-        return Err(KeepFault::Damaged);
+    if lacks_tasks && conn.is_autocommit() {
+        make_task_tables(conn).map_err(fault_of)?;
     }
-    if !is_new {
-        check_tables(conn)?;
+    if is_new {
+        return check_new(conn);
     }
+    check_tables(conn)?;
     Ok(())
 }

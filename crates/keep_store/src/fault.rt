@@ -5,7 +5,7 @@ ghost use Rattle.keep_store.specs.Kept.{fault_for};
 ghost use Rattle.keep_store.specs.declared.fault.KeepFault.TheVariants as faults;
 
 use sqlite::ErrorCode;
-use std::alloc::AllocError;
+use std::alloc::{AllocError, AllocFailed};
 use thiserror::Error;
 
 #[derive(Clone, Copy, Debug, Drop, PartialEq, Eq, Error)]
@@ -28,6 +28,14 @@ impl From<AllocError> for KeepFault {
     ghost from_gives = { λ _ e. e ≡ faults.OutOfMemory };
 
     fn from(_e: AllocError) -> KeepFault {
+        KeepFault::OutOfMemory
+    }
+}
+
+impl<T: Drop> From<AllocFailed<T>> for KeepFault {
+    ghost from_gives = { λ _ e. e ≡ faults.OutOfMemory };
+
+    fn from(_e: AllocFailed<T>) -> KeepFault {
         KeepFault::OutOfMemory
     }
 }

@@ -9,20 +9,25 @@ ghost use Rattle.mails.specs.declared.record.Durable.{Durable};
 ghost use Rattle.agent_core.specs.Records.{is_record};
 ghost use Rattle.record_text.specs.Texts.{record_form};
 ghost use Rattle.record_text.specs.Written.{IsDurable};
-ghost use Rattle.keep_store.specs.Kept.{Kept, kept_in, nothing, with_last, with_record, with_run, HoldsText, IsDamaged, IsLoaded, TellsRun, TellsNoRun, run_in, shown_body, shown_last};
+ghost use Rattle.keep_store.specs.Kept.{Kept, first_kept, kept_in, nothing, with_last, with_record, with_run, HoldsText, IsDamaged, IsLoaded, TellsRun, TellsNoRun, run_in, shown_body, shown_last};
 ghost use Rattle.keep_store.specs.Stops.{LeavesEither, Stands};
-ghost use Rattle.keep_store.specs.Tables.{IsReady, Stays, no_schema};
+ghost use Rattle.keep_store.specs.Tables.{IsReady, Stays, first_schema, no_schema};
 ghost use Rattle.keep_store.specs.declared.fault.KeepFault.TheVariants as faults;
 
 use crate::check::prepare;
 use crate::fault::{KeepFault, fault_of};
-use crate::record::record_in;
-use crate::statements::{read_bodies, read_lasts, write_body, write_last};
+use crate::save::{head_seen, save_record};
+use crate::seen::seen_in;
+use crate::statements::{read_lasts, write_last};
+use crate::tables::read_rows;
+use crate::told::record_shown;
 use agent_core::Record;
-use record_text::record_text;
+use listed::Listed;
+use mails::{Durable, RecordedTask};
 use sqlite::{Alter, Connection, Error, ErrorCode, Row};
 use std::alloc::Global;
 use std::marker::Model;
+use std::mem;
 
 /// The last run that is given out.
 const LAST_RUN: u32 = 65_535;
@@ -31,37 +36,41 @@ const LAST_RUN: u32 = 65_535;
 /// next run it is opened again.
 pub struct Keeper<S: Alter> {
     conn: Connection<S>,
+    /// Whether no save failed, and no run was given out, since it was opened.
+    is_ready: bool,
+    /// The tasks that were saved or loaded last, unless nothing is known of the rows.
+    seen: Option<Listed<RecordedTask>>,
+    /// The parts that were saved last but the tasks, unless nothing is known of the head.
+    head: Option<Durable>,
 }
 
 impl<S: Alter> Model for Keeper<S> {
-    ghost use Rattle.sqlite.specs.Held.{Held, held_code};
+    ghost use Rattle.std.specs.Prelude.{IsTrue};
+    ghost use Rattle.sqlite.specs.Held.{Held, held_code, state};
+    ghost use Rattle.sqlite.specs.State.{HasCleanDisk};
+    ghost use Rattle.keep_store.specs.Kept.{AreSeen, IsHeadSeen, Knows, KnowsHead};
+    ghost use Rattle.keep_store.specs.Tables.{IsReady};
 
     ghost Value = { Held S };
 
     ghost coded = { held_code S.code };
 
     ghost view = { λ k. k.conn };
+
+    ghost invariant = { λ k. AreSeen k.seen × IsHeadSeen k.head
+        × (IsTrue k.is_ready → HasCleanDisk (state S.Store k.conn) → IsReady (state S.Store k.conn))
+        × (HasCleanDisk (state S.Store k.conn) → Knows k.seen (state S.Store k.conn).now.trees
+        × KnowsHead k.head (state S.Store k.conn).now.trees) };
 }
 
 impl<S: Alter + Drop> Drop for Keeper<S> {
     fn drop(self) {
-        let Keeper { conn: _ } = self;
-    }
-}
-
-/// The text in the first row, if there is a row.
-fn first_body(rows: &[Row]) -> Result<Option<String>, KeepFault>
-    ensures text { IfOk result (λ found. option_map (λ text. Text (string_bytes text)) found ≡ shown_body rows.now) }
-    ensures damaged { IsErrOf result KeepFault.Damaged → IsDamaged (shown_body rows.now) }
-    ensures unspent { IfErr result (λ e. e ≢ KeepFault.RunsSpent) }
-{
-    let Some(row) = rows.first() else {
-        return Ok(None);
-    };
-    match row.get::<String>(0) {
-        Ok(body) => Ok(Some(body)),
-        Err(Error::SqliteFailure(ErrorCode::OutOfMemory)) => Err(KeepFault::OutOfMemory),
-        Err(_) => Err(KeepFault::Damaged),
+        let Keeper {
+            conn: _,
+            is_ready: _,
+            seen: _,
+            head: _,
+        } = self;
     }
 }
 
@@ -82,18 +91,61 @@ fn first_number(rows: &[Row]) -> Result<u32, KeepFault>
     }
 }
 
+/// The last run that was given out, or 0.
+fn last_run<S: Alter>(conn: &mut Connection<S>) -> Result<u32, KeepFault>
+    ensures clean { HasCleanDisk (state S.Store conn.new) → HasCleanDisk (state S.Store conn.old) }
+    ensures unspent { IfErr result (λ e. e ≢ KeepFault.RunsSpent) }
+    ensures value { IsReady (state S.Store conn.old) → HasCleanDisk (state S.Store conn.new) → IfOk result (λ n. n ≡ (kept_in (state S.Store conn.old).now.trees).last) }
+    ensures told { IsReady (state S.Store conn.old) → HasCleanDisk (state S.Store conn.new) → IfOk result (TellsRun (run_in (state S.Store conn.old).now.trees)) }
+    ensures damaged { IsReady (state S.Store conn.old) → HasCleanDisk (state S.Store conn.new) → IsErrOf result KeepFault.Damaged → TellsNoRun (run_in (state S.Store conn.old).now.trees) }
+    ensures stays { IsReady (state S.Store conn.old) → HasCleanDisk (state S.Store conn.new) → Stays (state S.Store conn.old) (state S.Store conn.new) }
+    ensures up { IsReady (state S.Store conn.old) → HasCleanDisk (state S.Store conn.new) → OnOk result (IsReady (state S.Store conn.new)) }
+    ensures stop { IsReady (state S.Store conn.old) → Survives (state S.Store conn.old) (state S.Store conn.new) (λ _. ⊥) }
+{
+    let rows = read_lasts(conn).map_err(fault_of)?;
+    first_number(rows.as_slice())
+}
+
+/// Gives out the run behind this one, which was the last; it is committed before it is answered.
+fn run_behind<S: Alter>(conn: &mut Connection<S>, last: u32) -> Result<u32, KeepFault>
+    ensures clean { HasCleanDisk (state S.Store conn.new) → HasCleanDisk (state S.Store conn.old) }
+    ensures given { IsReady (state S.Store conn.old) → HasCleanDisk (state S.Store conn.new) → IfOk result (λ n. IsReady (state S.Store conn.new) × (n ≡ last + 1) × (kept_in (state S.Store conn.new).now.trees ≡ with_last (last + 1) (kept_in (state S.Store conn.old).now.trees))) }
+    ensures few { IfOk result (λ n. n ≤ 65535) }
+    ensures failed { IsReady (state S.Store conn.old) → HasCleanDisk (state S.Store conn.new) → OnErr result (Stays (state S.Store conn.old) (state S.Store conn.new)) }
+    ensures stop { IsReady (state S.Store conn.old) → LeavesEither (state S.Store conn.old) (state S.Store conn.new) (with_last (last + 1)) }
+    ensures stands { Stands (state S.Store conn.new) }
+    ensures undamaged { IfErr result (λ e. e ≢ KeepFault.Damaged) }
+    ensures spent { IsErrOf result KeepFault.RunsSpent → 65535 ≤ last }
+{
+    if last >= LAST_RUN {
+        return Err(KeepFault::RunsSpent);
+    }
+    write_last(conn, last + 1).map_err(fault_of)?;
+    Ok(last + 1)
+}
+
 impl<S: Alter + Drop> Keeper<S> {
-    /// The keeper over a connection, whose tables are made where there is no table yet. A refusal hands the connection back:
-    /// K1 for an error of the store, K2 where the tables aren't the two of a keeper or the connection is in a transaction, K4 for want of memory.
+    /// The keeper over a connection. Its tables are made where there is none yet, and the two of heads and tasks beside the two of a store
+    /// that kept a record as one text. A refusal hands the connection back:
+    /// K1 for an error of the store, K2 where the tables aren't those of a keeper or the connection is in a transaction, K4 for want of memory.
     pub fn adopt(mut conn: Connection<S>) -> Result<Keeper<S>, (KeepFault, Connection<S>)>
         ensures clean { IfOk result (λ keeper. HasCleanDisk (state S.Store keeper) → HasCleanDisk (state S.Store conn)) }
         ensures ready { IfOk result (λ keeper. HasCleanDisk (state S.Store keeper) → IsReady (state S.Store keeper)) }
-        ensures found { IfOk result (λ keeper. HasCleanDisk (state S.Store keeper) → (state S.Store conn).now.schema ≢ no_schema → (state S.Store keeper).now ≡ (state S.Store conn).now) }
+        ensures found { IfOk result (λ keeper. HasCleanDisk (state S.Store keeper) → (state S.Store conn).now.schema ≢ no_schema → (state S.Store conn).now.schema ≢ first_schema → (state S.Store keeper).now ≡ (state S.Store conn).now) }
         ensures fresh { IfOk result (λ keeper. HasCleanDisk (state S.Store keeper) → (state S.Store conn).now.schema ≡ no_schema → kept_in (state S.Store keeper).now.trees ≡ nothing) }
+        ensures moved { IfOk result (λ keeper. HasCleanDisk (state S.Store keeper)
+            → (state S.Store conn).now.schema ≡ first_schema
+            → kept_in (state S.Store keeper).now.trees
+            ≡ first_kept (state S.Store conn).now.trees) }
         ensures unspent { IfErr result (λ refused. refused.0 ≢ KeepFault.RunsSpent) }
     {
         match prepare(&mut conn) {
-            Ok(()) => Ok(Keeper { conn }),
+            Ok(()) => Ok(Keeper {
+                conn,
+                is_ready: true,
+                seen: None,
+                head: None,
+            }),
             Err(fault) => Err((fault, conn)),
         }
     }
@@ -102,7 +154,12 @@ impl<S: Alter + Drop> Keeper<S> {
     pub fn into_connection(self) -> Connection<S>
         ensures { result ≡ self }
     {
-        let Keeper { conn } = self;
+        let Keeper {
+            conn,
+            is_ready: _,
+            seen: _,
+            head: _,
+        } = self;
         conn
     }
 }
@@ -121,23 +178,21 @@ impl<S: Alter> Keeper<S> {
         ensures up { IsReady (state S.Store self.old) → HasCleanDisk (state S.Store self.new) → OnOk result (IsReady (state S.Store self.new)) }
         ensures stop { IsReady (state S.Store self.old) → Survives (state S.Store self.old) (state S.Store self.new) (λ _. ⊥) }
     {
-        let rows = read_bodies(&mut self.conn).map_err(fault_of)?;
-        let text = first_body(rows.as_slice())?;
-        record_in(alloc, text)
-    }
-
-    /// Puts a text in place of the one before, in one transaction.
-    fn put(&mut self, body: &str) -> Result<(), KeepFault>
-        ensures clean { HasCleanDisk (state S.Store self.new) → HasCleanDisk (state S.Store self.old) }
-        ensures saved { IsReady (state S.Store self.old) → HasCleanDisk (state S.Store self.new) → OnOk result (IsReady (state S.Store self.new) × (kept_in (state S.Store self.new).now.trees ≡ record { body = Some (Text body.now); last = (kept_in (state S.Store self.old).now.trees).last })) }
-        ensures failed { IsReady (state S.Store self.old) → HasCleanDisk (state S.Store self.new) → OnErr result (Stays (state S.Store self.old) (state S.Store self.new)) }
-        ensures stop { IsReady (state S.Store self.old) → LeavesEither (state S.Store self.old) (state S.Store self.new) (λ kept. record { body = Some (Text body.now); last = kept.last }) }
-        ensures stands { Stands (state S.Store self.new) }
-        ensures undamaged { IfErr result (λ e. e ≢ KeepFault.Damaged) }
-        ensures unspent { IfErr result (λ e. e ≢ KeepFault.RunsSpent) }
-    {
-        write_body(&mut self.conn, body).map_err(fault_of)?;
-        Ok(())
+        let is_ready = mem::replace(&mut self.is_ready, false);
+        self.seen = None;
+        self.head = None;
+        let rows = read_rows(&mut self.conn).map_err(fault_of)?;
+        self.is_ready = is_ready;
+        let found = record_shown(
+            alloc,
+            rows.records.as_slice(),
+            rows.heads.as_slice(),
+            rows.tasks.as_slice(),
+        )?;
+        if is_ready {
+            self.seen = seen_in(&rows, &found);
+        }
+        Ok(found)
     }
 
     /// Keeps a record in place of the one before, in one transaction. K1 for an error of the store, K4 for want of memory; then the keeper is
@@ -154,42 +209,16 @@ impl<S: Alter> Keeper<S> {
         ensures undamaged { IfErr result (λ e. e ≢ KeepFault.Damaged) }
         ensures unspent { IfErr result (λ e. e ≢ KeepFault.RunsSpent) }
     {
-        let durable = durable.parts();
-        let text = record_text(alloc, durable)?;
-        self.put(text.as_str())
-    }
-
-    /// The last run that was given out, or 0.
-    fn last_run(&mut self) -> Result<u32, KeepFault>
-        ensures clean { HasCleanDisk (state S.Store self.new) → HasCleanDisk (state S.Store self.old) }
-        ensures unspent { IfErr result (λ e. e ≢ KeepFault.RunsSpent) }
-        ensures value { IsReady (state S.Store self.old) → HasCleanDisk (state S.Store self.new) → IfOk result (λ n. n ≡ (kept_in (state S.Store self.old).now.trees).last) }
-        ensures told { IsReady (state S.Store self.old) → HasCleanDisk (state S.Store self.new) → IfOk result (TellsRun (run_in (state S.Store self.old).now.trees)) }
-        ensures damaged { IsReady (state S.Store self.old) → HasCleanDisk (state S.Store self.new) → IsErrOf result KeepFault.Damaged → TellsNoRun (run_in (state S.Store self.old).now.trees) }
-        ensures stays { IsReady (state S.Store self.old) → HasCleanDisk (state S.Store self.new) → Stays (state S.Store self.old) (state S.Store self.new) }
-        ensures up { IsReady (state S.Store self.old) → HasCleanDisk (state S.Store self.new) → OnOk result (IsReady (state S.Store self.new)) }
-        ensures stop { IsReady (state S.Store self.old) → Survives (state S.Store self.old) (state S.Store self.new) (λ _. ⊥) }
-    {
-        let rows = read_lasts(&mut self.conn).map_err(fault_of)?;
-        first_number(rows.as_slice())
-    }
-
-    /// Gives out the run behind this one, which was the last; it is committed before it is answered.
-    fn run_behind(&mut self, last: u32) -> Result<u32, KeepFault>
-        ensures clean { HasCleanDisk (state S.Store self.new) → HasCleanDisk (state S.Store self.old) }
-        ensures given { IsReady (state S.Store self.old) → HasCleanDisk (state S.Store self.new) → IfOk result (λ n. IsReady (state S.Store self.new) × (n ≡ last + 1) × (kept_in (state S.Store self.new).now.trees ≡ with_last (last + 1) (kept_in (state S.Store self.old).now.trees))) }
-        ensures few { IfOk result (λ n. n ≤ 65535) }
-        ensures failed { IsReady (state S.Store self.old) → HasCleanDisk (state S.Store self.new) → OnErr result (Stays (state S.Store self.old) (state S.Store self.new)) }
-        ensures stop { IsReady (state S.Store self.old) → LeavesEither (state S.Store self.old) (state S.Store self.new) (with_last (last + 1)) }
-        ensures stands { Stands (state S.Store self.new) }
-        ensures undamaged { IfErr result (λ e. e ≢ KeepFault.Damaged) }
-        ensures spent { IsErrOf result KeepFault.RunsSpent → 65535 ≤ last }
-    {
-        if last >= LAST_RUN {
-            return Err(KeepFault::RunsSpent);
+        let seen = self.seen.take();
+        let head = self.head.take();
+        let is_ready = mem::replace(&mut self.is_ready, false);
+        let tasks = save_record(&mut self.conn, alloc, seen, &head, durable.parts())?;
+        if is_ready {
+            self.is_ready = true;
+            self.seen = Some(tasks);
+            self.head = head_seen(alloc, head, durable.parts());
         }
-        write_last(&mut self.conn, last + 1).map_err(fault_of)?;
-        Ok(last + 1)
+        Ok(())
     }
 
     /// The next run of the master, one more than the last, from 1; it is committed before it is answered. K1 for an error of the store, K2
@@ -205,7 +234,10 @@ impl<S: Alter> Keeper<S> {
         ensures damaged { IsReady (state S.Store self.old) → HasCleanDisk (state S.Store self.new) → IsErrOf result KeepFault.Damaged → TellsNoRun (run_in (state S.Store self.old).now.trees) }
         ensures spent { IsReady (state S.Store self.old) → HasCleanDisk (state S.Store self.new) → IsErrOf result KeepFault.RunsSpent → 65535 ≤ (kept_in (state S.Store self.old).now.trees).last }
     {
-        let last = self.last_run()?;
-        self.run_behind(last)
+        self.is_ready = false;
+        self.seen = None;
+        self.head = None;
+        let last = last_run(&mut self.conn)?;
+        run_behind(&mut self.conn, last)
     }
 }

@@ -1,13 +1,18 @@
 //! An agent's record and the number of the master's last run, kept in a SQLite store.
 #![tactic(auto)]
 
+mod changes;
 mod check;
 mod fault;
+mod files;
 mod keeper;
 mod open;
 mod record;
-mod shape;
+mod save;
+mod seen;
 mod statements;
+mod tables;
+mod told;
 
 pub use fault::KeepFault;
 pub use keeper::Keeper;

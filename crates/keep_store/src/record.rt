@@ -6,16 +6,17 @@ ghost use Rattle.mails.specs.declared.record.Durable.{Durable};
 ghost use Rattle.record_text.specs.Texts.{record_form};
 ghost use Rattle.record_text.specs.Written.{IsDurable, IsWritten};
 ghost use Rattle.agent_core.specs.Records.{is_record};
-ghost use Rattle.keep_store.specs.Kept.{IsDamaged, IsLoaded, IsRecordText};
+ghost use Rattle.keep_store.specs.Kept.{IsDamaged, IsLoaded, IsRecordText, shown_body};
 
 use crate::fault::KeepFault;
 use agent_core::Record;
 use mails::Durable;
 use record_text::{RecordFault, record_of};
+use sqlite::{Error, ErrorCode, Row};
 use std::alloc::Global;
 
 /// A record, if an agent can have it.
-fn of_an_agent(alloc: Global, durable: Durable) -> Result<Record, KeepFault>
+pub fn of_an_agent(alloc: Global, durable: Durable) -> Result<Record, KeepFault>
     ensures ok { IfOk result (λ found. (found ≡ durable) × (is_record durable ≡ true)) }
     ensures damaged { IsErrOf result KeepFault.Damaged → is_record durable ≡ false }
     ensures unspent { IfErr result (λ e. e ≢ KeepFault.RunsSpent) }
@@ -53,4 +54,20 @@ pub fn record_in(alloc: Global, text: Option<String>) -> Result<Option<Record>, 
     };
     let found = record_at(alloc, text.as_str())?;
     Ok(Some(found))
+}
+
+/// The text in the first row, if there is a row.
+pub fn first_body(rows: &[Row]) -> Result<Option<String>, KeepFault>
+    ensures text { IfOk result (λ found. option_map (λ text. Text (string_bytes text)) found ≡ shown_body rows.now) }
+    ensures damaged { IsErrOf result KeepFault.Damaged → IsDamaged (shown_body rows.now) }
+    ensures unspent { IfErr result (λ e. e ≢ KeepFault.RunsSpent) }
+{
+    let Some(row) = rows.first() else {
+        return Ok(None);
+    };
+    match row.get::<String>(0) {
+        Ok(body) => Ok(Some(body)),
+        Err(Error::SqliteFailure(ErrorCode::OutOfMemory)) => Err(KeepFault::OutOfMemory),
+        Err(_) => Err(KeepFault::Damaged),
+    }
 }

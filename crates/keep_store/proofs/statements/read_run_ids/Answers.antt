@@ -1,7 +1,8 @@
 use Rattle.std.proofs.Common.{arith, [], ◌∷◌, refl, codes}
 use Rattle.sqlite.specs.Held.{state}
-use Rattle.keep_store.proofs.TextLemmas.{run_ids_are, run_ids_plain, run_ids_text}
-use Rattle.keep_store.proofs.ReadLemmas.{ids_if, unchanged_if}
+use Rattle.sqlite.specs.Term.{col}
+use Rattle.keep_store.proofs.TextLemmas.{run_ids_is, run_ids_plain, run_ids_text}
+use Rattle.keep_store.proofs.ReadLemmas.{rows_if, unchanged_if}
 use Rattle.keep_store.proofs.statements.read_run_ids.Goals as goal
 
 pub returns : goal.returns
@@ -10,6 +11,6 @@ returns g c =
     let new = state g.S.Store c.query_all.new.self in
     record {
       clean = λ clean. omega (arith, c.query_all.ensures.survives.clean);
-      rows = λ has clean. ids_if run_ids_text 1 (λ _. refl) (codes "id" ∷ []) run_ids_are run_ids_plain old new c.query_all.result has (c.query_all.ensures.ok clean);
-      same = λ has clean. unchanged_if run_ids_text 1 (λ _. refl) (codes "id" ∷ []) run_ids_are run_ids_plain old new c.query_all.result has (c.query_all.ensures.ok clean);
+      rows = λ has clean. rows_if run_ids_text 1 (col 1 0 ∷ []) [] (λ _. refl) (codes "id" ∷ []) run_ids_is run_ids_plain old new c.query_all.result has (c.query_all.ensures.ok clean);
+      same = λ has clean. unchanged_if run_ids_text 1 (col 1 0 ∷ []) [] (λ _. refl) (codes "id" ∷ []) run_ids_is run_ids_plain old new c.query_all.result has (c.query_all.ensures.ok clean);
     }

@@ -1,12 +1,46 @@
-use Rattle.std.proofs.Common.{rules, ◌≡◌, ◌∙◌, option_map, string_bytes, ap}
-use Rattle.sqlite.specs.declared.types.Value.TheVariants.{Text}
-use Rattle.keep_store.specs.Kept.{shown_body}
-use Rattle.keep_store.specs.Tables.{values_of}
-use Rattle.keep_store.proofs.ReadLemmas.{body_shown}
+use Rattle.std.proofs.Common.{rules, ◌≡◌, IsTrue, subst, sym}
+use Rattle.sqlite.specs.Effect.{Database}
+use Rattle.sqlite.specs.Held.{state}
+use Rattle.sqlite.specs.State.{HasCleanDisk}
+use Rattle.keep_store.specs.Kept.{Knows, Shows}
+use Rattle.keep_store.specs.Tables.{IsReady}
 use Rattle.keep_store.proofs.keeper.Keeper.load.Goals as goal
 
+pub seen_in-requires : goal.seen_in-requires
+seen_in-requires g c = record { told = rw (c.as_slice-2.ensures.value, c.as_slice-3.ensures.value) at c.in_ok-found.ensures.told }
+
+pub invariant_of-self-then-is_ready-2 : goal.invariant_of-self-then-is_ready-2
+invariant_of-self-then-is_ready-2 g c =
+    let old = state g.S.Store c.self.inside.conn in
+    let new = state g.S.Store c.read_rows.new.conn in
+    let was_ready : IsTrue c.self.inside.is_ready = search rules in
+    let was = λ (clean : HasCleanDisk new). c.self.invariant.2 was_ready (c.read_rows.ensures.clean clean) in
+    let up = λ (clean : HasCleanDisk new). (let a = c.read_rows.ensures.up (was clean) clean in (let ready : IsReady new = search rules in ready)) in
+    let knows = λ (clean : HasCleanDisk new). (
+    let a = c.read_rows.ensures.rows (was clean) clean in
+    let shows : Shows old.now.trees c.in_ok-rows.rows.records.items c.in_ok-rows.rows.heads.items c.in_ok-rows.rows.tasks.items = search rules in
+    let same : new.now ≡ old.now = (c.read_rows.ensures.stays (was clean) clean).same (up clean).is_open in
+    subst (λ (d : Database). Knows c.seen_in.result d.trees) (sym same) (c.seen_in.ensures.knows old.now.trees shows)) in
+    (c.seen_in.ensures.put, tt, λ is clean. up clean, λ clean. (knows clean, tt))
+
+pub returns-clause-loaded : goal.returns-clause-loaded
+returns-clause-loaded g c = λ ready clean.
+    let db = (state g.S.Store c.args.self.now).now.trees in
+    let shows : Shows db c.as_slice.result.now c.as_slice-2.result.now c.as_slice-3.result.now = search rules in
+    c.in_ok-found.ensures.loaded db shows
+
 pub returns-clause-saved : goal.returns-clause-saved
-returns-clause-saved g c = λ d ready clean is_durable holds.
-    let rows_are : c.in_ok-rows.rows.items ≡ values_of ((g.S.Store.view c.args.self.now.store).trees 0) = search rules in
-    let shown : option_map (λ text. Text (string_bytes text)) c.in_ok-text.text ≡ shown_body c.in_ok-rows.rows.items = search rules in
-    c.record_in.ensures.saved d is_durable (shown ∙ ap shown_body rows_are ∙ body_shown _ ∙ holds)
+returns-clause-saved g c = λ d ready clean durable holds.
+    let db = (state g.S.Store c.args.self.now).now.trees in
+    let shows : Shows db c.as_slice.result.now c.as_slice-2.result.now c.as_slice-3.result.now = search rules in
+    c.in_ok-found.ensures.saved db d shows durable holds
+
+pub returns-clause-up : goal.returns-clause-up
+returns-clause-up g c = λ ready clean.
+    let new = state g.S.Store c.read_rows.new.conn in
+    let same : c.if-is_ready.self ≡ c.read_rows.new.conn = search rules in
+    let cleaned : HasCleanDisk new = rw same at clean in
+    let was : IsReady (state g.S.Store c.self.inside.conn) = search rules in
+    let a = c.read_rows.ensures.up was cleaned in
+    let up : IsReady new = search rules in
+    rw same up

@@ -1,0 +1,203 @@
+-- What the statements of a save make together.
+use Rattle.std.proofs.Common.{◌≡◌, ◌≢◌, ◌^◌, ◌<◌, inl, inr, ℕ, None, List, [], ◌∷◌, length, true, Some, Option, refl, sym, ap, subst, ◌∙◌}
+use Rattle.std.specs.Str.{IsUtf8}
+use Rattle.std.specs.List.{AllByRecursion}
+use Rattle.std.proofs.lemmas.Str.{IsUtf8-from_is_utf8}
+use Rattle.record_text.proofs.Utf8.{record_utf8}
+use Rattle.sqlite.specs.declared.types.Value.TheVariants.{Text}
+use Rattle.sqlite.specs.Order.{Row}
+use Rattle.sqlite.specs.Tree.{Trees, rowid}
+use Rattle.std.proofs.Common.{IsTrue, false, Ok, Err, Result, IfOk, OnOk}
+use Rattle.sqlite.specs.declared.error.Error.{Error}
+use Rattle.sqlite.specs.Steps.{FailsToCommit}
+use Rattle.sqlite.specs.State.{State, KeepsCommit}
+use Rattle.sqlite_rules.specs.Lists.{Has}
+use Rattle.quantity.specs.Rows.{AreRows}
+use Rattle.names_core.specs.Names.{is_name}
+use Rattle.mails.specs.declared.record.Durable.{Durable}
+use Rattle.mails.specs.declared.record.RecordedTask.{RecordedTask}
+use Rattle.std.proofs.Common.{◌&&◌}
+use Rattle.std.proofs.lemmas.Bool.{and_parts}
+use Rattle.quantity.specs.Rows.{covers}
+use Rattle.cluster_model.specs.Agents.{live_tasks, task_rows}
+use Rattle.agent_core.specs.Records.{is_record, keys_rise, none_is_done, has_begun}
+use Rattle.record_text.specs.Texts.{task_form, total_form, record_form}
+use Rattle.record_text.specs.Written.{IsTask, IsDurable}
+use Rattle.record_text.specs.Reading.{◌>>=◌}
+use Rattle.record_text.proofs.Again.{total_form_again}
+use Rattle.keep_store.specs.Tables.{IsLone, IsOurs, IsReady, IsWriting, IsCommitted, Stays, WritesOn, SparesOthers, Empties, Puts, AreIds, IsSame, task_row, head_row}
+use Rattle.keep_store.specs.Kept.{Adds, ArePut, HasTasks, HasNoTask, HasHead, HasRecord, IsHead, IsPut, Knows, KnowsHead, Tells, told, head_told, head_of, with_tasks, kept_in, with_record, text_of, body_in}
+use Rattle.keep_store.proofs.ReadLemmas.{none_shown}
+use Rattle.keep_store.proofs.ToldLemmas.{row_told, number_some, text_some, text_plain}
+use Rattle.keep_store.proofs.LoadLemmas.{rises, with_head}
+use Rattle.keep_store.proofs.TaskLemmas.{tells_all}
+
+pub then_on : (P Q R : Trees → Trees → Type 0) (a b c : State) → WritesOn P a b → WritesOn Q b c → (P a.now.trees b.now.trees → Q b.now.trees c.now.trees → R a.now.trees c.now.trees) → WritesOn R a c
+then_on P Q R a b c p q f = record { writing = q.writing; committed = q.committed ∙ p.committed; changes = f p.changes q.changes }
+
+pub then_err : (P : Trees → Trees → Type 0) (a b c : State) → IsWriting a → WritesOn P a b → KeepsCommit b c → KeepsCommit a c
+then_err P a b c writing p k = record { was_open = λ _. writing.is_open; committed = λ up. k.committed up ∙ p.committed }
+
+pub nothing_done : (a : State) → KeepsCommit a a
+nothing_done a = record { was_open = λ up. up; committed = λ _. refl }
+
+-- ---- tasks
+
+pub adds_one : (t : RecordedTask) (old new : Trees) → IsTask t → ∥ IsUtf8 (task_form t) ∥₁ → Puts 3 (task_row t.job.key (task_form t)) old new → Adds (t ∷ []) old new
+adds_one t old new is utf8 h =
+    let tells = row_told t is utf8 in
+    record {
+      had = λ row at. elim (h.had row at) [
+        | inl same ↦ inr (t, inl refl, (ap told same ∙ tells, ap rowid same))
+        | inr was ↦ inl was
+      ];
+      kept = h.kept;
+      there = λ task at. elim at [
+        | inl same ↦ (task_row t.job.key (task_form t), h.there, tells ∙ ap (λ (s : RecordedTask). Some s) (sym same))
+        | inr none ↦ absurd none
+      ];
+      others = h.others;
+    }
+
+pub no_task_left : (left : List Row) (x y z : Trees) → SparesOthers 3 x y → AreIds left (y 3) → IsSame y z → length left ≡ 0 → HasNoTask x z
+no_task_left left x y z p ids same none = record {
+  none = ap (λ (db : Trees). db 3) same ∙ none_shown (y 3) left ids none;
+  others = λ t other free. ap (λ (db : Trees). db t) same ∙ p t other free;
+}
+
+-- ---- the head
+
+-- the row of a head tells its record
+pub head_row_told : (d : Durable) → is_name d.name ≡ true → d.run < 2 ^ 32 → d.session < 2 ^ 32 → AreRows d.total → IsUtf8 d.name → ∥ IsUtf8 (total_form d.total) ∥₁
+    → head_told (head_of (head_row d.name d.run d.session (total_form d.total))) ≡ Some (with_tasks [] d)
+unfolding head_told
+head_row_told d named run session rows name total =
+    let a = text_plain (Text d.name) d.name refl name in
+    let b = text_some (Text (total_form d.total)) (total_form d.total) refl total in
+    let c = number_some d.run run in
+    let e = number_some d.session session in
+    let f = total_form_again d.total rows in
+    rw (a, named, c, e, b, f) refl
+
+zero_two : ◌≢◌ {A = ℕ} 0 2
+zero_two e = cc
+
+zero_four : ◌≢◌ {A = ℕ} 0 4
+zero_four e = cc
+
+two_zero : ◌≢◌ {A = ℕ} 2 0
+two_zero e = cc
+
+two_four : ◌≢◌ {A = ℕ} 2 4
+two_four e = cc
+
+pub has_head : (head : Option Durable) (d : Durable) (x y z w : Trees) → head_told (head_of (head_row d.name d.run d.session (total_form d.total))) ≡ Some (with_tasks [] d) → Empties 0 x y → Empties 2 y z → Puts 2 (head_row d.name d.run d.session (total_form d.total)) z w → HasHead head d x w
+has_head head d x y z w told p q r = record {
+  head = told;
+  records = λ knows one. r.others 0 zero_two zero_four ∙ q.others 0 zero_two zero_four ∙ p.lone one;
+  heads = λ knows one. r.first (q.lone (subst IsLone (sym (p.others 2 two_zero two_four)) one));
+  others = λ t zero two four. r.others t two four ∙ q.others t two four ∙ p.others t zero four;
+}
+
+-- the head that is known stays where only rows of tasks change
+known_head : (head : Option Durable) (x y : Trees) → SparesOthers 3 x y → KnowsHead head x → KnowsHead head y
+known_head None x y others knows = tt
+known_head (Some d) x y others knows = (others 0 (λ e. cc) zero_four ∙ knows.0, others 2 (λ e. cc) two_four ∙ knows.1)
+
+-- the head that is there is left
+pub left_head : (head : Option Durable) (e d : Durable) (x : Trees) → head ≡ Some e → with_tasks [] e ≡ with_tasks [] d → IsHead d → HasHead head d x x
+left_head head e d x is same is_head = record {
+  head = head_row_told d is_head.named is_head.run is_head.session is_head.total is_head.name ∣ IsUtf8-from_is_utf8 (total_form d.total) is_head.utf8 ∣₁;
+  records = λ knows one. (subst (λ (h : Option Durable). KnowsHead h x) is knows).0;
+  heads = λ knows one. (subst (λ (h : Option Durable). KnowsHead h x) is knows).1 ∙ ap (λ (s : Durable). head_row s.name s.run s.session (total_form s.total) ∷ []) same;
+  others = λ t zero two four. refl;
+}
+
+pub has_record : (seen : Option (List RecordedTask)) (head : Option Durable) (d : Durable) (x y z : Trees) → AllByRecursion IsPut d.tasks → IsHead d → HasTasks seen d.tasks x y → HasHead head d y z → HasRecord seen head d x z
+has_record seen head d x y z put is_head p q = record {
+  is_head = is_head;
+  put = put;
+  head = q.head;
+  records = λ knows one. q.records (known_head head x y p.others knows) (subst IsLone (sym (p.others 0 (λ e. cc) zero_four)) one);
+  heads = λ knows one. q.heads (known_head head x y p.others knows) (subst IsLone (sym (p.others 2 (λ e. cc) two_four)) one);
+  tasks = λ knows. subst (λ rows. Tells rows (Has d.tasks)) (sym (q.others 3 (λ e. cc) (λ e. cc) (λ e. cc))) (p.tells knows);
+  runs = q.others 1 (λ e. cc) (λ e. cc) (λ e. cc) ∙ p.others 1 (λ e. cc) (λ e. cc);
+}
+
+-- ---- what the types of the parts keep
+
+put_tasks : (ts : List RecordedTask) → AllByRecursion IsPut ts → AllByRecursion IsTask ts × AllByRecursion (λ t. IsUtf8 (task_form t)) ts
+put_tasks [] all = (tt, tt)
+put_tasks (t ∷ ts) all = let more = put_tasks ts all.1 in ((all.0.is_task, more.0), (IsUtf8-from_is_utf8 (task_form t) all.0.utf8, more.1))
+
+pub written_durable : (d : Durable) → IsHead d → AllByRecursion IsPut d.tasks → IsDurable d
+written_durable d head all = record { named = head.named; total = head.total; session = head.session; run = head.run; tasks = (put_tasks d.tasks all).0 }
+
+pub written_utf8 : (d : Durable) → IsHead d → AllByRecursion IsPut d.tasks → IsUtf8 (record_form d)
+written_utf8 d head all = record_utf8 d head.name head.run head.session (IsUtf8-from_is_utf8 (total_form d.total) head.utf8) (put_tasks d.tasks all).1
+
+-- what is kept then
+pub record_kept : (seen : Option (List RecordedTask)) (head : Option Durable) (d : Durable) (x z : Trees) → keys_rise d.tasks ≡ true → IsLone (x 0) → IsLone (x 2) → Knows seen x → KnowsHead head x → HasRecord seen head d x z
+    → kept_in z ≡ with_record d (kept_in x)
+record_kept seen head d x z rise one_record one_head knows knows_head h =
+    let is = written_durable d h.is_head h.put in
+    let tasks = h.tasks knows in
+    let row = head_row d.name d.run d.session (total_form d.total) in
+    let all = tells_all d.tasks (rises d.tasks is.tasks rise) (z 3) (λ r at. let it = tasks.each r at in (it.0, it.1, it.2.0)) tasks.all in
+    let body : body_in (z 0) (z 2) (z 3) ≡ Some (Text (record_form d)) =
+    with_head (z 0) (z 2) (z 3) row [] (h.records knows_head one_record) (h.heads knows_head one_head)
+    ∙ ap (λ (o : Option (List RecordedTask)). Some (text_of (o >>= λ told. head_told (head_of row) >>= λ e. Some (with_tasks told e)))) all
+    ∙ ap (λ (o : Option Durable). Some (text_of (o >>= λ e. Some (with_tasks d.tasks e)))) h.head in
+    rw (body, h.runs) refl
+
+-- the launch keys of a record rise
+pub keys_of : (d : Durable) → is_record d ≡ true → keys_rise d.tasks ≡ true
+keys_of d is =
+    let a = and_parts (keys_rise d.tasks && none_is_done d.tasks && has_begun d) (covers d.total (task_rows (live_tasks d.tasks))) is in
+    let b = and_parts (keys_rise d.tasks && none_is_done d.tasks) (has_begun d) a.0 in
+    (and_parts (keys_rise d.tasks) (none_is_done d.tasks) b.0).0
+
+-- the store is ready then
+pub record_ready : (seen : Option (List RecordedTask)) (head : Option Durable) (d : Durable) (old new : State) → IsReady old → KnowsHead head old.now.trees → IsCommitted (HasRecord seen head d) old new → IsReady new
+record_ready seen head d old new ready knows h = record {
+  is_open = h.is_open;
+  ours = record {
+    schema = h.schema;
+    one_record = subst IsLone (sym (h.changes.records knows ready.ours.one_record)) tt;
+    one_run = subst IsLone (sym h.changes.runs) ready.ours.one_run;
+    one_head = subst IsLone (sym (h.changes.heads knows ready.ours.one_head)) refl;
+  };
+  committed = h.committed;
+  mode = h.mode;
+}
+
+-- a transaction that was not committed left what was there
+pub failed_commit : (P : Trees → Trees → Type 0) (old begun mid new : State) (e : Error) → IsReady old → WritesOn P begun mid → begun.committed ≡ old.committed → FailsToCommit mid new e → Stays old new
+failed_commit P old begun mid new e ready went same (inl fails) =
+    let undone = fails.3 in
+    let back = λ (up : IsTrue new.is_open). (undone.undone up).0 ∙ went.committed ∙ same ∙ ready.committed in
+    record {
+      ready = λ up. record {
+        is_open = up;
+        ours = subst IsOurs (sym (back up)) ready.ours;
+        committed = (undone.undone up).1 ∙ sym (undone.undone up).0;
+        mode = undone.autocommit;
+      };
+      same = back;
+    }
+failed_commit P old begun mid new e ready went same (inr late) = absurd (never (sym late.1 ∙ went.writing.mode))
+  where
+    never : false ≡ true → ⊥
+    never e = cc
+
+pub record_put : (d : Durable) → is_record d ≡ true → AllByRecursion IsPut d.tasks → ArePut d.tasks
+record_put d is all = record { each = all; rise = rises d.tasks (put_tasks d.tasks all).0 (keys_of d is) }
+
+-- two facts of an answer
+pub ok_both : {X E : Type 0} (r : Result X E) (P Q : X → Type 0) (B : Type 0) → IfOk r P → OnOk r B → ((x : X) → P x → B → Q x) → IfOk r Q
+ok_both (Ok x) P Q B p b f = f x p b
+ok_both (Err e) P Q B p b f = tt
+
+pub on_both : {X E : Type 0} (r : Result X E) (P : X → Type 0) (B C : Type 0) → IfOk r P → OnOk r B → ((x : X) → P x → B → C) → OnOk r C
+on_both (Ok x) P B C p b f = f x p b
+on_both (Err e) P B C p b f = tt

@@ -1,0 +1,25 @@
+use Rattle.std.proofs.Common.{rules, ◌≡◌, ◌≢◌, List, Some, length}
+use Rattle.std.specs.List.{AllByRecursion}
+use Rattle.mails.specs.declared.record.RecordedTask.{RecordedTask}
+use Rattle.keep_store.specs.Kept.{AreTold, IsPlaced, IsPut}
+use Rattle.keep_store.proofs.FoundLemmas.{found_seen, found_knows}
+use Rattle.keep_store.proofs.SaveLemmas.{keys_of}
+use Rattle.keep_store.proofs.seen.seen_in.Goals as goal
+
+pub returns-clause-put : goal.returns-clause-put
+returns-clause-put c =
+    let d = c.in-Some.record in
+    let copied : (us : List RecordedTask) → c.ok.result ≡ Some us → us ≡ d.tasks = search rules in
+    let some : length c.args.rows.now.heads.items ≢ 0 = search rules in
+    let told : AreTold c.args.rows.now.tasks.items d.tasks × AllByRecursion IsPut d.tasks = c.requires.told d (search rules) some in
+    found_seen d.tasks c.ok.result copied told.1 (keys_of d (search rules))
+
+pub returns-clause-knows : goal.returns-clause-knows
+returns-clause-knows c = λ db shows.
+    let d = c.in-Some.record in
+    let rows = c.args.rows.now.tasks.items in
+    let copied : (us : List RecordedTask) → c.ok.result ≡ Some us → us ≡ d.tasks = search rules in
+    let some : length c.args.rows.now.heads.items ≢ 0 = search rules in
+    let told : AreTold rows d.tasks × AllByRecursion IsPut d.tasks = c.requires.told d (search rules) some in
+    let placed : AllByRecursion IsPlaced rows = search rules in
+    found_knows db rows d.tasks c.ok.result copied shows.task_rows told.0 placed

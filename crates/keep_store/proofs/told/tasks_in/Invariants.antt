@@ -1,0 +1,11 @@
+use Rattle.std.proofs.Common.{take}
+use Rattle.std.specs.List.{AllByRecursion}
+use Rattle.keep_store.specs.Kept.{AreTold, IsPut}
+use Rattle.keep_store.proofs.told.tasks_in.Given as goal
+
+abbrev pub invariant-loop-row : goal.invariant-loop-row
+invariant-loop-row l =
+    record {
+      told : AreTold (take l.row-index l.rows) l.tasks.items;
+      are_put : AllByRecursion IsPut l.tasks.items;
+    }

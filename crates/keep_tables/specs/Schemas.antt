@@ -1,0 +1,95 @@
+-- The tables of a store of an agent's record and of the master's last run.
+use Rattle.std.specs.Prelude.{Bool, true, false, [], ◌∷◌, Some, None, codes, List, ℕ, pos}
+use Rattle.sqlite.specs.Collation.TheVariants.{Binary}
+use Rattle.sqlite.specs.declared.types.Value.TheVariants.{Null, Int}
+use Rattle.sqlite.specs.Table.{Table}
+use Rattle.sqlite_value.specs.Keys.{plain}
+use Rattle.sqlite_schema.specs.declared.schema.Column.{Column}
+use Rattle.sqlite_schema.specs.declared.schema.Index.{Index}
+use Rattle.sqlite_schema.specs.declared.schema.Stamps.{Stamps}
+use Rattle.sqlite.specs.Schema.{Schema}
+use Rattle.sqlite.specs.Kind.{Kind}
+use Rattle.sqlite.specs.Kind.TheVariants.{Integer, Text as Words}
+use Rattle.sqlite.specs.Term.{Term, lit, col, op2}
+use Rattle.sqlite_sql.specs.declared.ops.BinaryOp.TheVariants.{Compare}
+use Rattle.sqlite_sql.specs.declared.ops.CompareOp.TheVariants.{Eq}
+
+abbrev pub column_of : List ℕ → Kind → Bool → Column
+column_of name kind not_null = record { name = name; kind = kind; is_strict = false; not_null = not_null; default = Null; collation = Binary }
+
+-- the id is 1
+abbrev pub id_check : List Term
+id_check = op2 (Compare Eq Binary) (col 1 0) (lit (Int (pos 1))) ∷ []
+
+abbrev pub no_stamps : Stamps
+no_stamps = record { places = []; terms = []; formats = [] }
+
+-- a table of an id, which is 1, and other columns
+abbrev pub lone_table : List ℕ → ℕ → List Column → Table
+lone_table name tree columns = record {
+  name = name;
+  tree = tree;
+  columns = column_of (codes "id") Integer false ∷ columns;
+  key = Some 0;
+  primary = 0 ∷ [];
+  uniques = [];
+  orders = [];
+  checks = id_check;
+  references = [];
+  computed = [];
+  stamps = no_stamps;
+  is_counted = false;
+}
+
+abbrev pub record_columns : List Column
+record_columns = column_of (codes "body") Words true ∷ []
+
+abbrev pub run_columns : List Column
+run_columns = column_of (codes "last") Integer true ∷ []
+
+abbrev pub head_columns : List Column
+head_columns =
+    column_of (codes "name") Words true ∷ column_of (codes "run") Integer true ∷ column_of (codes "session") Integer true
+    ∷ column_of (codes "total") Words true ∷ column_of (codes "version") Integer true ∷ []
+
+abbrev pub task_columns : List Column
+task_columns = column_of (codes "run") Integer true ∷ column_of (codes "n") Integer true ∷ column_of (codes "body") Words true ∷ []
+
+abbrev pub record_table : Table
+record_table = lone_table (codes "agent_record") 0 record_columns
+
+abbrev pub run_table : Table
+run_table = lone_table (codes "run_number") 1 run_columns
+
+abbrev pub head_table : Table
+head_table = lone_table (codes "agent_head") 2 head_columns
+
+-- the table of tasks, whose key is the launch key
+abbrev pub task_table : Table
+task_table = record {
+  name = codes "agent_task";
+  tree = 3;
+  columns = task_columns;
+  key = None;
+  primary = 1 ∷ 2 ∷ [];
+  uniques = (1 ∷ 2 ∷ []) ∷ [];
+  orders = plain ∷ [];
+  checks = [];
+  references = [];
+  computed = [];
+  stamps = no_stamps;
+  is_counted = false;
+}
+
+abbrev pub task_index : Index
+task_index = record { name = codes "sqlite_autoindex_agent_task_1"; tree = 4; table = 3; columns = 1 ∷ 2 ∷ []; order = plain; is_unique = true }
+
+abbrev pub keeper_schema : Schema
+keeper_schema = record { tables = record_table ∷ run_table ∷ head_table ∷ task_table ∷ []; indexes = task_index ∷ []; views = [] }
+
+-- the two tables of a store of the form before
+abbrev pub first_schema : Schema
+first_schema = record { tables = record_table ∷ run_table ∷ []; indexes = []; views = [] }
+
+abbrev pub no_schema : Schema
+no_schema = record { tables = []; indexes = []; views = [] }

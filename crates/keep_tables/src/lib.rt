@@ -1,0 +1,247 @@
+//! The tables of a store of an agent's record and of the master's last run: whether a schema is that of these.
+#![tactic(auto)]
+
+ghost use Rattle.std.specs.Prelude.{◌≡◌, ◌↔◌, ◌∷◌, [], IsTrue, List, None, codes, false, true, length, pos};
+ghost use Rattle.sqlite.specs.Kind.TheVariants.{Integer, Text as Words};
+ghost use Rattle.sqlite_value.specs.Keys.{plain};
+ghost use Rattle.sqlite_schema.specs.declared.schema.Column.{Column};
+ghost use Rattle.sqlite.specs.declared.types.Value.TheVariants.{Int};
+ghost use Rattle.sqlite_sql.specs.declared.ops.BinaryOp.TheVariants.{Compare};
+ghost use Rattle.sqlite_sql.specs.declared.ops.CompareOp.TheVariants.{Eq};
+ghost use Rattle.sqlite.specs.Collation.TheVariants.{Binary};
+ghost use Rattle.keep_tables.specs.Schemas.{no_schema, first_schema, keeper_schema, lone_table, record_table, run_table, head_table, task_table, task_index, head_columns, task_columns, column_of, id_check, no_stamps};
+
+use sqlite_schema::code::{Op, Terms};
+use sqlite_schema::schema::{Column, Index, Kind, Schema, Stamps, Table};
+use sqlite_sql::ops::{BinaryOp, CompareOp};
+use sqlite_value::keys::Collation;
+use sqlite_value::value::Value;
+
+fn is_column(column: &Column, name: &[u8], kind: Kind, not_null: bool) -> bool
+    ensures { IsTrue result → column.now ≡ column_of name.now kind not_null }
+{
+    column.name.as_slice() == name
+        && column.kind == kind
+        && !column.is_strict
+        && column.not_null == not_null
+        && matches!(column.default, Value::Null)
+        && column.collation == Collation::Binary
+}
+
+fn is_column_term(op: &Op) -> bool
+    ensures { IsTrue result → op.now ≡ Op.Column 1 0 }
+{
+    matches!(op, Op::Column(1, 0))
+}
+
+fn is_one(op: &Op) -> bool
+    ensures { IsTrue result → op.now ≡ Op.Literal (Int (pos 1)) }
+{
+    matches!(op, Op::Literal(Value::Int(1)))
+}
+
+fn is_equality(op: &Op) -> bool
+    ensures { IsTrue result → op.now ≡ Op.Binary (Compare Eq Binary) 0 1 }
+{
+    matches!(
+        op,
+        Op::Binary(BinaryOp::Compare(CompareOp::Eq, Collation::Binary), 0, 1)
+    )
+}
+
+/// The check that the id is 1.
+fn is_check(checks: &Terms) -> bool
+    ensures { IsTrue result → checks.now ≡ id_check }
+{
+    let nodes = checks.nodes.as_slice();
+    let roots = checks.roots.as_slice();
+    nodes.len() == 3
+        && roots.len() == 1
+        && is_column_term(&nodes[0])
+        && is_one(&nodes[1])
+        && is_equality(&nodes[2])
+        && roots[0] == 2
+}
+
+fn is_plain(stamps: &Stamps) -> bool
+    ensures { IsTrue result → stamps.now ≡ no_stamps }
+{
+    stamps.places.is_empty() && stamps.terms.roots.is_empty() && stamps.formats.is_empty()
+}
+
+fn are_columns(columns: &[Column], name: &[u8], kind: Kind) -> bool
+    ensures { IsTrue result → columns.now ≡ column_of (codes "id") Integer false ∷ column_of name.now kind true ∷ [] }
+{
+    columns.len() == 2
+        && is_column(&columns[0], b"id", Kind::Integer, false)
+        && is_column(&columns[1], name, kind, true)
+}
+
+fn are_first_of_head(id: &Column, name: &Column, run: &Column) -> bool
+    ensures { IsTrue result → (id.now ≡ column_of (codes "id") Integer false) × (name.now ≡ column_of (codes "name") Words true) × (run.now ≡ column_of (codes "run") Integer true) }
+{
+    is_column(id, b"id", Kind::Integer, false)
+        && is_column(name, b"name", Kind::Text, true)
+        && is_column(run, b"run", Kind::Integer, true)
+}
+
+fn are_last_of_head(session: &Column, total: &Column, version: &Column) -> bool
+    ensures { IsTrue result → (session.now ≡ column_of (codes "session") Integer true) × (total.now ≡ column_of (codes "total") Words true) × (version.now ≡ column_of (codes "version") Integer true) }
+{
+    is_column(session, b"session", Kind::Integer, true)
+        && is_column(total, b"total", Kind::Text, true)
+        && is_column(version, b"version", Kind::Integer, true)
+}
+
+fn are_head_columns(columns: &[Column]) -> bool
+    ensures { IsTrue result → columns.now ≡ column_of (codes "id") Integer false ∷ head_columns }
+{
+    let [id, name, run, session, total, version] = columns else {
+        return false;
+    };
+    are_first_of_head(id, name, run) && are_last_of_head(session, total, version)
+}
+
+fn are_task_columns(columns: &[Column]) -> bool
+    ensures { IsTrue result → columns.now ≡ task_columns }
+{
+    columns.len() == 3
+        && is_column(&columns[0], b"run", Kind::Integer, true)
+        && is_column(&columns[1], b"n", Kind::Integer, true)
+        && is_column(&columns[2], b"body", Kind::Text, true)
+}
+
+/// What the four tables have none of.
+fn is_simple(table: &Table) -> bool
+    ensures { IsTrue result → (table.now.references ≡ []) × (table.now.computed ≡ []) × (table.now.stamps ≡ no_stamps) × (table.now.is_counted ≡ false) }
+{
+    table.references.is_empty()
+        && table.computed.is_empty()
+        && is_plain(&table.stamps)
+        && !table.is_counted
+}
+
+/// The table of an id, which is 1, and the columns that it has behind it.
+fn is_lone(table: &Table, name: &[u8], tree: u32) -> bool
+    ensures { (columns : List Column) → IsTrue result → table.now.columns ≡ column_of (codes "id") Integer false ∷ columns → table.now ≡ lone_table name.now tree columns }
+{
+    table.name.as_slice() == name
+        && table.tree == tree
+        && table.key == Some(0)
+        && table.primary.as_slice() == [0].as_slice()
+        && table.uniques.is_empty()
+        && table.orders.is_empty()
+        && is_check(&table.checks)
+        && is_simple(table)
+}
+
+fn is_table(table: &Table, name: &[u8], tree: u32, column: &[u8], kind: Kind) -> bool
+    ensures { IsTrue result → table.now ≡ lone_table name.now tree (column_of column.now kind true ∷ []) }
+{
+    is_lone(table, name, tree) && are_columns(table.columns.as_slice(), column, kind)
+}
+
+fn is_head(table: &Table) -> bool
+    ensures { IsTrue result → table.now ≡ head_table }
+{
+    is_lone(table, b"agent_head", 2) && are_head_columns(table.columns.as_slice())
+}
+
+fn has_unique(table: &Table) -> bool
+    ensures { IsTrue result → table.now.uniques ≡ (1 ∷ 2 ∷ []) ∷ [] }
+{
+    let [unique] = table.uniques.as_slice() else {
+        return false;
+    };
+    unique.as_slice() == [1, 2].as_slice()
+}
+
+fn has_order(table: &Table) -> bool
+    ensures { IsTrue result → table.now.orders ≡ plain ∷ [] }
+{
+    let [order] = table.orders.as_slice() else {
+        return false;
+    };
+    order.digits == 0
+}
+
+/// The primary key is that of run and number.
+fn has_task_key(table: &Table) -> bool
+    ensures { IsTrue result → (table.now.key ≡ None) × (table.now.primary ≡ 1 ∷ 2 ∷ []) × (table.now.uniques ≡ (1 ∷ 2 ∷ []) ∷ []) × (table.now.orders ≡ plain ∷ []) }
+{
+    table.key.is_none()
+        && table.primary.as_slice() == [1, 2].as_slice()
+        && has_unique(table)
+        && has_order(table)
+}
+
+fn is_task(table: &Table) -> bool
+    ensures { IsTrue result → table.now ≡ task_table }
+{
+    table.name.as_slice() == b"agent_task".as_slice()
+        && table.tree == 3
+        && are_task_columns(table.columns.as_slice())
+        && has_task_key(table)
+        && table.checks.roots.is_empty()
+        && is_simple(table)
+}
+
+fn is_task_index(index: &Index) -> bool
+    ensures { IsTrue result → index.now ≡ task_index }
+{
+    index.name.as_slice() == b"sqlite_autoindex_agent_task_1".as_slice()
+        && index.tree == 4
+        && index.table == 3
+        && index.columns.as_slice() == [1, 2].as_slice()
+        && index.order.digits == 0
+        && index.is_unique
+}
+
+fn are_first(tables: &[Table]) -> bool
+    ensures { IsTrue result → (length tables.now ≡ 2) × (tables.now ≡ record_table ∷ run_table ∷ []) }
+{
+    tables.len() == 2
+        && is_table(&tables[0], b"agent_record", 0, b"body", Kind::Text)
+        && is_table(&tables[1], b"run_number", 1, b"last", Kind::Integer)
+}
+
+fn are_both(record: &Table, run: &Table) -> bool
+    ensures { IsTrue result → (record.now ≡ record_table) × (run.now ≡ run_table) }
+{
+    is_table(record, b"agent_record", 0, b"body", Kind::Text)
+        && is_table(run, b"run_number", 1, b"last", Kind::Integer)
+}
+
+fn are_all(tables: &[Table]) -> bool
+    ensures { IsTrue result → tables.now ≡ record_table ∷ run_table ∷ head_table ∷ task_table ∷ [] }
+{
+    let [record, run, head, task] = tables else {
+        return false;
+    };
+    are_both(record, run) && is_head(head) && is_task(task)
+}
+
+/// The schema is that of the four tables.
+pub fn is_ours(schema: &Schema) -> bool
+    ensures { IsTrue result → schema.now ≡ keeper_schema }
+{
+    let indexes = schema.indexes.as_slice();
+    are_all(schema.tables.as_slice())
+        && indexes.len() == 1
+        && is_task_index(&indexes[0])
+        && schema.views.is_empty()
+}
+
+/// The schema is that of the two tables which a store had that kept a record as one text.
+pub fn is_first(schema: &Schema) -> bool
+    ensures { IsTrue result → schema.now ≡ first_schema }
+{
+    are_first(schema.tables.as_slice()) && schema.indexes.is_empty() && schema.views.is_empty()
+}
+
+/// There is no table yet.
+pub fn is_new(schema: &Schema) -> bool
+    ensures { IsTrue result ↔ (schema.now ≡ no_schema) }
+{
+    schema.tables.is_empty() && schema.indexes.is_empty() && schema.views.is_empty()
+}
