@@ -17,3 +17,43 @@ fn a_journal_stops(rt: HostRuntime) {
 fn a_database_file_stops(rt: HostRuntime) {
     assert!(rt; tests::a_database_file_stops(rt.alloc()));
 }
+
+#[test]
+fn a_journal_stops_in_a_first_save(rt: HostRuntime) {
+    assert!(rt; tests::a_journal_stops_in_a_first_save(rt.alloc()));
+}
+
+#[test]
+fn a_database_file_stops_in_a_first_save(rt: HostRuntime) {
+    assert!(rt; tests::a_database_file_stops_in_a_first_save(rt.alloc()));
+}
+
+#[test]
+fn a_journal_stops_among_tasks(rt: HostRuntime) {
+    assert!(rt; tests::a_journal_stops_among_tasks(rt.alloc()));
+}
+
+#[test]
+fn a_database_file_stops_among_tasks(rt: HostRuntime) {
+    assert!(rt; tests::a_database_file_stops_among_tasks(rt.alloc()));
+}
+
+#[test]
+fn a_journal_stops_in_two_saves(rt: HostRuntime) {
+    assert!(rt; tests::a_journal_stops_in_two_saves(rt.alloc()));
+}
+
+#[test]
+fn a_database_file_stops_in_two_saves(rt: HostRuntime) {
+    assert!(rt; tests::a_database_file_stops_in_two_saves(rt.alloc()));
+}
+
+#[test]
+fn a_journal_stops_behind_a_text(rt: HostRuntime) {
+    assert!(rt; tests::a_journal_stops_behind_a_text(rt.alloc()));
+}
+
+#[test]
+fn a_database_file_stops_behind_a_text(rt: HostRuntime) {
+    assert!(rt; tests::a_database_file_stops_behind_a_text(rt.alloc()));
+}

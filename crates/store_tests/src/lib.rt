@@ -1,8 +1,15 @@
 //! Tests of records in stores, each a function that says whether it passed.
 #![tactic(auto)]
 
+mod disks;
 mod of_keep_store;
 mod of_keep_store_stops;
+mod records;
 
 pub use of_keep_store::the_last_saved_is_loaded;
-pub use of_keep_store_stops::{a_database_file_stops, a_journal_stops};
+pub use of_keep_store_stops::{
+    a_database_file_stops, a_database_file_stops_among_tasks, a_database_file_stops_behind_a_text,
+    a_database_file_stops_in_a_first_save, a_database_file_stops_in_two_saves, a_journal_stops,
+    a_journal_stops_among_tasks, a_journal_stops_behind_a_text, a_journal_stops_in_a_first_save,
+    a_journal_stops_in_two_saves,
+};

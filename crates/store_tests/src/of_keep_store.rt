@@ -1,15 +1,12 @@
 //! A keeper over a store in memory: what is saved is loaded, and runs are counted. What is no record, and what is no run, stands in files of `tests/serve`.
 
-use agent_core::Record;
+use crate::records::{OTHER_TASKS, TASKS, load, save};
 use keep_store::{KeepFault, Keeper};
-use listed::Listed;
-use mails::Durable;
-use names_core::AgentName;
-use quantity::Resources;
 use sqlite::{Alter, Connection};
 use std::alloc::Global;
 
-type Found = Result<Option<u32>, KeepFault>;
+/// Which of the two records is kept, 0 where there is none.
+type Found = Result<Option<usize>, KeepFault>;
 
 /// What a keeper loads, the runs that it gives, and what it loads then.
 type Answers = (
@@ -18,35 +15,14 @@ type Answers = (
     Found,
 );
 
-/// Agent a1, in this session of run 1.
-fn record(alloc: Global, session: u32) -> Option<Record> {
-    let parts = Durable {
-        name: AgentName::from_text(alloc, "a1").ok()?,
-        total: Resources::new(alloc),
-        session,
-        run: 1,
-        tasks: Listed::new(alloc),
-    };
-    Record::of(alloc, parts).ok()?
-}
-
-// What the test makes of a keeper stands in these, which have it by reference and have no clause: so the proof of the test carries neither what a
-// keeper owns nor the state of each call.
-fn save<S: Alter>(keeper: &mut Keeper<S>, alloc: Global, session: u32) -> Option<()> {
-    let record = record(alloc, session)?;
-    keeper.save(alloc, &record).ok()
-}
-
-/// The session of the record that is kept.
-fn load<S: Alter>(keeper: &mut Keeper<S>, alloc: Global) -> Found {
-    let found = keeper.load(alloc)?;
-    Ok(found.map(|record| record.parts().session))
+fn found<S: Alter>(keeper: &mut Keeper<S>, alloc: Global) -> Found {
+    load(alloc, keeper, &[TASKS, OTHER_TASKS])
 }
 
 fn answers<S: Alter>(keeper: &mut Keeper<S>, alloc: Global) -> Answers {
-    let before = load(keeper, alloc);
+    let before = found(keeper, alloc);
     let runs = (keeper.next_run(), keeper.next_run());
-    (before, runs, load(keeper, alloc))
+    (before, runs, found(keeper, alloc))
 }
 
 /// What a new keeper answers, and the same one once it saved two records.
@@ -55,9 +31,11 @@ fn answers_around_saves<S: Alter>(
     alloc: Global,
 ) -> Option<(Answers, Answers)> {
     let new = answers(keeper, alloc);
-    save(keeper, alloc, 1)?;
-    save(keeper, alloc, 2)?;
-    Some((new, answers(keeper, alloc)))
+    if save(alloc, keeper, TASKS) && save(alloc, keeper, OTHER_TASKS) {
+        Some((new, answers(keeper, alloc)))
+    } else {
+        None
+    }
 }
 
 fn adopted<S: Alter + Drop>(conn: Connection<S>) -> Option<Keeper<S>> {
@@ -88,7 +66,7 @@ fn all_answers_in_memory(alloc: Global) -> Option<(Answers, Answers, Answers)> {
     }
 }
 
-const NEW: Answers = (Ok(None), (Ok(1), Ok(2)), Ok(None));
+const NEW: Answers = (Ok(Some(0)), (Ok(1), Ok(2)), Ok(Some(0)));
 
 const SAVED: Answers = (Ok(Some(2)), (Ok(3), Ok(4)), Ok(Some(2)));
 

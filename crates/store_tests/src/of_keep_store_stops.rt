@@ -1,111 +1,30 @@
 //! A keeper in memory whose database file or whose journal stops working after so many calls: what is found afterwards is the record
-//! before or the new one, and no run is given twice.
+//! before or the new one as a whole, and no run is given twice.
 
-use agent_core::Record;
+use crate::disks::{Calls, Contents, NO_STOP, calls_of, connected, contents_of, disks_of, nothing};
+use crate::records::{OTHER_TASKS, SESSION_1, SESSION_2, TASKS, load, save};
 use keep_store::Keeper;
-use listed::Listed;
-use mails::Durable;
-use names_core::AgentName;
-use quantity::Resources;
-use sqlite::{Alter, Connection, FileStore, Files, Options};
-use sqlite_disk::{Crash, Disk, Fuse, Memory};
+use sqlite::{Alter, Connection, FileStore, Files, params};
+use sqlite_disk::Disk;
 use std::alloc::Global;
 
-type Disks = Files<Fuse<Memory>>;
-
-/// What two files hold.
-#[derive(Drop)]
-struct Contents {
-    journal: Vec<u8>,
-    database: Vec<u8>,
-}
-
-/// How many calls a file answers before it stops.
+/// Texts of records that are kept one after another.
 #[derive(Clone, Copy)]
-struct Calls {
-    journal: u64,
-    database: u64,
+struct Plan<'a> {
+    texts: &'a [&'a str],
+    /// How many of them were kept before, the last of them still.
+    kept: usize,
 }
 
-/// What a keeper answered: the session that it loaded, whether it saved another, and which run it gave.
+/// What a keeper answered.
 #[derive(Clone, Copy)]
 struct Answers {
-    session: Option<u32>,
-    is_saved: bool,
+    /// How many of the records were kept, by the one that it loaded.
+    found: Option<usize>,
+    /// How many of them were kept, by those that it was said to have saved.
+    saved: usize,
+    /// Which run it gave.
     run: Option<u32>,
-}
-
-const NO_STOP: Calls = Calls {
-    journal: u64::MAX,
-    database: u64::MAX,
-};
-
-const NO_ANSWERS: Answers = Answers {
-    session: None,
-    is_saved: false,
-    run: None,
-};
-
-fn disk_of(alloc: Global, bytes: &[u8], calls: u64) -> Option<Fuse<Memory>> {
-    let mut disk = Memory::new(alloc);
-    if disk.write_at(0, bytes).is_err() || disk.sync().is_err() {
-        return None;
-    }
-    Some(Fuse::new(disk, calls))
-}
-
-fn disks_of(alloc: Global, contents: &Contents, calls: Calls) -> Option<Disks> {
-    let log = disk_of(alloc, contents.journal.as_slice(), calls.journal)?;
-    match disk_of(alloc, contents.database.as_slice(), calls.database) {
-        Some(db) => Some(Files { log, db }),
-        None => None,
-    }
-}
-
-fn crash(disks: &mut Disks) {
-    disks.log.crash();
-    disks.db.crash();
-}
-
-fn bytes_of(alloc: Global, disk: &Fuse<Memory>) -> Option<Vec<u8>> {
-    Vec::from_slice(alloc, disk.inner().bytes()).ok()
-}
-
-fn contents_on(alloc: Global, disks: &Disks) -> Option<Contents> {
-    let journal = bytes_of(alloc, &disks.log)?;
-    match bytes_of(alloc, &disks.db) {
-        Some(database) => Some(Contents { journal, database }),
-        None => None,
-    }
-}
-
-/// What a stop leaves on the disks: all that was written, or what was synced alone.
-fn contents_of(alloc: Global, mut disks: Disks, is_lossy: bool) -> Option<Contents> {
-    if is_lossy {
-        crash(&mut disks);
-    }
-    contents_on(alloc, &disks)
-}
-
-/// The journal is copied into the database file at each write, so that a save takes calls of both.
-fn options() -> Options {
-    Options {
-        checkpoint_frames: 1,
-        ..Options::new(7)
-    }
-}
-
-fn connected<D: Disk + Drop>(
-    alloc: Global,
-    disks: Files<D>,
-) -> Result<Connection<FileStore<D>>, Files<D>> {
-    if !disks.may_be_used() {
-        return Err(disks);
-    }
-    match Connection::open_files(alloc, disks, options()) {
-        Ok(conn) => Ok(conn),
-        Err((_, left)) => Err(left.into_files()),
-    }
 }
 
 /// A store over disks, which it gives back. What is done with one is written once, for every store.
@@ -139,34 +58,21 @@ fn closed<S: OverDisks>(keeper: Keeper<S>) -> S::Disks {
     keeper.into_connection().into_store().into_disks()
 }
 
-fn record(alloc: Global, session: u32) -> Option<Record> {
-    let parts = Durable {
-        name: AgentName::from_text(alloc, "a1").ok()?,
-        total: Resources::new(alloc),
-        session,
-        run: 1,
-        tasks: Listed::new(alloc),
-    };
-    Record::of(alloc, parts).ok()?
-}
-
-/// The session of the record that is kept.
-fn load<S: Alter>(alloc: Global, keeper: &mut Keeper<S>) -> Option<u32> {
-    Some(keeper.load(alloc).ok()??.parts().session)
-}
-
-fn save<S: Alter>(alloc: Global, keeper: &mut Keeper<S>, session: Option<u32>) -> bool {
-    match session.and_then(|session| record(alloc, session)) {
-        Some(record) => keeper.save(alloc, &record).is_ok(),
-        None => false,
+/// How many of the records were kept once the others are saved, until one is refused.
+fn save_others<S: Alter>(alloc: Global, keeper: &mut Keeper<S>, plan: Plan<'_>) -> usize {
+    for (at, text) in plan.texts.iter().enumerate().skip(plan.kept) {
+        if !save(alloc, keeper, text) {
+            return at;
+        }
     }
+    plan.texts.len()
 }
 
-/// What the keeper answers to a load, to a save of this session, if there is one, and to a call for the next run.
-fn answers_of<S: Alter>(alloc: Global, keeper: &mut Keeper<S>, session: Option<u32>) -> Answers {
+/// What the keeper answers to a load, to saves of the other records, and to a call for the next run.
+fn answers_of<S: Alter>(alloc: Global, keeper: &mut Keeper<S>, plan: Plan<'_>) -> Answers {
     Answers {
-        session: load(alloc, keeper),
-        is_saved: save(alloc, keeper, session),
+        found: load(alloc, keeper, plan.texts).unwrap_or(None),
+        saved: save_others(alloc, keeper, plan),
         run: keeper.next_run().ok(),
     }
 }
@@ -175,14 +81,21 @@ fn answers_of<S: Alter>(alloc: Global, keeper: &mut Keeper<S>, session: Option<u
 fn visited<S: OverDisks>(
     alloc: Global,
     conn: Result<Connection<S>, S::Disks>,
-    session: Option<u32>,
+    plan: Plan<'_>,
 ) -> (Answers, S::Disks) {
     match opened(conn) {
         Ok(mut keeper) => {
-            let answers = answers_of(alloc, &mut keeper, session);
+            let answers = answers_of(alloc, &mut keeper, plan);
             (answers, closed(keeper))
         }
-        Err(left) => (NO_ANSWERS, left),
+        Err(left) => {
+            let answers = Answers {
+                found: None,
+                saved: plan.kept,
+                run: None,
+            };
+            (answers, left)
+        }
     }
 }
 
@@ -191,81 +104,117 @@ fn visited_at(
     alloc: Global,
     contents: &Contents,
     calls: Calls,
-    session: Option<u32>,
+    plan: Plan<'_>,
     is_lossy: bool,
 ) -> Option<(Answers, Contents)> {
     let disks = disks_of(alloc, contents, calls)?;
-    let (answers, left) = visited(alloc, connected(alloc, disks), session);
+    let (answers, left) = visited(alloc, connected(alloc, disks), plan);
     match contents_of(alloc, left, is_lossy) {
         Some(left) => Some((answers, left)),
         None => None,
     }
 }
 
-fn nothing(alloc: Global) -> Contents {
-    Contents {
-        journal: Vec::new(alloc),
-        database: Vec::new(alloc),
-    }
-}
-
-/// The files in which the record of session 1 is kept and run 1 was given out.
-fn start(alloc: Global) -> Option<Contents> {
-    let (answers, left) = visited_at(alloc, &nothing(alloc), NO_STOP, Some(1), false)?;
-    if answers.is_saved && answers.run == Some(1) {
+/// The files in which the record of a text is kept and run 1 was given out.
+fn rows(alloc: Global, text: &str) -> Option<Contents> {
+    let plan = Plan {
+        texts: &[text],
+        kept: 0,
+    };
+    let (answers, left) = visited_at(alloc, &nothing(alloc), NO_STOP, plan, false)?;
+    if answers.saved == 1 && answers.run == Some(1) {
         Some(left)
     } else {
         None
     }
 }
 
-/// The record of session 1, or the new one of session 2, which it is if it was said to be saved; and a run above each that was given.
-fn is_kept(told: Answers, found: Answers) -> bool {
-    let is_record = found.session == Some(2) || (found.session == Some(1) && !told.is_saved);
-    is_record && found.run > Some(told.run.unwrap_or(1))
+/// The tables of a store that keeps a record as one text, with run 1 given out.
+const TABLES_OF_TEXT: &str =
+    "CREATE TABLE agent_record (id INTEGER PRIMARY KEY CHECK (id = 1), body TEXT NOT NULL);
+CREATE TABLE run_number (id INTEGER PRIMARY KEY CHECK (id = 1), last INTEGER NOT NULL);
+INSERT INTO run_number (id, last) VALUES (1, 1)";
+
+/// Whether a record was kept as one text.
+fn write_text<S: Alter>(conn: &mut Connection<S>, text: &str) -> bool {
+    let insert = "INSERT INTO agent_record (id, body) VALUES (1, ?1)";
+    conn.execute_batch(TABLES_OF_TEXT).is_ok() && conn.execute(insert, params![text]).is_ok()
 }
 
-/// What the keepers of two visits answer: of session 2 over files that stop, and then over what is left of them.
-fn answers_around_a_stop(
-    alloc: Global,
-    start: &Contents,
-    calls: Calls,
-    is_lossy: bool,
-) -> Option<(Answers, Answers)> {
-    let (told, left) = visited_at(alloc, start, calls, Some(2), is_lossy)?;
-    let (found, _) = visited_at(alloc, &left, NO_STOP, None, false)?;
-    Some((told, found))
-}
-
-/// Whether a save of session 2 and a next run came to their end over files that stop; none where what is found afterwards isn't what is to be kept.
-fn is_whole(alloc: Global, start: &Contents, calls: Calls, is_lossy: bool) -> Option<bool> {
-    let (told, found) = answers_around_a_stop(alloc, start, calls, is_lossy)?;
-    if is_kept(told, found) {
-        Some(told.is_saved && told.run.is_some())
+/// The disks of a store in which a record was kept as one text.
+fn with_text<S: OverDisks>(mut conn: Connection<S>, text: &str) -> Option<S::Disks> {
+    if write_text(&mut conn, text) {
+        Some(conn.into_store().into_disks())
     } else {
         None
     }
 }
 
-/// Which calls one file answers, while the other answers all.
-fn calls_of(is_journal: bool, calls: u64) -> Calls {
-    if is_journal {
-        return Calls {
-            journal: calls,
-            ..NO_STOP
-        };
+/// The files in which a record is kept as one text and run 1 was given out.
+fn text_alone(alloc: Global, text: &str) -> Option<Contents> {
+    let disks = disks_of(alloc, &nothing(alloc), NO_STOP)?;
+    match connected(alloc, disks) {
+        Ok(conn) => contents_of(alloc, with_text(conn, text)?, false),
+        Err(_) => None,
     }
-    Calls {
-        database: calls,
-        ..NO_STOP
+}
+
+/// The last run that was given out before: where a record was kept, run 1 was.
+fn run_before(plan: Plan<'_>) -> u32 {
+    if plan.kept > 0 { 1 } else { 0 }
+}
+
+/// The last record that was said to be saved, or the one behind it; and a run above each that was given.
+fn is_kept(plan: Plan<'_>, told: Answers, found: Answers) -> bool {
+    let is_record = found.found == Some(told.saved)
+        || found.found == Some(told.saved.saturating_add(1));
+    is_record && found.run > Some(told.run.unwrap_or(run_before(plan)))
+}
+
+/// What the keepers of two visits answer: over files that stop, and then over what is left of them.
+fn answers_around_a_stop(
+    alloc: Global,
+    start: &Contents,
+    plan: Plan<'_>,
+    calls: Calls,
+    is_lossy: bool,
+) -> Option<(Answers, Answers)> {
+    let (told, left) = visited_at(alloc, start, calls, plan, is_lossy)?;
+    let loads = Plan {
+        kept: plan.texts.len(),
+        ..plan
+    };
+    let (found, _) = visited_at(alloc, &left, NO_STOP, loads, false)?;
+    Some((told, found))
+}
+
+/// Whether all saves and a next run came to their end over files that stop; none where what is found afterwards isn't what is to be kept.
+fn is_whole(
+    alloc: Global,
+    start: &Contents,
+    plan: Plan<'_>,
+    calls: Calls,
+    is_lossy: bool,
+) -> Option<bool> {
+    let (told, found) = answers_around_a_stop(alloc, start, plan, calls, is_lossy)?;
+    if is_kept(plan, told, found) {
+        Some(told.saved == plan.texts.len() && told.run.is_some())
+    } else {
+        None
     }
 }
 
 /// At how many calls of the journal, or of the database file, a stop was tried, until none came. None where a stop left neither record or a run was given
 /// twice, or where there always was a stop.
-fn stops_from(alloc: Global, start: &Contents, is_journal: bool, is_lossy: bool) -> Option<u64> {
+fn stops_from(
+    alloc: Global,
+    start: &Contents,
+    plan: Plan<'_>,
+    is_journal: bool,
+    is_lossy: bool,
+) -> Option<u64> {
     for calls in 0..1000u64 {
-        if is_whole(alloc, start, calls_of(is_journal, calls), is_lossy)? {
+        if is_whole(alloc, start, plan, calls_of(is_journal, calls), is_lossy)? {
             return Some(calls);
         }
     }
@@ -273,19 +222,99 @@ fn stops_from(alloc: Global, start: &Contents, is_journal: bool, is_lossy: bool)
 }
 
 /// Whether stops of one file were tried, and each left what it may leave.
-fn stops_well(alloc: Global, is_journal: bool, is_lossy: bool) -> bool {
-    match start(alloc) {
-        Some(start) => stops_from(alloc, &start, is_journal, is_lossy) > Some(0),
+fn stops_well(alloc: Global, start: Option<Contents>, plan: Plan<'_>, is_journal: bool) -> bool {
+    match start {
+        Some(start) => {
+            stops_from(alloc, &start, plan, is_journal, false) > Some(0)
+                && stops_from(alloc, &start, plan, is_journal, true) > Some(0)
+        }
         None => false,
     }
 }
 
+/// A save and a next run.
+fn stops_in_a_save(alloc: Global, is_journal: bool) -> bool {
+    let plan = Plan {
+        texts: &[SESSION_1, SESSION_2],
+        kept: 1,
+    };
+    stops_well(alloc, rows(alloc, SESSION_1), plan, is_journal)
+}
+
+/// A first save, over empty files.
+fn stops_in_a_first_save(alloc: Global, is_journal: bool) -> bool {
+    let plan = Plan {
+        texts: &[TASKS],
+        kept: 0,
+    };
+    stops_well(alloc, Some(nothing(alloc)), plan, is_journal)
+}
+
+/// A save of other tasks by a new keeper, which knows no row.
+fn stops_among_tasks(alloc: Global, is_journal: bool) -> bool {
+    let plan = Plan {
+        texts: &[TASKS, OTHER_TASKS],
+        kept: 1,
+    };
+    stops_well(alloc, rows(alloc, TASKS), plan, is_journal)
+}
+
+/// A save of tasks and one of other tasks by the same keeper, which writes the rows of those that changed.
+fn stops_in_two_saves(alloc: Global, is_journal: bool) -> bool {
+    let plan = Plan {
+        texts: &[SESSION_1, TASKS, OTHER_TASKS],
+        kept: 1,
+    };
+    stops_well(alloc, rows(alloc, SESSION_1), plan, is_journal)
+}
+
+/// A save over a record that is kept as one text.
+fn stops_behind_a_text(alloc: Global, is_journal: bool) -> bool {
+    let plan = Plan {
+        texts: &[TASKS, OTHER_TASKS],
+        kept: 1,
+    };
+    stops_well(alloc, text_alone(alloc, TASKS), plan, is_journal)
+}
+
 /// The journal's file stops at each call.
 pub fn a_journal_stops(alloc: Global) -> bool {
-    stops_well(alloc, true, false) && stops_well(alloc, true, true)
+    stops_in_a_save(alloc, true)
 }
 
 /// The database's file stops at each call.
 pub fn a_database_file_stops(alloc: Global) -> bool {
-    stops_well(alloc, false, false) && stops_well(alloc, false, true)
+    stops_in_a_save(alloc, false)
+}
+
+pub fn a_journal_stops_in_a_first_save(alloc: Global) -> bool {
+    stops_in_a_first_save(alloc, true)
+}
+
+pub fn a_database_file_stops_in_a_first_save(alloc: Global) -> bool {
+    stops_in_a_first_save(alloc, false)
+}
+
+pub fn a_journal_stops_among_tasks(alloc: Global) -> bool {
+    stops_among_tasks(alloc, true)
+}
+
+pub fn a_database_file_stops_among_tasks(alloc: Global) -> bool {
+    stops_among_tasks(alloc, false)
+}
+
+pub fn a_journal_stops_in_two_saves(alloc: Global) -> bool {
+    stops_in_two_saves(alloc, true)
+}
+
+pub fn a_database_file_stops_in_two_saves(alloc: Global) -> bool {
+    stops_in_two_saves(alloc, false)
+}
+
+pub fn a_journal_stops_behind_a_text(alloc: Global) -> bool {
+    stops_behind_a_text(alloc, true)
+}
+
+pub fn a_database_file_stops_behind_a_text(alloc: Global) -> bool {
+    stops_behind_a_text(alloc, false)
 }

@@ -1,0 +1,62 @@
+//! Records as texts, and what a keeper makes of them.
+
+use agent_core::Record;
+use keep_store::{KeepFault, Keeper};
+use record_text::{record_of, record_text};
+use sqlite::Alter;
+use std::alloc::Global;
+
+/// Agent a1 in session 1, with no task.
+pub const SESSION_1: &str =
+    r#"{"name":"a1","run":1,"session":1,"tasks":[],"total":{},"version":1}"#;
+
+/// It in session 2.
+pub const SESSION_2: &str =
+    r#"{"name":"a1","run":1,"session":2,"tasks":[],"total":{},"version":1}"#;
+
+/// It with three tasks.
+pub const TASKS: &str =
+    r#"{"name":"a1","run":1,"session":2,"tasks":[{"acked":1,"framework":"F1-1","key":"L1-1","name":"t1","offers":["O1-1"],"resources":{"cpus":1},"updates":["TASK_RUNNING"]},{"acked":0,"framework":"F1-1","key":"L1-2","name":"t2","offers":["O1-1"],"resources":{"cpus":1},"updates":["TASK_RUNNING"]},{"acked":0,"framework":"F1-2","key":"L1-3","name":"t3","offers":["O1-2","O1-3"],"resources":{"cpus":1,"mem":64},"updates":[]}],"total":{"cpus":4,"mem":64},"version":1}"#;
+
+/// The same first task, the second with an update more, no third, and a new one of the next run.
+pub const OTHER_TASKS: &str =
+    r#"{"name":"a1","run":2,"session":3,"tasks":[{"acked":1,"framework":"F1-1","key":"L1-1","name":"t1","offers":["O1-1"],"resources":{"cpus":1},"updates":["TASK_RUNNING"]},{"acked":0,"framework":"F1-1","key":"L1-2","name":"t2","offers":["O1-1"],"resources":{"cpus":1},"updates":["TASK_RUNNING","TASK_FINISHED"]},{"acked":0,"framework":"F1-1","key":"L2-1","name":"t4","offers":["O2-1"],"resources":{"cpus":2},"updates":[]}],"total":{"cpus":8},"version":1}"#;
+
+// What is made of a keeper stands in functions that have it by reference and have no clause: so the proof of a test carries neither what a keeper owns
+// nor the state of each call.
+fn record(alloc: Global, text: &str) -> Option<Record> {
+    Record::of(alloc, record_of(alloc, text).ok()?).ok()?
+}
+
+/// Whether the record of a text was saved.
+pub fn save<S: Alter>(alloc: Global, keeper: &mut Keeper<S>, text: &str) -> bool {
+    match record(alloc, text) {
+        Some(record) => keeper.save(alloc, &record).is_ok(),
+        None => false,
+    }
+}
+
+/// The place of a text among these, from 1.
+fn place(texts: &[&str], text: &str) -> Option<usize> {
+    Some(texts.iter().position(|other| *other == text)? + 1)
+}
+
+/// The place of a record's text among these, from 1.
+fn place_of(alloc: Global, texts: &[&str], record: &Record) -> Option<usize> {
+    match record_text(alloc, record.parts()) {
+        Ok(text) => place(texts, text.as_str()),
+        Err(_) => None,
+    }
+}
+
+/// The place among these texts, from 1, of that of the record that is kept as a whole; 0 where there is no record, None where it is another.
+pub fn load<S: Alter>(
+    alloc: Global,
+    keeper: &mut Keeper<S>,
+    texts: &[&str],
+) -> Result<Option<usize>, KeepFault> {
+    match keeper.load(alloc)? {
+        Some(record) => Ok(place_of(alloc, texts, &record)),
+        None => Ok(Some(0)),
+    }
+}
