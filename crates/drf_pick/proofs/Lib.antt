@@ -5,3 +5,4 @@ pub mod Places
 pub mod Picks
 pub mod Once
 pub mod OnceRoles
+pub mod UpTo

@@ -1,8 +1,6 @@
 -- Holders of which no framework stands twice.
 use Rattle.std.proofs.Common.{◌≡◌, ℕ, zero, suc, ◌<◌, Bool, true, false, cond, List, [], ◌∷◌, ◌++◌, length, get_or, Option, Some, None, Result, Ok, Err, OnOk, OnErr, refl, sym, ap, subst, ◌∙◌, arith}
 use Rattle.std.specs.List.{position, position_or_len, find}
-use Rattle.std.specs.Option.{option_copied}
-use Rattle.std.specs.Borrow.{Bor}
 use Rattle.std.specs.Prelude.{is_some}
 use Rattle.std.proofs.lemmas.List.Sums.{position_or_len_is}
 use Rattle.std.proofs.lemmas.Bool.{true≢false, lt-ltb}
@@ -92,10 +90,10 @@ once_changed t change keeps (g ∷ hs) once = by_case (is_holder t g) (once_chan
     by_case true ih = (ap (λ (id : Numbered). find (is_holder id) hs) (keeps g) ∙ once.0, once.1)
     by_case false ih = (find_none_changed g.framework t change keeps hs once.0, ih)
 
--- nothing was found
-pub not_some : {X : Type 0} (o : Option (Bor X)) → is_some o ≡ false → option_copied o ≡ None
-not_some None e = refl
-not_some (Some x) e = absurd (true≢false e)
+-- none is left
+pub none_left : {X : Type 0} (o : Option X) → is_some o ≡ false → o ≡ None
+none_left None e = refl
+none_left (Some x) e = absurd (true≢false e)
 
 -- whether they changed or stayed
 pub once_either : {T E : Type 0} (X : Type 0) (r : Result T E) (now changed before : List Holder) → OnOk r (now ≡ changed) → OnErr r ((now ≡ before) × X) → HoldersOnce changed → HoldersOnce before → HoldersOnce now

@@ -1,10 +1,10 @@
 -- What frameworks and roles hold, and what all agents own.
-use Rattle.std.specs.Prelude.{◌≡◌, ⊤, ℕ, Bool, false, ◌&&◌, if◌then◌else◌, List, [], ◌∷◌, ◌++◌, Option, Some, None, bytes_eq}
-use Rattle.std.specs.List.{find}
+use Rattle.std.specs.Prelude.{◌≡◌, ⊤, ℕ, Bool, true, false, ◌&&◌, if◌then◌else◌, List, [], ◌∷◌, ◌++◌, Option, Some, None, bytes_eq}
+use Rattle.std.specs.List.{AllByRecursion, find}
 use Rattle.names_core.specs.Ids.{Numbered}
 use Rattle.quantity.specs.declared.rows.Row.{Row}
 use Rattle.quantity.specs.Rows.{covers, rest_of}
-use Rattle.cluster_model.specs.Ids.{same}
+use Rattle.cluster_model.specs.Ids.{before, same}
 use Rattle.share_sums.specs.Sums.{summed}
 pub use Rattle.drf_pick.specs.declared.holder.Holder.{Holder}
 pub use Rattle.drf_pick.specs.declared.holder.RoleSum.{RoleSum}
@@ -124,6 +124,16 @@ returned framework rows t = record t {
 abbrev pub HoldersOnce : List Holder → Type 0
 HoldersOnce [] = ⊤
 HoldersOnce (h ∷ hs) = (find (is_holder h.framework) hs ≡ None) × HoldersOnce hs
+
+-- the framework is behind the last one, by their ids
+abbrev pub is_behind : Option Numbered → Numbered → Bool
+is_behind None framework = true
+is_behind (Some last) framework = before last framework
+
+-- no framework is behind the last one
+abbrev pub AreUpTo : Option Numbered → List Holder → Type 0
+AreUpTo None hs = hs ≡ []
+AreUpTo (Some last) hs = AllByRecursion (λ h. before last h.framework ≡ false) hs
 
 -- no role stands twice
 abbrev pub RolesOnce : List RoleSum → Type 0

@@ -1,10 +1,10 @@
 //! What frameworks and roles hold, and what all agents own.
 
-ghost use Rattle.std.specs.Prelude.{◌≡◌, ◌++◌, ◌∷◌, [], true, false, Err, OnOk, OnErr};
+ghost use Rattle.std.specs.Prelude.{◌≡◌, ◌++◌, ◌∷◌, [], ℕ, List, true, false, Some, Err, OnOk, OnErr, IfErr, is_some};
 ghost use Rattle.std.specs.List.{find, position};
 ghost use Rattle.std.specs.Option.{option_copied};
 ghost use Rattle.role_weights.specs.Weights.{IsWeight};
-ghost use Rattle.drf_pick.specs.Shares.{HoldersOnce, RolesOnce, is_holder, is_role, at_first, role_holding, given_holders, given_roles, entered, given, holder_of, role_sum_of, roles_with, weighed, weighing, with_role, can_leave, departed, role_has, holder_has, can_back, role_returning, returned_holders, returned_roles, returned};
+ghost use Rattle.drf_pick.specs.Shares.{AreUpTo, Holder, HoldersOnce, RolesOnce, is_behind, is_holder, is_role, at_first, role_holding, given_holders, given_roles, entered, given, holder_of, role_sum_of, roles_with, weighed, weighing, with_role, can_leave, departed, role_has, holder_has, can_back, role_returning, returned_holders, returned_roles, returned};
 
 use crate::holder::{Holder, RoleSum, is_before};
 use names_core::{FrameworkId, RoleName};
@@ -19,6 +19,8 @@ use std::marker::Model;
 pub struct Shares {
     pub(crate) totals: Sum,
     pub(crate) holders: Vec<Holder>,
+    /// The last of the holders' frameworks, by their ids: one behind it is none of them.
+    last: Option<FrameworkId>,
     pub(crate) roles: Vec<RoleSum>,
     /// For each holder the place of its role. It is tried first; no answer hangs on it.
     pub(crate) role_places: Vec<usize>,
@@ -27,13 +29,14 @@ pub struct Shares {
 
 impl Model for Shares {
     ghost use Rattle.std.specs.Prelude.{◌≡◌, []};
-    ghost use Rattle.drf_pick.specs.Shares.{Tally, HoldersOnce, RolesOnce};
+    ghost use Rattle.drf_pick.specs.Shares.{AreUpTo, Tally, HoldersOnce, RolesOnce};
 
     ghost Value = { Tally };
 
     ghost view = { λ s. record { totals = s.totals; holders = s.holders.items; roles = s.roles.items } };
 
-    ghost invariant = { λ s. ((s.nothing ≡ []) × RolesOnce s.roles.items) × HoldersOnce s.holders.items };
+    ghost invariant = { λ s. (((s.nothing ≡ []) × AreUpTo s.last s.holders.items) × RolesOnce s.roles.items)
+        × HoldersOnce s.holders.items };
 }
 
 /// The place of a framework's holder. It is found at once where the holders stand in the order of their frameworks' ids.
@@ -46,6 +49,16 @@ pub(crate) fn holder_place(holders: &[Holder], framework: FrameworkId) -> Option
         return Some(place);
     }
     holders.iter().position(|holder| holder.is_of(framework))
+}
+
+/// Whether a framework is behind the last one.
+fn is_behind(last: Option<FrameworkId>, framework: FrameworkId) -> bool
+    ensures { result ≡ is_behind last framework }
+{
+    match last {
+        None => true,
+        Some(last) => is_before(last, framework),
+    }
 }
 
 /// The place of a role's sum. It is found at once where the guess is right.
@@ -80,6 +93,33 @@ pub(crate) fn find_holder(
 {
     let place = holder_near(holders, guess, framework)?;
     Some(&holders[place])
+}
+
+/// Whether one of these holders is the framework's. No holder is behind the last one.
+fn is_known(holders: &[Holder], last: Option<FrameworkId>, framework: FrameworkId) -> bool
+    requires once { HoldersOnce holders.now }
+    requires up_to { AreUpTo last holders.now }
+    ensures { result ≡ is_some (find (is_holder framework) holders.now) }
+{
+    if is_behind(last, framework) {
+        return false;
+    }
+    find_holder(holders, holders.len(), framework).is_some()
+}
+
+/// The last one, where this framework comes.
+fn later(last: Option<FrameworkId>, framework: FrameworkId) -> FrameworkId
+    ensures { (hs : List Holder) (role : List ℕ) → AreUpTo last hs
+        → AreUpTo (Some result) (hs ++ holder_of framework role ∷ []) }
+{
+    let Some(last) = last else {
+        return framework;
+    };
+    if is_before(last, framework) {
+        framework
+    } else {
+        last
+    }
 }
 
 pub(crate) fn find_role<'a>(
@@ -293,6 +333,7 @@ impl Shares {
         Shares {
             totals: Sum::new(alloc),
             holders: Vec::new(alloc),
+            last: None,
             roles: Vec::new(alloc),
             role_places: Vec::new(alloc),
             nothing: Sum::new(alloc),
@@ -303,6 +344,7 @@ impl Shares {
     pub fn enter(&mut self, alloc: Global, total: &Resources) -> Result<(), SharesFault>
         ensures ok { OnOk result (self.new ≡ entered total.now self.old) }
         ensures err { OnErr result (self.new ≡ self.old) }
+        ensures memory { IfErr result (λ fault. fault ≡ SharesFault.OutOfMemory) }
     {
         self.totals = self.totals.plus(alloc, total)?;
         Ok(())
@@ -318,9 +360,9 @@ impl Shares {
     ) -> Result<(), SharesFault>
         ensures ok { OnOk result (self.new ≡ with_role framework role.now self.old) }
         ensures err { OnErr result (self.new ≡ self.old) }
+        ensures memory { IfErr result (λ fault. fault ≡ SharesFault.OutOfMemory) }
     {
-        let count = self.holders.len();
-        if find_holder(&self.holders, count, framework).is_some() {
+        if is_known(&self.holders, self.last, framework) {
             return Ok(());
         }
         add_holder(
@@ -331,6 +373,7 @@ impl Shares {
             framework,
             role,
         )?;
+        self.last = Some(later(self.last, framework));
         Ok(())
     }
 
@@ -339,6 +382,7 @@ impl Shares {
         requires { IsWeight weight }
         ensures ok { OnOk result (self.new ≡ weighed role.now weight self.old) }
         ensures err { OnErr result (self.new ≡ self.old) }
+        ensures memory { IfErr result (λ fault. fault ≡ SharesFault.OutOfMemory) }
     {
         let guess = last_place(&self.role_places);
         let place = add_role(&mut self.roles, alloc, guess, role)?;
@@ -356,6 +400,7 @@ impl Shares {
     ) -> Result<(), SharesFault>
         ensures ok { OnOk result (self.new ≡ given framework resources.now self.old) }
         ensures err { OnErr result (self.new ≡ self.old) }
+        ensures memory { IfErr result (λ fault. fault ≡ SharesFault.OutOfMemory) }
     {
         give_in(
             &mut self.holders,

@@ -1,0 +1,66 @@
+-- Holders none of which is behind the last one.
+use Rattle.std.proofs.Common.{◌≡◌, ℕ, Bool, true, false, cond, List, [], ◌∷◌, ◌++◌, Option, Some, None, Result, Ok, Err, OnOk, OnErr, refl, sym, ap, subst, ◌∙◌, arith}
+use Rattle.std.specs.List.{AllByRecursion, find}
+use Rattle.std.proofs.lemmas.Bool.Decides.{nat_tests}
+use Rattle.names_core.specs.Ids.{Numbered}
+use Rattle.cluster_model.specs.Ids.{before, same}
+use Rattle.drf_pick.specs.Shares.{AreUpTo, Holder, holder_of, is_behind, is_holder, at_first}
+
+other : (last f g : Numbered) → before last f ≡ true → before last g ≡ false → same g f ≡ false
+other last f g h k = grind (arith, nat_tests)
+
+none_of : (last f : Numbered) (hs : List Holder) → before last f ≡ true → AllByRecursion (λ h. before last h.framework ≡ false) hs → find (is_holder f) hs ≡ None
+none_of last f [] behind all = refl
+none_of last f (h ∷ hs) behind all = rw (other last f h.framework behind all.0) (none_of last f hs behind all.1)
+
+-- what is behind the last one is none of them
+pub none_behind : (o : Option Numbered) (f : Numbered) (hs : List Holder) → is_behind o f ≡ true → AreUpTo o hs → find (is_holder f) hs ≡ None
+none_behind None f hs behind up = ap (find (is_holder f)) up
+none_behind (Some last) f hs behind up = none_of last f hs behind up
+
+-- one more
+
+all_push : (P : Holder → Type 0) (hs : List Holder) (h : Holder) → AllByRecursion P hs → P h → AllByRecursion P (hs ++ h ∷ [])
+all_push P [] h all one = (one, tt)
+all_push P (g ∷ hs) h all one = (all.0, all_push P hs h all.1 one)
+
+onward : (last f g : Numbered) → before last f ≡ true → before last g ≡ false → before f g ≡ false
+onward last f g h k = grind (arith, nat_tests)
+
+all_onward : (last f : Numbered) (hs : List Holder) → before last f ≡ true → AllByRecursion (λ h. before last h.framework ≡ false) hs → AllByRecursion (λ h. before f h.framework ≡ false) hs
+all_onward last f [] behind all = tt
+all_onward last f (h ∷ hs) behind all = (onward last f h.framework behind all.0, all_onward last f hs behind all.1)
+
+itself : (f : Numbered) → before f f ≡ false
+itself f = grind (arith, nat_tests)
+
+pub push_first : (f : Numbered) (hs : List Holder) (role : List ℕ) → AreUpTo None hs → AreUpTo (Some f) (hs ++ holder_of f role ∷ [])
+push_first f [] role up = (itself f, tt)
+push_first f (h ∷ hs) role up = absurd (cc)
+
+pub push_behind : (last f : Numbered) (hs : List Holder) (role : List ℕ) → before last f ≡ true → AreUpTo (Some last) hs → AreUpTo (Some f) (hs ++ holder_of f role ∷ [])
+push_behind last f hs role behind up = all_push _ hs (holder_of f role) (all_onward last f hs behind up) (itself f)
+
+pub push_within : (last f : Numbered) (hs : List Holder) (role : List ℕ) → before last f ≡ false → AreUpTo (Some last) hs → AreUpTo (Some last) (hs ++ holder_of f role ∷ [])
+push_within last f hs role within up = all_push _ hs (holder_of f role) up within
+
+-- one of them holds another amount
+
+all_changed : (last t : Numbered) (change : Holder → Holder) → ((h : Holder) → (change h).framework ≡ h.framework) → (hs : List Holder) → AllByRecursion (λ h. before last h.framework ≡ false) hs
+    → AllByRecursion (λ h. before last h.framework ≡ false) (at_first (is_holder t) change hs)
+all_changed last t change keeps [] all = tt
+all_changed last t change keeps (h ∷ hs) all = by_case (is_holder t h) (all_changed last t change keeps hs all.1)
+  where
+    by_case : (b : Bool) → AllByRecursion (λ h. before last h.framework ≡ false) (at_first (is_holder t) change hs)
+        → AllByRecursion (λ h. before last h.framework ≡ false) (cond b (change h ∷ hs) (h ∷ at_first (is_holder t) change hs))
+    by_case true ih = (ap (before last) (keeps h) ∙ all.0, all.1)
+    by_case false ih = (all.0, ih)
+
+pub changed_up_to : (o : Option Numbered) (t : Numbered) (change : Holder → Holder) → ((h : Holder) → (change h).framework ≡ h.framework) → (hs : List Holder) → AreUpTo o hs → AreUpTo o (at_first (is_holder t) change hs)
+changed_up_to None t change keeps hs up = ap (at_first (is_holder t) change) up
+changed_up_to (Some last) t change keeps hs up = all_changed last t change keeps hs up
+
+-- whether they changed or stayed
+pub up_to_either : {T E : Type 0} (X : Type 0) (o : Option Numbered) (r : Result T E) (now changed before : List Holder) → OnOk r (now ≡ changed) → OnErr r ((now ≡ before) × X) → AreUpTo o changed → AreUpTo o before → AreUpTo o now
+up_to_either X o (Ok x) now changed before ok err c b = subst (AreUpTo o) (sym ok) c
+up_to_either X o (Err e) now changed before ok err c b = subst (AreUpTo o) (sym err.0) b
