@@ -4,3 +4,5 @@ pub mod Summing
 pub mod Naming
 pub mod Holding
 pub mod Adding
+pub mod Named
+pub mod Refusing

@@ -4,3 +4,4 @@ pub mod Held
 pub mod Found
 pub mod Faults
 pub mod Laws
+pub mod Named

@@ -7,11 +7,13 @@ ghost use Rattle.offer_book.specs.Accounts.{new_account, without_offer, with_tas
 ghost use Rattle.offer_book.specs.Books.{is_agent, is_named_so, is_offered, is_booked, at_place, booked_count, entered, dropped_from, free_of, offered, booked, withdrawn, task_ended, forgotten};
 ghost use Rattle.offer_book.specs.Held.{place, held};
 ghost use Rattle.offer_book.specs.Found.{made, offer_of, task_of};
+ghost use Rattle.offer_book.specs.Named.{AreAllNamed, IsNamed};
 ghost use Rattle.offer_book.specs.Faults.{IsRefusal};
 
 use crate::account::Account;
 use crate::fault::BookFault;
 use crate::held;
+use crate::names::Names;
 use booked_tasks::Heard;
 use listed::Listed;
 use mails::{Booked, Command, Offer};
@@ -25,15 +27,20 @@ use std::marker::Model;
 #[derive(Drop)]
 pub struct OfferBook {
     accounts: Vec<Account>,
+    /// Among these are the names of all booked tasks.
+    names: Names,
 }
 
 impl Model for OfferBook {
     ghost use Rattle.std.specs.Prelude.{List};
     ghost use Rattle.offer_book.specs.declared.account.Account.{Account};
+    ghost use Rattle.offer_book.specs.Named.{AreAllNamed};
 
     ghost Value = { List Account };
 
     ghost view = { λ book. book.accounts.items };
+
+    ghost invariant = { λ book. AreAllNamed book.names book.accounts.items };
 }
 
 fn place_of(accounts: &[Account], name: &AgentName) -> Option<usize>
@@ -279,6 +286,18 @@ fn booked_count(accounts: &[Account]) -> u128
     count
 }
 
+/// Keeps the name of a task that is about to be booked, and lets go names of tasks that are gone where they are many.
+fn note(names: &mut Names, accounts: &[Account], task: &Booked)
+    ensures noted { IsNamed names.new task.now }
+    ensures kept { AreAllNamed names.old accounts.now → AreAllNamed names.new accounts.now }
+{
+    if names.are_due() {
+        let booked = booked_count(accounts);
+        names.review(accounts, booked);
+    }
+    names.note(task);
+}
+
 impl OfferBook {
     /// A book without agents.
     pub fn new(alloc: Global) -> OfferBook
@@ -286,6 +305,7 @@ impl OfferBook {
     {
         OfferBook {
             accounts: Vec::new(alloc),
+            names: Names::new(alloc),
         }
     }
 
@@ -318,10 +338,14 @@ impl OfferBook {
     }
 
     /// The booked task of a framework with this name, if any, and its agent. Of several it is one that hasn't ended,
-    /// if there is one, and of these the one with the least launch key.
+    /// if there is one, and of these the one with the least launch key. For a fresh name it doesn't go over the tasks, unless
+    /// memory is refused.
     pub fn held(&self, framework: FrameworkId, name: &TaskName) -> Option<(&AgentName, &Booked)>
         ensures { option_map (λ t. place t.0.now t.1.now) result ≡ held framework name.now self.now }
     {
+        if !self.names.may_have(framework, name) {
+            return None;
+        }
         held::first_of(&self.accounts, framework, name)
     }
 
@@ -387,6 +411,7 @@ impl OfferBook {
         ensures refused { IfErr result (λ fault. IsRefusal fault (booked name.now task self.old)) }
         ensures err { OnErr result (self.new ≡ self.old) }
     {
+        note(&mut self.names, &self.accounts, &task);
         book_in(&mut self.accounts, alloc, name, task)
     }
 
@@ -447,6 +472,7 @@ impl OfferBook {
         ensures ok { OnOk result (self.new ≡ at_place place (with_task task) self.old) }
         ensures err { OnErr result (self.new ≡ self.old) }
     {
+        note(&mut self.names, &self.accounts, &task);
         book_at(&mut self.accounts, place, task)
     }
 
@@ -475,6 +501,7 @@ impl OfferBook {
     pub fn reopen(&mut self, alloc: Global, place: usize, tasks: Listed<Booked>)
         ensures { self.new ≡ at_place place (reopened tasks) self.old }
     {
+        self.names.note_all(tasks.as_slice());
         reopen_at(&mut self.accounts, alloc, place, tasks);
     }
 

@@ -7,6 +7,7 @@ mod fault;
 mod held;
 mod ids;
 mod laws;
+mod names;
 mod offers;
 mod rest;
 mod sum;
