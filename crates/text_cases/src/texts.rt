@@ -94,8 +94,9 @@ fn weight(alloc: Global, text: &str) -> Result<String, AllocError> {
     let Some((name, line)) = text.split_once(' ') else {
         return "no blank".to_string(alloc);
     };
-    let Ok(role) = RoleName::from_text(alloc, name) else {
-        return "no role".to_string(alloc);
+    let role = match RoleName::from_text(alloc, name) {
+        Ok(role) => role,
+        Err(fault) => return format!(in alloc; "{fault}"),
     };
     match read_config(alloc, line.as_bytes()) {
         Ok(config) => format!(in alloc; "{}", config.weights.of(&role)),
