@@ -165,6 +165,22 @@ def try_overwritten(stores, whole, page):
         stores.refuse(f"a {table} that isn't UTF-8", overwritten(whole, text, b"\xff\xff"), "K2 Damaged: ")
 
 
+def try_damaged_text(stores, first, page):
+    """The file of a record that stands as one text: where it is cut, or its header is overwritten, it stays byte by byte. A page that can't be read is told of at
+    each start; the two other tables may stand in the file by then."""
+    try_cuts(stores, first, page)
+    for at in (0, 16, 21, 100):
+        stores.refuse(f"byte {at} overwritten beside a text", overwritten(first, at, b"\x03"), "K1 Store ")
+    stores.refuse("no header beside a text", overwritten(first, 0, bytes(100)), "K1 Store ")
+    text = first.index(RECORD.encode())
+    start = text - text % page
+    for case, others in (("a text's page of no kind", b"\x03"), ("a text's page of zeros", bytes(page))):
+        stores.lay(overwritten(first, start, others))
+        for time in ("first", "second"):
+            tell(f"{case}, {time} start", run_serve(stores.folder), 3, "K1 Store ")
+    stores.refuse_text("a text that isn't UTF-8", overwritten(first, text, b"\xff\xff"))
+
+
 def try_texts(stores):
     """A record of one text is written in one form, and has no session where its agent had no run."""
     for case, text in (
@@ -227,6 +243,7 @@ def main():
         try_new(stores)
         try_others(stores)
         try_texts(stores)
+        try_damaged_text(stores, stores.make(stores.agent, FIRST_KEPT), page)
         try_rows(stores)
         try_runs(stores, whole)
         try_cuts(stores, whole, page)
