@@ -2,7 +2,7 @@
 """Served clusters whose stores fail: a read, a write, a change of length or a flush of a file, once or for good, each in its turn: tests/failing_calls/stores.py [COUNT [SEED]]
 
 At the start, over an empty folder, one with a record, and one whose record stands as one text, which a start moves, each such call fails for good, and one in three once: the server ends with K1 and status 3, or serves. Then another one is started on
-the folder: its run is above each that was told, and where there was a record it is still there, so that another total is refused with Z1. And in the middle: of the
+the folder: its run is above each that was told, and where there was a record it is still there, so that a smaller total is refused with Z1. And in the middle: of the
 calls from a task's ACCEPT to its end COUNT (12) fail, spread over all, once and for good; SEED (1) moves them. The task is told to run and to have finished, once
 each, or it is told lost and nothing else; then all that the agent owns is offered. A server whose store fails for good ends with K1, and one that is started again
 on the folder goes on from there. A C compiler is asked for. It prints what it checked, and ends within a minute.
@@ -46,8 +46,8 @@ def start(folder, control):
 
 
 def check_record(folder):
-    """The record, whose agent owns two cpus, is refused where it is to own three."""
-    folder.write({"agents": {"a1": {"cpus": 3}}})
+    """The record, whose agent owns two cpus, is refused where it is to own one."""
+    folder.write({"agents": {"a1": {"cpus": 1}}})
     status, out, err = run_serve(folder)
     check((status, out) == (2, "") and err.startswith("Z1 TotalDiffers: a1"), f"the record is there: {status} {err!r}")
     folder.write({"agents": {"a1": OWNS}})

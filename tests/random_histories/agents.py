@@ -20,14 +20,18 @@ class Task:
 
 
 class State:
-    """What an agent is: what a stop keeps (run, session, tasks by their keys), and what it loses (whether a session is open, the count of applied commands)."""
+    """What an agent is: what a stop keeps (total, run, session, tasks by their keys), and what it loses (whether a session is open, the count of applied commands)."""
 
-    def __init__(self):
-        self.run, self.session, self.tasks = 0, 0, {}
+    def __init__(self, total):
+        self.total, self.run, self.session, self.tasks = total, 0, 0, {}
         self.in_session, self.applied = False, 0
 
     def live(self):
         return [task for task in self.tasks.values() if not task.ended()]
+
+
+def covers(total, amounts):
+    return all(amount <= total.get(name, 0) for name, amount in amounts.items())
 
 
 def key_order(key):
@@ -40,8 +44,8 @@ class Agent:
     """An agent beside the one that the program runs. `prepare` gives the refusal or None, and leaves a draft; its mails are what the commit has to send."""
 
     def __init__(self, name, total):
-        self.name, self.total = name, total
-        self.state, self.draft, self.mails = State(), None, []
+        self.name = name
+        self.state, self.draft, self.mails = State(total), None, []
         self.appended = {}
 
     # mails
@@ -68,7 +72,7 @@ class Agent:
             sent = min(task.acked + 1, len(task.updates))
             last = task.updates[sent - 1] if sent else "TASK_STAGING"
             tasks.append({"ended": task.ended(), "framework": task.framework, "key": key, "name": task.name, "resources": task.resources, "sent": sent, "state": last})
-        return {"report": {"agent": self.name, "run": state.run, "session": state.session, "tasks": tasks}}
+        return {"report": {"agent": self.name, "run": state.run, "session": state.session, "tasks": tasks, "total": state.total}}
 
     def applied_mail(self, state):
         return {"applied": {"agent": self.name, "n": state.applied, "session": state.session}}
@@ -78,6 +82,15 @@ class Agent:
     def opens(self, state, last, run):
         state.session, state.run, state.in_session, state.applied = last + 1, run, True, 0
         return [self.report(state)] + self.fronts(state)
+
+    def start(self, state, total):
+        if state.run == 0:
+            return "A2 OldSession"
+        if total is not None:
+            if not covers(total, state.total):
+                return "A11 TotalLess"
+            state.total = total
+        return self.opens(state, state.session, state.run)
 
     def hello(self, state, said):
         run, dead = said["run"], said["dead"]
@@ -89,7 +102,7 @@ class Agent:
 
     def has_room(self, state, resources):
         taken = lambda name: sum(task.resources.get(name, 0) for task in state.live())
-        return all(amount + taken(name) <= self.total.get(name, 0) for name, amount in resources.items())
+        return all(amount + taken(name) <= state.total.get(name, 0) for name, amount in resources.items())
 
     def command(self, state, said):
         if not state.in_session or said["session"] != state.session:
@@ -154,7 +167,7 @@ class Agent:
         elif step["cause"] == "again":
             answer = self.fronts(state)
         else:
-            answer = "A2 OldSession" if state.run == 0 else self.opens(state, state.session, state.run)
+            answer = self.start(state, step.get("total"))
         if isinstance(answer, str):
             return answer
         self.draft, self.mails = state, answer

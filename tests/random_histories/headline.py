@@ -1,6 +1,7 @@
 """The promise, checked from a history's lines and from what was printed of them alone: `Story.take` has each step with its answer, and raises `Broken`.
 
-1. After each step an agent's current offers and live tasks have together at most what it owns.
+1. After each step an agent's current offers and live tasks have together at most what it owns, which is the total of its record; and its offers alone at most
+   the total of the Report that opened its session.
 2. A task is launched by one entry alone, which delivered an ACCEPT of its framework that lists it and names offers that were current, its own and of that agent.
 3. What a framework has acknowledged of a task is 0, 1, 2 and so on, and a beginning of its agent's updates, with their states (all of these frameworks are
    honest: they acknowledge only what a Take gave them); an agent takes an update for acknowledged only where its framework acknowledged it.
@@ -10,7 +11,7 @@ Beside these: each mail that a commit sends, each refusal of a prepare, and the 
 import base64
 import json
 
-from agents import Agent, key_order
+from agents import Agent, covers, key_order
 
 
 class Broken(Exception):
@@ -41,10 +42,6 @@ def total_of(all_amounts):
     return total
 
 
-def covers(total, amounts):
-    return all(amount <= total.get(name, 0) for name, amount in amounts.items())
-
-
 def text_of(amounts):
     return " ".join(f"{name}:{amounts[name]}" for name in sorted(amounts) if amounts[name]) or "-"
 
@@ -65,6 +62,7 @@ class Story:
         self.run, self.offers, self.open, self.closed = 1, {}, {}, {}
         self.streams, self.launched, self.sent_acks, self.taken, self.last_call = {}, {}, {}, {}, None
         self.told, self.entries, self.accepting = {}, 0, None
+        self.books = {}
 
     # steps
 
@@ -101,7 +99,7 @@ class Story:
             self.acknowledged_at(self.agents[step["agent"]])
         elif name == "stop_master" and ok:
             self.run += 1
-            self.offers, self.open, self.closed, self.streams = {}, {}, {}, {}
+            self.offers, self.open, self.closed, self.streams, self.books = {}, {}, {}, {}, {}
         elif name == "send":
             self.last_call = step
             self.sent(step["call"])
@@ -230,6 +228,7 @@ class Story:
     # sessions
 
     def closes(self, agent):
+        self.books.pop(agent, None)
         if agent in self.open:
             self.closed[agent] = max(self.closed.get(agent, 0), self.open.pop(agent))
 
@@ -238,7 +237,7 @@ class Story:
         if session > self.open.get(agent, self.closed.get(agent, 0)):
             self.withdraw(lambda offer: offer.agent == agent)
             self.closes(agent)
-            self.open[agent] = session
+            self.open[agent], self.books[agent] = session, report["total"]
 
     def withdraw(self, leaves):
         self.offers = {id: offer for id, offer in self.offers.items() if not leaves(offer)}
@@ -252,7 +251,9 @@ class Story:
         for name, agent in self.agents.items():
             live = total_of(task.resources for task in agent.state.live())
             booked = total_of((self.offered_on(name), live))
-            check(covers(agent.total, booked), f"{name} owns {agent.total}, and offers and tasks have {booked}")
+            check(covers(agent.state.total, booked), f"{name} owns {agent.state.total}, and offers and tasks have {booked}")
+            reported = self.books.get(name, {})
+            check(covers(reported, self.offered_on(name)), f"{name} reported {reported}, and offers have {self.offered_on(name)}")
             for task in agent.state.tasks.values():
                 check(self.launched.get(task.key) == (task.framework, name), f"no entry launched {task.key} of {task.framework} on {name}")
 
@@ -262,7 +263,7 @@ class Story:
         for name in sorted(self.agents):
             agent = self.agents[name]
             live = total_of(task.resources for task in agent.state.live())
-            lines.append(f"agent {name} owns {text_of(agent.total)} offered {text_of(self.offered_on(name))} live {text_of(live)}")
+            lines.append(f"agent {name} owns {text_of(agent.state.total)} offered {text_of(self.offered_on(name))} live {text_of(live)}")
             for key in sorted(agent.state.tasks, key=key_order):
                 task = agent.state.tasks[key]
                 last = task.updates[-1] if task.updates else "TASK_STAGING"

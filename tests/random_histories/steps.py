@@ -5,7 +5,7 @@ ROLES = ("*", "one", "two")
 # How often each kind of step is tried, against the others.
 WEIGHTS = {
     "subscribe": 8, "accept": 60, "decline": 3, "kill": 4, "acknowledge": 50, "reconcile": 1, "revive": 1, "suppress": 0.3, "teardown": 0.4,
-    "deliver": 90, "deliver_again": 6, "prepare": 60, "prepare_again": 5, "executor": 25, "commit": 120, "cause": 2, "take": 50, "allocate": 6, "tick": 2,
+    "deliver": 90, "deliver_again": 6, "prepare": 60, "prepare_again": 5, "executor": 25, "commit": 120, "cause": 2, "grow": 2, "take": 50, "allocate": 6, "tick": 2,
     "lose": 0.5, "hangup": 0.5, "stop_agent": 1, "stop_master": 0.6,
 }  # fmt: skip
 
@@ -172,6 +172,16 @@ class Steps:
 
     def cause(self):
         return {"step": "prepare", "agent": self.pick(self.story.agents), "cause": self.rng.choice(("start", "again"))}
+
+    def grow(self):
+        """An agent starts with a total, most often one that covers what it owns."""
+        agent = self.pick(self.story.agents.values())
+        total = {name: amount + self.rng.choice((0, 1, 4)) for name, amount in agent.state.total.items()}
+        if self.rng.random() < 0.2:
+            total["disk"] = 16
+        if self.rng.random() < 0.2:
+            total.pop(self.pick(total))
+        return {"step": "prepare", "agent": agent.name, "cause": "start", "total": total}
 
     def allocate(self):
         return {"step": "allocate"}

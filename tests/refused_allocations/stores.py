@@ -1,5 +1,5 @@
 #!/usr/bin/env python3
-"""Runs the built program's `serve` over a folder whose agent's record has another total, with one of its allocations refused, for many allocations in turn.
+"""Runs the built program's `serve` over a folder whose agent's record has more than is configured, with one of its allocations refused, for many allocations in turn.
 
 With ample memory it ends with `Z1 TotalDiffers`, once it has opened both stores, taken the master's next run and read the record. A run whose memory is refused ends so
 too, where it didn't need that memory, or tells of memory: for a store that is `K4 OutOfMemory` with the store's path, and never `K1 Store`. The agent's store stays as it
@@ -21,7 +21,7 @@ from store_files import RECORD_KEPT, made, run_kept  # noqa: E402
 
 PROGRAM = os.environ.get("PROGRAM", f"{HERE}/../../crates/mesos_node/out/mesos_node")
 MOST = int(os.environ.get("MOST", "600"))
-DUE = (2, "Z1 TotalDiffers: a1's record has another total\n")
+DUE = (2, "Z1 TotalDiffers: a1's record has more than is configured\n")
 
 
 class Case:
@@ -36,7 +36,7 @@ class Case:
         }
         self.config = f"{work}/agents.json"
         with open(self.config, "w", encoding="utf-8") as it:
-            json.dump({"agents": {"a1": {"cpus": 3}}}, it)
+            json.dump({"agents": {"a1": {"cpus": 1}}}, it)
 
     def run(self, refuse, count_to="/dev/null"):
         """The status of `serve`, and what it tells."""

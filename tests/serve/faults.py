@@ -14,8 +14,9 @@ def try_ports_and_files(folder):
         taken.bind(("127.0.0.1", 0))
         taken.listen()
         tell("a port in use", run_serve(folder, port=taken.getsockname()[1]), 3, "Z2 DeviceFault: port ")
-    folder.write({"agents": {"a1": {"cpus": 3}}})
-    tell("another total", run_serve(folder), 2, "Z1 TotalDiffers: a1's record")
+    for less in ({"cpus": 1}, {"mem": 64}, {}):
+        folder.write({"agents": {"a1": less}})
+        tell(f"a total of {less}", run_serve(folder), 2, "Z1 TotalDiffers: a1's record has more than is configured")
     folder.write('{"agents":{"a1":{"cpus":2}}}\n{"agents":{"a1":{"cpus":2}}}\n')
     tell("two lines", run_serve(folder), 2, "X3 BadConfig: the file of the agents is to be one line")
     for case, text in {"no line": "", "no JSON": "a1\n", "no amount": '{"agents":{"a1":{"cpus":0}}}\n', "no agent": '{"agents":{}}\n'}.items():

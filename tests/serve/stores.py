@@ -8,7 +8,7 @@ import os
 import sqlite3
 from contextlib import closing
 
-from cluster import TOLD, Folder, Framework, Server, check, run_serve, tell
+from cluster import TOLD, Folder, Framework, Server, amounts, check, run_serve, tell
 from store_files import (
     FIRST_KEPT, FIRST_TABLES, HEAD_KEPT, RECORD, RECORD_KEPT, TABLES, TASK, TASK_KEPT, made, record_text, run_kept, task_text,
 )
@@ -104,19 +104,44 @@ def try_first(stores):
     stores.serve("a record that was moved", run=3, session=7, free={"cpus": 1})
 
 
-def try_launched(stores, folder):
-    """An agent recorded a task of which nothing was told yet: all but what the task holds is offered, from a store of each form."""
-    folder.write({"agents": {"a1": {"cpus": 4, "mem": 4096}}})
+def launched():
+    """The statements of stores of each form, in which an agent of cpus 4 and mem 4096 recorded a task of which nothing was told yet."""
     body = task_text(1, "t1", {"cpus": 2, "mem": 1024}, [])
     total = '{"cpus":4,"mem":4096}'
     text = f'{{"name":"a1","run":1,"session":1,"tasks":[{body}],"total":{total},"version":1}}'
     rows = f"INSERT INTO agent_head VALUES (1, 'a1', 1, 1, '{total}', 1); INSERT INTO agent_task VALUES (1, 1, '{body}');"
-    for case, statements in (
+    return (
         ("one text", f"{FIRST_TABLES} INSERT INTO agent_record VALUES (1, '{text}');"),
         ("rows", f"{TABLES} {rows}"),
-    ):
+    )
+
+
+def try_launched(stores, folder):
+    """All but what the task holds is offered, from a store of each form."""
+    folder.write({"agents": {"a1": {"cpus": 4, "mem": 4096}}})
+    for case, statements in launched():
         stores.lay(stores.make(stores.agent, statements))
         stores.serve(f"a task in {case}", run=2, session=2, free={"cpus": 2, "mem": 3072})
+    folder.write({"agents": AGENTS})
+
+
+def try_grown(stores, folder):
+    """From a store of each form the agent comes with what the record says, and then with the larger total that is configured; a smaller one is refused."""
+    more = {"cpus": 8, "mem": 8192}
+    for case, statements in launched():
+        folder.write({"agents": {"a1": more}})
+        stores.lay(stores.make(stores.agent, statements))
+        with Server(folder, *PACE) as server:
+            framework = Framework(server.port)
+            while (got := amounts(framework.next("OFFERS")["offers"]["offers"][0]["resources"])) != {"cpus": 6, "mem": 7168}:
+                check(got == {"cpus": 2, "mem": 3072}, f"a larger total over {case}: {got} are offered")
+            server.kill()
+        with closing(sqlite3.connect(stores.agent)) as agent:
+            record = json.loads(record_text(agent))
+        check((record["total"], [task["name"] for task in record["tasks"]]) == (more, ["t1"]), f"a larger total over {case}: the record is {record}")
+        stores.serve(f"a larger total over {case}, again", run=3, session=4, free={"cpus": 6, "mem": 7168})
+        folder.write({"agents": {"a1": {"cpus": 2, "mem": 4096}}})
+        tell(f"a smaller total over {case}", run_serve(folder), 2, "Z1 TotalDiffers: a1's record has more than is configured")
     folder.write({"agents": AGENTS})
 
 
@@ -186,7 +211,7 @@ def try_texts(stores):
     for case, text in (
         ("a record with a blank", RECORD.replace('"name":', '"name": ')),
         ("a session of run 0", RECORD.replace('"run":1', '"run":0')),
-        ("a record of another version", RECORD.replace('"version":1', '"version":2')),
+        ("a record of another version", RECORD.replace('"version":1', '"version":3')),
         ("a record without its end", RECORD[:-1]),
         ("a list for a record", f"[{RECORD[1:]}"),
     ):
@@ -240,6 +265,7 @@ def main():
         try_good(stores, whole)
         try_first(stores)
         try_launched(stores, folder)
+        try_grown(stores, folder)
         try_new(stores)
         try_others(stores)
         try_texts(stores)

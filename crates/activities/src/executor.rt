@@ -1,8 +1,11 @@
 //! What the executors of an agent's tasks tell: a task runs at once, and ends by itself after some time.
 
 use cluster_core::StepCause;
-use mails::RecordedTask;
+use mails::{Durable, RecordedTask};
 use names_core::{LaunchKey, TaskState};
+use plain_data::Plain;
+use quantity::Resources;
+use shared_value::Shared;
 use std::alloc::{AllocError, Global};
 use std::collections::{BTreeMap, VecDeque};
 use std::time::{Duration, Instant};
@@ -17,8 +20,34 @@ pub(crate) struct Sight {
     pub is_settled: bool,
 }
 
+/// What is seen of an agent.
+#[derive(Drop)]
+pub(crate) struct Seen {
+    pub tasks: Vec<Sight>,
+    /// Whether it has an open session, not the last one there is, and owns less than is configured.
+    pub can_grow: bool,
+}
+
+/// Whether a total covers what a record has, and is more.
+fn is_more(total: &Resources, record: &Durable) -> bool {
+    total.covers(&record.total) && !record.total.covers(total)
+}
+
+/// What is seen of an agent with this record, and with this total configured.
+pub(crate) fn seen_of(
+    alloc: Global,
+    record: &Durable,
+    total: &Resources,
+    is_in_session: bool,
+) -> Result<Seen, AllocError> {
+    Ok(Seen {
+        tasks: sights_of(alloc, record.tasks.as_slice())?,
+        can_grow: is_in_session && record.session < u32::MAX && is_more(total, record),
+    })
+}
+
 /// What is seen of the tasks of a record, in their order.
-pub(crate) fn sights_of(alloc: Global, tasks: &[RecordedTask]) -> Result<Vec<Sight>, AllocError> {
+fn sights_of(alloc: Global, tasks: &[Shared<RecordedTask>]) -> Result<Vec<Sight>, AllocError> {
     let mut sights = Vec::with_capacity(alloc, tasks.len())?;
     for task in tasks {
         sights.push(Sight {
@@ -113,9 +142,19 @@ impl Executors {
         }
     }
 
-    /// Begins a turn: what isn't acknowledged is sent again, and each executor tells its next state.
-    pub fn begin_turn(&mut self, sights: &[Sight], now: Instant) -> Result<(), AllocError> {
+    /// Begins a turn: an agent that owns less than is configured starts with that, what isn't acknowledged is sent again, and each executor
+    /// tells its next state.
+    pub fn begin_turn(
+        &mut self,
+        seen: &Seen,
+        total: &Resources,
+        now: Instant,
+    ) -> Result<(), AllocError> {
+        let sights = seen.tasks.as_slice();
         self.began = self.running(sights, now)?;
+        if seen.can_grow {
+            self.due.push_back(StepCause::Start(Some(total.copy()?)))?;
+        }
         if sights.iter().any(|sight| !sight.is_settled) {
             self.due.push_back(StepCause::Again)?;
         }

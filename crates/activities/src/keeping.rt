@@ -131,7 +131,7 @@ impl<'a, L: ledger::Ledger, R: Wait + Clock> Worker<'a, L, R> {
                 if !has_stopped(pass) {
                     return Ok(false);
                 }
-                self.prepare(pass, StepCause::Start)?;
+                self.prepare(pass, StepCause::Start(None))?;
             }
         }
         Ok(true)

@@ -2,13 +2,14 @@
 
 ghost use Rattle.activities.specs.Saved.{CommitsSaved, IsGrown, Keeps};
 
-use crate::executor::{Executors, Sight, sights_of};
+use crate::executor::{Executors, Seen, seen_of};
 use crate::fault::{ActivityFault, Stop, stop_of};
 use crate::worker::Worker;
 use agent_core::Cabinet;
 use cluster_core::{ClusterFault, Given, RecordedCluster, StepCause, agent_group};
 use desk_lock::{Office, Pass, Waited};
 use names_core::AgentName;
+use quantity::Resources;
 use std::alloc::Global;
 use std::sync::{Wait, ledger};
 use std::time::{Clock, Instant};
@@ -17,37 +18,45 @@ use std::time::{Clock, Instant};
 const WAIT: u64 = 1;
 
 impl<'a, L: ledger::Ledger, R: Wait + Clock> Worker<'a, L, R> {
-    /// What is seen of the agent's tasks.
-    fn sights<F>(&self, pass: &Pass<Given, L>) -> Result<Vec<Sight>, Stop<F>> {
-        let (agent, alloc) = (self.agent, self.alloc);
-        let look = |recorded: &RecordedCluster| match recorded.cluster().durable(agent) {
-            Some(durable) => match sights_of(alloc, durable.parts().tasks.as_slice()) {
-                Ok(sights) => Ok(Some(sights)),
-                Err(_) => Err(ClusterFault::OutOfMemory),
-            },
-            None => Err(ClusterFault::NoSuchAgent),
+    /// What is seen of the agent.
+    fn seen<F>(&self, pass: &Pass<Given, L>) -> Result<Seen, Stop<F>> {
+        let (agent, total, alloc) = (self.agent, self.total, self.alloc);
+        let look = |recorded: &RecordedCluster| {
+            let cluster = recorded.cluster();
+            match cluster.durable(agent) {
+                Some(own) => match seen_of(
+                    alloc,
+                    own.parts(),
+                    total,
+                    cluster.is_in_session(agent),
+                ) {
+                    Ok(seen) => Ok(Some(seen)),
+                    Err(_) => Err(ClusterFault::OutOfMemory),
+                },
+                None => Err(ClusterFault::NoSuchAgent),
+            }
         };
         match self
             .office
             .wait_for(self.rt, pass, agent_group(agent), 0, look)
         {
-            Ok(Waited::Found(sights)) => Ok(sights),
+            Ok(Waited::Found(seen)) => Ok(seen),
             Ok(_) => Err(Stop::Ended),
             Err(fault) => Err(stop_of(fault)),
         }
     }
 
-    /// Begins a turn of the executors.
+    /// Begins a turn.
     fn begin_turn<F>(
         &self,
         pass: &Pass<Given, L>,
         executors: &mut Executors,
     ) -> Result<(), Stop<F>> {
-        let sights = self.sights(pass)?;
+        let seen = self.seen(pass)?;
         let Ok(now) = Instant::now(self.rt) else {
             return Err(Stop::Later);
         };
-        match executors.begin_turn(&sights, now) {
+        match executors.begin_turn(&seen, self.total, now) {
             Ok(()) => Ok(()),
             Err(_) => Err(Stop::Later),
         }
@@ -91,8 +100,9 @@ impl<'a, L: ledger::Ledger, R: Wait + Clock> Worker<'a, L, R> {
 }
 
 /// Keeps an agent going until the office is finished: it takes the mails to the agent, tells what the executors of its tasks tell, and saves each draft
-/// in the cabinet before it commits it. `pace` is after how many seconds a task has finished, 0 for never. It ends before by O1 and C8, and by a
-/// fault that it gives, for which it finishes the office; after other refusals it does the same again a second later.
+/// in the cabinet before it commits it. `pace` is after how many seconds a task has finished, 0 for never; `total` is what is configured that the agent
+/// owns: where its record has less, it starts with that at its first turn in a session. It ends before by O1 and C8, and by a fault that it gives, for
+/// which it finishes the office; after other refusals it does the same again a second later.
 #[tactic(auto, using(crate::proofs::Saves::keeps_itself, crate::proofs::Saves::keeps_then))]
 pub fn activity<L: ledger::Ledger, R: Wait + Clock, C: Cabinet>(
     rt: &R,
@@ -102,6 +112,7 @@ pub fn activity<L: ledger::Ledger, R: Wait + Clock, C: Cabinet>(
     agent: &AgentName,
     cabinet: &mut C,
     pace: u64,
+    total: &Resources,
 ) -> (Pass<Given, L>, Option<ActivityFault<C::Fault>>)
     requires { CommitsSaved (C.saved cabinet.old) pass }
     ensures saved { CommitsSaved (C.saved cabinet.new) result.0 }
@@ -112,6 +123,7 @@ pub fn activity<L: ledger::Ledger, R: Wait + Clock, C: Cabinet>(
         alloc,
         office,
         agent,
+        total,
     };
     let mut executors = Executors::new(alloc, pace);
     for _ in rt.forever() {

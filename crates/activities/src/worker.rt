@@ -9,6 +9,7 @@ use cluster_core::{ClusterFault, Given, Keep, RecordedCluster, Step, StepCause, 
 use desk_lock::{Office, OfficeFault, Pass, Waited};
 use names_core::AgentName;
 use plain_data::Plain;
+use quantity::Resources;
 use std::alloc::Global;
 use std::sync::{Wait, ledger};
 use std::time::Clock;
@@ -28,6 +29,8 @@ pub(crate) struct Worker<'a, L: ledger::Ledger, R: Wait + Clock> {
     pub alloc: Global,
     pub office: &'a Office<RecordedCluster, L>,
     pub agent: &'a AgentName,
+    /// What is configured that it owns.
+    pub total: &'a Resources,
 }
 
 impl<'a, L: ledger::Ledger, R: Wait + Clock> Worker<'a, L, R> {

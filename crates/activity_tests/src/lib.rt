@@ -10,6 +10,6 @@ mod tests;
 
 pub use launches::{a_stop_in_a_save, what_is_unacknowledged_goes_first};
 pub use tests::{
-    an_unknown_agent, another_record_stands, the_new_record_stands, the_old_record_stands,
-    two_rounds, two_saves_overlap,
+    a_larger_total, an_unknown_agent, another_record_stands, the_new_record_stands,
+    the_old_record_stands, two_rounds, two_saves_overlap,
 };

@@ -9,11 +9,14 @@ use names_core::{AgentName, Run};
 use post_rules::Queues;
 use quantity::Resources;
 use role_weights::Weights;
-use std::alloc::Global;
+use std::alloc::{AllocError, Global};
 use std::sync::ledger::Blank;
 use std::sync::{Wait, ledger};
 use std::thread;
 use std::time::{Clock, Duration};
+
+/// What an agent owns.
+pub const OWNED: u64 = 4;
 
 /// One part for each seat, and one for the desk.
 pub const PARTS: u64 = 1 << 32;
@@ -22,17 +25,17 @@ pub fn named(alloc: Global, name: &str) -> Option<AgentName> {
     AgentName::from_text(alloc, name).ok()
 }
 
-fn cpus(alloc: Global, amount: u64) -> Option<Resources> {
+pub fn cpus(alloc: Global, amount: u64) -> Result<Resources, AllocError> {
     let mut cpus = Resources::new(alloc);
     match cpus.add(alloc, "cpus", amount) {
-        Ok(()) => Some(cpus),
-        Err(_) => None,
+        Ok(()) => Ok(cpus),
+        Err(_) => Err(AllocError),
     }
 }
 
 fn add_agent(config: &mut Config, alloc: Global, name: &str) -> Option<()> {
     let name = named(alloc, name)?;
-    config.add(name, cpus(alloc, 4)?).ok()
+    config.add(name, cpus(alloc, OWNED).ok()?).ok()
 }
 
 fn add_agents(config: &mut Config, alloc: Global, names: &[&str]) -> Option<()> {

@@ -4,7 +4,7 @@ ghost use Rattle.std.specs.Prelude.{◌≡◌, []};
 
 use crate::cabinets::{Flags, Held, Shelf};
 use crate::framework::{launch, stop};
-use crate::offices::{seat, wait_for_entries};
+use crate::offices::{OWNED, cpus, seat, wait_for_entries};
 use activities::{ActivityFault, activity, ticker};
 use cluster_core::{Given, Keep, RecordedCluster, Step, StepCause};
 use desk_lock::{Office, Pass};
@@ -18,8 +18,8 @@ use std::time::Clock;
 /// What a thread does.
 #[derive(Drop)]
 pub enum Part<'a> {
-    /// An agent whose tasks run for one second.
-    Agent(AgentName, Shelf),
+    /// An agent whose tasks run for one second, of which so many cpus are configured.
+    Agent(AgentName, Shelf, u64),
     /// An agent whose saves wait for the other's.
     Held(AgentName, Held<'a>),
     /// A framework launches a task, the agent is stopped behind it if so, and the agent's saves are let go. It finishes the office as a finisher does.
@@ -53,8 +53,8 @@ pub struct Played {
     /// A letter for each of its steps: P, C and D for Prepare, Commit and Deliver, B and A for a stop before and after a draft's save, T and O for
     /// a Tick and a round of offers, and S for a call that is sent.
     pub letters: Vec<u8>,
-    /// A letter for each cause that it prepared: M for a mail, R and F for a task that runs and that has finished, A for what is sent again, and S
-    /// for a start.
+    /// A letter for each cause that it prepared: M for a mail, R and F for a task that runs and that has finished, A for what is sent again, S for
+    /// a start, and T for one with a total.
     pub causes: Vec<u8>,
     /// The moments of its Ticks.
     pub moments: Vec<u32>,
@@ -77,14 +77,15 @@ fn letter(step: &Step) -> u8 {
     }
 }
 
-fn cause_letter(cause: StepCause) -> u8 {
+fn cause_letter(cause: &StepCause) -> u8 {
     match cause {
         StepCause::Mail(_) => b'M',
         StepCause::Executor(_, TaskState::Running) => b'R',
         StepCause::Executor(_, TaskState::Finished) => b'F',
         StepCause::Executor(..) => b'?',
         StepCause::Again => b'A',
-        StepCause::Start => b'S',
+        StepCause::Start(None) => b'S',
+        StepCause::Start(Some(_)) => b'T',
     }
 }
 
@@ -100,7 +101,7 @@ fn played_from<L: ledger::Ledger>(
         letters.push(letter(step))?;
         match step {
             Step::Tick(moment) => moments.push(*moment)?,
-            Step::Prepare { cause, .. } => causes.push(cause_letter(*cause))?,
+            Step::Prepare { cause, .. } => causes.push(cause_letter(cause))?,
             _ => {}
         }
     }
@@ -151,12 +152,14 @@ fn play_from<L: ledger::Ledger, R: Wait + Clock>(
     requires { pass.receipts ≡ [] }
 {
     match part {
-        Part::Agent(agent, mut shelf) => {
-            let (pass, fault) = activity(rt, alloc, office, pass, &agent, &mut shelf, 1);
+        Part::Agent(agent, mut shelf, amount) => {
+            let total = cpus(alloc, amount)?;
+            let (pass, fault) = activity(rt, alloc, office, pass, &agent, &mut shelf, 1, &total);
             played_from(alloc, &pass, end_of(fault))
         }
         Part::Held(agent, mut held) => {
-            let (pass, fault) = activity(rt, alloc, office, pass, &agent, &mut held, 1);
+            let total = cpus(alloc, OWNED)?;
+            let (pass, fault) = activity(rt, alloc, office, pass, &agent, &mut held, 1, &total);
             let end = if held.has_overlapped {
                 End::Overlapped
             } else {

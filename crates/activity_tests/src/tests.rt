@@ -3,7 +3,7 @@
 ghost use Rattle.std.specs.Prelude.{◌≡◌};
 
 use crate::cabinets::{Flags, Held, Kept, Shelf};
-use crate::offices::{PARTS, named, office, seat};
+use crate::offices::{OWNED, PARTS, named, office, seat};
 use crate::parts::{End, Part, Played, both, play};
 use cluster_core::{RecordedCluster, Step};
 use desk_lock::{Office, Turn};
@@ -34,7 +34,7 @@ fn worked<L: ledger::Ledger + Send + Sync, R: Threads + Wait + Clock + Sync>(
     keeps: Kept,
     count: usize,
 ) -> Option<Played> {
-    let part = Part::Agent(named(alloc, "a1")?, Shelf::new(Some(keeps)));
+    let part = Part::Agent(named(alloc, "a1")?, Shelf::new(Some(keeps)), OWNED);
     let (worked, finisher) = both(rt, alloc, office, part, Part::Finisher(count));
     in_time(worked, finisher)
 }
@@ -94,6 +94,43 @@ pub fn another_record_stands<R: Threads + Wait + Clock + Sync>(rt: &R, alloc: Gl
 pub fn the_new_record_stands<R: Threads + Wait + Clock + Sync>(rt: &R, alloc: Global) -> bool {
     let played = after_failed_save(rt, alloc, Kept::After, 5);
     begins(&played, b"PAPCD", End::Finished)
+}
+
+/// What an activity does of whose agent more is configured than it owns, where the office is finished at so many entries.
+fn grown<L: ledger::Ledger + Send + Sync, R: Threads + Wait + Clock + Sync>(
+    rt: &R,
+    alloc: Global,
+    office: &Office<RecordedCluster, L>,
+    count: usize,
+) -> Option<Played> {
+    let part = Part::Agent(named(alloc, "a1")?, Shelf::new(None), OWNED + 2);
+    let (grown, finisher) = both(rt, alloc, office, part, Part::Finisher(count));
+    in_time(grown, finisher)
+}
+
+fn grows<L: ledger::Ledger + Send + Sync, R: Threads + Wait + Clock + Sync>(
+    rt: &R,
+    alloc: Global,
+    blank: Blank,
+) -> bool
+    requires name { blank.name ≡ L.name }
+    requires parts { (blank.parts ≡ L.parts) × (blank.parts ≡ 4294967296) }
+{
+    let Some(office) = office::<L>(alloc, blank, &["a1"]) else {
+        return false;
+    };
+    match grown(rt, alloc, &office, 6) {
+        Some(played) => {
+            played.letters.as_slice() == b"PCDPCD".as_slice()
+                && played.causes.as_slice() == b"MT".as_slice()
+        }
+        None => false,
+    }
+}
+
+/// The agent hears the greeting, and at its first turn in the session starts with the larger total, once.
+pub fn a_larger_total<R: Threads + Wait + Clock + Sync>(rt: &R, alloc: Global) -> bool {
+    grows::<Brand, _>(rt, alloc, Blank::new(PARTS))
 }
 
 /// Two agents, each of which holds its save until the other's is open.
@@ -184,7 +221,7 @@ fn played_unknown<L: ledger::Ledger, R: Wait + Clock>(
     alloc: Global,
     office: &Office<RecordedCluster, L>,
 ) -> Option<Played> {
-    let part = Part::Agent(named(alloc, "b9")?, Shelf::new(None));
+    let part = Part::Agent(named(alloc, "b9")?, Shelf::new(None), OWNED);
     play(rt, alloc, office, part)
 }
 

@@ -170,6 +170,13 @@ session_recorded d session run h above =
     let p = parts_of d h in
     record_from (with_session d session run) p.rise p.not_done (begun_above (with_session d session run) above) p.fit
 
+-- a total that covers what the agent owns has room for all that had room
+pub owning_recorded : (total : List Row) (d : Durable) → CoversIsAtLeast → covers total d.total ≡ true → is_record d ≡ true → is_record (record { name = d.name; total = total; session = d.session; run = d.run; tasks = d.tasks }) ≡ true
+owning_recorded total d covering more h =
+    let p = parts_of d h in
+    record_from (record { name = d.name; total = total; session = d.session; run = d.run; tasks = d.tasks }) p.rise p.not_done p.begun
+    ((covering total (task_rows (live_tasks d.tasks))).1 (λ name. let least = (covering d.total (task_rows (live_tasks d.tasks))).0 p.fit name in let owned = (covering total d.total).0 more name in omega (arith, least, owned)))
+
 pub stated_recorded : (d : Durable) (key : Numbered) (state : TaskState) → AmountsAddUp → CoversIsAtLeast → Each (λ t. are_updates t.updates.states t.updates.acknowledged ≡ true) d.tasks → is_record d ≡ true → is_record (with_other_tasks d (map (stated key state) d.tasks)) ≡ true
 stated_recorded d key state sums covering each h =
     let p = parts_of d h in

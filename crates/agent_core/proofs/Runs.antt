@@ -1,11 +1,13 @@
 -- What an agent prepares leaves an open session with a run.
-use Rattle.std.proofs.Common.{◌≡◌, ℕ, suc, Bool, true, false, not, ◌&&◌, ◌||◌, max, nat_lt, nat_le, [], ◌∷◌, map, Result, Ok, Err, subst, arith, bytes_eq}
+use Rattle.std.proofs.Common.{◌≡◌, ℕ, suc, Bool, true, false, not, ◌&&◌, ◌||◌, max, nat_lt, nat_le, List, [], ◌∷◌, map, Option, Some, None, Result, Ok, Err, subst, arith, bytes_eq}
 use Rattle.std.specs.Prelude.{if◌then◌else◌, ◌==◌}
 use Rattle.std.specs.List.{list_any}
 use Rattle.std.proofs.lemmas.Bool.{cond_both}
 use Rattle.std.proofs.lemmas.Bool.Decides.{nat_tests}
 use Rattle.names_core.specs.Ids.{Numbered}
 use Rattle.names_core.specs.declared.state.TaskState.{TaskState}
+use Rattle.quantity.specs.declared.rows.Row.{Row}
+use Rattle.quantity.specs.Rows.{covers}
 use Rattle.stream_core.specs.Updates.{is_full}
 use Rattle.mails.specs.declared.cause.Cause.{Cause}
 use Rattle.mails.specs.declared.cause.Cause.TheVariants.{Start, Mail, Executor, Again}
@@ -14,8 +16,8 @@ use Rattle.mails.specs.declared.mail.Command.{Command}
 use Rattle.mails.specs.declared.mail.MasterMail.{MasterMail}
 use Rattle.mails.specs.declared.mail.MasterMail.TheVariants.{Hello, Issued}
 use Rattle.mails.specs.declared.refusal.AgentRefusal.{AgentRefusal}
-use Rattle.mails.specs.declared.refusal.AgentRefusal.TheVariants.{NotForMe, OldSession, NotNext, NoSuchTask, Ended, NoRoom, UpdatesFull, SessionsSpent}
-use Rattle.cluster_model.specs.Agents.{Agent, Draft, applies, executes, front_at, has_ended, has_room, hears_command, hears_hello, hears_mail, is_task, needs_place, next_of, opens_next, reopened, reports, stated, with_tasks}
+use Rattle.mails.specs.declared.refusal.AgentRefusal.TheVariants.{NotForMe, OldSession, NotNext, NoSuchTask, Ended, NoRoom, UpdatesFull, SessionsSpent, TotalLess}
+use Rattle.cluster_model.specs.Agents.{Agent, Draft, applies, executes, front_at, has_ended, has_room, hears_command, hears_hello, hears_mail, is_task, needs_place, next_of, opens_again, opens_next, owning, reopened, reports, starts, stated, with_tasks}
 use Rattle.cluster_model.specs.Ids.{last_number}
 use Rattle.agent_core.specs.Drafts.{hears_in_order, is_in_order, is_with_run}
 
@@ -31,6 +33,11 @@ run_if b x y f g = cond_both b x y WithRun f g
 opens_run : (a : Agent) (last run : ℕ) → nat_lt 0 run ≡ true → WithRun (opens_next a last run)
 unfolding WithRun
 opens_run a last run h = run_if (nat_le last_number last) (Err SessionsSpent) (Ok (reports (reopened a (suc last) run))) (λ e. tt) (λ e. h)
+
+starts_run : (a : Agent) (total : Option (List Row)) → nat_lt 0 a.durable.run ≡ true → WithRun (starts a total)
+unfolding WithRun
+starts_run a None h = opens_run a a.durable.session a.durable.run h
+starts_run a (Some total) h = run_if (covers total a.durable.total) (opens_again (owning total a)) (Err TotalLess) (λ e. opens_run (owning total a) a.durable.session a.durable.run h) (λ e. tt)
 
 hello_run : (a : Agent) (run dead : ℕ) → is_with_run a ≡ true → nat_lt 0 run ≡ true → WithRun (hears_hello a run dead)
 unfolding WithRun
@@ -80,7 +87,7 @@ state_run a key state k =
 
 run_all : (a : Agent) (cause : Cause) → is_with_run a ≡ true → is_in_order a cause ≡ true → WithRun (next_of a cause)
 unfolding WithRun
-run_all a Start k h = run_if (a.durable.run == 0) (Err OldSession) (opens_next a a.durable.session a.durable.run) (λ e. tt) (λ e. opens_run a a.durable.session a.durable.run (grind (arith, nat_tests)))
+run_all a (Start total) k h = run_if (a.durable.run == 0) (Err OldSession) (starts a total) (λ e. tt) (λ e. starts_run a total (grind (arith, nat_tests)))
 run_all a Again k h = k
 run_all a (Executor key state) k h = state_run a key state k
 run_all a (Mail to) k h = run_if (bytes_eq to.agent a.durable.name) (hears_mail a to.mail) (Err NotForMe) (λ e. mail_run a to.mail k (rw e at h)) (λ e. tt)

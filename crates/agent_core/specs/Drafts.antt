@@ -90,7 +90,7 @@ hears_in_order a (Issued session number command) = not (is_next_command a sessio
 
 -- what a caller owes: a Hello is of a run above 0, and a Launch that is next has a key behind all those of the record
 abbrev pub is_in_order : Agent → Cause → Bool
-is_in_order a Start = true
+is_in_order a (Start total) = true
 is_in_order a Again = true
 is_in_order a (Executor key state) = true
 is_in_order a (Mail to) = not (bytes_eq to.agent a.durable.name) || hears_in_order a to.mail

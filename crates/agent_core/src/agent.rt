@@ -53,6 +53,13 @@ impl Agent {
         &self.state.durable
     }
 
+    /// Whether it has an open session. It takes no memory.
+    pub fn is_in_session(&self) -> bool
+        ensures { result ≡ self.now.in_session }
+    {
+        self.state.in_session
+    }
+
     /// Stops, and comes up again over its record, with no open session. It takes no memory.
     pub fn stop(&mut self)
         ensures { self.new ≡ recovered self.old }
@@ -91,6 +98,7 @@ impl Agent {
     /// - `A6 NoRoom` at a Launch of more than the agent's total less its live tasks,
     /// - `A9 UpdatesFull` at a state that isn't terminal, of a task with 4,095 updates,
     /// - `A10 SessionsSpent` where the next session would be the 4,294,967,296th,
+    /// - `A11 TotalLess`, behind A2 and before A10, at a start with a total that doesn't cover what the agent owns,
     /// - `A8 OutOfMemory`, which may come before any other.
     pub fn next(&self, alloc: Global, cause: Cause) -> Result<Draft, AgentFault>
         requires { is_in_order self.now cause ≡ true }

@@ -1,7 +1,7 @@
 //! What an agent prepares at a cause.
 
 ghost use Rattle.std.specs.Prelude.{◌≡◌, ◌<◌, true, Ok, IfOk};
-ghost use Rattle.cluster_model.specs.Agents.{reports, opens_next, hears_hello, hears_mail, executes, next_of};
+ghost use Rattle.cluster_model.specs.Agents.{reports, opens_again, opens_next, hears_hello, hears_mail, executes, next_of};
 ghost use Rattle.agent_core.specs.Drafts.{agent_of, next_draft, after_state, hears_in_order, is_in_order, is_next_command, is_with_run, launches_in_order, Prepares};
 
 use crate::commands::Next;
@@ -9,6 +9,7 @@ use crate::fault::AgentFault;
 use crate::state::State;
 use mails::{AgentRefusal, Cause, Command, MasterMail};
 use names_core::{LaunchKey, TaskState};
+use quantity::Resources;
 use recorded_tasks::{
     has_ended_task, has_task, is_behind_all, lacks_place, push_fronts_at, stated_all,
 };
@@ -67,13 +68,28 @@ impl State {
         }
     }
 
-    fn start(&self, alloc: Global) -> Result<Next, AgentFault>
-        ensures { Prepares result (next_of (agent_of self.now) Cause.Start) }
+    /// The session behind the last one is opened with the master of the record's run.
+    fn open_again(&self, alloc: Global) -> Result<Next, AgentFault>
+        requires { 0 < self.now.durable.run }
+        ensures { Prepares result (opens_again (agent_of self.now)) }
+    {
+        self.open_next(alloc, self.parts().session, self.parts().run)
+    }
+
+    fn start(&self, alloc: Global, total: Option<Resources>) -> Result<Next, AgentFault>
+        ensures { Prepares result (next_of (agent_of self.now) (Cause.Start total)) }
     {
         if self.parts().run == 0 {
             return Err(AgentFault::Refused(AgentRefusal::OldSession));
         }
-        self.open_next(alloc, self.parts().session, self.parts().run)
+        let Some(total) = total else {
+            return self.open_again(alloc);
+        };
+        if !total.covers(&self.parts().total) {
+            return Err(AgentFault::Refused(AgentRefusal::TotalLess));
+        }
+        let owner = self.owning(total)?;
+        owner.open_again(alloc)
     }
 
     fn send_again(&self, alloc: Global) -> Result<Next, AllocError>
@@ -158,7 +174,7 @@ impl State {
         ensures { Prepares result (next_of (agent_of self.now) cause) }
     {
         match cause {
-            Cause::Start => self.start(alloc),
+            Cause::Start(total) => self.start(alloc, total),
             Cause::Again => Ok(self.send_again(alloc)?),
             Cause::Executor(key, state) => self.execute(alloc, key, state),
             Cause::Mail(to) => {

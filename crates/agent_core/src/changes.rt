@@ -10,9 +10,10 @@ ghost use Rattle.agent_core.specs.Records.{is_record, with_other_tasks};
 use crate::state::State;
 use mails::{Command, RecordedTask};
 use names_core::{LaunchKey, TaskState};
+use shared_value::Shared;
 
 /// The updates of all tasks are as those of every value of their type.
-fn tasks_are_recorded(tasks: &[RecordedTask])
+fn tasks_are_recorded(tasks: &[Shared<RecordedTask>])
     ensures { Each (λ t. are_updates t.updates.states t.updates.acknowledged ≡ true) tasks.now }
 {
     for task in tasks {

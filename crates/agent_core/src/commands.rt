@@ -16,6 +16,7 @@ use plain_data::push_copies;
 use recorded_tasks::{
     acknowledged_all, front_sent_after, push_fronts_at, stated_all, without_framework,
 };
+use shared_value::Shared;
 use std::alloc::{AllocError, Global};
 use stream_core::{LinkIn, Updates};
 
@@ -28,19 +29,20 @@ pub struct Next {
 
 fn launched(
     alloc: Global,
-    tasks: &[RecordedTask],
+    tasks: &[Shared<RecordedTask>],
     job: Job,
     offers: Listed<OfferId>,
-) -> Result<Vec<RecordedTask>, AllocError>
+) -> Result<Vec<Shared<RecordedTask>>, AllocError>
     ensures { IfOk result (λ v. v.items ≡ tasks_after (Launch job offers) tasks.now) }
 {
     let mut all = Vec::new(alloc);
     push_copies(&mut all, tasks)?;
-    all.push(RecordedTask {
+    let task = RecordedTask {
         job,
         offers,
         updates: Updates::new(alloc),
-    })?;
+    };
+    all.push(Shared::new(alloc, task)?)?;
     Ok(all)
 }
 
@@ -50,7 +52,7 @@ impl State {
         &self,
         alloc: Global,
         link: LinkIn,
-        tasks: Vec<RecordedTask>,
+        tasks: Vec<Shared<RecordedTask>>,
         told: Option<LaunchKey>,
     ) -> Result<Next, AllocError>
         requires next { link ≡ suc self.now.link }

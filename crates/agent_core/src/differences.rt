@@ -6,6 +6,7 @@ ghost use Rattle.agent_core.specs.Prepared.{spliced};
 
 use mails::RecordedTask;
 use plain_data::{Plain, are_same};
+use shared_value::Shared;
 
 /// Two lists of tasks are the same up to `from`, and from `end` of the one and `to` of the other on.
 #[derive(Clone, Copy, Drop)]
@@ -15,7 +16,7 @@ pub struct Difference {
     pub to: usize,
 }
 
-fn common_front(tasks: &[RecordedTask], others: &[RecordedTask]) -> usize
+fn common_front(tasks: &[Shared<RecordedTask>], others: &[Shared<RecordedTask>]) -> usize
     ensures tasks_have { result ≤ length tasks.now }
     ensures others_have { result ≤ length others.now }
     ensures same { take result tasks.now ≡ take result others.now }
@@ -29,7 +30,7 @@ fn common_front(tasks: &[RecordedTask], others: &[RecordedTask]) -> usize
     most
 }
 
-fn common_back(tasks: &[RecordedTask], others: &[RecordedTask]) -> usize
+fn common_back(tasks: &[Shared<RecordedTask>], others: &[Shared<RecordedTask>]) -> usize
     ensures tasks_have { result ≤ length tasks.now }
     ensures others_have { result ≤ length others.now }
     ensures same { drop (length tasks.now - result) tasks.now ≡ drop (length others.now - result) others.now }
@@ -45,7 +46,7 @@ fn common_back(tasks: &[RecordedTask], others: &[RecordedTask]) -> usize
 }
 
 /// Where tasks differ from what becomes of them.
-pub fn difference_of(tasks: &[RecordedTask], after: &[RecordedTask]) -> Difference
+pub fn difference_of(tasks: &[Shared<RecordedTask>], after: &[Shared<RecordedTask>]) -> Difference
     ensures ordered { result.from ≤ result.end }
     ensures end { result.end ≤ length tasks.now }
     ensures to_ordered { result.from ≤ result.to }
@@ -63,11 +64,11 @@ pub fn difference_of(tasks: &[RecordedTask], after: &[RecordedTask]) -> Differen
 
 /// Whether tasks are others with their part between `from` and `to` replaced.
 pub fn is_spliced(
-    tasks: &[RecordedTask],
+    tasks: &[Shared<RecordedTask>],
     from: usize,
     to: usize,
-    others: &[RecordedTask],
-    part: &[RecordedTask],
+    others: &[Shared<RecordedTask>],
+    part: &[Shared<RecordedTask>],
 ) -> bool
     requires ordered { from ≤ to }
     requires within { to ≤ length others.now }

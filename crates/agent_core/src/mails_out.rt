@@ -7,6 +7,7 @@ ghost use Rattle.agent_core.specs.Drafts.{agent_of};
 use crate::state::State;
 use listed::Listed;
 use mails::AgentMail;
+use plain_data::Plain;
 use recorded_tasks::{all_reported, push_fronts};
 use std::alloc::{AllocError, Global};
 
@@ -29,6 +30,7 @@ impl State {
             session: self.parts().session,
             run: self.parts().run,
             tasks: Listed::from_vec(tasks),
+            total: self.parts().total.copy()?,
         })
     }
 }

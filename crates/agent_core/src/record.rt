@@ -10,6 +10,7 @@ use names_core::{AgentName, LaunchKey};
 use plain_data::Plain;
 use quantity::Resources;
 use recorded_tasks::{has_room, is_before};
+use shared_value::Shared;
 use std::alloc::{AllocError, Global};
 use std::marker::Model;
 
@@ -54,7 +55,7 @@ fn is_behind(last: Option<LaunchKey>, key: LaunchKey) -> bool
 }
 
 /// Whether launch keys rise.
-pub fn keys_rise(tasks: &[RecordedTask]) -> bool
+pub fn keys_rise(tasks: &[Shared<RecordedTask>]) -> bool
     ensures { result ≡ keys_rise tasks.now }
 {
     let mut last = None;
@@ -67,7 +68,7 @@ pub fn keys_rise(tasks: &[RecordedTask]) -> bool
     true
 }
 
-fn none_is_done(tasks: &[RecordedTask]) -> bool
+fn none_is_done(tasks: &[Shared<RecordedTask>]) -> bool
     ensures { result ≡ none_is_done tasks.now }
 {
     tasks.iter().all(|task| !task.updates.done())

@@ -1,7 +1,8 @@
 //! What an agent is: its record, and how far it is in its session.
 
 ghost use Rattle.std.specs.Prelude.{◌≡◌, ◌<◌, ◌↔◌, true, [], IfOk, IsTrue};
-ghost use Rattle.cluster_model.specs.Agents.{reopened, with_tasks};
+ghost use Rattle.quantity.specs.Rows.{covers};
+ghost use Rattle.cluster_model.specs.Agents.{owning, reopened, with_tasks};
 ghost use Rattle.agent_core.specs.Drafts.{agent_of, former_of, without_tasks};
 ghost use Rattle.agent_core.specs.Records.{is_record, with_other_tasks};
 
@@ -9,6 +10,8 @@ use crate::record::Record;
 use listed::Listed;
 use mails::{Durable, RecordedTask};
 use plain_data::Plain;
+use quantity::{Resources, covers_is_at_least};
+use shared_value::Shared;
 use std::alloc::{AllocError, Global};
 use stream_core::LinkIn;
 
@@ -36,13 +39,13 @@ impl State {
         self.durable.parts()
     }
 
-    pub fn tasks(&self) -> &[RecordedTask]
+    pub fn tasks(&self) -> &[Shared<RecordedTask>]
         ensures { result.now ≡ self.now.durable.tasks }
     {
         self.parts().tasks.as_slice()
     }
 
-    fn durable_with(&self, tasks: Vec<RecordedTask>) -> Result<Durable, AllocError>
+    fn durable_with(&self, tasks: Vec<Shared<RecordedTask>>) -> Result<Durable, AllocError>
         ensures { IfOk result (λ d. d ≡ with_other_tasks self.now.durable tasks.items) }
     {
         let parts = self.parts();
@@ -56,7 +59,11 @@ impl State {
     }
 
     /// With other tasks, which make a record, and so many commands applied.
-    pub fn with_tasks(&self, tasks: Vec<RecordedTask>, link: LinkIn) -> Result<State, AllocError>
+    pub fn with_tasks(
+        &self,
+        tasks: Vec<Shared<RecordedTask>>,
+        link: LinkIn,
+    ) -> Result<State, AllocError>
         requires { is_record (with_other_tasks self.now.durable tasks.items) ≡ true }
         ensures { IfOk result (λ s. agent_of s ≡ with_tasks (agent_of self.now) tasks.items link) }
     {
@@ -69,7 +76,7 @@ impl State {
     }
 
     /// With other tasks, which need make no record.
-    pub fn former(&self, tasks: Vec<RecordedTask>) -> Result<Former, AllocError>
+    pub fn former(&self, tasks: Vec<Shared<RecordedTask>>) -> Result<Former, AllocError>
         ensures { IfOk result (λ f. former_of f ≡ with_tasks (agent_of self.now) tasks.items self.now.link) }
     {
         Ok(Former {
@@ -84,6 +91,21 @@ impl State {
     {
         Ok(State {
             durable: self.durable.copy()?,
+            in_session: self.in_session,
+            link: self.link,
+        })
+    }
+
+    /// With a total that covers what the agent owns.
+    pub fn owning(&self, total: Resources) -> Result<State, AllocError>
+        requires { covers total self.now.durable.total ≡ true }
+        ensures { IfOk result (λ s. agent_of s ≡ owning total (agent_of self.now)) }
+    {
+        covers_is_at_least();
+        let mut parts = self.parts().copy()?;
+        parts.total = total;
+        Ok(State {
+            durable: Record::make(parts),
             in_session: self.in_session,
             link: self.link,
         })

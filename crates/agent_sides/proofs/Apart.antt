@@ -82,7 +82,7 @@ offering_apart o a h = by (list_any (accounts.is_offered_as o.id) a.offers) refl
 -- withdrawing by a test, and by the ids of offers that pass it
 
 abbrev with_offers : Side → Account → List Offer → Side
-with_offers s a os = record s { offers = os; booked = a.booked }
+with_offers s a os = record s { total = a.total; offers = os; booked = a.booked }
 
 pub of_withdrawn : IdsNameOffers → (framework : Numbered) (s : Side) (a : Account) → AreApart a → join s (accounts.without_offers_of framework a) ≡ withdrawing (is_of framework) (join s a)
 of_withdrawn law framework s a h = ap (with_offers s a) (sym (law (is_of framework) a.offers h))
@@ -94,4 +94,4 @@ pub joined_apart : (g : Account → Account) (h : Side → Side) → ((s : Side)
 joined_apart g h same [] [] one apart = refl
 joined_apart g h same [] (a ∷ as_) one apart = absurd one
 joined_apart g h same (s ∷ ss) [] one apart = absurd one
-joined_apart g h same (s ∷ ss) (a ∷ as_) one apart = rw (same s a apart.0, joined_apart g h same ss as_ one.2 apart.1) refl
+joined_apart g h same (s ∷ ss) (a ∷ as_) one apart = rw (same s a apart.0, joined_apart g h same ss as_ one.1 apart.1) refl

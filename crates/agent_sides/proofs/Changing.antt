@@ -2,7 +2,7 @@
 use Rattle.std.proofs.Common.{◌≡◌, ℕ, Bool, true, false, List, ◌++◌, ◌∷◌, [], Option, Some, None, Result, Ok, Err, cond, map, refl, ap, ◌∙◌, arith}
 use Rattle.std.specs.Prelude.{◌==◌, nat_lt, nat_le}
 use Rattle.std.proofs.lemmas.Bool.Decides.{nat_tests}
-use Rattle.quantity.specs.Rows.{covers}
+use Rattle.quantity.specs.declared.rows.Row.{Row}
 use Rattle.mails.specs.declared.task.Offer.{Offer}
 use Rattle.mails.specs.declared.mail.Command.{Command}
 use Rattle.mails.specs.declared.task.Booked.{Booked}
@@ -24,29 +24,21 @@ use Rattle.agent_sides.specs.Configs.{are_ordered, names_of}
 use Rattle.agent_sides.specs.Joined.{AreApart, AreOfOne, Fit, join, joined, side_names}
 use Rattle.agent_sides.proofs.Joining.{KeepsAccount, KeepsSide}
 
-pub offering_joins : (o : Offer) (s : Side) (a : Account) → s.total ≡ a.total → join s (accounts.offering o a) ≡ offering o (join s a)
-offering_joins o s a e = by (list_any (accounts.is_offered_as o.id) a.offers) refl (accounts.fits a o.resources) refl
+pub offering_joins : (o : Offer) (s : Side) (a : Account) → join s (accounts.offering o a) ≡ offering o (join s a)
+offering_joins o s a = by (list_any (accounts.is_offered_as o.id) a.offers) refl (accounts.fits a o.resources) refl
   where
-    fits_alike : covers s.total (o.resources ++ accounts.taken a) ≡ accounts.fits a o.resources
-    fits_alike = ap (λ total. covers total (o.resources ++ accounts.taken a)) e
-
     by : (v : Bool) → list_any (accounts.is_offered_as o.id) a.offers ≡ v → (b : Bool) → accounts.fits a o.resources ≡ b → join s (accounts.offering o a) ≡ offering o (join s a)
     by true i b h = rw i refl
-    by false i true h = rw (i, h, fits_alike ∙ h) refl
-    by false i false h = rw (i, h, fits_alike ∙ h) refl
+    by false i true h = rw (i, h) refl
+    by false i false h = rw (i, h) refl
 
 pub offering_keeps : (o : Offer) → KeepsAccount (accounts.offering o)
-offering_keeps o = record { name = λ a. name a (list_any (accounts.is_offered_as o.id) a.offers) refl (accounts.fits a o.resources) refl; total = λ a. total a (list_any (accounts.is_offered_as o.id) a.offers) refl (accounts.fits a o.resources) refl }
+offering_keeps o = record { name = λ a. name a (list_any (accounts.is_offered_as o.id) a.offers) refl (accounts.fits a o.resources) refl }
   where
     name : (a : Account) (v : Bool) → list_any (accounts.is_offered_as o.id) a.offers ≡ v → (b : Bool) → accounts.fits a o.resources ≡ b → (accounts.offering o a).name ≡ a.name
     name a true i b h = rw i refl
     name a false i true h = rw (i, h) refl
     name a false i false h = rw (i, h) refl
-
-    total : (a : Account) (v : Bool) → list_any (accounts.is_offered_as o.id) a.offers ≡ v → (b : Bool) → accounts.fits a o.resources ≡ b → (accounts.offering o a).total ≡ a.total
-    total a true i b h = rw i refl
-    total a false i true h = rw (i, h) refl
-    total a false i false h = rw (i, h) refl
 
 pub command_joins : (command : Command) (s : Side) (a : Account) → join (with_command command s) a ≡ with_command command (join s a)
 command_joins command s a = by s.is_open refl
@@ -56,45 +48,33 @@ command_joins command s a = by s.is_open refl
     by false h = rw h refl
 
 pub command_keeps : (command : Command) → KeepsSide (with_command command)
-command_keeps command = record { name = λ s. name s s.is_open refl; total = λ s. total s s.is_open refl }
+command_keeps command = record { name = λ s. name s s.is_open refl }
   where
     name : (s : Side) (b : Bool) → s.is_open ≡ b → (with_command command s).name ≡ s.name
     name s true h = rw h refl
     name s false h = rw h refl
 
-    total : (s : Side) (b : Bool) → s.is_open ≡ b → (with_command command s).total ≡ s.total
-    total s true h = rw h refl
-    total s false h = rw h refl
-
 -- sessions
 
-pub lost_joins : (s : Side) (a : Account) → s.is_open ≡ true → join (lost s) (accounts.reopened [] a) ≡ lost (join s a)
+pub lost_joins : (s : Side) (a : Account) → s.is_open ≡ true → join (lost s) (accounts.reopened [] [] a) ≡ lost (join s a)
 lost_joins s a h = rw h refl
 
 pub lost_stays : (s : Side) (a : Account) → s.is_open ≡ false → join s a ≡ lost (join s a)
 lost_stays s a h = rw h refl
 
 pub lost_keeps : KeepsSide lost
-lost_keeps = record { name = λ s. name s s.is_open refl; total = λ s. total s s.is_open refl }
+lost_keeps = record { name = λ s. name s s.is_open refl }
   where
     name : (s : Side) (b : Bool) → s.is_open ≡ b → (lost s).name ≡ s.name
     name s true h = rw h refl
     name s false h = rw h refl
 
-    total : (s : Side) (b : Bool) → s.is_open ≡ b → (lost s).total ≡ s.total
-    total s true h = rw h refl
-    total s false h = rw h refl
-
 pub report_keeps : (run session number : ℕ) → KeepsSide (after_report run session number)
-report_keeps run session number = record { name = λ s. name s (report_opens run s session number) refl; total = λ s. total s (report_opens run s session number) refl }
+report_keeps run session number = record { name = λ s. name s (report_opens run s session number) refl }
   where
     name : (s : Side) (b : Bool) → report_opens run s session number ≡ b → (after_report run session number s).name ≡ s.name
     name s true h = rw h refl
     name s false h = rw h refl
-
-    total : (s : Side) (b : Bool) → report_opens run s session number ≡ b → (after_report run session number s).total ≡ s.total
-    total s true h = rw h refl
-    total s false h = rw h refl
 
 -- a Report that is refused opens nothing
 
@@ -131,20 +111,20 @@ closed_if run s session number refusal e = closed_by run s session number refusa
 
 -- a Report that opens, and one that doesn't
 
-pub report_opens_joins : (run session number : ℕ) (tasks : List Booked) (s : Side) (a : Account) → reported run s session number ≡ Ok true → join (after_report run session number s) (accounts.reopened tasks a) ≡ reporting run session number tasks (join s a)
-report_opens_joins run session number tasks s a e = let opens = opens_if run s session number true e in rw opens refl
+pub report_opens_joins : (run session number : ℕ) (tasks : List Booked) (total : List Row) (s : Side) (a : Account) → reported run s session number ≡ Ok true → join (after_report run session number s) (accounts.reopened tasks total a) ≡ reporting run session number tasks total (join s a)
+report_opens_joins run session number tasks total s a e = let opens = opens_if run s session number true e in rw opens refl
 
-stays_closed : (run session number : ℕ) (tasks : List Booked) (s : Side) (a : Account) → report_opens run s session number ≡ false → join (after_report run session number s) a ≡ reporting run session number tasks (join s a)
-stays_closed run session number tasks s a e = rw e refl
+stays_closed : (run session number : ℕ) (tasks : List Booked) (total : List Row) (s : Side) (a : Account) → report_opens run s session number ≡ false → join (after_report run session number s) a ≡ reporting run session number tasks total (join s a)
+stays_closed run session number tasks total s a e = rw e refl
 
-pub report_again_joins : (run session number : ℕ) (tasks : List Booked) (s : Side) (a : Account) → reported run s session number ≡ Ok false → join (after_report run session number s) a ≡ reporting run session number tasks (join s a)
-report_again_joins run session number tasks s a e = stays_closed run session number tasks s a (opens_if run s session number false e)
+pub report_again_joins : (run session number : ℕ) (tasks : List Booked) (total : List Row) (s : Side) (a : Account) → reported run s session number ≡ Ok false → join (after_report run session number s) a ≡ reporting run session number tasks total (join s a)
+report_again_joins run session number tasks total s a e = stays_closed run session number tasks total s a (opens_if run s session number false e)
 
-pub report_refused_joins : (run session number : ℕ) (tasks : List Booked) (refusal : MasterRefusal) (s : Side) (a : Account) → reported run s session number ≡ Err refusal → join (after_report run session number s) a ≡ reporting run session number tasks (join s a)
-report_refused_joins run session number tasks refusal s a e = stays_closed run session number tasks s a (closed_if run s session number refusal e)
+pub report_refused_joins : (run session number : ℕ) (tasks : List Booked) (total : List Row) (refusal : MasterRefusal) (s : Side) (a : Account) → reported run s session number ≡ Err refusal → join (after_report run session number s) a ≡ reporting run session number tasks total (join s a)
+report_refused_joins run session number tasks total refusal s a e = stays_closed run session number tasks total s a (closed_if run s session number refusal e)
 
-pub reopened_keeps : (tasks : List Booked) → KeepsAccount (accounts.reopened tasks)
-reopened_keeps tasks = record { name = λ a. refl; total = λ a. refl }
+pub reopened_keeps : (tasks : List Booked) (total : List Row) → KeepsAccount (accounts.reopened tasks total)
+reopened_keeps tasks total = record { name = λ a. refl }
 
 -- agents that just entered
 
@@ -154,7 +134,7 @@ entered_joins (a ∷ agents) = ap (λ ss. side_of a ∷ ss) (entered_joins agent
 
 entered_are_one : (agents : List ConfiguredAgent) → AreOfOne (map side_of agents) (map account_of agents)
 entered_are_one [] = tt
-entered_are_one (a ∷ agents) = (refl, refl, entered_are_one agents)
+entered_are_one (a ∷ agents) = (refl, entered_are_one agents)
 
 entered_names : (agents : List ConfiguredAgent) → side_names (map side_of agents) ≡ names_of agents
 entered_names [] = refl
@@ -185,12 +165,8 @@ applied_joins run session count s a = by (counts s session count) refl
     by false h = rw h refl
 
 pub applied_keeps : (session count : ℕ) → KeepsSide (after_applied session count)
-applied_keeps session count = record { name = λ s. name s (counts s session count) refl; total = λ s. total s (counts s session count) refl }
+applied_keeps session count = record { name = λ s. name s (counts s session count) refl }
   where
     name : (s : Side) (b : Bool) → counts s session count ≡ b → (after_applied session count s).name ≡ s.name
     name s true h = rw h refl
     name s false h = rw h refl
-
-    total : (s : Side) (b : Bool) → counts s session count ≡ b → (after_applied session count s).total ≡ s.total
-    total s true h = rw h refl
-    total s false h = rw h refl

@@ -25,23 +25,17 @@ joined_here i tell none (t ∷ ss) [] s a within fits is was = absurd (omega ari
 joined_here zero tell none (t ∷ ss) (b ∷ as_) s a within fits is was = ap (λ x. tell (join x a)) is ∙ ap (λ x. tell (join t x)) was
 joined_here (suc i) tell none (t ∷ ss) (b ∷ as_) s a within fits is was = joined_here i tell none ss as_ s a (omega arith) (omega arith) is was
 
-pub one_here : (i : ℕ) (ss : List Side) (as_ : List Account) (s : Side) (a : Account) → AreOfOne ss as_ → i < length ss → i < length as_ → s ≡ get_or ss i s → a ≡ get_or as_ i a → s.total ≡ a.total
-one_here i [] as_ s a one within fits is was = absurd (omega arith)
-one_here i (t ∷ ss) [] s a one within fits is was = absurd (omega arith)
-one_here zero (t ∷ ss) (b ∷ as_) s a one within fits is was = ap (λ (x : Side). x.total) is ∙ one.1 ∙ sym (ap (λ (x : Account). x.total) was)
-one_here (suc i) (t ∷ ss) (b ∷ as_) s a one within fits is was = one_here i ss as_ s a one.2 (omega arith) (omega arith) is was
-
 -- what an account leaves is what is free of the side
-pub free_joins : (s : Side) (a : Account) → s.total ≡ a.total → accounts.free a ≡ free (join s a)
-free_joins s a e = ap (λ total. rest_of total (offer_rows a.offers ++ job_rows (unended a.booked))) (sym e)
+pub free_joins : (s : Side) (a : Account) → accounts.free a ≡ free (join s a)
+free_joins s a = refl
 
-pub open_joins : (s : Side) (a : Account) → s.total ≡ a.total → s.is_open ≡ true → Some (s.name, accounts.free a) ≡ open_part (join s a)
-open_joins s a e is = ap (λ rows. Some (s.name, rows)) (free_joins s a e) ∙ rw is refl
+pub open_joins : (s : Side) (a : Account) → s.is_open ≡ true → Some (s.name, accounts.free a) ≡ open_part (join s a)
+open_joins s a is = ap (λ rows. Some (s.name, rows)) (free_joins s a) ∙ rw is refl
 
 pub shut_joins : (s : Side) (a : Account) → s.is_open ≡ false → None ≡ open_part (join s a)
 shut_joins s a is = rw is refl
 
-pub rows_joined : (ss : List Side) (as_ : List Account) → AreOfOne ss as_ → AllByRecursion (λ s. AreRows s.total) ss → AllByRecursion (λ s. AreRows s.total) (joined ss as_)
-rows_joined [] as_ one h = tt
-rows_joined (s ∷ ss) [] one h = tt
-rows_joined (s ∷ ss) (a ∷ as_) one h = (h.0, rows_joined ss as_ one.2 h.1)
+pub rows_joined : (ss : List Side) (as_ : List Account) → AllByRecursion (λ a. AreRows a.total) as_ → AllByRecursion (λ s. AreRows s.total) (joined ss as_)
+rows_joined [] as_ h = tt
+rows_joined (s ∷ ss) [] h = tt
+rows_joined (s ∷ ss) (a ∷ as_) h = (h.0, rows_joined ss as_ h.1)

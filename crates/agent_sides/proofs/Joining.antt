@@ -11,41 +11,39 @@ use Rattle.agent_sides.specs.Joined.{AreApart, AreOfOne, Fit, join, joined, side
 -- a change of an account keeps its agent
 pub record KeepsAccount (g : Account → Account) : Type 0 where
   pub name : (a : Account) → (g a).name ≡ a.name
-  pub total : (a : Account) → (g a).total ≡ a.total
 
 pub record KeepsSide (f : Side → Side) : Type 0 where
   pub name : (s : Side) → (f s).name ≡ s.name
-  pub total : (s : Side) → (f s).total ≡ s.total
 
 -- all accounts change
 
-pub joined_map : (g : Account → Account) (h : Side → Side) → ((s : Side) (a : Account) → s.total ≡ a.total → join s (g a) ≡ h (join s a)) → (ss : List Side) (as_ : List Account) → AreOfOne ss as_ → joined ss (map g as_) ≡ map h (joined ss as_)
+pub joined_map : (g : Account → Account) (h : Side → Side) → ((s : Side) (a : Account) → join s (g a) ≡ h (join s a)) → (ss : List Side) (as_ : List Account) → AreOfOne ss as_ → joined ss (map g as_) ≡ map h (joined ss as_)
 joined_map g h same [] [] one = refl
 joined_map g h same [] (a ∷ as_) one = absurd one
 joined_map g h same (s ∷ ss) [] one = absurd one
-joined_map g h same (s ∷ ss) (a ∷ as_) one = rw (same s a one.1, joined_map g h same ss as_ one.2) refl
+joined_map g h same (s ∷ ss) (a ∷ as_) one = rw (same s a, joined_map g h same ss as_ one.1) refl
 
 pub one_map : (g : Account → Account) → KeepsAccount g → (ss : List Side) (as_ : List Account) → AreOfOne ss as_ → AreOfOne ss (map g as_)
 one_map g keeps [] [] one = one
 one_map g keeps [] (a ∷ as_) one = absurd one
 one_map g keeps (s ∷ ss) [] one = absurd one
-one_map g keeps (s ∷ ss) (a ∷ as_) one = (one.0 ∙ sym (keeps.name a), one.1 ∙ sym (keeps.total a), one_map g keeps ss as_ one.2)
+one_map g keeps (s ∷ ss) (a ∷ as_) one = (one.0 ∙ sym (keeps.name a), one_map g keeps ss as_ one.1)
 
 -- one account changes
 
-pub joined_book : (i : ℕ) (g : Account → Account) (h : Side → Side) → ((s : Side) (a : Account) → s.total ≡ a.total → join s (g a) ≡ h (join s a)) → (ss : List Side) (as_ : List Account) → AreOfOne ss as_ → joined ss (books.at_place i g as_) ≡ at_place i h (joined ss as_)
+pub joined_book : (i : ℕ) (g : Account → Account) (h : Side → Side) → ((s : Side) (a : Account) → join s (g a) ≡ h (join s a)) → (ss : List Side) (as_ : List Account) → AreOfOne ss as_ → joined ss (books.at_place i g as_) ≡ at_place i h (joined ss as_)
 joined_book i g h same [] [] one = refl
 joined_book i g h same [] (a ∷ as_) one = absurd one
 joined_book i g h same (s ∷ ss) [] one = absurd one
-joined_book zero g h same (s ∷ ss) (a ∷ as_) one = rw (same s a one.1) refl
-joined_book (suc i) g h same (s ∷ ss) (a ∷ as_) one = rw (joined_book i g h same ss as_ one.2) refl
+joined_book zero g h same (s ∷ ss) (a ∷ as_) one = rw (same s a) refl
+joined_book (suc i) g h same (s ∷ ss) (a ∷ as_) one = rw (joined_book i g h same ss as_ one.1) refl
 
 pub one_book : (i : ℕ) (g : Account → Account) → KeepsAccount g → (ss : List Side) (as_ : List Account) → AreOfOne ss as_ → AreOfOne ss (books.at_place i g as_)
 one_book i g keeps [] [] one = one
 one_book i g keeps [] (a ∷ as_) one = absurd one
 one_book i g keeps (s ∷ ss) [] one = absurd one
-one_book zero g keeps (s ∷ ss) (a ∷ as_) one = (one.0 ∙ sym (keeps.name a), one.1 ∙ sym (keeps.total a), one.2)
-one_book (suc i) g keeps (s ∷ ss) (a ∷ as_) one = (one.0, one.1, one_book i g keeps ss as_ one.2)
+one_book zero g keeps (s ∷ ss) (a ∷ as_) one = (one.0 ∙ sym (keeps.name a), one.1)
+one_book (suc i) g keeps (s ∷ ss) (a ∷ as_) one = (one.0, one_book i g keeps ss as_ one.1)
 
 -- one entry of the roster changes
 
@@ -54,14 +52,14 @@ joined_roster i f h same [] [] one = refl
 joined_roster i f h same [] (a ∷ as_) one = absurd one
 joined_roster i f h same (s ∷ ss) [] one = absurd one
 joined_roster zero f h same (s ∷ ss) (a ∷ as_) one = rw (same s a) refl
-joined_roster (suc i) f h same (s ∷ ss) (a ∷ as_) one = rw (joined_roster i f h same ss as_ one.2) refl
+joined_roster (suc i) f h same (s ∷ ss) (a ∷ as_) one = rw (joined_roster i f h same ss as_ one.1) refl
 
 pub one_roster : (i : ℕ) (f : Side → Side) → KeepsSide f → (ss : List Side) (as_ : List Account) → AreOfOne ss as_ → AreOfOne (at_place i f ss) as_
 one_roster i f keeps [] [] one = one
 one_roster i f keeps [] (a ∷ as_) one = absurd one
 one_roster i f keeps (s ∷ ss) [] one = absurd one
-one_roster zero f keeps (s ∷ ss) (a ∷ as_) one = (keeps.name s ∙ one.0, keeps.total s ∙ one.1, one.2)
-one_roster (suc i) f keeps (s ∷ ss) (a ∷ as_) one = (one.0, one.1, one_roster i f keeps ss as_ one.2)
+one_roster zero f keeps (s ∷ ss) (a ∷ as_) one = (keeps.name s ∙ one.0, one.1)
+one_roster (suc i) f keeps (s ∷ ss) (a ∷ as_) one = (one.0, one_roster i f keeps ss as_ one.1)
 
 -- what is told of a side's session
 
@@ -70,7 +68,7 @@ joined_told i tell none same [] [] one = refl
 joined_told i tell none same [] (a ∷ as_) one = absurd one
 joined_told i tell none same (s ∷ ss) [] one = absurd one
 joined_told zero tell none same (s ∷ ss) (a ∷ as_) one = same s a
-joined_told (suc i) tell none same (s ∷ ss) (a ∷ as_) one = joined_told i tell none same ss as_ one.2
+joined_told (suc i) tell none same (s ∷ ss) (a ∷ as_) one = joined_told i tell none same ss as_ one.1
 
 -- what is so of the one is so of the other
 
@@ -115,7 +113,7 @@ joined_when i f h g tell none told same [] [] one is = refl
 joined_when i f h g tell none told same [] (a ∷ as_) one is = absurd one
 joined_when i f h g tell none told same (s ∷ ss) [] one is = absurd one
 joined_when zero f h g tell none told same (s ∷ ss) (a ∷ as_) one is = rw (same s a is) refl
-joined_when (suc i) f h g tell none told same (s ∷ ss) (a ∷ as_) one is = rw (joined_when i f h g tell none told same ss as_ one.2 is) refl
+joined_when (suc i) f h g tell none told same (s ∷ ss) (a ∷ as_) one is = rw (joined_when i f h g tell none told same ss as_ one.1 is) refl
 
 -- an entry changes alone, where something is told of it
 pub joined_if : {X : Type 0} (i : ℕ) (f h : Side → Side) (tell : Side → X) (none told : X) → ((s : Side) (a : Account) → tell s ≡ told → join (f s) a ≡ h (join s a))
@@ -124,7 +122,7 @@ joined_if i f h tell none told same [] [] one is = refl
 joined_if i f h tell none told same [] (a ∷ as_) one is = absurd one
 joined_if i f h tell none told same (s ∷ ss) [] one is = absurd one
 joined_if zero f h tell none told same (s ∷ ss) (a ∷ as_) one is = rw (same s a is) refl
-joined_if (suc i) f h tell none told same (s ∷ ss) (a ∷ as_) one is = rw (joined_if i f h tell none told same ss as_ one.2 is) refl
+joined_if (suc i) f h tell none told same (s ∷ ss) (a ∷ as_) one is = rw (joined_if i f h tell none told same ss as_ one.1 is) refl
 
 -- nothing changes, where something is told of the entry
 pub joined_same : {X : Type 0} (i : ℕ) (h : Side → Side) (tell : Side → X) (none told : X) → ((s : Side) (a : Account) → tell s ≡ told → join s a ≡ h (join s a))
@@ -133,7 +131,7 @@ joined_same i h tell none told same [] [] one is = refl
 joined_same i h tell none told same [] (a ∷ as_) one is = absurd one
 joined_same i h tell none told same (s ∷ ss) [] one is = absurd one
 joined_same zero h tell none told same (s ∷ ss) (a ∷ as_) one is = ap (λ t. t ∷ joined ss as_) (same s a is)
-joined_same (suc i) h tell none told same (s ∷ ss) (a ∷ as_) one is = ap (λ ts. join s a ∷ ts) (joined_same i h tell none told same ss as_ one.2 is)
+joined_same (suc i) h tell none told same (s ∷ ss) (a ∷ as_) one is = ap (λ ts. join s a ∷ ts) (joined_same i h tell none told same ss as_ one.1 is)
 
 -- names stay, and offers stay apart
 
@@ -167,7 +165,7 @@ pub joined_names : (ss : List Side) (as_ : List Account) → AreOfOne ss as_ →
 joined_names [] [] one = refl
 joined_names [] (a ∷ as_) one = absurd one
 joined_names (s ∷ ss) [] one = absurd one
-joined_names (s ∷ ss) (a ∷ as_) one = ap (λ ns. s.name ∷ ns) (joined_names ss as_ one.2)
+joined_names (s ∷ ss) (a ∷ as_) one = ap (λ ns. s.name ∷ ns) (joined_names ss as_ one.1)
 
 -- an account changes by what is told of the entry, which changes too
 
@@ -177,7 +175,7 @@ joined_by i f h g tell none same [] [] one = refl
 joined_by i f h g tell none same [] (a ∷ as_) one = absurd one
 joined_by i f h g tell none same (s ∷ ss) [] one = absurd one
 joined_by zero f h g tell none same (s ∷ ss) (a ∷ as_) one = rw (same s a) refl
-joined_by (suc i) f h g tell none same (s ∷ ss) (a ∷ as_) one = rw (joined_by i f h g tell none same ss as_ one.2) refl
+joined_by (suc i) f h g tell none same (s ∷ ss) (a ∷ as_) one = rw (joined_by i f h g tell none same ss as_ one.1) refl
 
 -- an account changes alone, where something is told of the entry
 pub joined_where : {X : Type 0} (i : ℕ) (h : Side → Side) (g : Account → Account) (tell : Side → X) (none told : X) → ((s : Side) (a : Account) → tell s ≡ told → join s (g a) ≡ h (join s a))
@@ -186,4 +184,4 @@ joined_where i h g tell none told same [] [] one is = refl
 joined_where i h g tell none told same [] (a ∷ as_) one is = absurd one
 joined_where i h g tell none told same (s ∷ ss) [] one is = absurd one
 joined_where zero h g tell none told same (s ∷ ss) (a ∷ as_) one is = ap (λ t. t ∷ joined ss as_) (same s a is)
-joined_where (suc i) h g tell none told same (s ∷ ss) (a ∷ as_) one is = ap (λ ts. join s a ∷ ts) (joined_where i h g tell none told same ss as_ one.2 is)
+joined_where (suc i) h g tell none told same (s ∷ ss) (a ∷ as_) one is = ap (λ ts. join s a ∷ ts) (joined_where i h g tell none told same ss as_ one.1 is)

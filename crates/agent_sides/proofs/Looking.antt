@@ -21,7 +21,7 @@ placed_joined [] [] one = refl
 placed_joined [] (a ∷ as_) one = absurd one
 placed_joined (s ∷ ss) [] one = absurd one
 placed_joined (s ∷ ss) (a ∷ as_) one =
-    ap (λ n. map (held.place n) a.booked ++ held.all_placed as_) (sym one.0) ∙ ap (λ ps. placed_on (join s a) ++ ps) (placed_joined ss as_ one.2)
+    ap (λ n. map (held.place n) a.booked ++ held.all_placed as_) (sym one.0) ∙ ap (λ ps. placed_on (join s a) ++ ps) (placed_joined ss as_ one.1)
 
 length_alike : {A B : Type 0} (f : A → B) (xs us : List A) (vs : List B) → length us ≡ length vs → length (xs ++ us) ≡ length (map f xs ++ vs)
 length_alike f [] us vs e = e
@@ -31,7 +31,7 @@ pub count_joined : (ss : List Side) (as_ : List Account) → AreOfOne ss as_ →
 count_joined [] [] one = refl
 count_joined [] (a ∷ as_) one = absurd one
 count_joined (s ∷ ss) [] one = absurd one
-count_joined (s ∷ ss) (a ∷ as_) one = length_alike (held.place s.name) a.booked (flat_map (λ b. b.booked) as_) (all_placed (joined ss as_)) (count_joined ss as_ one.2)
+count_joined (s ∷ ss) (a ∷ as_) one = length_alike (held.place s.name) a.booked (flat_map (λ b. b.booked) as_) (all_placed (joined ss as_)) (count_joined ss as_ one.1)
 
 -- entries
 
@@ -40,7 +40,7 @@ pub numbers_joined : (count : ℕ) (name : List ℕ) (ss : List Side) (as_ : Lis
 numbers_joined count name [] [] one = refl
 numbers_joined count name [] (a ∷ as_) one = absurd one
 numbers_joined count name (s ∷ ss) [] one = absurd one
-numbers_joined count name (s ∷ ss) (a ∷ as_) one = by (bytes_eq s.name name) (numbers_joined count name ss as_ one.2)
+numbers_joined count name (s ∷ ss) (a ∷ as_) one = by (bytes_eq s.name name) (numbers_joined count name ss as_ one.1)
   where
     by : (b : Bool) → may_have_numbers count (find (λ t. bytes_eq t.name name) ss) ≡ may_have_numbers count (find (λ t. bytes_eq t.name name) (joined ss as_))
         → may_have_numbers count (cond b (Some s) (find (λ t. bytes_eq t.name name) ss)) ≡ may_have_numbers count (cond b (Some (join s a)) (find (λ t. bytes_eq t.name name) (joined ss as_)))
@@ -51,19 +51,19 @@ pub any_joined : (test : Side → Bool) → ((s : Side) (a : Account) → test s
 any_joined test same [] [] one = refl
 any_joined test same [] (a ∷ as_) one = absurd one
 any_joined test same (s ∷ ss) [] one = absurd one
-any_joined test same (s ∷ ss) (a ∷ as_) one = ap (λ b. b || list_any test ss) (same s a) ∙ ap (λ b. test (join s a) || b) (any_joined test same ss as_ one.2)
+any_joined test same (s ∷ ss) (a ∷ as_) one = ap (λ b. b || list_any test ss) (same s a) ∙ ap (λ b. test (join s a) || b) (any_joined test same ss as_ one.1)
 
 pub length_joined : (ss : List Side) (as_ : List Account) → AreOfOne ss as_ → length ss ≡ length (joined ss as_)
 length_joined [] [] one = refl
 length_joined [] (a ∷ as_) one = absurd one
 length_joined (s ∷ ss) [] one = absurd one
-length_joined (s ∷ ss) (a ∷ as_) one = ap suc (length_joined ss as_ one.2)
+length_joined (s ∷ ss) (a ∷ as_) one = ap suc (length_joined ss as_ one.1)
 
 first_joined : (name : List ℕ) (ss : List Side) (as_ : List Account) → AreOfOne ss as_ → position_or_len (λ s. bytes_eq s.name name) ss ≡ position_or_len (λ s. bytes_eq s.name name) (joined ss as_)
 first_joined name [] [] one = refl
 first_joined name [] (a ∷ as_) one = absurd one
 first_joined name (s ∷ ss) [] one = absurd one
-first_joined name (s ∷ ss) (a ∷ as_) one = by (bytes_eq s.name name) refl (first_joined name ss as_ one.2)
+first_joined name (s ∷ ss) (a ∷ as_) one = by (bytes_eq s.name name) refl (first_joined name ss as_ one.1)
   where
     by : (b : Bool) → bytes_eq s.name name ≡ b → position_or_len (λ t. bytes_eq t.name name) ss ≡ position_or_len (λ t. bytes_eq t.name name) (joined ss as_)
         → position_or_len (λ t. bytes_eq t.name name) (s ∷ ss) ≡ position_or_len (λ t. bytes_eq t.name name) (join s a ∷ joined ss as_)

@@ -16,7 +16,7 @@ pub holdings_joined : (ss : List Side) (as_ : List Account) → AreOfOne ss as_ 
 holdings_joined [] [] one = refl
 holdings_joined [] (a ∷ as_) one = absurd one
 holdings_joined (s ∷ ss) [] one = absurd one
-holdings_joined (s ∷ ss) (a ∷ as_) one = rw (one.0, holdings_joined ss as_ one.2) refl
+holdings_joined (s ∷ ss) (a ∷ as_) one = rw (one.0, holdings_joined ss as_ one.1) refl
 
 abbrev pub sum_of : Numbered → List Numbered → Account → GoodOffers
 sum_of framework ids a = record { agent = a.name; sum = plus_rows [] (offer_rows (accounts.named_offers a framework ids)) }
@@ -31,7 +31,7 @@ good_joined framework ids [] [] one = refl
 good_joined framework ids [] (a ∷ as_) one = absurd one
 good_joined framework ids (s ∷ ss) [] one = absurd one
 good_joined framework ids (s ∷ ss) (a ∷ as_) one =
-    by (s.is_open && accounts.are_good a.offers framework ids) (is_good (join s a) framework ids) grouped (good_joined framework ids ss as_ one.2)
+    by (s.is_open && accounts.are_good a.offers framework ids) (is_good (join s a) framework ids) grouped (good_joined framework ids ss as_ one.1)
   where
     grouped : (s.is_open && accounts.are_good a.offers framework ids) ≡ is_good (join s a) framework ids
     grouped = and_grouped s.is_open (not (is_empty ids)) (not (is_repeated ids)) (list_all (accounts.has_offer a.offers framework) ids)
@@ -51,7 +51,7 @@ pub lacks_joined : (framework : Numbered) (ss : List Side) (as_ : List Account) 
 lacks_joined framework [] [] one = refl
 lacks_joined framework [] (a ∷ as_) one = absurd one
 lacks_joined framework (s ∷ ss) [] one = absurd one
-lacks_joined framework (s ∷ ss) (a ∷ as_) one = by (accounts.has_tasks_of framework a.booked) (lacks_joined framework ss as_ one.2)
+lacks_joined framework (s ∷ ss) (a ∷ as_) one = by (accounts.has_tasks_of framework a.booked) (lacks_joined framework ss as_ one.1)
   where
     by : (b : Bool) → lacks_numbers framework ss as_ ≡ list_any (λ t. not (has_numbers 1 t)) (sides_with_tasks framework (joined ss as_))
         → (b && not (has_numbers 1 s) || lacks_numbers framework ss as_) ≡ list_any (λ t. not (has_numbers 1 t)) (cond b (join s a ∷ sides_with_tasks framework (joined ss as_)) (sides_with_tasks framework (joined ss as_)))
@@ -63,7 +63,7 @@ pub names_joined : (framework : Numbered) (ss : List Side) (as_ : List Account) 
 names_joined framework [] [] one = refl
 names_joined framework [] (a ∷ as_) one = absurd one
 names_joined framework (s ∷ ss) [] one = absurd one
-names_joined framework (s ∷ ss) (a ∷ as_) one = by (accounts.has_tasks_of framework a.booked) (names_joined framework ss as_ one.2)
+names_joined framework (s ∷ ss) (a ∷ as_) one = by (accounts.has_tasks_of framework a.booked) (names_joined framework ss as_ one.1)
   where
     by : (b : Bool) → names_with_tasks framework as_ ≡ map (λ t. t.name) (sides_with_tasks framework (joined ss as_))
         → map (λ x. x.name) (cond b (a ∷ filter (λ x. accounts.has_tasks_of framework x.booked) as_) (filter (λ x. accounts.has_tasks_of framework x.booked) as_))

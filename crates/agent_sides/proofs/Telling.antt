@@ -11,7 +11,7 @@ pub told_joined : {X : Type 0} (name : List ℕ) (tell : Side → X) (none : X) 
 told_joined name tell none same [] [] one = refl
 told_joined name tell none same [] (a ∷ as_) one = absurd one
 told_joined name tell none same (s ∷ ss) [] one = absurd one
-told_joined {X} name tell none same (s ∷ ss) (a ∷ as_) one = by (bytes_eq s.name name) (told_joined name tell none same ss as_ one.2)
+told_joined {X} name tell none same (s ∷ ss) (a ∷ as_) one = by (bytes_eq s.name name) (told_joined name tell none same ss as_ one.1)
   where
     by : (b : Bool) → told_of name tell none ss ≡ told_of name tell none (joined ss as_) → cond b (tell s) (told_of name tell none ss) ≡ cond b (tell (join s a)) (told_of name tell none (joined ss as_))
     by true ih = same s a
@@ -23,7 +23,7 @@ book_joined name of_account tell none same [] [] one = refl
 book_joined name of_account tell none same [] (a ∷ as_) one = absurd one
 book_joined name of_account tell none same (s ∷ ss) [] one = absurd one
 book_joined {X} name of_account tell none same (s ∷ ss) (a ∷ as_) one =
-    ap (λ n. cond (bytes_eq n name) (of_account a) (told_by name of_account none as_)) (sym one.0) ∙ by (bytes_eq s.name name) (book_joined name of_account tell none same ss as_ one.2)
+    ap (λ n. cond (bytes_eq n name) (of_account a) (told_by name of_account none as_)) (sym one.0) ∙ by (bytes_eq s.name name) (book_joined name of_account tell none same ss as_ one.1)
   where
     by : (b : Bool) → told_by name of_account none as_ ≡ told_of name tell none (joined ss as_) → cond b (of_account a) (told_by name of_account none as_) ≡ cond b (tell (join s a)) (told_of name tell none (joined ss as_))
     by true ih = same s a
@@ -33,4 +33,4 @@ pub flat_joined : {X : Type 0} (tell : Side → List X) → ((s : Side) (a : Acc
 flat_joined tell same [] [] one = refl
 flat_joined tell same [] (a ∷ as_) one = absurd one
 flat_joined tell same (s ∷ ss) [] one = absurd one
-flat_joined tell same (s ∷ ss) (a ∷ as_) one = ap (λ xs. xs ++ flat_map tell ss) (same s a) ∙ ap (λ xs. tell (join s a) ++ xs) (flat_joined tell same ss as_ one.2)
+flat_joined tell same (s ∷ ss) (a ∷ as_) one = ap (λ xs. xs ++ flat_map tell ss) (same s a) ∙ ap (λ xs. tell (join s a) ++ xs) (flat_joined tell same ss as_ one.1)

@@ -4,6 +4,7 @@ use Rattle.std.specs.List.{list_any}
 use Rattle.names_core.specs.Ids.{Numbered}
 use Rattle.mails.specs.declared.task.Offer.{Offer}
 use Rattle.mails.specs.declared.task.Booked.{Booked}
+use Rattle.quantity.specs.declared.rows.Row.{Row}
 use Rattle.quantity.specs.Rows.{covers}
 use Rattle.cluster_model.specs.Ids.{same}
 use Rattle.cluster_model.specs.Sides.{Side, new_side, opened, taken}
@@ -25,14 +26,14 @@ offering o s =
 abbrev pub with_task : Booked → Side → Side
 with_task b s = record s { booked = s.booked ++ b ∷ [] }
 
--- a Report is heard with these tasks: where it opens a session, the session is open and the tasks are booked
-abbrev pub reporting : ℕ → ℕ → ℕ → List Booked → Side → Side
-reporting run session number tasks s = if report_opens run s session number then opened s session tasks else s
+-- a Report is heard with these tasks and this total: where it opens a session, the session is open, the tasks are booked, and the agent owns the total
+abbrev pub reporting : ℕ → ℕ → ℕ → List Booked → List Row → Side → Side
+reporting run session number tasks total s = if report_opens run s session number then opened s session tasks total else s
 
--- a configured agent that has not yet opened a session
+-- a configured agent that has not yet opened a session: what it owns isn't known
 
 abbrev pub side_of : ConfiguredAgent → Side
-side_of a = new_side a.name a.total
+side_of a = new_side a.name
 
 abbrev pub account_of : ConfiguredAgent → Account
-account_of a = new_account a.name a.total
+account_of a = new_account a.name []

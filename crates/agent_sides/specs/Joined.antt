@@ -6,21 +6,21 @@ use Rattle.cluster_model.specs.Sides.{Side}
 use Rattle.offer_book.specs.declared.account.Account.{Account}
 use Rattle.agent_sides.specs.Configs.{are_ordered}
 
--- the side of an agent: its session from the roster, its offers and booked tasks from the book
+-- the side of an agent: its session from the roster; what it owns, its offers and booked tasks from the book
 abbrev pub join : Side → Account → Side
-join s a = record s { offers = a.offers; booked = a.booked }
+join s a = record s { total = a.total; offers = a.offers; booked = a.booked }
 
 abbrev pub joined : List Side → List Account → List Side
 joined [] as_ = []
 joined (s ∷ ss) [] = []
 joined (s ∷ ss) (a ∷ as_) = join s a ∷ joined ss as_
 
--- they are of the same agents, which own the same
+-- they are of the same agents
 abbrev pub AreOfOne : List Side → List Account → Type 0
 AreOfOne [] [] = ⊤
 AreOfOne [] (a ∷ as_) = ⊥
 AreOfOne (s ∷ ss) [] = ⊥
-AreOfOne (s ∷ ss) (a ∷ as_) = (s.name ≡ a.name) × (s.total ≡ a.total) × AreOfOne ss as_
+AreOfOne (s ∷ ss) (a ∷ as_) = (s.name ≡ a.name) × AreOfOne ss as_
 
 -- the agents' names
 abbrev pub side_names : List Side → List (List ℕ)

@@ -41,17 +41,17 @@ fn open_part_in<'a>(
     Ok(Some((entry.name(), free)))
 }
 
-fn own_rows(entry: &RosterEntry)
-    ensures { AreRows entry.now.total }
+fn own_rows(account: &Account)
+    ensures { AreRows account.now.total }
 {
-    let _rows = entry.total().rows();
+    let _rows = account.total.rows();
 }
 
-fn all_own_rows(entries: &[RosterEntry])
-    ensures { AllByRecursion (λ s. AreRows s.total) entries.now }
+fn all_own_rows(accounts: &[Account])
+    ensures { AllByRecursion (λ a. AreRows a.total) accounts.now }
 {
-    for entry in entries {
-        own_rows(entry);
+    for account in accounts {
+        own_rows(account);
     }
 }
 
@@ -78,7 +78,7 @@ impl Sides {
     pub fn own_rows(&self)
         ensures { AllByRecursion (λ s. AreRows s.total) self.now }
     {
-        all_own_rows(self.roster.entries());
+        all_own_rows(self.book.accounts());
     }
 
     /// The agents' sessions, and their offers and booked tasks: at each place those of one agent.

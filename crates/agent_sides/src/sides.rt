@@ -23,6 +23,7 @@ use mails::{Booked, Command, MasterRefusal, Offer};
 use names_core::{AgentName, FrameworkId, LaunchKey, OfferId, Run, TaskName};
 use offer_book::{Heard, OfferBook, ids_name_offers};
 use plain_data::Plain;
+use quantity::Resources;
 use roster::{Roster, RosterFault};
 use std::alloc::{AllocError, Global};
 use std::marker::Model;
@@ -60,8 +61,8 @@ fn enter_all(
     ensures book { OnOk result (book.new ≡ map account_of agents.now) }
 {
     for agent in agents {
-        roster.add_agent(alloc, agent.name.copy()?, agent.total.copy()?)?;
-        book.add_agent(alloc, agent.name.copy()?, agent.total.copy()?)?;
+        roster.add_agent(alloc, agent.name.copy()?)?;
+        book.add_agent(alloc, agent.name.copy()?, Resources::new(alloc))?;
     }
     Ok(())
 }
@@ -128,8 +129,8 @@ impl Sides {
         self.roster.issue(place, command)
     }
 
-    /// An agent reports that it has opened a session with the master of a run, and that it has these tasks. The answer tells
-    /// whether the session is opened here; a Report of the open session is no news. `G1 OtherRun` where it isn't this run, `G2
+    /// An agent reports that it has opened a session with the master of a run, that it has these tasks, and that it owns this
+    /// total, which stands in the book from then on. The answer tells whether the session is opened here; a Report of the open session is no news. `G1 OtherRun` where it isn't this run, `G2
     /// OldSession` below the open session, `G3 Closed` where none is open and the session isn't above every closed one. It takes
     /// no memory.
     pub fn report(
@@ -140,27 +141,30 @@ impl Sides {
         session: u32,
         number: u32,
         tasks: Listed<Booked>,
+        total: Resources,
     ) -> Result<bool, MasterRefusal>
         ensures answer { result ≡ told_at place (λ s. reported run s session number) (Ok false) self.old }
-        ensures sides { self.new ≡ at_place place (reporting run session number tasks) self.old }
+        ensures sides { self.new ≡ at_place place (reporting run session number tasks total) self.old }
     {
         let opens = match self.roster.report(alloc, place, run, session, number) {
             Ok(opens) => opens,
             Err(refusal) => return Err(refusal),
         };
         if opens {
-            self.book.reopen(alloc, place, tasks);
+            self.book.reopen(alloc, place, tasks, total);
         }
         Ok(opens)
     }
 
-    /// The agent is lost: its open session, where there is one, is closed, and its offers and tasks are gone. It takes no memory.
+    /// The agent is lost: its open session, where there is one, is closed, its offers and tasks are gone, and it owns nothing as far
+    /// as is known. It takes no memory.
     pub fn lose(&mut self, alloc: Global, place: usize)
         ensures { self.new ≡ at_place place lost self.old }
     {
         if look::is_open_in(self.roster.entries(), place) {
             self.roster.close_session(alloc, place);
-            self.book.reopen(alloc, place, Listed::new(alloc));
+            let (none, nothing) = (Listed::new(alloc), Resources::new(alloc));
+            self.book.reopen(alloc, place, none, nothing);
         }
     }
 

@@ -16,6 +16,7 @@ use mails::{Booked, MasterMail, MasterRefusal, Offer, ToAgent};
 use names_core::{AgentName, Run};
 use offer_book::{Account, Heard};
 use plain_data::Plain;
+use quantity::Resources;
 use roster::{RosterEntry, RosterFault};
 use std::alloc::{AllocError, Global};
 
@@ -271,11 +272,12 @@ impl Sides {
         session: u32,
         number: u32,
         tasks: Listed<Booked>,
+        total: Resources,
     )
-        ensures { self.new ≡ at_name name.now (reporting run session number tasks) self.old }
+        ensures { self.new ≡ at_name name.now (reporting run session number tasks total) self.old }
     {
         if let Some(place) = self.place_of(name) {
-            let _opens = self.report(alloc, place, run, session, number, tasks);
+            let _opens = self.report(alloc, place, run, session, number, tasks, total);
         }
     }
 

@@ -42,3 +42,8 @@ fn what_is_unacknowledged_goes_first(rt: HostRuntime) {
 fn a_stop_in_a_save(rt: HostRuntime) {
     assert!(rt; tests::a_stop_in_a_save(&rt, rt.alloc()));
 }
+
+#[test]
+fn a_larger_total(rt: HostRuntime) {
+    assert!(rt; tests::a_larger_total(&rt, rt.alloc()));
+}

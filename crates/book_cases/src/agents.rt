@@ -1,6 +1,6 @@
 //! An agent over a given record. Commands are of session 1; all speak of task t1 of framework F1-1 under L1-1.
 
-use crate::answers::{shown, word};
+use crate::answers::{amounts_text, shown, word};
 use crate::words::{amounts, first, number, task};
 use agent_core::{Agent, AgentFault, Draft, Record};
 use listed::Listed;
@@ -72,9 +72,11 @@ fn mail_text(alloc: Global, mail: &AgentMail) -> Option<String> {
             session,
             run,
             tasks,
+            total,
         } => {
             let count = tasks.len();
-            format!(in alloc; " Report {session} {run} {count}").ok()
+            let total = amounts_text(alloc, total)?;
+            format!(in alloc; " Report {session} {run} {count} {total}").ok()
         }
         AgentMail::Applied { count, .. } => format!(in alloc; " Applied {count}").ok(),
         AgentMail::Update {
@@ -203,9 +205,18 @@ fn draft_text(draft: &Option<Draft>, alloc: Global) -> Option<String> {
     }
 }
 
+/// A start, with a total where amounts follow.
+fn start_in(alloc: Global, text: &str) -> Option<Cause> {
+    if text.is_empty() {
+        return Some(Cause::Start(None));
+    }
+    let total = amounts(alloc, text)?;
+    Some(Cause::Start(Some(total)))
+}
+
 fn cause_of(agent: &Agent, alloc: Global, kind: &str, text: &str) -> Option<Cause> {
     match kind {
-        "start" => Some(Cause::Start),
+        "start" => start_in(alloc, text),
         "again" => Some(Cause::Again),
         "hello" => hello_in(agent, alloc, text),
         "launch" => launch_in(agent, alloc, text),

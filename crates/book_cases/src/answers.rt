@@ -1,5 +1,6 @@
 //! What is told of an answer.
 
+use quantity::Resources;
 use std::alloc::Global;
 use std::fmt::Display;
 
@@ -13,6 +14,12 @@ pub fn yes_or_no(alloc: Global, is: bool) -> Option<String> {
 
 pub fn shown<T: Display>(alloc: Global, value: &T) -> Option<String> {
     format!(in alloc; "{value}").ok()
+}
+
+/// How much there is of cpus and of mem.
+pub fn amounts_text(alloc: Global, resources: &Resources) -> Option<String> {
+    let (cpus, mem) = (resources.get("cpus"), resources.get("mem"));
+    format!(in alloc; "cpus:{cpus} mem:{mem}").ok()
 }
 
 /// `ok`, or the refusal.

@@ -1,11 +1,10 @@
 //! Calls of a book by the names of its agents.
 
-use crate::answers::{shown, told, word};
+use crate::answers::{amounts_text, shown, told, word};
 use crate::words::{agent, amounts, first, task};
 use mails::{Booked, Job, Offer};
 use names_core::{AgentName, FrameworkId, LaunchKey, OfferId, TaskState};
 use offer_book::OfferBook;
-use quantity::Resources;
 use std::alloc::Global;
 
 /// Written `O1-1 F1-1 cpus:1`.
@@ -59,11 +58,6 @@ fn enter(book: &mut OfferBook, alloc: Global, text: &str) -> Option<String> {
 fn leave(book: &mut OfferBook, alloc: Global, text: &str) -> Option<String> {
     let name = agent(alloc, text)?;
     told(alloc, &book.drop_agent(alloc, &name))
-}
-
-fn amounts_text(alloc: Global, resources: &Resources) -> Option<String> {
-    let (cpus, mem) = (resources.get("cpus"), resources.get("mem"));
-    format!(in alloc; "cpus:{cpus} mem:{mem}").ok()
 }
 
 fn free(book: &OfferBook, alloc: Global, text: &str) -> Option<String> {

@@ -4,7 +4,6 @@ use crate::answers::{shown, told, word, yes_or_no};
 use crate::words::{agent, first, number};
 use mails::Command;
 use names_core::{LaunchKey, Run};
-use quantity::Resources;
 use roster::Roster;
 use std::alloc::Global;
 
@@ -17,7 +16,7 @@ fn three(text: &str) -> Option<(usize, u32, u32)> {
 
 fn add(roster: &mut Roster, alloc: Global, text: &str) -> Option<String> {
     let name = agent(alloc, text)?;
-    let added = roster.add_agent(alloc, name, Resources::new(alloc));
+    let added = roster.add_agent(alloc, name);
     told(alloc, &added)
 }
 

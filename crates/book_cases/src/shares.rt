@@ -54,12 +54,25 @@ fn least(alloc: Global, picked: Option<FrameworkId>) -> Option<String> {
     }
 }
 
-/// Which of two frameworks stands least.
+fn client(alloc: Global, framework: &str, role: &str) -> Option<Client> {
+    let framework = FrameworkId::from_text(framework).ok()?;
+    let role = RoleName::from_text(alloc, role).ok()?;
+    Some(Client { framework, role })
+}
+
+/// Which of some clients stands least. Written `F1-1 p F1-2 q`.
 fn least_of(shares: &Shares, alloc: Global, text: &str) -> Option<String> {
-    let (one, two) = first(text);
-    let one = FrameworkId::from_text(one).ok()?;
-    let two = FrameworkId::from_text(two).ok()?;
-    let clients = [Client { framework: one }, Client { framework: two }];
+    let mut clients = Vec::new(alloc);
+    let mut framework = None;
+    for word in text.split(' ') {
+        framework = match framework {
+            None => Some(word),
+            Some(id) => {
+                clients.push(client(alloc, id, word)?).ok()?;
+                None
+            }
+        };
+    }
     least(alloc, pick(shares, &clients))
 }
 

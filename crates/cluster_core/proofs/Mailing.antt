@@ -16,7 +16,6 @@ use Rattle.cluster_model.specs.Clusters as model
 use Rattle.cluster_model.specs.Clusters.{Cluster, Down, Up}
 use Rattle.cluster_model.specs.Steps.{Setup, Marked, history, post_at}
 use Rattle.cluster_laws.specs.Items.{StandIn, channel_at, down_item, item_of, names_of, to_agent, to_master, up_item}
-use Rattle.cluster_laws.specs.Parts.{configured}
 use Rattle.cluster_laws.specs.Premises.{IsDown, IsUp}
 use Rattle.cluster_laws.specs.declared.item.Item.{Item}
 use Rattle.cluster_laws.specs.declared.item.Item.TheVariants as items
@@ -112,16 +111,12 @@ pub record Queued (c : Cluster) (agents : List ConfiguredAgent) (sent : List Ite
 abbrev pub NamesLaw : Type 0
 NamesLaw = (setup : Setup) (records : List Durable) (steps : List Marked) → names_of (history setup records steps).state.world.channels ≡ map (λ d. d.name) records
 
-configured_names : (records : List Durable) → map (λ (a : ConfiguredAgent). a.name) (map configured records) ≡ map (λ (d : Durable). d.name) records
-configured_names [] = refl
-configured_names (d ∷ ds) = ap (λ (names : List (List ℕ)). d.name ∷ names) (configured_names ds)
-
 pub queued_so : NamesLaw → (s : Story) (opened : Outputs) (p : Parts) (queued : List queue.Item) → IsKept s opened p (length queued) (direction_in queued) → Queued (state_of s) p.config p.items queued
 queued_so law s opened p queued k = record {
   stand = k.stands.as_others.as_items;
   counted = k.counted;
   put = k.put;
-  names = law s.setup s.records (map marked_of s.entries) ∙ sym (ap (map (λ (a : ConfiguredAgent). a.name)) k.config ∙ configured_names s.records);
+  names = law s.setup s.records (map marked_of s.entries) ∙ sym k.config;
 }
 
 -- ---- items, posts and directions

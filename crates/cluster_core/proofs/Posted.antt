@@ -56,7 +56,7 @@ prepared c n d (Some x) e = drawn c x n d (post_at c n) refl (where_free x.draft
 hands_sent : (c : Cluster) (step : Step) (n : ℕ) (d : Done) → handed step ≡ Some n → answer c step ≡ Ok d → WasSent c n
 hands_sent c (Deliver m) n d h e = subst (WasSent c) (let is : m ≡ n = cc in is) (delivered c m d (post_at c m) refl (with_a_master c.world.run.serves (delivers c (post_at c m)) d e))
 hands_sent c (Prepare agent (ByMail m)) n d h e = subst (WasSent c) (let is : m ≡ n = cc in is) (prepared c m d (channel_of c agent) e)
-hands_sent c (Prepare agent ByStart) n d h e = absurd (let clash : None ≡ Some n = h in cc)
+hands_sent c (Prepare agent (ByStart total)) n d h e = absurd (let clash : None ≡ Some n = h in cc)
 hands_sent c (Prepare agent ByAgain) n d h e = absurd (let clash : None ≡ Some n = h in cc)
 hands_sent c (Prepare agent (ByExecutor key state)) n d h e = absurd (let clash : None ≡ Some n = h in cc)
 hands_sent c (Send stream call) n d h e = absurd (let clash : None ≡ Some n = h in cc)

@@ -1,9 +1,12 @@
 -- What was put into a post stays put, and what is sent is put behind it.
-use Rattle.std.proofs.Common.{◌≡◌, ◌<◌, ◌≤◌, ℕ, zero, suc, List, [], ◌∷◌, ◌++◌, map, length, drop, take, get_or, slice_get, ◌+◌, Bool, Option, None, Some, Ok, inl, inr, refl, sym, ap, ◌∙◌, subst, arith}
-use Rattle.std.specs.Prelude.{IfSome, fold}
+use Rattle.std.proofs.Common.{◌≡◌, ◌<◌, ◌≤◌, ℕ, zero, suc, List, [], ◌∷◌, ◌++◌, map, length, drop, take, get_or, slice_get, ◌+◌, Bool, bytes_eq, cond, Option, None, Some, Ok, inl, inr, refl, sym, ap, ◌∙◌, subst, arith}
+use Rattle.std.specs.Prelude.{◌≢◌, IfSome, fold, unwrap_or}
+use Rattle.std.specs.List.{position_from}
+use Rattle.std.proofs.lemmas.Iterator.Adapters.{position_from-zero}
 use Rattle.std.specs.Option.{option_map}
 use Rattle.std.proofs.lemmas.Bool.Decides.{leb_tells}
 use Rattle.std.proofs.lemmas.Option.{slice_get-get_or, slice_get_within}
+use Rattle.agent_sides.specs.Configs.{names_of}
 use Rattle.agent_sides.specs.declared.config.ConfiguredAgent.{ConfiguredAgent}
 use Rattle.mails.specs.declared.record.Durable.{Durable}
 use Rattle.cluster_model.specs.Channels.{Channel}
@@ -11,10 +14,12 @@ use Rattle.cluster_model.specs.Clusters.{Cluster, Post, Called, Down, Up}
 use Rattle.cluster_model.specs.Openings.{GoodOpening}
 use Rattle.cluster_model.specs.Steps.{Setup, Done, Marked, history, step_marked}
 use Rattle.cluster_laws.specs.Items.{Stand, StandIn, channel_at, down_item, item_of, new_items, to_agent, to_master, up_item}
+use Rattle.cluster_laws.specs.Parts.{AreAgentsOf, configured}
 use Rattle.cluster_laws.specs.declared.item.Item.{Item}
 use Rattle.cluster_laws.specs.declared.item.Item.TheVariants as items
 use Rattle.post_rules.specs.declared.direction.Direction.{Direction}
-use Rattle.cluster_core.specs.Putting.{ArePut, IsPut, Puts, direction_of, way_of}
+use Rattle.post_rules.specs.declared.direction.Direction.TheVariants.{ToAgent, FromAgent}
+use Rattle.cluster_core.specs.Putting.{ArePut, IsPut, Puts, direction_of, place_in, place_or_end, way_of}
 
 -- the law that a step sends its items behind those that were sent before
 abbrev pub ItemsLaw : Type 0
@@ -98,6 +103,49 @@ map_behind : {A B : Type 0} (f : A → B) (n : ℕ) (xs : List A) → map f (dro
 map_behind f zero xs = refl
 map_behind f (suc n) [] = refl
 map_behind f (suc n) (x ∷ xs) = map_behind f n xs
+
+-- directions go by the agents' names alone
+
+abbrev named : List ℕ → ConfiguredAgent → Bool
+named name a = bytes_eq a.name name
+
+no_longer : {A : Type 0} (x : A) (xs : List A) → ◌≢◌ {A = List A} [] (x ∷ xs)
+no_longer x xs e = cc
+
+places_alike : (name : List ℕ) (i : ℕ) (as_ bs : List ConfiguredAgent) → names_of as_ ≡ names_of bs → position_from (named name) i as_ ≡ position_from (named name) i bs
+places_alike name i [] [] e = refl
+places_alike name i [] (b ∷ bs) e = absurd (no_longer b.name (names_of bs) e)
+places_alike name i (a ∷ as_) [] e = absurd (no_longer a.name (names_of as_) (sym e))
+places_alike name i (a ∷ as_) (b ∷ bs) e =
+    let both : a.name ∷ names_of as_ ≡ b.name ∷ names_of bs = e in
+    let first : a.name ≡ b.name = cc in
+    let rest : names_of as_ ≡ names_of bs = cc in
+    ap (λ (n : List ℕ). cond (bytes_eq n name) (Some i) (position_from (named name) (i + 1) as_)) first ∙ ap (λ (o : Option ℕ). cond (bytes_eq b.name name) (Some i) o) (places_alike name (i + 1) as_ bs rest)
+
+as_many : (as_ : List ConfiguredAgent) → length as_ ≡ length (names_of as_)
+as_many [] = refl
+as_many (a ∷ as_) = ap suc (as_many as_)
+
+ends_alike : (name : List ℕ) (as_ bs : List ConfiguredAgent) → names_of as_ ≡ names_of bs → place_or_end name as_ ≡ place_or_end name bs
+ends_alike name as_ bs e =
+    ap (λ (o : Option ℕ). unwrap_or o (length as_)) (position_from-zero (named name) as_ ∙ places_alike name 0 as_ bs e ∙ sym (position_from-zero (named name) bs))
+    ∙ ap (unwrap_or (place_in name bs)) (as_many as_ ∙ ap length e ∙ sym (as_many bs))
+
+way_alike : (as_ bs : List ConfiguredAgent) → names_of as_ ≡ names_of bs → (p : Post) → way_of as_ p ≡ way_of bs p
+way_alike as_ bs e (Called stream call) = refl
+way_alike as_ bs e (Down agent place) = ap ToAgent (ends_alike agent as_ bs e)
+way_alike as_ bs e (Up agent place) = ap FromAgent (ends_alike agent as_ bs e)
+
+configured_names : (records : List Durable) → names_of (map configured records) ≡ map (λ (d : Durable). d.name) records
+configured_names [] = refl
+configured_names (d ∷ ds) = ap (λ (names : List (List ℕ)). d.name ∷ names) (configured_names ds)
+
+all_alike : (f g : Post → Direction) → ((p : Post) → f p ≡ g p) → (ps : List Post) → map f ps ≡ map g ps
+all_alike f g same [] = refl
+all_alike f g same (p ∷ ps) = ap (λ (d : Direction). d ∷ map f ps) (same p) ∙ ap (λ (ds : List Direction). g p ∷ ds) (all_alike f g same ps)
+
+pub ways_by_names : (as_ : List ConfiguredAgent) (records : List Durable) (ps : List Post) → AreAgentsOf as_ records → map (way_of as_) ps ≡ map (way_of (map configured records)) ps
+ways_by_names as_ records ps e = all_alike (way_of as_) (way_of (map configured records)) (way_alike as_ (map configured records) (e ∙ sym (configured_names records))) ps
 
 -- what was put behind is what was sent since
 pub put_since : (agents : List ConfiguredAgent) (c : Cluster) (sent : List Item) (before since : ℕ) → StandIn c sent → before ≡ since → map (direction_of agents) (drop before sent) ≡ map (way_of agents) (drop since c.posts)

@@ -8,7 +8,8 @@ use Rattle.cluster_model.specs.Clusters.{Cluster, StepRefusal}
 use Rattle.cluster_model.specs.Ids.{last_number}
 use Rattle.cluster_model.specs.Steps.{Setup, Done, History, Marked, answer, extend_all, extended, fallen_answer, history, opening, step_marked, unmarked}
 use Rattle.cluster_laws.specs.Items.{StandIn, new_items}
-use Rattle.cluster_laws.specs.Parts.{configured}
+use Rattle.agent_sides.specs.Configs.{names_of}
+use Rattle.cluster_laws.specs.Parts.{AreAgentsOf}
 use Rattle.cluster_laws.specs.Premises.{AreRecorded}
 use Rattle.cluster_model.specs.Openings.{GoodOpening}
 use Rattle.cluster_parts.specs.Opening.{Opens}
@@ -158,7 +159,7 @@ keeps_on law items_law s opened p q count before more ways between news step mad
       legal = story_more s e t.done k.legal step_is is;
       short = (let one : length (s.entries ++ e ∷ []) ≡ length s.entries + 1 = length-append s.entries (e ∷ []) in omega (arith, one, h));
       begins = k.begins;
-      config = config ∙ k.config;
+      config = ap names_of config ∙ k.config;
       stands = subst (λ (c : Cluster). Stands c q) (sym (state_more s e t.done step_is)) t.stands;
       counted = counted;
       put = (
@@ -184,7 +185,7 @@ stays s opened p q count more ways news k same m alike = record {
   legal = k.legal;
   short = k.short;
   begins = k.begins;
-  config = same.config ∙ k.config;
+  config = ap names_of same.config ∙ k.config;
   stands = record {
     as_agents = same.agents ∙ k.stands.as_agents;
     as_others = record {
@@ -202,7 +203,7 @@ stays s opened p q count more ways news k same m alike = record {
 
 -- ---- the opening
 
-pub opens_so : (setup : Setup) (records : List Durable) (es : List Entry) (opened : Outputs) (p : Parts) (o : Opened) (count : ℕ) (ways : ℕ → Option Direction) → es ≡ [] → GoodOpening setup.run records → AreRecorded records → Opens setup records o → p.config ≡ map configured records → p.agents.items ≡ o.agents.items →
+pub opens_so : (setup : Setup) (records : List Durable) (es : List Entry) (opened : Outputs) (p : Parts) (o : Opened) (count : ℕ) (ways : ℕ → Option Direction) → es ≡ [] → GoodOpening setup.run records → AreRecorded records → Opens setup records o → AreAgentsOf p.config records → p.agents.items ≡ o.agents.items →
     p.master ≡ o.master → p.items ≡ o.items → p.streams ≡ o.streams → p.run ≡ setup.run → p.last_tick ≡ 0 → opened ≡ o.outputs → count ≡ length p.items → ArePut 0 p.config p.items ways → IsKept (record { setup = setup; records = records; entries = es }) opened p count ways
 opens_so setup records [] opened p o count ways none good recorded opens config agents master items streams in_run tick outputs counted put = record {
   legal = record { good = good; recorded = recorded; legal = refl };

@@ -7,7 +7,7 @@ use Rattle.master_core.specs.Steps.{offered_on}
 use Rattle.post_rules.specs.declared.direction.Direction.{Direction}
 use Rattle.quantity.specs.declared.rows.Row.{Row}
 use Rattle.cluster_model.specs.Steps.{Done, open_cluster, step_marked, unmarked}
-use Rattle.cluster_laws.specs.Parts.{configured}
+use Rattle.cluster_laws.specs.Parts.{AreAgentsOf, configured}
 use Rattle.cluster_steps.specs.Steps.{entry_of, marked_of, outputs_of, step_of}
 use Rattle.cluster_steps.specs.declared.entry.Entry.{Entry}
 use Rattle.cluster_steps.specs.declared.entry.Outputs.{Outputs}
@@ -41,7 +41,7 @@ pub record IsKept (s : Story) (opened : Outputs) (p : Parts) (count : ℕ) (dire
   pub legal : IsLegal s
   pub short : length s.entries < 4294967295
   pub begins : opened ≡ outputs_of (open_cluster s.setup s.records).entry.outs
-  pub config : p.config ≡ map configured s.records
+  pub config : AreAgentsOf p.config s.records
   pub stands : Stands (state_of s) p
   pub counted : count ≡ length p.items
   pub put : ArePut 0 p.config p.items directions

@@ -1,10 +1,10 @@
 -- The parts of a cluster, and what a step makes of them.
-use Rattle.std.specs.Prelude.{◌≡◌, if◌then◌else◌, List, map, Option, None, Ok}
+use Rattle.std.specs.Prelude.{◌≡◌, if◌then◌else◌, List, Option, None, Ok}
 use Rattle.mails.specs.declared.record.Durable.{Durable}
 use Rattle.role_weights.specs.Weights.{RoleWeight}
 use Rattle.cluster_model.specs.Clusters.{Cluster, Step, Prepare}
 use Rattle.cluster_model.specs.Steps.{Done, answer, fallen_answer}
-use Rattle.cluster_laws.specs.Parts.{configured}
+use Rattle.cluster_laws.specs.Parts.{AreAgentsOf}
 use Rattle.cluster_steps.specs.Steps.{fell, outputs_of, verdict_of}
 use Rattle.cluster_steps.specs.declared.entry.Verdict.{Verdict}
 use Rattle.cluster_parts.specs.Agents.{KeptAgent}
@@ -24,7 +24,7 @@ pub record Stands (c : Cluster) (p : Parts) : Type 0 where
 -- they stand for a state that is reached, with the agents of the opening's records
 pub record PartsOf (c : Cluster) (p : Parts) : Type 0 where
   pub reached : Reached c
-  pub config : p.config ≡ map configured reached.records
+  pub config : AreAgentsOf p.config reached.records
   pub stands : Stands c p
 
 abbrev pub AreParts : Parts → Type 0

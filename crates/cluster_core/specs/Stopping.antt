@@ -1,6 +1,9 @@
 -- What a stop may leave of a cluster's records.
-use Rattle.std.specs.Prelude.{List, map}
+use Rattle.std.specs.Prelude.{◌≡◌, List, map}
+use Rattle.std.specs.List.{Contains}
 use Rattle.std.specs.List.Sorted.{IsPermutation}
+use Rattle.quantity.specs.Laws.{AtLeast}
+use Rattle.agent_sides.specs.declared.config.ConfiguredAgent.{ConfiguredAgent}
 use Rattle.mails.specs.declared.record.Durable.{Durable}
 use Rattle.mails.specs.declared.record.RecordedTask.{RecordedTask}
 use Rattle.cluster_model.specs.Agents.{live_tasks}
@@ -12,6 +15,10 @@ pub record AreFound (c : Cluster) (found : List Durable) : Type 0 where
   pub by_agent : List Durable
   pub is_found : IsFound c.world.channels by_agent
   pub moved : IsPermutation by_agent found
+
+-- each agent is configured to own at least what a record of its name says
+abbrev pub AreCovered : List ConfiguredAgent → List Durable → Type 0
+AreCovered agents records = (a : ConfiguredAgent) (d : Durable) → Contains agents a → Contains records d → a.name ≡ d.name → AtLeast a.total d.total
 
 -- the live tasks of each agent
 abbrev pub live_in : Cluster → List (List RecordedTask)

@@ -1,18 +1,19 @@
 //! Clusters.
 
-ghost use Rattle.std.specs.Prelude.{◌≡◌, ◌<◌, ◌≤◌, ◌+◌, ℕ, Bool, true, List, map, option_map, slice_get, length, IfOk, IfErr, OnErr, OnOk};
+ghost use Rattle.std.specs.Prelude.{◌≡◌, ◌<◌, ◌≤◌, ◌+◌, ℕ, Bool, true, List, option_map, slice_get, length, IfOk, IfErr, OnErr, OnOk};
 ghost use Rattle.std.specs.Option.{option_copied};
 ghost use Rattle.cluster_core.specs.Keeping.{IsRefused, IsTaken, WithheldFrom, known_after, offered_in};
 ghost use Rattle.cluster_core.specs.Safety.{Safe};
 ghost use Rattle.cluster_openings.specs.Records.{AreRecordsOf};
-ghost use Rattle.cluster_core.specs.Stopping.{AreFound, live_in, live_of};
+ghost use Rattle.cluster_core.specs.Stopping.{AreCovered, AreFound, live_in, live_of};
 ghost use Rattle.cluster_core.specs.Stories.{IsLegal, opened_over, state_of};
-ghost use Rattle.cluster_laws.specs.Parts.{configured};
+ghost use Rattle.agent_sides.specs.declared.config.ConfiguredAgent.{ConfiguredAgent};
+ghost use Rattle.cluster_laws.specs.Parts.{AreAgentsOf};
 ghost use Rattle.cluster_model.specs.Clusters as model;
 ghost use Rattle.cluster_model.specs.Clusters.{master_of};
 ghost use Rattle.cluster_model.specs.Openings.{GoodOpening};
 ghost use Rattle.cluster_model.specs.Steps.{Setup, open_cluster};
-ghost use Rattle.cluster_parts.specs.Agents.{agent_in, drafted_in, recorded, recorded_in};
+ghost use Rattle.cluster_parts.specs.Agents.{agent_in, drafted_in, is_in_session_in, recorded, recorded_in};
 ghost use Rattle.cluster_parts.specs.Handing.{IsGiven};
 ghost use Rattle.cluster_parts.specs.Moves.{kept_agents};
 ghost use Rattle.cluster_steps.specs.Steps.{outputs_of, step_of};
@@ -57,7 +58,7 @@ impl<P: Post + Drop> Model for Cluster<P> {
 }
 
 impl<P: Post + Drop> Cluster<P> {
-    /// The cluster of configured agents that come up over their records, given in any order, whose first master begins this run and greets
+    /// The cluster of configured agents, whose totals cover those of their records, that come up over these, given in any order, whose first master begins this run and greets
     /// each in the order of their names. Its rounds of offers go by these weights of roles. Of the faults there is `C9 OutOfMemory` alone.
     pub fn open(
         alloc: Global,
@@ -137,12 +138,14 @@ impl<P: Post + Drop> Cluster<P> {
     }
 
     /// Let each agent's record, or that of its open draft, be found after a stop. Then its agents may be opened over these records, whatever
-    /// their order, in any run above the last of this cluster, and the live tasks of each agent are those of its record.
+    /// their order, in any run above the last of this cluster, by any configuration of them whose totals cover those of the records, and the
+    /// live tasks of each agent are those of its record.
     pub fn found_records_open(&self)
         ensures good { (later : ℕ) (found : List Record) → (state_of self.now.story).world.run.number < later → AreFound (state_of self.now.story) found → GoodOpening later found }
-        ensures records { (found : List Record) → AreFound (state_of self.now.story) found → AreRecordsOf (map configured self.now.story.records) found }
-        ensures live { (later : Setup) (found : List Record) → (state_of self.now.story).world.run.number < later.run →
-            (f : AreFound (state_of self.now.story) found) → live_in (state_of (opened_over later (map configured self.now.story.records) found)) ≡ live_of f.by_agent }
+        ensures records { (agents : List ConfiguredAgent) (found : List Record) → AreAgentsOf agents self.now.story.records → AreCovered agents found → AreFound (state_of self.now.story) found → AreRecordsOf agents found }
+        ensures live { (later : Setup) (agents : List ConfiguredAgent) (found : List Record) → AreAgentsOf agents self.now.story.records →
+            (state_of self.now.story).world.run.number < later.run →
+            (f : AreFound (state_of self.now.story) found) → live_in (state_of (opened_over later agents found)) ≡ live_of f.by_agent }
     {
         stopped_stories_open_again();
         let _ = &self.history;
@@ -196,6 +199,16 @@ impl<P: Post + Drop> Cluster<P> {
         ensures { option_map (λ d. d.now) result ≡ recorded_in (agent_in name.now (kept_agents (state_of self.now.story))) }
     {
         Some(agent_of(self.parts.agents.as_slice(), name)?.durable())
+    }
+
+    /// Whether the agent of a name has an open session.
+    pub fn is_in_session(&self, name: &AgentName) -> bool
+        ensures { result ≡ is_in_session_in (agent_in name.now (kept_agents (state_of self.now.story))) }
+    {
+        match agent_of(self.parts.agents.as_slice(), name) {
+            Some(agent) => agent.is_in_session(),
+            None => false,
+        }
     }
 
     /// The record of the open draft of the agent of a name.

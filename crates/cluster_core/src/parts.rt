@@ -236,20 +236,21 @@ impl Parts {
         post: &P,
         alloc: Global,
         name: &AgentName,
-        cause: StepCause,
+        cause: &StepCause,
     ) -> Result<Made, ClusterFault>
         requires { AreParts self.old }
-        ensures made { IfOk result (λ made. (c : Cluster) → PartsOf c self.old → Takes c (Prepare name.now (cause_of cause)) made self.new) }
-        ensures refused { IfErr result (λ fault. (c : Cluster) → PartsOf c self.old → MayRefuse c (P.gives (P.known post.now)) (Prepare name.now (cause_of cause)) fault) }
+        ensures made { IfOk result (λ made. (c : Cluster) → PartsOf c self.old → Takes c (Prepare name.now (cause_of cause.now)) made self.new) }
+        ensures refused { IfErr result (λ fault. (c : Cluster) → PartsOf c self.old → MayRefuse c (P.gives (P.known post.now)) (Prepare name.now (cause_of cause.now)) fault) }
         ensures unchanged { OnErr result (Same self.old self.new) }
         ensures config { self.new.config ≡ self.old.config }
-        ensures given { IfOk result (λ _. is_withheld (P.gives (P.known post.now)) cause ≡ false) }
+        ensures given { IfOk result (λ _. is_withheld (P.gives (P.known post.now)) cause.now ≡ false) }
         ensures items { length self.new.items ≡ length self.old.items }
     {
         mails_to_agents_come_in_order();
+        let copy = cause.copy()?;
         let agents = self.agents.as_mut_slice();
         let items = self.items.as_slice();
-        let prepared = cluster_parts::prepare(agents, items, post, alloc, name, cause)?;
+        let prepared = cluster_parts::prepare(agents, items, post, alloc, name, copy)?;
         Ok(Made {
             verdict: prepared.verdict,
             outputs: sending(alloc, Listed::new(alloc)),
@@ -334,7 +335,7 @@ impl Parts {
             Step::Tick(now) => self.tick(post, alloc, *now),
             Step::LoseAgent(agent) => self.lose_agent(post, alloc, agent),
             Step::HangUp(stream) => self.hang_up(post, alloc, *stream),
-            Step::Prepare { agent, cause } => self.prepare(post, alloc, agent, *cause),
+            Step::Prepare { agent, cause } => self.prepare(post, alloc, agent, cause),
             Step::Commit(agent) => self.commit(post, alloc, agent),
             Step::StopAgent { agent, keep } => match keep {
                 Keep::Before => self.stop_before(alloc, agent),

@@ -8,11 +8,14 @@ use Rattle.mails.specs.declared.mail.AgentMail.{AgentMail}
 use Rattle.mails.specs.declared.cause.Cause.{Cause}
 use Rattle.mails.specs.declared.record.Durable.{Durable}
 use Rattle.mails.specs.declared.refusal.AgentRefusal.{AgentRefusal}
-use Rattle.cluster_model.specs.Agents.{Agent, Draft, hears_mail, next_of, recovered, recovered_from}
+use Rattle.mails.specs.declared.refusal.AgentRefusal.TheVariants.{TotalLess}
+use Rattle.quantity.specs.declared.rows.Row.{Row}
+use Rattle.quantity.specs.Rows.{covers}
+use Rattle.cluster_model.specs.Agents.{Agent, Draft, hears_mail, next_of, opens_again, owning, recovered, recovered_from, starts}
 use Rattle.cluster_model.specs.Sides.{Run, Side, halted, restarted, side_step}
 use Rattle.cluster_model.specs.Channels.{Channel, AgentStep, Draw, DrawMail, Adopt, StopWithout, StopWith, drawn, drawn_mail, adopted, stopped_with, is_own, agent_step, ChannelStep, ByMaster, Hear, ByAgent, heard_mail, happens, World, Happening, At, TearDown, Restart, Halt, behind, in_front, at_agent, with_side, after, open_channel}
 use Rattle.cluster_laws.proofs.Lists.{each_append}
-use Rattle.cluster_laws.proofs.Sides.{side_owner, heard_owner}
+use Rattle.cluster_laws.proofs.Sides.{side_name, heard_name}
 
 abbrev pub AllOk : (Draft → Type 0) → Result Draft AgentRefusal → Type 0
 AllOk P (Ok d) = P d
@@ -20,6 +23,11 @@ AllOk P (Err e) = ⊤
 
 pub all_if : (b : Bool) (x y : Result Draft AgentRefusal) (P : Draft → Type 0) → (b ≡ true → AllOk P x) → (b ≡ false → AllOk P y) → AllOk P (cond b x y)
 all_if b x y P f g = cond_both b x y (AllOk P) f g
+
+-- a start opens a session, with what it owned or with another total
+pub starts_ok : (P : Draft → Type 0) (a : Agent) (o : Option (List Row)) → AllOk P (opens_again a) → ((total : List Row) → AllOk P (opens_again (owning total a))) → AllOk P (starts a o)
+starts_ok P a None same other = same
+starts_ok P a (Some total) same other = all_if (covers total a.durable.total) (opens_again (owning total a)) (Err TotalLess) P (λ e. other total) (λ e. tt)
 
 pub all_wider : (P Q : Draft → Type 0) → ((d : Draft) → P d → Q d) → (r : Result Draft AgentRefusal) → AllOk P r → AllOk Q r
 all_wider P Q f (Ok d) h = f d h
@@ -74,10 +82,10 @@ resided P M c s down e ok = record { agent = subst (λ n. P n c.agent) (sym e) o
 
 heard_ok : (P : List ℕ → Agent → Type 0) (M : AgentMail → Type 0) (run : Run) (c : Channel) (o : Option AgentMail) → ChannelOk P M c → ChannelOk P M (heard_mail run c o)
 heard_ok P M run c None ok = ok
-heard_ok P M run c (Some mail) ok = let s = (heard_owner run c.side mail).0 in record { agent = subst (λ n. P n c.agent) (sym s) ok.agent; draft = subst (λ n. DraftOk (P n) M c.draft) (sym s) ok.draft; ups = ok.ups }
+heard_ok P M run c (Some mail) ok = let s = heard_name run c.side mail in record { agent = subst (λ n. P n c.agent) (sym s) ok.agent; draft = subst (λ n. DraftOk (P n) M c.draft) (sym s) ok.draft; ups = ok.ups }
 
 happens_ok : (P : List ℕ → Agent → Type 0) (M : AgentMail → Type 0) (run : Run) (c : Channel) (step : ChannelStep) → Rules P M → ChannelOk P M c → ChannelOk P M (happens run c step).channel
-happens_ok P M run c (ByMaster step) rules ok = resided P M c (side_step run c.side step).side (c.to_agent ++ (side_step run c.side step).sent) (side_owner run c.side step).0 ok
+happens_ok P M run c (ByMaster step) rules ok = resided P M c (side_step run c.side step).side (c.to_agent ++ (side_step run c.side step).sent) (side_name run c.side step) ok
 happens_ok P M run c (Hear place) rules ok = heard_ok P M run c (slice_get c.to_master place) ok
 happens_ok P M run c (ByAgent step) rules ok = agent_ok P M c step rules ok
 

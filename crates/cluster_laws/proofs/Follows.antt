@@ -90,7 +90,7 @@ draws_mail_follows calls c x (Some (Down agent place)) = by_test calls c (bytes_
     (draws_mail_at_follows calls c x place (slice_get x.to_agent place)) (effect_follows calls c (happening c (AgentRefused NotForMe) []))
 
 prepares_follows : (calls : List Item) (c : Cluster) (cause : StepCause) (x : Channel) → Follows calls c (prepares c cause x)
-prepares_follows calls c ByStart x = drafts_follows calls c x (Draw Start) (next_of x.agent Start)
+prepares_follows calls c (ByStart total) x = drafts_follows calls c x (Draw (Start total)) (next_of x.agent (Start total))
 prepares_follows calls c ByAgain x = drafts_follows calls c x (Draw Again) (next_of x.agent Again)
 prepares_follows calls c (ByExecutor key state) x = drafts_follows calls c x (Draw (Executor key state)) (next_of x.agent (Executor key state))
 prepares_follows calls c (ByMail number) x = draws_mail_follows calls c x (post_at c number)

@@ -65,8 +65,8 @@ kept_at Q agent (o ∷ os) [] g h none f = absurd g
 kept_at Q agent (o ∷ os) (n ∷ ns) g h none f = by (bytes_eq o.side.name agent) refl h (λ k. kept_at Q agent os ns g.1 k none f)
   where
     by : (t : Bool) → bytes_eq o.side.name agent ≡ t → Q (channel_at agent (o ∷ os)) → (Q (channel_at agent os) → Q (channel_at agent ns)) → Q (channel_at agent (n ∷ ns))
-    by true b k rest = let also : bytes_eq n.side.name agent ≡ true = ap (λ name. bytes_eq name agent) g.0.owner.0 ∙ b in rw also (f o n g.0 (rw b at k))
-    by false b k rest = let also : bytes_eq n.side.name agent ≡ false = ap (λ name. bytes_eq name agent) g.0.owner.0 ∙ b in rw also (rest (rw b at k))
+    by true b k rest = let also : bytes_eq n.side.name agent ≡ true = ap (λ name. bytes_eq name agent) g.0.name ∙ b in rw also (f o n g.0 (rw b at k))
+    by false b k rest = let also : bytes_eq n.side.name agent ≡ false = ap (λ name. bytes_eq name agent) g.0.name ∙ b in rw also (rest (rw b at k))
 
 item_kept : (olds news : List Channel) → Grown olds news → (post : Post) (i : Item) → item_of olds post ≡ Some i → item_of news post ≡ Some i
 item_kept olds news g (Called stream call) i e = e

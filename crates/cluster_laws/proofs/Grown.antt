@@ -1,4 +1,4 @@
--- Whatever happens, mails only join at the ends of their channels, and agents keep their names and totals.
+-- Whatever happens, mails only join at the ends of their channels, and agents keep their names.
 use Rattle.std.proofs.Common.{◌≡◌, ℕ, List, [], ◌∷◌, ◌++◌, map, Option, Some, None, Result, Ok, Err, refl, sym, ap, ◌∙◌, append-nil, bytes_eq, slice_get}
 use Rattle.std.specs.Prelude.{⊤}
 use Rattle.std.proofs.lemmas.Bool.{cond_both}
@@ -10,7 +10,7 @@ use Rattle.cluster_model.specs.Sides.{Run, Side, halted, restarted, side_step}
 use Rattle.cluster_model.specs.Channels.{Channel, AgentStep, Draw, DrawMail, Adopt, StopWithout, StopWith, drawn, drawn_mail, adopted, stopped_with, is_own, agent_step, ChannelStep, ByMaster, Hear, ByAgent, heard_mail, happens, World, Happening, At, TearDown, Restart, Halt, behind, in_front, at_agent, with_side, after, after_all}
 use Rattle.cluster_laws.specs.Items.{names_of}
 use Rattle.cluster_laws.proofs.Lists.{cons_same}
-use Rattle.cluster_laws.proofs.Sides.{SameOwner, side_owner, heard_owner}
+use Rattle.cluster_laws.proofs.Sides.{SameName, side_name, heard_name}
 
 -- what an agent does in its channel
 
@@ -49,23 +49,23 @@ agent_itself c StopWith = stopped_itself c c.draft
 -- a channel
 
 pub record GrownOne (old new : Channel) : Type 0 where
-  pub owner : SameOwner old.side new.side
+  pub name : SameName old.side new.side
   pub down : (more : List MasterMail) × (new.to_agent ≡ old.to_agent ++ more)
   pub up : (more : List AgentMail) × (new.to_master ≡ old.to_master ++ more)
 
 one_same : (c : Channel) → GrownOne c c
-one_same c = record { owner = (refl, refl); down = ([], sym (append-nil c.to_agent)); up = ([], sym (append-nil c.to_master)) }
+one_same c = record { name = refl; down = ([], sym (append-nil c.to_agent)); up = ([], sym (append-nil c.to_master)) }
 
 heard_grown : (run : Run) (c : Channel) (o : Option AgentMail) → GrownOne c (heard_mail run c o)
 heard_grown run c None = one_same c
-heard_grown run c (Some mail) = record { owner = heard_owner run c.side mail; down = ([], sym (append-nil c.to_agent)); up = ([], sym (append-nil c.to_master)) }
+heard_grown run c (Some mail) = record { name = heard_name run c.side mail; down = ([], sym (append-nil c.to_agent)); up = ([], sym (append-nil c.to_master)) }
 
 pub happens_grown : (run : Run) (c : Channel) (step : ChannelStep) → GrownOne c (happens run c step).channel
-happens_grown run c (ByMaster step) = record { owner = side_owner run c.side step; down = ((side_step run c.side step).sent, refl); up = ([], sym (append-nil c.to_master)) }
+happens_grown run c (ByMaster step) = record { name = side_name run c.side step; down = ((side_step run c.side step).sent, refl); up = ([], sym (append-nil c.to_master)) }
 happens_grown run c (Hear place) = heard_grown run c (slice_get c.to_master place)
 happens_grown run c (ByAgent step) =
     let i = agent_itself c step in
-    record { owner = (ap (λ (s : Side). s.name) i.side, ap (λ (s : Side). s.total) i.side); down = ([], i.down ∙ sym (append-nil c.to_agent)); up = i.up }
+    record { name = ap (λ (s : Side). s.name) i.side; down = ([], i.down ∙ sym (append-nil c.to_agent)); up = i.up }
 
 -- all channels
 
@@ -85,15 +85,15 @@ at_grown agent step run (c ∷ cs) =
     let rest = at_grown agent step run cs in
     cond_both (bytes_eq c.side.name agent) (in_front (happens run c step) cs) (behind c (at_agent agent step run cs)) (λ w. Grown (c ∷ cs) w.channels) (λ e. (happens_grown run c step, grown_same cs)) (λ e. (one_same c, rest))
 
-sides_grown : (f : Side → Side) → ((s : Side) → SameOwner s (f s)) → (cs : List Channel) → Grown cs (map (with_side f) cs)
+sides_grown : (f : Side → Side) → ((s : Side) → SameName s (f s)) → (cs : List Channel) → Grown cs (map (with_side f) cs)
 sides_grown f same [] = tt
-sides_grown f same (c ∷ cs) = (record { owner = same c.side; down = ([], sym (append-nil c.to_agent)); up = ([], sym (append-nil c.to_master)) }, sides_grown f same cs)
+sides_grown f same (c ∷ cs) = (record { name = same c.side; down = ([], sym (append-nil c.to_agent)); up = ([], sym (append-nil c.to_master)) }, sides_grown f same cs)
 
 pub world_grown : (w : World) (h : Happening) → Grown w.channels (after w h).channels
 world_grown w (At agent step) = at_grown agent step w.run w.channels
 world_grown w (TearDown framework) = grown_same w.channels
-world_grown w Restart = sides_grown restarted (λ s. (refl, refl)) w.channels
-world_grown w Halt = sides_grown halted (λ s. (refl, refl)) w.channels
+world_grown w Restart = sides_grown restarted (λ s. refl) w.channels
+world_grown w Halt = sides_grown halted (λ s. refl) w.channels
 
 -- names
 
@@ -101,7 +101,7 @@ pub names_grown : (olds news : List Channel) → Grown olds news → names_of ne
 names_grown [] [] h = refl
 names_grown [] (n ∷ ns) h = absurd h
 names_grown (o ∷ os) [] h = absurd h
-names_grown (o ∷ os) (n ∷ ns) h = cons_same n.side.name o.side.name (names_of ns) (names_of os) h.0.owner.0 (names_grown os ns h.1)
+names_grown (o ∷ os) (n ∷ ns) h = cons_same n.side.name o.side.name (names_of ns) (names_of os) h.0.name (names_grown os ns h.1)
 
 pub worlds_named : (hs : List Happening) (w : World) → names_of (after_all hs w).channels ≡ names_of w.channels
 worlds_named [] w = refl

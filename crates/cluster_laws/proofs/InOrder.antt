@@ -82,15 +82,15 @@ all_in_order cs once named premises p to e =
     each_both (FoundIn cs) Both (λ x. is_in_order x.agent (Mail to) ≡ true) (one_in_order cs to d.0 d.1 d.3 d.4) cs (found_all cs once)
     (each_both (ChannelOk HasName AnyMail) MeetsPremises Both (λ c n q. (n.agent, q)) cs named premises)
 
--- the mails of an agent fit its side
+-- what an agent's mails report fits
 
-mail_fits : (x : Channel) (place : ℕ) (mail : AgentMail) → ReportFits x → slice_get x.to_master place ≡ Some mail → MailFits x.side.total mail
-mail_fits x place (Report session number tasks) fits e = fits place session number tasks e
+mail_fits : (x : Channel) (place : ℕ) (mail : AgentMail) → ReportFits x → slice_get x.to_master place ≡ Some mail → MailFits mail
+mail_fits x place (Report session number tasks total) fits e = fits place session number tasks total e
 mail_fits x place (Applied session count) fits e = tt
 mail_fits x place (Update session key k state ended) fits e = tt
 
 one_fits : (cs : List Channel) (to : ToMaster) (place : ℕ) (y : Channel) → channel_at to.agent cs ≡ Some y → slice_get y.to_master place ≡ Some to.mail →
-    (x : Channel) → FoundIn cs x → MeetsPremises x → bytes_eq x.side.name to.agent ≡ true → MailFits x.side.total to.mail
+    (x : Channel) → FoundIn cs x → MeetsPremises x → bytes_eq x.side.name to.agent ≡ true → MailFits to.mail
 one_fits cs to place y f e x found h t =
     let name : x.side.name ≡ to.agent = bytes_same x.side.name to.agent t in
     let is : y ≡ x = some_same y x (sym f ∙ (ap (λ n. channel_at n cs) (sym name) ∙ found)) in
@@ -99,5 +99,5 @@ one_fits cs to place y f e x found h t =
 pub fits_sides : (cs : List Channel) → NamesOnce (names_of cs) → Each MeetsPremises cs → (p : Post) (to : ToMaster) → item_of cs p ≡ Some (items.ToMaster to) → MailFitsAt to.agent to.mail (sides_of cs)
 fits_sides cs once premises p to e =
     let d = up_is cs p to e in
-    each_mapped (λ s. bytes_eq s.name to.agent ≡ true → MailFits s.total to.mail) (λ (c : Channel). c.side) cs
-    (each_both (FoundIn cs) MeetsPremises (λ x. bytes_eq x.side.name to.agent ≡ true → MailFits x.side.total to.mail) (one_fits cs to d.0 d.1 d.3 d.4) cs (found_all cs once) premises)
+    each_mapped (λ s. bytes_eq s.name to.agent ≡ true → MailFits to.mail) (λ (c : Channel). c.side) cs
+    (each_both (FoundIn cs) MeetsPremises (λ x. bytes_eq x.side.name to.agent ≡ true → MailFits to.mail) (one_fits cs to d.0 d.1 d.3 d.4) cs (found_all cs once) premises)

@@ -22,7 +22,7 @@ use Rattle.mails.specs.declared.cause.Cause.TheVariants.{Start, Mail, Executor, 
 use Rattle.mails.specs.declared.refusal.AgentRefusal.{AgentRefusal}
 use Rattle.mails.specs.declared.refusal.AgentRefusal.TheVariants.{OldSession, NotNext, NoSuchTask, Ended, NoRoom, UpdatesFull, SessionsSpent}
 use Rattle.cluster_model.specs.Ids.{same, last_number}
-use Rattle.cluster_model.specs.Agents.{Agent, Draft, has_ended, is_task, state_at, front_of, fronts, front_at, reopened, reports, opens_next, stated, acknowledged, launched_task, tasks_after, is_front_at, fronts_after, with_tasks, after_command, applies, has_room, hears_mail, needs_place, executes, next_of}
+use Rattle.cluster_model.specs.Agents.{Agent, Draft, has_ended, is_task, state_at, front_of, fronts, front_at, owning, reopened, reports, opens_next, starts, stated, acknowledged, launched_task, tasks_after, is_front_at, fronts_after, with_tasks, after_command, applies, has_room, hears_mail, needs_place, executes, next_of}
 use Rattle.cluster_model.specs.Channels.{Channel, is_own}
 use Rattle.cluster_model.specs.Clusters.{Post}
 use Rattle.cluster_model.specs.Steps.{Setup, Marked, history}
@@ -33,7 +33,7 @@ use Rattle.cluster_laws.specs.declared.item.Item.TheVariants as items
 use Rattle.cluster_laws.specs.Premises.{AreRecorded}
 use Rattle.cluster_laws.proofs.Lists.{both_true, each_all, each_append, each_at, each_both, each_filter, each_flat, each_map, each_mapped}
 use Rattle.cluster_laws.proofs.Found.{found_has}
-use Rattle.cluster_laws.proofs.Agents.{AllOk, all_if, Rules, ChannelOk, WorldOk, world_ok, opened_ok}
+use Rattle.cluster_laws.proofs.Agents.{AllOk, all_if, starts_ok, Rules, ChannelOk, WorldOk, world_ok, opened_ok}
 use Rattle.cluster_laws.proofs.Histories.{reached}
 use Rattle.cluster_laws.proofs.Posts.{up_is}
 
@@ -191,7 +191,7 @@ executes_good a key state h =
     done_so w = (w, cond_both a.in_session (front_at key (with_tasks a (map (stated key state) a.tasks) a.applied)) [] (Each FitsRecord) (λ e. front_at_fits key (with_tasks a (map (stated key state) a.tasks) a.applied) w) (λ e. tt))
 
 next_good : (a : Agent) (cause : Cause) → is_own cause ≡ true → AreWithin a.durable.tasks → AllOk Good (next_of a cause)
-next_good a Start own h = all_if (eqb a.run 0) (Err OldSession) (opens_next a a.session a.run) Good (λ e. tt) (λ e. opens_good a a.session a.run h)
+next_good a (Start total) own h = all_if (eqb a.run 0) (Err OldSession) (starts a total) Good (λ e. tt) (λ e. starts_ok Good a total (opens_good a a.session a.run h) (λ more. opens_good (owning more a) a.session a.run h))
 next_good a Again own h = (h, fronts_fit a h)
 next_good a (Mail to) own h = absurd cc
 next_good a (Executor key state) own h = executes_good a key state h

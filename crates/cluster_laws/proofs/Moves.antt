@@ -19,7 +19,7 @@ use Rattle.cluster_model.specs.Steps.{Setup, posts_in, sent_in, sent_between, po
 use Rattle.cluster_laws.specs.Items.{names_of}
 use Rattle.cluster_laws.specs.Parts.{part_of, parts_of, recovered_part, IsSilent, from_agent, greeting, anew, next_master}
 use Rattle.cluster_laws.proofs.Lists.{each_at, bytes_refl, bytes_differ, cons_same, append_same, drop_all}
-use Rattle.cluster_laws.proofs.Sides.{side_owner, heard_owner}
+use Rattle.cluster_laws.proofs.Sides.{side_name, heard_name}
 use Rattle.cluster_laws.proofs.Grown.{agent_itself}
 
 -- the master's happenings
@@ -42,10 +42,10 @@ same_part c s down e = ap (λ n. record { name = n; agent = c.agent; draft = c.d
 
 heard_part : (run : Run) (c : Channel) (o : Option AgentMail) → part_of (heard_mail run c o) ≡ part_of c
 heard_part run c None = refl
-heard_part run c (Some mail) = ap (λ (n : List ℕ). record { name = n; agent = c.agent; draft = c.draft }) (heard_owner run c.side mail).0
+heard_part run c (Some mail) = ap (λ (n : List ℕ). record { name = n; agent = c.agent; draft = c.draft }) (heard_name run c.side mail)
 
 happens_part : (run : Run) (c : Channel) (step : ChannelStep) → IsSides step → part_of (happens run c step).channel ≡ part_of c
-happens_part run c (ByMaster step) h = same_part c (side_step run c.side step).side (c.to_agent ++ (side_step run c.side step).sent) (side_owner run c.side step).0
+happens_part run c (ByMaster step) h = same_part c (side_step run c.side step).side (c.to_agent ++ (side_step run c.side step).sent) (side_name run c.side step)
 happens_part run c (Hear place) h = heard_part run c (slice_get c.to_master place)
 happens_part run c (ByAgent step) h = absurd h
 

@@ -15,11 +15,11 @@ use Rattle.mails.specs.declared.cause.Cause.TheVariants.{Start, Mail, Executor, 
 use Rattle.mails.specs.declared.refusal.AgentRefusal.{AgentRefusal}
 use Rattle.mails.specs.declared.refusal.AgentRefusal.TheVariants.{OldSession, NotNext, NoSuchTask, Ended, NoRoom, UpdatesFull, SessionsSpent}
 use Rattle.cluster_model.specs.Ids.{last_number}
-use Rattle.cluster_model.specs.Agents.{Agent, Draft, has_ended, is_task, front_at, reopened, reports, opens_next, stated, with_tasks, applies, has_room, hears_mail, needs_place, executes, next_of}
+use Rattle.cluster_model.specs.Agents.{Agent, Draft, has_ended, is_task, front_at, owning, reopened, reports, opens_next, starts, stated, with_tasks, applies, has_room, hears_mail, needs_place, executes, next_of}
 use Rattle.cluster_model.specs.Channels.{is_own}
 use Rattle.cluster_model.specs.Steps.{Setup, Marked, history}
 use Rattle.cluster_laws.proofs.Lists.{each_all}
-use Rattle.cluster_laws.proofs.Agents.{AllOk, all_if, all_wider, Makes, Rules, WorldOk, world_ok, opened_ok}
+use Rattle.cluster_laws.proofs.Agents.{AllOk, all_if, starts_ok, all_wider, Makes, Rules, WorldOk, world_ok, opened_ok}
 use Rattle.cluster_laws.proofs.Histories.{reached}
 
 abbrev KeepsName : Agent → Draft → Type 0
@@ -63,7 +63,7 @@ executes_name a key state =
     third = if list_any (λ t. is_task key t && has_ended t) a.tasks then Err Ended else second
 
 next_name : (a : Agent) (cause : Cause) → is_own cause ≡ true → AllOk (KeepsName a) (next_of a cause)
-next_name a Start own = all_if (eqb a.run 0) (Err OldSession) (opens_next a a.session a.run) (KeepsName a) (λ e. tt) (λ e. opens_name a a.session a.run)
+next_name a (Start total) own = all_if (eqb a.run 0) (Err OldSession) (starts a total) (KeepsName a) (λ e. tt) (λ e. starts_ok (KeepsName a) a total (opens_name a a.session a.run) (λ more. opens_name (owning more a) a.session a.run))
 next_name a Again own = refl
 next_name a (Mail to) own = absurd cc
 next_name a (Executor key state) own = executes_name a key state

@@ -102,7 +102,7 @@ called_ordinary m stream (Acknowledge framework agent task uuid) = known_too m s
 called_ordinary m stream (Reconcile framework tasks) = known_too m stream (framework_of m framework) (on_reconcile m tasks) (reconciled m tasks)
 
 goes : (m : Master) (s : Side) (mail : AgentMail) → Ordinary m (goes_with m s mail)
-goes m s (Report session number tasks) = if_ordinary m (opens m.run s session number) (session_opens m s tasks) (nothing m)
+goes m s (Report session number tasks total) = if_ordinary m (opens m.run s session number) (session_opens m s tasks) (nothing m)
     (plain m (session_opens m s tasks) (mapped_plain (λ (f : Framework). AtSide s.name (SendEnd f.id)) (λ f. tt) (filter (is_to_end m tasks) m.registers.frameworks)) refl refl) (does_nothing m)
 goes m s (Applied session count) = does_nothing m
 goes m s (Update session key k state ended) = plain m (goes_with m s (Update session key k state ended)) tt refl refl

@@ -212,7 +212,7 @@ draws_mail_streamed c x (Some (Down agent place)) = by_test c (bytes_eq agent x.
     (draws_mail_at_streamed c x place (slice_get x.to_agent place)) (λ ok. quiet_streamed c (AgentRefused NotForMe) [] tt ok)
 
 prepares_streamed : (c : Cluster) (cause : StepCause) (x : Channel) → Streamed c (prepares c cause x)
-prepares_streamed c ByStart x = drafts_streamed c x (Draw Start) (next_of x.agent Start)
+prepares_streamed c (ByStart total) x = drafts_streamed c x (Draw (Start total)) (next_of x.agent (Start total))
 prepares_streamed c ByAgain x = drafts_streamed c x (Draw Again) (next_of x.agent Again)
 prepares_streamed c (ByExecutor key state) x = drafts_streamed c x (Draw (Executor key state)) (next_of x.agent (Executor key state))
 prepares_streamed c (ByMail number) x = draws_mail_streamed c x (post_at c number)

@@ -1,10 +1,12 @@
 -- What is told of the side of a name is told of the side of its channel.
-use Rattle.std.proofs.Common.{◌≡◌, ℕ, Bool, true, false, List, [], ◌∷◌, map, Some, refl, ap, bytes_eq}
+use Rattle.std.proofs.Common.{◌≡◌, ◌∙◌, ℕ, Bool, true, false, List, [], ◌∷◌, map, Some, refl, ap, bytes_eq}
 use Rattle.mails.specs.declared.mail.AgentMail.{AgentMail}
 use Rattle.mails.specs.declared.record.Durable.{Durable}
 use Rattle.agent_sides.specs.Changes.{side_of}
+use Rattle.agent_sides.specs.Configs.{names_of}
+use Rattle.agent_sides.specs.declared.config.ConfiguredAgent.{ConfiguredAgent}
 use Rattle.agent_sides.specs.Looks.{told_of}
-use Rattle.cluster_model.specs.Sides.{Side, new_run}
+use Rattle.cluster_model.specs.Sides.{Side, new_run, new_side}
 use Rattle.cluster_model.specs.Channels.{Channel, open_channel}
 use Rattle.cluster_model.specs.Clusters.{Cluster, master_of, sides_of}
 use Rattle.cluster_model.specs.Mails.{agent_lost, mailed}
@@ -14,7 +16,7 @@ use Rattle.agent_sides.specs.Named.{lost_by, mailed_by}
 use Rattle.master_state.specs.States.{fresh}
 use Rattle.master_state.specs.Works.{master_of as master_in}
 use Rattle.cluster_laws.specs.Items.{channel_at}
-use Rattle.cluster_laws.specs.Parts.{configured}
+use Rattle.cluster_laws.specs.Parts.{AreAgentsOf}
 
 told_is : {X : Type 0} (agent : List ℕ) (cs : List Channel) (x : Channel) (tell : Side → X) (none : X) → channel_at agent cs ≡ Some x → told_of agent tell none (sides_of cs) ≡ tell x.side
 told_is agent [] x tell none e = absurd cc
@@ -33,9 +35,15 @@ lost_is c agent x e = told_is agent c.world.channels x (agent_lost (master_of c)
 pub mailed_is : (c : Cluster) (agent : List ℕ) (x : Channel) (mail : AgentMail) → channel_of c agent ≡ Some x → mailed_by (master_of c) agent mail ≡ mailed (master_of c) x.side mail
 mailed_is c agent x mail e = told_is agent c.world.channels x (λ s. mailed (master_of c) s mail) (nothing (master_of c)) e
 
-sides_are : (records : List Durable) → map side_of (map configured records) ≡ sides_of (map open_channel records)
-sides_are [] = refl
-sides_are (d ∷ ds) = ap (λ ss. side_of (configured d) ∷ ss) (sides_are ds)
+sides_are : (agents : List ConfiguredAgent) (records : List Durable) → AreAgentsOf agents records → map side_of agents ≡ sides_of (map open_channel records)
+sides_are [] [] e = refl
+sides_are [] (d ∷ ds) e = absurd (let clash : [] ≡ d.name ∷ map (λ (x : Durable). x.name) ds = e in cc)
+sides_are (a ∷ as_) [] e = absurd (let clash : a.name ∷ names_of as_ ≡ [] = e in cc)
+sides_are (a ∷ as_) (d ∷ ds) e =
+    let both : a.name ∷ names_of as_ ≡ d.name ∷ map (λ (x : Durable). x.name) ds = e in
+    let first : a.name ≡ d.name = cc in
+    let rest : names_of as_ ≡ map (λ (x : Durable). x.name) ds = cc in
+    ap (λ (n : List ℕ). new_side n ∷ map side_of as_) first ∙ ap (λ (ss : List Side). new_side d.name ∷ ss) (sides_are as_ ds rest)
 
-pub fresh_is : (setup : Setup) (records : List Durable) → master_in (fresh setup.run (map configured records)) ≡ master_of (opened_over setup records)
-fresh_is setup records = ap (λ (ss : List Side). record { run = new_run setup.run; sides = ss; registers = new_registers }) (sides_are records)
+pub fresh_is : (setup : Setup) (agents : List ConfiguredAgent) (records : List Durable) → AreAgentsOf agents records → master_in (fresh setup.run agents) ≡ master_of (opened_over setup records)
+fresh_is setup agents records e = ap (λ (ss : List Side). record { run = new_run setup.run; sides = ss; registers = new_registers }) (sides_are agents records e)

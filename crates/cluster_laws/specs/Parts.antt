@@ -1,7 +1,8 @@
 -- The agents' own parts of a cluster, and what each step leaves of them and of the master.
-use Rattle.std.specs.Prelude.{◌+◌, ℕ, List, map, Option, None, ⊤}
+use Rattle.std.specs.Prelude.{◌≡◌, ◌+◌, ℕ, List, map, Option, None, ⊤}
 use Rattle.mails.specs.declared.mail.AgentMail.{AgentMail}
 use Rattle.mails.specs.declared.record.Durable.{Durable}
+use Rattle.agent_sides.specs.Configs.{names_of}
 use Rattle.agent_sides.specs.declared.config.ConfiguredAgent.{ConfiguredAgent}
 use Rattle.cluster_model.specs.Agents.{Agent, Draft, recovered_from}
 use Rattle.cluster_model.specs.Sides.{SendHello, restarted, new_run}
@@ -45,10 +46,14 @@ greeting m = moving m (map (λ s. AtSide s.name SendHello) m.sides)
 abbrev pub anew : Cluster → Cluster
 anew c = record c { world = after c.world Restart; registers = new_registers }
 
--- the new master: of the sides it has the names and the totals
+-- the new master: of the sides it has the names alone
 abbrev pub next_master : Master → Master
 next_master m = record { run = new_run (1 + m.run.number); sides = map restarted m.sides; registers = new_registers }
 
--- the agent of a record, as a master is configured with it
+-- the agent of a record, with what the record says that it owns
 abbrev pub configured : Durable → ConfiguredAgent
 configured d = record { name = d.name; total = d.total }
+
+-- configured agents are those of the records, in their order
+abbrev pub AreAgentsOf : List ConfiguredAgent → List Durable → Type 0
+AreAgentsOf agents records = names_of agents ≡ map (λ d. d.name) records

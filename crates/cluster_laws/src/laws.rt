@@ -54,7 +54,7 @@ pub fn items_are_posts()
 {}
 
 /// Each mail of an agent that was ever sent tells an update of a number that a record has room for, where the records of the opening have
-/// updates as their type allows, and the tasks that it reports fit what the agent owns.
+/// updates as their type allows, and the tasks that it reports fit the total that it tells.
 pub fn mails_of_agents_fit()
     ensures number { (setup : Setup) (records : List Durable) (steps : List Marked) (sent : List Item) (n : ℕ) (to : ToMaster) → AreRecorded records →
         StandIn (history setup records steps).state sent → slice_get sent n ≡ Some (items.ToMaster to) → FitsRecord to.mail }

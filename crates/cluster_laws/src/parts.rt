@@ -52,14 +52,13 @@ pub fn steps_move_agents()
     ensures stops_with { (x : Channel) (d : Draft) → x.draft ≡ Some d → part_of (agent_step x StopWith) ≡ record { name = x.side.name; agent = recovered d.after; draft = None } }
 {}
 
-/// The opening, and a stop before the last run, greet every agent as the master's own moves do. Of its sides a new master has the names and
-/// the totals.
+/// The opening, and a stop before the last run, greet every agent as the master's own moves do. Of its sides a new master has the names alone.
 pub fn masters_begin_with_greetings()
     ensures greets { (c : Cluster) → greets_all c ≡ effect_of [] (greeting (master_of c)) }
     ensures state { (c : Cluster) → nat_lt c.world.run.number last_run ≡ true → (done c (master_stops c)).after ≡ (done (anew c) (greets_all (anew c))).after }
     ensures mails { (c : Cluster) → nat_lt c.world.run.number last_run ≡ true → (done c (master_stops c)).entry.outs.sent ≡ (done (anew c) (greets_all (anew c))).entry.outs.sent }
     ensures master { (c : Cluster) → master_of (anew c) ≡ next_master (master_of c) }
-    ensures sides { (s : Side) → restarted s ≡ new_side s.name s.total }
+    ensures sides { (s : Side) → restarted s ≡ new_side s.name }
 {}
 
 /// A master that has fallen, or stops in the last run, doesn't serve.

@@ -1,7 +1,8 @@
 //! The words of the master's contracts are those of the model.
 
-ghost use Rattle.std.specs.Prelude.{◌≡◌, List, map, Option, Some, ℕ};
-ghost use Rattle.cluster_laws.specs.Parts.{configured};
+ghost use Rattle.std.specs.Prelude.{◌≡◌, List, Option, Some, ℕ};
+ghost use Rattle.agent_sides.specs.declared.config.ConfiguredAgent.{ConfiguredAgent};
+ghost use Rattle.cluster_laws.specs.Parts.{AreAgentsOf};
 ghost use Rattle.role_weights.specs.Weights.{RoleWeight};
 ghost use Rattle.cluster_model.specs.Channels.{Channel};
 ghost use Rattle.cluster_model.specs.Clusters.{Cluster, master_of};
@@ -26,11 +27,11 @@ pub fn named_agents_are_found()
     ensures mails { (c : Cluster) (agent : List ℕ) (x : Channel) (mail : AgentMail) → channel_of c agent ≡ Some x → mailed_by (master_of c) agent mail ≡ mailed (master_of c) x.side mail }
 {}
 
-/// A master that begins a run over the agents of records is the one that the opening has before it greets them.
+/// A master that begins a run over the agents of records, whatever they are configured to own, is the one that the opening has before it greets
+/// them.
 pub fn fresh_masters_open()
-    ensures { (setup : Setup) (records : List Durable) →
-        master_in (fresh setup.run (map configured records))
-        ≡ master_of (opened_over setup records) }
+    ensures { (setup : Setup) (agents : List ConfiguredAgent) (records : List Durable) →
+        AreAgentsOf agents records → master_in (fresh setup.run agents) ≡ master_of (opened_over setup records) }
 {}
 
 /// What a master refuses, but for a mail, it refuses alone: nothing moves, nothing is told, and no stream opens or closes.

@@ -1,5 +1,5 @@
 -- An agent: its record, its open session, and what it prepares at each cause (Mesos paper, section 3.2: agents run tasks and report them).
-use Rattle.std.specs.Prelude.{ℕ, suc, zero, max, Bool, true, false, not, ◌&&◌, ◌||◌, ◌==◌, nat_lt, nat_le, if◌then◌else◌, List, [], ◌∷◌, ◌++◌, length, map, filter, flat_map, Result, Ok, Err, bytes_eq}
+use Rattle.std.specs.Prelude.{ℕ, suc, zero, max, Bool, true, false, not, ◌&&◌, ◌||◌, ◌==◌, nat_lt, nat_le, if◌then◌else◌, List, [], ◌∷◌, ◌++◌, length, map, filter, flat_map, Option, Some, None, Result, Ok, Err, bytes_eq}
 use Rattle.std.specs.List.{list_any}
 use Rattle.names_core.specs.Ids.{Numbered}
 use Rattle.names_core.specs.declared.state.TaskState.{TaskState}
@@ -21,7 +21,7 @@ use Rattle.mails.specs.declared.record.RecordedTask.{RecordedTask}
 use Rattle.mails.specs.declared.cause.Cause.{Cause}
 use Rattle.mails.specs.declared.cause.Cause.TheVariants.{Start, Mail, Executor, Again}
 use Rattle.mails.specs.declared.refusal.AgentRefusal.{AgentRefusal}
-use Rattle.mails.specs.declared.refusal.AgentRefusal.TheVariants.{NotForMe, OldSession, NotNext, NoSuchTask, Ended, NoRoom, UpdatesFull, SessionsSpent}
+use Rattle.mails.specs.declared.refusal.AgentRefusal.TheVariants.{NotForMe, OldSession, NotNext, NoSuchTask, Ended, NoRoom, UpdatesFull, SessionsSpent, TotalLess}
 use Rattle.cluster_model.specs.Ids.{same, last_number}
 
 -- an agent that runs: its record, whether its session is open, and how many commands of that session it has applied
@@ -82,13 +82,21 @@ abbrev pub front_at : Numbered → Agent → List AgentMail
 front_at key a = flat_map (front_of a.durable.session) (filter (is_task key) a.durable.tasks)
 
 abbrev pub report_of : Agent → AgentMail
-report_of a = Report a.durable.session a.durable.run (map reported a.durable.tasks)
+report_of a = Report a.durable.session a.durable.run (map reported a.durable.tasks) a.durable.total
 
 -- sessions
 
 -- the record with another session, opened with a run
 abbrev pub with_session : Durable → ℕ → ℕ → Durable
 with_session d session run = record { name = d.name; total = d.total; session = session; run = run; tasks = d.tasks }
+
+-- the agent, which owns this from now on
+abbrev pub owning : List Row → Agent → Agent
+owning total a = record {
+  durable = record { name = a.durable.name; total = total; session = a.durable.session; run = a.durable.run; tasks = a.durable.tasks };
+  in_session = a.in_session;
+  applied = a.applied;
+}
 
 -- a session of the agent that has just opened
 abbrev pub reopened : Agent → ℕ → ℕ → Agent
@@ -195,8 +203,17 @@ executes a key state =
     else (let after = with_tasks a (map (stated key state) a.durable.tasks) a.applied in
     Ok (record { after = after; mails = if a.in_session then front_at key after else [] }))))
 
+-- the session behind the last one is opened with the master of the record's run
+abbrev pub opens_again : Agent → Result Draft AgentRefusal
+opens_again a = opens_next a a.durable.session a.durable.run
+
+-- a start, which may come with a total that the agent owns from then on: what an agent owns never falls
+abbrev pub starts : Agent → Option (List Row) → Result Draft AgentRefusal
+starts a None = opens_again a
+starts a (Some total) = if covers total a.durable.total then opens_again (owning total a) else Err TotalLess
+
 abbrev pub next_of : Agent → Cause → Result Draft AgentRefusal
-next_of a Start = if a.durable.run == 0 then Err OldSession else opens_next a a.durable.session a.durable.run
+next_of a (Start total) = if a.durable.run == 0 then Err OldSession else starts a total
 next_of a Again = Ok (record { after = a; mails = fronts a })
 next_of a (Mail to) = if bytes_eq to.agent a.durable.name then hears_mail a to.mail else Err NotForMe
 next_of a (Executor key state) = executes a key state

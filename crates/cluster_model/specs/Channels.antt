@@ -56,7 +56,7 @@ stopped_with c (Some d) = record c { agent = recovered d.after; draft = None }
 
 -- a cause that is no mail
 abbrev pub is_own : Cause → Bool
-is_own Start = true
+is_own (Start total) = true
 is_own Again = true
 is_own (Mail to) = false
 is_own (Executor key state) = true
@@ -130,7 +130,7 @@ after_all (h ∷ hs) w = after_all hs (after w h)
 
 -- the opening: agents that come up over their records, and a master of this run
 abbrev pub open_channel : Durable → Channel
-open_channel d = record { side = new_side d.name d.total; agent = recovered_from d; draft = None; to_agent = []; to_master = [] }
+open_channel d = record { side = new_side d.name; agent = recovered_from d; draft = None; to_agent = []; to_master = [] }
 
 abbrev pub open_world : ℕ → List Durable → World
 open_world run records = record { run = new_run run; channels = map open_channel records }

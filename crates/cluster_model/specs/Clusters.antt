@@ -2,6 +2,7 @@
 use Rattle.std.specs.Prelude.{ℕ, List, [], map, Option}
 use Rattle.names_core.specs.Ids.{Numbered}
 use Rattle.names_core.specs.declared.state.TaskState.{TaskState}
+use Rattle.quantity.specs.declared.rows.Row.{Row}
 use Rattle.mails.specs.declared.call.Call.{Call}
 use Rattle.mails.specs.declared.mail.ToAgent.{ToAgent}
 use Rattle.mails.specs.declared.mail.ToMaster.{ToMaster}
@@ -44,7 +45,7 @@ master_of c = record { run = c.world.run; sides = sides_of c.world.channels; reg
 
 -- a cause of an agent: a mail is named by its number
 pub data StepCause : Type 0 where
-  ByStart : StepCause
+  ByStart : (total : Option (List Row)) → StepCause
   ByAgain : StepCause
   ByExecutor : (key : Numbered) → (state : TaskState) → StepCause
   ByMail : (number : ℕ) → StepCause

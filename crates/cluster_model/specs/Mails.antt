@@ -21,7 +21,7 @@ use Rattle.cluster_model.specs.Calls.{is_stream}
 
 -- an update has a number that an agent's record has room for
 abbrev pub FitsRecord : AgentMail → Type 0
-FitsRecord (Report session number tasks) = ⊤
+FitsRecord (Report session number tasks total) = ⊤
 FitsRecord (Applied session count) = ⊤
 FitsRecord (Update session key k state ended) = k < most_updates
 
@@ -36,7 +36,7 @@ in_session s session = if s.is_open && session == s.session then None else judge
 
 -- why a mail is refused, if it is
 abbrev pub judged : Run → Side → AgentMail → Option MasterRefusal
-judged run s (Report session number tasks) = if number == run.number then judged_session s session None else Some OtherRun
+judged run s (Report session number tasks total) = if number == run.number then judged_session s session None else Some OtherRun
 judged run s (Applied session count) = in_session s session
 judged run s (Update session key k state ended) = in_session s session
 
@@ -71,7 +71,7 @@ abbrev pub news_of : Master → List ℕ → Numbered → ℕ → TaskState → 
 news_of m agent key k state b = if same b.job.key key && nat_le b.heard (suc k) then tells m b.job.framework (UPDATE b.job.name state (Some agent) (Some (record { key = key; k = k }))) else []
 
 abbrev pub goes_with : Master → Side → AgentMail → Doing
-goes_with m s (Report session number tasks) = if opens m.run s session number then session_opens m s tasks else nothing m
+goes_with m s (Report session number tasks total) = if opens m.run s session number then session_opens m s tasks else nothing m
 goes_with m s (Applied session count) = nothing m
 goes_with m s (Update session key k state ended) = saying m (flat_map (news_of m s.name key k state) s.booked)
 

@@ -29,7 +29,7 @@ pub record Run : Type 0 where
 -- what the master has of one agent
 pub record Side : Type 0 where
   pub name : List ℕ
-  pub total : List Row  -- what the agent owns
+  pub total : List Row  -- what the agent owns, as the Report of the open session told it; nothing where none is open
   pub is_open : Bool  -- a session is open
   pub session : ℕ  -- the open one
   pub closed : ℕ  -- the greatest that this run has closed, 0 if none
@@ -42,8 +42,9 @@ pub record Side : Type 0 where
 abbrev pub new_run : ℕ → Run
 new_run number = record { number = number; serves = true; torn = []; next_key = first_of_run number; next_offer = first_of_run number }
 
-abbrev pub new_side : List ℕ → List Row → Side
-new_side name total = record { name = name; total = total; is_open = false; session = 0; closed = 0; waiting = []; known = 0; offers = []; booked = [] }
+-- nothing is known of an agent but its name
+abbrev pub new_side : List ℕ → Side
+new_side name = record { name = name; total = []; is_open = false; session = 0; closed = 0; waiting = []; known = 0; offers = []; booked = [] }
 
 abbrev pub torn_down : Numbered → Run → Run
 torn_down framework run = record run { torn = run.torn ++ framework ∷ [] }
@@ -192,9 +193,9 @@ last_session s = if s.is_open then s.session else s.closed
 abbrev pub opens : Run → Side → ℕ → ℕ → Bool
 opens run s session number = run.serves && number == run.number && nat_lt (last_session s) session
 
--- the old session is closed, the offers are gone, and the books are the reported tasks
-abbrev pub opened : Side → ℕ → List Booked → Side
-opened s session tasks = record s { is_open = true; session = session; closed = last_session s; waiting = []; known = 0; offers = []; booked = tasks }
+-- the old session is closed, the offers are gone, the books are the reported tasks, and the agent owns the reported total
+abbrev pub opened : Side → ℕ → List Booked → List Row → Side
+opened s session tasks total = record s { total = total; is_open = true; session = session; closed = last_session s; waiting = []; known = 0; offers = []; booked = tasks }
 
 -- a count of applied commands tells something new
 abbrev pub counts : Side → ℕ → ℕ → Bool
@@ -202,7 +203,7 @@ counts s session count = (s.is_open && session == s.session) && (nat_lt s.known 
 
 -- what a mail of the agent does
 abbrev pub heard : Run → Side → AgentMail → Side
-heard run s (Report session number tasks) = if opens run s session number then opened s session tasks else s
+heard run s (Report session number tasks total) = if opens run s session number then opened s session tasks total else s
 heard run s (Applied session count) =
     if counts s session count
     then record s { booked = forget_all (take (count - s.known) s.waiting) s.booked; waiting = drop (count - s.known) s.waiting; known = count }
@@ -214,7 +215,7 @@ heard run s (Update session key k state ended) =
 
 -- no session is open, and the last one that was closed is this
 abbrev pub shut : Side → ℕ → Side
-shut s closed = record s { is_open = false; session = 0; closed = closed; waiting = []; known = 0; offers = []; booked = [] }
+shut s closed = record s { total = []; is_open = false; session = 0; closed = closed; waiting = []; known = 0; offers = []; booked = [] }
 
 -- the agent is lost: its session is closed, and it leaves the books
 abbrev pub lost : Side → Side

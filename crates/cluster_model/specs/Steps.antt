@@ -210,7 +210,7 @@ draws_mail c x (Some (Down agent place)) =
     else does c (happening c (AgentRefused NotForMe) [])
 
 abbrev pub prepares : Cluster → StepCause → Channel → Result Done StepRefusal
-prepares c ByStart x = draws c x causes.Start
+prepares c (ByStart total) x = draws c x (causes.Start total)
 prepares c ByAgain x = draws c x causes.Again
 prepares c (ByExecutor key state) x = draws c x (causes.Executor key state)
 prepares c (ByMail number) x = draws_mail c x (post_at c number)

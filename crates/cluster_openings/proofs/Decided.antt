@@ -1,6 +1,8 @@
 -- The tests of records decide whether they are a good opening.
-use Rattle.std.proofs.Common.{◌≡◌, ◌≢◌, ◌<◌, ◌≤◌, ℕ, Bool, true, false, not, ◌&&◌, ◌||◌, List, [], ◌∷◌, ◌++◌, map, flat_map, sum_by, refl, sym, ap, ◌∙◌, subst, arith, nat_lt, IsTrue}
+use Rattle.std.proofs.Common.{◌≡◌, ◌≢◌, ◌<◌, ◌≤◌, ℕ, suc, length, Bool, true, false, not, ◌&&◌, ◌||◌, List, [], ◌∷◌, ◌++◌, map, flat_map, sum_by, refl, sym, ap, ◌∙◌, subst, arith, nat_lt, IsTrue, bytes_eq}
+use Rattle.std.specs.Prelude.{◌↔◌}
 use Rattle.std.specs.List.{AllByRecursion as Each, list_all}
+use Rattle.std.specs.Cmp.Lexicographic.{bytes_decides}
 use Rattle.std.proofs.lemmas.Bool.Decides.{nat_tests}
 use Rattle.std.proofs.lemmas.List.Sums.{sum_by-append, sum_by-cons}
 use Rattle.mails.specs.declared.record.Durable.{Durable}
@@ -8,6 +10,7 @@ use Rattle.mails.specs.declared.record.RecordedTask.{RecordedTask}
 use Rattle.mails.specs.declared.task.Job.{Job}
 use Rattle.names_core.specs.Ids.{Numbered}
 use Rattle.cluster_model.specs.Ids.{same}
+use Rattle.quantity.proofs.Amounts.{covers_is_at_least}
 use Rattle.quantity.specs.Laws.{CoversIsAtLeast}
 use Rattle.quantity.specs.Rows.{amount, covers, part_of}
 use Rattle.agent_core.specs.Records.{has_begun, is_record, keys_rise, none_is_done}
@@ -18,10 +21,11 @@ use Rattle.cluster_model.specs.Openings.{GoodOpening, KeysOnce, NamesOnce, Recor
 use Rattle.cluster_laws.proofs.Lists.{both_true, each_append}
 use Rattle.cluster_safe.proofs.Ids.{same_is, same_refl}
 use Rattle.cluster_safe.proofs.Orders.{each_left, each_right}
-use Rattle.cluster_laws.specs.Parts.{configured}
 use Rattle.cluster_openings.specs.Fresh.{fresh_records}
-use Rattle.cluster_openings.specs.Openable.{any_has_key, are_good, are_keys_new, are_keys_once, has_key, is_before, is_task_before}
+use Rattle.cluster_openings.specs.Openable.{any_has_key, are_good, are_keys_new, are_keys_once, are_records_of, has_key, is_before, is_record_of, is_task_before}
+use Rattle.cluster_openings.specs.Records.{IsRecordOf, StandInOrder}
 use Rattle.cluster_openings.proofs.FreshRecords.{once}
+use Rattle.cluster_openings.proofs.InOrder.{standing_names}
 
 -- ---- live tasks fit the total
 
@@ -215,14 +219,31 @@ all_are_good run (d ∷ ds) g =
 
 -- ---- the opening
 
-same_names : (ds : List Durable) → map (λ (d : Durable). d.name) (fresh_records (map configured ds)) ≡ map (λ (d : Durable). d.name) ds
-same_names [] = refl
-same_names (d ∷ ds) = ap (λ (ns : List (List ℕ)). d.name ∷ ns) (same_names ds)
+fresh_names : (agents : List ConfiguredAgent) → map (λ (d : Durable). d.name) (fresh_records agents) ≡ names_of agents
+fresh_names [] = refl
+fresh_names (a ∷ agents) = ap (λ (ns : List (List ℕ)). a.name ∷ ns) (fresh_names agents)
 
-named_once : (agents : List ConfiguredAgent) (ds : List Durable) → are_ordered (names_of agents) ≡ true → agents ≡ map configured ds → NamesOnce (map (λ (d : Durable). d.name) ds)
-named_once agents ds ordered is = subst NamesOnce (ap (λ (as_ : List ConfiguredAgent). map (λ (d : Durable). d.name) (fresh_records as_)) is ∙ same_names ds) (once agents ordered)
+named_once : (agents : List ConfiguredAgent) (ds : List Durable) → are_ordered (names_of agents) ≡ true → StandInOrder agents ds → NamesOnce (map (λ (d : Durable). d.name) ds)
+named_once agents ds ordered stand = subst NamesOnce (fresh_names agents ∙ standing_names agents ds stand) (once agents ordered)
 
-pub good_if : (agents : List ConfiguredAgent) (run : ℕ) (ds : List Durable) → are_ordered (names_of agents) ≡ true → agents ≡ map configured ds → Each RecordFits ds → are_good run ds ≡ true → GoodOpening run ds
+record_of : (a : ConfiguredAgent) (d : Durable) → IsTrue (is_record_of a d) ↔ IsRecordOf a d
+record_of a d = (
+  λ h. (let both = both_true (bytes_eq a.name d.name) (covers a.total d.total) h in ((bytes_decides a.name d.name).0 both.0, (covers_is_at_least a.total d.total).0 both.1)),
+  λ r. and_so (bytes_eq a.name d.name) (covers a.total d.total) ((bytes_decides a.name d.name).1 r.0) ((covers_is_at_least a.total d.total).1 r.1),
+)
+
+pub are_decided : (agents : List ConfiguredAgent) (ds : List Durable) → IsTrue (are_records_of agents ds) ↔ StandInOrder agents ds
+are_decided [] [] = ((λ h. tt), (λ s. refl))
+are_decided [] (d ∷ ds) = ((λ (h : false ≡ true). absurd cc), (λ s. absurd s))
+are_decided (a ∷ as_) [] = ((λ (h : false ≡ true). absurd cc), (λ s. absurd s))
+are_decided (a ∷ as_) (d ∷ ds) =
+    let rest = are_decided as_ ds in
+    let first = record_of a d in (
+      (λ h. (let both = both_true (is_record_of a d) (are_records_of as_ ds) h in (first.0 both.0, rest.0 both.1))),
+      (λ s. and_so (is_record_of a d) (are_records_of as_ ds) (first.1 s.0) (rest.1 s.1)),
+    )
+
+pub good_if : (agents : List ConfiguredAgent) (run : ℕ) (ds : List Durable) → are_ordered (names_of agents) ≡ true → StandInOrder agents ds → Each RecordFits ds → are_good run ds ≡ true → GoodOpening run ds
 good_if agents run ds ordered is fits e =
     let both = both_true (are_keys_once ds) (list_all (is_before run) ds) e in
     let good = all_good run ds both.1 in
@@ -239,3 +260,15 @@ good_if agents run ds ordered is fits e =
 pub then_good : (run : ℕ) (ds : List Durable) → GoodOpening run ds → are_good run ds ≡ true
 then_good run ds g = and_so (are_keys_once ds) (list_all (is_before run) ds) (keys_are_once ds g.keys_once)
     (all_are_good run ds (record { older = g.older; before = record { keys = g.keys_older; frameworks = g.frameworks_older; ids = g.offers_older } }))
+
+-- fewer records than agents, or more
+
+no_more : (b c : Bool) → false ≡ c → false ≡ (b && c)
+no_more true c e = e
+no_more false c e = refl
+
+pub counts_differ : (agents : List ConfiguredAgent) (ds : List Durable) → length agents ≢ length ds → false ≡ are_records_of agents ds
+counts_differ [] [] other = absurd (other refl)
+counts_differ [] (d ∷ ds) other = refl
+counts_differ (a ∷ as_) [] other = refl
+counts_differ (a ∷ as_) (d ∷ ds) other = no_more (is_record_of a d) (are_records_of as_ ds) (counts_differ as_ ds (λ e. other (ap suc e)))

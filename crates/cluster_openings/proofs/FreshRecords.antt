@@ -1,5 +1,5 @@
 -- Agents that never ran may open in any run.
-use Rattle.std.proofs.Common.{◌≡◌, ◌≢◌, ◌<◌, ℕ, true, false, List, [], ◌∷◌, map, refl, sym, ap, ◌∙◌, subst, arith, nat_lt, zero-le}
+use Rattle.std.proofs.Common.{◌≡◌, ◌≢◌, ◌<◌, ℕ, true, false, List, [], ◌∷◌, map, refl, sym, ap, ◌∙◌, subst, arith, nat_lt, zero-le, le_refl}
 use Rattle.std.specs.Prelude.{◌==◌}
 use Rattle.std.specs.List.{AllByRecursion as Each, list_all}
 use Rattle.std.proofs.lemmas.Bool.Decides.{nat_tests}
@@ -11,9 +11,10 @@ use Rattle.agent_sides.specs.declared.config.ConfiguredAgent.{ConfiguredAgent}
 use Rattle.cluster_model.specs.Ids.{bytes_before}
 use Rattle.cluster_model.specs.Openings.{GoodOpening, KeysOnce, NamesOnce, RecordFits, recorded_jobs, recorded_offers}
 use Rattle.cluster_laws.proofs.Lists.{both_true}
-use Rattle.cluster_laws.specs.Parts.{configured}
 use Rattle.cluster_laws.specs.Premises.{AreRecorded}
 use Rattle.cluster_openings.specs.Fresh.{fresh_records}
+use Rattle.cluster_openings.specs.Records.{StandInOrder}
+use Rattle.quantity.specs.Rows.{amount}
 
 -- ---- names
 
@@ -72,6 +73,6 @@ pub fresh_recorded : (agents : List ConfiguredAgent) → AreRecorded (fresh_reco
 fresh_recorded [] = tt
 fresh_recorded (a ∷ agents) = fresh_recorded agents
 
-pub fresh_configured : (agents : List ConfiguredAgent) → agents ≡ map configured (fresh_records agents)
-fresh_configured [] = refl
-fresh_configured (a ∷ agents) = ap (λ (as_ : List ConfiguredAgent). a ∷ as_) (fresh_configured agents)
+pub fresh_standing : (agents : List ConfiguredAgent) → StandInOrder agents (fresh_records agents)
+fresh_standing [] = tt
+fresh_standing (a ∷ agents) = ((refl, λ name. le_refl (amount name a.total)), fresh_standing agents)

@@ -14,8 +14,9 @@ use Rattle.agent_sides.specs.declared.config.ConfiguredAgent.{ConfiguredAgent}
 use Rattle.cluster_model.specs.Ids.{bytes_before}
 use Rattle.cluster_model.specs.Openings.{GoodOpening, NamesOnce}
 use Rattle.cluster_laws.proofs.Lists.{both_true, bytes_differ}
-use Rattle.cluster_laws.specs.Parts.{configured}
-use Rattle.cluster_openings.specs.Records.{AreRecordsOf, comes_before, in_order, named}
+use Rattle.cluster_laws.specs.Parts.{AreAgentsOf}
+use Rattle.cluster_openings.specs.Records.{AreRecordsOf, IsRecordOf, StandInOrder, comes_before, in_order, named}
+use Rattle.quantity.specs.Laws.{AtLeast}
 use Rattle.cluster_openings.proofs.Permuted.{good_permuted, names_permuted}
 
 both_so : (x y : Bool) → x ≡ true → y ≡ true → (x && y) ≡ true
@@ -69,81 +70,143 @@ first_of n (x ∷ xs) a all h =
     let both = both_true (bytes_before n x.name) (list_all (bytes_before n) (names_of xs)) all in
     elim (either x xs a h) [ inl e ↦ subst (λ (y : ConfiguredAgent). bytes_before n y.name ≡ true) e both.0 | inr k ↦ first_of n xs a both.1 k ]
 
--- ---- agents in the order of their names are told by which they are
-
-abbrev AllIn : List ConfiguredAgent → List ConfiguredAgent → Type 0
-AllIn as_ bs = (a : ConfiguredAgent) → Contains as_ a → Contains bs a
-
-abbrev AllBehind : ConfiguredAgent → List ConfiguredAgent → Type 0
-AllBehind a as_ = list_all (bytes_before a.name) (names_of as_) ≡ true
-
-same_first : (a b : ConfiguredAgent) (as_ bs : List ConfiguredAgent) → AllBehind a as_ → AllBehind b bs → Contains (b ∷ bs) a → Contains (a ∷ as_) b → a ≡ b
-same_first a b as_ bs p q there back = by (either b bs a there) (either a as_ b back)
-  where
-    by : (b ≡ a) ⊎ Contains bs a → (a ≡ b) ⊎ Contains as_ b → a ≡ b
-    by (inl e) l = sym e
-    by (inr k) (inl e) = e
-    by (inr k) (inr l) = absurd (not_both b.name a.name (first_of b.name bs a q k) (first_of a.name as_ b p l))
-
-rest_in : (a : ConfiguredAgent) (as_ bs : List ConfiguredAgent) → AllBehind a as_ → AllIn (a ∷ as_) (a ∷ bs) → AllIn as_ bs
-rest_in a as_ bs p all x h = by (either a bs x (all x (behind a as_ x h)))
-  where
-    before : bytes_before a.name x.name ≡ true
-    before = first_of a.name as_ x p h
-
-    by : (a ≡ x) ⊎ Contains bs x → Contains bs x
-    by (inl e) = absurd (let twice : bytes_before x.name x.name ≡ true = subst (λ (y : ConfiguredAgent). bytes_before y.name x.name ≡ true) e before in not_both x.name x.name twice twice)
-    by (inr k) = k
-
-same_agents : (as_ bs : List ConfiguredAgent) → are_ordered (names_of as_) ≡ true → are_ordered (names_of bs) ≡ true → AllIn as_ bs → AllIn bs as_ → as_ ≡ bs
-same_agents [] [] p q there back = refl
-same_agents [] (b ∷ bs) p q there back = absurd (nothing_in b (back b (front b bs)))
-same_agents (a ∷ as_) [] p q there back = absurd (nothing_in a (there a (front a as_)))
-same_agents (a ∷ as_) (b ∷ bs) p q there back =
-    let left = both_true (list_all (bytes_before a.name) (names_of as_)) (are_ordered (names_of as_)) p in
-    let right = both_true (list_all (bytes_before b.name) (names_of bs)) (are_ordered (names_of bs)) q in
-    let first : a ≡ b = same_first a b as_ bs left.0 right.0 (there a (front a as_)) (back b (front b bs)) in
-    let there_too : AllIn (a ∷ as_) (a ∷ bs) = subst (λ (x : ConfiguredAgent). AllIn (a ∷ as_) (x ∷ bs)) (sym first) there in
-    let back_too : AllIn (b ∷ bs) (b ∷ as_) = subst (λ (x : ConfiguredAgent). AllIn (b ∷ bs) (x ∷ as_)) first back in
-    ap (λ (x : ConfiguredAgent). x ∷ as_) first ∙ ap (λ (xs : List ConfiguredAgent). b ∷ xs) (same_agents as_ bs left.1 right.1 (rest_in a as_ bs left.0 there_too) (rest_in b bs as_ right.0 back_too))
-
 -- ---- sorted records
 
-abbrev name_of : Durable → List ℕ
+abbrev pub name_of : Durable → List ℕ
 name_of d = d.name
 
-behind_first : (d : Durable) (ds : List Durable) → ((k : ℕ) → k < length ds → comes_before (get_or ds k d) d ≡ false) → Each (λ m. m ≢ d.name) (map name_of ds) → list_all (bytes_before d.name) (names_of (map configured ds)) ≡ true
+abbrev pub names_in : List Durable → List (List ℕ)
+names_in ds = map name_of ds
+
+behind_first : (d : Durable) (ds : List Durable) → ((k : ℕ) → k < length ds → comes_before (get_or ds k d) d ≡ false) → Each (λ m. m ≢ d.name) (names_in ds) → list_all (bytes_before d.name) (names_in ds) ≡ true
 behind_first d [] up once = refl
 behind_first d (x ∷ xs) up once =
     let not_before : bytes_before x.name d.name ≡ false = sym (before_text x.name d.name (slice_cmp nat_cmp x.name d.name) refl) ∙ up 0 (omega arith) in
-    both_so (bytes_before d.name x.name) (list_all (bytes_before d.name) (names_of (map configured xs)))
+    both_so (bytes_before d.name x.name) (list_all (bytes_before d.name) (names_in xs))
     (else_after x.name d.name not_before (bytes_differ x.name d.name once.0)) (behind_first d xs (λ k p. up (suc k) (omega arith)) once.1)
 
-ordered_names : (ds : List Durable) → ((i j : ℕ) (d : Durable) → i ≤ j → j < length ds → comes_before (get_or ds j d) (get_or ds i d) ≡ false) → NamesOnce (map name_of ds) → are_ordered (names_of (map configured ds)) ≡ true
+ordered_names : (ds : List Durable) → ((i j : ℕ) (d : Durable) → i ≤ j → j < length ds → comes_before (get_or ds j d) (get_or ds i d) ≡ false) → NamesOnce (names_in ds) → are_ordered (names_in ds) ≡ true
 ordered_names [] up once = refl
-ordered_names (d ∷ ds) up once = both_so (list_all (bytes_before d.name) (names_of (map configured ds))) (are_ordered (names_of (map configured ds)))
+ordered_names (d ∷ ds) up once = both_so (list_all (bytes_before d.name) (names_in ds)) (are_ordered (names_in ds))
     (behind_first d ds (λ k p. up 0 (suc k) d (omega arith) (omega arith)) once.0) (ordered_names ds (λ i j x p q. up (suc i) (suc j) x (omega arith) (omega arith)) once.1)
 
-same_agent : (a : ConfiguredAgent) (d : Durable) → a.name ≡ d.name → a.total ≡ d.total → configured d ≡ a
-same_agent a d n t = let e : configured d ≡ record { name = a.name; total = a.total } = rw (n, t) refl in e
+first_in : (n : List ℕ) (ds : List Durable) (d : Durable) → list_all (bytes_before n) (names_in ds) ≡ true → Contains ds d → bytes_before n d.name ≡ true
+first_in n [] d all h = absurd (nothing_in d h)
+first_in n (x ∷ xs) d all h =
+    let both = both_true (bytes_before n x.name) (list_all (bytes_before n) (names_in xs)) all in
+    elim (either x xs d h) [ inl e ↦ subst (λ (y : Durable). bytes_before n y.name ≡ true) e both.0 | inr k ↦ first_in n xs d both.1 k ]
 
-pub stand_for_agents : (agents : List ConfiguredAgent) (ds : List Durable) → are_ordered (names_of agents) ≡ true → IsSortedBy comes_before ds → NamesOnce (map name_of ds) → AreRecordsOf agents ds → agents ≡ map configured ds
-stand_for_agents agents ds ordered sorted once of = same_agents agents (map configured ds) ordered (ordered_names ds (sorted_far comes_before (ranks_by nat_list_cmp_total name_of) ds sorted) once) there back
+-- ---- agents and records, both in the order of their names
+
+not_itself : (n : List ℕ) → bytes_before n n ≡ true → ⊥
+not_itself n e = not_both n n e e
+
+-- the first agent's record is the first one
+first_name : (a : ConfiguredAgent) (as_ : List ConfiguredAgent) (d : Durable) (ds : List Durable) → list_all (bytes_before a.name) (names_of as_) ≡ true → list_all (bytes_before d.name) (names_in ds) ≡ true → AreRecordsOf (a ∷ as_) (d ∷ ds) → a.name ≡ d.name
+first_name a as_ d ds p q of = by (either d ds whose.0 whose.1) (either a as_ owner.0 owner.1)
   where
-    there : AllIn agents (map configured ds)
-    there a h = let found = of.each a h in subst (Contains (map configured ds)) (same_agent a found.0 found.2.0 found.2.1) (mapped_in configured ds found.0 found.1)
+    whose : (x : Durable) × Contains (d ∷ ds) x × IsRecordOf a x
+    whose = of.each a (front a as_)
 
-    back : AllIn (map configured ds) agents
-    back b h =
-        let from = come_from configured ds b h in
-        let whose = of.only from.0 from.1 in
-        subst (Contains agents) (sym (same_agent whose.0 from.0 whose.2.0 whose.2.1) ∙ from.2) whose.1
+    owner : (b : ConfiguredAgent) × Contains (a ∷ as_) b × IsRecordOf b d
+    owner = of.only d (front d ds)
 
-pub of_configured : (agents : List ConfiguredAgent) (ds : List Durable) → agents ≡ map configured ds → AreRecordsOf agents ds
-of_configured agents ds is = subst (λ (as_ : List ConfiguredAgent). AreRecordsOf as_ ds) (sym is) (record {
-  each = λ a h. (let from = come_from configured ds a h in (from.0, from.1, (sym (ap (λ (x : ConfiguredAgent). x.name) from.2), sym (ap (λ (x : ConfiguredAgent). x.total) from.2))));
-  only = λ d h. (configured d, mapped_in configured ds d h, (refl, refl));
-})
+    by : (d ≡ whose.0) ⊎ Contains ds whose.0 → (a ≡ owner.0) ⊎ Contains as_ owner.0 → a.name ≡ d.name
+    by (inl e) l = whose.2.0 ∙ ap name_of (sym e)
+    by (inr k) (inl e) = ap (λ (b : ConfiguredAgent). b.name) e ∙ owner.2.0
+    by (inr k) (inr l) = absurd (not_both a.name d.name
+        (subst (λ (n : List ℕ). bytes_before a.name n ≡ true) owner.2.0 (first_of a.name as_ owner.0 p l))
+        (subst (λ (n : List ℕ). bytes_before d.name n ≡ true) (sym whose.2.0) (first_in d.name ds whose.0 q k)))
+
+-- and the others' are the others
+rest_of_records : (a : ConfiguredAgent) (as_ : List ConfiguredAgent) (d : Durable) (ds : List Durable) → list_all (bytes_before a.name) (names_of as_) ≡ true → list_all (bytes_before d.name) (names_in ds) ≡ true → a.name ≡ d.name → AreRecordsOf (a ∷ as_) (d ∷ ds) → AreRecordsOf as_ ds
+rest_of_records a as_ d ds p q same of = record { each = each; only = only }
+  where
+    each : (b : ConfiguredAgent) → Contains as_ b → (x : Durable) × Contains ds x × IsRecordOf b x
+    each b h = by (either d ds whose.0 whose.1)
+      where
+        whose : (x : Durable) × Contains (d ∷ ds) x × IsRecordOf b x
+        whose = of.each b (behind a as_ b h)
+
+        by : (d ≡ whose.0) ⊎ Contains ds whose.0 → (x : Durable) × Contains ds x × IsRecordOf b x
+        by (inl e) = absurd (not_itself a.name (subst (λ (n : List ℕ). bytes_before a.name n ≡ true) (whose.2.0 ∙ ap name_of (sym e) ∙ sym same) (first_of a.name as_ b p h)))
+        by (inr k) = (whose.0, k, whose.2)
+
+    only : (x : Durable) → Contains ds x → (b : ConfiguredAgent) × Contains as_ b × IsRecordOf b x
+    only x h = by (either a as_ owner.0 owner.1)
+      where
+        owner : (b : ConfiguredAgent) × Contains (a ∷ as_) b × IsRecordOf b x
+        owner = of.only x (behind d ds x h)
+
+        by : (a ≡ owner.0) ⊎ Contains as_ owner.0 → (b : ConfiguredAgent) × Contains as_ b × IsRecordOf b x
+        by (inl e) = absurd (not_itself d.name (subst (λ (n : List ℕ). bytes_before d.name n ≡ true) (sym owner.2.0 ∙ sym (ap (λ (b : ConfiguredAgent). b.name) e) ∙ same) (first_in d.name ds x q h)))
+        by (inr k) = (owner.0, k, owner.2)
+
+-- the first agent is configured to own what the first record says
+first_owns : (a : ConfiguredAgent) (as_ : List ConfiguredAgent) (d : Durable) (ds : List Durable) → list_all (bytes_before d.name) (names_in ds) ≡ true → a.name ≡ d.name → AreRecordsOf (a ∷ as_) (d ∷ ds) → IsRecordOf a d
+first_owns a as_ d ds q same of = by (either d ds whose.0 whose.1)
+  where
+    whose : (x : Durable) × Contains (d ∷ ds) x × IsRecordOf a x
+    whose = of.each a (front a as_)
+
+    by : (d ≡ whose.0) ⊎ Contains ds whose.0 → IsRecordOf a d
+    by (inl e) = subst (IsRecordOf a) (sym e) whose.2
+    by (inr k) = absurd (not_itself d.name (subst (λ (n : List ℕ). bytes_before d.name n ≡ true) (sym whose.2.0 ∙ same) (first_in d.name ds whose.0 q k)))
+
+stand_ordered : (agents : List ConfiguredAgent) (ds : List Durable) → are_ordered (names_of agents) ≡ true → are_ordered (names_in ds) ≡ true → AreRecordsOf agents ds → StandInOrder agents ds
+stand_ordered [] [] p q of = tt
+stand_ordered [] (d ∷ ds) p q of = nothing_in (of.only d (front d ds)).0 (of.only d (front d ds)).1
+stand_ordered (a ∷ as_) [] p q of = nothing_in (of.each a (front a as_)).0 (of.each a (front a as_)).1
+stand_ordered (a ∷ as_) (d ∷ ds) p q of =
+    let left = both_true (list_all (bytes_before a.name) (names_of as_)) (are_ordered (names_of as_)) p in
+    let right = both_true (list_all (bytes_before d.name) (names_in ds)) (are_ordered (names_in ds)) q in
+    let same : a.name ≡ d.name = first_name a as_ d ds left.0 right.0 of in
+    (first_owns a as_ d ds right.0 same of, stand_ordered as_ ds left.1 right.1 (rest_of_records a as_ d ds left.0 right.0 same of))
+
+pub stand_for_agents : (agents : List ConfiguredAgent) (ds : List Durable) → are_ordered (names_of agents) ≡ true → IsSortedBy comes_before ds → NamesOnce (names_in ds) → AreRecordsOf agents ds → StandInOrder agents ds
+stand_for_agents agents ds ordered sorted once of = stand_ordered agents ds ordered (ordered_names ds (sorted_far comes_before (ranks_by nat_list_cmp_total name_of) ds sorted) once) of
+
+-- records that stand in the order of their agents
+
+each_standing : (agents : List ConfiguredAgent) (ds : List Durable) → StandInOrder agents ds → (a : ConfiguredAgent) → Contains agents a → (d : Durable) × Contains ds d × IsRecordOf a d
+each_standing [] [] s a h = absurd (nothing_in a h)
+each_standing [] (d ∷ ds) s a h = absurd s
+each_standing (b ∷ bs) [] s a h = absurd s
+each_standing (b ∷ bs) (d ∷ ds) s a h = by (either b bs a h) (λ k. each_standing bs ds s.1 a k)
+  where
+    by : (b ≡ a) ⊎ Contains bs a → (Contains bs a → (x : Durable) × Contains ds x × IsRecordOf a x) → (x : Durable) × Contains (d ∷ ds) x × IsRecordOf a x
+    by (inl e) rest = (d, front d ds, subst (λ (x : ConfiguredAgent). IsRecordOf x d) e s.0)
+    by (inr k) rest = let found = rest k in (found.0, behind d ds found.0 found.1, found.2)
+
+only_standing : (agents : List ConfiguredAgent) (ds : List Durable) → StandInOrder agents ds → (d : Durable) → Contains ds d → (a : ConfiguredAgent) × Contains agents a × IsRecordOf a d
+only_standing [] [] s d h = absurd (nothing_in d h)
+only_standing [] (x ∷ xs) s d h = absurd s
+only_standing (b ∷ bs) [] s d h = absurd s
+only_standing (b ∷ bs) (x ∷ xs) s d h = by (either x xs d h) (λ k. only_standing bs xs s.1 d k)
+  where
+    by : (x ≡ d) ⊎ Contains xs d → (Contains xs d → (a : ConfiguredAgent) × Contains bs a × IsRecordOf a d) → (a : ConfiguredAgent) × Contains (b ∷ bs) a × IsRecordOf a d
+    by (inl e) rest = (b, front b bs, subst (IsRecordOf b) e s.0)
+    by (inr k) rest = let found = rest k in (found.0, behind b bs found.0 found.1, found.2)
+
+pub of_standing : (agents : List ConfiguredAgent) (ds : List Durable) → StandInOrder agents ds → AreRecordsOf agents ds
+of_standing agents ds s = record { each = each_standing agents ds s; only = only_standing agents ds s }
+
+pub standing_names : (agents : List ConfiguredAgent) (ds : List Durable) → StandInOrder agents ds → AreAgentsOf agents ds
+standing_names [] [] s = refl
+standing_names [] (d ∷ ds) s = absurd s
+standing_names (a ∷ as_) [] s = absurd s
+standing_names (a ∷ as_) (d ∷ ds) s = ap (λ (n : List ℕ). n ∷ names_of as_) s.0.0 ∙ ap (λ (ns : List (List ℕ)). d.name ∷ ns) (standing_names as_ ds s.1)
+
+-- records of the agents' names, each of which an agent of its name is configured to own
+pub stand_named : (agents : List ConfiguredAgent) (ds : List Durable) → AreAgentsOf agents ds → ((a : ConfiguredAgent) (d : Durable) → Contains agents a → Contains ds d → a.name ≡ d.name → AtLeast a.total d.total) → StandInOrder agents ds
+stand_named [] [] e own = tt
+stand_named [] (d ∷ ds) e own = absurd (let clash : [] ≡ d.name ∷ names_in ds = e in cc)
+stand_named (a ∷ as_) [] e own = absurd (let clash : a.name ∷ names_of as_ ≡ [] = e in cc)
+stand_named (a ∷ as_) (d ∷ ds) e own =
+    let both : a.name ∷ names_of as_ ≡ d.name ∷ names_in ds = e in
+    let first : a.name ≡ d.name = cc in
+    let rest : names_of as_ ≡ names_in ds = cc in
+    ((first, own a d (front a as_) (front d ds) first), stand_named as_ ds rest (λ b x h k. own b x (behind a as_ b h) (behind d ds x k)))
 
 pub of_permuted : (agents : List ConfiguredAgent) (xs ys : List Durable) → IsPermutation xs ys → AreRecordsOf agents xs → AreRecordsOf agents ys
 of_permuted agents xs ys moved of = record {
@@ -160,26 +223,32 @@ none_named n (d ∷ ds) h = ap (λ (b : Bool). cond b (d ∷ filter (λ (e : Dur
 name_in : (ds : List Durable) (d : Durable) → Contains ds d → Contains (map name_of ds) d.name
 name_in ds d h = mapped_in name_of ds d h
 
-one_named : (ds : List Durable) (d : Durable) → NamesOnce (map name_of ds) → Contains ds d → named (configured d) ds ≡ d ∷ []
-one_named [] d once h = absurd (nothing_in d h)
-one_named (x ∷ xs) d once h = by (either x xs d h) (λ k. one_named xs d once.1 k)
+one_named : (ds : List Durable) (a : ConfiguredAgent) (d : Durable) → a.name ≡ d.name → NamesOnce (map name_of ds) → Contains ds d → named a ds ≡ d ∷ []
+one_named [] a d same once h = absurd (nothing_in d h)
+one_named (x ∷ xs) a d same once h = by (either x xs d h) (λ k. one_named xs a d same once.1 k)
   where
-    by : (x ≡ d) ⊎ Contains xs d → (Contains xs d → named (configured d) xs ≡ d ∷ []) → named (configured d) (x ∷ xs) ≡ d ∷ []
+    by : (x ≡ d) ⊎ Contains xs d → (Contains xs d → named a xs ≡ d ∷ []) → named a (x ∷ xs) ≡ d ∷ []
     by (inl e) rest =
-        let is : bytes_eq x.name d.name ≡ true = (bytes_decides x.name d.name).1 (ap name_of e) in
-        let others : named (configured d) xs ≡ [] = none_named d.name xs (subst (λ (n : List ℕ). Each (λ m. m ≢ n) (map name_of xs)) (ap name_of e) once.0) in
-        ap (λ (b : Bool). cond b (x ∷ named (configured d) xs) (named (configured d) xs)) is ∙ ap (λ (ds : List Durable). x ∷ ds) others ∙ ap (λ (y : Durable). y ∷ []) e
+        let is : bytes_eq x.name a.name ≡ true = (bytes_decides x.name a.name).1 (ap name_of e ∙ sym same) in
+        let others : named a xs ≡ [] = none_named a.name xs (subst (λ (n : List ℕ). Each (λ m. m ≢ n) (map name_of xs)) (ap name_of e ∙ sym same) once.0) in
+        ap (λ (b : Bool). cond b (x ∷ named a xs) (named a xs)) is ∙ ap (λ (ds : List Durable). x ∷ ds) others ∙ ap (λ (y : Durable). y ∷ []) e
     by (inr k) rest =
         let other : d.name ≢ x.name = each_in (λ m. m ≢ x.name) (map name_of xs) d.name once.0 (name_in xs d k) in
-        let isnt : bytes_eq x.name d.name ≡ false = bytes_differ x.name d.name (λ e. other (sym e)) in
-        ap (λ (b : Bool). cond b (x ∷ named (configured d) xs) (named (configured d) xs)) isnt ∙ rest k
+        let isnt : bytes_eq x.name a.name ≡ false = bytes_differ x.name a.name (λ e. other (sym same ∙ sym e)) in
+        ap (λ (b : Bool). cond b (x ∷ named a xs) (named a xs)) isnt ∙ rest k
 
-picked : (records ds : List Durable) → NamesOnce (map name_of records) → ((d : Durable) → Contains ds d → Contains records d) → in_order (map configured ds) records ≡ ds
-picked records [] once all = refl
-picked records (d ∷ ds) once all = ap (λ (xs : List Durable). xs ++ in_order (map configured ds) records) (one_named records d once (all d (front d ds))) ∙ ap (λ (xs : List Durable). d ∷ xs) (picked records ds once (λ x h. all x (behind d ds x h)))
+picked : (records : List Durable) (agents : List ConfiguredAgent) (ds : List Durable) → NamesOnce (map name_of records) → AreAgentsOf agents ds → ((d : Durable) → Contains ds d → Contains records d) → in_order agents records ≡ ds
+picked records [] [] once e all = refl
+picked records [] (d ∷ ds) once e all = absurd (let clash : [] ≡ d.name ∷ names_in ds = e in cc)
+picked records (a ∷ as_) [] once e all = absurd (let clash : a.name ∷ names_of as_ ≡ [] = e in cc)
+picked records (a ∷ as_) (d ∷ ds) once e all =
+    let both : a.name ∷ names_of as_ ≡ d.name ∷ names_in ds = e in
+    let first : a.name ≡ d.name = cc in
+    let rest : names_of as_ ≡ names_in ds = cc in
+    ap (λ (xs : List Durable). xs ++ in_order as_ records) (one_named records a d first once (all d (front d ds))) ∙ ap (λ (xs : List Durable). d ∷ xs) (picked records as_ ds once rest (λ x h. all x (behind d ds x h)))
 
-pub stand_in_order : (agents : List ConfiguredAgent) (records ds : List Durable) → NamesOnce (map name_of records) → IsPermutation records ds → agents ≡ map configured ds → ds ≡ in_order agents records
-stand_in_order agents records ds once moved is = sym (ap (λ (as_ : List ConfiguredAgent). in_order as_ records) is ∙ picked records ds once (λ d h. Contains-permutation ds records d (IsPermutation-sym records ds moved) h))
+pub stand_in_order : (agents : List ConfiguredAgent) (records ds : List Durable) → NamesOnce (map name_of records) → IsPermutation records ds → AreAgentsOf agents ds → ds ≡ in_order agents records
+stand_in_order agents records ds once moved is = sym (picked records agents ds once is (λ d h. Contains-permutation ds records d (IsPermutation-sym records ds moved) h))
 
 -- ---- what a sort by name makes of records
 
@@ -189,11 +258,11 @@ pub record Sorted (agents : List ConfiguredAgent) (old new : List Durable) : Typ
   pub moved : IsPermutation old new
   pub rises : IsSortedBy comes_before new
 
-pub then_configured : (agents : List ConfiguredAgent) (old new : List Durable) → Sorted agents old new → NamesOnce (map name_of old) → AreRecordsOf agents old → agents ≡ map configured new
+pub then_configured : (agents : List ConfiguredAgent) (old new : List Durable) → Sorted agents old new → NamesOnce (map name_of old) → AreRecordsOf agents old → StandInOrder agents new
 then_configured agents old new s once of = stand_for_agents agents new s.ordered s.rises (names_permuted old new s.moved once) (of_permuted agents old new s.moved of)
 
-pub opened_so : (run : ℕ) (agents : List ConfiguredAgent) (old new : List Durable) → Sorted agents old new → GoodOpening run new × (agents ≡ map configured new) → GoodOpening run old × AreRecordsOf agents old
-opened_so run agents old new s h = (good_permuted run new old (IsPermutation-sym old new s.moved) h.0, of_permuted agents new old (IsPermutation-sym old new s.moved) (of_configured agents new h.1))
+pub opened_so : (run : ℕ) (agents : List ConfiguredAgent) (old new : List Durable) → Sorted agents old new → GoodOpening run new × StandInOrder agents new → GoodOpening run old × AreRecordsOf agents old
+opened_so run agents old new s h = (good_permuted run new old (IsPermutation-sym old new s.moved) h.0, of_permuted agents new old (IsPermutation-sym old new s.moved) (of_standing agents new h.1))
 
-pub opens_so : (run : ℕ) (agents : List ConfiguredAgent) (old new : List Durable) → Sorted agents old new → GoodOpening run old × AreRecordsOf agents old → GoodOpening run new × (agents ≡ map configured new)
+pub opens_so : (run : ℕ) (agents : List ConfiguredAgent) (old new : List Durable) → Sorted agents old new → GoodOpening run old × AreRecordsOf agents old → GoodOpening run new × StandInOrder agents new
 opens_so run agents old new s h = (good_permuted run old new s.moved h.0, then_configured agents old new s h.0.names_once h.1)

@@ -1,7 +1,9 @@
 -- Tests of records over which a cluster may be opened.
-use Rattle.std.specs.Prelude.{ℕ, Bool, true, not, ◌&&◌, ◌||◌, nat_lt, List, [], ◌∷◌}
+use Rattle.std.specs.Prelude.{ℕ, Bool, true, false, not, ◌&&◌, ◌||◌, nat_lt, List, [], ◌∷◌, bytes_eq}
 use Rattle.std.specs.List.{list_all, list_any}
 use Rattle.names_core.specs.Ids.{Numbered}
+use Rattle.quantity.specs.Rows.{covers}
+use Rattle.agent_sides.specs.declared.config.ConfiguredAgent.{ConfiguredAgent}
 use Rattle.cluster_model.specs.Ids.{same}
 use Rattle.mails.specs.declared.record.Durable.{Durable}
 use Rattle.mails.specs.declared.record.RecordedTask.{RecordedTask}
@@ -29,6 +31,17 @@ are_keys_new (t ∷ ts) behind = not (has_key t.job.key ts || any_has_key t.job.
 abbrev pub are_keys_once : List Durable → Bool
 are_keys_once [] = true
 are_keys_once (d ∷ ds) = are_keys_new d.tasks ds && are_keys_once ds
+
+-- the record is of this agent, which is configured to own at least what the record says
+abbrev pub is_record_of : ConfiguredAgent → Durable → Bool
+is_record_of a d = bytes_eq a.name d.name && covers a.total d.total
+
+-- there is one record for each agent, in their order, and no other
+abbrev pub are_records_of : List ConfiguredAgent → List Durable → Bool
+are_records_of [] [] = true
+are_records_of [] (d ∷ ds) = false
+are_records_of (a ∷ as_) [] = false
+are_records_of (a ∷ as_) (d ∷ ds) = is_record_of a d && are_records_of as_ ds
 
 -- what is asked of records beside that they are those of the configured agents
 abbrev pub are_good : ℕ → List Durable → Bool

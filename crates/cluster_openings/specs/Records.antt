@@ -1,19 +1,27 @@
 -- The records of configured agents, in any order.
-use Rattle.std.specs.Prelude.{◌≡◌, Bool, List, filter, flat_map, bytes_eq}
+use Rattle.std.specs.Prelude.{◌≡◌, ⊤, Bool, List, [], ◌∷◌, filter, flat_map, bytes_eq}
 use Rattle.std.specs.List.{Contains}
 use Rattle.std.specs.Ordering.{nat_cmp, is_lt}
 use Rattle.std.specs.Cmp.Lexicographic.{slice_cmp}
+use Rattle.quantity.specs.Laws.{AtLeast}
 use Rattle.mails.specs.declared.record.Durable.{Durable}
 use Rattle.agent_sides.specs.declared.config.ConfiguredAgent.{ConfiguredAgent}
 
--- the record is of this agent, and has what it owns
+-- the record is of this agent, which is configured to own at least what the record says
 abbrev pub IsRecordOf : ConfiguredAgent → Durable → Type 0
-IsRecordOf a d = (a.name ≡ d.name) × (a.total ≡ d.total)
+IsRecordOf a d = (a.name ≡ d.name) × AtLeast a.total d.total
 
 -- each agent has a record among them, and each is that of one of the agents
 pub record AreRecordsOf (agents : List ConfiguredAgent) (records : List Durable) : Type 0 where
   pub each : (a : ConfiguredAgent) → Contains agents a → (d : Durable) × Contains records d × IsRecordOf a d
   pub only : (d : Durable) → Contains records d → (a : ConfiguredAgent) × Contains agents a × IsRecordOf a d
+
+-- the records stand in the order of their agents: one for each, and no other
+abbrev pub StandInOrder : List ConfiguredAgent → List Durable → Type 0
+StandInOrder [] [] = ⊤
+StandInOrder [] (d ∷ ds) = ⊥
+StandInOrder (a ∷ as_) [] = ⊥
+StandInOrder (a ∷ as_) (d ∷ ds) = IsRecordOf a d × StandInOrder as_ ds
 
 -- the records of an agent's name
 abbrev pub named : ConfiguredAgent → List Durable → List Durable

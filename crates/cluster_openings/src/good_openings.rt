@@ -1,13 +1,12 @@
 //! Whether records are a good opening. No test takes memory.
 
-ghost use Rattle.std.specs.Prelude.{◌≡◌, ◌↔◌, true, nat_lt, map, List, IsTrue, ℕ};
+ghost use Rattle.std.specs.Prelude.{◌≡◌, ◌↔◌, true, nat_lt, List, IsTrue, ℕ};
 ghost use Rattle.std.specs.List.{AllByRecursion as Each, list_all};
 ghost use Rattle.std.specs.List.Sorted.{IsPermutation};
 ghost use Rattle.agent_sides.specs.Configs.{are_ordered, names_of};
 ghost use Rattle.agent_sides.specs.declared.config.ConfiguredAgent.{ConfiguredAgent as Configured};
-ghost use Rattle.cluster_openings.specs.Openable.{any_has_key, are_good, are_keys_new, are_keys_once, has_key, is_before, is_task_before};
-ghost use Rattle.cluster_openings.specs.Records.{AreRecordsOf};
-ghost use Rattle.cluster_laws.specs.Parts.{configured};
+ghost use Rattle.cluster_openings.specs.Openable.{any_has_key, are_good, are_keys_new, are_keys_once, are_records_of, has_key, is_before, is_record_of, is_task_before};
+ghost use Rattle.cluster_openings.specs.Records.{AreRecordsOf, StandInOrder};
 ghost use Rattle.cluster_model.specs.Openings.{GoodOpening, RecordFits};
 ghost use Rattle.mails.specs.declared.record.Durable.{Durable};
 
@@ -16,8 +15,8 @@ use agent_core::Record;
 use agent_sides::{Config, ConfiguredAgent};
 use mails::RecordedTask;
 use names_core::{LaunchKey, OfferId, Run};
-use plain_data::Plain;
 use quantity::covers_is_at_least;
+use shared_value::Shared;
 
 /// What the type of a record keeps of it: its live tasks fit what its agent owns.
 fn record_fits(durable: &Record)
@@ -50,7 +49,7 @@ fn is_task_before(task: &RecordedTask, run: u16) -> bool
         && are_offers_before(task.offers.as_slice(), run)
 }
 
-fn are_tasks_before(tasks: &[RecordedTask], run: u16) -> bool
+fn are_tasks_before(tasks: &[Shared<RecordedTask>], run: u16) -> bool
     ensures { result ≡ list_all (is_task_before run) tasks.now }
 {
     tasks.iter().all(|task| is_task_before(task, run))
@@ -64,7 +63,7 @@ fn is_before(durable: &Record, run: u16) -> bool
     parts.run < u32::from(run) && are_tasks_before(parts.tasks.as_slice(), run)
 }
 
-fn has_key(tasks: &[RecordedTask], key: LaunchKey) -> bool
+fn has_key(tasks: &[Shared<RecordedTask>], key: LaunchKey) -> bool
     ensures { result ≡ has_key key tasks.now }
 {
     tasks.iter().any(|task| {
@@ -81,7 +80,7 @@ fn any_has_key(records: &[Record], key: LaunchKey) -> bool
 }
 
 /// Whether no key of tasks stands twice, nor in the records behind them.
-fn are_keys_new(tasks: &[RecordedTask], behind: &[Record]) -> bool
+fn are_keys_new(tasks: &[Shared<RecordedTask>], behind: &[Record]) -> bool
     ensures { result ≡ are_keys_new tasks.now behind.now }
 {
     for i in 0..tasks.len() {
@@ -105,23 +104,23 @@ fn are_keys_once(records: &[Record]) -> bool
     true
 }
 
-/// Whether a record is of this agent and has what it owns.
-fn is_configured(agent: &ConfiguredAgent, durable: &Record) -> bool
-    ensures { IsTrue result ↔ (agent.now ≡ configured durable.now) }
+/// Whether a record is of this agent, which is configured to own at least what the record says.
+fn is_record_of(agent: &ConfiguredAgent, durable: &Record) -> bool
+    ensures { result ≡ is_record_of agent.now durable.now }
 {
     let parts = durable.parts();
-    agent.name.is(&parts.name) && agent.total.is_same(&parts.total)
+    agent.name.is(&parts.name) && agent.total.covers(&parts.total)
 }
 
 /// Whether there is one record for each agent, in their order, and no other.
-fn are_configured(agents: &[ConfiguredAgent], records: &[Record]) -> bool
-    ensures { IsTrue result ↔ (agents.now ≡ map configured records.now) }
+fn are_records_of(agents: &[ConfiguredAgent], records: &[Record]) -> bool
+    ensures { result ≡ are_records_of agents.now records.now }
 {
     if agents.len() != records.len() {
         return false;
     }
     for i in 0..agents.len() {
-        if !is_configured(&agents[i], &records[i]) {
+        if !is_record_of(&agents[i], &records[i]) {
             return false;
         }
     }
@@ -136,23 +135,24 @@ fn are_all_before(records: &[Record], run: u16) -> bool
 
 /// The tests decide, of records of configured agents that fit their totals, whether they are a good opening.
 fn openings_are_decided()
-    ensures good { (agents : List Configured) (run : ℕ) (records : List Durable) → are_ordered (names_of agents) ≡ true → agents ≡ map configured records → Each RecordFits records → are_good run records ≡ true → GoodOpening run records }
+    ensures good { (agents : List Configured) (run : ℕ) (records : List Durable) → are_ordered (names_of agents) ≡ true → StandInOrder agents records → Each RecordFits records → are_good run records ≡ true → GoodOpening run records }
+    ensures agents { (agents : List Configured) (records : List Durable) → IsTrue (are_records_of agents records) ↔ StandInOrder agents records }
     ensures tests { (run : ℕ) (records : List Durable) → GoodOpening run records → are_good run records ≡ true }
 {}
 
 /// Whether a cluster of these agents may be opened over records that stand in their order.
 fn is_good_in_order(config: &Config, records: &[Record], run: Run) -> bool
-    ensures { IsTrue result ↔ (GoodOpening run records.now × (config.now ≡ map configured records.now)) }
+    ensures { IsTrue result ↔ (GoodOpening run records.now × StandInOrder config.now records.now) }
 {
     openings_are_decided();
     records_fit(records);
-    are_configured(config.agents(), records)
+    are_records_of(config.agents(), records)
         && are_keys_once(records)
         && are_all_before(records, run.number())
 }
 
 /// Sorts records by the names of their agents, and tells whether a cluster of these agents may be opened over them in this run: there is one
-/// record for each agent and no other, with the agent's total, no launch key stands twice, and every run in them lies before this one. (That each
+/// record for each agent and no other, which the agent's total covers, no launch key stands twice, and every run in them lies before this one. (That each
 /// record's live tasks fit its total holds of every `Record`.)
 pub fn good_opening(config: &Config, records: &mut [Record], run: Run) -> bool
     ensures test { IsTrue result ↔ (GoodOpening run records.old × AreRecordsOf config.now records.old) }

@@ -1,9 +1,9 @@
 //! Records in the order of their agents' names.
 
-ghost use Rattle.std.specs.Prelude.{◌≡◌, map};
+ghost use Rattle.std.specs.Prelude.{◌≡◌};
 ghost use Rattle.std.specs.List.Sorted.{IsPermutation, IsSortedBy};
 ghost use Rattle.cluster_openings.specs.Records.{AreRecordsOf, comes_before, in_order};
-ghost use Rattle.cluster_laws.specs.Parts.{configured};
+ghost use Rattle.cluster_laws.specs.Parts.{AreAgentsOf};
 ghost use Rattle.cluster_model.specs.Openings.{GoodOpening};
 
 use agent_core::Record;
@@ -28,7 +28,7 @@ pub fn put_in_order(config: &Config, mut records: Vec<Record>, _run: Run) -> Vec
     requires records { AreRecordsOf config.now records.items }
     ensures order { result.items ≡ in_order config.now records.items }
     ensures good { GoodOpening _run result.items }
-    ensures configured { config.now ≡ map configured result.items }
+    ensures agents { AreAgentsOf config.now result.items }
 {
     let _agents = config.agents();
     sort_by_name(records.as_mut_slice());

@@ -7,8 +7,9 @@ ghost use Rattle.stream_core.specs.Updates.{are_updates};
 
 use agent_core::Record;
 use mails::RecordedTask;
+use shared_value::Shared;
 
-fn tasks_are_recorded(tasks: &[RecordedTask])
+fn tasks_are_recorded(tasks: &[Shared<RecordedTask>])
     ensures { Each (λ t. are_updates t.updates.states t.updates.acknowledged ≡ true) tasks.now }
 {
     for task in tasks {

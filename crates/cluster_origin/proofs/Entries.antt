@@ -249,7 +249,7 @@ draws_mail_sourced c s x (Some (Up agent place)) = tt
 draws_mail_sourced c s x (Some (Down agent place)) = by_test c s (bytes_eq agent x.side.name) (draws_mail_at c x place (slice_get x.to_agent place)) (does c (happening c (AgentRefused NotForMe) [])) (draws_mail_at_sourced c s x place (slice_get x.to_agent place)) (silent c c s (happening c (AgentRefused NotForMe) []) refl tt)
 
 prepares_sourced : (c : Cluster) (s : Marked) (cause : StepCause) (x : Channel) → Sourced c s (prepares c cause x)
-prepares_sourced c s ByStart x = drafts_sourced c s x (Draw Start) (next_of x.agent Start)
+prepares_sourced c s (ByStart total) x = drafts_sourced c s x (Draw (Start total)) (next_of x.agent (Start total))
 prepares_sourced c s ByAgain x = drafts_sourced c s x (Draw Again) (next_of x.agent Again)
 prepares_sourced c s (ByExecutor key state) x = drafts_sourced c s x (Draw (Executor key state)) (next_of x.agent (Executor key state))
 prepares_sourced c s (ByMail number) x = draws_mail_sourced c s x (post_at c number)

@@ -68,7 +68,7 @@ side_gone id run s Lose lt h = cond_both s.is_open (shut s s.session) s (λ (x :
 
 heard_gone : (id : Numbered) (run : Run) (c : Channel) (o : Option AgentMail) → NoneOf id c.side.offers → NoneOf id (heard_mail run c o).side.offers
 heard_gone id run c None h = h
-heard_gone id run c (Some (Report session number tasks)) h = cond_both (opens run c.side session number) (opened c.side session tasks) c.side (λ (s : Side). NoneOf id s.offers) (λ e. tt) (λ e. h)
+heard_gone id run c (Some (Report session number tasks total)) h = cond_both (opens run c.side session number) (opened c.side session tasks total) c.side (λ (s : Side). NoneOf id s.offers) (λ e. tt) (λ e. h)
 heard_gone id run c (Some (Applied session count)) h = cond_both (counts c.side session count) (record c.side { booked = forget_all (take (count - c.known) c.waiting) c.booked; waiting = drop (count - c.known) c.waiting; known = count }) c.side (λ (s : Side). NoneOf id s.offers) (λ e. h) (λ e. h)
 heard_gone id run c (Some (Update session key k state ended)) h = cond_both (c.is_open && session == c.session) (record c.side { booked = map (heard_update key k state ended) c.booked }) c.side (λ (s : Side). NoneOf id s.offers) (λ e. h) (λ e. h)
 

@@ -27,7 +27,7 @@ if_quiet true x y h k = h
 if_quiet false x y h k = k
 
 goes_quiet : (m : Master) (s : Side) (mail : AgentMail) → Each QuietMove (goes_with m s mail).moves
-goes_quiet m s (Report session number tasks) = if_quiet (opens m.run s session number) (session_opens m s tasks) (nothing m) (mapped_quiet (λ (f : Framework). AtSide s.name (SendEnd f.id)) (λ f. tt) (filter (is_to_end m tasks) m.registers.frameworks)) tt
+goes_quiet m s (Report session number tasks total) = if_quiet (opens m.run s session number) (session_opens m s tasks) (nothing m) (mapped_quiet (λ (f : Framework). AtSide s.name (SendEnd f.id)) (λ f. tt) (filter (is_to_end m tasks) m.registers.frameworks)) tt
 goes_quiet m s (Applied session count) = tt
 goes_quiet m s (Update session key k state ended) = tt
 

@@ -105,7 +105,7 @@ counted s session count e =
 
 heard_waits : (run : Run) (c : Channel) (o : Option AgentMail) → WaitsIn c → WaitsIn (heard_mail run c o)
 heard_waits run c None h = h
-heard_waits run c (Some (Report session number tasks)) h = cond_both (opens run c.side session number) (opened c.side session tasks) c.side (λ (s : Side). Waits s c.to_agent) (λ e. tt) (λ e. h)
+heard_waits run c (Some (Report session number tasks total)) h = cond_both (opens run c.side session number) (opened c.side session tasks total) c.side (λ (s : Side). Waits s c.to_agent) (λ e. tt) (λ e. h)
 heard_waits run c (Some (Applied session count)) h = cond_both (counts c.side session count) (record c.side { booked = forget_all (take (count - c.known) c.waiting) c.booked; waiting = drop (count - c.known) c.waiting; known = count }) c.side (λ (s : Side). Waits s c.to_agent)
     (λ e. subst (λ n. AreSent c.side.session n (drop (count - c.known) c.waiting) c.to_agent) (counted c.side session count e) (sent_drop c.side.session c.side.known (count - c.known) c.waiting c.to_agent h)) (λ e. h)
 heard_waits run c (Some (Update session key k state ended)) h = cond_both (c.is_open && session == c.session) (record c.side { booked = map (heard_update key k state ended) c.booked }) c.side (λ (s : Side). Waits s c.to_agent) (λ e. h) (λ e. h)

@@ -3,13 +3,14 @@ use Rattle.std.proofs.Common.{◌≡◌, ℕ, List, [], ◌∷◌, ◌++◌, map
 use Rattle.std.specs.Prelude.{IfOk}
 use Rattle.mails.specs.declared.mail.ToAgent.{ToAgent}
 use Rattle.mails.specs.declared.record.Durable.{Durable}
+use Rattle.agent_sides.specs.declared.config.ConfiguredAgent.{ConfiguredAgent}
 use Rattle.cluster_model.specs.Clusters.{Cluster, MailToAgent, Sent, master_of}
 use Rattle.cluster_model.specs.Masters.{Master, moved}
 use Rattle.cluster_model.specs.Openings.{GoodOpening}
 use Rattle.cluster_model.specs.Steps.{Setup, Done, open_cluster, opened_over, opening, unweighted}
 use Rattle.cluster_laws.specs.declared.item.Item.{Item}
 use Rattle.cluster_laws.specs.Items.{StandIn, items_sent}
-use Rattle.cluster_laws.specs.Parts.{configured, greeting, parts_of, recovered_part}
+use Rattle.cluster_laws.specs.Parts.{AreAgentsOf, greeting, parts_of, recovered_part}
 use Rattle.cluster_laws.specs.Runs.{AreRising}
 use Rattle.cluster_steps.specs.declared.entry.Sent as code
 use Rattle.cluster_steps.specs.declared.entry.Verdict.TheVariants as verdicts
@@ -29,7 +30,7 @@ use Rattle.cluster_parts.proofs.Outgoing.{kept_so, told_so}
 
 pub record OpenLaws : Type 0 where
   pub greet : GreetLaws
-  pub fresh : (setup : Setup) (records : List Durable) → new_master setup.run (map configured records) ≡ master_of (opened_over setup records)
+  pub fresh : (setup : Setup) (agents : List ConfiguredAgent) (records : List Durable) → AreAgentsOf agents records → new_master setup.run agents ≡ master_of (opened_over setup records)
   pub stand : (setup : Setup) (records : List Durable) → GoodOpening setup.run records → StandIn (opening setup records).state (items_sent [] (open_cluster setup records).entry.outs.sent)
   pub parts : (setup : Setup) (records : List Durable) → parts_of (open_cluster setup records).after.world.channels ≡ map recovered_part records
 
@@ -41,14 +42,14 @@ pub agents_open : OpenLaws → (setup : Setup) (records : List Durable) → map 
 agents_open laws setup records = all_up records ∙ ap (map (kept_part [])) (sym (laws.parts setup records))
 
 -- what the first master brings out, in the words of the model
-first_outs : OpenLaws → (setup : Setup) (records : List Durable) (outs : Outs) → outs ≡ outs_of (new_master setup.run (map configured records)) (greeting (new_master setup.run (map configured records))) →
+first_outs : OpenLaws → (setup : Setup) (agents : List ConfiguredAgent) (records : List Durable) (outs : Outs) → AreAgentsOf agents records → outs ≡ outs_of (new_master setup.run agents) (greeting (new_master setup.run agents)) →
     outs ≡ outs_of (master_of (opened_over setup records)) (greeting (master_of (opened_over setup records)))
-first_outs laws setup records outs is = is ∙ ap (λ (m : Master). outs_of m (greeting m)) (laws.fresh setup records)
+first_outs laws setup agents records outs of is = is ∙ ap (λ (m : Master). outs_of m (greeting m)) (laws.fresh setup agents records of)
 
-parts_open : OpenLaws → (setup : Setup) (records : List Durable) (outs : Outs) (made : Made) (started n : Option (Option Master)) (js : List Item) (ts : List KeptStream) →
-    GoodOpening setup.run records → started ≡ Some (Some (new_master setup.run (map configured records))) → outs ≡ outs_of (new_master setup.run (map configured records)) (greeting (new_master setup.run (map configured records))) → Tells outs made started n [] js [] ts →
+parts_open : OpenLaws → (setup : Setup) (agents : List ConfiguredAgent) (records : List Durable) (outs : Outs) (made : Made) (started n : Option (Option Master)) (js : List Item) (ts : List KeptStream) →
+    AreAgentsOf agents records → GoodOpening setup.run records → started ≡ Some (Some (new_master setup.run agents)) → outs ≡ outs_of (new_master setup.run agents) (greeting (new_master setup.run agents)) → Tells outs made started n [] js [] ts →
     StandsFor (opening setup records).state n js ts × (made.outputs ≡ outputs_of (open_cluster setup records).entry.outs)
-parts_open laws setup records outs made started n js ts good begins brings t = (stands, outputs)
+parts_open laws setup agents records outs made started n js ts of good begins brings t = (stands, outputs)
   where
     first : Cluster
     first = opened_over setup records
@@ -60,14 +61,14 @@ parts_open laws setup records outs made started n js ts good begins brings t = (
     mails = (moved (master_of first) (greeting (master_of first)).moves).sent
 
     outs_so : outs ≡ outs_of (master_of first) (greeting (master_of first))
-    outs_so = first_outs laws setup records outs brings
+    outs_so = first_outs laws setup agents records outs of brings
 
     sends : D.entry.outs.sent ≡ map MailToAgent mails
     sends = greeting_mails laws.greet first
 
     stands : StandsFor D.after n js ts
     stands = record {
-      as_master = t.same_master ∙ begins ∙ ap (λ (m : Master). Some (Some m)) (laws.fresh setup records) ∙ sym (ap kept_master (greeted_master laws.greet first));
+      as_master = t.same_master ∙ begins ∙ ap (λ (m : Master). Some (Some m)) (laws.fresh setup agents records of) ∙ sym (ap kept_master (greeted_master laws.greet first));
       as_items = subst (StandIn D.after) (ap (items_sent []) sends ∙ kept_so mails ∙ sym (t.more_items ∙ ap (λ (o : Outs). map item_to o.mails) outs_so)) (laws.stand setup records good);
       as_streams = t.more_streams ∙ ap (λ (o : Outs). heard o.opened o.events []) outs_so;
       within = tt;
@@ -79,17 +80,17 @@ parts_open laws setup records outs made started n js ts good begins brings t = (
 no_fall : {A : Type 0} (made : Made) → made ≡ ends_with verdicts.OutOfMemory → made.verdict ≡ verdicts.Ok → A
 no_fall {A = A} made is fine = absurd (let clash : verdicts.OutOfMemory ≡ verdicts.Ok = sym (ap (λ (m : Made). m.verdict) is) ∙ fine in cc)
 
-pub open_made : OpenLaws → (setup : Setup) (records : List Durable) (answered : Result Outs MasterFault) (made : Made) (started n : Option (Option Master)) (js : List Item) (ts : List KeptStream) →
-    GoodOpening setup.run records → Starts answered started setup.run (map configured records) → Settles answered made started n [] js [] ts → made.verdict ≡ verdicts.Ok →
+pub open_made : OpenLaws → (setup : Setup) (agents : List ConfiguredAgent) (records : List Durable) (answered : Result Outs MasterFault) (made : Made) (started n : Option (Option Master)) (js : List Item) (ts : List KeptStream) →
+    AreAgentsOf agents records → GoodOpening setup.run records → Starts answered started setup.run agents → Settles answered made started n [] js [] ts → made.verdict ≡ verdicts.Ok →
     StandsFor (opening setup records).state n js ts × (made.outputs ≡ outputs_of (open_cluster setup records).entry.outs)
-open_made laws setup records (Ok outs) made started n js ts good begins (inl t) fine = parts_open laws setup records outs made started n js ts good begins.0 begins.1 t
-open_made laws setup records (Ok outs) made started n js ts good begins (inr f) fine = no_fall made f.is fine
-open_made laws setup records (Err fault.OutOfMemory) made started n js ts good begins f fine = no_fall made f.is fine
-open_made laws setup records (Err (fault.Refused refusal)) made started n js ts good begins t fine = absurd begins
+open_made laws setup agents records (Ok outs) made started n js ts of good begins (inl t) fine = parts_open laws setup agents records outs made started n js ts of good begins.0 begins.1 t
+open_made laws setup agents records (Ok outs) made started n js ts of good begins (inr f) fine = no_fall made f.is fine
+open_made laws setup agents records (Err fault.OutOfMemory) made started n js ts of good begins f fine = no_fall made f.is fine
+open_made laws setup agents records (Err (fault.Refused refusal)) made started n js ts of good begins t fine = absurd begins
 
-pub open_rise : OpenLaws → (run : ℕ) (records : List Durable) (answered : Result Outs MasterFault) (started : Option (Option Master)) → Starts answered started run (map configured records) → IfOk answered (λ outs. AreRising (kept_ids [] ++ outs.opened))
-open_rise laws run records (Err e) started begins = tt
-open_rise laws run records (Ok outs) started begins = subst (λ (o : Outs). AreRising (kept_ids [] ++ o.opened)) (sym (first_outs laws (unweighted run) records outs begins.1)) tt
+pub open_rise : OpenLaws → (run : ℕ) (agents : List ConfiguredAgent) (records : List Durable) (answered : Result Outs MasterFault) (started : Option (Option Master)) → AreAgentsOf agents records → Starts answered started run agents → IfOk answered (λ outs. AreRising (kept_ids [] ++ outs.opened))
+open_rise laws run agents records (Err e) started of begins = tt
+open_rise laws run agents records (Ok outs) started of begins = subst (λ (o : Outs). AreRising (kept_ids [] ++ o.opened)) (sym (first_outs laws (unweighted run) agents records outs of begins.1)) tt
 
 pub open_run : OpenLaws → (setup : Setup) (records : List Durable) → (opening setup records).state.world.run.number ≡ setup.run
 open_run laws setup records = ap (λ (m : Master). m.run.number) (greeted_master laws.greet (opened_over setup records))

@@ -130,9 +130,9 @@ draws_by_mail more c x n given (Some (items.ToAgent to)) (k, down, n_is) here re
     subst (Drawing c x (Mail n)) is.1 (draws_down more c x n k to down n_is here recorded is.0 none)
 
 drawing : MoreLaws → (c : Cluster) (x : Channel) (cause : StepCause) (given : Cause) (sent : List Item) → StandIn c sent → channel_of c x.side.name ≡ Some x → x.agent.durable.name ≡ x.side.name → x.draft ≡ None → cause_due sent x.side.name cause ≡ Some (Some given) → Drawing c x cause given
-drawing more c x Start given sent stand here recorded none due =
-    let is : causes.Start ≡ given = (let s : Some (Some causes.Start) ≡ Some (Some given) = due in cc) in
-    subst (Drawing c x Start) is (record { step = Draw causes.Start; silent = tt; asks = refl; becomes = λ d e. more.laws.draws x causes.Start d refl none e })
+drawing more c x (Start total) given sent stand here recorded none due =
+    let is : causes.Start total ≡ given = (let s : Some (Some (causes.Start total)) ≡ Some (Some given) = due in cc) in
+    subst (Drawing c x (Start total)) is (record { step = Draw (causes.Start total); silent = tt; asks = refl; becomes = λ d e. more.laws.draws x (causes.Start total) d refl none e })
 drawing more c x Again given sent stand here recorded none due =
     let is : causes.Again ≡ given = (let s : Some (Some causes.Again) ≡ Some (Some given) = due in cc) in
     subst (Drawing c x Again) is (record { step = Draw causes.Again; silent = tt; asks = refl; becomes = λ d e. more.laws.draws x causes.Again d refl none e })
@@ -284,7 +284,7 @@ strays c x n (Some (items.ToAgent to)) (k, down, n_is) due =
     ap (draws_mail c x) post ∙ if_it_is_up (bytes_eq to.agent x.side.name) (draws_mail_at c x down.0 (slice_get x.to_agent down.0)) (does c (happening c (AgentRefused NotForMe) [])) (not_for_it x.side.name to none)
 
 strays_by : MoreLaws → (c : Cluster) (x : Channel) (cause : StepCause) (sent : List Item) → StandIn c sent → cause_due sent x.side.name cause ≡ Some None → prepares c (cause_of cause) x ≡ Ok (done c (happening c (AgentRefused NotForMe) []))
-strays_by more c x Start sent stand due = absurd (let clash : Some (Some causes.Start) ≡ Some None = due in cc)
+strays_by more c x (Start total) sent stand due = absurd (let clash : Some (Some (causes.Start total)) ≡ Some None = due in cc)
 strays_by more c x Again sent stand due = absurd (let clash : Some (Some causes.Again) ≡ Some None = due in cc)
 strays_by more c x (Executor key state) sent stand due = absurd (let clash : Some (Some (causes.Executor key state)) ≡ Some None = due in cc)
 strays_by more c x (Mail n) sent stand due = strays c x n (item_at n sent) (under more c sent n stand) due
@@ -332,7 +332,7 @@ unsent c x n (Some (items.ToMaster to)) (place, post) due = ap (draws_mail c x) 
 unsent c x n (Some (items.ToAgent to)) u due = absurd (let clash : Some (for_it x.side.name to) ≡ None = due in cc)
 
 unsent_by : MoreLaws → (c : Cluster) (x : Channel) (cause : StepCause) (sent : List Item) → StandIn c sent → cause_due sent x.side.name cause ≡ None → prepares c (cause_of cause) x ≡ Err NoSuchMail
-unsent_by more c x Start sent stand due = absurd (let clash : Some (Some causes.Start) ≡ None = due in cc)
+unsent_by more c x (Start total) sent stand due = absurd (let clash : Some (Some (causes.Start total)) ≡ None = due in cc)
 unsent_by more c x Again sent stand due = absurd (let clash : Some (Some causes.Again) ≡ None = due in cc)
 unsent_by more c x (Executor key state) sent stand due = absurd (let clash : Some (Some (causes.Executor key state)) ≡ None = due in cc)
 unsent_by more c x (Mail n) sent stand due = unsent c x n (item_at n sent) (under more c sent n stand) due
@@ -392,7 +392,7 @@ withheld_so c name x n gives asked none = by (unsent_or_taken c x (post_at c n))
 
 pub prepare_withheld : (c : Cluster) (name : List ℕ) (place : ℕ) (a : KeptAgent) (cause : StepCause) (gives : ℕ → Bool) → place_in name (kept_agents c) ≡ Some place → slice_get (kept_agents c) place ≡ Some a → a.is_down ≡ false → a.part.draft ≡ None →
     is_withheld gives cause ≡ true → MayRefuse c gives (Prepare name (cause_of cause)) faults.NoSuchMail
-prepare_withheld c name place a Start gives e at is_up free held = absurd (let clash : false ≡ true = held in cc)
+prepare_withheld c name place a (Start total) gives e at is_up free held = absurd (let clash : false ≡ true = held in cc)
 prepare_withheld c name place a Again gives e at is_up free held = absurd (let clash : false ≡ true = held in cc)
 prepare_withheld c name place a (Executor key state) gives e at is_up free held = absurd (let clash : false ≡ true = held in cc)
 prepare_withheld c name place a (Mail n) gives e at is_up free held = by (ready c name place a e at is_up free)
@@ -464,9 +464,9 @@ each_in_order given h [] = tt
 each_in_order given h (a ∷ agents) = (h a, each_in_order given h agents)
 
 all_in_order : (agents : List KeptAgent) (sent : List Item) (name : List ℕ) (cause : StepCause) (given : Cause) → ComeInOrder agents sent → cause_due sent name cause ≡ Some (Some given) → Each (λ a. is_in_order a.part.agent given ≡ true) agents
-all_in_order agents sent name Start given order due =
-    let is : causes.Start ≡ given = (let s : Some (Some causes.Start) ≡ Some (Some given) = due in cc) in
-    subst (λ (g : Cause). Each (λ a. is_in_order a.part.agent g ≡ true) agents) is (each_in_order causes.Start (λ a. refl) agents)
+all_in_order agents sent name (Start total) given order due =
+    let is : causes.Start total ≡ given = (let s : Some (Some (causes.Start total)) ≡ Some (Some given) = due in cc) in
+    subst (λ (g : Cause). Each (λ a. is_in_order a.part.agent g ≡ true) agents) is (each_in_order (causes.Start total) (λ a. refl) agents)
 all_in_order agents sent name Again given order due =
     let is : causes.Again ≡ given = (let s : Some (Some causes.Again) ≡ Some (Some given) = due in cc) in
     subst (λ (g : Cause). Each (λ a. is_in_order a.part.agent g ≡ true) agents) is (each_in_order causes.Again (λ a. refl) agents)

@@ -4,6 +4,7 @@ use Rattle.std.specs.Prelude.{if◌then◌else◌, IfOk}
 use Rattle.mails.specs.declared.mail.ToAgent.{ToAgent}
 use Rattle.mails.specs.declared.record.Durable.{Durable}
 use Rattle.names_core.specs.Ids.{Numbered}
+use Rattle.agent_sides.specs.declared.config.ConfiguredAgent.{ConfiguredAgent}
 use Rattle.cluster_model.specs.Channels.{Channel, Halt, Restart, after, open_channel, with_side}
 use Rattle.cluster_model.specs.Clusters.{Cluster, MailToAgent, Sent, StopMaster, Stream, Fine, master_of, sides_of}
 use Rattle.cluster_model.specs.Events.{Told}
@@ -16,7 +17,7 @@ use Rattle.cluster_laws.proofs.Histories.{reached}
 use Rattle.cluster_laws.proofs.Lists.{append_same, cons_same}
 use Rattle.cluster_laws.specs.declared.item.Item.{Item}
 use Rattle.cluster_laws.specs.Items.{StandIn, items_sent}
-use Rattle.cluster_laws.specs.Parts.{anew, configured, greeting, next_master, parts_of}
+use Rattle.cluster_laws.specs.Parts.{AreAgentsOf, anew, greeting, next_master, parts_of}
 use Rattle.cluster_laws.specs.Runs.{AreRising, ids_of}
 use Rattle.cluster_steps.specs.declared.entry.Sent as code
 use Rattle.cluster_steps.specs.declared.entry.Verdict.TheVariants as verdicts
@@ -42,7 +43,7 @@ use Rattle.cluster_parts.proofs.Outgoing.{kept_so, sides_send_nothing, told_so}
 pub record StopLaws : Type 0 where
   pub greet : GreetLaws
   pub stand : ItemsStand
-  pub fresh : (setup : Setup) (records : List Durable) → new_master setup.run (map configured records) ≡ master_of (opened_over setup records)
+  pub fresh : (setup : Setup) (agents : List ConfiguredAgent) (records : List Durable) → AreAgentsOf agents records → new_master setup.run agents ≡ master_of (opened_over setup records)
   pub state : (c : Cluster) → nat_lt c.world.run.number last_run ≡ true → (done c (master_stops c)).after ≡ (done (anew c) (greets_all (anew c))).after
   pub mails : (c : Cluster) → nat_lt c.world.run.number last_run ≡ true → (done c (master_stops c)).entry.outs.sent ≡ (done (anew c) (greets_all (anew c))).entry.outs.sent
   pub master : (c : Cluster) → master_of (anew c) ≡ next_master (master_of c)
@@ -52,29 +53,26 @@ pub record StopLaws : Type 0 where
   pub ids : (streams : List Stream) (opens : List Numbered) (told : List Told) → ids_of (streams_after streams opens told) ≡ kept_ids (kept_streams streams) ++ opens
   pub rising : (setup : Setup) (records : List Durable) (steps : List Marked) → AreRising (ids_of (history setup records steps).state.streams)
 
--- ---- of its sides a new master has the names and totals of the opening's records
-
-restarted_one : (s t : Side) → t.name ≡ s.name → t.total ≡ s.total → restarted t ≡ restarted s
-restarted_one s t e f = ap (λ (n : List ℕ). new_side n t.total) e ∙ ap (new_side s.name) f
+-- ---- of its sides a new master has the names of the opening's records
 
 restarted_grown : (olds news : List Channel) → Grown olds news → map restarted (sides_of news) ≡ map restarted (sides_of olds)
 restarted_grown [] [] h = refl
 restarted_grown [] (n ∷ ns) h = absurd h
 restarted_grown (o ∷ os) [] h = absurd h
-restarted_grown (o ∷ os) (n ∷ ns) h = cons_same (restarted n.side) (restarted o.side) (map restarted (sides_of ns)) (map restarted (sides_of os)) (restarted_one o.side n.side h.0.owner.0 h.0.owner.1) (restarted_grown os ns h.1)
+restarted_grown (o ∷ os) (n ∷ ns) h = cons_same (restarted n.side) (restarted o.side) (map restarted (sides_of ns)) (map restarted (sides_of os)) (ap new_side h.0.name) (restarted_grown os ns h.1)
 
 opened_again : (records : List Durable) → map restarted (sides_of (map open_channel records)) ≡ sides_of (map open_channel records)
 opened_again [] = refl
-opened_again (d ∷ ds) = ap (λ (ss : List Side). new_side d.name d.total ∷ ss) (opened_again ds)
+opened_again (d ∷ ds) = ap (λ (ss : List Side). new_side d.name ∷ ss) (opened_again ds)
 
 history_restarted : (setup : Setup) (records : List Durable) (steps : List Marked) → map restarted (sides_of (history setup records steps).state.world.channels) ≡ sides_of (map open_channel records)
 history_restarted setup records steps =
     reached (λ w. map restarted (sides_of w.channels) ≡ sides_of (map open_channel records)) (λ w h e. restarted_grown w.channels (after w h).channels (world_grown w h) ∙ e) setup records steps (opened_again records)
 
 -- the master that begins the next run is the model's next one
-next_is_new : StopLaws → (c : Cluster) (r : Reached c) → new_master (1 + c.world.run.number) (map configured r.records) ≡ master_of (anew c)
-next_is_new laws c r =
-    laws.fresh (unweighted (1 + c.world.run.number)) r.records
+next_is_new : StopLaws → (c : Cluster) (r : Reached c) (agents : List ConfiguredAgent) → AreAgentsOf agents r.records → new_master (1 + c.world.run.number) agents ≡ master_of (anew c)
+next_is_new laws c r agents of =
+    laws.fresh (unweighted (1 + c.world.run.number)) agents r.records of
     ∙ ap (λ (ss : List Side). record { run = new_run (1 + c.world.run.number); sides = ss; registers = new_registers }) (sym (subst (λ (x : Cluster). map restarted (sides_of x.world.channels) ≡ sides_of (map open_channel r.records)) (sym r.is) (history_restarted r.setup r.records r.steps)))
     ∙ sym (laws.master c)
 
@@ -215,12 +213,12 @@ falls_then : StopLaws → (c : Cluster) (made : Made) (n : Option (Option Master
 falls_then laws c made n items js ts r within stand later f =
     same_restart c (1 + c.world.run.number) made (ends_with verdicts.OutOfMemory) n None js items ts (kept_streams c.streams) f.is f.down f.same_items f.same_streams (anew_falls laws c items r within stand later)
 
-anew_here : StopLaws → (c : Cluster) (r : Reached c) (answered : Result Outs MasterFault) (made : Made) (started n : Option (Option Master)) (items js : List Item) (ts : List KeptStream) → AreWithin c.streams → StandIn c items → nat_lt c.world.run.number last_run ≡ true →
-    Starts answered started (1 + c.world.run.number) (map configured r.records) → Settles answered made started n items js (kept_streams c.streams) ts → Restarts c made (1 + c.world.run.number) n js ts
-anew_here laws c r (Ok outs) made started n items js ts within stand later (begins, brings) (inl t) =
+anew_here : StopLaws → (c : Cluster) (r : Reached c) (agents : List ConfiguredAgent) (answered : Result Outs MasterFault) (made : Made) (started n : Option (Option Master)) (items js : List Item) (ts : List KeptStream) → AreAgentsOf agents r.records → AreWithin c.streams → StandIn c items → nat_lt c.world.run.number last_run ≡ true →
+    Starts answered started (1 + c.world.run.number) agents → Settles answered made started n items js (kept_streams c.streams) ts → Restarts c made (1 + c.world.run.number) n js ts
+anew_here laws c r agents (Ok outs) made started n items js ts of within stand later (begins, brings) (inl t) =
     same_restart c (1 + c.world.run.number) made (tells told) n (Some (Some (master_of (anew c)))) js (items ++ map item_to told.mails) ts (heard [] [] (kept_streams c.streams))
     (t.is ∙ ap tells outs_so)
-    (t.same_master ∙ begins ∙ ap (λ (m : Master). Some (Some m)) (next_is_new laws c r))
+    (t.same_master ∙ begins ∙ ap (λ (m : Master). Some (Some m)) (next_is_new laws c r agents of))
     (t.more_items ∙ ap (λ (o : Outs). items ++ map item_to o.mails) outs_so)
     (t.more_streams ∙ ap (λ (o : Outs). heard o.opened o.events (kept_streams c.streams)) outs_so)
     (anew_told laws c r items within stand later)
@@ -229,15 +227,15 @@ anew_here laws c r (Ok outs) made started n items js ts within stand later (begi
     told = outs_of (master_of (anew c)) (greeting (master_of (anew c)))
 
     outs_so : outs ≡ told
-    outs_so = brings ∙ ap (λ (m : Master). outs_of m (greeting m)) (next_is_new laws c r)
-anew_here laws c r (Ok outs) made started n items js ts within stand later h (inr f) = falls_then laws c made n items js ts r within stand later f
-anew_here laws c r (Err fault.OutOfMemory) made started n items js ts within stand later h f = falls_then laws c made n items js ts r within stand later f
-anew_here laws c r (Err (fault.Refused refusal)) made started n items js ts within stand later h t = absurd h
+    outs_so = brings ∙ ap (λ (m : Master). outs_of m (greeting m)) (next_is_new laws c r agents of)
+anew_here laws c r agents (Ok outs) made started n items js ts of within stand later h (inr f) = falls_then laws c made n items js ts r within stand later f
+anew_here laws c r agents (Err fault.OutOfMemory) made started n items js ts of within stand later h f = falls_then laws c made n items js ts r within stand later f
+anew_here laws c r agents (Err (fault.Refused refusal)) made started n items js ts of within stand later h t = absurd h
 
-pub anew_made : StopLaws → (c : Cluster) (r : Reached c) (answered : Result Outs MasterFault) (made : Made) (master started n : Option (Option Master)) (items js : List Item) (ss ts : List KeptStream) → StandsFor c master items ss → nat_lt c.world.run.number last_run ≡ true →
-    Starts answered started (1 + c.world.run.number) (map configured r.records) → Settles answered made started n items js ss ts → Restarts c made (1 + c.world.run.number) n js ts
-anew_made laws c r answered made master started n items js ss ts stands later begins settles =
-    anew_here laws c r answered made started n items js ts stands.within stands.as_items later begins (subst (λ (xs : List KeptStream). Settles answered made started n items js xs ts) stands.as_streams settles)
+pub anew_made : StopLaws → (c : Cluster) (r : Reached c) (agents : List ConfiguredAgent) (answered : Result Outs MasterFault) (made : Made) (master started n : Option (Option Master)) (items js : List Item) (ss ts : List KeptStream) → AreAgentsOf agents r.records → StandsFor c master items ss → nat_lt c.world.run.number last_run ≡ true →
+    Starts answered started (1 + c.world.run.number) agents → Settles answered made started n items js ss ts → Restarts c made (1 + c.world.run.number) n js ts
+anew_made laws c r agents answered made master started n items js ss ts of stands later begins settles =
+    anew_here laws c r agents answered made started n items js ts of stands.within stands.as_items later begins (subst (λ (xs : List KeptStream). Settles answered made started n items js xs ts) stands.as_streams settles)
 
 -- ---- a new master opens no stream
 
@@ -247,10 +245,10 @@ rise_here laws c r =
     (subst (λ (xs : List Stream). AreRising (ids_of xs)) (sym (quiet_streams c.streams))
     (subst (λ (x : Cluster). AreRising (ids_of x.streams)) (sym r.is) (laws.rising r.setup r.records r.steps)))
 
-pub anew_rise : StopLaws → (c : Cluster) (r : Reached c) (answered : Result Outs MasterFault) (master started : Option (Option Master)) (items : List Item) (ss : List KeptStream) (run : ℕ) → StandsFor c master items ss → Starts answered started run (map configured r.records) →
+pub anew_rise : StopLaws → (c : Cluster) (r : Reached c) (agents : List ConfiguredAgent) (answered : Result Outs MasterFault) (master started : Option (Option Master)) (items : List Item) (ss : List KeptStream) (run : ℕ) → AreAgentsOf agents r.records → StandsFor c master items ss → Starts answered started run agents →
     IfOk answered (λ outs. AreRising (kept_ids ss ++ outs.opened))
-anew_rise laws c r (Err e) master started items ss run stands begins = tt
-anew_rise laws c r (Ok outs) master started items ss run stands begins =
+anew_rise laws c r agents (Err e) master started items ss run of stands begins = tt
+anew_rise laws c r agents (Ok outs) master started items ss run of stands begins =
     subst (λ (o : Outs). AreRising (kept_ids ss ++ o.opened)) (sym begins.1) (subst (λ (xs : List KeptStream). AreRising (kept_ids xs ++ [])) (sym stands.as_streams) (rise_here laws c r))
 
 pub behind_so : (run next : ℕ) → Some next ≡ run_behind run → (nat_lt run last_run ≡ true) × (next ≡ 1 + run)

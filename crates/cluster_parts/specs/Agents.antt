@@ -71,3 +71,8 @@ recorded a = a.part.agent.durable
 abbrev pub recorded_in : Option KeptAgent → Option Durable
 recorded_in None = None
 recorded_in (Some a) = Some (recorded a)
+
+-- whether there is an agent, with an open session
+abbrev pub is_in_session_in : Option KeptAgent → Bool
+is_in_session_in None = false
+is_in_session_in (Some a) = a.part.agent.in_session

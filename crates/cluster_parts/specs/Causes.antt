@@ -32,7 +32,7 @@ mail_due name (Some (items.ToMaster to)) = None
 
 -- the cause that the agent acts on, or no cause where a mail is for another one; nothing where no such mail was sent
 abbrev pub cause_due : List Item → List ℕ → StepCause → Option (Option Cause)
-cause_due sent name Start = Some (Some causes.Start)
+cause_due sent name (Start total) = Some (Some (causes.Start total))
 cause_due sent name Again = Some (Some causes.Again)
 cause_due sent name (Executor key state) = Some (Some (causes.Executor key state))
 cause_due sent name (Mail number) = mail_due name (item_at number sent)

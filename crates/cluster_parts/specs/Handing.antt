@@ -16,7 +16,7 @@ handed step = None
 
 -- whether a cause is a mail that can't be handed out
 abbrev pub is_withheld : (ℕ → Bool) → StepCause → Bool
-is_withheld gives Start = false
+is_withheld gives (Start total) = false
 is_withheld gives Again = false
 is_withheld gives (Executor key state) = false
 is_withheld gives (Mail n) = not (gives n)

@@ -72,6 +72,13 @@ impl ClusterAgent {
         self.agent.durable()
     }
 
+    /// Whether the agent has an open session.
+    pub fn is_in_session(&self) -> bool
+        ensures { result ≡ self.now.part.agent.in_session }
+    {
+        self.agent.is_in_session()
+    }
+
     /// Opens a draft of a cause, or says why there is none.
     pub(crate) fn prepare(
         &mut self,

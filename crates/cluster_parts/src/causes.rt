@@ -40,7 +40,7 @@ pub fn cause_due(
     ensures { Causes result (cause_due items.now name.now cause) }
 {
     match cause {
-        StepCause::Start => Ok(Some(Cause::Start)),
+        StepCause::Start(total) => Ok(Some(Cause::Start(total))),
         StepCause::Again => Ok(Some(Cause::Again)),
         StepCause::Executor(key, state) => Ok(Some(Cause::Executor(key, state))),
         StepCause::Mail(number) => match item_at(items, number) {

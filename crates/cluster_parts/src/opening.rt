@@ -5,7 +5,8 @@ ghost use Rattle.cluster_parts.specs.Masters.{Settles, StandsFor};
 ghost use Rattle.cluster_parts.specs.Moves.{kept_agents};
 ghost use Rattle.cluster_parts.specs.Opening.{Opens, Starts, up_over};
 ghost use Rattle.cluster_parts.specs.declared.masters.Made.{Made as MadeSo};
-ghost use Rattle.cluster_laws.specs.Parts.{configured};
+ghost use Rattle.agent_sides.specs.declared.config.ConfiguredAgent.{ConfiguredAgent};
+ghost use Rattle.cluster_laws.specs.Parts.{AreAgentsOf};
 ghost use Rattle.cluster_laws.specs.Runs.{AreRising};
 ghost use Rattle.cluster_laws.specs.declared.item.Item.{Item};
 ghost use Rattle.role_weights.specs.Weights.{RoleWeight};
@@ -49,13 +50,13 @@ pub struct Opened {
 
 /// A new master that greets every agent stands for the opening, and so do agents that come up over their records.
 fn openings_are_made()
-    ensures made { (setup : Setup) (records : List Record) (answered : Result OutsSo Fault) (made : MadeSo) (started n : Option (Option ModelMaster)) (js : List Item) (ts : List KeptStream) →
-        GoodOpening setup.run records → Starts answered started setup.run (map configured records) → Settles answered made started n [] js [] ts → made.verdict ≡ verdicts.Ok → StandsFor (opening setup records).state n js ts × (made.outputs ≡ outputs_of (open_cluster setup records).entry.outs) }
+    ensures made { (setup : Setup) (agents : List ConfiguredAgent) (records : List Record) (answered : Result OutsSo Fault) (made : MadeSo) (started n : Option (Option ModelMaster)) (js : List Item) (ts : List KeptStream) →
+        AreAgentsOf agents records → GoodOpening setup.run records → Starts answered started setup.run agents → Settles answered made started n [] js [] ts → made.verdict ≡ verdicts.Ok → StandsFor (opening setup records).state n js ts × (made.outputs ≡ outputs_of (open_cluster setup records).entry.outs) }
     ensures runs { (setup : Setup) (records : List Record) →
         (opening setup records).state.world.run.number ≡ setup.run }
     ensures agents { (setup : Setup) (records : List Record) →
         map up_over records ≡ kept_agents (opening setup records).state }
-    ensures rise { (run : ℕ) (records : List Record) (answered : Result OutsSo Fault) (started : Option (Option ModelMaster)) → Starts answered started run (map configured records) → IfOk answered (λ outs. AreRising (kept_ids [] ++ outs.opened)) }
+    ensures rise { (run : ℕ) (agents : List ConfiguredAgent) (records : List Record) (answered : Result OutsSo Fault) (started : Option (Option ModelMaster)) → AreAgentsOf agents records → Starts answered started run agents → IfOk answered (λ outs. AreRising (kept_ids [] ++ outs.opened)) }
 {
     fresh_masters_open();
     masters_begin_with_greetings();
@@ -103,7 +104,7 @@ pub fn open_parts<P: Post>(
     run: Run,
 ) -> Result<Opened, ClusterFault>
     requires good { GoodOpening run records.now }
-    requires configured { config.now ≡ map configured records.now }
+    requires agents { AreAgentsOf config.now records.now }
     ensures opens { (weights : List RoleWeight) →
         IfOk result (Opens (record { run = run; weights = weights }) records.now) }
     ensures refused { IfErr result (λ fault. fault ≡ OutOfMemory) }

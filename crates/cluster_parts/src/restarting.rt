@@ -1,13 +1,14 @@
 //! The master stops, and a new one begins the next run.
 
-ghost use Rattle.std.specs.Prelude.{◌≡◌, ◌+◌, ◌++◌, length, true, false, nat_lt, List, Option, None, Result, map, IfOk, ℕ};
+ghost use Rattle.std.specs.Prelude.{◌≡◌, ◌+◌, ◌++◌, length, true, false, nat_lt, List, Option, None, Result, IfOk, ℕ};
 ghost use Rattle.cluster_parts.specs.Masters.{Settles, StandsFor, ends_with};
 ghost use Rattle.cluster_parts.specs.Moves.{Reached};
 ghost use Rattle.cluster_parts.specs.Opening.{Starts};
 ghost use Rattle.cluster_parts.specs.Posts.{Grows};
 ghost use Rattle.cluster_parts.specs.Restarting.{Restarts, StandingOver, run_behind};
 ghost use Rattle.cluster_parts.specs.declared.masters.Made.{Made as MadeSo};
-ghost use Rattle.cluster_laws.specs.Parts.{configured};
+ghost use Rattle.agent_sides.specs.declared.config.ConfiguredAgent.{ConfiguredAgent};
+ghost use Rattle.cluster_laws.specs.Parts.{AreAgentsOf};
 ghost use Rattle.cluster_laws.specs.Runs.{AreRising};
 ghost use Rattle.cluster_laws.specs.declared.item.Item.{Item};
 ghost use Rattle.cluster_model.specs.Clusters.{Cluster};
@@ -39,12 +40,12 @@ const LAST_RUN: u16 = 65_535;
 
 /// A new master of the next run that greets every agent stands for the state behind a stop of the master; behind the last run none does.
 fn restarts_are_made()
-    ensures anew { (c : Cluster) (r : Reached c) (answered : Result Outs Fault) (made : MadeSo) (master started n : Option (Option ModelMaster)) (items js : List Item) (ss ts : List KeptStream) →
-        StandsFor c master items ss → nat_lt c.world.run.number last_run ≡ true → Starts answered started (1 + c.world.run.number) (map configured r.records) → Settles answered made started n items js ss ts → Restarts c made (1 + c.world.run.number) n js ts }
+    ensures anew { (c : Cluster) (r : Reached c) (agents : List ConfiguredAgent) (answered : Result Outs Fault) (made : MadeSo) (master started n : Option (Option ModelMaster)) (items js : List Item) (ss ts : List KeptStream) →
+        AreAgentsOf agents r.records → StandsFor c master items ss → nat_lt c.world.run.number last_run ≡ true → Starts answered started (1 + c.world.run.number) agents → Settles answered made started n items js ss ts → Restarts c made (1 + c.world.run.number) n js ts }
     ensures last { (c : Cluster) (master : Option (Option ModelMaster)) (items : List Item) (ss : List KeptStream) →
         Reached c → StandsFor c master items ss → nat_lt c.world.run.number last_run ≡ false → Restarts c (ends_with verdicts.Ok) c.world.run.number None items ss }
-    ensures rise { (c : Cluster) (r : Reached c) (answered : Result Outs Fault) (master started : Option (Option ModelMaster)) (items : List Item) (ss : List KeptStream) (run : ℕ) →
-        StandsFor c master items ss → Starts answered started run (map configured r.records) → IfOk answered (λ outs. AreRising (kept_ids ss ++ outs.opened)) }
+    ensures rise { (c : Cluster) (r : Reached c) (agents : List ConfiguredAgent) (answered : Result Outs Fault) (master started : Option (Option ModelMaster)) (items : List Item) (ss : List KeptStream) (run : ℕ) →
+        AreAgentsOf agents r.records → StandsFor c master items ss → Starts answered started run agents → IfOk answered (λ outs. AreRising (kept_ids ss ++ outs.opened)) }
 {
     fresh_masters_open();
     kept_streams_follow();
@@ -78,7 +79,7 @@ pub fn stop_master<P: Post>(
     run: &mut Run,
 ) -> Made
     requires { StandingOver config.now run.old master.old items.old streams.old }
-    ensures made { (c : Cluster) (r : Reached c) → config.now ≡ map configured r.records → c.world.run.number ≡ run.old → StandsFor c master.old items.old streams.old → Restarts c result run.new master.new items.new streams.new }
+    ensures made { (c : Cluster) (r : Reached c) → AreAgentsOf config.now r.records → c.world.run.number ≡ run.old → StandsFor c master.old items.old streams.old → Restarts c result run.new master.new items.new streams.new }
     ensures post { P.known post.new ≡ P.known post.old }
     ensures room { Grows (length items.old) (length items.new) (P.room post.new) }
 {

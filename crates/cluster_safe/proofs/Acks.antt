@@ -182,7 +182,7 @@ called_ok A n m stream (Acknowledge framework agent task uuid) h = known_ok A n 
 called_ok A n m stream (Reconcile framework tasks) h = known_ok A n m stream (framework_of m framework) (on_reconcile m tasks) (λ f e. reconcile_ok A n m tasks f)
 
 goes_ok : (A : Numbered → ℕ → Type 0) (n : ℕ) (m : Master) (s : Side) (mail : AgentMail) → Each (MoveOk A n) (goes_with m s mail).moves
-goes_ok A n m s (Report session number tasks) = if_ok A n (opens m.run s session number) (session_opens m s tasks) (nothing m) (mapped_ok A n (λ (f : Framework). AtSide s.name (SendEnd f.id)) (λ f. tt) (filter (is_to_end m tasks) m.registers.frameworks)) tt
+goes_ok A n m s (Report session number tasks total) = if_ok A n (opens m.run s session number) (session_opens m s tasks) (nothing m) (mapped_ok A n (λ (f : Framework). AtSide s.name (SendEnd f.id)) (λ f. tt) (filter (is_to_end m tasks) m.registers.frameworks)) tt
 goes_ok A n m s (Applied session count) = tt
 goes_ok A n m s (Update session key k state ended) = tt
 

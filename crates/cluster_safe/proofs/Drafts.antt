@@ -1,5 +1,5 @@
 -- What the agent prepares may stand as a draft.
-use Rattle.std.proofs.Common.{◌≡◌, ◌≢◌, ◌⊎◌, ℕ, zero-le, le_refl, le_trans, suc, max, ◌≤◌, ◌<◌, Bool, true, false, cond, not, ◌&&◌, ◌||◌, eqb, leb, nat_lt, nat_le, List, [], ◌∷◌, ◌++◌, drop, take, slice_get, Some, None, Result, Ok, Err, map, filter, refl, sym, ap, ◌∙◌, subst, inl, inr, arith, append_assoc}
+use Rattle.std.proofs.Common.{◌≡◌, ◌≢◌, ◌⊎◌, ℕ, zero-le, le_refl, le_trans, suc, max, ◌≤◌, ◌<◌, Bool, true, false, cond, not, ◌&&◌, ◌||◌, eqb, leb, nat_lt, nat_le, List, [], ◌∷◌, ◌++◌, drop, take, slice_get, Option, Some, None, Result, Ok, Err, map, filter, refl, sym, ap, ◌∙◌, subst, inl, inr, arith, append_assoc}
 use Rattle.std.specs.Prelude.{⊤, if◌then◌else◌, ◌==◌}
 use Rattle.std.specs.List.{AllByRecursion as Each, list_any}
 use Rattle.std.proofs.lemmas.Bool.{cond_both, cases_lt}
@@ -8,6 +8,7 @@ use Rattle.std.proofs.lemmas.List.{map-append}
 use Rattle.names_core.specs.Ids.{Numbered}
 use Rattle.names_core.specs.declared.state.TaskState.{TaskState}
 use Rattle.quantity.specs.declared.rows.Row.{Row}
+use Rattle.quantity.specs.Rows.{amount, covers}
 use Rattle.mails.specs.declared.mail.Command.{Command}
 use Rattle.mails.specs.declared.mail.Command.TheVariants.{Launch, Kill, Ack, EndFramework}
 use Rattle.mails.specs.declared.mail.MasterMail.{MasterMail}
@@ -18,15 +19,16 @@ use Rattle.mails.specs.declared.record.RecordedTask.{RecordedTask}
 use Rattle.mails.specs.declared.refusal.AgentRefusal.{AgentRefusal}
 use Rattle.mails.specs.declared.cause.Cause.{Cause}
 use Rattle.mails.specs.declared.cause.Cause.TheVariants.{Start, Mail, Executor, Again}
-use Rattle.mails.specs.declared.refusal.AgentRefusal.TheVariants.{OldSession, NotNext, NoSuchTask, Ended, NoRoom, UpdatesFull, SessionsSpent}
+use Rattle.mails.specs.declared.refusal.AgentRefusal.TheVariants.{OldSession, NotNext, NoSuchTask, Ended, NoRoom, UpdatesFull, SessionsSpent, TotalLess}
 use Rattle.names_core.specs.declared.state.TaskState.TheVariants.{Killed}
 use Rattle.stream_core.specs.Updates.{is_full, is_done}
 use Rattle.cluster_model.specs.Ids.{same, last_number}
-use Rattle.cluster_model.specs.Agents.{Agent, Draft, has_ended, is_task, fronts, front_at, reopened, reports, opens_next, stated, acknowledged, launched_task, tasks_after, is_front_at, fronts_after, with_tasks, after_command, applies, has_room, hears_mail, needs_place, next_of}
+use Rattle.cluster_model.specs.Agents.{Agent, Draft, has_ended, is_task, fronts, front_at, owning, reopened, reports, opens_next, opens_again, starts, stated, acknowledged, launched_task, tasks_after, is_front_at, fronts_after, with_tasks, after_command, applies, has_room, hears_mail, needs_place, next_of}
 use Rattle.cluster_model.specs.Channels.{InRun}
-use Rattle.cluster_safe.specs.Facts.{Stake, Past, Fades, task_stake, launches, coming, stakes, NotOf, EndsKept, Ordered, StateOk, DownOk, UpOk, drafted, mails_of, states_of, PastOk, Facts}
+use Rattle.cluster_safe.specs.Facts.{Stake, Past, Fades, task_stake, launches, coming, stakes, NotOf, EndsKept, Ordered, AtMost, StateOk, DownOk, IsReportOf, UpOk, drafted, mails_of, states_of, PastOk, Facts}
 use Rattle.cluster_safe.proofs.Ids.{same_refl}
 use Rattle.cluster_safe.proofs.Orders.{each_append, each_map, fades_refl, fades_append, stated_aged, acknowledged_aged, fades_kept, fades_mapped, fades_filtered}
+use Rattle.cluster_safe.proofs.Amounts.{covers_is}
 use Rattle.cluster_safe.proofs.Commands.{drop_get, get_length, ordered_drop, ends_faded, ends_take_more}
 use Rattle.cluster_safe.proofs.States.{Follows, ok_followed, follows_reopened, report_ok, fronts_ok, front_at_ok, applied_ok, DraftOk, follows_refl, retold_past, draft_retold}
 
@@ -53,10 +55,10 @@ past_retold p session run past le most = record { none = past.none; ordered = pa
     by_place s u below (inr h) (inl k) = rw (told_before p session run s h, told_after p session run u k) (le_trans (past.rises s session h) le)
     by_place s u below (inr h) (inr k) = rw (told_before p session run s h, told_before p session run u k) (past.rises s u below)
 
-up_retold : (p : Past) (next : Numbered) (total : List Row) (a : Agent) (more : List Agent) (run : ℕ) (m : AgentMail) → UpOk p next total (a ∷ more) m → UpOk (retold_past p a.session run) next total (a ∷ more) m
-up_retold p next total a more run (Report session r tasks) h = (told_before p a.session run session h.2.0.0 ∙ h.0, h.1, h.2)
-up_retold p next total a more run (Applied session count) h = h
-up_retold p next total a more run (Update session key k state ended) h = h
+up_retold : (p : Past) (next : Numbered) (a : Agent) (more : List Agent) (run : ℕ) (m : AgentMail) → UpOk p next (a ∷ more) m → UpOk (retold_past p a.session run) next (a ∷ more) m
+up_retold p next a more run (Report session r tasks total) h = (told_before p a.session run session h.2.0.reached ∙ h.0, h.1, each_map (IsReportOf p session tasks total) (IsReportOf (retold_past p a.session run) session tasks total) (λ b k. record { reached = k.reached; owns = k.owns; same = k.same; covered = k.covered }) (a ∷ more) h.2)
+up_retold p next a more run (Applied session count) h = h
+up_retold p next a more run (Update session key k state ended) h = h
 
 down_retold : (p : Past) (session run : ℕ) (m : MasterMail) → DownOk p m → DownOk (retold_past p session run) m
 down_retold p session run (Hello r dead) h = h
@@ -75,8 +77,8 @@ facts_retold p l run f none le most = record {
   when_shut = λ e. let o = f.when_shut e in record { offers = o.offers; booked = o.booked; closed = rw peak_same o.closed };
   states = (state_retold p l.next_key l.total l.agent run s, subst (λ d. Each (StateOk (retold_past p l.agent.session run) l.next_key l.total) (drafted d)) (sym none) tt);
   downs = each_map (DownOk p) (DownOk (retold_past p l.agent.session run)) (down_retold p l.agent.session run) l.to_agent f.downs;
-  ups = each_map (UpOk p l.next_key l.total (states_of l)) (UpOk (retold_past p l.agent.session run) l.next_key l.total (states_of l)) (up_retold p l.next_key l.total l.agent (drafted l.draft) run) l.to_master f.ups;
-  pending = subst (λ d. Each (UpOk (retold_past p l.agent.session run) l.next_key l.total (drafted d)) (mails_of d)) (sym none) tt;
+  ups = each_map (UpOk p l.next_key (states_of l)) (UpOk (retold_past p l.agent.session run) l.next_key (states_of l)) (up_retold p l.next_key l.agent (drafted l.draft) run) l.to_master f.ups;
+  pending = subst (λ d. Each (UpOk (retold_past p l.agent.session run) l.next_key (drafted d)) (mails_of d)) (sym none) tt;
 }
   where
     s : StateOk p l.next_key l.total l.agent
@@ -89,9 +91,9 @@ facts_retold p l run f none le most = record {
 abbrev pub Draftable : (Numbered → List TaskState) → InRun → Draft → Type 0
 Draftable sent l d = (p : Past) × Facts p l × DraftOk p l.next_key l.total l.agent d × (p.sent ≡ sent)
 
-draft_reopened : (p : Past) (l : InRun) (session run : ℕ) → Facts p l → l.draft ≡ None → l.agent.session < session → l.agent.run ≤ run → run ≤ p.latest → Draftable p.sent l (reports (reopened l.agent session run))
-draft_reopened p l session run f none lt le most =
-    (q, g, record { follows = fol; ok = ok; mails = (report_ok q l.next_key l.total (reopened l.agent session run) g.past ok, fronts_ok q l.next_key l.total (reopened l.agent session run) ok) }, refl)
+draft_reopened : (p : Past) (l : InRun) (total : List Row) (session run : ℕ) → Facts p l → l.draft ≡ None → AtMost l.agent.total total → l.agent.session < session → l.agent.run ≤ run → run ≤ p.latest → Draftable p.sent l (reports (reopened (owning total l.agent) session run))
+draft_reopened p l total session run f none more lt le most =
+    (q, g, record { follows = fol; ok = ok; mails = (report_ok q l.next_key l.total (reopened (owning total l.agent) session run) g.past ok, fronts_ok q l.next_key l.total (reopened (owning total l.agent) session run) ok) }, refl)
   where
     q : Past
     q = retold_past p l.agent.session run
@@ -99,31 +101,31 @@ draft_reopened p l session run f none lt le most =
     g : Facts q l
     g = facts_retold p l run f none le most
 
-    fol : Follows q (reopened l.agent session run) l.agent
-    fol = follows_reopened q l.agent session run g.past g.states.0.peak lt
+    fol : Follows q (reopened (owning total l.agent) session run) l.agent
+    fol = follows_reopened q l.agent total session run g.past g.states.0.peak more lt
 
-    ok : StateOk q l.next_key l.total (reopened l.agent session run)
-    ok = ok_followed q l.next_key l.total (reopened l.agent session run) l.agent fol g.states.0 refl (told_after p l.agent.session run session lt) (λ e. zero-le) (λ e. tt)
+    ok : StateOk q l.next_key l.total (reopened (owning total l.agent) session run)
+    ok = ok_followed q l.next_key l.total (reopened (owning total l.agent) session run) l.agent fol g.states.0 (told_after p l.agent.session run session lt) (λ e. zero-le) (λ e. tt)
 
-draft_same : (p : Past) (l : InRun) (mails : List AgentMail) → Facts p l → Each (UpOk p l.next_key l.total (l.agent ∷ [])) mails → Draftable p.sent l (record { after = l.agent; mails = mails })
+draft_same : (p : Past) (l : InRun) (mails : List AgentMail) → Facts p l → Each (UpOk p l.next_key (l.agent ∷ [])) mails → Draftable p.sent l (record { after = l.agent; mails = mails })
 draft_same p l mails f h = (p, f, record { follows = follows_refl p l.agent; ok = f.states.0; mails = h }, refl)
 
 draft_executor : (p : Past) (l : InRun) (key : Numbered) (state : TaskState) → Facts p l →
     Draftable p.sent l (record { after = with_tasks l.agent (map (stated key state) l.agent.tasks) l.agent.applied; mails = if l.agent.in_session then front_at key (with_tasks l.agent (map (stated key state) l.agent.tasks) l.agent.applied) else [] })
 draft_executor p l key state f =
-    (p, f, record { follows = fol; ok = ok; mails = cond_both l.agent.in_session (front_at key after) [] (Each (UpOk p l.next_key l.total (after ∷ []))) (λ e. front_at_ok p l.next_key l.total after key ok) (λ e. tt) }, refl)
+    (p, f, record { follows = fol; ok = ok; mails = cond_both l.agent.in_session (front_at key after) [] (Each (UpOk p l.next_key (after ∷ []))) (λ e. front_at_ok p l.next_key l.total after key ok) (λ e. tt) }, refl)
   where
     after : Agent
     after = with_tasks l.agent (map (stated key state) l.agent.tasks) l.agent.applied
 
     fol : Follows p after l.agent
-    fol = record { session = le_refl l.agent.session; fades = fades_append (map task_stake (map (stated key state) l.agent.tasks)) (map task_stake l.agent.tasks) (coming p l.agent) (coming p l.agent) (fades_mapped (stated key state) (stated_aged key state) l.agent.tasks) (fades_refl (coming p l.agent)) }
+    fol = record { session = le_refl l.agent.session; owns = λ name. le_refl (amount name l.agent.total); same = λ e. refl; fades = fades_append (map task_stake (map (stated key state) l.agent.tasks)) (map task_stake l.agent.tasks) (coming p l.agent) (coming p l.agent) (fades_mapped (stated key state) (stated_aged key state) l.agent.tasks) (fades_refl (coming p l.agent)) }
 
     s : StateOk p l.next_key l.total l.agent
     s = f.states.0
 
     ok : StateOk p l.next_key l.total after
-    ok = ok_followed p l.next_key l.total after l.agent fol s refl s.told s.applied (λ e. ends_faded (take l.agent.applied (p.ever l.agent.session)) (stakes p after) (stakes p l.agent) fol.fades (s.ends e))
+    ok = ok_followed p l.next_key l.total after l.agent fol s s.told s.applied (λ e. ends_faded (take l.agent.applied (p.ever l.agent.session)) (stakes p after) (stakes p l.agent) fol.fades (s.ends e))
 
 -- the next command
 
@@ -187,16 +189,16 @@ draft_command p l w f up peak at_place =
     s = f.states.0
 
     fol : Follows p after l.agent
-    fol = record { session = le_refl l.agent.session; fades = fades_command p l.agent w up at_place }
+    fol = record { session = le_refl l.agent.session; owns = λ name. le_refl (amount name l.agent.total); same = λ e. refl; fades = fades_command p l.agent w up at_place }
 
     ok : StateOk p l.next_key l.total after
-    ok = ok_followed p l.next_key l.total after l.agent fol s refl s.told (λ e. get_length (p.ever l.agent.session) l.agent.applied w at_place)
+    ok = ok_followed p l.next_key l.total after l.agent fol s s.told (λ e. get_length (p.ever l.agent.session) l.agent.applied w at_place)
         (λ e. ends_take_more l.agent.applied (p.ever l.agent.session) w (stakes p after) at_place (ends_faded (take l.agent.applied (p.ever l.agent.session)) (stakes p after) (stakes p l.agent) fol.fades (s.ends up)) (ends_command p l.agent w f.past up at_place))
 
-    by_kind : (v : Command) (before b : Agent) → StateOk p l.next_key l.total b → Each (UpOk p l.next_key l.total (b ∷ [])) (fronts_after v before b)
+    by_kind : (v : Command) (before b : Agent) → StateOk p l.next_key l.total b → Each (UpOk p l.next_key (b ∷ [])) (fronts_after v before b)
     by_kind (Launch job offers) before b h = tt
     by_kind (Kill key) before b h = front_at_ok p l.next_key l.total b key h
-    by_kind (Ack key k) before b h = cond_both (is_front_at key k before.tasks) (front_at key b) [] (Each (UpOk p l.next_key l.total (b ∷ []))) (λ e. front_at_ok p l.next_key l.total b key h) (λ e. tt)
+    by_kind (Ack key k) before b h = cond_both (is_front_at key k before.tasks) (front_at key b) [] (Each (UpOk p l.next_key (b ∷ []))) (λ e. front_at_ok p l.next_key l.total b key h) (λ e. tt)
     by_kind (EndFramework framework) before b h = tt
 
 abbrev pub AllOk : (Draft → Type 0) → Result Draft AgentRefusal → Type 0
@@ -207,18 +209,26 @@ pub all_if : (b : Bool) (x y : Result Draft AgentRefusal) (P : Draft → Type 0)
 all_if b x y P f g = cond_both b x y (AllOk P) f g
 
 abbrev pub CauseOk : Past → Cause → Type 0
-CauseOk p Start = ⊤
+CauseOk p (Start total) = ⊤
 CauseOk p Again = ⊤
 CauseOk p (Mail to) = ⊥
 CauseOk p (Executor key state) = ⊤
 
-reopen_ok : (p : Past) (l : InRun) (last run : ℕ) → Facts p l → l.draft ≡ None → l.agent.session ≤ last → l.agent.run ≤ run → run ≤ p.latest → AllOk (Draftable p.sent l) (opens_next l.agent last run)
-reopen_ok p l last run f none le higher most = all_if (nat_le last_number last) (Err SessionsSpent) (Ok (reports (reopened l.agent (suc last) run))) (Draftable p.sent l)
-    (λ e. tt) (λ e. draft_reopened p l (suc last) run f none (omega arith) higher most)
+reopen_ok : (p : Past) (l : InRun) (total : List Row) (last run : ℕ) → Facts p l → l.draft ≡ None → AtMost l.agent.total total → l.agent.session ≤ last → l.agent.run ≤ run → run ≤ p.latest → AllOk (Draftable p.sent l) (opens_next (owning total l.agent) last run)
+reopen_ok p l total last run f none more le higher most = all_if (nat_le last_number last) (Err SessionsSpent) (Ok (reports (reopened (owning total l.agent) (suc last) run))) (Draftable p.sent l)
+    (λ e. tt) (λ e. draft_reopened p l total (suc last) run f none more (omega arith) higher most)
+
+again_ok : (p : Past) (l : InRun) (total : List Row) → Facts p l → l.draft ≡ None → AtMost l.agent.total total → AllOk (Draftable p.sent l) (opens_again (owning total l.agent))
+again_ok p l total f none more = reopen_ok p l total l.agent.session l.agent.run f none more (le_refl l.agent.session) (le_refl l.agent.run) (subst (λ n. n ≤ p.latest) f.states.0.told (f.past.runs l.agent.session))
+
+-- a start opens a session, with what it owned or with no less
+pub starts_ok : (D : Draft → Type 0) (a : Agent) (o : Option (List Row)) → AllOk D (opens_again a) → ((total : List Row) → covers total a.total ≡ true → AllOk D (opens_again (owning total a))) → AllOk D (starts a o)
+starts_ok D a None same grown = same
+starts_ok D a (Some total) same grown = all_if (covers total a.total) (opens_again (owning total a)) (Err TotalLess) D (λ e. grown total e) (λ e. tt)
 
 pub next_ok : (p : Past) (l : InRun) (c : Cause) → Facts p l → l.draft ≡ None → CauseOk p c → AllOk (Draftable p.sent l) (next_of l.agent c)
-next_ok p l Start f none h = all_if (eqb l.agent.run 0) (Err OldSession) (opens_next l.agent l.agent.session l.agent.run) (Draftable p.sent l)
-    (λ e. tt) (λ e. reopen_ok p l l.agent.session l.agent.run f none (le_refl l.agent.session) (le_refl l.agent.run) (subst (λ n. n ≤ p.latest) f.states.0.told (f.past.runs l.agent.session)))
+next_ok p l (Start total) f none h = all_if (eqb l.agent.run 0) (Err OldSession) (starts l.agent total) (Draftable p.sent l)
+    (λ e. tt) (λ e. starts_ok (Draftable p.sent l) l.agent total (again_ok p l l.agent.total f none (λ name. le_refl (amount name l.agent.total))) (λ more c. again_ok p l more f none (covers_is more l.agent.total c)))
 next_ok p l Again f none h = draft_same p l (fronts l.agent) f (fronts_ok p l.next_key l.total l.agent f.states.0)
 next_ok p l (Executor key state) f none h =
     all_if (not (list_any (is_task key) l.agent.tasks)) (Err NoSuchTask) third (Draftable p.sent l) (λ e. tt)
@@ -241,7 +251,7 @@ pub mail_ok : (p : Past) (l : InRun) (m : MasterMail) → Facts p l → l.draft 
 mail_ok p l (Hello run dead) f none h =
     all_if (nat_lt run l.agent.run) (Err OldSession) later (Draftable p.sent l) (λ e. tt)
     (λ e. all_if ((nat_lt l.agent.run run || nat_le l.agent.session dead) || not l.agent.in_session) (opens_next l.agent (max l.agent.session dead) run) (Ok (reports l.agent)) (Draftable p.sent l)
-    (λ d. reopen_ok p l (max l.agent.session dead) run f none (omega arith) (let k : l.agent.run ≤ run = grind (arith, nat_tests) in k) h.0)
+    (λ d. reopen_ok p l l.agent.total (max l.agent.session dead) run f none (λ name. le_refl (amount name l.agent.total)) (omega arith) (let k : l.agent.run ≤ run = grind (arith, nat_tests) in k) h.0)
     (λ d. (p, f, draft_retold p l.next_key l.total l.agent f.past f.states.0, refl)))
   where
     later : Result Draft AgentRefusal

@@ -39,7 +39,7 @@ TellOk A event = ⊤
 
 -- P holds of the key, the number and the state of an update that a mail tells
 abbrev pub MailOk : (Numbered → ℕ → TaskState → Type 0) → AgentMail → Type 0
-MailOk P (Report session run tasks) = ⊤
+MailOk P (Report session run tasks total) = ⊤
 MailOk P (Applied session count) = ⊤
 MailOk P (Update session key k state ended) = P key k state
 
@@ -140,7 +140,7 @@ loses_ok : (A : List ℕ → Numbered → ℕ → TaskState → Type 0) (m : Mas
 loses_ok A m agent bs = flat_ok A (λ (b : Booked). if b.ended then [] else tells m b.job.framework (UPDATE b.job.name Lost (Some agent) None)) (λ b. told_if A b.ended [] (tells m b.job.framework (UPDATE b.job.name Lost (Some agent) None)) tt (tells_ok A m b.job.framework (UPDATE b.job.name Lost (Some agent) None) tt)) bs
 
 goes_events : (A : List ℕ → Numbered → ℕ → TaskState → Type 0) (m : Master) (s : Side) (mail : AgentMail) → MailOk (A s.name) mail → Each (EventOk A) (goes_with m s mail).events
-goes_events A m s (Report session number tasks) h = if_events A (opens m.run s session number) (session_opens m s tasks) (nothing m)
+goes_events A m s (Report session number tasks total) h = if_events A (opens m.run s session number) (session_opens m s tasks) (nothing m)
     (each_append (EventOk A) (rescinds m s.offers) (loses m s.name (filter (λ b. not (is_reported tasks b)) s.booked)) (rescinds_ok A m s.offers) (loses_ok A m s.name (filter (λ b. not (is_reported tasks b)) s.booked))) tt
 goes_events A m s (Applied session count) h = tt
 goes_events A m s (Update session key k state ended) h = flat_ok A (news_of m s.name key k state)

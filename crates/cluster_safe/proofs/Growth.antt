@@ -19,10 +19,10 @@ use Rattle.mails.specs.declared.cause.Cause.TheVariants.{Start, Mail, Executor, 
 use Rattle.mails.specs.declared.refusal.AgentRefusal.{AgentRefusal}
 use Rattle.mails.specs.declared.refusal.AgentRefusal.TheVariants.{NotForMe, OldSession, NotNext, NoSuchTask, Ended, NoRoom, UpdatesFull, SessionsSpent}
 use Rattle.cluster_model.specs.Ids.{same, last_number}
-use Rattle.cluster_model.specs.Agents.{Agent, Draft, has_ended, is_task, front_at, reopened, reports, opens_next, stated, acknowledged, launched_task, tasks_after, with_tasks, applies, has_room, hears_mail, needs_place, executes, next_of}
+use Rattle.cluster_model.specs.Agents.{Agent, Draft, has_ended, is_task, front_at, owning, reopened, reports, opens_next, starts, stated, acknowledged, launched_task, tasks_after, with_tasks, applies, has_room, hears_mail, needs_place, executes, next_of}
 use Rattle.cluster_safe.specs.Growth.{Continues, OnlyGrow}
 use Rattle.cluster_safe.proofs.Orders.{each_append, each_map}
-use Rattle.cluster_safe.proofs.Drafts.{AllOk, all_if}
+use Rattle.cluster_safe.proofs.Drafts.{AllOk, all_if, starts_ok}
 
 abbrev Old : List RecordedTask → RecordedTask → Type 0
 Old olds t = Continues olds t ⊎ (t.updates.states ≡ [])
@@ -105,7 +105,8 @@ executes_grows a key state =
     third = if list_any (λ t. is_task key t && has_ended t) a.durable.tasks then Err Ended else second
 
 next_grows : (a : Agent) (cause : Cause) → AllOk (DraftGrows a) (next_of a cause)
-next_grows a Start = all_if (a.durable.run == 0) (Err OldSession) (opens_next a a.durable.session a.durable.run) (DraftGrows a) (λ e. tt) (λ e. opens_grows a a.durable.session a.durable.run)
+next_grows a (Start total) = all_if (a.durable.run == 0) (Err OldSession) (starts a total) (DraftGrows a) (λ e. tt)
+    (λ e. starts_ok (DraftGrows a) a total (opens_grows a a.durable.session a.durable.run) (λ more c. opens_grows (owning more a) a.durable.session a.durable.run))
 next_grows a Again = kept a.durable.tasks
 next_grows a (Mail to) = all_if (bytes_eq to.agent a.durable.name) (hears_mail a to.mail) (Err NotForMe) (DraftGrows a) (λ e. mail_grows a to.mail) (λ e. tt)
 next_grows a (Executor key state) = executes_grows a key state

@@ -7,6 +7,8 @@ use Rattle.mails.specs.declared.call.Call.TheVariants.{Subscribe, Teardown, Acce
 use Rattle.mails.specs.declared.call.Call.TheVariants as calls
 use Rattle.names_core.specs.Ids.{Numbered}
 use Rattle.names_core.specs.declared.state.TaskState.{TaskState}
+use Rattle.quantity.specs.declared.rows.Row.{Row}
+use Rattle.quantity.specs.Rows.{covers}
 use Rattle.mails.specs.declared.task.Job.{Job}
 use Rattle.mails.specs.declared.task.Booked.{Booked}
 use Rattle.mails.specs.declared.mail.MasterMail.{MasterMail}
@@ -17,10 +19,10 @@ use Rattle.mails.specs.declared.refusal.AgentRefusal.{AgentRefusal}
 use Rattle.mails.specs.declared.refusal.MasterRefusal.{MasterRefusal}
 use Rattle.mails.specs.declared.call.Call.{Call}
 use Rattle.mails.specs.declared.cause.Cause.TheVariants.{Start, Executor, Again}
-use Rattle.mails.specs.declared.refusal.AgentRefusal.TheVariants.{NotForMe, OldSession, NoSuchTask, Ended, NoRoom, UpdatesFull, SessionsSpent}
+use Rattle.mails.specs.declared.refusal.AgentRefusal.TheVariants.{NotForMe, OldSession, NoSuchTask, Ended, NoRoom, UpdatesFull, SessionsSpent, TotalLess}
 use Rattle.stream_core.specs.Updates.{is_full}
 use Rattle.cluster_model.specs.Ids.{same, last_number, last_run}
-use Rattle.cluster_model.specs.Agents.{Agent, Draft, has_ended, is_task, front_at, reopened, reports, opens_next, stated, with_tasks, hears_mail, needs_place, executes, next_of}
+use Rattle.cluster_model.specs.Agents.{Agent, Draft, has_ended, is_task, front_at, owning, reopened, reports, opens_next, opens_again, starts, stated, with_tasks, hears_mail, needs_place, executes, next_of}
 use Rattle.cluster_model.specs.Sides.{Run, Side}
 use Rattle.cluster_model.specs.Channels.{Channel, AgentStep, Draw, DrawMail, Adopt, StopWithout, StopWith, Hear, ByAgent, World, Happening, At, Restart, Halt, after, after_all, open_channel, open_world, AllFit}
 use Rattle.cluster_model.specs.Openings.{recorded_jobs, KeysOnce, GoodOpening}
@@ -216,6 +218,10 @@ room_if false x y p q = q
 opens_room : (a : Agent) (last run : ℕ) → HasRoom (opens_next a last run)
 opens_room a last run = room_if (nat_le last_number last) (Err SessionsSpent) (Ok (reports (reopened a (suc last) run))) tt tt
 
+starts_room : (a : Agent) (total : Option (List Row)) → HasRoom (starts a total)
+starts_room a None = opens_room a a.session a.run
+starts_room a (Some total) = room_if (covers total a.total) (opens_again (owning total a)) (Err TotalLess) (opens_room (owning total a) a.session a.run) tt
+
 executes_room : (a : Agent) (key : Numbered) (state : TaskState) → HasRoom (executes a key state)
 executes_room a key state = room_if (not (list_any (is_task key) a.tasks)) (Err NoSuchTask) third tt (room_if (list_any (λ t. is_task key t && has_ended t) a.tasks) (Err Ended) second tt (room_if (needs_place state && list_any (λ t. is_task key t && is_full t.updates) a.tasks) (Err UpdatesFull) first tt tt))
   where
@@ -240,7 +246,7 @@ draws_mail_legal A T S c x (Some (Down agent place)) h = by_test A T S c (bytes_
     (draws_mail_at_legal A T S c x place (slice_get x.to_agent place) (λ m e. h place m e)) (legal_effect A T S c (happening c (AgentRefused NotForMe) []) tt tt tt (λ k. k))
 
 prepares_legal : (A : Numbered → ℕ → Type 0) (T : List ℕ → Numbered → ℕ → TaskState → Type 0) (S : Option Numbered → Call → Type 0) (c : Cluster) (cause : StepCause) (x : Channel) → Roomy x → Legal A T S c (prepares c cause x)
-prepares_legal A T S c ByStart x h = drafts_legal A T S c x (Draw Start) (next_of x.agent Start) (room_if (x.agent.run == 0) (Err OldSession) (opens_next x.agent x.agent.session x.agent.run) tt (opens_room x.agent x.agent.session x.agent.run))
+prepares_legal A T S c (ByStart total) x h = drafts_legal A T S c x (Draw (Start total)) (next_of x.agent (Start total)) (room_if (x.agent.run == 0) (Err OldSession) (starts x.agent total) tt (starts_room x.agent total))
 prepares_legal A T S c ByAgain x h = drafts_legal A T S c x (Draw Again) (next_of x.agent Again) tt
 prepares_legal A T S c (ByExecutor key state) x h = drafts_legal A T S c x (Draw (Executor key state)) (next_of x.agent (Executor key state)) (executes_room x.agent key state)
 prepares_legal A T S c (ByMail number) x h = draws_mail_legal A T S c x (post_at c number) h
@@ -495,7 +501,7 @@ extended_ok records start S h (Ok d) l ok = record {
 extended_ok records start S h (Err refusal) l ok = ok
 
 mail_tells : (A : Numbered → ℕ → Type 0) (u : Numbered → List TaskState) (m : AgentMail) → UpTold Always A m → MailAt u m → MailOk (λ key k state. Before A key k × (slice_get (u key) k ≡ Some state)) m
-mail_tells A u (Report session number tasks) h l = tt
+mail_tells A u (Report session number tasks total) h l = tt
 mail_tells A u (Applied session count) h l = tt
 mail_tells A u (mails.Update session key k state ended) h l = (h, l)
 

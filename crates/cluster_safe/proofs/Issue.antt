@@ -15,7 +15,7 @@ use Rattle.mails.specs.declared.mail.AgentMail.TheVariants.{Report, Applied, Upd
 use Rattle.cluster_model.specs.Agents.{Agent}
 use Rattle.cluster_model.specs.Sides.{Side, unended, job_rows, just_booked}
 use Rattle.cluster_model.specs.Channels.{InRun}
-use Rattle.cluster_safe.specs.Facts.{Less, UpTo, Stake, Past, Within, live, launches, stakes, Distinct, InOrder, EndsKept, Ordered, EndsTorn, AtMost, EndedAt, Grown, StateOk, DownOk, UpOk, drafted, mails_of, states_of, PastOk, OpenOk, Facts}
+use Rattle.cluster_safe.specs.Facts.{Less, UpTo, Stake, Past, Within, live, launches, stakes, Distinct, InOrder, EndsKept, Ordered, EndsTorn, AtMost, EndedAt, Grown, StateOk, DownOk, IsReportOf, UpOk, drafted, mails_of, states_of, PastOk, OpenOk, Facts}
 use Rattle.cluster_safe.proofs.Ids.{less_upto, upto_trans, less_differs}
 use Rattle.cluster_safe.proofs.Orders.{each_append, each_map, each_both, within_refl, within_more, within_append}
 use Rattle.cluster_safe.proofs.Amounts.{within_at_most}
@@ -121,8 +121,8 @@ state_issued p l w next torn past o c a s cov = record {
   distinct = cases Distinct (λ same. distinct_more l.next_key (stakes p a) (launches (w ∷ [])) s.distinct s.below (launches_one w) c.fresh) s.distinct;
   order = cases InOrder (λ same. order_more l.next_key (stakes p a) (launches (w ∷ [])) s.order s.below (launches_in_order w) c.fresh) s.order;
   below = cases (Each (λ s. Less s.job.key next)) (λ same. each_append (λ s. Less s.job.key next) (stakes p a) (launches (w ∷ [])) below_next c.below) below_next;
-  room = cases (λ ss. AtMost (job_rows (live ss)) l.total)
-      (λ same name. le_trans (within_at_most (live (stakes p a ++ launches (w ∷ []))) (unended (l.booked ++ bookings w)) wider name) (c.room name)) s.room;
+  room = cases (λ ss. AtMost (job_rows (live ss)) a.total)
+      (λ same name. le_trans (within_at_most (live (stakes p a ++ launches (w ∷ []))) (unended (l.booked ++ bookings w)) wider name) (le_trans (c.room name) (s.owns name))) s.room;
   ends = λ up. rw (take_ever p w a.session a.applied (s.applied up)) (cases (λ ss. EndsKept (take a.applied (p.ever a.session)) ss)
       (λ same. ends_grown torn a.applied (p.ever a.session) (stakes p a) (launches (w ∷ [])) (subst (λ u. EndsTorn torn (p.ever u)) (sym same) c.torn_before) c.not_torn (s.ends up))
       (s.ends up));
@@ -152,12 +152,12 @@ down_issued p w (Hello run dead) h = h
 down_issued p w (Issued session number what) h =
     (h.0, (h.1.0, h.1.1, ever_cases p w session (λ ws. slice_get ws h.1.0 ≡ Some what) (λ same. get_more (p.ever session) (w ∷ []) h.1.0 what h.1.2) h.1.2))
 
-up_issued : (p : Past) (l : InRun) (w : Command) (next : Numbered) (torn : List Numbered) → IssueOk p l w next torn → (ags : List Agent) → Each (StateOk p l.next_key l.total) ags → (m : AgentMail) → UpOk p l.next_key l.total ags m → UpOk (issued_past p w) next l.total ags m
-up_issued p l w next torn c ags ok (Report session run tasks) h = (
+up_issued : (p : Past) (l : InRun) (w : Command) (next : Numbered) (torn : List Numbered) → IssueOk p l w next torn → (ags : List Agent) → Each (StateOk p l.next_key l.total) ags → (m : AgentMail) → UpOk p l.next_key ags m → UpOk (issued_past p w) next ags m
+up_issued p l w next torn c ags ok (Report session run tasks total) h = (
   h.0,
   h.1,
-  each_both (StateOk p l.next_key l.total) (λ a. (session ≤ a.session) × (p.peak < session → Within (live (stakes p a)) (unended tasks))) (λ a. (session ≤ a.session) × (p.peak < session → Within (live (stakes (issued_past p w) a)) (unended tasks)))
-      (λ a s k. (k.0, λ lt. stakes_cases p w a s.applied (λ ss. Within (live ss) (unended tasks)) (λ same. let le = k.0 in absurd (omega arith)) (k.1 lt))) ags ok h.2,
+  each_both (StateOk p l.next_key l.total) (IsReportOf p session tasks total) (IsReportOf (issued_past p w) session tasks total)
+      (λ a s k. record { reached = k.reached; owns = k.owns; same = k.same; covered = λ lt. stakes_cases p w a s.applied (λ ss. Within (live ss) (unended tasks)) (λ same. let le = k.reached in absurd (omega arith)) (k.covered lt) }) ags ok h.2,
 )
 up_issued p l w next torn c ags ok (Applied session count) h = (
   h.0,
@@ -193,8 +193,8 @@ facts_issued p l w next torn f c = record {
   states = each_both (StateOk p l.next_key l.total) (λ a. Within (live (stakes p a)) (unended l.booked)) (StateOk (issued_past p w) next l.total) (state_issued p l w next torn f.past o c) (states_of l) f.states o.covered;
   downs = each_append (DownOk (issued_past p w)) l.to_agent (Issued l.session (suc (l.known + length l.waiting)) w ∷ []) (each_map (DownOk p) (DownOk (issued_past p w)) (down_issued p w) l.to_agent f.downs)
       ((le_of_eq o.session, (l.known + length l.waiting, refl, at_end)), tt);
-  ups = each_map (UpOk p l.next_key l.total (states_of l)) (UpOk (issued_past p w) next l.total (states_of l)) (up_issued p l w next torn c (states_of l) f.states) l.to_master f.ups;
-  pending = each_map (UpOk p l.next_key l.total (drafted l.draft)) (UpOk (issued_past p w) next l.total (drafted l.draft)) (up_issued p l w next torn c (drafted l.draft) f.states.1) (mails_of l.draft) f.pending;
+  ups = each_map (UpOk p l.next_key (states_of l)) (UpOk (issued_past p w) next (states_of l)) (up_issued p l w next torn c (states_of l) f.states) l.to_master f.ups;
+  pending = each_map (UpOk p l.next_key (drafted l.draft)) (UpOk (issued_past p w) next (drafted l.draft)) (up_issued p l w next torn c (drafted l.draft) f.states.1) (mails_of l.draft) f.pending;
 }
   where
     o : OpenOk p l

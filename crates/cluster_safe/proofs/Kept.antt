@@ -250,15 +250,15 @@ heard_job key k state ended b = cond_both (same b.job.key key) (record { job = b
 heard_for_good : (key : Numbered) (k : ℕ) (state : TaskState) (ended : Bool) (b : Booked) → b.ended ≡ true → (heard_update key k state ended b).ended ≡ true
 heard_for_good key k state ended b e = cond_both (same b.job.key key) (record { job = b.job; ended = b.ended || ended; heard = (if nat_le b.heard (suc k) then suc k else b.heard); state = (if nat_le b.heard (suc k) then state else b.state) }) b (λ c. c.ended ≡ true) (λ d. or_left b.ended ended e) (λ d. e)
 
-kept_came : {sent : Numbered → List TaskState} (l : InRun) (k : Kept sent l) (o : Option AgentMail) → ((m : AgentMail) → o ≡ Some m → UpOk k.0 l.next_key l.total (states_of l) m) → Kept sent (record { run = l.run; channel = heard_mail l.run l.channel o })
+kept_came : {sent : Numbered → List TaskState} (l : InRun) (k : Kept sent l) (o : Option AgentMail) → ((m : AgentMail) → o ≡ Some m → UpOk k.0 l.next_key (states_of l) m) → Kept sent (record { run = l.run; channel = heard_mail l.run l.channel o })
 kept_came {sent} l k None h = k
-kept_came {sent} l k (Some (Report session run tasks)) h = cond_both (opens l.run l.side session run) (opened l.side session tasks) l.side (λ x. Kept sent (sided l x))
+kept_came {sent} l k (Some (Report session run tasks total)) h = cond_both (opens l.run l.side session run) (opened l.side session tasks total) l.side (λ x. Kept sent (sided l x))
     (λ e. let parts = both_true (l.serves && eqb run l.number) (nat_lt (last_session l.side) session) e in
     let both = both_true l.serves (eqb run l.number) parts.0 in
-    let u = h (Report session run tasks) refl in
+    let u = h (Report session run tasks total) refl in
     let same_run : run ≡ l.number = (Decides-eqb run l.number).0 both.1 in
     let below : last_session l.side < session = (let t : nat_lt (last_session l.side) session ≡ true = parts.1 in grind (arith, nat_tests)) in
-    (record { ever = k.0.ever; peak = session; told = k.0.told; latest = k.0.latest; sent = k.0.sent }, facts_opened k.0 l session tasks k.1 (u.0 ∙ same_run, u.1, u.2) below, u.1, k.3))
+    (record { ever = k.0.ever; peak = session; told = k.0.told; latest = k.0.latest; sent = k.0.sent }, facts_opened k.0 l session tasks total k.1 (u.0 ∙ same_run, u.1, u.2) below, u.1, k.3))
     (λ e. k)
 kept_came {sent} l k (Some (Applied session count)) h = cond_both (counts l.side session count) (record l.side { booked = forget_all (take (count - l.known) l.waiting) l.booked; waiting = drop (count - l.known) l.waiting; known = count }) l.side (λ x. Kept sent (sided l x))
     (λ e. let parts = both_true (l.is_open && session == l.session) (nat_lt l.known count && nat_le count (l.known + length l.waiting)) e in
@@ -327,7 +327,7 @@ kept_mail {sent} l k None h = k
 kept_mail {sent} l k (Some m) h = kept_drawn l k l.draft (hears_mail l.agent m) refl (λ e. mail_ok k.0 l m k.1 e (h m refl))
 
 kept_cause : {sent : Numbered → List TaskState} (l : InRun) (c : Cause) → Kept sent l → Kept sent (with_channel l (agent_step l.channel (Draw c)))
-kept_cause {sent} l Start k = kept_drawn l k l.draft (next_of l.agent Start) refl (λ e. next_ok k.0 l Start k.1 e tt)
+kept_cause {sent} l (Start total) k = kept_drawn l k l.draft (next_of l.agent (Start total)) refl (λ e. next_ok k.0 l (Start total) k.1 e tt)
 kept_cause {sent} l Again k = kept_drawn l k l.draft (next_of l.agent Again) refl (λ e. next_ok k.0 l Again k.1 e tt)
 kept_cause {sent} l (Mail m) k = k
 kept_cause {sent} l (Executor key state) k = kept_drawn l k l.draft (next_of l.agent (Executor key state)) refl (λ e. next_ok k.0 l (Executor key state) k.1 e tt)
@@ -340,8 +340,8 @@ kept_adopted {sent} l k (Some d) e =
     states : Each (StateOk k.0 l.next_key l.total) (l.agent ∷ d.after ∷ [])
     states = subst (λ o. Each (StateOk k.0 l.next_key l.total) (l.agent ∷ drafted o)) e k.1.states
 
-    pending : Each (UpOk k.0 l.next_key l.total (d.after ∷ [])) d.mails
-    pending = subst (λ o. Each (UpOk k.0 l.next_key l.total (drafted o)) (mails_of o)) e k.1.pending
+    pending : Each (UpOk k.0 l.next_key (d.after ∷ [])) d.mails
+    pending = subst (λ o. Each (UpOk k.0 l.next_key (drafted o)) (mails_of o)) e k.1.pending
 
     replaces : Replaces k.0 (states_of l) (d.after ∷ [])
     replaces P f x = (let y : Each P (l.agent ∷ d.after ∷ []) = subst (λ o. Each P (l.agent ∷ drafted o)) e x in y.1)
@@ -393,7 +393,7 @@ kept_agent {sent} l StopWith k = kept_with l k l.draft refl
 
 pub kept : {sent : Numbered → List TaskState} (l : InRun) (step : ChannelStep) → Kept sent l → Kept sent (happens l.run l.channel step)
 kept {sent} l (ByMaster step) k = kept_side l step k
-kept {sent} l (Hear place) k = kept_came l k (slice_get l.to_master place) (λ m e. each_at (UpOk k.0 l.next_key l.total (states_of l)) l.to_master place m k.1.ups e)
+kept {sent} l (Hear place) k = kept_came l k (slice_get l.to_master place) (λ m e. each_at (UpOk k.0 l.next_key (states_of l)) l.to_master place m k.1.ups e)
 kept {sent} l (ByAgent step) k = kept_agent l step k
 
 pub kept_halted : {sent : Numbered → List TaskState} (l : InRun) → Kept sent l → Kept sent (record { run = halted_run l.run; channel = with_side halted l.channel })
@@ -414,8 +414,8 @@ fits_from_kept {sent} l k name = at_open l.is_open refl
     in_record : amount name (job_rows (live (map task_stake l.agent.tasks))) ≤ amount name (job_rows (live (stakes k.0 l.agent)))
     in_record = within_at_most (live (map task_stake l.agent.tasks)) (live (stakes k.0 l.agent)) (live_left (map task_stake l.agent.tasks) (coming k.0 l.agent)) name
 
-    owned : amount name l.agent.total ≡ amount name l.total
-    owned = ap (amount name) s.owns
+    owned : amount name l.total ≤ amount name l.agent.total
+    owned = s.owns name
 
     at_open : (b : Bool) → l.is_open ≡ b → sum_by (λ o. amount name o.resources) l.offers + sum_by (λ t. amount name t.job.resources) (live_tasks l.agent.tasks) ≤ amount name l.agent.total
     at_open true e = omega (arith, offers_weigh name l.offers, tasks_weigh name l.agent.tasks, in_record, owned, taken_is name l.side, k.2 name, within_at_most (live (stakes k.0 l.agent)) (unended l.booked) ((k.1.when_open e).covered.0) name)

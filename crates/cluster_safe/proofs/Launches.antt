@@ -24,14 +24,14 @@ use Rattle.mails.specs.declared.cause.Cause.TheVariants.{Start, Mail, Executor, 
 use Rattle.mails.specs.declared.refusal.AgentRefusal.{AgentRefusal}
 use Rattle.mails.specs.declared.refusal.AgentRefusal.TheVariants.{OldSession, NotNext, NoSuchTask, Ended, NoRoom, UpdatesFull, SessionsSpent}
 use Rattle.cluster_model.specs.Ids.{same, following, is_among, is_empty, is_repeated, last_number}
-use Rattle.cluster_model.specs.Agents.{Agent, Draft, has_ended, is_task, front_at, reopened, reports, opens_next, stated, acknowledged, launched_task, tasks_after, with_tasks, applies, has_room, hears_mail, needs_place, executes, next_of}
+use Rattle.cluster_model.specs.Agents.{Agent, Draft, has_ended, is_task, front_at, owning, reopened, reports, opens_next, starts, stated, acknowledged, launched_task, tasks_after, with_tasks, applies, has_room, hears_mail, needs_place, executes, next_of}
 use Rattle.cluster_model.specs.Sides.{Run, Side, Sending, sends_nothing, issue, oldest_again, may_launch, books, Launching, launch_one, launch_all, has_offer, is_good, used_offers, without_used, accepted, may_offer, offer_rows, heard_update, forget_all, last_session, opens, opened, counts, shut, SideStep, MakeOffer, Withdraw, LaunchFrom, SendKill, SendAck, SendEnd, SendHello, SendAgain, Lose, side_step}
 use Rattle.cluster_model.specs.Channels.{Channel, AgentStep, Draw, DrawMail, Adopt, StopWithout, StopWith, drawn, drawn_mail, adopted, stopped_with, agent_step, ChannelStep, ByMaster, Hear, ByAgent, heard_mail, happens, World, Happening, At, TearDown, Restart, Halt, behind, in_front, at_agent, with_side, after, after_all, open_channel}
 use Rattle.cluster_safe.specs.Facts.{Less}
 use Rattle.cluster_safe.specs.Origin.{Mark, launched, marks_by}
 use Rattle.cluster_safe.proofs.Ids.{same_is}
 use Rattle.cluster_safe.proofs.Orders.{each_append, each_map, each_at}
-use Rattle.cluster_safe.proofs.Drafts.{both_true, AllOk, all_if}
+use Rattle.cluster_safe.proofs.Drafts.{both_true, AllOk, all_if, starts_ok}
 use Rattle.cluster_safe.proofs.Told.{drafts_of, agents_of}
 use Rattle.cluster_safe.proofs.Origins.{Launches, launches_are}
 use Rattle.cluster_safe.proofs.Trails.{OfferOk}
@@ -158,7 +158,8 @@ drawn_from n c None (Err refusal) h x = h
 drawn_from n c None (Ok new) h x = record { waiting = h.waiting; states = (h.states.0, (x, tt)); downs = h.downs }
 
 draw_from : (n : ℕ) (c : Channel) (cause : Cause) → ChannelFrom n c → ChannelFrom n (agent_step c (Draw cause))
-draw_from n c Start h = drawn_from n c c.draft (next_of c.agent Start) h (all_if (eqb c.agent.run 0) (Err OldSession) (opens_next c.agent c.agent.session c.agent.run) (DraftFrom n) (λ e. tt) (λ e. opens_from n c.agent c.agent.session c.agent.run h.states.0))
+draw_from n c (Start total) h = drawn_from n c c.draft (next_of c.agent (Start total)) h (all_if (eqb c.agent.run 0) (Err OldSession) (starts c.agent total) (DraftFrom n) (λ e. tt)
+    (λ e. starts_ok (DraftFrom n) c.agent total (opens_from n c.agent c.agent.session c.agent.run h.states.0) (λ more x. opens_from n (owning more c.agent) c.agent.session c.agent.run h.states.0)))
 draw_from n c Again h = drawn_from n c c.draft (next_of c.agent Again) h h.states.0
 draw_from n c (Mail to) h = h
 draw_from n c (Executor key state) h = drawn_from n c c.draft (next_of c.agent (Executor key state)) h (executes_from n c.agent key state h.states.0)
@@ -197,7 +198,7 @@ with_waiting n c s h w = record { waiting = w; states = h.states; downs = h.down
 
 hear_from : (n : ℕ) (run : Run) (c : Channel) (o : Option AgentMail) → ChannelFrom n c → ChannelFrom n (heard_mail run c o)
 hear_from n run c None h = h
-hear_from n run c (Some (Report session number tasks)) h = cond_both (opens run c.side session number) (opened c.side session tasks) c.side (λ s. ChannelFrom n (record c { side = s })) (λ e. with_waiting n c (opened c.side session tasks) h tt) (λ e. h)
+hear_from n run c (Some (Report session number tasks total)) h = cond_both (opens run c.side session number) (opened c.side session tasks total) c.side (λ s. ChannelFrom n (record c { side = s })) (λ e. with_waiting n c (opened c.side session tasks total) h tt) (λ e. h)
 hear_from n run c (Some (Applied session count)) h = cond_both (counts c.side session count) (record c.side { booked = forget_all (take (count - c.known) c.waiting) c.booked; waiting = drop (count - c.known) c.waiting; known = count }) c.side (λ s. ChannelFrom n (record c { side = s }))
     (λ e. with_waiting n c (record c.side { booked = forget_all (take (count - c.known) c.waiting) c.booked; waiting = drop (count - c.known) c.waiting; known = count }) h (each_drop (CommandFrom n) (count - c.known) c.waiting h.waiting)) (λ e. h)
 hear_from n run c (Some (Update session key k state ended)) h = cond_both (c.is_open && session == c.session) (record c.side { booked = map (heard_update key k state ended) c.booked }) c.side (λ s. ChannelFrom n (record c { side = s }))

@@ -19,7 +19,7 @@ use Rattle.cluster_model.specs.Ids.{same, first_of_run}
 use Rattle.cluster_model.specs.Agents.{Agent}
 use Rattle.cluster_model.specs.Sides.{Side, new_run, torn_down, unended, oldest_again, heard_update, forget, forget_all, last_session, opened, shut, halted, restarted}
 use Rattle.cluster_model.specs.Channels.{InRun, with_side, halted_run}
-use Rattle.cluster_safe.specs.Facts.{Less, UpTo, Past, Within, live, stakes, EndsKept, EndedAt, StateOk, DownOk, UpOk, drafted, mails_of, states_of, OpenOk, Facts}
+use Rattle.cluster_safe.specs.Facts.{Less, UpTo, Past, Within, live, stakes, EndsKept, EndedAt, AtMost, StateOk, DownOk, IsReportOf, UpOk, drafted, mails_of, states_of, OpenOk, Facts}
 use Rattle.cluster_safe.proofs.Ids.{same_is, less_upto, upto_trans}
 use Rattle.cluster_safe.proofs.Orders.{each_append, each_map, each_both, live_of_ended, each_live, within_mapped, within_filtered}
 use Rattle.cluster_safe.proofs.Commands.{ends_torn_wider}
@@ -90,18 +90,26 @@ facts_helloed p l f = record {
   when_shut = λ e. let o = f.when_shut e in record { offers = o.offers; booked = o.booked; closed = o.closed };
   states = each_map (StateOk p l.next_key l.total) (StateOk (helloed_past p l.number) l.next_key l.total) (λ a s. record { owns = s.owns; told = s.told; peak = s.peak; applied = s.applied; distinct = s.distinct; order = s.order; below = s.below; room = s.room; ends = s.ends; grown = s.grown }) (states_of l) f.states;
   downs = each_append (DownOk (helloed_past p l.number)) l.to_agent (Hello l.number l.closed ∷ []) (each_map (DownOk p) (DownOk (helloed_past p l.number)) down l.to_agent f.downs) ((le_refl l.number, f.begun), tt);
-  ups = each_map (UpOk p l.next_key l.total (states_of l)) (UpOk (helloed_past p l.number) l.next_key l.total (states_of l)) (up (states_of l)) l.to_master f.ups;
-  pending = each_map (UpOk p l.next_key l.total (drafted l.draft)) (UpOk (helloed_past p l.number) l.next_key l.total (drafted l.draft)) (up (drafted l.draft)) (mails_of l.draft) f.pending;
+  ups = each_map (UpOk p l.next_key (states_of l)) (UpOk (helloed_past p l.number) l.next_key (states_of l)) (up (states_of l)) l.to_master f.ups;
+  pending = each_map (UpOk p l.next_key (drafted l.draft)) (UpOk (helloed_past p l.number) l.next_key (drafted l.draft)) (up (drafted l.draft)) (mails_of l.draft) f.pending;
 }
   where
     down : (m : MasterMail) → DownOk p m → DownOk (helloed_past p l.number) m
     down (Hello run dead) h = (le_trans h.0 f.run, h.1)
     down (Issued session number what) h = h
 
-    up : (ags : List Agent) (m : AgentMail) → UpOk p l.next_key l.total ags m → UpOk (helloed_past p l.number) l.next_key l.total ags m
-    up ags (Report session run tasks) h = h
+    up : (ags : List Agent) (m : AgentMail) → UpOk p l.next_key ags m → UpOk (helloed_past p l.number) l.next_key ags m
+    up ags (Report session run tasks total) h = (h.0, h.1, each_map (IsReportOf p session tasks total) (IsReportOf (helloed_past p l.number) session tasks total) (λ a k. record { reached = k.reached; owns = k.owns; same = k.same; covered = k.covered }) ags h.2)
     up ags (Applied session count) h = h
     up ags (Update session key k state ended) h = h
+
+-- whatever the master takes to be the agent's total, if that isn't more than it owns
+state_owning : (p : Past) (next : Numbered) (total new : List Row) (a : Agent) → AtMost new a.total → StateOk p next total a → StateOk p next new a
+state_owning p next total new a owns s = record { owns = owns; told = s.told; peak = s.peak; applied = s.applied; distinct = s.distinct; order = s.order; below = s.below; room = s.room; ends = s.ends; grown = s.grown }
+
+-- the master takes the agent to own nothing
+state_shut : (p : Past) (next : Numbered) (total : List Row) (a : Agent) → StateOk p next total a → StateOk p next [] a
+state_shut p next total a s = state_owning p next total [] a (λ name. zero-le) s
 
 pub facts_lost : (p : Past) (l : InRun) → Facts p l → l.is_open ≡ true → Facts p (sided l (shut l.side l.session))
 facts_lost p l f is = record {
@@ -111,7 +119,7 @@ facts_lost p l f is = record {
   unsent = f.unsent;
   when_open = λ (e : false ≡ true). absurd cc;
   when_shut = λ e. record { offers = refl; booked = refl; closed = inl (o.told, le_of_eq (sym o.session)) };
-  states = f.states;
+  states = each_map (StateOk p l.next_key l.total) (StateOk p l.next_key []) (state_shut p l.next_key l.total) (states_of l) f.states;
   downs = f.downs;
   ups = f.ups;
   pending = f.pending;
@@ -122,10 +130,10 @@ facts_lost p l f is = record {
 
 -- with a greater next key
 
-pub up_later : (p : Past) (next later : Numbered) (total : List Row) (ags : List Agent) → UpTo next later → (m : AgentMail) → UpOk p next total ags m → UpOk p later total ags m
-up_later p next later total ags le (Report session run tasks) h = h
-up_later p next later total ags le (Applied session count) h = h
-up_later p next later total ags le (Update session key k state ended) h = λ e. (less_upto key next later (h e).0 le, (h e).1)
+pub up_later : (p : Past) (next later : Numbered) (ags : List Agent) → UpTo next later → (m : AgentMail) → UpOk p next ags m → UpOk p later ags m
+up_later p next later ags le (Report session run tasks total) h = h
+up_later p next later ags le (Applied session count) h = h
+up_later p next later ags le (Update session key k state ended) h = λ e. (less_upto key next later (h e).0 le, (h e).1)
 
 pub state_later : (p : Past) (next later : Numbered) (total : List Row) → UpTo next later → (a : Agent) → StateOk p next total a → StateOk p later total a
 state_later p next later total le a s = record { owns = s.owns; told = s.told; peak = s.peak; applied = s.applied; distinct = s.distinct; order = s.order; below = each_map (λ x. Less x.job.key next) (λ x. Less x.job.key later) (λ x lt. less_upto x.job.key next later lt le) (stakes p a) s.below; room = s.room; ends = s.ends; grown = s.grown }
@@ -138,10 +146,10 @@ facts_new_run p l le f = record {
   unsent = λ key above. f.unsent key (upto_trans l.next_key (first_of_run (1 + l.number)) key le above);
   when_open = λ (e : false ≡ true). absurd cc;
   when_shut = λ e. record { offers = refl; booked = refl; closed = inr (omega (arith, f.run, f.past.runs p.peak)) };
-  states = each_map (StateOk p l.next_key l.total) (StateOk p (first_of_run (1 + l.number)) l.total) (state_later p l.next_key (first_of_run (1 + l.number)) l.total le) (states_of l) f.states;
+  states = each_map (StateOk p l.next_key l.total) (StateOk p (first_of_run (1 + l.number)) []) (λ a s. state_later p l.next_key (first_of_run (1 + l.number)) [] le a (state_shut p l.next_key l.total a s)) (states_of l) f.states;
   downs = f.downs;
-  ups = each_map (UpOk p l.next_key l.total (states_of l)) (UpOk p (first_of_run (1 + l.number)) l.total (states_of l)) (up_later p l.next_key (first_of_run (1 + l.number)) l.total (states_of l) le) l.to_master f.ups;
-  pending = each_map (UpOk p l.next_key l.total (drafted l.draft)) (UpOk p (first_of_run (1 + l.number)) l.total (drafted l.draft)) (up_later p l.next_key (first_of_run (1 + l.number)) l.total (drafted l.draft) le) (mails_of l.draft) f.pending;
+  ups = each_map (UpOk p l.next_key (states_of l)) (UpOk p (first_of_run (1 + l.number)) (states_of l)) (up_later p l.next_key (first_of_run (1 + l.number)) (states_of l) le) l.to_master f.ups;
+  pending = each_map (UpOk p l.next_key (drafted l.draft)) (UpOk p (first_of_run (1 + l.number)) (drafted l.draft)) (up_later p l.next_key (first_of_run (1 + l.number)) (drafted l.draft) le) (mails_of l.draft) f.pending;
 }
 
 -- the master is down
@@ -153,7 +161,7 @@ facts_halted p l f = record {
   unsent = f.unsent;
   when_open = λ (e : false ≡ true). absurd cc;
   when_shut = λ e. record { offers = refl; booked = refl; closed = at_open l.is_open refl };
-  states = f.states;
+  states = each_map (StateOk p l.next_key l.total) (StateOk p l.next_key []) (state_shut p l.next_key l.total) (states_of l) f.states;
   downs = f.downs;
   ups = f.ups;
   pending = f.pending;
@@ -208,14 +216,14 @@ above_peak p l session f told lt = at_open l.is_open refl
         let g : l.closed < session = rw e at lt in
         elim (f.when_shut e).closed [ inl h ↦ omega (arith, h.1) | inr h ↦ by_run h (cases_lt p.peak session) ]
 
-up_opened : (p : Past) (session : ℕ) (next : Numbered) (total : List Row) (ags : List Agent) → p.peak < session → (m : AgentMail) → UpOk p next total ags m → UpOk (opened_past p session) next total ags m
-up_opened p session next total ags lt (Report s run tasks) h =
-    (h.0, h.1, each_map (λ a. (s ≤ a.session) × (p.peak < s → Within (live (stakes p a)) (unended tasks))) (λ a. (s ≤ a.session) × (session < s → Within (live (stakes p a)) (unended tasks))) (λ a k. (k.0, λ g. k.1 (omega arith))) ags h.2)
-up_opened p session next total ags lt (Applied s count) h = (let le = h.0 in omega arith, h.1, λ same. absurd (let le = h.0 in omega arith))
-up_opened p session next total ags lt (Update s key k state ended) h = h
+up_opened : (p : Past) (session : ℕ) (next : Numbered) (ags : List Agent) → p.peak < session → (m : AgentMail) → UpOk p next ags m → UpOk (opened_past p session) next ags m
+up_opened p session next ags lt (Report s run tasks total) h =
+    (h.0, h.1, each_map (IsReportOf p s tasks total) (IsReportOf (opened_past p session) s tasks total) (λ a k. record { reached = k.reached; owns = k.owns; same = k.same; covered = λ g. k.covered (omega arith) }) ags h.2)
+up_opened p session next ags lt (Applied s count) h = (let le = h.0 in omega arith, h.1, λ same. absurd (let le = h.0 in omega arith))
+up_opened p session next ags lt (Update s key k state ended) h = h
 
-pub facts_opened : (p : Past) (l : InRun) (session : ℕ) (tasks : List Booked) → Facts p l → UpOk p l.next_key l.total (states_of l) (Report session l.number tasks) → (if l.is_open then l.session else l.closed) < session → Facts (opened_past p session) (sided l (opened l.side session tasks))
-facts_opened p l session tasks f u lt = record {
+pub facts_opened : (p : Past) (l : InRun) (session : ℕ) (tasks : List Booked) (total : List Row) → Facts p l → UpOk p l.next_key (states_of l) (Report session l.number tasks total) → (if l.is_open then l.session else l.closed) < session → Facts (opened_past p session) (sided l (opened l.side session tasks total))
+facts_opened p l session tasks total f u lt = record {
   past = record { none = λ s g. f.past.none s (let h : session < s = g in omega (arith, above)); ordered = f.past.ordered; rises = f.past.rises; runs = f.past.runs };
   run = f.run;
   begun = f.begun;
@@ -226,14 +234,14 @@ facts_opened p l session tasks f u lt = record {
     known = zero-le;
     issued = sym empty;
     torn = rw empty tt;
-    covered = each_map (λ a. (session ≤ a.session) × (p.peak < session → Within (live (stakes p a)) (unended tasks))) (λ a. Within (live (stakes p a)) (unended tasks)) (λ a k. k.1 above) (states_of l) u.2;
+    covered = each_map (IsReportOf p session tasks total) (λ a. Within (live (stakes p a)) (unended tasks)) (λ a k. k.covered above) (states_of l) u.2;
   };
   when_shut = λ (e : true ≡ false). absurd cc;
-  states = each_both (StateOk p l.next_key l.total) (λ a. (session ≤ a.session) × (p.peak < session → Within (live (stakes p a)) (unended tasks))) (StateOk (opened_past p session) l.next_key l.total)
-      (λ a s k. record { owns = s.owns; told = s.told; peak = k.0; applied = s.applied; distinct = s.distinct; order = s.order; below = s.below; room = s.room; ends = s.ends; grown = s.grown }) (states_of l) f.states u.2;
+  states = each_both (StateOk p l.next_key l.total) (IsReportOf p session tasks total) (StateOk (opened_past p session) l.next_key total)
+      (λ a s k. record { owns = k.owns; told = s.told; peak = k.reached; applied = s.applied; distinct = s.distinct; order = s.order; below = s.below; room = s.room; ends = s.ends; grown = s.grown }) (states_of l) f.states u.2;
   downs = each_map (DownOk p) (DownOk (opened_past p session)) down l.to_agent f.downs;
-  ups = each_map (UpOk p l.next_key l.total (states_of l)) (UpOk (opened_past p session) l.next_key l.total (states_of l)) (up_opened p session l.next_key l.total (states_of l) above) l.to_master f.ups;
-  pending = each_map (UpOk p l.next_key l.total (drafted l.draft)) (UpOk (opened_past p session) l.next_key l.total (drafted l.draft)) (up_opened p session l.next_key l.total (drafted l.draft) above) (mails_of l.draft) f.pending;
+  ups = each_map (UpOk p l.next_key (states_of l)) (UpOk (opened_past p session) l.next_key (states_of l)) (up_opened p session l.next_key (states_of l) above) l.to_master f.ups;
+  pending = each_map (UpOk p l.next_key (drafted l.draft)) (UpOk (opened_past p session) l.next_key (drafted l.draft)) (up_opened p session l.next_key (drafted l.draft) above) (mails_of l.draft) f.pending;
 }
   where
     above : p.peak < session

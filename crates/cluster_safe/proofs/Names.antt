@@ -16,10 +16,10 @@ use Rattle.mails.specs.declared.cause.Cause.TheVariants.{Start, Mail, Executor, 
 use Rattle.mails.specs.declared.refusal.AgentRefusal.TheVariants.{OldSession, NotNext, NoSuchTask, Ended, NoRoom, UpdatesFull, SessionsSpent}
 use Rattle.stream_core.specs.Updates.{is_full}
 use Rattle.cluster_model.specs.Ids.{last_number}
-use Rattle.cluster_model.specs.Agents.{Agent, Draft, has_ended, is_task, front_at, reopened, reports, opens_next, stated, with_tasks, applies, has_room, hears_mail, needs_place, executes, next_of}
+use Rattle.cluster_model.specs.Agents.{Agent, Draft, has_ended, is_task, front_at, owning, reopened, reports, opens_next, starts, stated, with_tasks, applies, has_room, hears_mail, needs_place, executes, next_of}
 use Rattle.cluster_model.specs.Sides.{Run, Side, heard_update, forget_all, last_session, opens, opened, counts, shut}
 use Rattle.cluster_model.specs.Channels.{Channel, AgentStep, Draw, DrawMail, Adopt, StopWithout, StopWith, drawn, drawn_mail, adopted, stopped_with, agent_step, ChannelStep, ByMaster, Hear, ByAgent, heard_mail, happens, World, Happening, At, TearDown, Restart, Halt, behind, in_front, at_agent, with_side, after, after_all, open_channel}
-use Rattle.cluster_safe.proofs.Drafts.{AllOk, all_if}
+use Rattle.cluster_safe.proofs.Drafts.{AllOk, all_if, starts_ok}
 use Rattle.cluster_safe.proofs.Told.{drafts_of, agents_of}
 use Rattle.cluster_safe.proofs.SideNames.{agent_side}
 use Rattle.cluster_safe.proofs.Alone.{side_name}
@@ -74,7 +74,8 @@ drawn_named name c None (Err refusal) h x = h
 drawn_named name c None (Ok new) h x = (h.0, (x ∙ h.0, tt))
 
 draw_named : (name : List ℕ) (c : Channel) (cause : Cause) → NamedAs name c → NamedAs name (agent_step c (Draw cause))
-draw_named name c Start h = drawn_named name c c.draft (next_of c.agent Start) h (all_if (eqb c.agent.run 0) (Err OldSession) (opens_next c.agent c.agent.session c.agent.run) (KeepsName c.agent) (λ e. tt) (λ e. opens_name c.agent c.agent.session c.agent.run))
+draw_named name c (Start total) h = drawn_named name c c.draft (next_of c.agent (Start total)) h (all_if (eqb c.agent.run 0) (Err OldSession) (starts c.agent total) (KeepsName c.agent) (λ e. tt)
+    (λ e. starts_ok (KeepsName c.agent) c.agent total (opens_name c.agent c.agent.session c.agent.run) (λ more x. opens_name (owning more c.agent) c.agent.session c.agent.run)))
 draw_named name c Again h = drawn_named name c c.draft (next_of c.agent Again) h refl
 draw_named name c (Mail to) h = h
 draw_named name c (Executor key state) h = drawn_named name c c.draft (next_of c.agent (Executor key state)) h (executes_name c.agent key state)
@@ -100,7 +101,7 @@ agent_named name c StopWith h = stop_named name c c.draft refl h
 
 heard_named : (run : Run) (c : Channel) (o : Option AgentMail) → NamedAs c.side.name c → NamedAs (heard_mail run c o).side.name (heard_mail run c o)
 heard_named run c None h = h
-heard_named run c (Some (Report session number tasks)) h = cond_both (opens run c.side session number) (opened c.side session tasks) c.side (λ s. NamedAs s.name c) (λ e. h) (λ e. h)
+heard_named run c (Some (Report session number tasks total)) h = cond_both (opens run c.side session number) (opened c.side session tasks total) c.side (λ s. NamedAs s.name c) (λ e. h) (λ e. h)
 heard_named run c (Some (Applied session count)) h = cond_both (counts c.side session count) (record c.side { booked = forget_all (take (count - c.known) c.waiting) c.booked; waiting = drop (count - c.known) c.waiting; known = count }) c.side (λ s. NamedAs s.name c) (λ e. h) (λ e. h)
 heard_named run c (Some (Update session key k state ended)) h = cond_both (c.is_open && session == c.session) (record c.side { booked = map (heard_update key k state ended) c.booked }) c.side (λ s. NamedAs s.name c) (λ e. h) (λ e. h)
 

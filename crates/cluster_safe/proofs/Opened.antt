@@ -33,7 +33,7 @@ kept_opening o run g = (
     when_shut = λ e. record { offers = refl; booked = refl; closed = inr g.later };
     states = (
       record {
-        owns = refl;
+        owns = λ name. zero-le;
         told = refl;
         peak = zero-le;
         applied = λ (e : false ≡ true). absurd cc;

@@ -86,7 +86,7 @@ still rs marks run c d b os name t = record {
 
 heard_offers : (next : Numbered) (marks : List Mark) (run : Run) (c : Channel) (o : Option AgentMail) → OffersOk next marks c.side.name c.side.offers → OffersOk next marks c.side.name (heard_mail run c o).side.offers × ((heard_mail run c o).side.name ≡ c.side.name)
 heard_offers next marks run c None h = (h, refl)
-heard_offers next marks run c (Some (Report session number tasks)) h = cond_both (opens run c.side session number) (opened c.side session tasks) c.side (λ s. OffersOk next marks c.side.name s.offers × (s.name ≡ c.side.name)) (λ e. ((tt, tt), refl)) (λ e. (h, refl))
+heard_offers next marks run c (Some (Report session number tasks total)) h = cond_both (opens run c.side session number) (opened c.side session tasks total) c.side (λ s. OffersOk next marks c.side.name s.offers × (s.name ≡ c.side.name)) (λ e. ((tt, tt), refl)) (λ e. (h, refl))
 heard_offers next marks run c (Some (Applied session count)) h = cond_both (counts c.side session count) (record c.side { booked = forget_all (take (count - c.known) c.waiting) c.booked; waiting = drop (count - c.known) c.waiting; known = count }) c.side (λ s. OffersOk next marks c.side.name s.offers × (s.name ≡ c.side.name)) (λ e. (h, refl)) (λ e. (h, refl))
 heard_offers next marks run c (Some (Update session key k state ended)) h = cond_both (c.is_open && session == c.session) (record c.side { booked = map (heard_update key k state ended) c.booked }) c.side (λ s. OffersOk next marks c.side.name s.offers × (s.name ≡ c.side.name)) (λ e. (h, refl)) (λ e. (h, refl))
 

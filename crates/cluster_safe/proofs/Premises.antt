@@ -38,7 +38,7 @@ hellos_tell_runs : {sent : Numbered → List TaskState} (l : InRun) → Kept sen
 hellos_tell_runs l k place run dead e = (each_at (DownOk k.0) l.to_agent place (Hello run dead) k.1.downs e).1
 
 report_fits : {sent : Numbered → List TaskState} (l : InRun) → Kept sent l → ReportFits l.channel
-report_fits l k place session run tasks e = (each_at (UpOk k.0 l.next_key l.total (states_of l)) l.to_master place (Report session run tasks) k.1.ups e).1
+report_fits l k place session run tasks total e = (each_at (UpOk k.0 l.next_key (states_of l)) l.to_master place (Report session run tasks total) k.1.ups e).1
 
 pub all_premises : (v : Sents) (w : World) → WorldOk v w → Each MeetsPremises w.channels
 all_premises v w ok = each_map (KeptIn v w.run) MeetsPremises (λ c k. let l : InRun = record { run = w.run; channel = c } in record { launch = next_is_later l k; hello = hellos_tell_runs l k; report = report_fits l k }) w.channels ok.kept

@@ -122,7 +122,7 @@ called_up_to m stream (Reconcile framework tasks) h = known_up_to m.run.number m
 -- mails, Ticks, losses, hang-ups, rounds
 
 goes_up_to : (n : ℕ) (m : Master) (s : Side) (mail : AgentMail) → AllUpTo n m.registers.frameworks → StaysUpTo n (goes_with m s mail)
-goes_up_to n m s (Report session number tasks) h = if_up_to n (opens m.run s session number) (session_opens m s tasks) (nothing m) (cleared n s.name m.registers.frameworks h) h
+goes_up_to n m s (Report session number tasks total) h = if_up_to n (opens m.run s session number) (session_opens m s tasks) (nothing m) (cleared n s.name m.registers.frameworks h) h
 goes_up_to n m s (Applied session count) h = h
 goes_up_to n m s (Update session key k state ended) h = h
 

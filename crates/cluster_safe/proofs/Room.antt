@@ -48,7 +48,7 @@ launch_fits p next total a job offers s up at_place = covers_from a.total (job.r
     parts name = rw (coming_next p a (Launch job offers) up at_place) (rw (live-append (map task_stake a.tasks) (record { job = job; ended = false; states = []; comes = true } ∷ rest), jobs-append (live (map task_stake a.tasks)) (job ∷ live rest), amount-append name (job_rows (live (map task_stake a.tasks))) (job.resources ++ job_rows (live rest)), amount-append name job.resources (job_rows (live rest))) refl)
 
     fits : AtMost (job.resources ++ task_rows (live_tasks a.tasks)) a.total
-    fits name = omega (arith, amount-append name job.resources (task_rows (live_tasks a.tasks)), tasks_rows name a.tasks, parts name, s.room name, ap (amount name) s.owns)
+    fits name = omega (arith, amount-append name job.resources (task_rows (live_tasks a.tasks)), tasks_rows name a.tasks, parts name, s.room name)
 
 room_command : (p : Past) (next : Numbered) (total : List Row) (a : Agent) (w : Command) → StateOk p next total a → a.in_session ≡ true → slice_get (p.ever a.session) a.applied ≡ Some w → has_room a w ≡ true
 room_command p next total a (Launch job offers) s up at_place = launch_fits p next total a job offers s up at_place

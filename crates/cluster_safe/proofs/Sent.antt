@@ -21,15 +21,15 @@ use Rattle.mails.specs.declared.cause.Cause.TheVariants.{Start, Mail, Executor, 
 use Rattle.mails.specs.declared.refusal.AgentRefusal.{AgentRefusal}
 use Rattle.mails.specs.declared.refusal.AgentRefusal.TheVariants.{OldSession, NotNext, NoSuchTask, Ended, NoRoom, UpdatesFull, SessionsSpent}
 use Rattle.cluster_model.specs.Ids.{same, last_number}
-use Rattle.cluster_model.specs.Agents.{Agent, Draft, has_ended, is_task, state_at, front_of, fronts, front_at, reopened, reports, opens_next, stated, with_tasks, after_command, is_front_at, fronts_after, applies, has_room, hears_mail, needs_place, executes, next_of}
+use Rattle.cluster_model.specs.Agents.{Agent, Draft, has_ended, is_task, state_at, front_of, fronts, front_at, owning, reopened, reports, opens_next, starts, stated, with_tasks, after_command, is_front_at, fronts_after, applies, has_room, hears_mail, needs_place, executes, next_of}
 use Rattle.cluster_model.specs.Sides.{Run, Side, shut, last_session}
 use Rattle.cluster_model.specs.Channels.{Channel, InRun, AgentStep, Draw, DrawMail, Adopt, StopWithout, StopWith, drawn, drawn_mail, adopted, stopped_with, is_own, agent_step, ChannelStep, ByMaster, Hear, ByAgent, heard_mail, happens, World, Happening, At, TearDown, Restart, Halt, behind, in_front, at_agent, with_side, after, after_all, open_channel, open_world}
 use Rattle.cluster_model.specs.Openings.{NamesOnce}
-use Rattle.cluster_safe.specs.Facts.{Less, UpTo, Stake, Past, task_stake, coming, stakes, Distinct, Grown, StateOk, DownOk, UpOk, drafted, mails_of, states_of, Facts, Kept}
+use Rattle.cluster_safe.specs.Facts.{Less, UpTo, Stake, Past, task_stake, coming, stakes, Distinct, Grown, StateOk, DownOk, IsReportOf, UpOk, drafted, mails_of, states_of, Facts, Kept}
 use Rattle.cluster_safe.specs.Updates.{longer, states_under, states_on, sent_over}
 use Rattle.cluster_safe.proofs.Ids.{same_refl, same_is, less_differs}
 use Rattle.cluster_safe.proofs.Orders.{each_append, each_map, each_both, each_left}
-use Rattle.cluster_safe.proofs.Drafts.{AllOk, all_if}
+use Rattle.cluster_safe.proofs.Drafts.{AllOk, all_if, starts_ok}
 use Rattle.cluster_safe.proofs.SideNames.{happens_name}
 use Rattle.cluster_safe.proofs.Worlds.{Sents, KeptIn, WorldOk, world_after}
 use Rattle.cluster_safe.specs.Origin.{Mark, marks_by}
@@ -117,16 +117,16 @@ facts_renewed p l new f grown unsent = record {
   when_shut = λ e. let o = f.when_shut e in record { offers = o.offers; booked = o.booked; closed = o.closed };
   states = each_both (StateOk p l.next_key l.total) (λ a. Each (Grown new) (stakes p a)) (StateOk (renewed p new) l.next_key l.total) (λ a s g. record { owns = s.owns; told = s.told; peak = s.peak; applied = s.applied; distinct = s.distinct; order = s.order; below = s.below; room = s.room; ends = s.ends; grown = g }) (states_of l) f.states grown;
   downs = each_map (DownOk p) (DownOk (renewed p new)) down l.to_agent f.downs;
-  ups = each_map (UpOk p l.next_key l.total (states_of l)) (UpOk (renewed p new) l.next_key l.total (states_of l)) (up (states_of l)) l.to_master f.ups;
-  pending = each_map (UpOk p l.next_key l.total (drafted l.draft)) (UpOk (renewed p new) l.next_key l.total (drafted l.draft)) (up (drafted l.draft)) (mails_of l.draft) f.pending;
+  ups = each_map (UpOk p l.next_key (states_of l)) (UpOk (renewed p new) l.next_key (states_of l)) (up (states_of l)) l.to_master f.ups;
+  pending = each_map (UpOk p l.next_key (drafted l.draft)) (UpOk (renewed p new) l.next_key (drafted l.draft)) (up (drafted l.draft)) (mails_of l.draft) f.pending;
 }
   where
     down : (m : MasterMail) → DownOk p m → DownOk (renewed p new) m
     down (Hello run dead) h = h
     down (Issued session number what) h = h
 
-    up : (ags : List Agent) (m : AgentMail) → UpOk p l.next_key l.total ags m → UpOk (renewed p new) l.next_key l.total ags m
-    up ags (Report session run tasks) h = h
+    up : (ags : List Agent) (m : AgentMail) → UpOk p l.next_key ags m → UpOk (renewed p new) l.next_key ags m
+    up ags (Report session run tasks total) h = (h.0, h.1, each_map (IsReportOf p session tasks total) (IsReportOf (renewed p new) session tasks total) (λ a k. record { reached = k.reached; owns = k.owns; same = k.same; covered = k.covered }) ags h.2)
     up ags (Applied session count) h = h
     up ags (Update session key k state ended) h = h
 
@@ -196,7 +196,7 @@ begins_longer old key ts h = cond_both (nat_lt (length (old key)) (length (state
 
 -- a mail tells the update of its number
 abbrev pub MailAt : (Numbered → List TaskState) → AgentMail → Type 0
-MailAt new (Report session run tasks) = ⊤
+MailAt new (Report session run tasks total) = ⊤
 MailAt new (Applied session number) = ⊤
 MailAt new (Update session key k state ended) = slice_get (new key) k ≡ Some state
 
@@ -206,7 +206,7 @@ IsIn key k state [] = ⊥
 IsIn key k state (t ∷ ts) = ((t.job.key ≡ key) × (slice_get t.updates.states k ≡ Some state)) ⊎ IsIn key k state ts
 
 abbrev pub MailIn : List RecordedTask → AgentMail → Type 0
-MailIn ts (Report session run tasks) = ⊤
+MailIn ts (Report session run tasks total) = ⊤
 MailIn ts (Applied session number) = ⊤
 MailIn ts (Update session key k state ended) = IsIn key k state ts
 
@@ -216,7 +216,7 @@ in_exact new (t ∷ ts) e key k state (inl h) = subst (λ i. slice_get (new i) k
 in_exact new (t ∷ ts) e key k state (inr h) = in_exact new ts e.1 key k state h
 
 mail_exact : (new : Numbered → List TaskState) (ts : List RecordedTask) → Each (IsExact new) ts → (m : AgentMail) → MailIn ts m → MailAt new m
-mail_exact new ts e (Report session run tasks) h = tt
+mail_exact new ts e (Report session run tasks total) h = tt
 mail_exact new ts e (Applied session number) h = tt
 mail_exact new ts e (Update session key k state ended) h = in_exact new ts e key k state h
 
@@ -229,7 +229,7 @@ pub get_begins : (xs ys : List TaskState) (k : ℕ) (s : TaskState) → Begins x
 get_begins xs ys k s b h = subst (λ zs. slice_get zs k ≡ Some s) (sym b.1) (get_more xs b.0 k s h)
 
 mail_begins : (old new : Numbered → List TaskState) → ((key : Numbered) → Begins (old key) (new key)) → (m : AgentMail) → MailAt old m → MailAt new m
-mail_begins old new b (Report session run tasks) h = tt
+mail_begins old new b (Report session run tasks total) h = tt
 mail_begins old new b (Applied session number) h = tt
 mail_begins old new b (Update session key k state ended) h = get_begins (old key) (new key) k state (b key) h
 
@@ -342,7 +342,8 @@ drawn_mails u c None (Err refusal) x h = h
 drawn_mails u c None (Ok new) x h = record { ups = h.ups; pending = x }
 
 draw_mails : (u : Numbered → List TaskState) (c : Channel) (cause : Cause) → MailsOk u c → MailsOk u (agent_step c (Draw cause))
-draw_mails u c Start h = drawn_mails u c c.draft (next_of c.agent Start) (all_if (c.agent.durable.run == 0) (Err OldSession) (opens_next c.agent c.agent.durable.session c.agent.durable.run) DraftIn (λ e. tt) (λ e. opens_in c.agent c.agent.durable.session c.agent.durable.run)) h
+draw_mails u c (Start total) h = drawn_mails u c c.draft (next_of c.agent (Start total)) (all_if (c.agent.durable.run == 0) (Err OldSession) (starts c.agent total) DraftIn (λ e. tt)
+    (λ e. starts_ok DraftIn c.agent total (opens_in c.agent c.agent.durable.session c.agent.durable.run) (λ more x. opens_in (owning more c.agent) c.agent.durable.session c.agent.durable.run))) h
 draw_mails u c Again h = drawn_mails u c c.draft (next_of c.agent Again) (fronts_in c.agent) h
 draw_mails u c (Mail to) h = h
 draw_mails u c (Executor key state) h = drawn_mails u c c.draft (next_of c.agent (Executor key state)) (executes_in c.agent key state) h

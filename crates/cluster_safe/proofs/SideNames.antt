@@ -44,7 +44,7 @@ agent_side c step = (agent_beside c step).0
 
 heard_name : (run : Run) (c : Channel) (o : Option AgentMail) → (heard_mail run c o).side.name ≡ c.side.name
 heard_name run c None = refl
-heard_name run c (Some (Report session number tasks)) = cond_both (opens run c.side session number) (opened c.side session tasks) c.side (λ s. s.name ≡ c.side.name) (λ e. refl) (λ e. refl)
+heard_name run c (Some (Report session number tasks total)) = cond_both (opens run c.side session number) (opened c.side session tasks total) c.side (λ s. s.name ≡ c.side.name) (λ e. refl) (λ e. refl)
 heard_name run c (Some (Applied session count)) = cond_both (counts c.side session count) (record c.side { booked = forget_all (take (count - c.known) c.waiting) c.booked; waiting = drop (count - c.known) c.waiting; known = count }) c.side (λ s. s.name ≡ c.side.name) (λ e. refl) (λ e. refl)
 heard_name run c (Some (Update session key k state ended)) = cond_both (c.is_open && session == c.session) (record c.side { booked = map (heard_update key k state ended) c.booked }) c.side (λ s. s.name ≡ c.side.name) (λ e. refl) (λ e. refl)
 

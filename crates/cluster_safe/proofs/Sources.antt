@@ -127,7 +127,7 @@ if_without true x y h k = h
 if_without false x y h k = k
 
 goes_without : (m : Master) (s : Side) (mail : AgentMail) → Each MoveWithout (goes_with m s mail).moves
-goes_without m s (Report session number tasks) = if_without (opens m.run s session number) (session_opens m s tasks) (nothing m) (mapped_without (λ (f : Framework). AtSide s.name (SendEnd f.id)) (λ f. tt) (filter (is_to_end m tasks) m.registers.frameworks)) tt
+goes_without m s (Report session number tasks total) = if_without (opens m.run s session number) (session_opens m s tasks) (nothing m) (mapped_without (λ (f : Framework). AtSide s.name (SendEnd f.id)) (λ f. tt) (filter (is_to_end m tasks) m.registers.frameworks)) tt
 goes_without m s (Applied session count) = tt
 goes_without m s (Update session key k state ended) = tt
 

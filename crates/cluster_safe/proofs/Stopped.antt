@@ -119,7 +119,7 @@ distinct_left (x ∷ xs) ys h = (each_left (λ t. t.job.key ≢ x.job.key) xs ys
 
 state_found : (rs : List Durable) (marks : List Mark) (p : Past) (l : InRun) (a : Agent) → PastOk p → p.latest ≤ l.number → StateOk p l.next_key l.total a → AgentTold (From rs l.channel.side.name marks) Any a → AgentFrom l.number a → FoundOk rs l.run marks l.channel a.durable
 state_found rs marks p l a past latest s t r = record {
-  fits = λ name. omega (arith, tasks_weigh name a.tasks, within_at_most (live (map task_stake a.tasks)) (live (stakes p a)) (live_left (map task_stake a.tasks) (coming p a)) name, s.room name, ap (amount name) s.owns);
+  fits = λ name. omega (arith, tasks_weigh name a.tasks, within_at_most (live (map task_stake a.tasks)) (live (stakes p a)) (live_left (map task_stake a.tasks) (coming p a)) name, s.room name);
   older = omega (arith, s.told, past.runs a.session, latest);
   below = each_left (λ s. Less s.job.key l.next_key) (map task_stake a.tasks) (coming p a) s.below;
   once = distinct_left (map task_stake a.tasks) (coming p a) s.distinct;

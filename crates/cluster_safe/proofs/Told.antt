@@ -23,12 +23,12 @@ use Rattle.mails.specs.declared.refusal.AgentRefusal.TheVariants.{OldSession, No
 use Rattle.names_core.specs.declared.state.TaskState.TheVariants.{Killed}
 use Rattle.stream_core.specs.Updates.{pushed, acknowledged_one, is_front, is_full, is_done}
 use Rattle.cluster_model.specs.Ids.{same, following, is_among, last_number}
-use Rattle.cluster_model.specs.Agents.{Agent, Draft, has_ended, is_task, state_at, reported, front_of, fronts, front_at, report_of, reopened, reports, opens_next, stated, acknowledged, launched_task, tasks_after, is_front_at, fronts_after, with_tasks, applies, has_room, hears_mail, needs_place, executes, next_of}
+use Rattle.cluster_model.specs.Agents.{Agent, Draft, has_ended, is_task, state_at, reported, front_of, fronts, front_at, report_of, owning, reopened, reports, opens_next, starts, stated, acknowledged, launched_task, tasks_after, is_front_at, fronts_after, with_tasks, applies, has_room, hears_mail, needs_place, executes, next_of}
 use Rattle.cluster_model.specs.Sides.{Run, Side, Sending, sends_nothing, issue, oldest_again, accepted, may_offer, heard_update, forget, forget_all, opens, opened, counts, shut, SideStep, MakeOffer, Withdraw, LaunchFrom, SendKill, SendAck, SendEnd, SendHello, SendAgain, Lose, side_step}
 use Rattle.cluster_model.specs.Channels.{Channel, AgentStep, Draw, DrawMail, Adopt, StopWithout, StopWith, drawn, drawn_mail, adopted, stopped_with, agent_step, ChannelStep, ByMaster, Hear, ByAgent, heard_mail, happens}
 use Rattle.cluster_safe.proofs.Ids.{same_is}
 use Rattle.cluster_safe.proofs.Orders.{each_append, each_map, each_at}
-use Rattle.cluster_safe.proofs.Drafts.{both_true, AllOk, all_if}
+use Rattle.cluster_safe.proofs.Drafts.{both_true, AllOk, all_if, starts_ok}
 use Rattle.cluster_safe.proofs.Kept.{heard_job}
 
 -- the record, and that of an open draft, and the draft's mails
@@ -58,7 +58,7 @@ DownTold J A (Hello run dead) = ⊤
 DownTold J A (Issued session number what) = CommandTold J A what
 
 abbrev pub UpTold : (Job → Type 0) → (Numbered → ℕ → Type 0) → AgentMail → Type 0
-UpTold J A (Report session run tasks) = Each (λ b. J b.job) tasks
+UpTold J A (Report session run tasks total) = Each (λ b. J b.job) tasks
 UpTold J A (Applied session count) = ⊤
 UpTold J A (Update session key k state ended) = (j : ℕ) → j < k → A key j
 
@@ -76,7 +76,7 @@ pub record Carried (J : Job → Type 0) (A : Numbered → ℕ → Type 0) (l : C
 -- what is told of more jobs and more acknowledgements
 
 up_wider : (J K : Job → Type 0) (A B : Numbered → ℕ → Type 0) → ((j : Job) → J j → K j) → ((key : Numbered) (k : ℕ) → A key k → B key k) → (m : AgentMail) → UpTold J A m → UpTold K B m
-up_wider J K A B f g (Report session run tasks) h = each_map (λ b. J b.job) (λ b. K b.job) (λ b x. f b.job x) tasks h
+up_wider J K A B f g (Report session run tasks total) h = each_map (λ b. J b.job) (λ b. K b.job) (λ b x. f b.job x) tasks h
 up_wider J K A B f g (Applied session count) h = tt
 up_wider J K A B f g (Update session key k state ended) h = λ j lt. g key j (h j lt)
 
@@ -223,7 +223,8 @@ drawn_told J A c None (Err refusal) h x = h
 drawn_told J A c None (Ok new) h x = record { booked = h.booked; waiting = h.waiting; states = (h.states.0, (x.0, tt)); downs = h.downs; ups = h.ups; pending = x.1 }
 
 draw_told : (J : Job → Type 0) (A : Numbered → ℕ → Type 0) (c : Channel) (cause : Cause) → Carried J A c → Carried J A (agent_step c (Draw cause))
-draw_told J A c Start h = drawn_told J A c c.draft (next_of c.agent Start) h (all_if (eqb c.agent.run 0) (Err OldSession) (opens_next c.agent c.agent.session c.agent.run) (DraftTold J A) (λ e. tt) (λ e. reopened_told J A c.agent c.agent.session c.agent.run h.states.0))
+draw_told J A c (Start total) h = drawn_told J A c c.draft (next_of c.agent (Start total)) h (all_if (eqb c.agent.run 0) (Err OldSession) (starts c.agent total) (DraftTold J A) (λ e. tt)
+    (λ e. starts_ok (DraftTold J A) c.agent total (reopened_told J A c.agent c.agent.session c.agent.run h.states.0) (λ more x. reopened_told J A (owning more c.agent) c.agent.session c.agent.run h.states.0)))
 draw_told J A c Again h = drawn_told J A c c.draft (next_of c.agent Again) h (h.states.0, fronts_told J A c.agent h.states.0)
 draw_told J A c (Mail to) h = h
 draw_told J A c (Executor key state) h = drawn_told J A c c.draft (next_of c.agent (Executor key state)) h (executes_told J A c.agent key state h.states.0)
@@ -278,8 +279,8 @@ with_books J A c s h b w = record { booked = b; waiting = w; states = h.states; 
 
 pub hear_told : (J : Job → Type 0) (A : Numbered → ℕ → Type 0) (run : Run) (c : Channel) (o : Option AgentMail) → ((m : AgentMail) → o ≡ Some m → UpTold J A m) → Carried J A c → Carried J A (heard_mail run c o)
 hear_told J A run c None x h = h
-hear_told J A run c (Some (Report session number tasks)) x h = cond_both (opens run c.side session number) (opened c.side session tasks) c.side (λ s. Carried J A (record c { side = s }))
-    (λ e. with_books J A c (opened c.side session tasks) h (x (Report session number tasks) refl) tt) (λ e. h)
+hear_told J A run c (Some (Report session number tasks total)) x h = cond_both (opens run c.side session number) (opened c.side session tasks total) c.side (λ s. Carried J A (record c { side = s }))
+    (λ e. with_books J A c (opened c.side session tasks total) h (x (Report session number tasks total) refl) tt) (λ e. h)
 hear_told J A run c (Some (Applied session count)) x h = cond_both (counts c.side session count) (record c.side { booked = forget_all (take (count - c.known) c.waiting) c.booked; waiting = drop (count - c.known) c.waiting; known = count }) c.side (λ s. Carried J A (record c { side = s }))
     (λ e. with_books J A c (record c.side { booked = forget_all (take (count - c.known) c.waiting) c.booked; waiting = drop (count - c.known) c.waiting; known = count }) h (forget_all_told (λ b. J b.job) (take (count - c.known) c.waiting) c.booked h.booked) (each_drop (CommandTold J A) (count - c.known) c.waiting h.waiting)) (λ e. h)
 hear_told J A run c (Some (Update session key k state ended)) x h = cond_both (c.is_open && session == c.session) (record c.side { booked = map (heard_update key k state ended) c.booked }) c.side (λ s. Carried J A (record c { side = s }))

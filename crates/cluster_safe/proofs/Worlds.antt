@@ -61,8 +61,8 @@ kept_later sent run next c later k = subst (λ n. Kept sent (at n next.torn)) (s
         when_shut = λ e. let o = k.1.when_shut e in record { offers = o.offers; booked = o.booked; closed = o.closed };
         states = each_map (StateOk k.0 l.next_key l.total) (StateOk k.0 next.next_key l.total) (state_later k.0 l.next_key next.next_key l.total later.key) (states_of l) k.1.states;
         downs = k.1.downs;
-        ups = each_map (UpOk k.0 l.next_key l.total (states_of l)) (UpOk k.0 next.next_key l.total (states_of l)) (up_later k.0 l.next_key next.next_key l.total (states_of l) later.key) l.to_master k.1.ups;
-        pending = each_map (UpOk k.0 l.next_key l.total (drafted l.draft)) (UpOk k.0 next.next_key l.total (drafted l.draft)) (up_later k.0 l.next_key next.next_key l.total (drafted l.draft) later.key) (mails_of l.draft) k.1.pending;
+        ups = each_map (UpOk k.0 l.next_key (states_of l)) (UpOk k.0 next.next_key (states_of l)) (up_later k.0 l.next_key next.next_key (states_of l) later.key) l.to_master k.1.ups;
+        pending = each_map (UpOk k.0 l.next_key (drafted l.draft)) (UpOk k.0 next.next_key (drafted l.draft)) (up_later k.0 l.next_key next.next_key (drafted l.draft) later.key) (mails_of l.draft) k.1.pending;
       },
       k.2,
       k.3,

@@ -5,6 +5,7 @@ use Rattle.names_core.specs.Ids.{Numbered}
 use Rattle.names_core.specs.declared.state.TaskState.{TaskState}
 use Rattle.quantity.specs.declared.rows.Row.{Row}
 use Rattle.quantity.specs.Rows.{amount}
+use Rattle.mails.specs.declared.task.Booked.{Booked}
 use Rattle.mails.specs.declared.task.Job.{Job}
 use Rattle.mails.specs.declared.mail.Command.{Command}
 use Rattle.mails.specs.declared.mail.Command.TheVariants.{Launch, Kill, Ack, EndFramework}
@@ -15,7 +16,7 @@ use Rattle.mails.specs.declared.mail.AgentMail.TheVariants.{Report, Applied, Upd
 use Rattle.mails.specs.declared.record.Durable.{Durable}
 use Rattle.mails.specs.declared.record.RecordedTask.{RecordedTask}
 use Rattle.mails.specs.declared.refusal.AgentRefusal.{AgentRefusal}
-use Rattle.mails.specs.declared.refusal.AgentRefusal.TheVariants.{NotForMe, OldSession, NotNext, NoSuchTask, Ended, NoRoom, UpdatesFull, SessionsSpent}
+use Rattle.mails.specs.declared.refusal.AgentRefusal.TheVariants.{NotForMe, OldSession, NotNext, NoSuchTask, Ended, NoRoom, UpdatesFull, SessionsSpent, TotalLess}
 use Rattle.cluster_model.specs.Ids.{before, first_of_run, is_among}
 use Rattle.cluster_model.specs.Agents.{Agent, Draft, has_ended, hears_mail}
 use Rattle.cluster_model.specs.Sides.{unended, job_rows, taken}
@@ -126,15 +127,16 @@ EndedAt key ss = Each (λ s. s.job.key ≡ key → s.ended ≡ true) ss
 abbrev pub Grown : (Numbered → List TaskState) → Stake → Type 0
 Grown sent s = (more : List TaskState) × (s.states ≡ sent s.job.key ++ more)
 
+-- the agent owns at least what the master takes to be its total, and all that it has or may still get fits what it owns
 pub record StateOk (p : Past) (next : Numbered) (total : List Row) (a : Agent) : Type 0 where
-  pub owns : a.total ≡ total
+  pub owns : AtMost total a.total
   pub told : p.told a.session ≡ a.run
   pub peak : p.peak ≤ a.session
   pub applied : a.in_session ≡ true → a.applied ≤ length (p.ever a.session)
   pub distinct : Distinct (stakes p a)
   pub order : InOrder (stakes p a)
   pub below : Each (λ s. Less s.job.key next) (stakes p a)
-  pub room : AtMost (job_rows (live (stakes p a))) total
+  pub room : AtMost (job_rows (live (stakes p a))) a.total
   pub ends : a.in_session ≡ true → EndsKept (take a.applied (p.ever a.session)) (stakes p a)
   pub grown : Each (Grown p.sent) (stakes p a)
 
@@ -142,14 +144,19 @@ abbrev pub DownOk : Past → MasterMail → Type 0
 DownOk p (Hello run dead) = (run ≤ p.latest) × (0 < run)
 DownOk p (Issued session number what) = (session ≤ p.peak) × ((m : ℕ) × (number ≡ suc m) × (slice_get (p.ever session) m ≡ Some what))
 
-abbrev pub UpOk : Past → Numbered → List Row → List Agent → AgentMail → Type 0
-UpOk p next total ags (Report session run tasks) =
-    (p.told session ≡ run) × AtMost (job_rows (unended tasks)) total ×
-    Each (λ a. (session ≤ a.session) × (p.peak < session → Within (live (stakes p a)) (unended tasks))) ags
-UpOk p next total ags (Applied session count) =
+-- a Report isn't ahead of the agent: its session and its total are at most those of the record, and the total is the record's as long as the agent is in that session; until the session is heard of, it has all that may be live
+pub record IsReportOf (p : Past) (session : ℕ) (tasks : List Booked) (total : List Row) (a : Agent) : Type 0 where
+  pub reached : session ≤ a.session
+  pub owns : AtMost total a.total
+  pub same : session ≡ a.session → total ≡ a.total
+  pub covered : p.peak < session → Within (live (stakes p a)) (unended tasks)
+
+abbrev pub UpOk : Past → Numbered → List Agent → AgentMail → Type 0
+UpOk p next ags (Report session run tasks total) = (p.told session ≡ run) × AtMost (job_rows (unended tasks)) total × Each (IsReportOf p session tasks total) ags
+UpOk p next ags (Applied session count) =
     (session ≤ p.peak) × (count ≤ length (p.ever session)) ×
     (session ≡ p.peak → Each (λ a. EndsKept (take count (p.ever session)) (stakes p a)) ags)
-UpOk p next total ags (Update session key k state ended) =
+UpOk p next ags (Update session key k state ended) =
     ended ≡ true → (Less key next) × Each (λ a. EndedAt key (stakes p a)) ags
 
 abbrev pub drafted : Option Draft → List Agent
@@ -192,8 +199,8 @@ pub record Facts (p : Past) (l : InRun) : Type 0 where
   pub when_shut : l.is_open ≡ false → ShutOk p l
   pub states : Each (StateOk p l.next_key l.total) (states_of l)
   pub downs : Each (DownOk p) l.to_agent
-  pub ups : Each (UpOk p l.next_key l.total (states_of l)) l.to_master
-  pub pending : Each (UpOk p l.next_key l.total (drafted l.draft)) (mails_of l.draft)
+  pub ups : Each (UpOk p l.next_key (states_of l)) l.to_master
+  pub pending : Each (UpOk p l.next_key (drafted l.draft)) (mails_of l.draft)
 
 abbrev pub Room : InRun → Type 0
 Room l = AtMost (taken l.channel.side) l.total
@@ -212,6 +219,7 @@ HasRoom (Err NoSuchTask) = ⊤
 HasRoom (Err Ended) = ⊤
 HasRoom (Err UpdatesFull) = ⊤
 HasRoom (Err SessionsSpent) = ⊤
+HasRoom (Err TotalLess) = ⊤
 HasRoom (Err NoRoom) = ⊥
 
 -- no mail ever sent finds the agent without room

@@ -4,6 +4,7 @@ use Rattle.std.specs.List.{AllByRecursion as Each}
 use Rattle.names_core.specs.Ids.{Numbered}
 use Rattle.mails.specs.declared.task.Job.{Job}
 use Rattle.mails.specs.declared.task.Booked.{Booked}
+use Rattle.quantity.specs.declared.rows.Row.{Row}
 use Rattle.mails.specs.declared.mail.Command.TheVariants.{Launch}
 use Rattle.mails.specs.declared.mail.MasterMail.TheVariants.{Hello, Issued}
 use Rattle.mails.specs.declared.mail.AgentMail.TheVariants.{Report}
@@ -20,9 +21,9 @@ NextLaunchIsLater c = (place session number : ℕ) (job : Job) (offers : List Nu
 abbrev pub HellosTellRuns : Channel → Type 0
 HellosTellRuns c = (place run dead : ℕ) → slice_get c.to_agent place ≡ Some (Hello run dead) → 0 < run
 
--- the tasks of a Report that haven't ended fit the agent's total
+-- the tasks of a Report that haven't ended fit the total that it tells
 abbrev pub ReportFits : Channel → Type 0
-ReportFits c = (place session run : ℕ) (tasks : List Booked) → slice_get c.to_master place ≡ Some (Report session run tasks) → AtMost (job_rows (unended tasks)) c.side.total
+ReportFits c = (place session run : ℕ) (tasks : List Booked) (total : List Row) → slice_get c.to_master place ≡ Some (Report session run tasks total) → AtMost (job_rows (unended tasks)) total
 
 pub record MeetsPremises (c : Channel) : Type 0 where
   pub launch : NextLaunchIsLater c

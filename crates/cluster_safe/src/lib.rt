@@ -104,7 +104,7 @@ pub fn found_records_open_again()
 {}
 
 /// Of every mail ever sent: a Launch that is next has a key behind all those of its agent's record, a Hello tells a run above 0, and the tasks of
-/// a Report fit the agent's total.
+/// a Report fit the total that it tells.
 pub fn mails_meet_their_premises()
     ensures { (setup : Setup) (records : List Durable) (steps : List Marked) → GoodOpening setup.run records →
         Each MeetsPremises (history setup records steps).state.world.channels }

@@ -57,7 +57,7 @@ abbrev pub expected : Expected
 expected = record {
   lines = line Fine [] [] (to_agent n_a1 (Hello 1 0) ∷ []) [] ∷
       line Fine [] [] [] [] ∷
-      line Fine [] [] (from_agent n_a1 (Report 1 1 []) ∷ []) [] ∷
+      line Fine [] [] (from_agent n_a1 (Report 1 1 [] (row n_cpus 4 ∷ row n_mem 4096 ∷ [])) ∷ []) [] ∷
       line Fine [] [] [] [] ∷
       line Fine [] [] (CallSent ∷ []) [] ∷
       line Fine (told (id 1 1) (SUBSCRIBED (id 1 1)) ∷ []) [] [] [] ∷

@@ -31,6 +31,10 @@ t2 = job (id 1 2) (id 1 1) (116 ∷ 50 ∷ []) (cpus 2)
 abbrev pub running : ℕ → List RecordedTask → ℕ → Agent
 running session tasks applied = record { durable = durable n_a1 (cpus 4) session 1 tasks; in_session = true; applied = applied }
 
+-- an agent that owns this, in a session of run 1
+abbrev pub owning : List Row → ℕ → Agent
+owning total session = record { durable = durable n_a1 total session 1 []; in_session = true; applied = 0 }
+
 abbrev pub new_agent : Agent
 new_agent = recovered_from (fresh n_a1 (cpus 4))
 

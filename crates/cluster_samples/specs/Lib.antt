@@ -25,3 +25,6 @@ pub mod ReportsOutOfTurn
 pub mod Declined
 pub mod AgentCauses
 pub mod OddVerdicts
+pub mod LargerTotal
+pub mod TotalLost
+pub mod TotalSaved

@@ -47,7 +47,7 @@ records = durable n_a1 (row n_cpus 4 ∷ []) 0 0 [] ∷
     durable n_a2 (row n_cpus 4 ∷ []) 0 0 [] ∷ []
 
 abbrev pub steps : List Step
-steps = Prepare n_a1 ByStart ∷
+steps = Prepare n_a1 (ByStart None) ∷
     Commit n_a1 ∷
     Prepare n_a1 (ByMail 2) ∷
     Commit n_a1 ∷
@@ -104,7 +104,7 @@ steps = Prepare n_a1 ByStart ∷
     Prepare n_a2 (ByMail 2) ∷
     Commit n_a2 ∷
     Deliver 26 ∷
-    Prepare n_a1 ByStart ∷
+    Prepare n_a1 (ByStart None) ∷
     Commit n_a1 ∷
     Deliver 27 ∷
     Take (id 1 3) ∷ []
@@ -117,7 +117,7 @@ expected = record {
       line (AgentRefused refusals.NotForMe) [] [] [] [] ∷
       Refused NoDraft ∷
       line Fine [] [] [] [] ∷
-      line Fine [] [] (from_agent n_a1 (Report 1 1 []) ∷ []) [] ∷
+      line Fine [] [] (from_agent n_a1 (Report 1 1 [] (row n_cpus 4 ∷ [])) ∷ []) [] ∷
       line Fine [] [] [] [] ∷
       line Fine [] [] (CallSent ∷ []) [] ∷
       line Fine (told (id 1 1) (SUBSCRIBED (id 1 1)) ∷ []) [] [] [] ∷
@@ -167,10 +167,10 @@ expected = record {
       line (AgentRefused refusals.NotForMe) [] [] [] [] ∷
       Refused NoDraft ∷
       line Fine [] [] [] [] ∷
-      line Fine [] [] (from_agent n_a2 (Report 1 1 []) ∷ []) [] ∷
+      line Fine [] [] (from_agent n_a2 (Report 1 1 [] (row n_cpus 4 ∷ [])) ∷ []) [] ∷
       line Fine [] [] [] [] ∷
       line Fine [] [] [] [] ∷
-      line Fine [] [] (from_agent n_a1 (Report 2 1 (booked (job (id 1 1) (id 1 2) n_t1 (row n_cpus 1 ∷ [])) true 1 Failed ∷ booked (job (id 1 2) (id 1 2) n_t4 (row n_cpus 2 ∷ [])) false 0 Staging ∷ [])) ∷ from_agent n_a1 (Update 2 (id 1 1) 0 Failed true) ∷ []) [] ∷
+      line Fine [] [] (from_agent n_a1 (Report 2 1 (booked (job (id 1 1) (id 1 2) n_t1 (row n_cpus 1 ∷ [])) true 1 Failed ∷ booked (job (id 1 2) (id 1 2) n_t4 (row n_cpus 2 ∷ [])) false 0 Staging ∷ []) (row n_cpus 4 ∷ [])) ∷ from_agent n_a1 (Update 2 (id 1 1) 0 Failed true) ∷ []) [] ∷
       line Fine [] [] (to_agent n_a1 (Issued 2 1 (EndFramework (id 1 2))) ∷ []) [] ∷
       line Fine [] [] [] (told (id 1 3) (SUBSCRIBED (id 1 2)) ∷ []) ∷ [];
   ends = ending n_a1 [] (task (job (id 1 1) (id 1 2) n_t1 (row n_cpus 1 ∷ [])) ((id 1 1) ∷ []) (Failed ∷ []) 0 ∷ task (job (id 1 2) (id 1 2) n_t4 (row n_cpus 2 ∷ [])) ((id 1 1) ∷ []) [] 0 ∷ []) ∷

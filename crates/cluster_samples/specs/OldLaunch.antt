@@ -50,7 +50,7 @@ abbrev pub expected : Expected
 expected = record {
   lines = line Fine [] [] (to_agent n_a1 (Hello 1 0) ∷ []) [] ∷
       line Fine [] [] [] [] ∷
-      line Fine [] [] (from_agent n_a1 (Report 1 1 []) ∷ []) [] ∷
+      line Fine [] [] (from_agent n_a1 (Report 1 1 [] (row n_cpus 4 ∷ row n_mem 4096 ∷ [])) ∷ []) [] ∷
       line Fine [] [] [] [] ∷
       line Fine [] [] (CallSent ∷ []) [] ∷
       line Fine (told (id 1 1) (SUBSCRIBED (id 1 1)) ∷ []) [] [] [] ∷
@@ -59,7 +59,7 @@ expected = record {
       line Fine [] [] (to_agent n_a1 (Issued 1 1 (Launch (job (id 1 1) (id 1 1) n_t1 (row n_cpus 2 ∷ row n_mem 1024 ∷ [])) ((id 1 1) ∷ []))) ∷ []) [] ∷
       line Fine [] [] (to_agent n_a1 (Hello 2 0) ∷ []) [] ∷
       line Fine [] [] [] [] ∷
-      line Fine [] [] (from_agent n_a1 (Report 2 2 []) ∷ []) [] ∷
+      line Fine [] [] (from_agent n_a1 (Report 2 2 [] (row n_cpus 4 ∷ row n_mem 4096 ∷ [])) ∷ []) [] ∷
       line Fine [] [] [] [] ∷
       line Fine [] [] (CallSent ∷ []) [] ∷
       line Fine (told (id 2 1) (SUBSCRIBED (id 1 1)) ∷ []) [] [] [] ∷

@@ -39,7 +39,7 @@ abbrev pub expected : Expected
 expected = record {
   lines = line Fine [] [] (to_agent n_a1 (Hello 2 0) ∷ []) [] ∷
       line Fine [] [] [] [] ∷
-      line Fine [] [] (from_agent n_a1 (Report 2 2 (booked (job (id 1 1) (id 1 1) n_t1 (row n_cpus 2 ∷ row n_mem 1024 ∷ [])) false 0 Staging ∷ [])) ∷ []) [] ∷
+      line Fine [] [] (from_agent n_a1 (Report 2 2 (booked (job (id 1 1) (id 1 1) n_t1 (row n_cpus 2 ∷ row n_mem 1024 ∷ [])) false 0 Staging ∷ []) (row n_cpus 4 ∷ row n_mem 4096 ∷ [])) ∷ []) [] ∷
       line Fine [] [] [] [] ∷
       line Fine [] [] (CallSent ∷ []) [] ∷
       line Fine (told (id 2 1) (SUBSCRIBED (id 2 1)) ∷ []) [] [] [] ∷

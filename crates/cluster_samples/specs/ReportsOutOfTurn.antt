@@ -36,9 +36,9 @@ records = durable n_a1 (row n_cpus 4 ∷ row n_mem 4096 ∷ []) 0 0 [] ∷
 abbrev pub steps : List Step
 steps = Prepare n_a1 (ByMail 1) ∷
     Commit n_a1 ∷
-    Prepare n_a1 ByStart ∷
+    Prepare n_a1 (ByStart None) ∷
     Commit n_a1 ∷
-    Prepare n_a1 ByStart ∷
+    Prepare n_a1 (ByStart None) ∷
     Commit n_a1 ∷
     Deliver 3 ∷
     Deliver 5 ∷
@@ -50,7 +50,7 @@ steps = Prepare n_a1 (ByMail 1) ∷
     Deliver 8 ∷
     Prepare n_a1 (ByMail 9) ∷
     Commit n_a1 ∷
-    Prepare n_a1 ByStart ∷
+    Prepare n_a1 (ByStart None) ∷
     Commit n_a1 ∷
     Prepare n_a1 (ByExecutor (id 1 1) Running) ∷
     Commit n_a1 ∷
@@ -63,11 +63,11 @@ abbrev pub expected : Expected
 expected = record {
   lines = line Fine [] [] (to_agent n_a1 (Hello 1 0) ∷ to_agent n_a2 (Hello 1 0) ∷ []) [] ∷
       line Fine [] [] [] [] ∷
-      line Fine [] [] (from_agent n_a1 (Report 1 1 []) ∷ []) [] ∷
+      line Fine [] [] (from_agent n_a1 (Report 1 1 [] (row n_cpus 4 ∷ row n_mem 4096 ∷ [])) ∷ []) [] ∷
       line Fine [] [] [] [] ∷
-      line Fine [] [] (from_agent n_a1 (Report 2 1 []) ∷ []) [] ∷
+      line Fine [] [] (from_agent n_a1 (Report 2 1 [] (row n_cpus 4 ∷ row n_mem 4096 ∷ [])) ∷ []) [] ∷
       line Fine [] [] [] [] ∷
-      line Fine [] [] (from_agent n_a1 (Report 3 1 []) ∷ []) [] ∷
+      line Fine [] [] (from_agent n_a1 (Report 3 1 [] (row n_cpus 4 ∷ row n_mem 4096 ∷ [])) ∷ []) [] ∷
       line Fine [] [] [] [] ∷
       line Fine [] [] [] [] ∷
       line (MasterRefused masters.OldSession) [] [] (to_agent n_a1 (Hello 1 1) ∷ []) [] ∷
@@ -79,7 +79,7 @@ expected = record {
       line Fine [] [] [] [] ∷
       line Fine [] [] (from_agent n_a1 (Applied 3 1) ∷ []) [] ∷
       line Fine [] [] [] [] ∷
-      line Fine [] [] (from_agent n_a1 (Report 4 1 (booked (job (id 1 1) (id 1 1) n_t1 (row n_cpus 1 ∷ [])) false 0 Staging ∷ [])) ∷ []) [] ∷
+      line Fine [] [] (from_agent n_a1 (Report 4 1 (booked (job (id 1 1) (id 1 1) n_t1 (row n_cpus 1 ∷ [])) false 0 Staging ∷ []) (row n_cpus 4 ∷ row n_mem 4096 ∷ [])) ∷ []) [] ∷
       line Fine [] [] [] [] ∷
       line Fine [] [] (from_agent n_a1 (Update 4 (id 1 1) 0 Running false) ∷ []) [] ∷
       line (MasterRefused masters.NotOpen) [] [] (to_agent n_a1 (Hello 1 1) ∷ []) [] ∷

@@ -39,14 +39,14 @@ steps = Prepare n_a1 (ByMail 1) ∷
     Deliver 4 ∷
     Prepare n_a1 (ByMail 5) ∷
     StopAfter n_a1 ∷
-    Prepare n_a1 ByStart ∷
+    Prepare n_a1 (ByStart None) ∷
     Commit n_a1 ∷ []
 
 abbrev pub expected : Expected
 expected = record {
   lines = line Fine [] [] (to_agent n_a1 (Hello 1 0) ∷ []) [] ∷
       line Fine [] [] [] [] ∷
-      line Fine [] [] (from_agent n_a1 (Report 1 1 []) ∷ []) [] ∷
+      line Fine [] [] (from_agent n_a1 (Report 1 1 [] (row n_cpus 4 ∷ row n_mem 4096 ∷ [])) ∷ []) [] ∷
       line Fine [] [] [] [] ∷
       line Fine [] [] (CallSent ∷ []) [] ∷
       line Fine (told (id 1 1) (SUBSCRIBED (id 1 1)) ∷ []) [] [] [] ∷
@@ -56,6 +56,6 @@ expected = record {
       line Fine [] [] [] [] ∷
       line Fine [] [] [] [] ∷
       line Fine [] [] [] [] ∷
-      line Fine [] [] (from_agent n_a1 (Report 2 1 (booked (job (id 1 1) (id 1 1) n_t1 (row n_cpus 2 ∷ row n_mem 1024 ∷ [])) false 0 Staging ∷ [])) ∷ []) [] ∷ [];
+      line Fine [] [] (from_agent n_a1 (Report 2 1 (booked (job (id 1 1) (id 1 1) n_t1 (row n_cpus 2 ∷ row n_mem 1024 ∷ [])) false 0 Staging ∷ []) (row n_cpus 4 ∷ row n_mem 4096 ∷ [])) ∷ []) [] ∷ [];
   ends = ending n_a1 [] (task (job (id 1 1) (id 1 1) n_t1 (row n_cpus 2 ∷ row n_mem 1024 ∷ [])) ((id 1 1) ∷ []) [] 0 ∷ []) ∷ [];
 }

@@ -40,7 +40,7 @@ steps = Prepare n_a1 (ByMail 1) ∷
     Allocate ∷
     Prepare n_a1 (ByMail 5) ∷
     StopBefore n_a1 ∷
-    Prepare n_a1 ByStart ∷
+    Prepare n_a1 (ByStart None) ∷
     Commit n_a1 ∷
     Deliver 6 ∷ []
 
@@ -48,7 +48,7 @@ abbrev pub expected : Expected
 expected = record {
   lines = line Fine [] [] (to_agent n_a1 (Hello 1 0) ∷ []) [] ∷
       line Fine [] [] [] [] ∷
-      line Fine [] [] (from_agent n_a1 (Report 1 1 []) ∷ []) [] ∷
+      line Fine [] [] (from_agent n_a1 (Report 1 1 [] (row n_cpus 4 ∷ row n_mem 4096 ∷ [])) ∷ []) [] ∷
       line Fine [] [] [] [] ∷
       line Fine [] [] (CallSent ∷ []) [] ∷
       line Fine (told (id 1 1) (SUBSCRIBED (id 1 1)) ∷ []) [] [] [] ∷
@@ -59,7 +59,7 @@ expected = record {
       line Fine [] [] [] [] ∷
       line Fine [] [] [] [] ∷
       line Fine [] [] [] [] ∷
-      line Fine [] [] (from_agent n_a1 (Report 2 1 []) ∷ []) [] ∷
+      line Fine [] [] (from_agent n_a1 (Report 2 1 [] (row n_cpus 4 ∷ row n_mem 4096 ∷ [])) ∷ []) [] ∷
       line Fine (told (id 1 1) (RESCIND (id 1 2)) ∷ told (id 1 1) (UPDATE n_t1 Lost (Some n_a1) None) ∷ []) [] [] [] ∷ [];
   ends = ending n_a1 [] [] ∷ [];
 }

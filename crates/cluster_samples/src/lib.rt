@@ -26,17 +26,20 @@ ghost use Rattle.cluster_samples.specs.FirstOffer as first_offer_sample;
 ghost use Rattle.cluster_samples.specs.ReportsOutOfTurn as reports_out_of_turn_sample;
 ghost use Rattle.cluster_samples.specs.OddVerdicts as odd_verdicts_sample;
 ghost use Rattle.cluster_samples.specs.Declined as declined_sample;
-ghost use Rattle.cluster_samples.specs.AgentCauses.{cpus, drafts, hears, killed, launched, n_a1, n_a2, new_agent, running, t1, t2};
+ghost use Rattle.cluster_samples.specs.LargerTotal as larger_total_sample;
+ghost use Rattle.cluster_samples.specs.TotalLost as total_lost_sample;
+ghost use Rattle.cluster_samples.specs.TotalSaved as total_saved_sample;
+ghost use Rattle.cluster_samples.specs.AgentCauses.{cpus, drafts, hears, killed, launched, n_a1, n_a2, new_agent, owning, running, t1, t2};
 ghost use Rattle.cluster_samples.specs.Short.{id};
 ghost use Rattle.cluster_model.specs.Agents.{next_of};
 ghost use Rattle.mails.specs.declared.cause.Cause.TheVariants.{Executor, Mail, Start};
 ghost use Rattle.mails.specs.declared.mail.Command.TheVariants.{Kill, Launch};
 ghost use Rattle.mails.specs.declared.mail.MasterMail.TheVariants.{Hello, Issued};
 ghost use Rattle.mails.specs.declared.mail.AgentMail.TheVariants.{Applied, Report, Update};
-ghost use Rattle.mails.specs.declared.refusal.AgentRefusal.TheVariants.{Ended, NoRoom, NotForMe, NotNext, OldSession};
+ghost use Rattle.mails.specs.declared.refusal.AgentRefusal.TheVariants.{Ended, NoRoom, NotForMe, NotNext, OldSession, TotalLess};
 ghost use Rattle.names_core.specs.declared.state.TaskState.TheVariants.{Finished, Killed};
 ghost use Rattle.cluster_samples.specs.Short.{outcome, run};
-ghost use Rattle.std.specs.Prelude.{◌≡◌, [], ◌∷◌, Err, true};
+ghost use Rattle.std.specs.Prelude.{◌≡◌, [], ◌∷◌, None, Some, Err, true};
 
 /// A declined offer is kept back from its framework for five seconds.
 pub fn declined_offer()
@@ -165,12 +168,37 @@ pub fn declined()
 
 /// A fresh agent: nothing to start, the first session, the same Report again, a session above the closed one.
 pub fn sessions_of_an_agent()
-    ensures nothing_to_start { next_of new_agent Start ≡ Err OldSession }
+    ensures nothing_to_start { next_of new_agent (Start None) ≡ Err OldSession }
     ensures not_for_it { next_of new_agent (Mail (record { agent = n_a2; mail = Hello 1 0 })) ≡ Err NotForMe }
-    ensures first { next_of new_agent (hears (Hello 1 0)) ≡ drafts (running 1 [] 0) (Report 1 1 [] ∷ []) }
-    ensures again { next_of (running 1 [] 0) (hears (Hello 1 0)) ≡ drafts (running 1 [] 0) (Report 1 1 [] ∷ []) }
-    ensures above { next_of (running 1 [] 0) (hears (Hello 1 5)) ≡ drafts (running 6 [] 0) (Report 6 1 [] ∷ []) }
+    ensures first { next_of new_agent (hears (Hello 1 0)) ≡ drafts (running 1 [] 0) (Report 1 1 [] (cpus 4) ∷ []) }
+    ensures again { next_of (running 1 [] 0) (hears (Hello 1 0)) ≡ drafts (running 1 [] 0) (Report 1 1 [] (cpus 4) ∷ []) }
+    ensures above { next_of (running 1 [] 0) (hears (Hello 1 5)) ≡ drafts (running 6 [] 0) (Report 6 1 [] (cpus 4) ∷ []) }
     ensures older { next_of (running 1 [] 0) (hears (Hello 0 5)) ≡ Err OldSession }
+{}
+
+/// A start with a total: none without a session, not less than before; with the same or more the agent owns that in its next session.
+pub fn totals_of_an_agent()
+    ensures nothing_to_start { next_of new_agent (Start (Some (cpus 3))) ≡ Err OldSession }
+    ensures less { next_of (running 1 [] 0) (Start (Some (cpus 3))) ≡ Err TotalLess }
+    ensures nothing { next_of (running 1 [] 0) (Start (Some [])) ≡ Err TotalLess }
+    ensures alike { next_of (running 1 [] 0) (Start (Some (cpus 4))) ≡ drafts (running 2 [] 0) (Report 2 1 [] (cpus 4) ∷ []) }
+    ensures more { next_of (running 1 [] 0) (Start (Some (cpus 8))) ≡ drafts (owning (cpus 8) 2) (Report 2 1 [] (cpus 8) ∷ []) }
+    ensures none { next_of (owning (cpus 8) 2) (Start None) ≡ drafts (owning (cpus 8) 3) (Report 3 1 [] (cpus 8) ∷ []) }
+{}
+
+/// An agent returns with a larger total: its Report takes that into the books, and not before.
+pub fn larger_total()
+    ensures { outcome (run 1 larger_total_sample.records larger_total_sample.steps) ≡ larger_total_sample.expected }
+{}
+
+/// An agent that stops before its larger total is saved owns what it owned; its offer stays.
+pub fn total_lost()
+    ensures { outcome (run 1 total_lost_sample.records total_lost_sample.steps) ≡ total_lost_sample.expected }
+{}
+
+/// An agent that stops after its larger total is saved owns that; the books have the smaller one until it reports, and its offer stays.
+pub fn total_saved()
+    ensures { outcome (run 1 total_saved_sample.records total_saved_sample.steps) ≡ total_saved_sample.expected }
 {}
 
 /// Commands of a session: each once and in order; no room, an end, and nothing behind the end.

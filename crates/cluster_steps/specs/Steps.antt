@@ -23,7 +23,7 @@ use Rattle.cluster_steps.specs.declared.fault.ClusterFault.TheVariants as faults
 -- a step, as the model has it
 
 abbrev pub cause_of : StepCause → model.StepCause
-cause_of causes.Start = model.ByStart
+cause_of (causes.Start total) = model.ByStart total
 cause_of causes.Again = model.ByAgain
 cause_of (causes.Executor key state) = model.ByExecutor key state
 cause_of (causes.Mail number) = model.ByMail number

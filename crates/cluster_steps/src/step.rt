@@ -5,12 +5,13 @@ ghost use Rattle.std.proofs.Common.{rules};
 use mails::Call;
 use names_core::{AgentName, LaunchKey, StreamId, TaskState};
 use plain_data::Plain;
+use quantity::Resources;
 
 /// What an agent acts on; a mail from the master is named by its number.
-#[derive(Clone, Copy, Debug, Drop, PartialEq, Eq)]
+#[derive(Clone, Debug, Drop, PartialEq)]
 pub enum StepCause {
-    /// It starts, and opens a new session with the master of its last run.
-    Start,
+    /// It starts, and opens a new session with the master of its last run. With a total it owns that from then on.
+    Start(Option<Resources>),
     /// It sends again what isn't acknowledged.
     Again,
     /// The executor of the task of this key tells a state: TASK_RUNNING, TASK_FINISHED or TASK_FAILED.
@@ -19,9 +20,17 @@ pub enum StepCause {
 }
 
 impl Plain for StepCause {
+    ghost use Rattle.cluster_steps.specs.declared.step.StepCause.TheVariants.{Again, Executor, Mail, Start};
+    ghost use Rattle.quantity.specs.contracts.resources.ResourcesPlain.TheImpl.Laws.{decided-law as resources_decided};
+
     ghost cloned = { Prim.search rules };
 
-    ghost decided = { Prim.search rules };
+    ghost decided = { elim [
+      | Start t ↦ elim [ Start u ↦ Prim.search (rules, resources_decided) | _ ↦ Prim.search rules ]
+      | Again ↦ elim [ Again ↦ Prim.search rules | _ ↦ Prim.search rules ]
+      | Executor k s ↦ elim [ Executor l t ↦ Prim.search rules | _ ↦ Prim.search rules ]
+      | Mail n ↦ elim [ Mail m ↦ Prim.search rules | _ ↦ Prim.search rules ]
+    ] };
 }
 
 /// What an agent that stops is recovered from.

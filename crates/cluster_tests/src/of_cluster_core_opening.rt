@@ -20,6 +20,13 @@ const B: &str = r#"{"name":"b","run":0,"session":0,"tasks":[],"total":{"cpus":4}
 const LARGER_B: &str =
     r#"{"name":"b","run":0,"session":0,"tasks":[],"total":{"cpus":5},"version":1}"#;
 
+const SMALLER_B: &str =
+    r#"{"name":"b","run":0,"session":0,"tasks":[],"total":{"cpus":3},"version":1}"#;
+
+/// It owns something of which no agent has any.
+const OTHER_B: &str =
+    r#"{"name":"b","run":0,"session":0,"tasks":[],"total":{"cpus":3,"mem":1},"version":1}"#;
+
 const A_IN_RUN_2: &str =
     r#"{"name":"a","run":2,"session":2,"tasks":[],"total":{"cpus":4},"version":1}"#;
 
@@ -47,11 +54,13 @@ const B_WITH_THE_KEY_OF_A: &str =
     r#"{"name":"b","run":2,"session":2,"tasks":[{"acked":0,"framework":"F1-1","key":"L2-1","name":"t","offers":["O2-1"],"resources":{"cpus":4},"updates":[]}],"total":{"cpus":4},"version":1}"#;
 
 /// The first record, the second one, the run, and whether they are a good opening; none where no agent can have one of them.
-const OPENINGS: [(&str, &str, u16, Option<bool>); 11] = [
+const OPENINGS: [(&str, &str, u16, Option<bool>); 13] = [
     (A, B, 1, Some(true)),
     (B, A, 1, Some(true)),
     (A, A, 1, Some(false)),
     (A, LARGER_B, 1, Some(false)),
+    (A, SMALLER_B, 1, Some(true)),
+    (A, OTHER_B, 1, Some(false)),
     (A_IN_RUN_2, B, 3, Some(true)),
     (A_IN_RUN_3, B, 3, Some(false)),
     (BUSY_A_IN_RUN_1, B, 2, Some(false)),

@@ -6,3 +6,5 @@ pub mod Picks
 pub mod Once
 pub mod OnceRoles
 pub mod UpTo
+pub mod Weights
+pub mod Picked

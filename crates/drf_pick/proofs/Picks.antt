@@ -16,7 +16,8 @@ use Rattle.cluster_model.specs.Rounds.{share, stands_at_most_at, stands_first}
 use Rattle.drf_pick.specs.Shares.{Tally, Holder, RoleSum, is_role}
 use Rattle.drf_pick.specs.Least.{role_share, share_of_sum, comes_before, better}
 use Rattle.drf_pick.specs.Orders.{Among, IsPreorder}
-use Rattle.drf_pick.specs.Laws.{ArePositive, AreWeighed, PicksLeast, Weighed}
+use Rattle.drf_pick.specs.Shares.{AreWeighed}
+use Rattle.drf_pick.specs.Laws.{ArePositive, PicksLeast, Weighed}
 use Rattle.drf_pick.proofs.Orders.{comes_first, first_preorder}
 use Rattle.drf_pick.proofs.Standing.{standing_is_order}
 use Rattle.drf_pick.proofs.Names.{before_text}
@@ -101,14 +102,14 @@ turn_first false true tie f = refl
 turn_first false false tie f = absurd (false≢true (f refl))
 
 -- all agents own some of each name of the totals, and each role has some weight
-abbrev Sound : Tally → Type 0
+abbrev pub Sound : Tally → Type 0
 Sound t = ArePositive t.totals × AreWeighed t.roles
 
 -- frameworks within a role count alike
-abbrev alone : Holder → Weighed
+abbrev pub alone : Holder → Weighed
 alone c = record { share = share c.held 1; some = omega arith }
 
-some_weight : (rs : List RoleSum) (role : List ℕ) → AreWeighed rs → 0 < (role_share rs role).weight
+pub some_weight : (rs : List RoleSum) (role : List ℕ) → AreWeighed rs → 0 < (role_share rs role).weight
 some_weight [] role are = omega arith
 some_weight (r ∷ rs) role are = by_case (is_role role r) (some_weight rs role are.1)
   where
@@ -116,7 +117,7 @@ some_weight (r ∷ rs) role are = by_case (is_role role r) (some_weight rs role 
     by_case true behind = are.0
     by_case false behind = behind
 
-abbrev of_role : (t : Tally) → Sound t → List ℕ → Weighed
+abbrev pub of_role : (t : Tally) → Sound t → List ℕ → Weighed
 of_role t sound role = record { share = role_share t.roles role; some = some_weight t.roles role sound.1 }
 
 abbrev by_roles : Tally → List ℕ → List ℕ → Bool

@@ -6,7 +6,8 @@ use Rattle.quantity.specs.Rows.{amount}
 use Rattle.quantity.specs.Laws.{SameAmounts}
 use Rattle.cluster_model.specs.Rounds.{Share, stands_at_most_at}
 pub use Rattle.share_sums.specs.Sums.{SumsAdd}
-use Rattle.drf_pick.specs.Shares.{Tally, Holder, RoleSum}
+use Rattle.drf_pick.specs.Shares.{Tally, Holder}
+pub use Rattle.drf_pick.specs.Shares.{AreWeighed}
 use Rattle.drf_pick.specs.Least.{comes_before, better}
 use Rattle.drf_pick.specs.Orders.{Among, IsPreorder}
 
@@ -48,10 +49,6 @@ pub record Weighed : Type 0 where
 -- any two of some weight stand in the order, and it goes on from one to the next
 abbrev pub StandingIsOrder : Type 0
 StandingIsOrder = (totals : List Row) → ArePositive totals → IsPreorder (λ (a b : Weighed). stands_at_most_at totals a.share b.share)
-
--- each role has some weight
-abbrev pub AreWeighed : List RoleSum → Type 0
-AreWeighed rs = AllByRecursion (λ r. 0 < r.weight) rs
 
 -- one of the frameworks, and none comes before it
 pub record IsLeast (t : Tally) (hs : List Holder) (h : Holder) : Type 0 where

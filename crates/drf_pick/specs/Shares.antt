@@ -1,5 +1,5 @@
 -- What frameworks and roles hold, and what all agents own.
-use Rattle.std.specs.Prelude.{◌≡◌, ⊤, ℕ, Bool, true, false, ◌&&◌, if◌then◌else◌, List, [], ◌∷◌, ◌++◌, Option, Some, None, bytes_eq}
+use Rattle.std.specs.Prelude.{◌≡◌, ◌<◌, ⊤, ℕ, Bool, true, false, ◌&&◌, if◌then◌else◌, List, [], ◌∷◌, ◌++◌, Option, Some, None, bytes_eq}
 use Rattle.std.specs.List.{AllByRecursion, find}
 use Rattle.names_core.specs.Ids.{Numbered}
 use Rattle.quantity.specs.declared.rows.Row.{Row}
@@ -139,3 +139,7 @@ AreUpTo (Some last) hs = AllByRecursion (λ h. before last h.framework ≡ false
 abbrev pub RolesOnce : List RoleSum → Type 0
 RolesOnce [] = ⊤
 RolesOnce (r ∷ rs) = (find (is_role r.role) rs ≡ None) × RolesOnce rs
+
+-- each role has some weight
+abbrev pub AreWeighed : List RoleSum → Type 0
+AreWeighed rs = AllByRecursion (λ r. 0 < r.weight) rs

@@ -8,10 +8,11 @@ use names_core::{FrameworkId, RoleName};
 use share_sums::Sum;
 use std::alloc::Global;
 
-/// A framework that may be picked.
-#[derive(Clone, Copy, Drop)]
+/// A framework that may be picked, and its role.
+#[derive(Drop)]
 pub struct Client {
     pub framework: FrameworkId,
+    pub role: RoleName,
 }
 
 /// A framework, its role, and the sum of what it holds.

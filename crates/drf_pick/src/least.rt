@@ -1,13 +1,14 @@
 //! The framework that stands least.
 
-ghost use Rattle.std.specs.Prelude.{◌≡◌, [], None, fold};
+ghost use Rattle.std.specs.Prelude.{◌≡◌, [], None, fold, IfNone, IfSome};
 ghost use Rattle.std.specs.Option.{option_copied};
 ghost use Rattle.cluster_model.specs.Ids.{bytes_before};
 ghost use Rattle.cluster_model.specs.Rounds.{share};
-ghost use Rattle.drf_pick.specs.Shares.{RolesOnce};
-ghost use Rattle.drf_pick.specs.Least.{role_share, comes_before, better, better_client, pick_of};
+ghost use Rattle.drf_pick.specs.Laws.{ArePositive};
+ghost use Rattle.drf_pick.specs.Shares.{AreWeighed, RolesOnce};
+ghost use Rattle.drf_pick.specs.Least.{IsPicked, better_client, comes_before, comes_by_role, comes_within_role, held_by, holder_for, role_share};
 
-use crate::holder::{Client, Holder, RoleSum, is_before};
+use crate::holder::{Client, RoleSum, is_before};
 use crate::shares::{Shares, find_holder, find_role, guess_at};
 use names_core::{FrameworkId, RoleName};
 use share_sums::{Sum, stands_first};
@@ -39,30 +40,49 @@ fn weight_of_role(roles: &[RoleSum], guess: usize, role: &RoleName) -> u16
     }
 }
 
-/// Whether the first framework is served rather than the second: by their roles, and within a role by themselves. They are likely to stand at these places.
-fn comes_before(
+/// What a framework holds; nothing where no role was told of it. It is likely to stand at this place.
+fn held_by(shares: &Shares, guess: usize, framework: FrameworkId) -> &Sum
+    ensures { result.now ≡ held_by shares.entry.now framework }
+{
+    match find_holder(shares.holders.as_slice(), guess, framework) {
+        Some(holder) => &holder.held,
+        None => &shares.nothing,
+    }
+}
+
+/// Whether the first framework is served rather than the second, which is of the same role.
+fn comes_within_role(
     shares: &Shares,
-    first: &Holder,
+    first: FrameworkId,
     first_place: usize,
-    second: &Holder,
+    second: FrameworkId,
     second_place: usize,
 ) -> bool
-    ensures { result ≡ comes_before shares.now first.now second.now }
+    ensures { result ≡ comes_within_role shares.now first second }
 {
-    let totals = &shares.totals;
-    if first.role.is(&second.role) {
-        let tie = is_before(first.framework, second.framework);
-        return stands_first(totals, &first.held, 1, &second.held, 1, tie);
-    }
-    let tie = is_name_before(&first.role, &second.role);
-    let first_guess = guess_at(&shares.role_places, first_place);
-    let second_guess = guess_at(&shares.role_places, second_place);
-    let first_held = held_by_role(&shares.roles, &shares.nothing, first_guess, &first.role);
-    let second_held = held_by_role(&shares.roles, &shares.nothing, second_guess, &second.role);
-    let first_weight = weight_of_role(&shares.roles, first_guess, &first.role);
-    let second_weight = weight_of_role(&shares.roles, second_guess, &second.role);
+    let first_held = held_by(shares, first_place, first);
+    let second_held = held_by(shares, second_place, second);
+    let tie = is_before(first, second);
+    stands_first(&shares.totals, first_held, 1, second_held, 1, tie)
+}
+
+/// Whether the frameworks of the first role are served rather than those of the second, which is another. The roles are likely to stand at these places.
+fn comes_by_role(
+    shares: &Shares,
+    first: &RoleName,
+    first_guess: usize,
+    second: &RoleName,
+    second_guess: usize,
+) -> bool
+    ensures { result ≡ comes_by_role shares.now first.now second.now }
+{
+    let first_held = held_by_role(&shares.roles, &shares.nothing, first_guess, first);
+    let second_held = held_by_role(&shares.roles, &shares.nothing, second_guess, second);
+    let first_weight = weight_of_role(&shares.roles, first_guess, first);
+    let second_weight = weight_of_role(&shares.roles, second_guess, second);
+    let tie = is_name_before(first, second);
     stands_first(
-        totals,
+        &shares.totals,
         first_held,
         first_weight,
         second_held,
@@ -71,64 +91,88 @@ fn comes_before(
     )
 }
 
-fn better<'a>(
+/// Whether the first framework is served rather than the second, each of its role: by their roles, and within a role by themselves. `first_place` and
+/// `second_place` say where they are likely to stand among those that a role was told of, in that order, from 0; it goes faster where they do, and no
+/// answer hangs on it. It takes no memory.
+pub fn comes_before(
     shares: &Shares,
-    best: Option<&'a Holder>,
-    best_place: &mut usize,
-    holder: &'a Holder,
-    place: usize,
-) -> Option<&'a Holder>
-    ensures { option_copied result ≡ better shares.now (option_copied best.entry) holder.entry.now }
+    first: FrameworkId,
+    first_role: &RoleName,
+    first_place: usize,
+    second: FrameworkId,
+    second_role: &RoleName,
+    second_place: usize,
+) -> bool
+    ensures { result ≡ comes_before shares.now (holder_for shares.now first first_role.now)
+        (holder_for shares.now second second_role.now) }
 {
-    match best {
-        None => {
-            *best_place = place;
-            Some(holder)
-        }
-        Some(other) => {
-            if comes_before(shares, holder, place, other, *best_place) {
-                *best_place = place;
-                Some(holder)
-            } else {
-                best
-            }
-        }
+    if first_role.is(second_role) {
+        return comes_within_role(shares, first, first_place, second, second_place);
+    }
+    let first_guess = guess_at(&shares.role_places, first_place);
+    let second_guess = guess_at(&shares.role_places, second_place);
+    comes_by_role(shares, first_role, first_guess, second_role, second_guess)
+}
+
+/// The better one of the best so far and a client. `best_place` and `place` say where the two are likely to stand.
+fn better_client<'a>(
+    shares: &Shares,
+    best: Option<&'a Client>,
+    best_place: &mut usize,
+    client: &'a Client,
+    place: usize,
+) -> Option<&'a Client>
+    ensures { option_copied result ≡ better_client shares.now (option_copied best.entry) client.entry.now }
+{
+    let Some(other) = best else {
+        *best_place = place;
+        return Some(client);
+    };
+    if comes_before(
+        shares,
+        client.framework,
+        &client.role,
+        place,
+        other.framework,
+        &other.role,
+        *best_place,
+    ) {
+        *best_place = place;
+        Some(client)
+    } else {
+        best
     }
 }
 
-/// The better one of the best so far and a client. A framework that no role was told of is no better than any. `best_place` and `place` say where the best and
-/// the client are likely to stand among those that a role was told of, in that order, from 0; it goes faster where they do, and no answer hangs on it.
-pub fn better_client<'a>(
-    shares: &'a Shares,
-    best: Option<&'a Holder>,
-    best_place: &mut usize,
-    client: Client,
-    place: usize,
-) -> Option<&'a Holder>
-    ensures { option_copied result ≡ better_client shares.entry.now (option_copied best.entry) client }
-{
-    match find_holder(shares.holders.as_slice(), place, client.framework) {
-        None => best,
-        Some(holder) => better(shares, best, best_place, holder, place),
-    }
-}
-
-fn best_of<'a>(shares: &'a Shares, clients: &[Client]) -> Option<&'a Holder>
-    ensures { option_copied result ≡ fold (better_client shares.entry.now) None clients.now }
+fn best_of<'a>(shares: &Shares, clients: &'a [Client]) -> Option<&'a Client>
+    ensures { option_copied result ≡ fold (better_client shares.now) None clients.entry.now }
 {
     let mut best = None;
     let mut best_place = 0;
     for place in 0..clients.len() {
-        best = better_client(shares, best, &mut best_place, clients[place], place);
+        best = better_client(shares, best, &mut best_place, &clients[place], place);
     }
     best
 }
 
-/// The client that stands least: first the role that stands least, ties by the roles' names, then the framework of it, ties by
-/// the frameworks' ids. None where there is no client; a framework that no role was told of isn't picked.
-pub fn pick(shares: &Shares, clients: &[Client]) -> Option<FrameworkId>
-    ensures { result ≡ pick_of shares.now clients.now }
+/// Of each name that agents own they own some amount, and each role has some weight.
+fn are_sound(shares: &Shares)
+    ensures positive { ArePositive shares.now.totals }
+    ensures weighed { AreWeighed shares.now.roles }
 {
-    let holder = best_of(shares, clients)?;
-    Some(holder.framework)
+    let _totals = shares.totals.rows();
+}
+
+/// The client that stands least: its role stands at most at each other's, ties by the roles' names, and within its role it stands at most at each other,
+/// ties by the frameworks' ids. What a role or a framework holds that the shares were told nothing of is nothing. None only where there is no client. It takes
+/// no memory.
+pub fn pick(shares: &Shares, clients: &[Client]) -> Option<FrameworkId>
+    ensures some { IfSome result (IsPicked shares.now clients.now) }
+    ensures none { IfNone result (clients.now ≡ []) }
+{
+    are_sound(shares);
+    match best_of(shares, clients) {
+        None => None,
+        Some(client) => Some(client.framework),
+    }
 }

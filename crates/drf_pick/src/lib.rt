@@ -8,6 +8,6 @@ mod shares;
 
 pub use holder::{Client, Holder, RoleSum};
 pub use laws::{amounts_decide, picks_least, standing_is_order, sums_add, test_is_relation};
-pub use least::{better_client, pick};
+pub use least::{comes_before, pick};
 pub use share_sums::{SharesFault, Sum};
 pub use shares::Shares;

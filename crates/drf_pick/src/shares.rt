@@ -29,14 +29,14 @@ pub struct Shares {
 
 impl Model for Shares {
     ghost use Rattle.std.specs.Prelude.{◌≡◌, []};
-    ghost use Rattle.drf_pick.specs.Shares.{AreUpTo, Tally, HoldersOnce, RolesOnce};
+    ghost use Rattle.drf_pick.specs.Shares.{AreUpTo, AreWeighed, Tally, HoldersOnce, RolesOnce};
 
     ghost Value = { Tally };
 
     ghost view = { λ s. record { totals = s.totals; holders = s.holders.items; roles = s.roles.items } };
 
-    ghost invariant = { λ s. (((s.nothing ≡ []) × AreUpTo s.last s.holders.items) × RolesOnce s.roles.items)
-        × HoldersOnce s.holders.items };
+    ghost invariant = { λ s. ((((s.nothing ≡ []) × AreWeighed s.roles.items) × AreUpTo s.last s.holders.items)
+        × RolesOnce s.roles.items) × HoldersOnce s.holders.items };
 }
 
 /// The place of a framework's holder. It is found at once where the holders stand in the order of their frameworks' ids.

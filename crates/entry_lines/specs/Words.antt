@@ -48,6 +48,7 @@ agent_refusal_text agents.Ended = codes "A5 Ended"
 agent_refusal_text agents.NoRoom = codes "A6 NoRoom"
 agent_refusal_text agents.UpdatesFull = codes "A9 UpdatesFull"
 agent_refusal_text agents.SessionsSpent = codes "A10 SessionsSpent"
+agent_refusal_text agents.TotalLess = codes "A11 TotalLess"
 
 unfoldable pub master_refusal_text : MasterRefusal → List ℕ
 master_refusal_text masters.OtherRun = codes "G1 OtherRun"

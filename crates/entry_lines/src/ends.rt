@@ -7,6 +7,7 @@ ghost use Rattle.entry_lines.specs.Ends.{agent_front, agent_text, amount_text, a
 use mails::{Durable, Job, RecordedTask};
 use names_core::{AgentName, TaskState};
 use quantity::{Resources, Row};
+use shared_value::Shared;
 use std::alloc::{AllocError, Global};
 use stream_core::Updates;
 
@@ -82,7 +83,11 @@ fn push_task(alloc: Global, text: &mut Vec<u8>, task: &RecordedTask) -> Result<(
     Ok(())
 }
 
-fn push_tasks(alloc: Global, text: &mut Vec<u8>, tasks: &[RecordedTask]) -> Result<(), AllocError>
+fn push_tasks(
+    alloc: Global,
+    text: &mut Vec<u8>,
+    tasks: &[Shared<RecordedTask>],
+) -> Result<(), AllocError>
     ensures { OnOk result (text.new.items ≡ text.old.items ++ flat_map task_line tasks.now) }
 {
     for task in tasks {

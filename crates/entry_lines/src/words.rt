@@ -48,6 +48,7 @@ fn agent_refusal_text(refusal: AgentRefusal) -> &'static str
         AgentRefusal::NoRoom => "A6 NoRoom",
         AgentRefusal::UpdatesFull => "A9 UpdatesFull",
         AgentRefusal::SessionsSpent => "A10 SessionsSpent",
+        AgentRefusal::TotalLess => "A11 TotalLess",
     }
 }
 

@@ -20,9 +20,9 @@ use Rattle.mails.specs.declared.record.Durable.{Durable}
 use Rattle.mails.specs.declared.record.RecordedTask.{RecordedTask}
 use Rattle.agent_core.specs.Records.{is_record, keys_rise, rise_behind}
 use Rattle.record_text.specs.Texts.{record_form}
-use Rattle.record_text.specs.Written.{IsTask, IsDurable}
+use Rattle.record_text.specs.Written.{IsTask, IsDurable, IsWritten}
 use Rattle.record_text.specs.Reading.{◌>>=◌}
-use Rattle.record_text.proofs.Again.{one_record}
+use Rattle.record_text.proofs.Again.{one_record, one_written}
 use Rattle.keep_store.specs.Tables.{place_of}
 use Rattle.keep_store.specs.Kept.{AreTold, SomeUntold, Shows, IsDamaged, IsLoaded, IsRecordText, HoldsText, Gives, IsPut, Rise, Tells, body_in, head_of, head_told, kept_in, told, task_shown, tasks_in, text_of, with_tasks, value_in, shown_body}
 use Rattle.keep_store.specs.declared.fault.KeepFault.{KeepFault}
@@ -274,7 +274,8 @@ pub misfit_damaged : (body : Option Value) (d : Durable) → HoldsText body (rec
 misfit_damaged body d holds is misfit = (
   (λ none. absurd (let e = sym none ∙ holds in cc)),
   λ e text there utf8 it.
-      let same : d ≡ e = one_record d e is it.0.durable (same_text body (record_form d) text holds there ∙ it.0.form) in
+      let written : IsWritten d text = record { durable = is; form = inl (sym (same_text body (record_form d) text holds there)) } in
+      let same : d ≡ e = one_written d e text written it.0 in
       never (sym misfit ∙ ap is_record same ∙ it.1),
 )
   where

@@ -24,6 +24,7 @@ use crate::told::record_shown;
 use agent_core::Record;
 use listed::Listed;
 use mails::{Durable, RecordedTask};
+use shared_value::Shared;
 use sqlite::{Alter, Connection, Error, ErrorCode, Row};
 use std::alloc::Global;
 use std::marker::Model;
@@ -39,7 +40,7 @@ pub struct Keeper<S: Alter> {
     /// Whether no save failed, and no run was given out, since it was opened.
     is_ready: bool,
     /// The tasks that were saved or loaded last, unless nothing is known of the rows.
-    seen: Option<Listed<RecordedTask>>,
+    seen: Option<Listed<Shared<RecordedTask>>>,
     /// The parts that were saved last but the tasks, unless nothing is known of the head.
     head: Option<Durable>,
 }

@@ -19,6 +19,7 @@ use listed::Listed;
 use mails::{Durable, RecordedTask};
 use plain_data::Plain;
 use record_text::total_text;
+use shared_value::Shared;
 use sqlite::{Alter, Connection, Error, ErrorCode, Transaction};
 use std::alloc::Global;
 
@@ -76,10 +77,10 @@ fn write_head<S: Alter>(
 fn write_rows<S: Alter>(
     tx: &mut Transaction<'_, S>,
     alloc: Global,
-    seen: Option<Listed<RecordedTask>>,
+    seen: Option<Listed<Shared<RecordedTask>>>,
     head: &Option<Durable>,
     durable: &Durable,
-) -> Result<Listed<RecordedTask>, KeepFault>
+) -> Result<Listed<Shared<RecordedTask>>, KeepFault>
     requires seen { AreSeen seen }
     requires head { IsHeadSeen head.now }
     requires rise { keys_rise durable.now.tasks ≡ true }
@@ -107,10 +108,10 @@ fn write_rows<S: Alter>(
 fn commit_record<S: Alter>(
     conn: &mut Connection<S>,
     alloc: Global,
-    seen: Option<Listed<RecordedTask>>,
+    seen: Option<Listed<Shared<RecordedTask>>>,
     head: &Option<Durable>,
     durable: &Durable,
-) -> Result<Listed<RecordedTask>, KeepFault>
+) -> Result<Listed<Shared<RecordedTask>>, KeepFault>
     requires outside { conn.old.in_transaction ≡ false }
     requires seen { AreSeen seen }
     requires head { IsHeadSeen head.now }
@@ -163,10 +164,10 @@ pub fn head_seen(alloc: Global, head: Option<Durable>, durable: &Durable) -> Opt
 pub fn save_record<S: Alter>(
     conn: &mut Connection<S>,
     alloc: Global,
-    seen: Option<Listed<RecordedTask>>,
+    seen: Option<Listed<Shared<RecordedTask>>>,
     head: &Option<Durable>,
     durable: &Durable,
-) -> Result<Listed<RecordedTask>, KeepFault>
+) -> Result<Listed<Shared<RecordedTask>>, KeepFault>
     requires record { is_record durable.now ≡ true }
     requires seen { AreSeen seen }
     requires head { IsHeadSeen head.now }

@@ -19,6 +19,7 @@ use listed::Listed;
 use mails::RecordedTask;
 use plain_data::Plain;
 use record_text::task_text;
+use shared_value::Shared;
 use sqlite::{Alter, Error, ErrorCode, Row, Transaction};
 use std::alloc::Global;
 
@@ -55,8 +56,8 @@ fn forget_tasks<S: Alter>(tx: &mut Transaction<'_, S>) -> Result<(), KeepFault>
 fn begin_tasks<S: Alter>(
     tx: &mut Transaction<'_, S>,
     alloc: Global,
-    seen: Option<Listed<RecordedTask>>,
-) -> Result<Vec<RecordedTask>, KeepFault>
+    seen: Option<Listed<Shared<RecordedTask>>>,
+) -> Result<Vec<Shared<RecordedTask>>, KeepFault>
     requires { AreSeen seen }
     ensures same_reference { tx.new.conn.ghost_name ≡ tx.old.conn.ghost_name }
     ensures quiet { Survives (state S.Store tx.old.conn.now) (state S.Store tx.new.conn.now)
@@ -81,7 +82,7 @@ fn begin_tasks<S: Alter>(
 }
 
 /// Whether a task is the one at an index.
-fn stands_at(tasks: &[RecordedTask], at: usize, task: &RecordedTask) -> bool
+fn stands_at(tasks: &[Shared<RecordedTask>], at: usize, task: &Shared<RecordedTask>) -> bool
     ensures { IsTrue result → Has tasks.now task.now }
 {
     at < tasks.len() && tasks[at].is_same(task)
@@ -89,7 +90,12 @@ fn stands_at(tasks: &[RecordedTask], at: usize, task: &RecordedTask) -> bool
 
 /// Whether a task is one of these, which come by their keys. It is searched for only if it stands at neither of two guessed indexes.
 /// False may be wrong where they don't come so.
-fn is_among(tasks: &[RecordedTask], task: &RecordedTask, guess: usize, other: usize) -> bool
+fn is_among(
+    tasks: &[Shared<RecordedTask>],
+    task: &Shared<RecordedTask>,
+    guess: usize,
+    other: usize,
+) -> bool
     ensures { IsTrue result → Has tasks.now task.now }
 {
     if stands_at(tasks, guess, task) || stands_at(tasks, other, task) {
@@ -126,7 +132,7 @@ fn are_placed(rows: &[Row]) -> bool
 }
 
 /// The tasks of a record that was found with a head, where each row stands at its task's place.
-pub fn seen_in(rows: &Rows, found: &Option<Record>) -> Option<Listed<RecordedTask>>
+pub fn seen_in(rows: &Rows, found: &Option<Record>) -> Option<Listed<Shared<RecordedTask>>>
     requires told { (d : Durable) → found.now ≡ Some d → length rows.now.heads.items ≢ 0
         → AreTold rows.now.tasks.items d.tasks × AllByRecursion IsPut d.tasks }
     ensures put { AreSeen result }
@@ -146,7 +152,7 @@ pub fn seen_in(rows: &Rows, found: &Option<Record>) -> Option<Listed<RecordedTas
 /// Takes the row of the task at an index out.
 fn cut_at<S: Alter>(
     tx: &mut Transaction<'_, S>,
-    tasks: &mut Vec<RecordedTask>,
+    tasks: &mut Vec<Shared<RecordedTask>>,
     at: usize,
 ) -> Result<(), KeepFault>
     requires within { at < vec_len tasks.old }
@@ -177,8 +183,8 @@ fn cut_at<S: Alter>(
 /// Takes the rows of those tasks out that aren't among the wanted ones, the last first.
 fn cut_others<S: Alter>(
     tx: &mut Transaction<'_, S>,
-    tasks: &mut Vec<RecordedTask>,
-    wanted: &[RecordedTask],
+    tasks: &mut Vec<Shared<RecordedTask>>,
+    wanted: &[Shared<RecordedTask>],
 ) -> Result<(), KeepFault>
     requires are_put { ArePut tasks.old.items }
     ensures same_reference { tx.new.conn.ghost_name ≡ tx.old.conn.ghost_name }
@@ -236,9 +242,9 @@ fn add_task<S: Alter>(
 fn add_at<S: Alter>(
     tx: &mut Transaction<'_, S>,
     alloc: Global,
-    tasks: &mut Vec<RecordedTask>,
+    tasks: &mut Vec<Shared<RecordedTask>>,
     at: usize,
-    task: &RecordedTask,
+    task: &Shared<RecordedTask>,
 ) -> Result<(), KeepFault>
     requires within { at ≤ vec_len tasks.old }
     requires are_put { AllByRecursion IsPut tasks.old.items }
@@ -260,7 +266,7 @@ fn add_at<S: Alter>(
     ensures undamaged { IfErr result (λ e. e ≢ KeepFault.Damaged) }
     ensures unspent { IfErr result (λ e. e ≢ KeepFault.RunsSpent) }
 {
-    tasks.insert(at, task.copy()?)?;
+    tasks.insert(at, task.share()?)?;
     add_task(tx, alloc, task)?;
     Ok(())
 }
@@ -269,9 +275,9 @@ fn add_at<S: Alter>(
 fn add_other<S: Alter>(
     tx: &mut Transaction<'_, S>,
     alloc: Global,
-    tasks: &mut Vec<RecordedTask>,
+    tasks: &mut Vec<Shared<RecordedTask>>,
     at: usize,
-    task: &RecordedTask,
+    task: &Shared<RecordedTask>,
 ) -> Result<(), KeepFault>
     requires within { at ≤ vec_len tasks.old }
     requires are_put { AllByRecursion IsPut tasks.old.items }
@@ -305,8 +311,8 @@ fn add_other<S: Alter>(
 fn add_others<S: Alter>(
     tx: &mut Transaction<'_, S>,
     alloc: Global,
-    tasks: &mut Vec<RecordedTask>,
-    wanted: &[RecordedTask],
+    tasks: &mut Vec<Shared<RecordedTask>>,
+    wanted: &[Shared<RecordedTask>],
 ) -> Result<(), KeepFault>
     requires are_put { AllByRecursion IsPut tasks.old.items }
     requires among { AllByRecursion (Has wanted.now) tasks.old.items }
@@ -335,9 +341,9 @@ fn add_others<S: Alter>(
 pub fn write_tasks<S: Alter>(
     tx: &mut Transaction<'_, S>,
     alloc: Global,
-    seen: Option<Listed<RecordedTask>>,
-    wanted: &[RecordedTask],
-) -> Result<Listed<RecordedTask>, KeepFault>
+    seen: Option<Listed<Shared<RecordedTask>>>,
+    wanted: &[Shared<RecordedTask>],
+) -> Result<Listed<Shared<RecordedTask>>, KeepFault>
     requires seen { AreSeen seen }
     requires rise { keys_rise wanted.now ≡ true }
     ensures same_reference { tx.new.conn.ghost_name ≡ tx.old.conn.ghost_name }

@@ -22,6 +22,7 @@ use mails::{Durable, RecordedTask};
 use names_core::{AgentName, NameFault};
 use quantity::Resources;
 use record_text::{RecordFault, task_of_text, total_of_text};
+use shared_value::Shared;
 use sqlite::{Error, ErrorCode, Row};
 use std::alloc::Global;
 
@@ -48,7 +49,7 @@ fn text_at(row: &Row, at: usize) -> Result<String, KeepFault>
 }
 
 /// The task of a text.
-fn task_of(alloc: Global, text: &str) -> Result<RecordedTask, KeepFault>
+fn task_of(alloc: Global, text: &str) -> Result<Shared<RecordedTask>, KeepFault>
     ensures told { Gives (λ t. t) result (task_in text.now) }
     ensures is_put { IfOk result IsPut }
 {
@@ -61,7 +62,7 @@ fn task_of(alloc: Global, text: &str) -> Result<RecordedTask, KeepFault>
 
 /// The task of a row of rowid, run, number and body.
 #[tactic(auto, unfolding(crate::specs::Kept::told))]
-fn task_in(alloc: Global, row: &Row) -> Result<RecordedTask, KeepFault>
+fn task_in(alloc: Global, row: &Row) -> Result<Shared<RecordedTask>, KeepFault>
     ensures told { Gives (λ t. t) result (told row.now) }
     ensures is_put { IfOk result IsPut }
 {
@@ -123,7 +124,7 @@ fn head_told(alloc: Global, head: &Row) -> Result<Durable, KeepFault>
 }
 
 /// The tasks of rows of rowid, run, number and body.
-fn tasks_in(alloc: Global, rows: &[Row]) -> Result<Vec<RecordedTask>, KeepFault>
+fn tasks_in(alloc: Global, rows: &[Row]) -> Result<Vec<Shared<RecordedTask>>, KeepFault>
     ensures told { IfOk result (λ tasks. AreTold rows.now tasks.items) }
     ensures are_put { IfOk result (λ tasks. AllByRecursion IsPut tasks.items) }
     ensures untold { IsErrOf result KeepFault.Damaged → SomeUntold rows.now }
@@ -140,7 +141,7 @@ fn tasks_in(alloc: Global, rows: &[Row]) -> Result<Vec<RecordedTask>, KeepFault>
 fn record_with(
     alloc: Global,
     head: &Row,
-    tasks: Vec<RecordedTask>,
+    tasks: Vec<Shared<RecordedTask>>,
 ) -> Result<Option<Record>, KeepFault>
     ensures found { AllByRecursion IsTask tasks.items → IfOk result (λ found. (d : Durable) × (head_told head.now ≡ Some d) × (found ≡ Some (with_tasks tasks.items d))
         × (keys_rise tasks.items ≡ true) × IsDurable (with_tasks tasks.items d) × (is_record (with_tasks tasks.items d) ≡ true)) }

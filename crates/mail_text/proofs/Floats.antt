@@ -40,6 +40,6 @@ booked t = rw (rows t.job.resources) refl
 
 pub agent_mail : (agent : List ℕ) (m : AgentMail) → has_float (agent_mail_data agent m) ≡ false
 unfolding report_data applied_data update_data
-agent_mail agent (Report session run tasks) = rw (none_of booked_data booked tasks) refl
+agent_mail agent (Report session run tasks total) = rw (none_of booked_data booked tasks, rows total) refl
 agent_mail agent (Applied session count) = refl
 agent_mail agent (Update session key k state ended) = refl

@@ -5,6 +5,7 @@ use Rattle.serde_json.specs.Written.{compact_text}
 use Rattle.names_core.specs.Ids.{Numbered, id_text}
 use Rattle.names_core.specs.declared.state.TaskState.{TaskState}
 use Rattle.names_core.specs.States.{state_text}
+use Rattle.quantity.specs.declared.rows.Row.{Row}
 use Rattle.mails.specs.declared.task.Job.{Job}
 use Rattle.mails.specs.declared.task.Booked.{Booked}
 use Rattle.mails.specs.declared.mail.Command.{Command}
@@ -88,12 +89,13 @@ booked_data t = object
 abbrev pub ending : Bool → Members → Data
 ending ended ms = object (put (codes "ended") (boolean ended) ms)
 
-unfoldable pub report_data : List ℕ → ℕ → ℕ → List Booked → Data
-report_data agent session run tasks = only (codes "report") (object
+unfoldable pub report_data : List ℕ → ℕ → ℕ → List Booked → List Row → Data
+report_data agent session run tasks total = only (codes "report") (object
     (member (codes "agent") (string agent)
     (member (codes "run") (whole run)
     (member (codes "session") (whole session)
-    (member (codes "tasks") (list_data booked_data tasks) no_members)))))
+    (member (codes "tasks") (list_data booked_data tasks)
+    (member (codes "total") (amounts total) no_members))))))
 
 unfoldable pub applied_data : List ℕ → ℕ → ℕ → Data
 applied_data agent session count = only (codes "applied") (object
@@ -119,7 +121,7 @@ told_members key k state ended =
     (member (codes "state") (string (state_text state)) no_members)))
 
 abbrev pub agent_mail_data : List ℕ → AgentMail → Data
-agent_mail_data agent (Report session run tasks) = report_data agent session run tasks
+agent_mail_data agent (Report session run tasks total) = report_data agent session run tasks total
 agent_mail_data agent (Applied session count) = applied_data agent session count
 agent_mail_data agent (Update session key k state ended) = update_data agent session key k state ended
 

@@ -9,7 +9,8 @@ ghost use Rattle.mail_text.specs.Mails.{agent_mail_data, applied_data, booked_da
 use crate::object::{only, put_origin, put_text};
 use mails::{AgentMail, Booked, ToMaster};
 use names_core::{LaunchKey, TaskState};
-use record_text::{key_value, put_job};
+use quantity::Resources;
+use record_text::{amounts_value, key_value, put_job};
 use serde_json::{Map, Value, put};
 use std::alloc::{AllocError, Global};
 
@@ -57,15 +58,18 @@ fn put_report(
     session: u32,
     run: u32,
     tasks: &[Booked],
+    total: &Resources,
 ) -> Result<(), AllocError>
     requires { members.old.entries ≡ [] }
     ensures { OnOk result (only (codes "report") (object (members_view members.new.entries))
-        ≡ report_data agent.now session run tasks.now) }
+        ≡ report_data agent.now session run tasks.now total.now) }
 {
     put_origin(members, alloc, agent, session)?;
     put(members, alloc, "run", Value::from(run))?;
     let tasks = tasks_value(alloc, tasks)?;
-    put(members, alloc, "tasks", tasks)
+    put(members, alloc, "tasks", tasks)?;
+    let total = amounts_value(alloc, total)?;
+    put(members, alloc, "total", total)
 }
 
 fn report_value(
@@ -74,11 +78,12 @@ fn report_value(
     session: u32,
     run: u32,
     tasks: &[Booked],
+    total: &Resources,
 ) -> Result<Value, AllocError>
-    ensures { IfOk result (λ v. view v ≡ report_data agent.now session run tasks.now) }
+    ensures { IfOk result (λ v. view v ≡ report_data agent.now session run tasks.now total.now) }
 {
     let mut members = Map::new(alloc);
-    put_report(&mut members, alloc, agent, session, run, tasks)?;
+    put_report(&mut members, alloc, agent, session, run, tasks, total)?;
     only(alloc, "report", Value::Object(members))
 }
 
@@ -138,7 +143,8 @@ fn value_of(alloc: Global, to: &ToMaster) -> Result<Value, AllocError>
             session,
             run,
             tasks,
-        } => report_value(alloc, agent, *session, *run, tasks.as_slice()),
+            total,
+        } => report_value(alloc, agent, *session, *run, tasks.as_slice(), total),
         AgentMail::Applied { session, count } => applied_value(alloc, agent, *session, *count),
         AgentMail::Update {
             session,
@@ -151,7 +157,7 @@ fn value_of(alloc: Global, to: &ToMaster) -> Result<Value, AllocError>
 }
 
 /// The text of a mail from an agent: compact JSON (RFC 8259), in which an object's members stand in byte order of their names, and a
-/// report's tasks as it has them.
+/// report's tasks as it has them, with the total behind them.
 pub fn to_master_text(alloc: Global, to: &ToMaster) -> Result<String, AllocError>
     ensures { IfOk result (λ text. string_bytes text ≡ to_master_form to.now) }
 {

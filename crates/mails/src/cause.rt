@@ -5,12 +5,13 @@ ghost use Rattle.std.proofs.Common.{rules};
 use crate::mail::ToAgent;
 use names_core::{LaunchKey, TaskState};
 use plain_data::Plain;
+use quantity::Resources;
 
 /// What an agent acts on.
 #[derive(Clone, Drop, PartialEq)]
 pub enum Cause {
-    /// It starts, and opens a new session with the master of its last run.
-    Start,
+    /// It starts, and opens a new session with the master of its last run. With a total it owns that from then on.
+    Start(Option<Resources>),
     /// A mail from the master, which may be for another agent.
     Mail(ToAgent),
     /// The executor of the task of this key tells a state: TASK_RUNNING, TASK_FINISHED or TASK_FAILED.
@@ -22,11 +23,12 @@ pub enum Cause {
 impl Plain for Cause {
     ghost use Rattle.mails.specs.contracts.mail.ToAgentPlain.TheImpl.Laws.{decided-law as mail_decided};
     ghost use Rattle.mails.specs.declared.cause.Cause.TheVariants.{Again, Executor, Mail, Start};
+    ghost use Rattle.quantity.specs.contracts.resources.ResourcesPlain.TheImpl.Laws.{decided-law as resources_decided};
 
     ghost cloned = { Prim.search rules };
 
     ghost decided = { elim [
-      | Start ↦ elim [ Start ↦ Prim.search rules | _ ↦ Prim.search rules ]
+      | Start t ↦ elim [ Start u ↦ Prim.search (rules, resources_decided) | _ ↦ Prim.search rules ]
       | Mail m ↦ elim [ Mail n ↦ (let d = mail_decided m n in ((λ h. let e = d.0 h in Prim.search rules), (λ e. d.1 (Prim.search rules)))) | _ ↦ Prim.search rules ]
       | Executor k s ↦ elim [ Executor l t ↦ Prim.search rules | _ ↦ Prim.search rules ]
       | Again ↦ elim [ Again ↦ Prim.search rules | _ ↦ Prim.search rules ]

@@ -6,6 +6,7 @@ use crate::task::{Booked, Job};
 use listed::Listed;
 use names_core::{AgentName, FrameworkId, LaunchKey, OfferId, TaskState};
 use plain_data::Plain;
+use quantity::Resources;
 
 /// What the master asks of an agent.
 #[derive(Clone, Drop, PartialEq)]
@@ -70,11 +71,12 @@ impl Plain for MasterMail {
 /// A mail from an agent to the master.
 #[derive(Clone, Drop, PartialEq)]
 pub enum AgentMail {
-    /// The agent has opened this session with the master of this run, and has these tasks, by launch key.
+    /// The agent has opened this session with the master of this run, has these tasks, by launch key, and owns this total.
     Report {
         session: u32,
         run: u32,
         tasks: Listed<Booked>,
+        total: Resources,
     },
     /// The first `count` commands of this session are applied.
     Applied {
@@ -94,6 +96,7 @@ pub enum AgentMail {
 impl Plain for AgentMail {
     ghost use Rattle.mails.specs.contracts.task.BookedPlain.TheImpl.Laws.{decided-law as booked_decided};
     ghost use Rattle.mails.specs.declared.mail.AgentMail.TheVariants.{Applied, Report, Update};
+    ghost use Rattle.quantity.specs.contracts.resources.ResourcesPlain.TheImpl.Laws.{decided-law as resources_decided};
     ghost use Rattle.plain_data.specs.Deciding.{and_decides};
     ghost use Rattle.names_core.specs.contracts.launch.LaunchKeyPlain.TheImpl.Laws.{decided-law as key_decided};
     ghost use Rattle.names_core.specs.contracts.state.TaskStatePlain.TheImpl.Laws.{decided-law as state_decided};
@@ -103,7 +106,7 @@ impl Plain for AgentMail {
     ghost cloned = { Prim.search rules };
 
     ghost decided = { elim [
-      | Report s r t ↦ elim [ Report u v w ↦ (let d = and_decides (unsigned_Decides s u) (and_decides (unsigned_Decides r v) (pointwise_decides booked_decided t w)) in ((λ h. let e = d.0 h in Prim.search rules), (λ e. d.1 (Prim.search rules)))) | _ ↦ Prim.search rules ]
+      | Report s r t o ↦ elim [ Report u v w p ↦ (let d = and_decides (unsigned_Decides s u) (and_decides (unsigned_Decides r v) (and_decides (pointwise_decides booked_decided t w) (resources_decided o p))) in ((λ h. let e = d.0 h in Prim.search rules), (λ e. d.1 (Prim.search rules)))) | _ ↦ Prim.search rules ]
       | Applied s n ↦ elim [ Applied t m ↦ Prim.search rules | _ ↦ Prim.search rules ]
       | Update s k n t e ↦ elim [ Update u l m v f ↦ (let d = and_decides (unsigned_Decides s u) (and_decides (key_decided k l) (and_decides (unsigned_Decides n m) (and_decides (state_decided t v) (booleans_Decides e f)))) in ((λ h. let e = d.0 h in Prim.search rules), (λ e. d.1 (Prim.search rules)))) | _ ↦ Prim.search rules ]
     ] };

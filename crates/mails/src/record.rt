@@ -7,6 +7,7 @@ use listed::Listed;
 use names_core::{AgentName, OfferId};
 use plain_data::Plain;
 use quantity::Resources;
+use shared_value::Shared;
 use stream_core::Updates;
 
 /// A task of an agent's record.
@@ -41,7 +42,7 @@ pub struct Durable {
     /// The run of the master that it opened it with, 0 before the first.
     pub run: u32,
     /// By launch key.
-    pub tasks: Listed<RecordedTask>,
+    pub tasks: Listed<Shared<RecordedTask>>,
 }
 
 impl Plain for Durable {

@@ -32,6 +32,9 @@ pub enum AgentRefusal {
     /// The session is at its last value.
     #[error("A10 SessionsSpent")]
     SessionsSpent,
+    /// The total that the agent is to own doesn't cover what it owns.
+    #[error("A11 TotalLess")]
+    TotalLess,
 }
 
 impl Plain for AgentRefusal {

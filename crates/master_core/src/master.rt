@@ -198,7 +198,7 @@ impl Master {
     /// and this one is closed, `G4 NotOpen` where no Report has opened it. Nothing happens where the agent isn't configured.
     ///
     /// The caller owes that an update has a number that an agent's record has room for, and that what a Report tells hasn't ended
-    /// fits what the agent owns.
+    /// fits the total that it tells.
     pub fn mail(
         &mut self,
         alloc: Global,

@@ -7,6 +7,7 @@ use Rattle.mails.specs.declared.mail.AgentMail.{AgentMail}
 use Rattle.mails.specs.declared.mail.AgentMail.TheVariants.{Report, Applied, Update}
 use Rattle.mails.specs.declared.refusal.MasterRefusal.{MasterRefusal}
 use Rattle.mails.specs.declared.refusal.MasterRefusal.TheVariants.{OtherRun, OldSession, Closed, NotOpen, NotSubscribed, WrongStream, NoSuchFramework, LimitExceeded}
+use Rattle.quantity.specs.declared.rows.Row.{Row}
 use Rattle.mails.specs.declared.task.Booked.{Booked}
 use Rattle.booked_tasks.specs.declared.tasks.Heard.{Heard}
 use Rattle.cluster_model.specs.Events.{Told}
@@ -53,7 +54,7 @@ not_in true o r h = absurd cc
 not_in false o r h = refl
 
 unheard : (s : State) (mail : AgentMail) (t : Side) (r : MasterRefusal) → judged (run_of s) t mail ≡ Some r → heard (run_of s) t mail ≡ t
-unheard s (Report session number tasks) t r h =
+unheard s (Report session number tasks total) t r h =
     let closed : opens (run_of s) t session number ≡ false = not_opened (number == s.run) t.is_open session t.session t.closed r h in
     rw closed refl
 unheard s (Applied session count) t r h =
@@ -192,53 +193,53 @@ answer_ok (Some x) b c h = absurd cc
 abbrev pub reports : State → ℕ → ℕ → Side → Result Bool MasterRefusal
 reports s session number t = reported s.run t session number
 
-pub report_away : (s : State) (name : List ℕ) (session number : ℕ) (tasks : List Booked) (r : MasterRefusal) → told_of name (reports s session number) (Ok false) s.sides ≡ Err r
-    → told_of name (judges (run_of s) (Report session number tasks)) None s.sides ≡ Some r
-report_away s name session number tasks r h = by (found_in name s.sides) refl
+pub report_away : (s : State) (name : List ℕ) (session number : ℕ) (tasks : List Booked) (total : List Row) (r : MasterRefusal) → told_of name (reports s session number) (Ok false) s.sides ≡ Err r
+    → told_of name (judges (run_of s) (Report session number tasks total)) None s.sides ≡ Some r
+report_away s name session number tasks total r h = by (found_in name s.sides) refl
   where
-    by : (o : Option Side) → found_in name s.sides ≡ o → told_of name (judges (run_of s) (Report session number tasks)) None s.sides ≡ Some r
+    by : (o : Option Side) → found_in name s.sides ≡ o → told_of name (judges (run_of s) (Report session number tasks total)) None s.sides ≡ Some r
     by None e = let no : ◌≡◌ {A = Result Bool MasterRefusal} (Ok false) (Err r) = sym (told_as name (reports s session number) (Ok false) s.sides None e) ∙ h in absurd cc
     by (Some t) e =
-        told_as name (judges (run_of s) (Report session number tasks)) None s.sides (Some t) e
+        told_as name (judges (run_of s) (Report session number tasks total)) None s.sides (Some t) e
         ∙ answer_err (judged_report s.run t session number) (report_opens s.run t session number) r (sym (told_as name (reports s session number) (Ok false) s.sides (Some t) e) ∙ h)
 
-report_taken : (s : State) (name : List ℕ) (session number : ℕ) (tasks : List Booked) (b : Bool) → told_of name (reports s session number) (Ok false) s.sides ≡ Ok b
-    → told_of name (judges (run_of s) (Report session number tasks)) None s.sides ≡ None
-report_taken s name session number tasks b h = by (found_in name s.sides) refl
+report_taken : (s : State) (name : List ℕ) (session number : ℕ) (tasks : List Booked) (total : List Row) (b : Bool) → told_of name (reports s session number) (Ok false) s.sides ≡ Ok b
+    → told_of name (judges (run_of s) (Report session number tasks total)) None s.sides ≡ None
+report_taken s name session number tasks total b h = by (found_in name s.sides) refl
   where
-    by : (o : Option Side) → found_in name s.sides ≡ o → told_of name (judges (run_of s) (Report session number tasks)) None s.sides ≡ None
-    by None e = told_as name (judges (run_of s) (Report session number tasks)) None s.sides None e
+    by : (o : Option Side) → found_in name s.sides ≡ o → told_of name (judges (run_of s) (Report session number tasks total)) None s.sides ≡ None
+    by None e = told_as name (judges (run_of s) (Report session number tasks total)) None s.sides None e
     by (Some t) e =
-        told_as name (judges (run_of s) (Report session number tasks)) None s.sides (Some t) e
+        told_as name (judges (run_of s) (Report session number tasks total)) None s.sides (Some t) e
         ∙ (answer_ok (judged_report s.run t session number) (report_opens s.run t session number) b (sym (told_as name (reports s session number) (Ok false) s.sides (Some t) e) ∙ h)).0
 
 pub report_opens_is : (s : State) (name : List ℕ) (session number : ℕ) (b : Bool) (t : Side) → found_in name s.sides ≡ Some t → told_of name (reports s session number) (Ok false) s.sides ≡ Ok b → opens (run_of s) t session number ≡ b
 report_opens_is s name session number b t e h =
     (answer_ok (judged_report s.run t session number) (report_opens s.run t session number) b (sym (told_as name (reports s session number) (Ok false) s.sides (Some t) e) ∙ h)).1
 
-pub report_doing : (s : State) (name : List ℕ) (session number : ℕ) (tasks : List Booked) (b : Bool) → told_of name (reports s session number) (Ok false) s.sides ≡ Ok b → (t : Side) → found_in name s.sides ≡ Some t
-    → mailed_by (master_of s) name (Report session number tasks) ≡ (if b then session_opens (master_of s) t tasks else nothing (master_of s))
-report_doing s name session number tasks b h t e =
-    goes_by s name (Report session number tasks) (report_taken s name session number tasks b h)
-    ∙ told_as name (λ x. goes_with (master_of s) x (Report session number tasks)) (nothing (master_of s)) s.sides (Some t) e
+pub report_doing : (s : State) (name : List ℕ) (session number : ℕ) (tasks : List Booked) (total : List Row) (b : Bool) → told_of name (reports s session number) (Ok false) s.sides ≡ Ok b → (t : Side) → found_in name s.sides ≡ Some t
+    → mailed_by (master_of s) name (Report session number tasks total) ≡ (if b then session_opens (master_of s) t tasks else nothing (master_of s))
+report_doing s name session number tasks total b h t e =
+    goes_by s name (Report session number tasks total) (report_taken s name session number tasks total b h)
+    ∙ told_as name (λ x. goes_with (master_of s) x (Report session number tasks total)) (nothing (master_of s)) s.sides (Some t) e
     ∙ ap (λ c. if c then session_opens (master_of s) t tasks else nothing (master_of s)) (report_opens_is s name session number b t e h)
 
-stays_at : (s : State) (name : List ℕ) (session number : ℕ) (tasks : List Booked) (ss : List Side) → told_of name (reports s session number) (Ok false) ss ≡ Ok false → at_name name (λ t. heard (run_of s) t (Report session number tasks)) ss ≡ ss
-stays_at s name session number tasks [] h = refl
-stays_at s name session number tasks (t ∷ ts) h = by (bytes_eq t.name name) refl (stays_at s name session number tasks ts)
+stays_at : (s : State) (name : List ℕ) (session number : ℕ) (tasks : List Booked) (total : List Row) (ss : List Side) → told_of name (reports s session number) (Ok false) ss ≡ Ok false → at_name name (λ t. heard (run_of s) t (Report session number tasks total)) ss ≡ ss
+stays_at s name session number tasks total [] h = refl
+stays_at s name session number tasks total (t ∷ ts) h = by (bytes_eq t.name name) refl (stays_at s name session number tasks total ts)
   where
-    by : (b : Bool) → bytes_eq t.name name ≡ b → (told_of name (reports s session number) (Ok false) ts ≡ Ok false → at_name name (λ x. heard (run_of s) x (Report session number tasks)) ts ≡ ts)
-        → cond b (heard (run_of s) t (Report session number tasks) ∷ ts) (t ∷ at_name name (λ x. heard (run_of s) x (Report session number tasks)) ts) ≡ t ∷ ts
+    by : (b : Bool) → bytes_eq t.name name ≡ b → (told_of name (reports s session number) (Ok false) ts ≡ Ok false → at_name name (λ x. heard (run_of s) x (Report session number tasks total)) ts ≡ ts)
+        → cond b (heard (run_of s) t (Report session number tasks total) ∷ ts) (t ∷ at_name name (λ x. heard (run_of s) x (Report session number tasks total)) ts) ≡ t ∷ ts
     by true e ih =
         let closed : opens (run_of s) t session number ≡ false = (answer_ok (judged_report s.run t session number) (report_opens s.run t session number) false (rw e at h)).1 in
-        ap (λ b. cond b (opened t session tasks) t ∷ ts) closed
+        ap (λ b. cond b (opened t session tasks total) t ∷ ts) closed
     by false e ih = ap (λ xs. t ∷ xs) (ih (rw e at h))
 
-pub known_so : (s : State) (name : List ℕ) (session number : ℕ) (tasks : List Booked) → told_of name (reports s session number) (Ok false) s.sides ≡ Ok false → AnsweredSo s s name (Report session number tasks) None
-known_so s name session number tasks h =
-    subst (λ ss. AnsweredSo s (record s { sides = ss }) name (Report session number tasks) None) (stays_at s name session number tasks s.sides h)
-    (nothing_so s name (Report session number tasks) (by (found_in name s.sides) refl))
+pub known_so : (s : State) (name : List ℕ) (session number : ℕ) (tasks : List Booked) (total : List Row) → told_of name (reports s session number) (Ok false) s.sides ≡ Ok false → AnsweredSo s s name (Report session number tasks total) None
+known_so s name session number tasks total h =
+    subst (λ ss. AnsweredSo s (record s { sides = ss }) name (Report session number tasks total) None) (stays_at s name session number tasks total s.sides h)
+    (nothing_so s name (Report session number tasks total) (by (found_in name s.sides) refl))
   where
-    by : (o : Option Side) → found_in name s.sides ≡ o → mailed_by (master_of s) name (Report session number tasks) ≡ nothing (master_of s)
-    by None e = told_as name (λ x. mailed (master_of s) x (Report session number tasks)) (nothing (master_of s)) s.sides None e
-    by (Some t) e = report_doing s name session number tasks false h t e
+    by : (o : Option Side) → found_in name s.sides ≡ o → mailed_by (master_of s) name (Report session number tasks total) ≡ nothing (master_of s)
+    by None e = told_as name (λ x. mailed (master_of s) x (Report session number tasks total)) (nothing (master_of s)) s.sides None e
+    by (Some t) e = report_doing s name session number tasks total false h t e

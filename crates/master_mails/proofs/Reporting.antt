@@ -9,6 +9,7 @@ use Rattle.mails.specs.declared.mail.AgentMail.TheVariants.{Report}
 use Rattle.mails.specs.declared.mail.Command.{Command}
 use Rattle.mails.specs.declared.mail.Command.TheVariants.{EndFramework}
 use Rattle.mails.specs.declared.refusal.MasterRefusal.{MasterRefusal}
+use Rattle.quantity.specs.declared.rows.Row.{Row}
 use Rattle.mails.specs.declared.task.Booked.{Booked}
 use Rattle.cluster_model.specs.Events.{Told}
 use Rattle.cluster_model.specs.Ids.{is_among, same}
@@ -103,41 +104,41 @@ losses_alike m name tasks (b ∷ bs) = by (is_reported tasks b) (losses_alike m 
 abbrev reported_work : State → List ℕ → List Side → List Move → List StreamEvent → List Numbered → List Numbered → Work
 reported_work s name ss moves es opens closes = with_moves moves (record { moved = moved_so (run_of s) ss s.outs.mails; registers = without_filters_on name (registers_of s); events = es; opens = opens; closes = closes })
 
-abbrev before_ends : List ℕ → ℕ → ℕ → List Booked → State → State
-before_ends name session number tasks s = with_report name session number tasks (without_filters name (with_losses name tasks (rescinded name s)))
+abbrev before_ends : List ℕ → ℕ → ℕ → List Booked → List Row → State → State
+before_ends name session number tasks total s = with_report name session number tasks total (without_filters name (with_losses name tasks (rescinded name s)))
 
-opened_of : (s : State) (session number : ℕ) (tasks : List Booked) (t : Side) → found_in t.name s.sides ≡ Some t
-    → work_of (session_opened t.name session number tasks s) ≡ done (session_opens (master_of s) t tasks) (having_heard t.name (Report session number tasks) (work_of s))
-opened_of s session number tasks t is =
-    all_ended t.name (ends_of tasks s) (before_ends t.name session number tasks s) (all_torn (master_of s) tasks s.frameworks)
-    ∙ ap (λ ss. reported_work s t.name ss (ends t.name (ends_of tasks s)) (work_of (before_ends t.name session number tasks s)).events s.outs.opened s.outs.closed) (sym (hears_at t.name (run_of s) (Report session number tasks) s.sides))
-    ∙ ap (λ ms. reported_work s t.name sides ms (work_of (before_ends t.name session number tasks s)).events s.outs.opened s.outs.closed) (moves_alike t.name (filter (is_to_end (master_of s) tasks) s.frameworks))
+opened_of : (s : State) (session number : ℕ) (tasks : List Booked) (total : List Row) (t : Side) → found_in t.name s.sides ≡ Some t
+    → work_of (session_opened t.name session number tasks total s) ≡ done (session_opens (master_of s) t tasks) (having_heard t.name (Report session number tasks total) (work_of s))
+opened_of s session number tasks total t is =
+    all_ended t.name (ends_of tasks s) (before_ends t.name session number tasks total s) (all_torn (master_of s) tasks s.frameworks)
+    ∙ ap (λ ss. reported_work s t.name ss (ends t.name (ends_of tasks s)) (work_of (before_ends t.name session number tasks total s)).events s.outs.opened s.outs.closed) (sym (hears_at t.name (run_of s) (Report session number tasks total) s.sides))
+    ∙ ap (λ ms. reported_work s t.name sides ms (work_of (before_ends t.name session number tasks total s)).events s.outs.opened s.outs.closed) (moves_alike t.name (filter (is_to_end (master_of s) tasks) s.frameworks))
     ∙ ap (λ es. reported_work s t.name sides moves es s.outs.opened s.outs.closed) events
     ∙ ap (λ os. reported_work s t.name sides moves (s.outs.events ++ map written (session_opens (master_of s) t tasks).events) os s.outs.closed) (sym (none_more s.outs.opened))
     ∙ ap (λ cs. reported_work s t.name sides moves (s.outs.events ++ map written (session_opens (master_of s) t tasks).events) (s.outs.opened ++ []) cs) (sym (none_more s.outs.closed))
   where
     sides : List Side
-    sides = (having_heard t.name (Report session number tasks) (work_of s)).moved.sides
+    sides = (having_heard t.name (Report session number tasks total) (work_of s)).moved.sides
 
     moves : List Move
     moves = (session_opens (master_of s) t tasks).moves
 
-    events : (work_of (before_ends t.name session number tasks s)).events ≡ s.outs.events ++ map written (session_opens (master_of s) t tasks).events
+    events : (work_of (before_ends t.name session number tasks total s)).events ≡ s.outs.events ++ map written (session_opens (master_of s) t tasks).events
     events =
         ap (λ os. (s.outs.events ++ map written (rescinds (master_of s) os)) ++ map written (flat_map (loss_of s.frameworks t.name tasks) (told_of t.name (λ x. x.booked) [] s.sides))) (told_as t.name (λ x. x.offers) [] s.sides (Some t) is)
         ∙ ap (λ bs. (s.outs.events ++ map written (rescinds (master_of s) t.offers)) ++ map written (flat_map (loss_of s.frameworks t.name tasks) bs)) (told_as t.name (λ x. x.booked) [] s.sides (Some t) is)
         ∙ ap (λ ts. (s.outs.events ++ map written (rescinds (master_of s) t.offers)) ++ map written ts) (losses_alike (master_of s) t.name tasks t.booked)
         ∙ told_both s.outs.events (rescinds (master_of s) t.offers) (loses (master_of s) t.name (filter (λ b. not (is_reported tasks b)) t.booked))
 
-pub opened_so : (s : State) (name : List ℕ) (session number : ℕ) (tasks : List Booked) → told_of name (reports s session number) (Ok false) s.sides ≡ Ok true → AnsweredSo s (session_opened name session number tasks s) name (Report session number tasks) None
-opened_so s name session number tasks h = by (found_in name s.sides) refl
+pub opened_so : (s : State) (name : List ℕ) (session number : ℕ) (tasks : List Booked) (total : List Row) → told_of name (reports s session number) (Ok false) s.sides ≡ Ok true → AnsweredSo s (session_opened name session number tasks total s) name (Report session number tasks total) None
+opened_so s name session number tasks total h = by (found_in name s.sides) refl
   where
-    by : (o : Option Side) → found_in name s.sides ≡ o → AnsweredSo s (session_opened name session number tasks s) name (Report session number tasks) None
+    by : (o : Option Side) → found_in name s.sides ≡ o → AnsweredSo s (session_opened name session number tasks total s) name (Report session number tasks total) None
     by None e = let no : ◌≡◌ {A = Result Bool MasterRefusal} (Ok false) (Ok true) = sym (told_as name (reports s session number) (Ok false) s.sides None e) ∙ h in absurd cc
     by (Some t) e =
         let named : t.name ≡ name = found_named name s.sides t e in
-        let doing = report_doing s name session number tasks true h t e in (
+        let doing = report_doing s name session number tasks total true h t e in (
           sym (ap (λ d. d.refusal) doing),
-          subst (λ n. work_of (session_opened n session number tasks s) ≡ done (session_opens (master_of s) t tasks) (having_heard n (Report session number tasks) (work_of s))) named (opened_of s session number tasks t (ap (λ n. found_in n s.sides) named ∙ e))
-              ∙ sym (ap (λ d. done d (having_heard name (Report session number tasks) (work_of s))) doing),
+          subst (λ n. work_of (session_opened n session number tasks total s) ≡ done (session_opens (master_of s) t tasks) (having_heard n (Report session number tasks total) (work_of s))) named (opened_of s session number tasks total t (ap (λ n. found_in n s.sides) named ∙ e))
+              ∙ sym (ap (λ d. done d (having_heard name (Report session number tasks total) (work_of s))) doing),
         )

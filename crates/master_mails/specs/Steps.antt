@@ -5,6 +5,7 @@ use Rattle.names_core.specs.Ids.{Numbered}
 use Rattle.mails.specs.declared.mail.AgentMail.{AgentMail}
 use Rattle.mails.specs.declared.mail.AgentMail.TheVariants.{Report, Applied, Update}
 use Rattle.mails.specs.declared.mail.Command.TheVariants.{EndFramework}
+use Rattle.quantity.specs.declared.rows.Row.{Row}
 use Rattle.mails.specs.declared.task.Booked.{Booked}
 use Rattle.mails.specs.declared.refusal.MasterRefusal.{MasterRefusal}
 use Rattle.mails.specs.declared.refusal.MasterRefusal.TheVariants.{OtherRun}
@@ -60,8 +61,8 @@ abbrev pub turned_away : List ℕ → MasterRefusal → State → State
 turned_away agent OtherRun s = s
 turned_away agent refusal s = greeted agent s
 
-abbrev pub with_report : List ℕ → ℕ → ℕ → List Booked → State → State
-with_report agent session number tasks s = record s { sides = at_name agent (reporting s.run session number tasks) s.sides }
+abbrev pub with_report : List ℕ → ℕ → ℕ → List Booked → List Row → State → State
+with_report agent session number tasks total s = record s { sides = at_name agent (reporting s.run session number tasks total) s.sides }
 
 -- the frameworks that were torn down and have reported tasks
 abbrev pub ends_of : List Booked → State → List Numbered
@@ -70,6 +71,6 @@ ends_of tasks s = map (λ f. f.id) (filter (is_to_end (master_of s) tasks) s.fra
 abbrev pub ending : List ℕ → State → Numbered → State
 ending agent s framework = ordered agent (EndFramework framework) s
 
-abbrev pub session_opened : List ℕ → ℕ → ℕ → List Booked → State → State
-session_opened agent session number tasks s =
-    fold (ending agent) (with_report agent session number tasks (without_filters agent (with_losses agent tasks (rescinded agent s)))) (ends_of tasks s)
+abbrev pub session_opened : List ℕ → ℕ → ℕ → List Booked → List Row → State → State
+session_opened agent session number tasks total s =
+    fold (ending agent) (with_report agent session number tasks total (without_filters agent (with_losses agent tasks (rescinded agent s)))) (ends_of tasks s)

@@ -13,6 +13,7 @@ use listed::Listed;
 use mails::{AgentMail, Booked, MasterRefusal};
 use master_state::State;
 use names_core::AgentName;
+use quantity::Resources;
 use std::alloc::{AllocError, Global};
 
 /// A Hello goes with every refusal but that of another run.
@@ -38,14 +39,15 @@ fn hear_report(
     session: u32,
     number: u32,
     tasks: Listed<Booked>,
+    total: Resources,
 ) -> Result<Option<MasterRefusal>, AllocError>
-    ensures { Answered result state.old state.new agent.now (Report session number tasks) }
+    ensures { Answered result state.old state.new agent.now (Report session number tasks total) }
 {
     match state.sides.judge_report(agent, state.run, session, number) {
         Err(refusal) => turn_away(state, alloc, agent, refusal),
         Ok(false) => Ok(None),
         Ok(true) => {
-            open_session(state, alloc, agent, session, number, tasks)?;
+            open_session(state, alloc, agent, session, number, tasks, total)?;
             Ok(None)
         }
     }
@@ -91,7 +93,7 @@ fn hear_update(
 
 /// A mail of an agent (Mesos paper, section 3.5). A Report opens a session where it is of this run and above every session that
 /// was open or is closed: the agent's offers are rescinded, its booked tasks that aren't reported are lost, filters on it end,
-/// and the reported tasks are its books. An update goes to the framework of its task, and a count of applied commands lets go
+/// and the reported tasks are its books, with the reported total. An update goes to the framework of its task, and a count of applied commands lets go
 /// what they end. The answer is why the mail is refused, if it is: `G1 OtherRun` for a Report to a master of another run, and with
 /// a Hello to the agent `G2 OldSession` below the open session, `G3 Closed` where none is open and this one is closed, `G4
 /// NotOpen` where no Report has opened it. Nothing happens where no agent of this name is configured.
@@ -109,7 +111,8 @@ pub fn mail(
             session,
             run,
             tasks,
-        } => hear_report(state, alloc, agent, session, run, tasks),
+            total,
+        } => hear_report(state, alloc, agent, session, run, tasks, total),
         AgentMail::Applied { session, count } => hear_applied(state, alloc, agent, session, count),
         AgentMail::Update {
             session,

@@ -11,6 +11,7 @@ use listed::Listed;
 use mails::{Booked, Command, Framework};
 use master_state::State;
 use names_core::{AgentName, FrameworkId};
+use quantity::Resources;
 use std::alloc::{AllocError, Global};
 
 fn is_to_end(state: &State, tasks: &Reported, framework: &Framework) -> bool
@@ -64,7 +65,7 @@ fn order_ends(
 }
 
 /// A Report opens a session: the agent's offers are rescinded, its booked tasks that aren't reported and haven't ended are lost,
-/// filters on it end, its books are the reported tasks, and those of frameworks that were torn down are to end.
+/// filters on it end, its books are the reported tasks and the reported total, and tasks of frameworks that were torn down are to end.
 pub fn open_session(
     state: &mut State,
     alloc: Global,
@@ -72,8 +73,9 @@ pub fn open_session(
     session: u32,
     number: u32,
     tasks: Listed<Booked>,
+    total: Resources,
 ) -> Result<(), AllocError>
-    ensures { OnOk result (state.new ≡ session_opened agent.now session number tasks state.old) }
+    ensures { OnOk result (state.new ≡ session_opened agent.now session number tasks total state.old) }
 {
     let reported = Reported::of(alloc, tasks)?;
     let events = &mut state.outs.events;
@@ -85,6 +87,6 @@ pub fn open_session(
     let tasks = reported.into_tasks();
     state
         .sides
-        .hear_report(alloc, agent, state.run, session, number, tasks);
+        .hear_report(alloc, agent, state.run, session, number, tasks, total);
     order_ends(state, alloc, agent, &ends)
 }

@@ -87,9 +87,9 @@ with_ended key a = record a { booked = map (ended key) a.booked }
 abbrev pub without_key : Numbered → Account → Account
 without_key key a = record a { booked = filter (λ b. not (has_key key b)) a.booked }
 
--- a session opens: no offers, and the tasks that are reported
-abbrev pub reopened : List Booked → Account → Account
-reopened tasks a = record a { offers = []; booked = tasks }
+-- a session opens: no offers, and the tasks and the total that are reported
+abbrev pub reopened : List Booked → List Row → Account → Account
+reopened tasks total a = record a { total = total; offers = []; booked = tasks }
 
 abbrev pub hearing : Numbered → ℕ → TaskState → Bool → Account → Account
 hearing key k state has_ended a = record a { booked = map (heard_update key k state has_ended) a.booked }

@@ -95,9 +95,10 @@ impl Account {
         Ok(())
     }
 
-    pub(crate) fn reopen(&mut self, alloc: Global, tasks: Listed<Booked>)
-        ensures { self.new ≡ reopened tasks self.old }
+    pub(crate) fn reopen(&mut self, alloc: Global, tasks: Listed<Booked>, total: Resources)
+        ensures { self.new ≡ reopened tasks total self.old }
     {
+        self.total = total;
         self.offers = Offers::new(alloc);
         self.booked = Tasks::from_list(tasks);
     }

@@ -243,11 +243,17 @@ fn forget_by_at(accounts: &mut Vec<Account>, place: usize, commands: &[Command])
     }
 }
 
-fn reopen_at(accounts: &mut Vec<Account>, alloc: Global, place: usize, tasks: Listed<Booked>)
-    ensures { accounts.new.items ≡ at_place place (reopened tasks) accounts.old.items }
+fn reopen_at(
+    accounts: &mut Vec<Account>,
+    alloc: Global,
+    place: usize,
+    tasks: Listed<Booked>,
+    total: Resources,
+)
+    ensures { accounts.new.items ≡ at_place place (reopened tasks total) accounts.old.items }
 {
     if place < accounts.len() {
-        accounts[place].reopen(alloc, tasks);
+        accounts[place].reopen(alloc, tasks, total);
     }
 }
 
@@ -497,12 +503,13 @@ impl OfferBook {
         withdraw_named_one(&mut self.accounts, place, framework, ids);
     }
 
-    /// A session opens or ends: offers are gone, and the reported tasks take the place of those that are booked.
-    pub fn reopen(&mut self, alloc: Global, place: usize, tasks: Listed<Booked>)
-        ensures { self.new ≡ at_place place (reopened tasks) self.old }
+    /// A session opens or ends: offers are gone, the reported tasks take the place of those that are booked, and the agent owns the
+    /// reported total.
+    pub fn reopen(&mut self, alloc: Global, place: usize, tasks: Listed<Booked>, total: Resources)
+        ensures { self.new ≡ at_place place (reopened tasks total) self.old }
     {
         self.names.note_all(tasks.as_slice());
-        reopen_at(&mut self.accounts, alloc, place, tasks);
+        reopen_at(&mut self.accounts, alloc, place, tasks, total);
     }
 
     /// An update of a task is heard of.

@@ -1,9 +1,10 @@
 -- What was written of a record is read again.
-use Rattle.std.proofs.Common.{◌≡◌, ℕ, ◌^◌, List, [], ◌∷◌, map, true, Option, Some, refl, sym, ap, ◌∙◌, arith, nat_lt, lt-ltb, bytes_eq}
+use Rattle.std.proofs.Common.{◌≡◌, ◌⊎◌, ℕ, ◌^◌, ◌<◌, ◌||◌, Bool, List, [], ◌∷◌, map, true, false, Option, Some, refl, sym, ap, ◌∙◌, inl, inr, lit<, arith, nat_lt, lt-ltb, bytes_eq}
 use Rattle.std.proofs.lemmas.Slice.Eq.{bytes_eq-Decides}
 use Rattle.std.specs.List.{AllByRecursion}
 use Rattle.serde_json.specs.Data.{Data, string}
 use Rattle.serde_json.specs.Read.{read}
+use Rattle.serde_json.specs.Written.{compact_text}
 use Rattle.names_core.specs.declared.state.TaskState.{TaskState}
 use Rattle.names_core.specs.declared.state.TaskState.TheVariants.{Staging, Running, Finished, Failed, Killed, Lost, Error}
 use Rattle.names_core.specs.Ids.{Numbered, InRange, id_text}
@@ -13,9 +14,9 @@ use Rattle.quantity.specs.declared.rows.Row.{Row}
 use Rattle.quantity.specs.Rows.{AreRows}
 use Rattle.mails.specs.declared.record.Durable.{Durable}
 use Rattle.mails.specs.declared.record.RecordedTask.{RecordedTask}
-use Rattle.record_text.specs.Texts.{amounts, row_members, task_data, task_form, total_form, record_data, record_form}
+use Rattle.record_text.specs.Texts.{amounts, row_members, task_data, task_form, total_form, record_data, record_form, first_form}
 use Rattle.record_text.specs.Written.{IsTask, IsDurable, IsWritten}
-use Rattle.record_text.specs.Reading.{◌>>=◌, offer_of, update_of, offers_in, updates_in, task_of, tasks_in, parts_of, record_in, task_in, total_in}
+use Rattle.record_text.specs.Reading.{◌>>=◌, offer_of, update_of, offers_in, updates_in, task_of, tasks_in, parts_of, is_form_of, record_in, task_in, total_in}
 use Rattle.record_text.proofs.Compact.{read_compact}
 use Rattle.record_text.proofs.Rows.{rows_again}
 use Rattle.record_text.proofs.Each.{each_again, values_of_items}
@@ -53,29 +54,63 @@ all_again : (ts : List RecordedTask) → AllByRecursion IsTask ts → AllByRecur
 all_again [] h = tt
 all_again (t ∷ ts) h = (task_again t h.0, all_again ts h.1)
 
-pub parts_again : (d : Durable) → IsDurable d → parts_of (record_data d) ≡ Some d
+pub parts_again : (version : ℕ) (d : Durable) → IsDurable d → parts_of (record_data version d) ≡ Some d
 unfolding parts_of record_data tasks_in
-parts_again d is =
+parts_again version d is =
     let tasks = each_again RecordedTask task_of task_data [] d.tasks (all_again d.tasks is.tasks) in
     rw (is.named, lt-ltb d.run (2 ^ 32) is.run, lt-ltb d.session (2 ^ 32) is.session, values_of_items (map task_data d.tasks), tasks, rows_again [] d.total is.total) refl
 
-pub read_again : (d : Durable) (text : List ℕ) → IsDurable d → text ≡ record_form d → (read text >>= parts_of) ≡ Some d
-read_again d text is form =
-    let whole = ap read form ∙ read_compact (record_data d) (record_plain d is) (record_depth d) in
-    ap (λ (o : Option Data). o >>= parts_of) whole ∙ parts_again d is
+pub read_again : (version : ℕ) (d : Durable) (text : List ℕ) → version < 2 ^ 64 → IsDurable d → text ≡ compact_text (record_data version d) → (read text >>= parts_of) ≡ Some d
+read_again version d text small is form =
+    let whole = ap read form ∙ read_compact (record_data version d) (record_plain version d small is) (record_depth version d) in
+    ap (λ (o : Option Data). o >>= parts_of) whole ∙ parts_again version d is
+
+read_written : (d : Durable) (text : List ℕ) → IsWritten d text → (read text >>= parts_of) ≡ Some d
+read_written d text is = by is.form
+  where
+    by : (text ≡ record_form d) ⊎ (text ≡ first_form d) → (read text >>= parts_of) ≡ Some d
+    by (inl form) = read_again 2 d text (lit< tt) is.durable form
+    by (inr form) = read_again 1 d text (lit< tt) is.durable form
+
+or_else : (a b : Bool) → b ≡ true → (a || b) ≡ true
+or_else true b e = refl
+or_else false b e = e
+
+or_first : (a b : Bool) → a ≡ true → (a || b) ≡ true
+or_first a b e = rw e refl
+
+is_form : (d : Durable) (text : List ℕ) → IsWritten d text → is_form_of d text ≡ true
+is_form d text is = by is.form
+  where
+    by : (text ≡ record_form d) ⊎ (text ≡ first_form d) → is_form_of d text ≡ true
+    by (inl form) = or_first (bytes_eq (record_form d) text) (bytes_eq (first_form d) text) ((bytes_eq-Decides (record_form d) text).1 (sym form))
+    by (inr form) = or_else (bytes_eq (record_form d) text) (bytes_eq (first_form d) text) ((bytes_eq-Decides (first_form d) text).1 (sym form))
+
+-- a text that is a record's written form tells which of the two it is
+pub form_is : (d : Durable) (text : List ℕ) → is_form_of d text ≡ true → (text ≡ record_form d) ⊎ (text ≡ first_form d)
+form_is d text e = by (bytes_eq (record_form d) text) refl (bytes_eq (first_form d) text) refl e
+  where
+    by : (a : Bool) → bytes_eq (record_form d) text ≡ a → (b : Bool) → bytes_eq (first_form d) text ≡ b → (a || b) ≡ true → (text ≡ record_form d) ⊎ (text ≡ first_form d)
+    by true p b q h = inl (sym ((bytes_eq-Decides (record_form d) text).0 p))
+    by false p true q h = inr (sym ((bytes_eq-Decides (first_form d) text).0 q))
+    by false p false q h = absurd cc
 
 pub record_again : (d : Durable) (text : List ℕ) → IsWritten d text → record_in text ≡ Some d
 unfolding record_in
-record_again d text is =
-    let whole = ap read is.form ∙ read_compact (record_data d) (record_plain d is.durable) (record_depth d) in
-    let same : bytes_eq (record_form d) text ≡ true = (bytes_eq-Decides (record_form d) text).1 (sym is.form) in
-    rw (whole, parts_again d is.durable, same) refl
+record_again d text is = by is.form
+  where
+    by : (text ≡ record_form d) ⊎ (text ≡ first_form d) → record_in text ≡ Some d
+    by (inl form) = rw (ap read form ∙ read_compact (record_data 2 d) (record_plain 2 d (lit< tt) is.durable) (record_depth 2 d), parts_again 2 d is.durable, is_form d text is) refl
+    by (inr form) = rw (ap read form ∙ read_compact (record_data 1 d) (record_plain 1 d (lit< tt) is.durable) (record_depth 1 d), parts_again 1 d is.durable, is_form d text is) refl
 
 some_is : {A : Type 0} (o : Option A) (x y : A) → o ≡ Some x → o ≡ Some y → x ≡ y
 some_is o x y p q = cc
 
 pub one_record : (d e : Durable) → IsDurable d → IsDurable e → record_form d ≡ record_form e → d ≡ e
-one_record d e p q same = some_is (read (record_form d) >>= parts_of) d e (read_again d (record_form d) p refl) (read_again e (record_form d) q same)
+one_record d e p q same = some_is (read (record_form d) >>= parts_of) d e (read_again 2 d (record_form d) (lit< tt) p refl) (read_again 2 e (record_form d) (lit< tt) q same)
+
+pub one_written : (d e : Durable) (text : List ℕ) → IsWritten d text → IsWritten e text → d ≡ e
+one_written d e text p q = some_is (read text >>= parts_of) d e (read_written d text p) (read_written e text q)
 
 -- the written form of a task is read as that task
 pub task_form_again : (t : RecordedTask) → IsTask t → task_in (task_form t) ≡ Some t

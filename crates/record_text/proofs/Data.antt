@@ -1,5 +1,5 @@
 -- The data of a record is plain, and nests a few levels deep.
-use Rattle.std.proofs.Common.{◌≡◌, ℕ, ◌≤◌, List, [], ◌∷◌, length, map, Bool, true, false, cond, refl, arith, nat_le, ◌&&◌}
+use Rattle.std.proofs.Common.{◌≡◌, ◌<◌, ◌^◌, ℕ, ◌≤◌, List, [], ◌∷◌, length, map, Bool, true, false, cond, refl, arith, nat_le, ◌&&◌}
 use Rattle.std.proofs.lemmas.Bool.{and_parts, leb-true}
 use Rattle.std.specs.List.{AllByRecursion, list_any}
 use Rattle.serde_json.specs.Data.{Data, string, depth, items_depth, members_depth}
@@ -68,14 +68,14 @@ all_plain : (ts : List RecordedTask) → AllByRecursion IsTask ts → AllByRecur
 all_plain [] h = tt
 all_plain (t ∷ ts) h = (task_plain t h.0, all_plain ts h.1)
 
-pub record_plain : (d : Durable) → IsDurable d → IsPlain (record_data d)
+pub record_plain : (version : ℕ) (d : Durable) → version < 2 ^ 64 → IsDurable d → IsPlain (record_data version d)
 unfolding record_data
-record_plain d is =
+record_plain version d small is =
     let tasks = plain_list task_data d.tasks (all_plain d.tasks is.tasks) in
-    ((tt, (omega (arith, is.run), (omega (arith, is.session), (tasks, (plain_amounts d.total is.total, (omega arith, tt)))))), refl)
+    ((tt, (omega (arith, is.run), (omega (arith, is.session), (tasks, (plain_amounts d.total is.total, (omega (arith, small), tt)))))), refl)
 
-pub record_depth : (d : Durable) → depth (record_data d) ≤ 127
+pub record_depth : (version : ℕ) (d : Durable) → depth (record_data version d) ≤ 127
 unfolding record_data
-record_depth d =
+record_depth version d =
     let tasks = shallow_list 2 task_data task_depth d.tasks in
     omega (arith, tasks, rows_depth d.total)

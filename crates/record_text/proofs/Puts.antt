@@ -1,5 +1,5 @@
 -- Members put into an empty object, one after another.
-use Rattle.std.proofs.Common.{◌≡◌, codes, refl}
+use Rattle.std.proofs.Common.{◌≡◌, ℕ, codes, refl}
 use Rattle.serde_json.specs.Data.{Data, Members, no_members, put, object, string}
 use Rattle.names_core.specs.Ids.{id_text}
 use Rattle.names_core.specs.States.{state_text}
@@ -19,14 +19,14 @@ unfolding task_data
 task_put t m0 m1 m2 m3 m4 acked offers updates e0 e1 e2 h2 e3 h3 e4 h4 = rw (e4, e3, e2, e1, e0, h2, h3, h4) refl
 
 -- the members of a record, and its version behind them
-pub record_put : (d : Durable) (m0 m1 m2 m3 m4 m5 : Members) (name run session tasks total : Data)
+pub record_put : (version : ℕ) (d : Durable) (m0 m1 m2 m3 m4 m5 : Members) (name run session tasks total : Data)
     → m0 ≡ no_members
     → m1 ≡ put (codes "name") name m0 → name ≡ string d.name
     → m2 ≡ put (codes "run") run m1 → run ≡ whole d.run
     → m3 ≡ put (codes "session") session m2 → session ≡ whole d.session
     → m4 ≡ put (codes "tasks") tasks m3 → tasks ≡ list_data task_data d.tasks
     → m5 ≡ put (codes "total") total m4 → total ≡ amounts d.total
-    → versioned m5 ≡ record_data d
+    → versioned version m5 ≡ record_data version d
 unfolding record_data
-record_put d m0 m1 m2 m3 m4 m5 name run session tasks total e0 e1 h1 e2 h2 e3 h3 e4 h4 e5 h5 =
+record_put version d m0 m1 m2 m3 m4 m5 name run session tasks total e0 e1 h1 e2 h2 e3 h3 e4 h4 e5 h5 =
     rw (e5, e4, e3, e2, e1, e0, h1, h2, h3, h4, h5) refl

@@ -32,12 +32,12 @@ tasks_utf8 later (t ∷ ts) all = IsUtf8-append (comma_if later) _ (comma later)
 pub record_utf8 : (d : Durable) → IsUtf8 d.name → d.run < 2 ^ 32 → d.session < 2 ^ 32 → IsUtf8 (total_form d.total) → AllByRecursion (λ t. IsUtf8 (task_form t)) d.tasks → IsUtf8 (record_form d)
 unfolding record_data
 record_utf8 d name run session total tasks =
-    let version = member (codes "version") (whole 1) no_members in
+    let version = member (codes "version") (whole 2) no_members in
     let totals = member (codes "total") (amounts d.total) version in
     let all = member (codes "tasks") (list_data task_data d.tasks) totals in
     let sessions = member (codes "session") (whole d.session) all in
     let runs = member (codes "run") (whole d.run) sessions in
-    let six = member_utf8 true (codes "version") (whole 1) no_members (IsUtf8-are_ascii _ refl) (whole_utf8 1 (omega arith)) (IsUtf8-are_ascii (125 ∷ []) refl) in
+    let six = member_utf8 true (codes "version") (whole 2) no_members (IsUtf8-are_ascii _ refl) (whole_utf8 2 (omega arith)) (IsUtf8-are_ascii (125 ∷ []) refl) in
     let five = member_utf8 true (codes "total") (amounts d.total) version (IsUtf8-are_ascii _ refl) total six in
     let listed = IsUtf8-append (91 ∷ []) _ (IsUtf8-are_ascii (91 ∷ []) refl) (tasks_utf8 false d.tasks tasks) in
     let four = member_utf8 true (codes "tasks") (list_data task_data d.tasks) totals (IsUtf8-are_ascii _ refl) listed five in

@@ -1,5 +1,5 @@
 -- Reading a record and its parts: what each function gives.
-use Rattle.std.specs.Prelude.{◌≡◌, ℕ, ◌^◌, Bool, List, [], ◌∷◌, ◌++◌, codes, bytes_eq, nat_lt, Option, None, Some, Result, Ok, Err, if◌then◌else◌}
+use Rattle.std.specs.Prelude.{◌≡◌, ℕ, ◌^◌, Bool, List, [], ◌∷◌, ◌++◌, codes, bytes_eq, ◌||◌, nat_lt, Option, None, Some, Result, Ok, Err, if◌then◌else◌}
 use Rattle.std.specs.Result.{result_ok}
 use Rattle.serde_json.specs.Data.{Data, Items, no_items, item, Members, no_members, member}
 use Rattle.serde_json.specs.Find.{get, as_number, as_u64, as_str, as_array, as_object}
@@ -13,7 +13,7 @@ use Rattle.quantity.specs.Rows.{added}
 use Rattle.stream_core.specs.Updates.{Updates, are_updates}
 use Rattle.mails.specs.declared.record.Durable.{Durable}
 use Rattle.mails.specs.declared.record.RecordedTask.{RecordedTask}
-use Rattle.record_text.specs.Texts.{record_form, task_form, total_form}
+use Rattle.record_text.specs.Texts.{record_form, first_form, task_form, total_form}
 use Rattle.record_text.specs.declared.fault.RecordFault.{RecordFault}
 use Rattle.record_text.specs.declared.fault.RecordFault.TheVariants.{Damaged, OutOfMemory}
 
@@ -129,12 +129,16 @@ parts_of d = do
   total ← resources_in (codes "total") d
   Some (record { name = name; total = total; session = session; run = run; tasks = tasks })
 
+-- the text is the written form of a record, in either version
+abbrev pub is_form_of : Durable → List ℕ → Bool
+is_form_of d text = bytes_eq (record_form d) text || bytes_eq (first_form d) text
+
 -- the record of a text that is its written form
 unfoldable pub record_in : List ℕ → Option Durable
 record_in text = do
   value ← read text
   found ← parts_of value
-  where_true (bytes_eq (record_form found) text) found
+  where_true (is_form_of found text) found
 
 -- the task of a text that is its written form
 unfoldable pub task_in : List ℕ → Option RecordedTask

@@ -35,14 +35,15 @@ task_data t = object
     (member (codes "resources") (amounts t.job.resources)
     (member (codes "updates") (list_data (λ state. string (state_text state)) t.updates.states) no_members)))))))
 
-unfoldable pub record_data : Durable → Data
-record_data d = object
+-- a record, and the version of its written form
+unfoldable pub record_data : ℕ → Durable → Data
+record_data version d = object
     (member (codes "name") (string d.name)
     (member (codes "run") (whole d.run)
     (member (codes "session") (whole d.session)
     (member (codes "tasks") (list_data task_data d.tasks)
     (member (codes "total") (amounts d.total)
-    (member (codes "version") (whole 1) no_members))))))
+    (member (codes "version") (whole version) no_members))))))
 
 -- the framework, key, name and resources of a task put to members
 abbrev pub with_job : Job → Members → Members
@@ -53,12 +54,16 @@ with_job job ms =
     (put (codes "framework") (string (id_text 70 job.framework)) ms)))
 
 -- members, and the version put to them
-abbrev pub versioned : Members → Data
-versioned ms = object (put (codes "version") (whole 1) ms)
+abbrev pub versioned : ℕ → Members → Data
+versioned version ms = object (put (codes "version") (whole version) ms)
 
--- the written form of a record
+-- the written form of a record, version 2
 abbrev pub record_form : Durable → List ℕ
-record_form d = compact_text (record_data d)
+record_form d = compact_text (record_data 2 d)
+
+-- the written form that a record had before, version 1
+abbrev pub first_form : Durable → List ℕ
+first_form d = compact_text (record_data 1 d)
 
 -- the written form of a task
 abbrev pub task_form : RecordedTask → List ℕ

@@ -1,5 +1,5 @@
 -- Records, and their texts.
-use Rattle.std.specs.Prelude.{◌≡◌, ℕ, ◌<◌, ◌^◌, true, List}
+use Rattle.std.specs.Prelude.{◌≡◌, ◌⊎◌, ℕ, ◌<◌, ◌^◌, true, List}
 use Rattle.std.specs.List.{AllByRecursion}
 use Rattle.names_core.specs.Ids.{InRange}
 use Rattle.names_core.specs.Names.{is_name}
@@ -8,7 +8,7 @@ use Rattle.stream_core.specs.Updates.{are_updates}
 use Rattle.mails.specs.declared.task.Job.{Job}
 use Rattle.mails.specs.declared.record.Durable.{Durable}
 use Rattle.mails.specs.declared.record.RecordedTask.{RecordedTask}
-use Rattle.record_text.specs.Texts.{record_form}
+use Rattle.record_text.specs.Texts.{record_form, first_form}
 
 -- what the types of a job's parts keep: ids, a name and amounts
 abbrev pub IsJob : Job → Type 0
@@ -31,7 +31,7 @@ pub record IsDurable (d : Durable) : Type 0 where
   pub run : d.run < 2 ^ 32
   pub tasks : AllByRecursion IsTask d.tasks
 
--- the text is the written form of the record
+-- the text is the written form of the record, or the one that it had before
 pub record IsWritten (d : Durable) (text : List ℕ) : Type 0 where
   pub durable : IsDurable d
-  pub form : text ≡ record_form d
+  pub form : (text ≡ record_form d) ⊎ (text ≡ first_form d)

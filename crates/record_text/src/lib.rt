@@ -14,4 +14,4 @@ pub use fault::RecordFault;
 pub use laws::one_record;
 pub use parts::{task_of_text, task_text, total_of_text, total_text};
 pub use read::record_of;
-pub use write::{framework_value, key_value, offers_value, put_job, record_text};
+pub use write::{amounts_value, framework_value, key_value, offers_value, put_job, record_text};

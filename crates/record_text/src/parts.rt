@@ -15,6 +15,7 @@ use crate::write::{amounts_value, task_value};
 use mails::RecordedTask;
 use quantity::Resources;
 use serde_json::Value;
+use shared_value::Shared;
 use std::alloc::{AllocError, Global};
 
 /// The written form of a task: compact JSON, as it stands in its record's.
@@ -28,7 +29,7 @@ pub fn task_text(alloc: Global, task: &RecordedTask) -> Result<String, AllocErro
 
 /// The task that a text is the written form of, and nothing else. `K2 Damaged` where it is none's; `K4 OutOfMemory` may come before it.
 #[tactic(auto, unfolding(crate::specs::Reading::task_in))]
-pub fn task_of_text(alloc: Global, text: &str) -> Result<RecordedTask, RecordFault>
+pub fn task_of_text(alloc: Global, text: &str) -> Result<Shared<RecordedTask>, RecordFault>
     ensures form { IfOk result (λ t. text.now ≡ task_form t) }
     ensures is_task { IfOk result IsTask }
     ensures exact { Gives (λ t. t) result (task_in text.now) }

@@ -4,18 +4,18 @@ ghost use Rattle.std.specs.Prelude.{◌≡◌, Some, IfOk, IfErr};
 ghost use Rattle.serde_json.specs.View.{view};
 ghost use Rattle.serde_json.specs.Read.{read};
 ghost use Rattle.mails.specs.declared.record.Durable.{Durable};
-ghost use Rattle.record_text.specs.Reading.{Gives, parts_of, record_in};
-ghost use Rattle.record_text.specs.Written.{IsWritten};
+ghost use Rattle.record_text.specs.Reading.{Gives, is_form_of, parts_of, record_in};
+ghost use Rattle.record_text.specs.Written.{IsDurable, IsWritten};
 ghost use Rattle.record_text.specs.declared.fault.RecordFault.TheVariants as faults;
 
 use crate::fault::RecordFault;
 use crate::members::{agent_in, number_in, resources_in};
 use crate::task::tasks_in;
-use crate::write::record_text;
+use crate::write::{first_text, record_text};
 use listed::Listed;
 use mails::Durable;
 use serde_json::Value;
-use std::alloc::Global;
+use std::alloc::{AllocError, Global};
 
 #[tactic(auto, unfolding(crate::specs::Reading::parts_of))]
 fn parts_of(alloc: Global, value: &Value) -> Result<Durable, RecordFault>
@@ -54,6 +54,19 @@ pub fn value_of(alloc: Global, text: &str) -> Result<Value, RecordFault>
     }
 }
 
+/// Whether a text is the written form of a record, in either version.
+fn is_form_of(alloc: Global, text: &str, durable: &Durable) -> Result<bool, AllocError>
+    ensures form { IfOk result (λ is. is ≡ is_form_of durable.now text.now) }
+    ensures durable { IfOk result (λ _. IsDurable durable.now) }
+{
+    let form = record_text(alloc, durable)?;
+    if form.as_str() == text {
+        return Ok(true);
+    }
+    let first = first_text(alloc, durable)?;
+    Ok(first.as_str() == text)
+}
+
 #[tactic(auto, unfolding(crate::specs::Reading::record_in))]
 fn read_form(alloc: Global, text: &str) -> Result<Durable, RecordFault>
     ensures found { IfOk result (λ d. IsWritten d text.now) }
@@ -61,14 +74,13 @@ fn read_form(alloc: Global, text: &str) -> Result<Durable, RecordFault>
 {
     let value = value_of(alloc, text)?;
     let record = parts_of(alloc, &value)?;
-    let form = record_text(alloc, &record)?;
-    if form.as_str() != text {
+    if !is_form_of(alloc, text, &record)? {
         return Err(RecordFault::Damaged);
     }
     Ok(record)
 }
 
-/// The record that a text is the written form of, and nothing else: other spaces, members, or another order of members are refused.
+/// The record that a text is the written form of, of version 2 or 1, and nothing else: other spaces, members, or another order of members are refused.
 /// Whether an agent can have it isn't looked at.
 ///
 /// `K2 Damaged` where the text is no record's written form; `K4 OutOfMemory` may come before it.

@@ -11,6 +11,7 @@ use listed::Listed;
 use mails::{Job, RecordedTask};
 use names_core::{FrameworkId, LaunchKey};
 use serde_json::Value;
+use shared_value::Shared;
 use std::alloc::Global;
 
 fn framework_in(value: &Value) -> Result<FrameworkId, RecordFault>
@@ -38,7 +39,7 @@ fn key_in(value: &Value) -> Result<LaunchKey, RecordFault>
 }
 
 #[tactic(auto, unfolding(crate::specs::Reading::task_of))]
-pub fn task_of(alloc: Global, value: &Value) -> Result<RecordedTask, RecordFault>
+pub fn task_of(alloc: Global, value: &Value) -> Result<Shared<RecordedTask>, RecordFault>
     ensures { Gives (λ t. t) result (task_of (view value.now)) }
 {
     let framework = framework_in(value)?;
@@ -47,7 +48,7 @@ pub fn task_of(alloc: Global, value: &Value) -> Result<RecordedTask, RecordFault
     let offers = offers_in(alloc, value)?;
     let resources = resources_in(alloc, value, "resources")?;
     let updates = updates_in(alloc, value)?;
-    Ok(RecordedTask {
+    let task = RecordedTask {
         job: Job {
             key,
             framework,
@@ -56,10 +57,11 @@ pub fn task_of(alloc: Global, value: &Value) -> Result<RecordedTask, RecordFault
         },
         offers: Listed::from_vec(offers),
         updates,
-    })
+    };
+    Ok(Shared::new(alloc, task)?)
 }
 
-fn tasks_of(alloc: Global, values: &[Value]) -> Result<Vec<RecordedTask>, RecordFault>
+fn tasks_of(alloc: Global, values: &[Value]) -> Result<Vec<Shared<RecordedTask>>, RecordFault>
     ensures { Gives (λ v. v.items) result (each_in (adds task_of) [] (map view values.now)) }
 {
     let mut tasks = Vec::with_capacity(alloc, values.len())?;
@@ -70,7 +72,7 @@ fn tasks_of(alloc: Global, values: &[Value]) -> Result<Vec<RecordedTask>, Record
 }
 
 #[tactic(auto, unfolding(crate::specs::Reading::tasks_in))]
-pub fn tasks_in(alloc: Global, value: &Value) -> Result<Vec<RecordedTask>, RecordFault>
+pub fn tasks_in(alloc: Global, value: &Value) -> Result<Vec<Shared<RecordedTask>>, RecordFault>
     ensures { Gives (λ v. v.items) result (tasks_in (view value.now)) }
 {
     let Some(values) = list_in(value, "tasks") else {

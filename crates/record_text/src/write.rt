@@ -1,19 +1,20 @@
 //! Records written as JSON.
 
-ghost use Rattle.std.specs.Prelude.{◌≡◌, [], IfOk, OnOk, string_bytes, ◌<◌};
+ghost use Rattle.std.specs.Prelude.{◌≡◌, [], ℕ, IfOk, OnOk, string_bytes, ◌<◌};
 ghost use Rattle.std.specs.List.{AllByRecursion};
 ghost use Rattle.serde_json.specs.Data.{array, object, string};
 ghost use Rattle.serde_json.specs.View.{view, members_view};
 ghost use Rattle.names_core.specs.Ids.{InRange, id_text};
 ghost use Rattle.names_core.specs.States.{state_text};
 ghost use Rattle.quantity.specs.Rows.{AreRows};
-ghost use Rattle.record_text.specs.Texts.{row_members, amounts, list_data, task_data, versioned, with_job, record_data, record_form};
+ghost use Rattle.record_text.specs.Texts.{row_members, amounts, list_data, task_data, versioned, with_job, record_data, record_form, first_form};
 ghost use Rattle.record_text.specs.Written.{IsJob, IsTask, IsDurable};
 
 use mails::{Durable, Job, RecordedTask};
 use names_core::{FrameworkId, LaunchKey, OfferId, TaskState};
 use quantity::{Resources, Row};
 use serde_json::{Map, Value, put};
+use shared_value::Shared;
 use std::alloc::{AllocError, Global};
 
 fn members_of(alloc: Global, rows: &[Row]) -> Result<Map<String, Value>, AllocError>
@@ -128,7 +129,7 @@ pub fn task_value(alloc: Global, task: &RecordedTask) -> Result<Value, AllocErro
     Ok(Value::Object(members))
 }
 
-fn tasks_value(alloc: Global, tasks: &[RecordedTask]) -> Result<Value, AllocError>
+fn tasks_value(alloc: Global, tasks: &[Shared<RecordedTask>]) -> Result<Value, AllocError>
     ensures value { IfOk result (λ v. view v ≡ list_data task_data tasks.now) }
     ensures are_tasks { IfOk result (λ _. AllByRecursion IsTask tasks.now) }
 {
@@ -146,7 +147,7 @@ fn put_record(
     durable: &Durable,
 ) -> Result<(), AllocError>
     requires { members.old.entries ≡ [] }
-    ensures value { OnOk result (versioned (members_view members.new.entries) ≡ record_data durable.now) }
+    ensures value { (version : ℕ) → OnOk result (versioned version (members_view members.new.entries) ≡ record_data version durable.now) }
     ensures durable { OnOk result (IsDurable durable.now) }
 {
     let run = durable.run;
@@ -161,22 +162,31 @@ fn put_record(
     put(members, alloc, "total", total)
 }
 
-fn record_value(alloc: Global, durable: &Durable) -> Result<Value, AllocError>
-    ensures value { IfOk result (λ v. view v ≡ record_data durable.now) }
+fn record_value(alloc: Global, durable: &Durable, version: u64) -> Result<Value, AllocError>
+    ensures value { IfOk result (λ v. view v ≡ record_data version durable.now) }
     ensures durable { IfOk result (λ _. IsDurable durable.now) }
 {
     let mut members = Map::new(alloc);
     put_record(&mut members, alloc, durable)?;
-    put(&mut members, alloc, "version", Value::from(1u64))?;
+    put(&mut members, alloc, "version", Value::from(version))?;
     Ok(Value::Object(members))
 }
 
 /// The written form of a record: compact JSON (RFC 8259), in which an object's members stand in byte order of their names, and
-/// tasks by launch key.
+/// tasks by launch key; its version is 2.
 pub fn record_text(alloc: Global, durable: &Durable) -> Result<String, AllocError>
     ensures text { IfOk result (λ text. string_bytes text ≡ record_form durable.now) }
     ensures durable { IfOk result (λ _. IsDurable durable.now) }
 {
-    let value = record_value(alloc, durable)?;
+    let value = record_value(alloc, durable, 2)?;
+    value.to_string(alloc)
+}
+
+/// The written form that a record had before: with another version, and else the same.
+pub fn first_text(alloc: Global, durable: &Durable) -> Result<String, AllocError>
+    ensures text { IfOk result (λ text. string_bytes text ≡ first_form durable.now) }
+    ensures durable { IfOk result (λ _. IsDurable durable.now) }
+{
+    let value = record_value(alloc, durable, 1)?;
     value.to_string(alloc)
 }

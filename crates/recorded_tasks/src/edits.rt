@@ -1,4 +1,4 @@
-//! What becomes of the tasks of a record: all that a change doesn't name are copied as they are.
+//! What becomes of the tasks of a record: all that a change doesn't name are shared.
 
 ghost use Rattle.std.specs.Prelude.{◌≡◌, ◌&&◌, if◌then◌else◌, IfOk, None, Some, not, map, filter};
 ghost use Rattle.std.specs.List.{list_any};
@@ -10,6 +10,7 @@ use crate::ids::{is_same_framework, is_same_key};
 use mails::RecordedTask;
 use names_core::{FrameworkId, LaunchKey, TaskState};
 use plain_data::Plain;
+use shared_value::Shared;
 use std::alloc::{AllocError, Global};
 
 /// Whether a task has this key.
@@ -20,20 +21,21 @@ pub fn is_of_key(key: LaunchKey, task: &RecordedTask) -> bool
 }
 
 fn stated_one(
+    alloc: Global,
     key: LaunchKey,
     state: TaskState,
-    task: &RecordedTask,
-) -> Result<RecordedTask, AllocError>
+    task: &Shared<RecordedTask>,
+) -> Result<Shared<RecordedTask>, AllocError>
     ensures { IfOk result (λ t. t ≡ stated key state task.now) }
 {
-    let mut copy = task.copy()?;
-    if is_of_key(key, task) && !task.updates.has_ended() {
-        match copy.updates.push(state) {
-            Ok(()) => {}
-            Err(_) => return Err(AllocError),
-        }
+    if !is_of_key(key, task) || task.updates.has_ended() {
+        return task.share();
     }
-    Ok(copy)
+    let mut changed = task.get().copy()?;
+    match changed.updates.push(state) {
+        Ok(()) => Shared::new(alloc, changed),
+        Err(_) => Err(AllocError),
+    }
 }
 
 /// The tasks once a state came to the task of a key, unless it has ended. There has to be a place for the state.
@@ -41,28 +43,34 @@ pub fn stated_all(
     alloc: Global,
     key: LaunchKey,
     state: TaskState,
-    tasks: &[RecordedTask],
-) -> Result<Vec<RecordedTask>, AllocError>
+    tasks: &[Shared<RecordedTask>],
+) -> Result<Vec<Shared<RecordedTask>>, AllocError>
     ensures { IfOk result (λ v. v.items ≡ map (stated key state) tasks.now) }
 {
     let mut changed = Vec::with_capacity(alloc, tasks.len())?;
     for task in tasks {
-        changed.push(stated_one(key, state, task)?)?;
+        changed.push(stated_one(alloc, key, state, task)?)?;
     }
     Ok(changed)
 }
 
-fn acknowledged_one(key: LaunchKey, k: u32, task: &RecordedTask) -> Result<RecordedTask, AllocError>
+fn acknowledged_one(
+    alloc: Global,
+    key: LaunchKey,
+    k: u32,
+    task: &Shared<RecordedTask>,
+) -> Result<Shared<RecordedTask>, AllocError>
     ensures { IfOk result (λ t. t ≡ acknowledged key k task.now) }
 {
-    let mut copy = task.copy()?;
-    if is_of_key(key, task) {
-        let _taken = copy.updates.acknowledge(k);
+    if !is_of_key(key, task) {
+        return task.share();
     }
-    Ok(copy)
+    let mut changed = task.get().copy()?;
+    let _taken = changed.updates.acknowledge(k);
+    Shared::new(alloc, changed)
 }
 
-fn drop_done(tasks: &mut Vec<RecordedTask>)
+fn drop_done(tasks: &mut Vec<Shared<RecordedTask>>)
     ensures { tasks.new.items ≡ filter (λ t. not (is_done t.updates)) tasks.old.items }
 {
     tasks.retain(|task| !task.updates.done());
@@ -73,13 +81,13 @@ pub fn acknowledged_all(
     alloc: Global,
     key: LaunchKey,
     k: u32,
-    tasks: &[RecordedTask],
-) -> Result<Vec<RecordedTask>, AllocError>
+    tasks: &[Shared<RecordedTask>],
+) -> Result<Vec<Shared<RecordedTask>>, AllocError>
     ensures { IfOk result (λ v. v.items ≡ filter (λ t. not (is_done t.updates)) (map (acknowledged key k) tasks.now)) }
 {
     let mut changed = Vec::with_capacity(alloc, tasks.len())?;
     for task in tasks {
-        changed.push(acknowledged_one(key, k, task)?)?;
+        changed.push(acknowledged_one(alloc, key, k, task)?)?;
     }
     drop_done(&mut changed);
     Ok(changed)
@@ -89,21 +97,21 @@ pub fn acknowledged_all(
 pub fn without_framework(
     alloc: Global,
     framework: FrameworkId,
-    tasks: &[RecordedTask],
-) -> Result<Vec<RecordedTask>, AllocError>
+    tasks: &[Shared<RecordedTask>],
+) -> Result<Vec<Shared<RecordedTask>>, AllocError>
     ensures { IfOk result (λ v. v.items ≡ filter (λ t. not (same t.job.framework framework)) tasks.now) }
 {
     let mut kept = Vec::new(alloc);
     for task in tasks {
         if !is_same_framework(task.job.framework, framework) {
-            kept.push(task.copy()?)?;
+            kept.push(task.share()?)?;
         }
     }
     Ok(kept)
 }
 
 /// Whether update `k` is the front of the task of this key: the first that isn't acknowledged.
-pub fn is_front_at(key: LaunchKey, k: u32, tasks: &[RecordedTask]) -> bool
+pub fn is_front_at(key: LaunchKey, k: u32, tasks: &[Shared<RecordedTask>]) -> bool
     ensures { result ≡ is_front_at key k tasks.now }
 {
     tasks
@@ -112,7 +120,7 @@ pub fn is_front_at(key: LaunchKey, k: u32, tasks: &[RecordedTask]) -> bool
 }
 
 /// The key of the task whose front is sent after an Ack of its update `k`: none where that update isn't its front.
-pub fn front_sent_after(key: LaunchKey, k: u32, tasks: &[RecordedTask]) -> Option<LaunchKey>
+pub fn front_sent_after(key: LaunchKey, k: u32, tasks: &[Shared<RecordedTask>]) -> Option<LaunchKey>
     ensures { result ≡ (if is_front_at key k tasks.now then Some key else None) }
 {
     if is_front_at(key, k, tasks) {
@@ -122,14 +130,14 @@ pub fn front_sent_after(key: LaunchKey, k: u32, tasks: &[RecordedTask]) -> Optio
 }
 
 /// Whether there is a task of this key.
-pub fn has_task(key: LaunchKey, tasks: &[RecordedTask]) -> bool
+pub fn has_task(key: LaunchKey, tasks: &[Shared<RecordedTask>]) -> bool
     ensures { result ≡ list_any (is_task key) tasks.now }
 {
     tasks.iter().any(|task| is_of_key(key, task))
 }
 
 /// Whether there is a task of this key, and it has ended.
-pub fn has_ended_task(key: LaunchKey, tasks: &[RecordedTask]) -> bool
+pub fn has_ended_task(key: LaunchKey, tasks: &[Shared<RecordedTask>]) -> bool
     ensures { result ≡ list_any (λ t. is_task key t && has_ended t) tasks.now }
 {
     tasks
@@ -138,14 +146,14 @@ pub fn has_ended_task(key: LaunchKey, tasks: &[RecordedTask]) -> bool
 }
 
 /// Whether the task of this key has a place left for a terminal state only.
-fn has_full_task(key: LaunchKey, tasks: &[RecordedTask]) -> bool
+fn has_full_task(key: LaunchKey, tasks: &[Shared<RecordedTask>]) -> bool
     ensures { result ≡ list_any (λ t. is_task key t && is_full t.updates) tasks.now }
 {
     tasks.iter().any(|task| is_of_key(key, task) && task.updates.states().len() >= 4095)
 }
 
 /// Whether a state finds no place at the task of this key.
-pub fn lacks_place(key: LaunchKey, state: TaskState, tasks: &[RecordedTask]) -> bool
+pub fn lacks_place(key: LaunchKey, state: TaskState, tasks: &[Shared<RecordedTask>]) -> bool
     ensures { result ≡ (needs_place state && list_any (λ t. is_task key t && is_full t.updates) tasks.now) }
 {
     !state.is_terminal() && has_full_task(key, tasks)

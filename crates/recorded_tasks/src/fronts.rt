@@ -7,6 +7,7 @@ use crate::edits::is_of_key;
 use mails::{AgentMail, Booked, RecordedTask};
 use names_core::{LaunchKey, TaskState};
 use plain_data::Plain;
+use shared_value::Shared;
 use std::alloc::{AllocError, Global};
 
 /// The last of the first so many states, TASK_STAGING for none.
@@ -48,7 +49,10 @@ fn reported(task: &RecordedTask) -> Result<Booked, AllocError>
 }
 
 /// Tasks as a Report has them.
-pub fn all_reported(alloc: Global, tasks: &[RecordedTask]) -> Result<Vec<Booked>, AllocError>
+pub fn all_reported(
+    alloc: Global,
+    tasks: &[Shared<RecordedTask>],
+) -> Result<Vec<Booked>, AllocError>
     ensures { IfOk result (λ booked. booked.items ≡ map reported tasks.now) }
 {
     let mut booked = Vec::with_capacity(alloc, tasks.len())?;
@@ -83,7 +87,7 @@ fn push_front(
 pub fn push_fronts(
     mails: &mut Vec<AgentMail>,
     session: u32,
-    tasks: &[RecordedTask],
+    tasks: &[Shared<RecordedTask>],
 ) -> Result<(), AllocError>
     ensures { OnOk result (mails.new.items ≡ mails.old.items ++ flat_map (front_of session) tasks.now) }
 {
@@ -98,7 +102,7 @@ pub fn push_fronts_at(
     mails: &mut Vec<AgentMail>,
     session: u32,
     key: LaunchKey,
-    tasks: &[RecordedTask],
+    tasks: &[Shared<RecordedTask>],
 ) -> Result<(), AllocError>
     ensures { OnOk result (mails.new.items ≡ mails.old.items ++ flat_map (front_of session) (filter (is_task key) tasks.now)) }
 {

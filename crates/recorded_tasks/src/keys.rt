@@ -6,6 +6,7 @@ ghost use Rattle.cluster_model.specs.Ids as ids;
 
 use mails::RecordedTask;
 use names_core::LaunchKey;
+use shared_value::Shared;
 
 pub fn is_before(a: LaunchKey, b: LaunchKey) -> bool
     ensures { result ≡ ids.before a b }
@@ -14,7 +15,7 @@ pub fn is_before(a: LaunchKey, b: LaunchKey) -> bool
 }
 
 /// Whether a key is behind those of all tasks.
-pub fn is_behind_all(tasks: &[RecordedTask], key: LaunchKey) -> bool
+pub fn is_behind_all(tasks: &[Shared<RecordedTask>], key: LaunchKey) -> bool
     ensures { result ≡ list_all (λ t. ids.before t.job.key key) tasks.now }
 {
     tasks.iter().all(|task| is_before(task.job.key, key))

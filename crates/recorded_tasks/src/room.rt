@@ -8,6 +8,7 @@ ghost use Rattle.cluster_model.specs.Agents.{live_tasks, task_rows};
 use mails::RecordedTask;
 use plain_data::Plain;
 use quantity::Resources;
+use shared_value::Shared;
 use std::alloc::{AllocError, Global};
 
 /// Takes resources away where they are covered, and tells whether they were.
@@ -25,7 +26,7 @@ fn take(rest: &mut Resources, resources: &Resources) -> bool
     true
 }
 
-fn take_live(rest: &mut Resources, tasks: &[RecordedTask]) -> bool
+fn take_live(rest: &mut Resources, tasks: &[Shared<RecordedTask>]) -> bool
     ensures { result ≡ covers rest.old (task_rows (live_tasks tasks.now)) }
 {
     for task in tasks {
@@ -41,7 +42,7 @@ pub fn has_room(
     alloc: Global,
     total: &Resources,
     resources: &Resources,
-    tasks: &[RecordedTask],
+    tasks: &[Shared<RecordedTask>],
 ) -> Result<bool, AllocError>
     ensures { IfOk result (λ has. has ≡ covers total.now (resources.now ++ task_rows (live_tasks tasks.now))) }
 {

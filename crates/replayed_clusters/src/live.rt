@@ -7,6 +7,7 @@ ghost use Rattle.replayed_clusters.specs.Tables.{live};
 
 use mails::RecordedTask;
 use quantity::Resources;
+use shared_value::Shared;
 use std::alloc::{AllocError, Global};
 
 /// Adds resources. Their sum is within what an agent owns, so that memory alone can be refused.
@@ -33,7 +34,7 @@ fn add_task(alloc: Global, sum: &mut Resources, task: &RecordedTask) -> Result<(
 }
 
 /// The sum of what the tasks hold that haven't ended.
-pub(crate) fn live(alloc: Global, tasks: &[RecordedTask]) -> Result<Resources, AllocError>
+pub(crate) fn live(alloc: Global, tasks: &[Shared<RecordedTask>]) -> Result<Resources, AllocError>
     ensures { IfOk result (λ sum. sum ≡ live tasks.now) }
 {
     let mut sum = Resources::new(alloc);

@@ -23,8 +23,9 @@ answered (Some refusal) opens = Err refusal
 abbrev pub reported : ℕ → Side → ℕ → ℕ → Result Bool MasterRefusal
 reported run s session number = answered (judged_report run s session number) (report_opens run s session number)
 
+-- (what the agent owns, and its tasks, stand elsewhere)
 abbrev pub after_report : ℕ → ℕ → ℕ → Side → Side
-after_report run session number s = if report_opens run s session number then opened s session [] else s
+after_report run session number s = if report_opens run s session number then opened s session [] [] else s
 
 -- the number that the next command gets, where a session is open
 abbrev pub issued_number : Side → Option ℕ

@@ -10,17 +10,15 @@ ghost use Rattle.roster.specs.Faults.{IsIssueRefusal, IsAppliedRefusal};
 use crate::fault::RosterFault;
 use mails::{Command, MasterRefusal};
 use names_core::{AgentName, Run};
-use quantity::Resources;
 use std::alloc::Global;
 use std::marker::Model;
 use stream_core::{LinkOut, StreamFault};
 
 /// A configured agent: its open session in this run, if any, the commands issued in it, and the greatest session that this
-/// run has closed.
+/// run has closed. (What the agent owns stands with its offers and booked tasks.)
 #[derive(Drop)]
 pub struct RosterEntry {
     name: AgentName,
-    total: Resources,
     is_open: bool,
     session: u32,
     closed: u32,
@@ -33,18 +31,17 @@ impl Model for RosterEntry {
 
     ghost Value = { Side };
 
-    ghost view = { λ e. record { name = e.name; total = e.total; is_open = e.is_open; session = e.session; closed = e.closed; waiting = e.link.waiting; known = e.link.known; offers = []; booked = [] } };
+    ghost view = { λ e. record { name = e.name; total = []; is_open = e.is_open; session = e.session; closed = e.closed; waiting = e.link.waiting; known = e.link.known; offers = []; booked = [] } };
 
     ghost invariant = { λ e. e.link.known + length e.link.waiting ≤ 4294967295 };
 }
 
 impl RosterEntry {
-    pub(crate) fn new(alloc: Global, name: AgentName, total: Resources) -> RosterEntry
-        ensures { result ≡ new_side name total }
+    pub(crate) fn new(alloc: Global, name: AgentName) -> RosterEntry
+        ensures { result ≡ new_side name }
     {
         RosterEntry {
             name,
-            total,
             is_open: false,
             session: 0,
             closed: 0,
@@ -56,13 +53,6 @@ impl RosterEntry {
         ensures { result.now ≡ self.now.name }
     {
         &self.name
-    }
-
-    /// What the agent owns.
-    pub fn total(&self) -> &Resources
-        ensures { result.now ≡ self.now.total }
-    {
-        &self.total
     }
 
     /// Whether a session is open.
@@ -155,7 +145,7 @@ impl RosterEntry {
     }
 
     fn open(&mut self, alloc: Global, session: u32)
-        ensures { self.new ≡ opened self.old session [] }
+        ensures { self.new ≡ opened self.old session [] [] }
     {
         if self.is_open {
             self.closed = self.session;

@@ -11,7 +11,6 @@ use crate::entry::RosterEntry;
 use crate::fault::RosterFault;
 use mails::{Command, MasterRefusal};
 use names_core::{AgentName, Run};
-use quantity::Resources;
 use std::alloc::{AllocError, Global};
 use std::marker::Model;
 
@@ -118,16 +117,11 @@ impl Roster {
     }
 
     /// Adds a configured agent behind the others: it has not yet opened a session in this run.
-    pub fn add_agent(
-        &mut self,
-        alloc: Global,
-        name: AgentName,
-        total: Resources,
-    ) -> Result<(), AllocError>
-        ensures ok { OnOk result (self.new ≡ self.old ++ new_side name total ∷ []) }
+    pub fn add_agent(&mut self, alloc: Global, name: AgentName) -> Result<(), AllocError>
+        ensures ok { OnOk result (self.new ≡ self.old ++ new_side name ∷ []) }
         ensures err { OnErr result (self.new ≡ self.old) }
     {
-        self.entries.push(RosterEntry::new(alloc, name, total))?;
+        self.entries.push(RosterEntry::new(alloc, name))?;
         Ok(())
     }
 

@@ -19,15 +19,15 @@ use Rattle.cluster_model.specs.Rounds.{Client, Share, allocated_on, allocation_o
 use Rattle.frameworks.specs.Frameworks.{are_ordered}
 use Rattle.drf_pick.specs.declared.holder.Holder.{Holder}
 use Rattle.drf_pick.specs.Shares.{Tally, is_holder}
-use Rattle.drf_pick.specs.Least.{better, better_client, comes_before, role_share}
+use Rattle.drf_pick.specs.Least.{comes_before, held_of, role_share}
 use Rattle.drf_pick.specs.Laws.{ArePositive, SameShare}
 use Rattle.drf_pick.specs.Orders.{Among}
 use Rattle.share_sums.specs.Sums.{IsSum, summed}
 use Rattle.drf_pick.proofs.Standing.{amounts_decide}
 use Rattle.share_sums.proofs.Summing.{no_sum, sum_is}
-use Rattle.round_shares.specs.Gifts.{gifts_of, gifts_with, job_gift, made_gift, offer_gift, role_rows, rows_to, shares_with, side_gifts}
+use Rattle.round_shares.specs.Gifts.{Gift, gifts_of, gifts_with, job_gift, made_gift, offer_gift, role_rows, rows_to, shares_with, side_gifts}
 use Rattle.round_shares.specs.Laws.{AddUp, PicksAlike}
-use Rattle.round_shares.specs.Picks.{better_eligible}
+use Rattle.round_shares.specs.Picks.{better, better_eligible, framework_holder}
 use Rattle.round_shares.proofs.Rows.{find_own, to-append}
 use Rattle.round_shares.proofs.Shown.{Alike, Shows, TallyShows, entered_amounts, enters_row, found_alike, is_known, owned_rows, shares_show}
 
@@ -134,58 +134,61 @@ comes_alike ws m made t h k f g s i j sf sg =
     by true = first_alike t.totals (share h.held 1) (share k.held 1) (totals_of m) (share_of made (client m f)) (share_of made (client m g)) (before f.id g.id) s.positive s.owned s.totals (share_alike m made h f sf) (share_alike m made k g sg)
     by false = first_alike t.totals (role_share t.roles f.role) (role_share t.roles g.role) (totals_of m) (rounds.role_share ws (clients_of m) made f.role) (rounds.role_share ws (clients_of m) made g.role) (bytes_before f.role g.role) s.positive s.owned s.totals (role_alike ws m made t f s i) (role_alike ws m made t g s j)
 
+-- a framework with what it holds by the shares
+
+own_shown : (gs : List Gift) (t : Tally) (f : Framework) (o : Option Holder) → Alike gs o (Some f) → Shows gs (record { framework = f.id; role = f.role; held = held_of o }) f
+own_shown gs t f None a = absurd a
+own_shown gs t f (Some h) a = (refl, refl, a.2)
+
+shown_of : (ws : List RoleWeight) (m : Master) (made : List MadeOffer) (t : Tally) (f : Framework) → Shown ws m made t → are_ordered m.registers.frameworks ≡ true → Among f m.registers.frameworks → Shows (gifts_with m.sides made) (framework_holder t f) f
+shown_of ws m made t f s ordered i = own_shown (gifts_with m.sides made) t f (find (is_holder f.id) t.holders)
+    (subst (Alike (gifts_with m.sides made) (find (is_holder f.id) t.holders)) (find_own m.registers.frameworks f ordered i) (found_alike (gifts_with m.sides made) f.id t.holders m.registers.frameworks s.shows.holders))
+
 -- the best so far is the same
 
-abbrev Best : Master → List MadeOffer → Option Holder → Option Client → Type 0
-Best m made None None = Unit {0}
-Best m made None (Some c) = ⊥
-Best m made (Some h) None = ⊥
-Best m made (Some h) (Some c) = (f : Framework) × (c ≡ client m f) × Among f m.registers.frameworks × Shows (gifts_with m.sides made) h f
+abbrev Best : Master → Option Framework → Option Client → Type 0
+Best m None None = Unit {0}
+Best m None (Some c) = ⊥
+Best m (Some f) None = ⊥
+Best m (Some f) (Some c) = (c ≡ client m f) × Among f m.registers.frameworks
 
 abbrev comes : List RoleWeight → Master → List MadeOffer → Client → Client → Bool
 comes ws m made c d = rounds.comes_before ws (totals_of m) (clients_of m) made c d
 
-best_more : (ws : List RoleWeight) (m : Master) (made : List MadeOffer) (t : Tally) (best : Option Holder) (first : Option Client) (h : Holder) (f : Framework) → Shown ws m made t → Among f m.registers.frameworks → Shows (gifts_with m.sides made) h f
-    → Best m made best first → Best m made (better t best h) (first_client (comes ws m made) first (client m f))
-best_more ws m made t None None h f s i sf b = (f, refl, i, sf)
-best_more ws m made t None (Some c) h f s i sf b = absurd b
-best_more ws m made t (Some k) None h f s i sf b = absurd b
-best_more ws m made t (Some k) (Some c) h f s i sf b = rw (same_test) (by (comes ws m made (client m f) c))
+best_more : (ws : List RoleWeight) (m : Master) (made : List MadeOffer) (t : Tally) (best : Option Framework) (first : Option Client) (f : Framework) → Shown ws m made t → are_ordered m.registers.frameworks ≡ true → Among f m.registers.frameworks
+    → Best m best first → Best m (better t best f) (first_client (comes ws m made) first (client m f))
+best_more ws m made t None None f s ordered i b = (refl, i)
+best_more ws m made t None (Some c) f s ordered i b = absurd b
+best_more ws m made t (Some g) None f s ordered i b = absurd b
+best_more ws m made t (Some g) (Some c) f s ordered i b = rw same_test (by (comes ws m made (client m f) c))
   where
-    same_test : comes_before t h k ≡ comes ws m made (client m f) c
-    same_test = comes_alike ws m made t h k f b.0 s i b.2 sf b.3 ∙ ap (comes ws m made (client m f)) (sym b.1)
+    same_test : comes_before t (framework_holder t f) (framework_holder t g) ≡ comes ws m made (client m f) c
+    same_test =
+        comes_alike ws m made t (framework_holder t f) (framework_holder t g) f g s i b.1 (shown_of ws m made t f s ordered i) (shown_of ws m made t g s ordered b.1)
+        ∙ ap (comes ws m made (client m f)) (sym b.0)
 
-    by : (v : Bool) → Best m made (if v then Some h else Some k) (if v then Some (client m f) else Some c)
-    by true = (f, refl, i, sf)
+    by : (v : Bool) → Best m (if v then Some f else Some g) (if v then Some (client m f) else Some c)
+    by true = (refl, i)
     by false = b
 
-best_found : (ws : List RoleWeight) (m : Master) (made : List MadeOffer) (t : Tally) (best : Option Holder) (first : Option Client) (f : Framework) → Shown ws m made t → are_ordered m.registers.frameworks ≡ true → Among f m.registers.frameworks
-    → Best m made best first → Best m made (better_client t best (record { framework = f.id })) (first_client (comes ws m made) first (client m f))
-best_found ws m made t best first f s ordered i b = by (find (is_holder f.id) t.holders) refl
-    (subst (Alike (gifts_with m.sides made) (find (is_holder f.id) t.holders)) (find_own m.registers.frameworks f ordered i) (found_alike (gifts_with m.sides made) f.id t.holders m.registers.frameworks s.shows.holders))
-  where
-    by : (o : Option Holder) → find (is_holder f.id) t.holders ≡ o → Alike (gifts_with m.sides made) (find (is_holder f.id) t.holders) (Some f) → Best m made (better_client t best (record { framework = f.id })) (first_client (comes ws m made) first (client m f))
-    by None e a = absurd (let n : Alike (gifts_with m.sides made) None (Some f) = subst (λ o. Alike (gifts_with m.sides made) o (Some f)) e a in n)
-    by (Some h) e a = rw e (best_more ws m made t best first h f s i (let n : Alike (gifts_with m.sides made) (Some h) (Some f) = subst (λ o. Alike (gifts_with m.sides made) o (Some f)) e a in n) b)
-
 best_all : (ws : List RoleWeight) (m : Master) (made : List MadeOffer) (t : Tally) (agent : List ℕ) (free : List Row) → Shown ws m made t → are_ordered m.registers.frameworks ≡ true
-    → (fs : List Framework) → ((f : Framework) → Among f fs → Among f m.registers.frameworks) → (best : Option Holder) (first : Option Client) → Best m made best first
-    → Best m made (fold (better_eligible m.registers.now agent free t) best fs) (fold (first_client (comes ws m made)) first (filter (is_eligible m.registers.now agent free) (map (client m) fs)))
+    → (fs : List Framework) → ((f : Framework) → Among f fs → Among f m.registers.frameworks) → (best : Option Framework) (first : Option Client) → Best m best first
+    → Best m (fold (better_eligible m.registers.now agent free t) best fs) (fold (first_client (comes ws m made)) first (filter (is_eligible m.registers.now agent free) (map (client m) fs)))
 best_all ws m made t agent free s ordered [] among best first b = b
 best_all ws m made t agent free s ordered (f ∷ fs) among best first b =
     by (may_be_offered m.registers.now agent free f) (best_all ws m made t agent free s ordered fs (λ g i. among g (inr i)))
   where
-    by : (v : Bool) → ((bs : Option Holder) (fr : Option Client) → Best m made bs fr → Best m made (fold (better_eligible m.registers.now agent free t) bs fs) (fold (first_client (comes ws m made)) fr (filter (is_eligible m.registers.now agent free) (map (client m) fs))))
-        → Best m made (fold (better_eligible m.registers.now agent free t) (if v then better_client t best (record { framework = f.id }) else best) fs)
+    by : (v : Bool) → ((bs : Option Framework) (fr : Option Client) → Best m bs fr → Best m (fold (better_eligible m.registers.now agent free t) bs fs) (fold (first_client (comes ws m made)) fr (filter (is_eligible m.registers.now agent free) (map (client m) fs))))
+        → Best m (fold (better_eligible m.registers.now agent free t) (if v then better t best f else best) fs)
         (fold (first_client (comes ws m made)) first (if v then client m f ∷ filter (is_eligible m.registers.now agent free) (map (client m) fs) else filter (is_eligible m.registers.now agent free) (map (client m) fs)))
-    by true ih = ih (better_client t best (record { framework = f.id })) (first_client (comes ws m made) first (client m f)) (best_found ws m made t best first f s ordered (among f (inl refl)) b)
+    by true ih = ih (better t best f) (first_client (comes ws m made) first (client m f)) (best_more ws m made t best first f s ordered (among f (inl refl)) b)
     by false ih = ih best first b
 
-same_id : (m : Master) (made : List MadeOffer) (o : Option Holder) (p : Option Client) → Best m made o p → option_map (λ h. h.framework) o ≡ option_map (λ c. c.framework.id) p
-same_id m made None None b = refl
-same_id m made None (Some c) b = absurd b
-same_id m made (Some h) None b = absurd b
-same_id m made (Some h) (Some c) b = ap (λ id. Some id) (b.3.0 ∙ ap (λ (d : Client). d.framework.id) (sym b.1))
+same_id : (m : Master) (o : Option Framework) (p : Option Client) → Best m o p → option_map (λ f. f.id) o ≡ option_map (λ c. c.framework.id) p
+same_id m None None b = refl
+same_id m None (Some c) b = absurd b
+same_id m (Some f) None b = absurd b
+same_id m (Some f) (Some c) b = ap (λ (d : Client). Some d.framework.id) (sym b.0)
 
 -- positive totals
 
@@ -211,7 +214,7 @@ owned_positive (s ∷ ss) rows = by s.is_open (owned_positive ss rows.1)
 
 pub picks_alike : PicksAlike
 picks_alike ws m made agent free can =
-    same_id m made (fold (better_eligible m.registers.now agent free (shares_with ws m made)) None m.registers.frameworks) (pick ws m.registers.now (totals_of m) (clients_of m) made agent free)
+    same_id m (fold (better_eligible m.registers.now agent free (shares_with ws m made)) None m.registers.frameworks) (pick ws m.registers.now (totals_of m) (clients_of m) made agent free)
     (best_all ws m made (shares_with ws m made) agent free shown can.ordered m.registers.frameworks (λ f i. i) None None tt)
   where
     shows : TallyShows ws (gifts_with m.sides made) m.registers.frameworks (fold enters_row [] m.sides) (shares_with ws m made)

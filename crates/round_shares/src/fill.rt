@@ -1,6 +1,7 @@
 //! What agents own, and what frameworks hold of it.
 
 ghost use Rattle.std.specs.Prelude.{◌≡◌, fold, map, flat_map, OnOk, IfOk};
+ghost use Rattle.agent_sides.specs.Joined.{join, joined};
 ghost use Rattle.cluster_model.specs.Sides.{unended};
 ghost use Rattle.role_weights.specs.Weights.{weight_of};
 ghost use Rattle.drf_pick.specs.Shares.{weighed, with_role};
@@ -17,23 +18,36 @@ use role_weights::Weights;
 use roster::RosterEntry;
 use std::alloc::{AllocError, Global};
 
-fn enter(shares: &mut Shares, alloc: Global, entry: &RosterEntry) -> Result<(), AllocError>
-    ensures { OnOk result (shares.new ≡ enters shares.old entry.now) }
+fn enter(
+    shares: &mut Shares,
+    alloc: Global,
+    entry: &RosterEntry,
+    account: &Account,
+) -> Result<(), AllocError>
+    ensures { OnOk result (shares.new ≡ enters shares.old (join entry.now account.now)) }
 {
     if !entry.is_open() {
         return Ok(());
     }
-    match shares.enter(alloc, entry.total()) {
+    match shares.enter(alloc, &account.total) {
         Ok(()) => Ok(()),
         Err(_) => Err(AllocError),
     }
 }
 
-fn enter_all(shares: &mut Shares, alloc: Global, entries: &[RosterEntry]) -> Result<(), AllocError>
-    ensures { OnOk result (shares.new ≡ fold enters shares.old entries.now) }
+fn enter_all(
+    shares: &mut Shares,
+    alloc: Global,
+    entries: &[RosterEntry],
+    accounts: &[Account],
+) -> Result<(), AllocError>
+    ensures { OnOk result (shares.new ≡ fold enters shares.old (joined entries.now accounts.now)) }
 {
-    for entry in entries {
-        enter(shares, alloc, entry)?;
+    for i in 0..entries.len() {
+        if i >= accounts.len() {
+            return Ok(());
+        }
+        enter(shares, alloc, &entries[i], &accounts[i])?;
     }
     Ok(())
 }
@@ -150,7 +164,7 @@ fn count_in(
         ≡ fold holds (fold (knows weights.now) (fold enters shares.old sides.now) frameworks.now) (gifts_of sides.now)) }
 {
     let (entries, accounts) = sides.parts();
-    enter_all(shares, alloc, entries)?;
+    enter_all(shares, alloc, entries, accounts)?;
     know_all(shares, alloc, weights, frameworks.as_slice())?;
     give_all(shares, alloc, accounts)?;
     Ok(())

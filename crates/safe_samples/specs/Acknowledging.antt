@@ -20,7 +20,7 @@ sends a = fronts a
 -- the call by which the task's framework acknowledges an update
 abbrev pub acknowledges : AgentMail → List Post
 acknowledges (Update session key k state ended) = Called (Some (id 2 1)) (Acknowledge (id 1 1) n_a1 n_t1 (uuid key k)) ∷ []
-acknowledges (Report session run tasks) = []
+acknowledges (Report session run tasks total) = []
 acknowledges (Applied session count) = []
 
 abbrev pub acknowledged_in : World → List Post

@@ -49,14 +49,14 @@ after_accept = after_all (applying 1) (after_step accepts offered)
 
 -- what it makes of the Report that opened the session if that comes again
 abbrev pub hears_again : Run → Side → Sending
-hears_again run s = sends_nothing run (heard run s (Report 1 1 []))
+hears_again run s = sends_nothing run (heard run s (Report 1 1 [] (cpus 4)))
 
 abbrev pub after_repeat : World
 after_repeat = after (after_step hears_again launched) (offering (id 1 2) (id 1 1))
 
 -- what it makes of it once the session is closed
 abbrev pub hears_closed : Run → Side → Sending
-hears_closed run s = sends_nothing run (heard run s (Report 1 1 []))
+hears_closed run s = sends_nothing run (heard run s (Report 1 1 [] (cpus 4)))
 
 abbrev pub after_closed : World
 after_closed = after (after_step hears_closed (after launched (At n_a1 (ByMaster Lose)))) (offering (id 1 2) (id 1 1))

@@ -3,3 +3,4 @@ pub mod Worlds
 pub mod Histories
 pub mod Booking
 pub mod Acknowledging
+pub mod Growing

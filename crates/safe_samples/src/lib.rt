@@ -10,11 +10,12 @@ ghost use Rattle.cluster_safe.specs.Honest.{IsBeginningOf, acknowledged_by};
 ghost use Rattle.cluster_safe.specs.Updates.{updates_of};
 ghost use Rattle.cluster_samples.specs.Short.{id};
 ghost use Rattle.safe_samples.specs.Acknowledging.{acknowledgements, after_foreign, foreign_calls};
-ghost use Rattle.safe_samples.specs.Agents.{reporting};
+ghost use Rattle.safe_samples.specs.Agents.{cpus, reporting};
 ghost use Rattle.safe_samples.specs.Booking.{after_accept, after_closed, after_kill, after_offer, after_repeat, after_teardown, after_update};
+ghost use Rattle.safe_samples.specs.Growing.{after_draft, after_fall, after_report, after_save, offers_in};
 ghost use Rattle.safe_samples.specs.Histories.{is_offered, launches, reports, updates, world_after};
 ghost use Rattle.safe_samples.specs.Worlds.{launched, launched_twice, no_task, offered, running, updated, with_task, with_two_launches, with_updates};
-ghost use Rattle.std.specs.Prelude.{◌≡◌, ◌++◌};
+ghost use Rattle.std.specs.Prelude.{◌≡◌, ◌++◌, ◌∷◌, [], map};
 
 /// The worlds in which the samples begin are those of histories, over good openings.
 pub fn worlds_are_of_histories()
@@ -60,6 +61,21 @@ pub fn repeated_reports_replace_nothing()
 /// The Report of a session that was closed opens it no more.
 pub fn closed_sessions_stay_closed()
     ensures { AllFit after_closed }
+{}
+
+/// An agent doesn't return with less than it had, of which something may be offered.
+pub fn totals_do_not_fall()
+    ensures { AllFit after_fall }
+{}
+
+/// The books have what the agent last reported, and no more: as a start with more is prepared and saved, nothing of that is offered yet.
+pub fn books_have_what_is_reported()
+    ensures draft { AllFit after_draft }
+    ensures save { AllFit after_save }
+    ensures report { AllFit after_report }
+    ensures offered { map offers_in after_draft.channels ≡ [] ∷ []
+        × map offers_in after_save.channels ≡ [] ∷ []
+        × map offers_in after_report.channels ≡ cpus 8 ∷ [] }
 {}
 
 /// A framework that acknowledges each update that is sent has acknowledged a beginning of its task's updates.

@@ -1,14 +1,15 @@
 -- Why the records of a folder are refused.
-use Rattle.std.specs.Prelude.{◌≡◌, ◌≢◌, List, Option, Some, string_bytes, ⊤}
+use Rattle.std.specs.Prelude.{◌≡◌, false, List, Option, Some, string_bytes, ⊤}
 use Rattle.std.specs.List.{Contains}
 use Rattle.agent_sides.specs.declared.config.ConfiguredAgent.{ConfiguredAgent}
 use Rattle.mails.specs.declared.record.Durable.{Durable}
+use Rattle.quantity.specs.Rows.{covers}
 use Rattle.serving.specs.declared.folder_fault.FolderFault.{FolderFault}
 use Rattle.serving.specs.declared.folder_fault.FolderFault.TheVariants.{TotalDiffers, NoCluster, OutOfMemory}
 
--- there is no record of an agent: one was found that has another total, or memory was refused
+-- there is no record of an agent: one was found that the agent's total doesn't cover, or memory was refused
 abbrev pub IsRecordRefusal : ConfiguredAgent → Option Durable → FolderFault → Type 0
-IsRecordRefusal a (Some d) (TotalDiffers name) = (d.total ≢ a.total) × (string_bytes name ≡ a.name)
+IsRecordRefusal a (Some d) (TotalDiffers name) = (covers a.total d.total ≡ false) × (string_bytes name ≡ a.name)
 IsRecordRefusal a found OutOfMemory = ⊤
 IsRecordRefusal a found fault = ⊥
 
@@ -24,7 +25,7 @@ IsFileRefusal a (TotalDiffers name) = string_bytes name ≡ a.name
 IsFileRefusal a NoCluster = ⊥
 IsFileRefusal a fault = ⊤
 
--- a folder isn't opened: where a total differs, it is one of a configured agent
+-- a folder isn't opened: where a total isn't covered, it is one of a configured agent
 abbrev pub IsFolderRefusal : List ConfiguredAgent → FolderFault → Type 0
 IsFolderRefusal agents (TotalDiffers name) = (a : ConfiguredAgent) × Contains agents a × (string_bytes name ≡ a.name)
 IsFolderRefusal agents fault = ⊤

@@ -4,26 +4,36 @@ use crate::stores::{FilePlace, Place};
 use agent_core::{Cabinet, Record};
 use keep_store::{KeepFault, Keeper};
 use names_core::AgentName;
+use quantity::Resources;
 use sqlite::Alter;
 use std::alloc::Global;
 
-/// The file of an agent's record. It can go to another thread, and becomes a cabinet there.
+/// The file of an agent's record, and what is configured that the agent owns. It can go to another thread, and becomes a cabinet there.
 #[derive(Drop)]
 pub struct RecordFile<'a> {
     agent: AgentName,
+    total: Resources,
     place: FilePlace<'a>,
 }
 
 impl<'a> RecordFile<'a> {
-    pub(crate) fn new(agent: AgentName, place: FilePlace<'a>) -> RecordFile<'a> {
-        RecordFile { agent, place }
+    pub(crate) fn new(agent: AgentName, total: Resources, place: FilePlace<'a>) -> RecordFile<'a> {
+        RecordFile {
+            agent,
+            total,
+            place,
+        }
     }
 
-    /// Whose record it is, and the store over the file.
-    pub fn into_cabinet(self) -> (AgentName, FileCabinet<'a>) {
-        let RecordFile { agent, place } = self;
+    /// Whose record it is, what is configured that the agent owns, and the store over the file.
+    pub fn into_cabinet(self) -> (AgentName, Resources, FileCabinet<'a>) {
+        let RecordFile {
+            agent,
+            total,
+            place,
+        } = self;
         let keeper = None;
-        (agent, PlaceCabinet { place, keeper })
+        (agent, total, PlaceCabinet { place, keeper })
     }
 }
 

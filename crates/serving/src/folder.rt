@@ -1,6 +1,7 @@
 //! A folder of stores.
 
-ghost use Rattle.std.specs.Prelude.{◌≡◌, IfOk, IfErr, IfSome, IfNone, OnOk};
+ghost use Rattle.std.specs.Prelude.{◌≡◌, true, IfOk, IfErr, IfSome, IfNone, OnOk};
+ghost use Rattle.quantity.specs.Rows.{covers};
 ghost use Rattle.cluster_openings.specs.Records.{AreRecordsOf};
 ghost use Rattle.cluster_model.specs.Agents as agents;
 ghost use Rattle.cluster_model.specs.Openings.{GoodOpening};
@@ -43,8 +44,8 @@ fn next_run(rt: &HostRuntime, folder: &str) -> Result<Run, FolderFault>
     }
 }
 
-/// The record of an agent: the one that was found, which has its total, or else a fresh one. Z1 where the one that was found has another total, K4 for want of
-/// memory.
+/// The record of an agent: the one that was found, which its total covers, or else a fresh one. Z1 where the one that was found has more than its total, K4
+/// for want of memory.
 fn record_of(
     alloc: Global,
     agent: &ConfiguredAgent,
@@ -52,13 +53,13 @@ fn record_of(
 ) -> Result<Record, FolderFault>
     ensures found { IfOk result (λ kept. IfSome found (λ d. kept ≡ d)) }
     ensures fresh { IfOk result (λ kept. IfNone found (kept ≡ agents.fresh agent.now.name agent.now.total)) }
-    ensures total { IfOk result (λ kept. kept.total ≡ agent.now.total) }
+    ensures total { IfOk result (λ kept. IfSome found (λ d. covers agent.now.total d.total ≡ true)) }
     ensures refused { IfErr result (IsRecordRefusal agent.now found) }
 {
     let Some(record) = found else {
         return Ok(Record::fresh(alloc, agent.name.copy()?, agent.total.copy()?));
     };
-    if !record.parts().total.is_same(&agent.total) {
+    if !agent.total.covers(&record.parts().total) {
         return Err(FolderFault::TotalDiffers {
             agent: String::from_str(alloc, agent.name.as_text())?,
         });
@@ -72,8 +73,7 @@ fn open_agent<'a>(
     folder: &str,
     agent: &ConfiguredAgent,
 ) -> Result<(Record, RecordFile<'a>), FolderFault>
-    ensures total { IfOk result (λ opened. opened.0.total ≡ agent.now.total) }
-    ensures refused { IfErr result (IsFileRefusal agent.now) }
+    ensures { IfErr result (IsFileRefusal agent.now) }
 {
     let name = agent.name.as_text();
     let path = format!(in rt.alloc(); "{folder}/agent-{name}.db")?;
@@ -86,8 +86,8 @@ fn open_agent<'a>(
         }
     };
     let record = record_of(rt.alloc(), agent, found)?;
-    let name = agent.name.copy()?;
-    Ok((record, RecordFile::new(name, place)))
+    let (name, total) = (agent.name.copy()?, agent.total.copy()?);
+    Ok((record, RecordFile::new(name, total, place)))
 }
 
 /// Refuses records that are those of no one cluster of these agents in this run.

@@ -12,7 +12,7 @@ use std::fmt;
 pub enum FolderFault {
     /// The store at this path failed, or keeps what it shouldn't: `K1 Store`, `K2 Damaged`, `K3 RunsSpent` or `K4 OutOfMemory`.
     Store { path: String, fault: KeepFault },
-    /// `Z1 TotalDiffers`: this agent's record has another total than the configuration.
+    /// `Z1 TotalDiffers`: this agent's record has more than the total that is configured.
     TotalDiffers { agent: String },
     /// `K2 Damaged`: each record is one that an agent can have, but together they are none of a cluster's: one is of another agent or of a later run, or
     /// two have the same task.
@@ -55,7 +55,10 @@ impl fmt::Display for FolderFault {
             }
             FolderFault::TotalDiffers { agent } => {
                 let agent = agent.as_str();
-                write!(f, "Z1 TotalDiffers: {agent}'s record has another total")
+                write!(
+                    f,
+                    "Z1 TotalDiffers: {agent}'s record has more than is configured"
+                )
             }
             FolderFault::NoCluster => f.write_str("K2 Damaged: the records are of no one cluster"),
             FolderFault::OutOfMemory => f.write_str("K4 OutOfMemory"),

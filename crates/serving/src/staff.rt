@@ -44,8 +44,17 @@ fn keep_going<L: ledger::Ledger, R: Wait + Clock>(
 ) -> Leaver<L>
     requires { pass.receipts ≡ [] }
 {
-    let (agent, mut cabinet) = file.into_cabinet();
-    let (pass, fault) = activity(rt, alloc, office, pass, &agent, &mut cabinet, task_seconds);
+    let (agent, total, mut cabinet) = file.into_cabinet();
+    let (pass, fault) = activity(
+        rt,
+        alloc,
+        office,
+        pass,
+        &agent,
+        &mut cabinet,
+        task_seconds,
+        &total,
+    );
     match fault {
         Some(fault) => Leaver {
             pass,

@@ -50,9 +50,9 @@ heard_ended key k state ended b is = by (same b.job.key key)
     by false = is
 
 pub hearing_keeps_fits : HearingKeepsFits
-hearing_keeps_fits run s (Report session number tasks) fits h = by (opens run s session number)
+hearing_keeps_fits run s (Report session number tasks total) fits h = by (opens run s session number)
   where
-    by : (b : Bool) → FitsTotal (cond b (opened s session tasks) s)
+    by : (b : Bool) → FitsTotal (cond b (opened s session tasks total) s)
     by true = fits
     by false = h
 hearing_keeps_fits run s (Applied session count) fits h = by (counts s session count)

@@ -203,9 +203,9 @@ moves_keep_sides moves x h =
 -- what is heard
 
 heard_kept : (next : Numbered) (run : Run) (s : Side) (mail : AgentMail) → Below next s.offers → Below next (heard run s mail).offers
-heard_kept next run s (Report session number tasks) h = by (opens run s session number)
+heard_kept next run s (Report session number tasks total) h = by (opens run s session number)
   where
-    by : (b : Bool) → Below next (cond b (opened s session tasks) s).offers
+    by : (b : Bool) → Below next (cond b (opened s session tasks total) s).offers
     by true = tt
     by false = h
 heard_kept next run s (Applied session count) h = by (counts s session count)

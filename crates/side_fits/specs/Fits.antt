@@ -18,23 +18,23 @@ FitsTotal s = AtLeast s.total (taken s)
 abbrev pub AllFitTotals : List Side → Type 0
 AllFitTotals ss = AllByRecursion FitsTotal ss
 
--- the tasks of a Report that haven't ended fit a total
-abbrev pub MailFits : List Row → AgentMail → Type 0
-MailFits total (Report session number tasks) = AtLeast total (job_rows (unended tasks))
-MailFits total (Applied session count) = ⊤
-MailFits total (Update session key k state ended) = ⊤
+-- the tasks of a Report that haven't ended fit the total that it tells
+abbrev pub MailFits : AgentMail → Type 0
+MailFits (Report session number tasks total) = AtLeast total (job_rows (unended tasks))
+MailFits (Applied session count) = ⊤
+MailFits (Update session key k state ended) = ⊤
 
--- a mail of an agent fits what the agent owns
+-- a mail of one of the agents fits
 abbrev pub MailFitsAt : List ℕ → AgentMail → List Side → Type 0
-MailFitsAt agent mail ss = AllByRecursion (λ s. bytes_eq s.name agent ≡ true → MailFits s.total mail) ss
+MailFitsAt agent mail ss = AllByRecursion (λ s. bytes_eq s.name agent ≡ true → MailFits mail) ss
 
 -- a mail that reports no tasks
 abbrev pub ReportsNothing : AgentMail → Type 0
-ReportsNothing (Report session number tasks) = tasks ≡ []
+ReportsNothing (Report session number tasks total) = tasks ≡ []
 ReportsNothing (Applied session count) = ⊤
 ReportsNothing (Update session key k state ended) = ⊤
 
--- it fits whatever an agent owns
+-- it fits, whatever total it tells
 abbrev pub NothingFits : Type 0
 NothingFits = (agent : List ℕ) (mail : AgentMail) (ss : List Side) → ReportsNothing mail → MailFitsAt agent mail ss
 
@@ -47,7 +47,7 @@ MovesKeepFits = (moves : List Move) (x : Moved) → AllFitTotals x.sides → All
 
 -- and whatever it hears, where what is reported fits
 abbrev pub HearingKeepsFits : Type 0
-HearingKeepsFits = (run : Run) (s : Side) (mail : AgentMail) → MailFits s.total mail → FitsTotal s → FitsTotal (heard run s mail)
+HearingKeepsFits = (run : Run) (s : Side) (mail : AgentMail) → MailFits mail → FitsTotal s → FitsTotal (heard run s mail)
 
 abbrev pub HearingAtKeepsFits : Type 0
 HearingAtKeepsFits = (agent : List ℕ) (run : Run) (mail : AgentMail) (ss : List Side) → MailFitsAt agent mail ss → AllFitTotals ss → AllFitTotals (hear_at agent run mail ss)

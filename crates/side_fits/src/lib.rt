@@ -2,7 +2,6 @@
 #![tactic(auto)]
 
 ghost use Rattle.cluster_model.specs.Sides.{Side, new_side};
-ghost use Rattle.quantity.specs.declared.rows.Row.{Row};
 ghost use Rattle.side_fits.specs.Fits.{FitsTotal, HearingAtKeepsFits, HearingKeepsFits, HearingKeepsSides, MovesKeepFits, MovesKeepSides, NothingFits, StepsKeepFits};
 ghost use Rattle.std.specs.Prelude.{List, ℕ};
 
@@ -17,7 +16,7 @@ pub fn moves_keep_fits()
     ensures sides { MovesKeepSides }
 {}
 
-/// So does a mail of an agent, where the tasks that it reports fit what the agent owns.
+/// So does a mail of an agent, where the tasks that it reports fit the total that it tells.
 pub fn hearing_keeps_fits()
     ensures side { HearingKeepsFits }
     ensures at_agent { HearingAtKeepsFits }
@@ -26,10 +25,10 @@ pub fn hearing_keeps_fits()
 
 /// Nothing is taken of an agent that has not yet opened a session.
 pub fn new_sides_fit()
-    ensures { (name : List ℕ) (total : List Row) → FitsTotal (new_side name total) }
+    ensures { (name : List ℕ) → FitsTotal (new_side name) }
 {}
 
-/// A mail that reports no tasks fits whatever the agent owns.
+/// A mail that reports no tasks fits.
 pub fn mails_without_tasks_fit()
     ensures { NothingFits }
 {}

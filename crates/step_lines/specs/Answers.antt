@@ -11,10 +11,14 @@ abbrev pub ◌>>=◌ : {A B : Type 0} → Option A → (A → Option B) → Opti
 None >>= f = None
 (Some x) >>= f = f x
 
+-- what is there, or a refusal
+abbrev pub or_refused : {A : Type 0} → LineRefusal → Option A → Result A LineRefusal
+or_refused refusal None = Err refusal
+or_refused refusal (Some x) = Ok x
+
 -- what is there, or no step
 abbrev pub wanted : {A : Type 0} → Option A → Result A LineRefusal
-wanted None = Err NotAStep
-wanted (Some x) = Ok x
+wanted o = or_refused NotAStep o
 
 -- a fault is the refusal that is due, unless memory ran out
 abbrev pub Fails : {A : Type 0} → LineFault → Result A LineRefusal → Type 0

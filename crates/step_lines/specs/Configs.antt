@@ -1,39 +1,25 @@
 -- Which agents and weights of roles the first line configures.
-use Rattle.std.specs.Prelude.{ℕ, ◌==◌, ◌&&◌, is_some, not, List, [], codes, length, nat_lt, nat_le, Option, Some, None, Result, Ok, Err, if◌then◌else◌}
-use Rattle.std.specs.Result.{result_ok}
+use Rattle.std.specs.Prelude.{ℕ, ◌&&◌, is_some, not, List, [], codes, length, nat_lt, nat_le, Option, Some, None, Result, Err, if◌then◌else◌}
 use Rattle.std.specs.Str.{is_utf8}
 use Rattle.serde_json.specs.Data.{Data, Members, no_members, member}
 use Rattle.serde_json.specs.Find.{get, as_number, as_u64, as_object}
 use Rattle.serde_json.specs.Events.{members_len}
 use Rattle.serde_json.specs.Read.{read}
 use Rattle.names_core.specs.Names.{is_name, is_role, is_configured}
-use Rattle.quantity.specs.declared.rows.Row.{Row}
-use Rattle.quantity.specs.Rows.{added}
 use Rattle.role_weights.specs.Weights.{RoleWeight, greatest_weight, with_weight}
 use Rattle.number_trim.specs.Trim.{trim}
 use Rattle.agent_sides.specs.Configs.{has_name, most_agents, with_agent}
 use Rattle.agent_sides.specs.declared.config.ConfiguredAgent.{ConfiguredAgent}
 use Rattle.step_lines.specs.declared.fault.LineRefusal.{LineRefusal}
 use Rattle.step_lines.specs.declared.fault.LineRefusal.TheVariants.{BadConfig}
-use Rattle.step_lines.specs.Answers.{◌>>=◌}
+use Rattle.step_lines.specs.Answers.{◌>>=◌, or_refused}
 use Rattle.step_lines.specs.Members.{where_true, has_members}
+use Rattle.step_lines.specs.Totals.{total_of}
 use Rattle.step_lines.specs.Lines.{longest_line}
 
 -- what is there, or no configuration
 abbrev pub configured : {A : Type 0} → Option A → Result A LineRefusal
-configured None = Err BadConfig
-configured (Some x) = Ok x
-
--- an amount of a name more; none is 0
-abbrev pub more_of : List ℕ → Data → List Row → Option (List Row)
-more_of name d rows = as_number d >>= as_u64 >>= λ n. where_true (not (n == 0)) n >>= λ some. result_ok (added name some rows)
-
-abbrev pub rows_in : List Row → Members → Option (List Row)
-rows_in rows no_members = Some rows
-rows_in rows (member name d ms) = more_of name d rows >>= λ more. rows_in more ms
-
-abbrev pub total_of : Data → Option (List Row)
-total_of d = as_object d >>= rows_in []
+configured o = or_refused BadConfig o
 
 -- an agent that no other of this name stands before, and of whom there are not 256 yet, stands in its place
 abbrev pub joined : ConfiguredAgent → List ConfiguredAgent → Option (List ConfiguredAgent)

@@ -1,5 +1,6 @@
 pub mod Answers
 pub mod Members
+pub mod Totals
 pub mod Lines
 pub mod Configs
 pub mod Configurations

@@ -1,10 +1,11 @@
 -- Which step a line is.
-use Rattle.std.specs.Prelude.{ℕ, List, codes, length, bytes_eq, nat_lt, is_some, Option, Some, None, Result, Ok, Err, if◌then◌else◌}
+use Rattle.std.specs.Prelude.{ℕ, ◌&&◌, not, List, codes, length, bytes_eq, nat_lt, is_some, Option, Some, None, Result, Ok, Err, if◌then◌else◌}
 use Rattle.std.specs.Str.{is_utf8}
 use Rattle.serde_json.specs.Data.{Data}
 use Rattle.serde_json.specs.Find.{get}
 use Rattle.serde_json.specs.Read.{read}
 use Rattle.names_core.specs.Ids.{Numbered}
+use Rattle.quantity.specs.declared.rows.Row.{Row}
 use Rattle.number_trim.specs.Trim.{trim}
 use Rattle.mails.specs.declared.call.Call.{Call}
 use Rattle.call_members.specs.declared.fault.Refusal.{Refusal}
@@ -18,6 +19,7 @@ use Rattle.step_lines.specs.declared.fault.LineRefusal.TheVariants.{NotAStep, Ba
 use Rattle.step_lines.specs.declared.read.Kind.{Kind}
 use Rattle.step_lines.specs.declared.read.Kind.TheVariants as kinds
 use Rattle.step_lines.specs.Answers.{◌>>=◌, wanted}
+use Rattle.step_lines.specs.Totals.{total_of}
 use Rattle.step_lines.specs.Members.{has_members, number_in, moment_in, agent_in, stream_in, key_in, state_in, keep_in, text_in}
 
 -- an object with so many members, of which this was read
@@ -40,22 +42,35 @@ hang_up_of d = formed 2 d (stream_in d >>= λ stream. Some (HangUp stream))
 
 -- steps of an agent
 
-unfoldable pub named_cause : List ℕ → Option StepCause
-named_cause text = if bytes_eq text (codes "start") then Some Start else (if bytes_eq text (codes "again") then Some Again else None)
+abbrev pub some_total : Data → Option (Option (List Row))
+some_total d = total_of d >>= λ total. Some (Some total)
+
+abbrev pub total_named : Option Data → Option (Option (List Row))
+total_named None = Some None
+total_named (Some d) = some_total d
+
+-- a start may have a total, which may lack, but not be wrong
+unfoldable pub named_cause : List ℕ → Option Data → Option StepCause
+named_cause text total =
+    if bytes_eq text (codes "start") then (total_named total >>= λ given. Some (Start given))
+    else (if bytes_eq text (codes "again") && not (is_some total) then Some Again else None)
 
 abbrev pub told_in : Data → Option StepCause
 told_in d = key_in d >>= λ key. state_in d >>= λ state. Some (Executor key state)
 
--- a mail's number, or a cause by its name, or a launch key and a state
+-- a mail's number, or a cause by its name with what a start brings, or a launch key and a state
 abbrev pub cause_in : Data → Option StepCause
 cause_in d =
     if is_some (get (codes "mail") d) then (number_in (codes "mail") d >>= λ n. Some (Mail n))
-    else (if is_some (get (codes "cause") d) then (text_in (codes "cause") d >>= named_cause)
+    else (if is_some (get (codes "cause") d) then (text_in (codes "cause") d >>= λ text. named_cause text (get (codes "total") d))
     else told_in d)
+
+abbrev pub named_members : Data → ℕ
+named_members d = if is_some (get (codes "total") d) then 4 else 3
 
 -- how many members a step has with its cause
 abbrev pub cause_members : Data → ℕ
-cause_members d = if is_some (get (codes "mail") d) then 3 else (if is_some (get (codes "cause") d) then 3 else 4)
+cause_members d = if is_some (get (codes "mail") d) then 3 else (if is_some (get (codes "cause") d) then named_members d else 4)
 
 unfoldable pub prepare_of : Data → Result Step LineRefusal
 prepare_of d = formed (cause_members d) d (agent_in d >>= λ agent. cause_in d >>= λ cause. Some (Prepare agent cause))

@@ -54,8 +54,6 @@ pub fn prepare(alloc: Global, value: &Value) -> Result<Step, LineFault>
         return Err(NOT_A_STEP);
     }
     let agent = agent_in(alloc, value)?;
-    match cause_in(value) {
-        Some(cause) => Ok(Step::Prepare { agent, cause }),
-        None => Err(NOT_A_STEP),
-    }
+    let cause = cause_in(alloc, value)?;
+    Ok(Step::Prepare { agent, cause })
 }

@@ -12,10 +12,11 @@ ghost use Rattle.step_lines.specs.Members.{where_true};
 use crate::fault::{LineFault, LineRefusal};
 use crate::members::has_members;
 use crate::read::LONGEST_LINE;
+use crate::totals::total_of;
 use agent_sides::{Config, ConfigFault};
 use names_core::{AgentName, NameFault, RoleName};
 use number_trim::trim;
-use quantity::{QuantityFault, Resources};
+use quantity::Resources;
 use role_weights::Weights;
 use serde_json::{Map, Value};
 use std::alloc::Global;
@@ -32,43 +33,6 @@ pub struct Configuration {
 
 /// The line has no form of a configuration.
 const BAD_CONFIG: LineFault = LineFault::Refused(LineRefusal::BadConfig);
-
-/// An amount of a name more.
-fn add(alloc: Global, resources: &mut Resources, name: &str, value: &Value) -> Result<(), LineFault>
-    ensures { Gives (λ _. resources.new) result (configs.configured (configs.more_of name.now (view value.now) resources.old)) }
-{
-    let Some(amount) = value.as_u64() else {
-        return Err(BAD_CONFIG);
-    };
-    if amount == 0 {
-        return Err(BAD_CONFIG);
-    }
-    match resources.add(alloc, name, amount) {
-        Ok(()) => Ok(()),
-        Err(QuantityFault::OutOfMemory) => Err(LineFault::OutOfMemory),
-        Err(_) => Err(BAD_CONFIG),
-    }
-}
-
-fn rows_of(alloc: Global, members: &Map<String, Value>) -> Result<Resources, LineFault>
-    ensures { Gives (λ r. r) result (configs.configured (configs.rows_in [] (members_view members.now.entries))) }
-{
-    let mut resources = Resources::new(alloc);
-    for (name, value) in members.iter() {
-        add(alloc, &mut resources, name.as_str(), value)?;
-    }
-    Ok(resources)
-}
-
-/// What an agent owns, which may be nothing.
-fn total_of(alloc: Global, value: &Value) -> Result<Resources, LineFault>
-    ensures { Gives (λ r. r) result (configs.configured (configs.total_of (view value.now))) }
-{
-    match value.as_object() {
-        Some(members) => rows_of(alloc, members),
-        None => Err(BAD_CONFIG),
-    }
-}
 
 fn name_of(alloc: Global, name: &str) -> Result<AgentName, LineFault>
     ensures { Gives (λ n. n) result (configs.configured (configs.name_of name.now)) }
@@ -101,7 +65,7 @@ fn add_agent(alloc: Global, config: &mut Config, name: &str, value: &Value) -> R
     ensures { Gives (λ _. config.new) result (configs.configured (configs.agent_more name.now (view value.now) config.old)) }
 {
     let name = name_of(alloc, name)?;
-    let total = total_of(alloc, value)?;
+    let total = total_of(alloc, LineRefusal::BadConfig, value)?;
     join(config, name, total)
 }
 

@@ -9,6 +9,7 @@ mod fault;
 mod members;
 mod read;
 mod send;
+mod totals;
 
 pub use config::{Configuration, read_config};
 pub use fault::{LineFault, LineRefusal};

@@ -150,11 +150,18 @@ fn with_text<S: OverDisks>(mut conn: Connection<S>, text: &str) -> Option<S::Dis
     }
 }
 
+/// A record's text in version 1, which stores had that kept it as one text.
+fn first_version(alloc: Global, text: &str) -> Option<String> {
+    let front = text.strip_suffix("2}")?;
+    format!(in alloc; "{front}1}}").ok()
+}
+
 /// The files in which a record is kept as one text and run 1 was given out.
 fn text_alone(alloc: Global, text: &str) -> Option<Contents> {
+    let text = first_version(alloc, text)?;
     let disks = disks_of(alloc, &nothing(alloc), NO_STOP)?;
     match connected(alloc, disks) {
-        Ok(conn) => contents_of(alloc, with_text(conn, text)?, false),
+        Ok(conn) => contents_of(alloc, with_text(conn, text.as_str())?, false),
         Err(_) => None,
     }
 }

@@ -8,19 +8,19 @@ use std::alloc::Global;
 
 /// Agent a1 in session 1, with no task.
 pub const SESSION_1: &str =
-    r#"{"name":"a1","run":1,"session":1,"tasks":[],"total":{},"version":1}"#;
+    r#"{"name":"a1","run":1,"session":1,"tasks":[],"total":{},"version":2}"#;
 
 /// It in session 2.
 pub const SESSION_2: &str =
-    r#"{"name":"a1","run":1,"session":2,"tasks":[],"total":{},"version":1}"#;
+    r#"{"name":"a1","run":1,"session":2,"tasks":[],"total":{},"version":2}"#;
 
 /// It with three tasks.
 pub const TASKS: &str =
-    r#"{"name":"a1","run":1,"session":2,"tasks":[{"acked":1,"framework":"F1-1","key":"L1-1","name":"t1","offers":["O1-1"],"resources":{"cpus":1},"updates":["TASK_RUNNING"]},{"acked":0,"framework":"F1-1","key":"L1-2","name":"t2","offers":["O1-1"],"resources":{"cpus":1},"updates":["TASK_RUNNING"]},{"acked":0,"framework":"F1-2","key":"L1-3","name":"t3","offers":["O1-2","O1-3"],"resources":{"cpus":1,"mem":64},"updates":[]}],"total":{"cpus":4,"mem":64},"version":1}"#;
+    r#"{"name":"a1","run":1,"session":2,"tasks":[{"acked":1,"framework":"F1-1","key":"L1-1","name":"t1","offers":["O1-1"],"resources":{"cpus":1},"updates":["TASK_RUNNING"]},{"acked":0,"framework":"F1-1","key":"L1-2","name":"t2","offers":["O1-1"],"resources":{"cpus":1},"updates":["TASK_RUNNING"]},{"acked":0,"framework":"F1-2","key":"L1-3","name":"t3","offers":["O1-2","O1-3"],"resources":{"cpus":1,"mem":64},"updates":[]}],"total":{"cpus":4,"mem":64},"version":2}"#;
 
 /// The same first task, the second with an update more, no third, and a new one of the next run.
 pub const OTHER_TASKS: &str =
-    r#"{"name":"a1","run":2,"session":3,"tasks":[{"acked":1,"framework":"F1-1","key":"L1-1","name":"t1","offers":["O1-1"],"resources":{"cpus":1},"updates":["TASK_RUNNING"]},{"acked":0,"framework":"F1-1","key":"L1-2","name":"t2","offers":["O1-1"],"resources":{"cpus":1},"updates":["TASK_RUNNING","TASK_FINISHED"]},{"acked":0,"framework":"F1-1","key":"L2-1","name":"t4","offers":["O2-1"],"resources":{"cpus":2},"updates":[]}],"total":{"cpus":8},"version":1}"#;
+    r#"{"name":"a1","run":2,"session":3,"tasks":[{"acked":1,"framework":"F1-1","key":"L1-1","name":"t1","offers":["O1-1"],"resources":{"cpus":1},"updates":["TASK_RUNNING"]},{"acked":0,"framework":"F1-1","key":"L1-2","name":"t2","offers":["O1-1"],"resources":{"cpus":1},"updates":["TASK_RUNNING","TASK_FINISHED"]},{"acked":0,"framework":"F1-1","key":"L2-1","name":"t4","offers":["O2-1"],"resources":{"cpus":2},"updates":[]}],"total":{"cpus":8},"version":2}"#;
 
 // What is made of a keeper stands in functions that have it by reference and have no clause: so the proof of a test carries neither what a keeper owns
 // nor the state of each call.

@@ -77,7 +77,7 @@ draws_mail_keeps c x (Some (Down agent place)) = by_test c (bytes_eq agent x.sid
     (draws_mail_at_keeps c x place (slice_get x.to_agent place)) (does_keeps c (happening c (AgentRefused NotForMe) []))
 
 prepares_keeps : (c : Cluster) (cause : StepCause) (x : Channel) → Keeps c (prepares c cause x)
-prepares_keeps c ByStart x = drafts_keeps c x (Draw Start) (next_of x.agent Start)
+prepares_keeps c (ByStart total) x = drafts_keeps c x (Draw (Start total)) (next_of x.agent (Start total))
 prepares_keeps c ByAgain x = drafts_keeps c x (Draw Again) (next_of x.agent Again)
 prepares_keeps c (ByExecutor key state) x = drafts_keeps c x (Draw (Executor key state)) (next_of x.agent (Executor key state))
 prepares_keeps c (ByMail number) x = draws_mail_keeps c x (post_at c number)

@@ -1,5 +1,4 @@
 use Rattle.std.proofs.Common.{◌≡◌, ℕ, List, [], ◌∷◌, zero-le, sym, subst}
-use Rattle.quantity.specs.declared.rows.Row.{Row}
 use Rattle.mails.specs.declared.task.Booked.{Booked}
 use Rattle.mails.specs.declared.mail.AgentMail.{AgentMail}
 use Rattle.mails.specs.declared.mail.AgentMail.TheVariants.{Report, Applied, Update}
@@ -8,11 +7,11 @@ use Rattle.quantity.specs.Laws.{AtLeast}
 use Rattle.side_fits.specs.Fits.{MailFits, ReportsNothing}
 use Rattle.side_fits.proofs.mails_without_tasks_fit.Goals as goal
 
-fits : (total : List Row) (mail : AgentMail) → ReportsNothing mail → MailFits total mail
-fits total (Report session number tasks) none = subst (λ (ts : List Booked). AtLeast total (job_rows (unended ts))) (sym none) (λ name. zero-le)
-fits total (Applied session count) none = tt
-fits total (Update session key k state ended) none = tt
+fits : (mail : AgentMail) → ReportsNothing mail → MailFits mail
+fits (Report session number tasks total) none = subst (λ (ts : List Booked). AtLeast total (job_rows (unended ts))) (sym none) (λ name. zero-le)
+fits (Applied session count) none = tt
+fits (Update session key k state ended) none = tt
 
 pub returns : goal.returns
 returns c agent mail [] none = tt
-returns c agent mail (s ∷ ss) none = (λ is. fits s.total mail none, returns c agent mail ss none)
+returns c agent mail (s ∷ ss) none = (λ is. fits mail none, returns c agent mail ss none)

@@ -2,4 +2,4 @@ use Rattle.std.proofs.Common.{zero-le}
 use Rattle.side_fits.proofs.new_sides_fit.Goals as goal
 
 pub returns : goal.returns
-returns c name total resource = zero-le
+returns c name resource = zero-le

@@ -3,5 +3,5 @@ use Rattle.std.specs.List.{AllByRecursion}
 use Rattle.quantity.specs.Rows.{AreRows}
 use Rattle.agent_sides.proofs.free.all_own_rows.Given as goal
 
-abbrev pub invariant-loop-entry : goal.invariant-loop-entry
-invariant-loop-entry l = AllByRecursion (λ s. AreRows s.total) (take l.entry-index l.entries)
+abbrev pub invariant-loop-account : goal.invariant-loop-account
+invariant-loop-account l = AllByRecursion (λ a. AreRows a.total) (take l.account-index l.accounts)

@@ -1,7 +1,7 @@
 use Rattle.std.proofs.Common.{◌≡◌, ◌<◌, Some, None, true, false, inl, inr, length, sym, ap, ◌∙◌, arith}
 use Rattle.offer_book.specs.Accounts.{free}
 use Rattle.agent_sides.specs.Free.{open_part}
-use Rattle.agent_sides.proofs.Freeing.{joined_here, joined_past, one_here, open_joins, shut_joins}
+use Rattle.agent_sides.proofs.Freeing.{joined_here, joined_past, open_joins, shut_joins}
 use Rattle.agent_sides.proofs.free.open_part_in.Goals as goal
 
 pub returns-then-place-entries : goal.returns-then-place-entries
@@ -21,8 +21,7 @@ pub returns : goal.returns
 returns c =
     let s = c.index-entries-place.result in
     let a = c.index-accounts-place.result in
-    let total = one_here c.args.place c.args.entries.now c.args.accounts.now s a c.requires c.if-place-entries.false c.if-place-accounts.false c.index-entries-place.is c.index-accounts-place.is in
     ap (λ name. Some (name, c.in_ok-free.free)) c.name.ensures
     ∙ ap (λ rows. Some (s.name, rows)) c.in_ok-free.ensures.rest
-    ∙ open_joins s a total (sym c.is_open.ensures ∙ c.if-not-is_open.false)
+    ∙ open_joins s a (sym c.is_open.ensures ∙ c.if-not-is_open.false)
     ∙ joined_here c.args.place open_part None c.args.entries.now c.args.accounts.now s a c.if-place-entries.false c.if-place-accounts.false c.index-entries-place.is c.index-accounts-place.is

@@ -3,14 +3,15 @@ use Rattle.std.specs.Prelude.{fold, IfErr}
 use Rattle.std.proofs.lemmas.Result.{IfErr-weaker}
 use Rattle.cluster_steps.specs.Steps.{marked_of, step_of}
 use Rattle.cluster_steps.specs.declared.entry.Outputs.{Outputs}
-use Rattle.cluster_laws.specs.Parts.{configured}
+use Rattle.agent_sides.specs.Configs.{names_of}
+use Rattle.cluster_laws.specs.Parts.{AreAgentsOf}
 use Rattle.cluster_parts.specs.Handing.{handed}
 use Rattle.cluster_core.specs.Parts.{ArePartsBy}
 use Rattle.cluster_core.specs.Putting.{direction_of, with_handed}
 use Rattle.cluster_core.specs.Keeping.{IsKept, IsRefused, IsRefusedFirst, IsTaken, entry_made, story_of, taken_made}
 use Rattle.cluster_core.specs.Stories.{Story, state_of, with_entry}
 use Rattle.cluster_core.specs.declared.taken.Taken.{Taken}
-use Rattle.cluster_core.proofs.Puttings.{put_since}
+use Rattle.cluster_core.proofs.Puttings.{put_since, ways_by_names}
 use Rattle.cluster_core.proofs.Posted.{all_posts}
 use Rattle.cluster_core.proofs.Telling.{are_parts, first_refused, keeps_on, parts_by, parts_of_story, stays, step_refused, takes_on}
 use Rattle.cluster_core.proofs.advancing.advance.Goals as goal
@@ -72,12 +73,12 @@ returns-in-Ok-clause-known g c =
     let put = g.P.Post.with_put in
     let step = handed (step_of c.args.step) in
     let before : length c.as_slice-before.result.now ≡ length (state_of s).posts = ap length c.as_slice-before.ensures ∙ sym (all_posts (state_of s) c.args.parts.now.items c.requires.stands.as_others.as_items) in
-    let agents : q.config ≡ map configured s.records = c.take_step.ensures.config ∙ c.requires.config in
+    let agents : AreAgentsOf q.config s.records = ap names_of c.take_step.ensures.config ∙ c.requires.config in
     let kept = returns-in-Ok-clause-kept g c in
-    let sent = put_since (map configured s.records) (state_of new) q.items (length c.as_slice-before.result.now) (length (state_of s).posts) kept.stands.as_others.as_items before in
+    let sent = put_since q.config (state_of new) q.items (length c.as_slice-before.result.now) (length (state_of s).posts) kept.stands.as_others.as_items before ∙ ways_by_names q.config s.records (drop (length (state_of s).posts) (state_of new).posts) agents in
     let known : g.P.Post.known c.hand_on.new.post ≡ fold put (with_handed g.P.Post.with_given (g.P.Post.known c.take_step.new.post) step) (map (direction_of q.config) (drop (length c.as_slice-before.result.now) q.items)) = c.hand_on.ensures.known in
     let same : with_handed g.P.Post.with_given (g.P.Post.known c.take_step.new.post) step ≡ with_handed g.P.Post.with_given (g.P.Post.known c.args.post.now) step = ap (λ k. with_handed g.P.Post.with_given k step) c.take_step.ensures.post in
-    rw (known, same, agents, sent) refl
+    rw (known, same, sent) refl
 
 pub returns-in-Err-clause-refused : goal.returns-in-Err-clause-refused
 returns-in-Err-clause-refused g c =

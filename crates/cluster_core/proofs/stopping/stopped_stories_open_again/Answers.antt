@@ -1,6 +1,5 @@
 use Rattle.std.proofs.Common.{◌<◌, ◌∙◌, ℕ, List, ap, map}
 use Rattle.mails.specs.declared.record.Durable.{Durable}
-use Rattle.cluster_laws.specs.Parts.{configured}
 use Rattle.cluster_model.specs.Openings.{GoodOpening}
 use Rattle.cluster_steps.specs.Steps.{marked_of}
 use Rattle.cluster_openings.specs.Records.{in_order}
@@ -13,11 +12,11 @@ use Rattle.cluster_core.proofs.stopping.stopped_stories_open_again.Goals as goal
 pub returns : goal.returns
 returns c = record {
   good = good;
-  records = λ s found legal f. found_of s.setup s.records (map marked_of s.entries) found legal.good f;
-  live = λ s later found legal above f.
-      let records = in_order (map configured s.records) found in
-      live_so (state_of (opened_over later (map configured s.records) found)).world.channels records (c.masters_leave_agents.ensures.opening later records)
-      ∙ ap live_of (found_in_order s.setup s.records (map marked_of s.entries) later.run found legal.good f (good s later.run found legal above f));
+  records = λ s agents found legal of own f. found_of s.setup s.records (map marked_of s.entries) agents found of own f;
+  live = λ s later agents found legal of above f.
+      let records = in_order agents found in
+      live_so (state_of (opened_over later agents found)).world.channels records (c.masters_leave_agents.ensures.opening later records)
+      ∙ ap live_of (found_in_order s.setup s.records (map marked_of s.entries) later.run agents found of f (good s later.run found legal above f));
 }
   where
     good : (s : Story) (later : ℕ) (found : List Durable) → IsLegal s → (state_of s).world.run.number < later → AreFound (state_of s) found → GoodOpening later found

@@ -1,4 +1,4 @@
-use Rattle.cluster_openings.proofs.InOrder.{Sorted, of_configured, opened_so, opens_so}
+use Rattle.cluster_openings.proofs.InOrder.{Sorted, of_standing, opened_so, opens_so}
 use Rattle.cluster_openings.proofs.good_openings.good_opening.Goals as goal
 
 pub returns : goal.returns
@@ -12,6 +12,6 @@ returns c =
     record {
       test = (λ is. opened_so run agents old new sorted (test.0 is), λ h. test.1 (opens_so run agents old new sorted h));
       good = λ is. (test.0 is).0;
-      records = λ is. of_configured agents new (test.0 is).1;
+      records = λ is. of_standing agents new (test.0 is).1;
       permutation = sorted.moved;
     }

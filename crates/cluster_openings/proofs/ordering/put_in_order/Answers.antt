@@ -2,10 +2,9 @@ use Rattle.std.proofs.Common.{◌≡◌, ◌∙◌, ap, List, length, map, subst
 use Rattle.std.specs.List.Sorted.{IsPermutation}
 use Rattle.std.proofs.lemmas.List.{with_items_is}
 use Rattle.std.proofs.lemmas.List.Sorted.{length_permutation}
-use Rattle.cluster_laws.specs.Parts.{configured}
 use Rattle.cluster_model.specs.Openings.{GoodOpening}
 use Rattle.mails.specs.declared.record.Durable.{Durable}
-use Rattle.cluster_openings.proofs.InOrder.{Sorted, stand_in_order, then_configured}
+use Rattle.cluster_openings.proofs.InOrder.{Sorted, stand_in_order, standing_names, then_configured}
 use Rattle.cluster_openings.proofs.Permuted.{good_permuted}
 use Rattle.cluster_openings.proofs.ordering.put_in_order.Goals as goal
 
@@ -17,11 +16,11 @@ returns c =
     let moved = subst (λ (xs : List Durable). IsPermutation xs new) c.as_mut_slice.ensures.value c.sort_by_name.ensures.permutation in
     let sorted : Sorted agents old new = record { ordered = c.agents-agents.ensures.ordered; moved = moved; rises = c.sort_by_name.ensures.sorted } in
     let once = c.requires.good.names_once in
-    let stand = then_configured agents old new sorted once c.requires.records in
+    let stand = standing_names agents new (then_configured agents old new sorted once c.requires.records) in
     let as_many : length new ≡ c.args.records.len = length_permutation old new moved ∙ sym c.args.records.ok.0 in
     let whole = with_items_is c.args.records new as_many in
     record {
       order = whole ∙ stand_in_order agents old new once sorted.moved stand;
       good = subst (GoodOpening c.args._run) (sym whole) (good_permuted c.args._run old new sorted.moved c.requires.good);
-      configured = stand ∙ sym (ap (map configured) whole);
+      agents = stand ∙ sym (ap (map (λ (d : Durable). d.name)) whole);
     }

@@ -16,7 +16,7 @@ returns-clause-went g c = λ writing clean.
     let tasks = c.args.tasks.now.items in
     let task = c.args.task.now in
     let left : c.insert.new.self.items ≡ insert tasks c.args.at task = search rules in
-    let done : WritesOn (Adds (task ∷ [])) old new = c.in_ok-add_task.ensures.went writing clean in
+    let done : WritesOn (Adds (task ∷ [])) old new = subst (λ (added : RecordedTask). WritesOn (Adds (added ∷ [])) old new) c.deref.ensures (c.in_ok-add_task.ensures.went writing clean) in
     record {
       writing = done.writing;
       committed = done.committed;

@@ -44,7 +44,7 @@ returns-clause-loaded c = λ db shows.
     subst (λ (f : Option Durable). IsLoaded (kept_in db).body f) (sym it.2) (
       record_form (with_tasks ts it.0),
       text_kept db c.args.records.now c.args.heads.now c.args.tasks.now c.index-heads-0.result at.0 ts it.0 shows at.1 no_record c.in_ok-told.ensures.told (put_are_tasks c.in_ok-told.told.items c.in_ok-told.ensures.are_put) it.3 it.1,
-      (record { durable = it.4; form = refl }, it.5),
+      (record { durable = it.4; form = inl refl }, it.5),
     ))
 
 pub returns-clause-saved : goal.returns-clause-saved

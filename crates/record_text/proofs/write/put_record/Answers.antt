@@ -9,8 +9,8 @@ use Rattle.record_text.proofs.Puts.{record_put}
 use Rattle.record_text.proofs.write.put_record.Goals as goal
 
 pub returns-clause-value : goal.returns-clause-value
-returns-clause-value c =
-    on_ok_weaker c.put-5.result (λ last. record_put c.args.durable.now _ _ _ _ _ _ _ _ _ _ _
+returns-clause-value c = λ version.
+    on_ok_weaker c.put-5.result (λ last. record_put version c.args.durable.now _ _ _ _ _ _ _ _ _ _ _
     (ap members_view c.requires)
     c.in_ok-put.ensures.ok (c.in_ok-name.ensures ∙ ap string c.as_text.ensures.text)
     c.in_ok-put-2.ensures.ok c.from.ensures

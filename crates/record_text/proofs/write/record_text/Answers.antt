@@ -11,4 +11,4 @@ returns-clause-text c =
     let value = view c.in_ok-value.value in
     let durable = c.args.durable.now in
     IfOk-weaker c.to_string.result (λ (s : String Global). has_float value ≡ false → string_bytes s ≡ compact_text value) (λ (s : String Global). string_bytes s ≡ record_form durable)
-    (λ s text. text (ap has_float c.in_ok-value.ensures.value ∙ no_float durable) ∙ ap compact_text c.in_ok-value.ensures.value) c.to_string.ensures.text
+    (λ s text. text (ap has_float c.in_ok-value.ensures.value ∙ no_float 2 durable) ∙ ap compact_text c.in_ok-value.ensures.value) c.to_string.ensures.text

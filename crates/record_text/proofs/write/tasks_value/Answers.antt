@@ -1,4 +1,4 @@
-use Rattle.std.proofs.Common.{ap, ◌∙◌}
+use Rattle.std.proofs.Common.{ap, ◌∙◌, subst}
 use Rattle.serde_json.specs.Data.{array}
 use Rattle.serde_json.specs.View.{items_of}
 use Rattle.serde_json.proofs.Views.{view-Array}
@@ -13,8 +13,8 @@ loop-task-preserved c =
     let task = c.task-item.result in
     let i = c.loop-task.task-index in
     record {
-      written = written_more task_data all i task task c.loop-task.values.items c.push.new.self.items _ c.loop-task-test.true c.task-item.is c.loop-task.invariant.written c.in_ok-task_value.ensures.value c.in_ok-push.ensures.items;
-      are_tasks = all_more IsTask all i task c.loop-task-test.true c.task-item.is c.loop-task.invariant.are_tasks c.in_ok-task_value.ensures.is_task;
+      written = written_more task_data all i task task c.loop-task.values.items c.push.new.self.items _ c.loop-task-test.true c.task-item.is c.loop-task.invariant.written (c.in_ok-task_value.ensures.value ∙ ap task_data c.deref.ensures) c.in_ok-push.ensures.items;
+      are_tasks = all_more IsTask all i task c.loop-task-test.true c.task-item.is c.loop-task.invariant.are_tasks (subst IsTask c.deref.ensures c.in_ok-task_value.ensures.is_task);
     }
 
 pub returns-clause-value : goal.returns-clause-value

@@ -15,7 +15,7 @@ pub invariant_of-self-2 : goal.invariant_of-self-2
 invariant_of-self-2 c =
     rw (c.in-Ok.ensures.ok, c.forget_by.ensures)
     (fit_roster c.args.place (after_applied c.args.session c.args.count) (applied_keeps c.args.session c.args.count) c.self.inside.roster (books.at_place c.args.place (accounts.after_commands c.deref.result.now) c.self.inside.book)
-    (fit_book c.args.place (accounts.after_commands c.deref.result.now) (record { name = λ a. refl; total = λ a. refl }) (λ a h. h) c.self.inside.roster c.self.inside.book c.self.invariant))
+    (fit_book c.args.place (accounts.after_commands c.deref.result.now) (record { name = λ a. refl }) (λ a h. h) c.self.inside.roster c.self.inside.book c.self.invariant))
 
 pub returns-clause-ok : goal.returns-clause-ok
 returns-clause-ok c run =

@@ -10,4 +10,4 @@ returns-in-None-clause-ok c = unnamed c.args.name.now (with_task c.args.task) c.
 
 pub returns-in-Some-clause-ok : goal.returns-in-Some-clause-ok
 returns-in-Some-clause-ok c =
-    on_ok c.book_at.result (λ e. e ∙ named_at c.args.name.now (with_task c.args.task) c.args.self.now c.in-Some.place (new_side [] []) (sym c.place_of.ensures ∙ c.in-Some.is)) c.book_at.ensures.ok
+    on_ok c.book_at.result (λ e. e ∙ named_at c.args.name.now (with_task c.args.task) c.args.self.now c.in-Some.place (new_side []) (sym c.place_of.ensures ∙ c.in-Some.is)) c.book_at.ensures.ok

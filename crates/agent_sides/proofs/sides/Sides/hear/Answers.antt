@@ -10,7 +10,7 @@ use Rattle.agent_sides.proofs.sides.Sides.hear.Goals as goal
 
 pub invariant_of-self : goal.invariant_of-self
 invariant_of-self c = rw c.hear.ensures
-    (fit_book c.args.place (accounts.hearing c.args.update.now.key c.args.update.now.k c.args.update.now.state c.args.update.now.ended) (record { name = λ a. refl; total = λ a. refl }) (λ a h. h) c.self.inside.roster c.self.inside.book c.self.invariant)
+    (fit_book c.args.place (accounts.hearing c.args.update.now.key c.args.update.now.k c.args.update.now.state c.args.update.now.ended) (record { name = λ a. refl }) (λ a h. h) c.self.inside.roster c.self.inside.book c.self.invariant)
 
 pub returns-then-is_session_in : goal.returns-then-is_session_in
 returns-then-is_session_in c run =

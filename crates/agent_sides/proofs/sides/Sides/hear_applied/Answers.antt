@@ -13,11 +13,11 @@ returns-in-None-clause-ok c run = unnamed c.args.name.now (λ s. heard run s (Ap
 pub returns-in-Some-clause-ok : goal.returns-in-Some-clause-ok
 returns-in-Some-clause-ok c run =
     on_ok c.applied.result
-    (λ e. e ∙ named_at c.args.name.now (λ s. heard run s (Applied c.args.session c.args.count)) c.args.self.now c.in-Some.place (new_side [] []) (sym c.place_of.ensures ∙ c.in-Some.is))
+    (λ e. e ∙ named_at c.args.name.now (λ s. heard run s (Applied c.args.session c.args.count)) c.args.self.now c.in-Some.place (new_side []) (sym c.place_of.ensures ∙ c.in-Some.is))
     (c.applied.ensures.ok run)
 
 pub returns-in-Some-clause-refused : goal.returns-in-Some-clause-refused
 returns-in-Some-clause-refused c =
     if_err c.applied.result
-    (λ fault h. subst (λ due. IsAppliedRefusal due fault) (told_named c.args.name.now (λ s. in_session s c.args.session) None c.args.self.now c.in-Some.place (new_side [] []) (sym c.place_of.ensures ∙ c.in-Some.is)) h)
+    (λ fault h. subst (λ due. IsAppliedRefusal due fault) (told_named c.args.name.now (λ s. in_session s c.args.session) None c.args.self.now c.in-Some.place (new_side []) (sym c.place_of.ensures ∙ c.in-Some.is)) h)
     c.applied.ensures.refused

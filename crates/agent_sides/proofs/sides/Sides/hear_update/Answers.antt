@@ -7,7 +7,7 @@ use Rattle.agent_sides.proofs.sides.Sides.hear_update.Goals as goal
 pub returns-in-Some : goal.returns-in-Some
 returns-in-Some c run =
     c.hear.ensures run
-    ∙ named_at c.args.name.now (λ s. heard run s (Update c.args.session c.args.update.now.key c.args.update.now.k c.args.update.now.state c.args.update.now.ended)) c.args.self.now c.in-Some.place (new_side [] []) (sym c.place_of.ensures ∙ c.in-Some.is)
+    ∙ named_at c.args.name.now (λ s. heard run s (Update c.args.session c.args.update.now.key c.args.update.now.k c.args.update.now.state c.args.update.now.ended)) c.args.self.now c.in-Some.place (new_side []) (sym c.place_of.ensures ∙ c.in-Some.is)
 
 pub returns-in_default : goal.returns-in_default
 returns-in_default c run =

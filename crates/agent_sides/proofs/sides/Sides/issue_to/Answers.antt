@@ -15,20 +15,20 @@ returns-in_default-clause-ok c = unnamed c.args.name.now (with_command c.args.co
 pub returns-in-Ok-None-clause-number : goal.returns-in-Ok-None-clause-number
 returns-in-Ok-None-clause-number c =
     numbered c.in-Some.place c.args.self.now None (sym c.in-Ok-None.field-0-is ∙ c.in-Ok-None.ensures.number)
-    ∙ told_named c.args.name.now next_command None c.args.self.now c.in-Some.place (new_side [] []) (sym c.place_of.ensures ∙ c.in-Some.is)
+    ∙ told_named c.args.name.now next_command None c.args.self.now c.in-Some.place (new_side []) (sym c.place_of.ensures ∙ c.in-Some.is)
 
 pub returns-in-Ok-None-clause-ok : goal.returns-in-Ok-None-clause-ok
-returns-in-Ok-None-clause-ok c = c.in-Ok-None.ensures.ok ∙ named_at c.args.name.now (with_command c.args.command) c.args.self.now c.in-Some.place (new_side [] []) (sym c.place_of.ensures ∙ c.in-Some.is)
+returns-in-Ok-None-clause-ok c = c.in-Ok-None.ensures.ok ∙ named_at c.args.name.now (with_command c.args.command) c.args.self.now c.in-Some.place (new_side []) (sym c.place_of.ensures ∙ c.in-Some.is)
 
 pub returns-in-Ok-Some-clause-number : goal.returns-in-Ok-Some-clause-number
 returns-in-Ok-Some-clause-number c =
     ap (λ session. Some (session, c.in-Ok-Some.number)) c.session_at-session.ensures
     ∙ numbered c.in-Some.place c.args.self.now (Some c.in-Ok-Some.number) (sym c.in-Ok-Some.field-0-is ∙ c.in-Ok-Some.ensures.number)
-    ∙ told_named c.args.name.now next_command None c.args.self.now c.in-Some.place (new_side [] []) (sym c.place_of.ensures ∙ c.in-Some.is)
+    ∙ told_named c.args.name.now next_command None c.args.self.now c.in-Some.place (new_side []) (sym c.place_of.ensures ∙ c.in-Some.is)
 
 pub returns-in-Ok-Some-clause-ok : goal.returns-in-Ok-Some-clause-ok
-returns-in-Ok-Some-clause-ok c = c.in-Ok-Some.ensures.ok ∙ named_at c.args.name.now (with_command c.args.command) c.args.self.now c.in-Some.place (new_side [] []) (sym c.place_of.ensures ∙ c.in-Some.is)
+returns-in-Ok-Some-clause-ok c = c.in-Ok-Some.ensures.ok ∙ named_at c.args.name.now (with_command c.args.command) c.args.self.now c.in-Some.place (new_side []) (sym c.place_of.ensures ∙ c.in-Some.is)
 
 pub returns-in-Err-clause-refused : goal.returns-in-Err-clause-refused
 returns-in-Err-clause-refused c =
-    subst (λ b. IsIssueRefusal b c.in-Err.fault) (told_named c.args.name.now is_spent false c.args.self.now c.in-Some.place (new_side [] []) (sym c.place_of.ensures ∙ c.in-Some.is)) c.in-Err.ensures.refused
+    subst (λ b. IsIssueRefusal b c.in-Err.fault) (told_named c.args.name.now is_spent false c.args.self.now c.in-Some.place (new_side []) (sym c.place_of.ensures ∙ c.in-Some.is)) c.in-Err.ensures.refused

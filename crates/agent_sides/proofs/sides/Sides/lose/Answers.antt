@@ -9,15 +9,15 @@ use Rattle.agent_sides.proofs.sides.Sides.lose.Goals as goal
 
 pub invariant_of-self : goal.invariant_of-self
 invariant_of-self c =
-    let book : c.reopen.new.self ≡ books.at_place c.args.place (accounts.reopened []) c.self.inside.book = c.reopen.ensures ∙ ap (λ tasks. books.at_place c.args.place (accounts.reopened tasks) c.self.inside.book) c.new.ensures in
+    let book : c.reopen.new.self ≡ books.at_place c.args.place (accounts.reopened [] []) c.self.inside.book = c.reopen.ensures ∙ ap (λ tasks. books.at_place c.args.place (accounts.reopened tasks c.new-nothing.result) c.self.inside.book) c.new-none.ensures ∙ ap (λ total. books.at_place c.args.place (accounts.reopened [] total) c.self.inside.book) c.new-nothing.ensures in
     rw (c.close_session.ensures, book)
-    (fit_roster c.args.place lost lost_keeps c.self.inside.roster (books.at_place c.args.place (accounts.reopened []) c.self.inside.book) (fit_book c.args.place (accounts.reopened []) (reopened_keeps []) (λ a h. refl) c.self.inside.roster c.self.inside.book c.self.invariant))
+    (fit_roster c.args.place lost lost_keeps c.self.inside.roster (books.at_place c.args.place (accounts.reopened [] []) c.self.inside.book) (fit_book c.args.place (accounts.reopened [] []) (reopened_keeps [] []) (λ a h. refl) c.self.inside.roster c.self.inside.book c.self.invariant))
 
 pub returns-then-is_open_in : goal.returns-then-is_open_in
 returns-then-is_open_in c =
-    let book : c.reopen.new.self ≡ books.at_place c.args.place (accounts.reopened []) c.self.inside.book = c.reopen.ensures ∙ ap (λ tasks. books.at_place c.args.place (accounts.reopened tasks) c.self.inside.book) c.new.ensures in
+    let book : c.reopen.new.self ≡ books.at_place c.args.place (accounts.reopened [] []) c.self.inside.book = c.reopen.ensures ∙ ap (λ tasks. books.at_place c.args.place (accounts.reopened tasks c.new-nothing.result) c.self.inside.book) c.new-none.ensures ∙ ap (λ total. books.at_place c.args.place (accounts.reopened [] total) c.self.inside.book) c.new-nothing.ensures in
     rw (c.close_session.ensures, book)
-    (joined_when c.args.place lost lost (accounts.reopened []) (λ s. s.is_open) false true lost_joins c.self.inside.roster c.self.inside.book c.self.invariant.one (sym (c.is_open_in.ensures ∙ ap (told_at c.args.place (λ s. s.is_open) false) c.entries.ensures) ∙ c.if-is_open_in.true) ∙ ap (at_place c.args.place lost) c.self.view_is)
+    (joined_when c.args.place lost lost (accounts.reopened [] []) (λ s. s.is_open) false true lost_joins c.self.inside.roster c.self.inside.book c.self.invariant.one (sym (c.is_open_in.ensures ∙ ap (told_at c.args.place (λ s. s.is_open) false) c.entries.ensures) ∙ c.if-is_open_in.true) ∙ ap (at_place c.args.place lost) c.self.view_is)
 
 pub returns-else-is_open_in : goal.returns-else-is_open_in
 returns-else-is_open_in c =

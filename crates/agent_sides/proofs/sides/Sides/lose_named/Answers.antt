@@ -4,7 +4,7 @@ use Rattle.agent_sides.proofs.Looking.{named_at, unnamed}
 use Rattle.agent_sides.proofs.sides.Sides.lose_named.Goals as goal
 
 pub returns-in-Some : goal.returns-in-Some
-returns-in-Some c = c.lose.ensures ∙ named_at c.args.name.now lost c.args.self.now c.in-Some.place (new_side [] []) (sym c.place_of.ensures ∙ c.in-Some.is)
+returns-in-Some c = c.lose.ensures ∙ named_at c.args.name.now lost c.args.self.now c.in-Some.place (new_side []) (sym c.place_of.ensures ∙ c.in-Some.is)
 
 pub returns-in_default : goal.returns-in_default
 returns-in_default c = unnamed c.args.name.now lost c.args.self.now (sym c.place_of.ensures ∙ c.in_default.is)

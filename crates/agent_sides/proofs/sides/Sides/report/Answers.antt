@@ -18,13 +18,13 @@ returns-in-Err-clause-answer c =
 pub returns-in-Err-clause-sides : goal.returns-in-Err-clause-sides
 returns-in-Err-clause-sides c =
     rw c.report.ensures.sides
-    (joined_if c.args.place (after_report c.args.run c.args.session c.args.number) (reporting c.args.run c.args.session c.args.number c.args.tasks) (λ s. reported c.args.run s c.args.session c.args.number) (Ok false) (Err c.in-Err.refusal) (report_refused_joins c.args.run c.args.session c.args.number c.args.tasks c.in-Err.refusal) c.self.inside.roster c.self.inside.book c.self.invariant.one (sym c.report.ensures.answer ∙ c.in-Err.is)
-    ∙ ap (at_place c.args.place (reporting c.args.run c.args.session c.args.number c.args.tasks)) c.self.view_is)
+    (joined_if c.args.place (after_report c.args.run c.args.session c.args.number) (reporting c.args.run c.args.session c.args.number c.args.tasks c.args.total) (λ s. reported c.args.run s c.args.session c.args.number) (Ok false) (Err c.in-Err.refusal) (report_refused_joins c.args.run c.args.session c.args.number c.args.tasks c.args.total c.in-Err.refusal) c.self.inside.roster c.self.inside.book c.self.invariant.one (sym c.report.ensures.answer ∙ c.in-Err.is)
+    ∙ ap (at_place c.args.place (reporting c.args.run c.args.session c.args.number c.args.tasks c.args.total)) c.self.view_is)
 
 pub invariant_of-self-then-opens : goal.invariant_of-self-then-opens
 invariant_of-self-then-opens c =
     rw (c.report.ensures.sides, c.reopen.ensures)
-    (fit_roster c.args.place (after_report c.args.run c.args.session c.args.number) (report_keeps c.args.run c.args.session c.args.number) c.self.inside.roster (books.at_place c.args.place (accounts.reopened c.args.tasks) c.self.inside.book) (fit_book c.args.place (accounts.reopened c.args.tasks) (reopened_keeps c.args.tasks) (λ a h. refl) c.self.inside.roster c.self.inside.book c.self.invariant))
+    (fit_roster c.args.place (after_report c.args.run c.args.session c.args.number) (report_keeps c.args.run c.args.session c.args.number) c.self.inside.roster (books.at_place c.args.place (accounts.reopened c.args.tasks c.args.total) c.self.inside.book) (fit_book c.args.place (accounts.reopened c.args.tasks c.args.total) (reopened_keeps c.args.tasks c.args.total) (λ a h. refl) c.self.inside.roster c.self.inside.book c.self.invariant))
 
 pub invariant_of-self-else-opens : goal.invariant_of-self-else-opens
 invariant_of-self-else-opens c = rw c.report.ensures.sides (fit_roster c.args.place (after_report c.args.run c.args.session c.args.number) (report_keeps c.args.run c.args.session c.args.number) c.self.inside.roster c.self.inside.book c.self.invariant)
@@ -36,8 +36,8 @@ returns-then-opens-clause-answer c =
 pub returns-then-opens-clause-sides : goal.returns-then-opens-clause-sides
 returns-then-opens-clause-sides c =
     rw (c.report.ensures.sides, c.reopen.ensures)
-    (joined_when c.args.place (after_report c.args.run c.args.session c.args.number) (reporting c.args.run c.args.session c.args.number c.args.tasks) (accounts.reopened c.args.tasks) (λ s. reported c.args.run s c.args.session c.args.number) (Ok false) (Ok true) (report_opens_joins c.args.run c.args.session c.args.number c.args.tasks) c.self.inside.roster c.self.inside.book c.self.invariant.one (sym c.report.ensures.answer ∙ c.in-Ok.is ∙ ap (λ b. Ok b) c.if-opens.true)
-    ∙ ap (at_place c.args.place (reporting c.args.run c.args.session c.args.number c.args.tasks)) c.self.view_is)
+    (joined_when c.args.place (after_report c.args.run c.args.session c.args.number) (reporting c.args.run c.args.session c.args.number c.args.tasks c.args.total) (accounts.reopened c.args.tasks c.args.total) (λ s. reported c.args.run s c.args.session c.args.number) (Ok false) (Ok true) (report_opens_joins c.args.run c.args.session c.args.number c.args.tasks c.args.total) c.self.inside.roster c.self.inside.book c.self.invariant.one (sym c.report.ensures.answer ∙ c.in-Ok.is ∙ ap (λ b. Ok b) c.if-opens.true)
+    ∙ ap (at_place c.args.place (reporting c.args.run c.args.session c.args.number c.args.tasks c.args.total)) c.self.view_is)
 
 pub returns-else-opens-clause-answer : goal.returns-else-opens-clause-answer
 returns-else-opens-clause-answer c =
@@ -46,5 +46,5 @@ returns-else-opens-clause-answer c =
 pub returns-else-opens-clause-sides : goal.returns-else-opens-clause-sides
 returns-else-opens-clause-sides c =
     rw c.report.ensures.sides
-    (joined_if c.args.place (after_report c.args.run c.args.session c.args.number) (reporting c.args.run c.args.session c.args.number c.args.tasks) (λ s. reported c.args.run s c.args.session c.args.number) (Ok false) (Ok false) (report_again_joins c.args.run c.args.session c.args.number c.args.tasks) c.self.inside.roster c.self.inside.book c.self.invariant.one (sym c.report.ensures.answer ∙ c.in-Ok.is ∙ ap (λ b. Ok b) c.if-opens.false)
-    ∙ ap (at_place c.args.place (reporting c.args.run c.args.session c.args.number c.args.tasks)) c.self.view_is)
+    (joined_if c.args.place (after_report c.args.run c.args.session c.args.number) (reporting c.args.run c.args.session c.args.number c.args.tasks c.args.total) (λ s. reported c.args.run s c.args.session c.args.number) (Ok false) (Ok false) (report_again_joins c.args.run c.args.session c.args.number c.args.tasks c.args.total) c.self.inside.roster c.self.inside.book c.self.invariant.one (sym c.report.ensures.answer ∙ c.in-Ok.is ∙ ap (λ b. Ok b) c.if-opens.false)
+    ∙ ap (at_place c.args.place (reporting c.args.run c.args.session c.args.number c.args.tasks c.args.total)) c.self.view_is)

@@ -7,7 +7,7 @@ use Rattle.agent_sides.proofs.Apart.{joined_apart, named_apart, named_withdrawn}
 use Rattle.agent_sides.proofs.sides.Sides.withdraw_named.Goals as goal
 
 pub invariant_of-self : goal.invariant_of-self
-invariant_of-self c = rw c.withdraw_named.ensures (fit_map (accounts.without_named c.args.framework c.args.ids.now) (record { name = λ a. refl; total = λ a. refl }) (named_apart c.args.framework c.args.ids.now) c.self.inside.roster c.self.inside.book c.self.invariant)
+invariant_of-self c = rw c.withdraw_named.ensures (fit_map (accounts.without_named c.args.framework c.args.ids.now) (record { name = λ a. refl }) (named_apart c.args.framework c.args.ids.now) c.self.inside.roster c.self.inside.book c.self.invariant)
 
 pub returns : goal.returns
 returns c =

@@ -8,6 +8,6 @@ returns g c =
     let legal = c.self.invariant.legal in
     rw (← c.self.view_is) (record {
       good = λ later found above f. law.good s later found legal above f;
-      records = λ found f. law.records s found legal f;
-      live = λ later found above f. law.live s later found legal above f;
+      records = λ agents found of own f. law.records s agents found legal of own f;
+      live = λ later agents found of above f. law.live s later agents found legal of above f;
     })

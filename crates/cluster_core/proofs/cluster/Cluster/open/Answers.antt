@@ -21,4 +21,4 @@ invariant_of-result g c =
     let put : ArePut 0 c.args.config opened.items ways =
     subst (λ (items : List Item). ArePut 0 c.args.config items ways) c.as_slice-3.ensures
     (subst (λ (agents : List ConfiguredAgent). ArePut 0 agents c.as_slice-3.result.now ways) c.agents.ensures.agents c.put_all.ensures.put) in
-    opens_so setup records c.new.result.items _ _ opened _ _ c.new.ensures.items c.put_in_order-records.ensures.good recorded opens c.put_in_order-records.ensures.configured refl refl refl refl refl refl refl count put
+    opens_so setup records c.new.result.items _ _ opened _ _ c.new.ensures.items c.put_in_order-records.ensures.good recorded opens c.put_in_order-records.ensures.agents refl refl refl refl refl refl refl count put

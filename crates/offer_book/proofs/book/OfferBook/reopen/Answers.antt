@@ -9,4 +9,4 @@ invariant_of-self c =
     let names = c.note_all.new.self in
     let accounts = c.self.inside.accounts.items in
     let noted : AreNamed names c.args.tasks = subst (AreNamed names) c.as_slice.ensures c.note_all.ensures.noted in
-    rw c.reopen_at.ensures (all_at_place names c.args.place (reopened c.args.tasks) (λ a are. noted) accounts (all_wider c.self.inside.names names c.note_all.ensures.kept accounts c.self.invariant))
+    rw c.reopen_at.ensures (all_at_place names c.args.place (reopened c.args.tasks c.args.total) (λ a are. noted) accounts (all_wider c.self.inside.names names c.note_all.ensures.kept accounts c.self.invariant))

@@ -1,0 +1,61 @@
+-- An agent that stops after its larger total is saved owns that; the books have the smaller one until it reports, and its offer stays.
+use Rattle.std.specs.Prelude.{ℕ, List, [], ◌∷◌, Some, None}
+use Rattle.mails.specs.declared.mail.MasterMail.TheVariants.{Hello}
+use Rattle.mails.specs.declared.mail.AgentMail.TheVariants.{Report}
+use Rattle.mails.specs.declared.record.Durable.{Durable}
+use Rattle.quantity.specs.declared.rows.Row.{Row}
+use Rattle.cluster_model.specs.Events.{SUBSCRIBED, OFFERS}
+use Rattle.cluster_model.specs.Clusters.{Step, Send, Deliver, Allocate, Prepare, Commit, StopAfter, ByStart, ByMail, Fine, CallSent}
+use Rattle.cluster_samples.specs.Short.{id, row, made, told, to_agent, from_agent, durable, line, ending, Expected}
+use Rattle.mails.specs.declared.call.Call.TheVariants as calls
+
+abbrev pub n_a1 : List ℕ
+n_a1 = 97 ∷ 49 ∷ []
+
+abbrev pub n_cpus : List ℕ
+n_cpus = 99 ∷ 112 ∷ 117 ∷ 115 ∷ []
+
+abbrev pub n_mem : List ℕ
+n_mem = 109 ∷ 101 ∷ 109 ∷ []
+
+abbrev pub n_u42 : List ℕ
+n_u42 = 42 ∷ []
+
+abbrev pub less : List Row
+less = row n_cpus 4 ∷ row n_mem 4096 ∷ []
+
+abbrev pub more : List Row
+more = row n_cpus 8 ∷ row n_mem 8192 ∷ []
+
+abbrev pub records : List Durable
+records = durable n_a1 less 0 0 [] ∷ []
+
+abbrev pub steps : List Step
+steps = Prepare n_a1 (ByMail 1) ∷
+    Commit n_a1 ∷
+    Deliver 2 ∷
+    Send None (calls.Subscribe None n_u42) ∷
+    Deliver 3 ∷
+    Allocate ∷
+    Prepare n_a1 (ByStart (Some more)) ∷
+    StopAfter n_a1 ∷
+    Allocate ∷
+    Prepare n_a1 (ByStart None) ∷
+    Commit n_a1 ∷ []
+
+abbrev pub expected : Expected
+expected = record {
+  lines = line Fine [] [] (to_agent n_a1 (Hello 1 0) ∷ []) [] ∷
+      line Fine [] [] [] [] ∷
+      line Fine [] [] (from_agent n_a1 (Report 1 1 [] less) ∷ []) [] ∷
+      line Fine [] [] [] [] ∷
+      line Fine [] [] (CallSent ∷ []) [] ∷
+      line Fine (told (id 1 1) (SUBSCRIBED (id 1 1)) ∷ []) [] [] [] ∷
+      line Fine (told (id 1 1) (OFFERS (made n_a1 (id 1 1) (id 1 1) less ∷ [])) ∷ []) [] [] [] ∷
+      line Fine [] [] [] [] ∷
+      line Fine [] [] [] [] ∷
+      line Fine [] [] [] [] ∷
+      line Fine [] [] [] [] ∷
+      line Fine [] [] (from_agent n_a1 (Report 3 1 [] more) ∷ []) [] ∷ [];
+  ends = ending n_a1 less [] ∷ [];
+}
