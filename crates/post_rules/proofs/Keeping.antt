@@ -18,19 +18,19 @@ use Rattle.post_rules.proofs.Lists.{each_passes, get_of_one_more, get_of_set, ta
 
 -- ---- lists with the same directions
 
-abbrev directions : List Sent → List Direction
+abbrev pub directions : List Sent → List Direction
 directions xs = map (λ (s : Sent). s.direction) xs
 
-same_at : (xs ys : List Sent) (i : ℕ) (y : Sent) → directions xs ≡ directions ys → slice_get ys i ≡ Some y → (x : Sent) × (slice_get xs i ≡ Some x) × (x.direction ≡ y.direction)
+pub same_at : (xs ys : List Sent) (i : ℕ) (y : Sent) → directions xs ≡ directions ys → slice_get ys i ≡ Some y → (x : Sent) × (slice_get xs i ≡ Some x) × (x.direction ≡ y.direction)
 same_at xs [] i y e at = cc
 same_at [] (z ∷ ys) i y e at = cc
 same_at (x ∷ xs) (z ∷ ys) zero y e at = let same : z ≡ y = cc in (x, refl, rw (← same) (let h : x.direction ≡ z.direction = cc in h))
 same_at (x ∷ xs) (z ∷ ys) (suc i) y e at = same_at xs ys i y (let h : directions xs ≡ directions ys = cc in h) at
 
-same_length : (xs ys : List Sent) → directions xs ≡ directions ys → length xs ≡ length ys
+pub same_length : (xs ys : List Sent) → directions xs ≡ directions ys → length xs ≡ length ys
 same_length xs ys e = sym (length-map xs (λ (s : Sent). s.direction)) ∙ (ap length e ∙ length-map ys (λ (s : Sent). s.direction))
 
-last_of_same : (d : Direction) (xs ys : List Sent) (p : ℕ) → directions xs ≡ directions ys → IsLast d xs p → IsLast d ys p
+pub last_of_same : (d : Direction) (xs ys : List Sent) (p : ℕ) → directions xs ≡ directions ys → IsLast d xs p → IsLast d ys p
 last_of_same d xs ys p e last = record {
   within = omega (arith, last.within, same_length xs ys e);
   found = λ y some at. let x = same_at xs ys (p - 1) y e at in rw (← x.2) (last.found x.0 some x.1);
@@ -42,7 +42,7 @@ last_of_same d xs ys p e last = record {
 eqb_both_ways : (a b : ℕ) → eqb a b ≡ eqb b a
 eqb_both_ways a b = elim (eqb_tells a b) [ inl h ↦ h.0 ∙ sym (eq-eqb b a (sym h.1)) | inr h ↦ elim (eqb_tells b a) [ inl k ↦ absurd (h.1 (sym k.1)) | inr k ↦ h.0 ∙ sym k.0 ] ]
 
-queue_both_ways : (a b : Direction) → same_queue a b ≡ same_queue b a
+pub queue_both_ways : (a b : Direction) → same_queue a b ≡ same_queue b a
 queue_both_ways (ToAgent x) (ToAgent y) = eqb_both_ways x y
 queue_both_ways (FromAgent x) (FromAgent y) = eqb_both_ways x y
 queue_both_ways Call Call = refl
@@ -53,14 +53,14 @@ queue_both_ways (ToAgent x) (FromAgent y) = refl
 queue_both_ways (FromAgent x) Call = refl
 queue_both_ways (FromAgent x) (ToAgent y) = refl
 
-last_of_more : (e : Direction) (xs : List Sent) (s : Sent) (p : ℕ) → same_queue s.direction e ≡ false → IsLast e xs p → IsLast e (xs ++ s ∷ []) p
+pub last_of_more : (e : Direction) (xs : List Sent) (s : Sent) (p : ℕ) → same_queue s.direction e ≡ false → IsLast e xs p → IsLast e (xs ++ s ∷ []) p
 last_of_more e xs s p other last = record {
   within = omega (arith, last.within, length-append xs (s ∷ []));
   found = λ y some at. elim (get_of_one_more xs s (p - 1) y at) [ inl h ↦ last.found y some h.1 | inr h ↦ absurd (omega (arith, h.0, some, last.within)) ];
   above = λ i y le at. elim (get_of_one_more xs s i y at) [ inl h ↦ last.above i y le h.1 | inr h ↦ rw (← h.1) (queue_both_ways e s.direction ∙ other) ];
 }
 
-last_is_new : (e : Direction) (xs : List Sent) (s : Sent) → same_queue s.direction e ≡ true → IsLast e (xs ++ s ∷ []) (length xs + 1)
+pub last_is_new : (e : Direction) (xs : List Sent) (s : Sent) → same_queue s.direction e ≡ true → IsLast e (xs ++ s ∷ []) (length xs + 1)
 last_is_new e xs s same = record {
   within = omega (arith, length-append xs (s ∷ []));
   found = λ y some at. elim (get_of_one_more xs s (length xs + 1 - 1) y at) [ inl h ↦ absurd (omega (arith, h.0)) | inr h ↦ rw (← h.1) (queue_both_ways e s.direction ∙ same) ];
@@ -93,7 +93,7 @@ same_directions [] k x at = cc
 same_directions (y ∷ ys) zero x at = let same : y ≡ x = cc in rw same refl
 same_directions (y ∷ ys) (suc k) x at = ap (λ (ds : List Direction). y.direction ∷ ds) (same_directions ys k x at)
 
-same_directions_taken : (i : ℕ) (xs ys : List Sent) → directions xs ≡ directions ys → directions (take i xs) ≡ directions (take i ys)
+pub same_directions_taken : (i : ℕ) (xs ys : List Sent) → directions xs ≡ directions ys → directions (take i xs) ≡ directions (take i ys)
 same_directions_taken i xs ys e = let f = λ (s : Sent). s.direction in sym (take-map f i xs) ∙ (ap (take i) e ∙ take-map f i ys)
 
 pub lasts_with_given : (xs : List Sent) (m : LastsByAgent) (k : ℕ) (x : Sent) → slice_get xs k ≡ Some x → AreLasts xs m → AreLasts (set xs k (given_sent x)) m
@@ -121,12 +121,12 @@ order_with_given xs k x at order all =
 
 -- ---- what can be handed out behind one more
 
-get_in_front : (xs : List Item) (y : Item) (i : ℕ) → i < length xs → slice_get (xs ++ y ∷ []) i ≡ slice_get xs i
+pub get_in_front : (xs : List Item) (y : Item) (i : ℕ) → i < length xs → slice_get (xs ++ y ∷ []) i ≡ slice_get xs i
 get_in_front [] y i lt = absurd (omega (arith, lt))
 get_in_front (x ∷ xs) y zero lt = refl
 get_in_front (x ∷ xs) y (suc i) lt = get_in_front xs y i (omega (arith, lt))
 
-get_last : (xs : List Item) (y : Item) → slice_get (xs ++ y ∷ []) (length xs) ≡ Some y
+pub get_last : (xs : List Item) (y : Item) → slice_get (xs ++ y ∷ []) (length xs) ≡ Some y
 get_last [] y = refl
 get_last (x ∷ xs) y = get_last xs y
 
@@ -237,7 +237,7 @@ given_once xs n x at =
 pub order_along : (xs ys : List Sent) → ys ≡ xs → AreInOrder xs → AreInOrder ys
 order_along xs ys e h = rw e h
 
-same_lasts : (m m' : LastsByAgent) (d : Direction) → ((agent : ℕ) → get nat_eq m' agent ≡ get nat_eq m agent) → last_in m' d ≡ last_in m d
+pub same_lasts : (m m' : LastsByAgent) (d : Direction) → ((agent : ℕ) → get nat_eq m' agent ≡ get nat_eq m agent) → last_in m' d ≡ last_in m d
 same_lasts m m' Call e = refl
 same_lasts m m' (ToAgent agent) e = ap (λ (o : Option Lasts). (unwrap_or o (record { to_agent = 0; from_agent = 0 })).to_agent) (e agent)
 same_lasts m m' (FromAgent agent) e = ap (λ (o : Option Lasts). (unwrap_or o (record { to_agent = 0; from_agent = 0 })).from_agent) (e agent)

@@ -1,5 +1,5 @@
 pub mod Handing
 pub mod Keeping
 pub mod Lists
-pub mod Seeking
+pub mod Linking
 pub mod Once

@@ -46,7 +46,7 @@ in_front (z ∷ zs) y (suc i) x at = in_front zs y i x at
 pub given_behind_more : (items : List Item) (n : ℕ) (d : Direction) → WasGiven items n → WasGiven (with_put items d) n
 given_behind_more items n d (pos, i, at, given) = (pos, i, in_front items (record { direction = d; given = false }) (n - 1) i at, given)
 
-there_at : (before : List Item) (o : Option Item) → is_next before o ≡ true → (x : Item) × (o ≡ Some x) × (not x.given && nothing_waits x.direction before ≡ true)
+pub there_at : (before : List Item) (o : Option Item) → is_next before o ≡ true → (x : Item) × (o ≡ Some x) × (not x.given && nothing_waits x.direction before ≡ true)
 there_at before None e = absurd (let bad : ⊥ = cc in bad)
 there_at before (Some x) e = (x, refl, e)
 

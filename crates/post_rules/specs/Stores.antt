@@ -1,5 +1,6 @@
--- How queues are kept: with each item the number of the one before it in its queue, and of each queue the number of its last.
-use Rattle.std.specs.Prelude.{◌≡◌, ◌<◌, ◌≤◌, ℕ, suc, zero, ◌-◌, List, true, false, take, length, map, nat_eq, unwrap_or, Some}
+-- How queues are kept: with each item the numbers of the one before it and of the one behind it in its queue, of each queue the number of its last, and with that one the
+-- number of the first that waits there.
+use Rattle.std.specs.Prelude.{◌≡◌, ◌<◌, ◌≤◌, ℕ, suc, zero, ◌-◌, List, true, false, take, length, map, nat_eq, set, unwrap_or, option_map, Some}
 use Rattle.std.specs.List.{slice_get}
 use Rattle.std.specs.declared.hash.FoldHasher.{FoldHasher}
 use Rattle.std.specs.declared.hash.BuildHasherDefault.{BuildHasherDefault}
@@ -7,6 +8,7 @@ use Rattle.std.specs.HashMap.{HashMap, get}
 use Rattle.post_rules.specs.declared.direction.Direction.{Direction}
 use Rattle.post_rules.specs.declared.direction.Direction.TheVariants.{Call, ToAgent, FromAgent}
 use Rattle.post_rules.specs.declared.stores.Lasts.{Lasts}
+use Rattle.post_rules.specs.declared.stores.Link.{Link}
 use Rattle.post_rules.specs.declared.stores.Sent.{Sent}
 use Rattle.post_rules.specs.Queueing.{IsFirstWaiting, Item, nothing_waits, same_queue}
 
@@ -56,8 +58,32 @@ abbrev pub before : ℕ → List Sent → List Sent
 before zero sent = sent
 before (suc n) sent = take n sent
 
--- of the queue of a direction, what stands from one number on doesn't wait but for the first that is known to
-pub record IsSought (d : Direction) (sent : List Sent) (number first : ℕ) : Type 0 where
-  pub last : IsLast d (before first sent) number
-  pub within : first ≤ length sent
-  pub waits : (s : Sent) → 0 < first → slice_get sent (first - 1) ≡ Some s → (s.given ≡ false) × (same_queue d s.direction ≡ true)
+-- of the queue of a direction, the one behind this number has the number `next`, or there is none and `next` is 0
+pub record IsFollowed (d : Direction) (sent : List Sent) (number next : ℕ) : Type 0 where
+  pub last : IsLast d (before next sent) number
+  pub within : next ≤ length sent
+  pub found : (s : Sent) → 0 < next → slice_get sent (next - 1) ≡ Some s → same_queue d s.direction ≡ true
+
+-- the number that the link of the last in a queue tells as the first that waits there, 0 where there is no last
+abbrev pub first_in : List Link → ℕ → ℕ
+first_in links zero = 0
+first_in links (suc place) = unwrap_or (option_map (λ (k : Link). k.first) (slice_get links place)) 0
+
+-- the first that waits once one more is put
+abbrev pub first_with : ℕ → ℕ → ℕ
+first_with zero number = number
+first_with (suc waiting) number = suc waiting
+
+abbrev pub with_next : ℕ → ℕ → List Link → List Link
+with_next zero number links = links
+with_next (suc place) number links = unwrap_or (option_map (λ (k : Link). set links place (record { next = number; first = k.first })) (slice_get links place)) links
+
+abbrev pub with_first : ℕ → ℕ → List Link → List Link
+with_first zero number links = links
+with_first (suc place) number links = unwrap_or (option_map (λ (k : Link). set links place (record { next = k.next; first = number })) (slice_get links place)) links
+
+-- with each mail the number of the one behind it in its queue is kept, and with the last of each queue that of the first that waits there
+pub record AreLinked (sent : List Sent) (m : LastsByAgent) (links : List Link) : Type 0 where
+  pub as_many : length links ≡ length sent
+  pub followed : (i : ℕ) (s : Sent) (k : Link) → slice_get sent i ≡ Some s → slice_get links i ≡ Some k → same_queue s.direction s.direction ≡ true → IsFollowed s.direction sent (suc i) k.next
+  pub firsts : (d : Direction) → IsFirstOrNone d (items_of sent) (first_in links (last_in m d))

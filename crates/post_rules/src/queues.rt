@@ -105,7 +105,7 @@ impl Post for Queues {
 }
 
 impl Queues {
-    /// The number of the first that waits in the queue of a direction, None where nothing waits there; calls wait in none. It takes time for each that waits.
+    /// The number of the first that waits in the queue of a direction, None where nothing waits there; calls wait in none.
     pub fn first_waiting(&self, direction: Direction) -> Option<u64>
         ensures first { IfSome result (IsFirstWaiting direction self.now.items) }
         ensures none { IfNone result (nothing_waits direction self.now.items ≡ true) }

@@ -3,7 +3,7 @@
 ghost use Rattle.std.specs.Prelude.{◌≡◌, ◌<◌, ◌≤◌, ◌-◌, ◌+◌, ◌++◌, ◌∷◌, [], ℕ, suc, Bool, true, false, length, not, ◌||◌, nat_eq, if◌then◌else◌, set, slice_get, take, vec_capacity, IfNone, IfSome, OnOk, Some};
 ghost use Rattle.std.specs.HashMap.{spare};
 ghost use Rattle.post_rules.specs.Queueing.{IsFirstWaiting, direction_in, hands_out, is_next, nothing_waits, same_queue, with_given, with_put};
-ghost use Rattle.post_rules.specs.Stores.{AreInOrder, IsFirstOrNone, IsLast, given_sent, items_of, lasts_of, last_in};
+ghost use Rattle.post_rules.specs.Stores.{AreInOrder, first_in, first_with, given_sent, items_of, lasts_of, last_in, with_first, with_next};
 
 use crate::direction::Direction;
 use std::alloc::{AllocError, Global};
@@ -26,10 +26,20 @@ struct Lasts {
     from_agent: usize,
 }
 
-/// All that was put, with the last numbers of each agent.
+/// What is kept of an item's queue beside it.
+#[derive(Clone, Copy)]
+struct Link {
+    /// The number of the one behind it in its queue; 0 where there is none.
+    next: usize,
+    /// Of the last in a queue, the number of the first that waits there; 0 where nothing does. Of others it says nothing.
+    first: usize,
+}
+
+/// All that was put, each with its link, and the last numbers of each agent.
 #[derive(Drop)]
 pub(crate) struct Stores {
     sent: Vec<Sent>,
+    links: Vec<Link>,
     lasts: HashMap<usize, Lasts>,
 }
 
@@ -37,13 +47,13 @@ impl Model for Stores {
     ghost use Rattle.std.specs.Prelude.{◌-◌, length, min, vec_capacity};
     ghost use Rattle.std.specs.HashMap.{spare};
     ghost use Rattle.post_rules.specs.Queueing.{Post as Kept};
-    ghost use Rattle.post_rules.specs.Stores.{AreInOrder, AreLasts, items_of};
+    ghost use Rattle.post_rules.specs.Stores.{AreInOrder, AreLasts, AreLinked, items_of};
 
     ghost Value = { Kept };
 
-    ghost view = { λ q. record { items = items_of q.sent.items; room = min (vec_capacity q.sent - length q.sent.items) (spare q.lasts) } };
+    ghost view = { λ q. record { items = items_of q.sent.items; room = min (min (vec_capacity q.sent - length q.sent.items) (vec_capacity q.links - length q.links.items)) (spare q.lasts) } };
 
-    ghost invariant = { λ q. AreInOrder q.sent.items × AreLasts q.sent.items q.lasts };
+    ghost invariant = { λ q. AreInOrder q.sent.items × AreLasts q.sent.items q.lasts × AreLinked q.sent.items q.lasts q.links.items };
 }
 
 fn lasts_of(lasts: &HashMap<usize, Lasts>, agent: usize) -> Lasts
@@ -111,19 +121,43 @@ fn is_next(sent: &[Sent], index: usize) -> bool
     }
 }
 
-/// The number of the first that waits in the queue of a direction, whose last has this number; 0 where nothing waits there.
-fn first_of(sent: &[Sent], _direction: Direction, last: usize) -> usize
-    requires order { AreInOrder sent.now }
-    requires last { IsLast _direction sent.now last }
-    ensures { IsFirstOrNone _direction (items_of sent.now) result }
+/// The number of the first that waits in the queue whose last has this number; 0 where nothing waits there.
+fn first_in(links: &[Link], last: usize) -> usize
+    requires { last ≤ length links.now }
+    ensures { result ≡ first_in links.now last }
 {
-    let mut first = 0;
-    let mut number = last;
-    while number > 0 && !sent[number - 1].given {
-        first = number;
-        number = sent[number - 1].previous;
+    if last == 0 { 0 } else { links[last - 1].first }
+}
+
+/// Which is the first that waits once this number is put, where the first that waited before has that one, or none did and it is 0.
+fn first_with(waiting: usize, number: usize) -> usize
+    ensures { result ≡ first_with waiting number }
+{
+    if waiting == 0 { number } else { waiting }
+}
+
+/// This number is the first that waits in the queue whose last has that number, if there is one.
+fn set_first(links: &mut Vec<Link>, last: usize, number: usize)
+    requires { last ≤ length links.old.items }
+    ensures items { links.new.items ≡ with_first last number links.old.items }
+    ensures room { vec_capacity links.new ≡ vec_capacity links.old }
+{
+    if last > 0 {
+        let link = &mut links[last - 1];
+        link.first = number;
     }
-    first
+}
+
+/// This number is the one behind that number in its queue, if there is one.
+fn set_next(links: &mut Vec<Link>, before: usize, number: usize)
+    requires { before ≤ length links.old.items }
+    ensures items { links.new.items ≡ with_next before number links.old.items }
+    ensures room { vec_capacity links.new ≡ vec_capacity links.old }
+{
+    if before > 0 {
+        let link = &mut links[before - 1];
+        link.next = number;
+    }
 }
 
 fn hand_out(sent: &mut Vec<Sent>, index: usize)
@@ -141,6 +175,7 @@ impl Stores {
     {
         Stores {
             sent: Vec::new(alloc),
+            links: Vec::new(alloc),
             lasts: HashMap::new(alloc),
         }
     }
@@ -151,6 +186,7 @@ impl Stores {
         ensures items { self.new.items ≡ self.old.items }
     {
         self.sent.reserve(more)?;
+        self.links.reserve(more)?;
         self.lasts.reserve(more)
     }
 
@@ -165,12 +201,19 @@ impl Stores {
         ensures directions { (n : ℕ) → n ≤ length self.old.items → direction_in self.new.items n ≡ direction_in self.old.items n }
     {
         let previous = last_in(&self.lasts, direction);
+        let waiting = first_in(&self.links, previous);
         self.sent.push_reserved(Sent {
             direction,
             previous,
             given: false,
         });
-        set_last(&mut self.lasts, direction, self.sent.len());
+        let number = self.sent.len();
+        set_next(&mut self.links, previous, number);
+        self.links.push_reserved(Link {
+            next: 0,
+            first: first_with(waiting, number),
+        });
+        set_last(&mut self.lasts, direction, number);
     }
 
     pub(crate) fn can_give(&self, n: u64) -> bool
@@ -179,12 +222,12 @@ impl Stores {
         0 < n && is_next(&self.sent, (n - 1) as usize)
     }
 
-    /// The number of the first that waits in the queue of a direction, None where nothing waits there. It takes time for each that waits.
+    /// The number of the first that waits in the queue of a direction, None where nothing waits there.
     pub(crate) fn first_waiting(&self, direction: Direction) -> Option<u64>
         ensures first { IfSome result (IsFirstWaiting direction self.now.items) }
         ensures none { IfNone result (nothing_waits direction self.now.items ≡ true) }
     {
-        let first = first_of(&self.sent, direction, last_in(&self.lasts, direction));
+        let first = first_in(&self.links, last_in(&self.lasts, direction));
         if first == 0 {
             return None;
         }
@@ -200,6 +243,10 @@ impl Stores {
         ensures once { hands_out self.new.items n ≡ false }
         ensures directions { (m : ℕ) → direction_in self.new.items m ≡ direction_in self.old.items m }
     {
-        hand_out(&mut self.sent, (n - 1) as usize);
+        let index = (n - 1) as usize;
+        let last = last_in(&self.lasts, self.sent[index].direction);
+        let next = self.links[index].next;
+        hand_out(&mut self.sent, index);
+        set_first(&mut self.links, last, next);
     }
 }

@@ -45,7 +45,7 @@ impl<P: Post + Drop> Cluster<P> {
 }
 
 impl Cluster<Queues> {
-    /// The number of the first mail to an agent that wasn't handed out, None where there is none. It takes time for each that waits.
+    /// The number of the first mail to an agent that wasn't handed out, None where there is none.
     pub fn first_mail(&self, agent: &AgentName) -> Option<u64>
         ensures first { IfSome result (IsNextTo agent.now (state_of self.now.story) self.now.post.items) }
         ensures none { IfNone result (NoneTo agent.now (state_of self.now.story) self.now.post.items) }
@@ -56,8 +56,7 @@ impl Cluster<Queues> {
         self.post.first_waiting(Direction::ToAgent(place))
     }
 
-    /// The number of the first mail from an agent to the master that wasn't handed out, None where there is none. It takes time for each
-    /// that waits.
+    /// The number of the first mail from an agent to the master that wasn't handed out, None where there is none.
     pub fn first_mail_from(&self, agent: &AgentName) -> Option<u64>
         ensures first { IfSome result (IsNextFrom agent.now (state_of self.now.story) self.now.post.items) }
         ensures none { IfNone result (NoneFrom agent.now (state_of self.now.story) self.now.post.items) }

@@ -4,6 +4,7 @@ use Rattle.post_rules.specs.Queueing.{direction_in, hands_out, with_given}
 use Rattle.post_rules.specs.Stores.{given_sent, item_of, items_of}
 use Rattle.post_rules.proofs.Handing.{item_at}
 use Rattle.post_rules.proofs.Keeping.{as_many, directions_stay, given_at, given_once, hands_out_front, items_with_given, lasts_there, lasts_with_given, order_after_front, order_along}
+use Rattle.post_rules.proofs.Linking.{length_with_first, linked_then}
 use Rattle.post_rules.proofs.stores.Stores.given.Goals as goal
 
 pub invariant_of-self : goal.invariant_of-self
@@ -14,6 +15,7 @@ invariant_of-self c =
     let is = c.hand_out.ensures.items front.0 front.1.at in (
       order_along _ _ is (order_after_front xs (c.args.n - 1) front.0 c.self.invariant.0 front.1),
       lasts_there _ _ c.self.inside.lasts is (lasts_with_given xs c.self.inside.lasts (c.args.n - 1) front.0 front.1.at c.self.invariant.1),
+      linked_then xs _ c.self.inside.lasts c.self.inside.links.items _ (c.args.n - 1) _ front.0 _ _ c.self.invariant.0 c.self.invariant.1 c.self.invariant.2 front.1 c.index.ensures c.index-2.ensures is c.last_in-last.ensures c.set_first.ensures.items,
     )
 
 pub returns-clause-items : goal.returns-clause-items
@@ -49,7 +51,8 @@ returns-clause-room c =
     let front = hands_out_front xs c.args.n gives in
     let is = c.hand_out.ensures.items front.0 front.1.at in
     let many : length c.hand_out.new.sent.items ≡ length xs = ap length is ∙ length-set xs (c.args.n - 1) (given_sent front.0) in
-    rw (c.hand_out.ensures.room, many) (ap (λ p. p.room) c.self.view_is)
+    let links : length c.set_first.new.links.items ≡ length c.self.inside.links.items = ap length c.set_first.ensures.items ∙ length_with_first _ _ c.self.inside.links.items in
+    rw (c.hand_out.ensures.room, many, c.set_first.ensures.room, links) (ap (λ p. p.room) c.self.view_is)
 
 pub returns-clause-directions : goal.returns-clause-directions
 returns-clause-directions c m =

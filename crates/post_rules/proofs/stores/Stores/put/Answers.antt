@@ -1,9 +1,10 @@
-use Rattle.std.proofs.Common.{◌≡◌, ◌+◌, List, [], ◌∷◌, ◌++◌, length, false, refl, ap, arith}
+use Rattle.std.proofs.Common.{◌≡◌, ◌+◌, List, [], ◌∷◌, ◌++◌, length, false, refl, ap, ◌∙◌, arith}
 use Rattle.std.proofs.lemmas.List.{length-append, map-append}
 use Rattle.post_rules.specs.declared.stores.Sent.{Sent}
 use Rattle.post_rules.specs.Queueing.{Item}
-use Rattle.post_rules.specs.Stores.{item_of, items_of}
+use Rattle.post_rules.specs.Stores.{first_in, item_of, items_of}
 use Rattle.post_rules.proofs.Keeping.{lasts_there, lasts_with_more, newest_can_go, newest_direction, older_directions_stay, older_stay, order_along, order_with_more}
+use Rattle.post_rules.proofs.Linking.{linked_behind}
 use Rattle.post_rules.proofs.stores.Stores.put.Goals as goal
 
 pub invariant_of-self : goal.invariant_of-self
@@ -11,10 +12,13 @@ invariant_of-self c =
     let xs = c.self.inside.sent.items in
     let s : Sent = record { direction = c.args.direction; previous = c.last_in-previous.result; given = false } in
     let more : length (xs ++ s ∷ []) ≡ length xs + 1 = length-append xs (s ∷ []) in
-    let number : c.len.result ≡ length xs + 1 = omega (arith, c.len.ensures, c.push_reserved.ensures.len, c.self.inside) in
+    let number : c.len-number.result ≡ length xs + 1 = omega (arith, c.len-number.ensures, c.push_reserved.ensures.len, c.self.inside) in
     let lasts = rw number at c.set_last.ensures.lasts in (
       order_along (xs ++ s ∷ []) _ c.push_reserved.ensures.items (order_with_more xs s c.self.invariant.0 (rw c.last_in-previous.ensures (c.self.invariant.1 c.args.direction)) refl),
       lasts_there (xs ++ s ∷ []) _ c.set_last.new.lasts c.push_reserved.ensures.items (lasts_with_more xs c.self.inside.lasts c.set_last.new.lasts s c.self.invariant.1 lasts),
+      linked_behind xs _ c.self.inside.lasts c.set_last.new.lasts c.self.inside.links.items _ _ s _ _ _ _ refl c.self.invariant.0 c.self.invariant.1 c.self.invariant.2
+          number c.last_in-previous.ensures (c.first_in-waiting.ensures ∙ ap (λ ls. first_in ls c.last_in-previous.result) c.deref.ensures.value) c.first_with.ensures c.set_last.ensures.lasts
+          c.push_reserved.ensures.items c.set_next.ensures.items c.push_reserved-2.ensures.items,
     )
 
 items_then : (xs ys : List Sent) (s : Sent) (items : List Item) → ys ≡ xs ++ s ∷ [] → items_of xs ≡ items → items_of ys ≡ items ++ item_of s ∷ []
