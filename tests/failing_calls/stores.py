@@ -17,13 +17,14 @@ import tempfile
 from failing import SECONDS, Control
 from task import AT_ONCE, OWNS, run
 from cluster import PROGRAM, Folder, Server, check, free_port, run_serve
-from store_files import FIRST_KEPT, FIRST_TABLES, RECORD_KEPT, TABLES, made, run_kept
+from store_files import FIRST_KEPT, FIRST_TABLES, RECORD_KEPT, SECOND_KEPT, SECOND_TABLES, TABLES, made, run_kept
 
 FAULT = "K1 Store "
 # What a folder has at a start: the statements of the agent's store, and of the master's.
 FOLDERS = {
     "an empty folder": None,
     "a record": (RECORD_KEPT, run_kept(1, TABLES)),
+    "a record with its total in the head": (SECOND_KEPT, run_kept(1, SECOND_TABLES)),
     "a record of one text": (FIRST_KEPT, run_kept(1, FIRST_TABLES)),
 }
 

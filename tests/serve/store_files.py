@@ -8,10 +8,14 @@ FIRST_TABLES = """
 CREATE TABLE agent_record(id INTEGER PRIMARY KEY CHECK (id = 1), body TEXT NOT NULL);
 CREATE TABLE run_number(id INTEGER PRIMARY KEY CHECK (id = 1), last INTEGER NOT NULL);
 """
-# Those of one that keeps its head in a row and each task in a row.
-TABLES = f"""{FIRST_TABLES}
+# Those of one that keeps its head in a row, with the total, and each task in a row.
+SECOND_TABLES = f"""{FIRST_TABLES}
 CREATE TABLE agent_head(id INTEGER PRIMARY KEY CHECK (id = 1), name TEXT NOT NULL, run INTEGER NOT NULL, session INTEGER NOT NULL, total TEXT NOT NULL, version INTEGER NOT NULL);
 CREATE TABLE agent_task(run INTEGER NOT NULL, n INTEGER NOT NULL, body TEXT NOT NULL, PRIMARY KEY (run, n));
+"""
+# Those of one that keeps each amount of the total in a row as well.
+TABLES = f"""{SECOND_TABLES}
+CREATE TABLE agent_total(name TEXT PRIMARY KEY, amount INTEGER NOT NULL);
 """
 
 
@@ -26,10 +30,13 @@ TASK = task_text(1, "t1", {"cpus": 1}, ["TASK_RUNNING"], acked=1)
 RECORD = f'{{"name":"a1","run":1,"session":5,"tasks":[{TASK}],"total":{{"cpus":2}},"version":1}}'
 # The statements of a store that has the record as one text.
 FIRST_KEPT = f"{FIRST_TABLES} INSERT INTO agent_record VALUES (1, '{RECORD}');"
-HEAD_KEPT = """ INSERT INTO agent_head VALUES (1, 'a1', 1, 5, '{"cpus":2}', 1);"""
 TASK_KEPT = f" INSERT INTO agent_task VALUES (1, 1, '{TASK}');"
-# And of one that has its rows.
-RECORD_KEPT = TABLES + HEAD_KEPT + TASK_KEPT
+# Of one that has its rows, with the total in the head.
+SECOND_KEPT = SECOND_TABLES + """ INSERT INTO agent_head VALUES (1, 'a1', 1, 5, '{"cpus":2}', 1);""" + TASK_KEPT
+# And of one that has the total in rows as well.
+HEAD_KEPT = " INSERT INTO agent_head VALUES (1, 'a1', 1, 5, '{}', 2);"
+TOTAL_KEPT = " INSERT INTO agent_total VALUES ('cpus', 2);"
+RECORD_KEPT = TABLES + HEAD_KEPT + TOTAL_KEPT + TASK_KEPT
 
 
 def run_kept(last, tables=TABLES):
@@ -60,4 +67,6 @@ def record_text(store):
     if not heads:
         return texts[0] if texts else None
     ((name, run, session, total, version),) = heads
+    if version == 2:
+        total = json.dumps(dict(rows_of(store, "agent_total", "SELECT name, amount FROM agent_total ORDER BY name")), separators=(",", ":"))
     return f'{{"name":"{name}","run":{run},"session":{session},"tasks":[{",".join(bodies)}],"total":{total},"version":{version}}}'

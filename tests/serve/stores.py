@@ -1,7 +1,8 @@
 #!/usr/bin/env python3
 """Records in files that SQLite wrote, cut, overwritten or of another program: a good one is opened again, each other one is refused, and stays as it is.
 
-A record stands in rows, a head's and each task's, or as one text, as stores had it before: such a one is opened as well, and its first save moves it.
+A record stands in rows, a head's, each task's and each amount's of its total. Stores had it as one text before, and then in rows with the total in the head: such
+ones are opened as well, and their first save moves them.
 """
 import json
 import os
@@ -10,7 +11,8 @@ from contextlib import closing
 
 from cluster import TOLD, Folder, Framework, Server, amounts, check, run_serve, tell
 from store_files import (
-    FIRST_KEPT, FIRST_TABLES, HEAD_KEPT, RECORD, RECORD_KEPT, TABLES, TASK, TASK_KEPT, made, record_text, run_kept, task_text,
+    FIRST_KEPT, FIRST_TABLES, HEAD_KEPT, RECORD, RECORD_KEPT, SECOND_KEPT, SECOND_TABLES, TABLES, TASK, TASK_KEPT, TOTAL_KEPT, made, record_text, run_kept,
+    task_text,
 )
 
 AGENTS = {"a1": {"cpus": 2}}
@@ -73,13 +75,30 @@ class Stores:
             check(it.read() == data, f"{case}: the file is as it was, byte by byte")
 
     def refuse_text(self, case, data):
-        """A record that stands as one text is refused, and stays as it is: the store has two tables more, which are empty."""
+        """A record that stands as one text is refused, and stays as it is: the store has three tables more, which are empty."""
         self.lay(data)
         before = self.rows("SELECT * FROM agent_record")
         tell(case, run_serve(self.folder), 3, "K2 Damaged: ")
         check(self.rows("SELECT * FROM agent_record") == before, f"{case}: the text is as it was")
-        for table in ("agent_head", "agent_task"):
+        for table in ("agent_head", "agent_task", "agent_total"):
             check(self.rows(f"SELECT count(*) FROM {table}") == [(0,)], f"{case}: {table} is empty")
+
+    def refuse_second(self, case, data):
+        """A record in rows with the total in the head is refused, and stays as it is: the store has one table more, which is empty."""
+        self.lay(data, tables=SECOND_TABLES)
+        queries = ("SELECT * FROM agent_head", "SELECT * FROM agent_task")
+        before = [self.rows(query) for query in queries]
+        tell(case, run_serve(self.folder), 3, "K2 Damaged: ")
+        check([self.rows(query) for query in queries] == before, f"{case}: the rows are as they were")
+        check(self.rows("SELECT count(*) FROM agent_total") == [(0,)], f"{case}: agent_total is empty")
+
+    def has_moved(self, case, session, run):
+        """The record of cpus 2 stands in rows of version 2."""
+        head = self.rows("SELECT * FROM agent_head")
+        check(head == [(1, b"a1", run, session, b"{}", 2)], f"{case}: the head's row is that of session {session}: {head}")
+        total = self.rows("SELECT name, amount FROM agent_total")
+        check(total == [(b"cpus", 2)], f"{case}: the total's row is that of the record: {total}")
+        check(self.rows("SELECT run, n, body FROM agent_task") == [(1, 1, TASK.encode())], f"{case}: the task's row has what there was")
 
 
 def overwritten(data, at, others):
@@ -98,10 +117,16 @@ def try_first(stores):
     """A record that stands as one text is opened over, and moved: it stands in rows then, whose task is the one that stood in the text."""
     stores.lay(stores.make(stores.agent, FIRST_KEPT), tables=FIRST_TABLES)
     stores.serve("a record of one text", run=2, session=6, free={"cpus": 1})
-    check(stores.rows("SELECT run, n, body FROM agent_task") == [(1, 1, TASK.encode())], "the task's row has what the text had")
-    head = stores.rows("SELECT * FROM agent_head")
-    check(head == [(1, b"a1", 2, 6, b'{"cpus":2}', 1)], f"the head's row is that of session 6: {head}")
+    stores.has_moved("a record of one text", session=6, run=2)
     stores.serve("a record that was moved", run=3, session=7, free={"cpus": 1})
+
+
+def try_second(stores):
+    """A record in rows with its total in the head is opened over, and moved: the total stands in rows then."""
+    stores.lay(stores.make(stores.agent, SECOND_KEPT), tables=SECOND_TABLES)
+    stores.serve("a total in the head", run=2, session=6, free={"cpus": 1})
+    stores.has_moved("a total in the head", session=6, run=2)
+    stores.serve("a total that was moved", run=3, session=7, free={"cpus": 1})
 
 
 def launched():
@@ -109,10 +134,12 @@ def launched():
     body = task_text(1, "t1", {"cpus": 2, "mem": 1024}, [])
     total = '{"cpus":4,"mem":4096}'
     text = f'{{"name":"a1","run":1,"session":1,"tasks":[{body}],"total":{total},"version":1}}'
-    rows = f"INSERT INTO agent_head VALUES (1, 'a1', 1, 1, '{total}', 1); INSERT INTO agent_task VALUES (1, 1, '{body}');"
+    task = f"INSERT INTO agent_task VALUES (1, 1, '{body}');"
+    amounts = "INSERT INTO agent_total VALUES ('mem', 4096), ('cpus', 4);"
     return (
         ("one text", f"{FIRST_TABLES} INSERT INTO agent_record VALUES (1, '{text}');"),
-        ("rows", f"{TABLES} {rows}"),
+        ("rows with the total in the head", f"{SECOND_TABLES} INSERT INTO agent_head VALUES (1, 'a1', 1, 1, '{total}', 1); {task}"),
+        ("rows", f"{TABLES} INSERT INTO agent_head VALUES (1, 'a1', 1, 1, '{{}}', 2); {amounts} {task}"),
     )
 
 
@@ -165,7 +192,9 @@ def try_others(stores):
     loose = "CREATE TABLE agent_record (id INTEGER PRIMARY KEY, body TEXT); CREATE TABLE run_number (id INTEGER PRIMARY KEY, last INTEGER);"
     stores.refuse("tables without their limits", stores.make(stores.agent, loose), "K2 Damaged: ")
     three = FIRST_TABLES + "CREATE TABLE agent_task(run INTEGER NOT NULL, n INTEGER NOT NULL, body TEXT NOT NULL, PRIMARY KEY (run, n));"
-    stores.refuse("three tables of the four", stores.make(stores.agent, three), "K2 Damaged: ")
+    stores.refuse("three tables of the five", stores.make(stores.agent, three), "K2 Damaged: ")
+    strict = f"{SECOND_TABLES} CREATE TABLE agent_total(name TEXT PRIMARY KEY NOT NULL, amount INTEGER NOT NULL);"
+    stores.refuse("a total's table of another kind", stores.make(stores.agent, strict), "K2 Damaged: ")
     stores.refuse("a table more", stores.make(stores.agent, f"{TABLES} CREATE TABLE note (id INTEGER PRIMARY KEY);"), "K2 Damaged: ")
 
 
@@ -180,7 +209,7 @@ def try_overwritten(stores, whole, page):
     for at in (0, 16, 21, 100):
         stores.refuse(f"byte {at} overwritten", overwritten(whole, at, b"\x03"), "K1 Store ")
     stores.refuse("no header", overwritten(whole, 0, bytes(100)), "K1 Store ")
-    for table, words in (("head", b'{"cpus":2}'), ("task", TASK.encode())):
+    for table, words in (("head", b"{}"), ("task", TASK.encode())):
         text = whole.index(words)
         start = text - text % page
         # No page is of the kind 3.
@@ -188,6 +217,11 @@ def try_overwritten(stores, whole, page):
         stores.refuse(f"a {table}'s page of zeros", overwritten(whole, start, bytes(page)), "K1 Store ")
         stores.refuse(f"a list in the {table}", overwritten(whole, text, b"["), "K2 Damaged: ")
         stores.refuse(f"a {table} that isn't UTF-8", overwritten(whole, text, b"\xff\xff"), "K2 Damaged: ")
+    name = whole.index(b"cpus\x02")
+    start = name - name % page
+    stores.refuse("a total's page of no kind", overwritten(whole, start, b"\x03"), "K1 Store ")
+    stores.refuse("a total's page of zeros", overwritten(whole, start, bytes(page)), "K1 Store ")
+    stores.refuse("a resource that isn't UTF-8", overwritten(whole, name, b"\xff\xff"), "K2 Damaged: ")
 
 
 def try_damaged_text(stores, first, page):
@@ -220,26 +254,46 @@ def try_texts(stores):
 
 
 def try_rows(stores):
-    """A record stands in one form; the head's row has its written total, and a task's row the written form of the task of its key."""
+    """A record stands in one form; the head's row has no total, a total's row an amount of a resource, and a task's row the written form of the task of its
+    key."""
     text = f"INSERT INTO agent_record VALUES (1, '{RECORD}');"
     for case, statements in (
         ("rows of both forms", RECORD_KEPT + text),
         ("tasks without a head", TABLES + TASK_KEPT),
+        ("amounts without a head", TABLES + TOTAL_KEPT),
+        ("a text beside amounts", TABLES + TOTAL_KEPT + text),
+        ("a total in the head beside amounts", RECORD_KEPT.replace("'{}', 2)", """'{"cpus":2}', 2)""")),
+        ("a head of version 1 beside amounts", RECORD_KEPT.replace("'{}', 2)", """'{"cpus":2}', 1)""")),
+        ("an amount of 0", RECORD_KEPT + " INSERT INTO agent_total VALUES ('mem', 0);"),
+        ("an amount below 0", RECORD_KEPT + " INSERT INTO agent_total VALUES ('mem', -1);"),
+        ("an amount over 2^40", RECORD_KEPT + " INSERT INTO agent_total VALUES ('mem', 1099511627777);"),
+        ("an amount that is a text", RECORD_KEPT + " INSERT INTO agent_total VALUES ('mem', 'much');"),
+        ("a name with a blank", RECORD_KEPT + " INSERT INTO agent_total VALUES ('a b', 1);"),
+        ("no name", RECORD_KEPT + " INSERT INTO agent_total VALUES (NULL, 1);"),
+        ("nine names", RECORD_KEPT + "".join(f" INSERT INTO agent_total VALUES ('r{i}', 1);" for i in range(8))),
+        ("a total that is less than its tasks hold", RECORD_KEPT.replace(TOTAL_KEPT, " INSERT INTO agent_total VALUES ('mem', 2);")),
         ("a text beside tasks", TABLES + TASK_KEPT + text),
         ("a body of another key", RECORD_KEPT.replace("agent_task VALUES (1, 1,", "agent_task VALUES (1, 2,")),
         ("a body of another run", RECORD_KEPT.replace("agent_task VALUES (1, 1,", "agent_task VALUES (2, 1,")),
         ("a key past 32 bits", RECORD_KEPT.replace("agent_task VALUES (1, 1,", "agent_task VALUES (1, 4294967297,")),
         ("a body with a blank", RECORD_KEPT.replace('"name":"t1"', '"name": "t1"')),
-        ("a body that is no text", TABLES + HEAD_KEPT + f"INSERT INTO agent_task VALUES (1, 1, CAST('{TASK}' AS BLOB));"),
+        ("a body that is no text", TABLES + HEAD_KEPT + TOTAL_KEPT + f"INSERT INTO agent_task VALUES (1, 1, CAST('{TASK}' AS BLOB));"),
         ("a task that is settled", RECORD_KEPT.replace('["TASK_RUNNING"]', '["TASK_FINISHED"]')),
         ("tasks that hold more than there is", RECORD_KEPT.replace('"resources":{"cpus":1}', '"resources":{"cpus":3}')),
-        ("a head of another version", RECORD_KEPT.replace("""'{"cpus":2}', 1)""", """'{"cpus":2}', 2)""")),
-        ("a total with a blank", RECORD_KEPT.replace('{"cpus":2}', '{"cpus": 2}')),
+        ("a head of another version", RECORD_KEPT.replace("'{}', 2)", "'{}', 3)")),
+        ("a total with a blank in it", RECORD_KEPT.replace("'{}', 2)", "'{ }', 2)")),
         ("a session past 32 bits", RECORD_KEPT.replace("'a1', 1, 5,", "'a1', 1, 4294967296,")),
         ("a session of run 0 in rows", RECORD_KEPT.replace("'a1', 1, 5,", "'a1', 0, 5,")),
     ):
         check(statements != RECORD_KEPT, f"{case} is another")
         stores.refuse(case, stores.make(stores.agent, statements), "K2 Damaged: ")
+    for case, statements in (
+        ("a total with a blank in a head of version 1", SECOND_KEPT.replace('{"cpus":2}', '{"cpus": 2}')),
+        ("a head of version 2 with its total in it", SECOND_KEPT.replace("""'{"cpus":2}', 1)""", """'{"cpus":2}', 2)""")),
+        ("tasks without a head of version 1", SECOND_TABLES + TASK_KEPT),
+    ):
+        check(statements != SECOND_KEPT, f"{case} is another")
+        stores.refuse_second(case, stores.make(stores.agent, statements))
 
 
 def try_runs(stores, whole):
@@ -264,6 +318,7 @@ def main():
         page = int.from_bytes(whole[16:18], "big")
         try_good(stores, whole)
         try_first(stores)
+        try_second(stores)
         try_launched(stores, folder)
         try_grown(stores, folder)
         try_new(stores)
@@ -274,7 +329,7 @@ def main():
         try_runs(stores, whole)
         try_cuts(stores, whole, page)
         try_overwritten(stores, whole, page)
-        print("a store that SQLite wrote is opened again, in rows or with its record as one text, which is moved; one that isn't there or has no bytes is new; "
+        print("a store that SQLite wrote is opened again, in rows, with its total in the head or with its record as one text, which are moved; one that isn't there or has no bytes is new; "
               f"{len(TOLD)} others are refused, and stay as they are")
 
 

@@ -57,3 +57,38 @@ fn a_journal_stops_behind_a_text(rt: HostRuntime) {
 fn a_database_file_stops_behind_a_text(rt: HostRuntime) {
     assert!(rt; tests::a_database_file_stops_behind_a_text(rt.alloc()));
 }
+
+#[test]
+fn a_text_is_moved(rt: HostRuntime) {
+    assert!(rt; tests::a_text_is_moved(rt.alloc()));
+}
+
+#[test]
+fn rows_of_version_1_are_moved(rt: HostRuntime) {
+    assert!(rt; tests::rows_of_version_1_are_moved(rt.alloc()));
+}
+
+#[test]
+fn rows_that_do_not_fit_are_refused(rt: HostRuntime) {
+    assert!(rt; tests::rows_that_do_not_fit_are_refused(rt.alloc()));
+}
+
+#[test]
+fn a_journal_stops_behind_rows(rt: HostRuntime) {
+    assert!(rt; tests::a_journal_stops_behind_rows(rt.alloc()));
+}
+
+#[test]
+fn a_database_file_stops_behind_rows(rt: HostRuntime) {
+    assert!(rt; tests::a_database_file_stops_behind_rows(rt.alloc()));
+}
+
+#[test]
+fn a_journal_stops_in_a_rise(rt: HostRuntime) {
+    assert!(rt; tests::a_journal_stops_in_a_rise(rt.alloc()));
+}
+
+#[test]
+fn a_database_file_stops_in_a_rise(rt: HostRuntime) {
+    assert!(rt; tests::a_database_file_stops_in_a_rise(rt.alloc()));
+}

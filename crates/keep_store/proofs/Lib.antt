@@ -1,14 +1,9 @@
-pub mod TextLemmas
-pub mod RowLemmas
-pub mod StepLemmas
-pub mod ReadLemmas
+pub mod MoveLemmas
 pub mod OpenLemmas
-pub mod StoreLemmas
-pub mod QueryLemmas
 pub mod TaskLemmas
 pub mod ToldLemmas
 pub mod LoadLemmas
 pub mod SaveLemmas
 pub mod SeenLemmas
-pub mod MakeLemmas
 pub mod FoundLemmas
+pub mod HeadLemmas

@@ -23,11 +23,14 @@ use Rattle.record_text.specs.Texts.{record_form}
 use Rattle.record_text.specs.Written.{IsTask, IsDurable, IsWritten}
 use Rattle.record_text.specs.Reading.{◌>>=◌}
 use Rattle.record_text.proofs.Again.{one_record, one_written}
-use Rattle.keep_store.specs.Tables.{place_of}
-use Rattle.keep_store.specs.Kept.{AreTold, SomeUntold, Shows, IsDamaged, IsLoaded, IsRecordText, HoldsText, Gives, IsPut, Rise, Tells, body_in, head_of, head_told, kept_in, told, task_shown, tasks_in, text_of, with_tasks, value_in, shown_body}
-use Rattle.keep_store.specs.declared.fault.KeepFault.{KeepFault}
-use Rattle.keep_store.specs.declared.fault.KeepFault.TheVariants as fault
-use Rattle.keep_store.proofs.QueryLemmas.{has_permuted}
+use Rattle.keep_rows.specs.Tables.{place_of}
+use Rattle.keep_store.specs.Kept.{AreTold, SomeUntold, IsDamaged, IsLoaded, IsRecordText, HoldsText, IsPut, Rise, Tells, body_in, head_told, kept_in, told, tasks_in, text_of, with_tasks, value_in, shown_body}
+use Rattle.keep_rows.specs.Columns.{Gives}
+use Rattle.keep_rows.specs.Tables.{Shows, amount_shown, head_of, task_shown}
+use Rattle.keep_rows.specs.declared.fault.KeepFault.{KeepFault}
+use Rattle.keep_rows.specs.declared.fault.KeepFault.TheVariants as fault
+use Rattle.keep_rows.proofs.QueryLemmas.{has_permuted}
+use Rattle.keep_store.proofs.MoveLemmas.{no_amount_shown}
 use Rattle.keep_store.proofs.TaskLemmas.{tells_all}
 
 -- ---- the loop over the rows
@@ -146,50 +149,50 @@ empty db shown same none = go (db 3) refl
     go (t ∷ ts) is = absurd (omega (arith, none, length_permutation _ _ same, ap (λ (rows : List Row). length (map task_shown rows)) is))
 
 -- rows of tasks that are told are no whole text in any other form
-null_of_tasks : (old heads tasks : List Row) (t : Row) (ts : List Row) → tasks ≡ t ∷ ts → tasks_in tasks ≡ None → body_in old heads tasks ≡ Some Null
-null_of_tasks old heads tasks t ts is none = subst (λ all. tasks_in all ≡ None → body_in old heads all ≡ Some Null) (sym is) (go old heads) none
+null_of_tasks : (old heads tasks amounts : List Row) (t : Row) (ts : List Row) → tasks ≡ t ∷ ts → tasks_in tasks ≡ None → body_in old heads tasks amounts ≡ Some Null
+null_of_tasks old heads tasks amounts t ts is none = subst (λ all. tasks_in all ≡ None → body_in old heads all amounts ≡ Some Null) (sym is) (go old heads) none
   where
-    go : (old heads : List Row) → tasks_in (t ∷ ts) ≡ None → body_in old heads (t ∷ ts) ≡ Some Null
+    go : (old heads : List Row) → tasks_in (t ∷ ts) ≡ None → body_in old heads (t ∷ ts) amounts ≡ Some Null
     go [] [] none = refl
-    go [] (h ∷ hs) none = ap (λ (o : Option (List RecordedTask)). Some (text_of (o >>= λ told. head_told (head_of h) >>= λ d. Some (with_tasks told d)))) none
+    go [] (h ∷ hs) none = ap (λ (o : Option (List RecordedTask)). Some (text_of (o >>= λ told. head_told (head_of h) (map amount_shown amounts) >>= λ d. Some (with_tasks told d)))) none
     go (o ∷ os) [] none = refl
     go (o ∷ os) (h ∷ hs) none = refl
 
-pub untold_damaged : (db : Trees) (records heads tasks : List Row) → Shows db records heads tasks → SomeUntold tasks → IsDamaged (kept_in db).body
-untold_damaged db records heads tasks shows it =
+pub untold_damaged : (db : Trees) (records heads tasks amounts : List Row) → Shows db records heads tasks amounts → SomeUntold tasks → IsDamaged (kept_in db).body
+untold_damaged db records heads tasks amounts shows it =
     let was = has_permuted (map task_shown (db 3)) tasks it.0 shows.task_rows it.1 in
     let row = has_mapped task_shown (db 3) it.0 was in
     let none = absent (db 3) row.0 row.1 (sym (same_told row.0) ∙ ap told (sym row.2) ∙ it.2) in
     let first = first_of (db 3) row.0 row.1 in
-    damaged_null _ (null_of_tasks (db 0) (db 2) (db 3) first.0 first.1 first.2 none)
+    damaged_null _ (null_of_tasks (db 0) (db 2) (db 3) (db 5) first.0 first.1 first.2 none)
   where
     first_of : (rows : List Row) (r : Row) → Has rows r → (t : Row) × (ts : List Row) × (rows ≡ t ∷ ts)
     first_of [] r at = absurd at
     first_of (t ∷ ts) r at = (t, ts, refl)
 
-no_heads : (db : Trees) (records heads tasks : List Row) → Shows db records heads tasks → heads ≡ [] → db 2 ≡ []
-no_heads db records heads tasks shows none = go (db 2) (sym shows.head_rows ∙ none)
+no_heads : (db : Trees) (records heads tasks amounts : List Row) → Shows db records heads tasks amounts → heads ≡ [] → db 2 ≡ []
+no_heads db records heads tasks amounts shows none = go (db 2) (sym shows.head_rows ∙ none)
   where
     go : (rows : List Row) → map head_of rows ≡ [] → rows ≡ []
     go [] e = refl
     go (r ∷ rows) e = absurd cc
 
-no_records : (db : Trees) (records heads tasks : List Row) → Shows db records heads tasks → length records ≡ 0 → db 0 ≡ []
-no_records db records heads tasks shows none = go (db 0) (ap length (sym shows.old_rows) ∙ none)
+no_records : (db : Trees) (records heads tasks amounts : List Row) → Shows db records heads tasks amounts → length records ≡ 0 → db 0 ≡ []
+no_records db records heads tasks amounts shows none = go (db 0) (ap length (sym shows.old_rows) ∙ none)
   where
     go : (rows : List Row) → length (map (λ (row : Row). column row 2 ∷ []) rows) ≡ 0 → rows ≡ []
     go [] e = refl
     go (r ∷ rows) e = absurd (omega (arith, e))
 
-a_record : (db : Trees) (records heads tasks : List Row) → Shows db records heads tasks → length records ≢ 0 → (r : Row) × (rs : List Row) × (db 0 ≡ r ∷ rs)
-a_record db records heads tasks shows some = go (db 0) (ap length shows.old_rows) refl
+a_record : (db : Trees) (records heads tasks amounts : List Row) → Shows db records heads tasks amounts → length records ≢ 0 → (r : Row) × (rs : List Row) × (db 0 ≡ r ∷ rs)
+a_record db records heads tasks amounts shows some = go (db 0) (ap length shows.old_rows) refl
   where
     go : (rows : List Row) → length records ≡ length (map (λ (row : Row). column row 2 ∷ []) rows) → db 0 ≡ rows → (r : Row) × (rs : List Row) × (db 0 ≡ r ∷ rs)
     go [] e is = absurd (some e)
     go (r ∷ rs) e is = (r, rs, is)
 
-a_head : (db : Trees) (records heads tasks : List Row) (head : Row) (more : List Row) → Shows db records heads tasks → heads ≡ head ∷ more → (h : Row) × (hs : List Row) × (db 2 ≡ h ∷ hs) × (head ≡ head_of h)
-a_head db records heads tasks head more shows is = go (db 2) refl (sym is ∙ shows.head_rows)
+a_head : (db : Trees) (records heads tasks amounts : List Row) (head : Row) (more : List Row) → Shows db records heads tasks amounts → heads ≡ head ∷ more → (h : Row) × (hs : List Row) × (db 2 ≡ h ∷ hs) × (head ≡ head_of h)
+a_head db records heads tasks amounts head more shows is = go (db 2) refl (sym is ∙ shows.head_rows)
   where
     go : (rows : List Row) → db 2 ≡ rows → head ∷ more ≡ map head_of rows → (h : Row) × (hs : List Row) × (db 2 ≡ h ∷ hs) × (head ≡ head_of h)
     go [] there e = absurd cc
@@ -199,55 +202,67 @@ a_head db records heads tasks head more shows is = go (db 2) refl (sym is ∙ sh
         first e = cc
 
 -- tasks without a head
-pub headless_damaged : (db : Trees) (records heads tasks : List Row) → Shows db records heads tasks → heads ≡ [] → length tasks ≢ 0 → IsDamaged (kept_in db).body
-headless_damaged db records heads tasks shows none some =
+pub headless_damaged : (db : Trees) (records heads tasks amounts : List Row) → Shows db records heads tasks amounts → heads ≡ [] → length tasks ≢ 0 → IsDamaged (kept_in db).body
+headless_damaged db records heads tasks amounts shows none some =
     let t = nonempty db tasks shows.task_rows some in
-    damaged_null _ (rw (no_heads db records heads tasks shows none, t.2) (go (db 0) t.0 t.1))
+    damaged_null _ (rw (no_heads db records heads tasks amounts shows none, t.2) (go (db 0) t.0 t.1 (db 5)))
   where
-    go : (old : List Row) (t : Row) (ts : List Row) → body_in old [] (t ∷ ts) ≡ Some Null
-    go [] t ts = refl
-    go (o ∷ os) t ts = refl
+    go : (old : List Row) (t : Row) (ts amounts : List Row) → body_in old [] (t ∷ ts) amounts ≡ Some Null
+    go [] t ts amounts = refl
+    go (o ∷ os) t ts amounts = refl
 
--- no head and no task
-pub old_form : (db : Trees) (records heads tasks : List Row) → Shows db records heads tasks → heads ≡ [] → length tasks ≡ 0 → (kept_in db).body ≡ shown_body records
-old_form db records heads tasks shows none empty_tasks = rw (no_heads db records heads tasks shows none, empty db tasks shows.task_rows empty_tasks, shows.old_rows) (go (db 0))
+-- amounts without a head
+pub headless_total : (db : Trees) (records heads tasks amounts : List Row) → Shows db records heads tasks amounts → heads ≡ [] → length tasks ≡ 0 → length amounts ≢ 0 → IsDamaged (kept_in db).body
+headless_total db records heads tasks amounts shows none no_task some =
+    damaged_null _ (rw (no_heads db records heads tasks amounts shows none, empty db tasks shows.task_rows no_task) (go (db 0) (db 5) (λ e. some (length_permutation _ _ shows.amount_rows ∙ ap (λ (rows : List Row). length (map amount_shown rows)) e))))
   where
-    go : (old : List Row) → body_in old [] [] ≡ shown_body (map (λ (row : Row). column row 2 ∷ []) old)
+    go : (old rows : List Row) → rows ≢ [] → body_in old [] [] rows ≡ Some Null
+    go [] [] some = absurd (some refl)
+    go [] (a ∷ more) some = refl
+    go (o ∷ os) [] some = absurd (some refl)
+    go (o ∷ os) (a ∷ more) some = refl
+
+-- no head, no task and no amount
+pub old_form : (db : Trees) (records heads tasks amounts : List Row) → Shows db records heads tasks amounts → heads ≡ [] → length tasks ≡ 0 → length amounts ≡ 0 → (kept_in db).body ≡ shown_body records
+old_form db records heads tasks amounts shows none empty_tasks empty_amounts =
+    rw (no_heads db records heads tasks amounts shows none, empty db tasks shows.task_rows empty_tasks, no_amount_shown (db 5) amounts shows.amount_rows empty_amounts, shows.old_rows) (go (db 0))
+  where
+    go : (old : List Row) → body_in old [] [] [] ≡ shown_body (map (λ (row : Row). column row 2 ∷ []) old)
     go [] = refl
     go (r ∷ rs) = refl
 
 -- rows of both forms
-pub both_damaged : (db : Trees) (records heads tasks : List Row) (head : Row) (more : List Row) → Shows db records heads tasks → heads ≡ head ∷ more → length records ≢ 0 → IsDamaged (kept_in db).body
-both_damaged db records heads tasks head more shows is some =
-    let h = a_head db records heads tasks head more shows is in
-    let r = a_record db records heads tasks shows some in
+pub both_damaged : (db : Trees) (records heads tasks amounts : List Row) (head : Row) (more : List Row) → Shows db records heads tasks amounts → heads ≡ head ∷ more → length records ≢ 0 → IsDamaged (kept_in db).body
+both_damaged db records heads tasks amounts head more shows is some =
+    let h = a_head db records heads tasks amounts head more shows is in
+    let r = a_record db records heads tasks amounts shows some in
     damaged_null _ (rw (h.2, r.2) refl)
 
 abbrev told_by : Trees → Row → Option Durable
-told_by db head = tasks_in (db 3) >>= λ told. head_told head >>= λ d. Some (with_tasks told d)
+told_by db head = tasks_in (db 3) >>= λ told. head_told head (map amount_shown (db 5)) >>= λ d. Some (with_tasks told d)
 
-pub with_head : (old heads ts : List Row) (h : Row) (hs : List Row) → old ≡ [] → heads ≡ h ∷ hs
-    → body_in old heads ts ≡ Some (text_of (tasks_in ts >>= λ told. head_told (head_of h) >>= λ d. Some (with_tasks told d)))
-with_head old heads ts h hs none is = rw (none, is) refl
+pub with_head : (old heads ts amounts : List Row) (h : Row) (hs : List Row) → old ≡ [] → heads ≡ h ∷ hs
+    → body_in old heads ts amounts ≡ Some (text_of (tasks_in ts >>= λ told. head_told (head_of h) (map amount_shown amounts) >>= λ d. Some (with_tasks told d)))
+with_head old heads ts amounts h hs none is = rw (none, is) refl
 
-headed : (db : Trees) (records heads tasks : List Row) (head : Row) (more : List Row) → Shows db records heads tasks → heads ≡ head ∷ more → length records ≡ 0 → (kept_in db).body ≡ Some (text_of (told_by db head))
-headed db records heads tasks head more shows is none =
-    let h = a_head db records heads tasks head more shows is in
-    with_head (db 0) (db 2) (db 3) h.0 h.1 (no_records db records heads tasks shows none) h.2 ∙ ap (λ (row : Row). Some (text_of (told_by db row))) (sym h.3)
+headed : (db : Trees) (records heads tasks amounts : List Row) (head : Row) (more : List Row) → Shows db records heads tasks amounts → heads ≡ head ∷ more → length records ≡ 0 → (kept_in db).body ≡ Some (text_of (told_by db head))
+headed db records heads tasks amounts head more shows is none =
+    let h = a_head db records heads tasks amounts head more shows is in
+    with_head (db 0) (db 2) (db 3) (db 5) h.0 h.1 (no_records db records heads tasks amounts shows none) h.2 ∙ ap (λ (row : Row). Some (text_of (told_by db row))) (sym h.3)
 
 -- a head that tells no record
-pub unheaded_damaged : (db : Trees) (records heads tasks : List Row) (head : Row) (more : List Row) → Shows db records heads tasks → heads ≡ head ∷ more → length records ≡ 0 → head_told head ≡ None → IsDamaged (kept_in db).body
-unheaded_damaged db records heads tasks head more shows is none untold =
-    damaged_null _ (headed db records heads tasks head more shows is none ∙ ap (λ (o : Option Durable). Some (text_of o)) (go (tasks_in (db 3))))
+pub unheaded_damaged : (db : Trees) (records heads tasks amounts : List Row) (head : Row) (more : List Row) → Shows db records heads tasks amounts → heads ≡ head ∷ more → length records ≡ 0 → head_told head (map amount_shown (db 5)) ≡ None → IsDamaged (kept_in db).body
+unheaded_damaged db records heads tasks amounts head more shows is none untold =
+    damaged_null _ (headed db records heads tasks amounts head more shows is none ∙ ap (λ (o : Option Durable). Some (text_of o)) (go (tasks_in (db 3))))
   where
-    go : (o : Option (List RecordedTask)) → (o >>= λ told. head_told head >>= λ d. Some (with_tasks told d)) ≡ None
+    go : (o : Option (List RecordedTask)) → (o >>= λ told. head_told head (map amount_shown (db 5)) >>= λ d. Some (with_tasks told d)) ≡ None
     go None = refl
     go (Some ts) = ap (λ (o : Option Durable). o >>= λ d. Some (with_tasks ts d)) untold
 
 -- the text that is kept where the tasks rise
-pub text_kept : (db : Trees) (records heads tasks : List Row) (head : Row) (more : List Row) (ts : List RecordedTask) (d : Durable) → Shows db records heads tasks → heads ≡ head ∷ more → length records ≡ 0
-    → AreTold tasks ts → AllByRecursion IsTask ts → keys_rise ts ≡ true → head_told head ≡ Some d → HoldsText (kept_in db).body (record_form (with_tasks ts d))
-text_kept db records heads tasks head more ts d shows is none are all rise told_head =
+pub text_kept : (db : Trees) (records heads tasks amounts : List Row) (head : Row) (more : List Row) (ts : List RecordedTask) (d : Durable) → Shows db records heads tasks amounts → heads ≡ head ∷ more → length records ≡ 0
+    → AreTold tasks ts → AllByRecursion IsTask ts → keys_rise ts ≡ true → head_told head (map amount_shown (db 5)) ≡ Some d → HoldsText (kept_in db).body (record_form (with_tasks ts d))
+text_kept db records heads tasks amounts head more ts d shows is none are all rise told_head =
     let up = rises ts all rise in
     let tasks_are = tells_all ts up (db 3)
     (λ row at.
@@ -259,8 +274,8 @@ text_kept db records heads tasks head more ts d shows is none are all rise told_
     let was = has_permuted (map task_shown (db 3)) tasks it.0 shows.task_rows it.1 in
     let row = has_mapped task_shown (db 3) it.0 was in
     (row.0, row.1, sym (same_told row.0) ∙ ap told (sym row.2) ∙ it.2)) in
-    headed db records heads tasks head more shows is none
-    ∙ ap (λ (o : Option (List RecordedTask)). Some (text_of (o >>= λ told. head_told head >>= λ d. Some (with_tasks told d)))) tasks_are
+    headed db records heads tasks amounts head more shows is none
+    ∙ ap (λ (o : Option (List RecordedTask)). Some (text_of (o >>= λ told. head_told head (map amount_shown (db 5)) >>= λ d. Some (with_tasks told d)))) tasks_are
     ∙ ap (λ (o : Option Durable). Some (text_of (o >>= λ d. Some (with_tasks ts d)))) told_head
 
 same_text : (body : Option Value) (s t : List ℕ) → HoldsText body s → HoldsText body t → s ≡ t

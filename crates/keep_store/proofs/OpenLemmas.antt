@@ -1,10 +1,10 @@
--- A database that lists our tables is not one that lists none, or two.
+-- A database that lists our tables is not one that lists none, two or four.
 use Rattle.std.proofs.Common.{◌≢◌, List, [], ◌∷◌, subst}
 use Rattle.std.specs.List.{AllZip}
 use Rattle.sqlite.specs.Tree.{Trees}
 use Rattle.sqlite.specs.Schema.{Schema}
 use Rattle.sqlite_catalog.specs.Listing.{IsSound}
-use Rattle.keep_store.specs.Tables.{keeper_schema, first_schema, no_schema}
+use Rattle.keep_rows.specs.Tables.{keeper_schema, second_schema, first_schema, no_schema}
 
 both : {A B : Type 0} (P Q : A → B → Type 0) (xs : List A) (y : B) (ys : List B) → AllZip P xs [] → AllZip Q xs (y ∷ ys) → ⊥
 both P Q [] y ys none some = some
@@ -13,11 +13,24 @@ both P Q (x ∷ xs) y ys none some = none
 pub not_new : (db : Trees) (s : Schema) → IsSound keeper_schema db → IsSound s db → s ≢ no_schema
 not_new db s ours sound e = both _ _ _ _ _ (subst (λ t. IsSound t db) e sound).lists.listed.tables ours.lists.listed.tables
 
-two_or_four : {A B : Type 0} (P Q : A → B → Type 0) (xs : List A) (a b c d e f : B) → AllZip P xs (a ∷ b ∷ []) → AllZip Q xs (c ∷ d ∷ e ∷ f ∷ []) → ⊥
-two_or_four P Q [] a b c d e f few many = few
-two_or_four P Q (x ∷ []) a b c d e f few many = few.1
-two_or_four P Q (x ∷ y ∷ []) a b c d e f few many = many.1.1
-two_or_four P Q (x ∷ y ∷ z ∷ xs) a b c d e f few many = few.1.1
+-- a list that goes with five is longer than one that goes with fewer
+module _ {A B : Type 0} (P Q : A → B → Type 0) where
+  two_or_five : (xs : List A) (a b c d e f g : B) → AllZip P xs (a ∷ b ∷ []) → AllZip Q xs (c ∷ d ∷ e ∷ f ∷ g ∷ []) → ⊥
+  two_or_five [] a b c d e f g few many = few
+  two_or_five (x ∷ []) a b c d e f g few many = few.1
+  two_or_five (x ∷ y ∷ []) a b c d e f g few many = many.1.1
+  two_or_five (x ∷ y ∷ z ∷ xs) a b c d e f g few many = few.1.1
+
+  four_or_five : (xs : List A) (a b c d e f g h i : B) → AllZip P xs (a ∷ b ∷ c ∷ d ∷ []) → AllZip Q xs (e ∷ f ∷ g ∷ h ∷ i ∷ []) → ⊥
+  four_or_five [] a b c d e f g h i few many = few
+  four_or_five (x ∷ []) a b c d e f g h i few many = few.1
+  four_or_five (x ∷ y ∷ []) a b c d e f g h i few many = few.1.1
+  four_or_five (x ∷ y ∷ z ∷ []) a b c d e f g h i few many = few.1.1.1
+  four_or_five (x ∷ y ∷ z ∷ u ∷ []) a b c d e f g h i few many = many.1.1.1.1
+  four_or_five (x ∷ y ∷ z ∷ u ∷ v ∷ xs) a b c d e f g h i few many = few.1.1.1.1
 
 pub not_first : (db : Trees) (s : Schema) → IsSound keeper_schema db → IsSound s db → s ≢ first_schema
-not_first db s ours sound e = two_or_four _ _ _ _ _ _ _ _ _ (subst (λ t. IsSound t db) e sound).lists.listed.tables ours.lists.listed.tables
+not_first db s ours sound e = two_or_five _ _ _ _ _ _ _ _ _ _ (subst (λ t. IsSound t db) e sound).lists.listed.tables ours.lists.listed.tables
+
+pub not_second : (db : Trees) (s : Schema) → IsSound keeper_schema db → IsSound s db → s ≢ second_schema
+not_second db s ours sound e = four_or_five _ _ _ _ _ _ _ _ _ _ _ _ (subst (λ t. IsSound t db) e sound).lists.listed.tables ours.lists.listed.tables

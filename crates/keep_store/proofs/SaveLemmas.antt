@@ -1,5 +1,5 @@
 -- What the statements of a save make together.
-use Rattle.std.proofs.Common.{◌≡◌, ◌≢◌, ◌^◌, ◌<◌, inl, inr, ℕ, None, List, [], ◌∷◌, length, true, Some, Option, refl, sym, ap, subst, ◌∙◌}
+use Rattle.std.proofs.Common.{◌≡◌, inl, inr, None, List, map, [], ◌∷◌, length, true, Some, Option, refl, sym, ap, subst, ◌∙◌}
 use Rattle.std.specs.Str.{IsUtf8}
 use Rattle.std.specs.List.{AllByRecursion}
 use Rattle.std.proofs.lemmas.Str.{IsUtf8-from_is_utf8}
@@ -10,10 +10,8 @@ use Rattle.sqlite.specs.Tree.{Trees, rowid}
 use Rattle.std.proofs.Common.{IsTrue, false, Ok, Err, Result, IfOk, OnOk}
 use Rattle.sqlite.specs.declared.error.Error.{Error}
 use Rattle.sqlite.specs.Steps.{FailsToCommit}
-use Rattle.sqlite.specs.State.{State, KeepsCommit}
+use Rattle.sqlite.specs.State.{State}
 use Rattle.sqlite_rules.specs.Lists.{Has}
-use Rattle.quantity.specs.Rows.{AreRows}
-use Rattle.names_core.specs.Names.{is_name}
 use Rattle.mails.specs.declared.record.Durable.{Durable}
 use Rattle.mails.specs.declared.record.RecordedTask.{RecordedTask}
 use Rattle.std.proofs.Common.{◌&&◌}
@@ -21,25 +19,19 @@ use Rattle.std.proofs.lemmas.Bool.{and_parts}
 use Rattle.quantity.specs.Rows.{covers}
 use Rattle.cluster_model.specs.Agents.{live_tasks, task_rows}
 use Rattle.agent_core.specs.Records.{is_record, keys_rise, none_is_done, has_begun}
-use Rattle.record_text.specs.Texts.{task_form, total_form, record_form}
+use Rattle.record_text.specs.Texts.{task_form, record_form}
 use Rattle.record_text.specs.Written.{IsTask, IsDurable}
 use Rattle.record_text.specs.Reading.{◌>>=◌}
-use Rattle.record_text.proofs.Again.{total_form_again}
-use Rattle.keep_store.specs.Tables.{IsLone, IsOurs, IsReady, IsWriting, IsCommitted, Stays, WritesOn, SparesOthers, Empties, Puts, AreIds, IsSame, task_row, head_row}
-use Rattle.keep_store.specs.Kept.{Adds, ArePut, HasTasks, HasNoTask, HasHead, HasRecord, IsHead, IsPut, Knows, KnowsHead, Tells, told, head_told, head_of, with_tasks, kept_in, with_record, text_of, body_in}
-use Rattle.keep_store.proofs.ReadLemmas.{none_shown}
-use Rattle.keep_store.proofs.ToldLemmas.{row_told, number_some, text_some, text_plain}
+use Rattle.keep_rows.specs.Tables.{IsLone, IsOurs, IsTable, amount_shown, keeper_schema, IsReady, IsCommitted, Stays, WritesOn, SparesOthers, Empties, Puts, AreIds, IsSame, task_row, head_row}
+use Rattle.keep_store.specs.Kept.{Adds, ArePut, HasTasks, HasNoTask, HasHead, HasRecord, HasTotal, IsHead, IsPut, Knows, KnowsHead, KnowsTotal, Tells, told, head_told, with_tasks, kept_in, with_record, text_of, body_in}
+use Rattle.keep_rows.specs.Tables.{head_of}
+use Rattle.keep_rows.proofs.ReadLemmas.{none_shown}
+use Rattle.keep_rows.specs.Totals.{HasAmounts, amount_rows}
+use Rattle.quantity.specs.declared.rows.Row.{Row as Amount}
+use Rattle.keep_store.proofs.HeadLemmas.{head_again, total_utf8}
+use Rattle.keep_store.proofs.ToldLemmas.{row_told}
 use Rattle.keep_store.proofs.LoadLemmas.{rises, with_head}
 use Rattle.keep_store.proofs.TaskLemmas.{tells_all}
-
-pub then_on : (P Q R : Trees → Trees → Type 0) (a b c : State) → WritesOn P a b → WritesOn Q b c → (P a.now.trees b.now.trees → Q b.now.trees c.now.trees → R a.now.trees c.now.trees) → WritesOn R a c
-then_on P Q R a b c p q f = record { writing = q.writing; committed = q.committed ∙ p.committed; changes = f p.changes q.changes }
-
-pub then_err : (P : Trees → Trees → Type 0) (a b c : State) → IsWriting a → WritesOn P a b → KeepsCommit b c → KeepsCommit a c
-then_err P a b c writing p k = record { was_open = λ _. writing.is_open; committed = λ up. k.committed up ∙ p.committed }
-
-pub nothing_done : (a : State) → KeepsCommit a a
-nothing_done a = record { was_open = λ up. up; committed = λ _. refl }
 
 -- ---- tasks
 
@@ -67,61 +59,69 @@ no_task_left left x y z p ids same none = record {
 
 -- ---- the head
 
--- the row of a head tells its record
-pub head_row_told : (d : Durable) → is_name d.name ≡ true → d.run < 2 ^ 32 → d.session < 2 ^ 32 → AreRows d.total → IsUtf8 d.name → ∥ IsUtf8 (total_form d.total) ∥₁
-    → head_told (head_of (head_row d.name d.run d.session (total_form d.total))) ≡ Some (with_tasks [] d)
-unfolding head_told
-head_row_told d named run session rows name total =
-    let a = text_plain (Text d.name) d.name refl name in
-    let b = text_some (Text (total_form d.total)) (total_form d.total) refl total in
-    let c = number_some d.run run in
-    let e = number_some d.session session in
-    let f = total_form_again d.total rows in
-    rw (a, named, c, e, b, f) refl
+-- trees that are no index's
+zero_table : IsTable 0
+zero_table = ((λ e. cc), (λ e. cc))
 
-zero_two : ◌≢◌ {A = ℕ} 0 2
-zero_two e = cc
+one_table : IsTable 1
+one_table = ((λ e. cc), (λ e. cc))
 
-zero_four : ◌≢◌ {A = ℕ} 0 4
-zero_four e = cc
+two_table : IsTable 2
+two_table = ((λ e. cc), (λ e. cc))
 
-two_zero : ◌≢◌ {A = ℕ} 2 0
-two_zero e = cc
+three_table : IsTable 3
+three_table = ((λ e. cc), (λ e. cc))
 
-two_four : ◌≢◌ {A = ℕ} 2 4
-two_four e = cc
+five_table : IsTable 5
+five_table = ((λ e. cc), (λ e. cc))
 
-pub has_head : (head : Option Durable) (d : Durable) (x y z w : Trees) → head_told (head_of (head_row d.name d.run d.session (total_form d.total))) ≡ Some (with_tasks [] d) → Empties 0 x y → Empties 2 y z → Puts 2 (head_row d.name d.run d.session (total_form d.total)) z w → HasHead head d x w
-has_head head d x y z w told p q r = record {
-  head = told;
-  records = λ knows one. r.others 0 zero_two zero_four ∙ q.others 0 zero_two zero_four ∙ p.lone one;
-  heads = λ knows one. r.first (q.lone (subst IsLone (sym (p.others 2 two_zero two_four)) one));
-  others = λ t zero two four. r.others t two four ∙ q.others t two four ∙ p.others t zero four;
+total_known : (head : Option Durable) (x y : Trees) → y 5 ≡ x 5 → KnowsHead head x → KnowsTotal head y
+total_known None x y same knows = tt
+total_known (Some d) x y same knows = same ∙ knows.2
+
+pub has_head : (head : Option Durable) (d : Durable) (x y z w v : Trees) → Empties 0 x y → Empties 2 y z → Puts 2 (head_row d.name d.run d.session) z w → HasTotal head d.total w v → HasHead head d x v
+has_head head d x y z w v p q r s =
+    let same : w 5 ≡ x 5 = r.others 5 (λ e. cc) five_table ∙ q.others 5 (λ e. cc) five_table ∙ p.others 5 (λ e. cc) five_table in
+    record {
+      records = λ knows one. s.others 0 (λ e. cc) zero_table ∙ r.others 0 (λ e. cc) zero_table ∙ q.others 0 (λ e. cc) zero_table ∙ p.lone one;
+      heads = λ knows one. s.others 2 (λ e. cc) two_table ∙ r.first (q.lone (subst IsLone (sym (p.others 2 (λ e. cc) two_table)) one));
+      amounts = λ knows. s.rows (total_known head x w same knows);
+      others = λ t zero two five free. s.others t five free ∙ r.others t two free ∙ q.others t two free ∙ p.others t zero free;
+    }
+
+-- the total that is there is left
+pub left_total : (head : Option Durable) (e : Durable) (total : List Amount) (x : Trees) → head ≡ Some e → e.total ≡ total → HasTotal head total x x
+left_total head e total x is same = record {
+  rows = λ knows. subst (λ (h : Option Durable). KnowsTotal h x) is knows ∙ ap (amount_rows 1) same;
+  others = λ t other free. refl;
 }
+
+pub new_total : (head : Option Durable) (total : List Amount) (x y : Trees) → HasAmounts total x y → HasTotal head total x y
+new_total head total x y h = record { rows = λ knows. h.rows; others = h.others }
 
 -- the head that is known stays where only rows of tasks change
 known_head : (head : Option Durable) (x y : Trees) → SparesOthers 3 x y → KnowsHead head x → KnowsHead head y
 known_head None x y others knows = tt
-known_head (Some d) x y others knows = (others 0 (λ e. cc) zero_four ∙ knows.0, others 2 (λ e. cc) two_four ∙ knows.1)
+known_head (Some d) x y others knows = (others 0 (λ e. cc) zero_table ∙ knows.0, others 2 (λ e. cc) two_table ∙ knows.1, others 5 (λ e. cc) five_table ∙ knows.2)
 
 -- the head that is there is left
-pub left_head : (head : Option Durable) (e d : Durable) (x : Trees) → head ≡ Some e → with_tasks [] e ≡ with_tasks [] d → IsHead d → HasHead head d x x
-left_head head e d x is same is_head = record {
-  head = head_row_told d is_head.named is_head.run is_head.session is_head.total is_head.name ∣ IsUtf8-from_is_utf8 (total_form d.total) is_head.utf8 ∣₁;
+pub left_head : (head : Option Durable) (e d : Durable) (x : Trees) → head ≡ Some e → with_tasks [] e ≡ with_tasks [] d → HasHead head d x x
+left_head head e d x is same = record {
   records = λ knows one. (subst (λ (h : Option Durable). KnowsHead h x) is knows).0;
-  heads = λ knows one. (subst (λ (h : Option Durable). KnowsHead h x) is knows).1 ∙ ap (λ (s : Durable). head_row s.name s.run s.session (total_form s.total) ∷ []) same;
-  others = λ t zero two four. refl;
+  heads = λ knows one. (subst (λ (h : Option Durable). KnowsHead h x) is knows).1 ∙ ap (λ (s : Durable). head_row s.name s.run s.session ∷ []) same;
+  amounts = λ knows. (subst (λ (h : Option Durable). KnowsHead h x) is knows).2 ∙ ap (λ (s : Durable). amount_rows 1 s.total) same;
+  others = λ t zero two five free. refl;
 }
 
 pub has_record : (seen : Option (List RecordedTask)) (head : Option Durable) (d : Durable) (x y z : Trees) → AllByRecursion IsPut d.tasks → IsHead d → HasTasks seen d.tasks x y → HasHead head d y z → HasRecord seen head d x z
 has_record seen head d x y z put is_head p q = record {
   is_head = is_head;
   put = put;
-  head = q.head;
-  records = λ knows one. q.records (known_head head x y p.others knows) (subst IsLone (sym (p.others 0 (λ e. cc) zero_four)) one);
-  heads = λ knows one. q.heads (known_head head x y p.others knows) (subst IsLone (sym (p.others 2 (λ e. cc) two_four)) one);
-  tasks = λ knows. subst (λ rows. Tells rows (Has d.tasks)) (sym (q.others 3 (λ e. cc) (λ e. cc) (λ e. cc))) (p.tells knows);
-  runs = q.others 1 (λ e. cc) (λ e. cc) (λ e. cc) ∙ p.others 1 (λ e. cc) (λ e. cc);
+  records = λ knows one. q.records (known_head head x y p.others knows) (subst IsLone (sym (p.others 0 (λ e. cc) zero_table)) one);
+  heads = λ knows one. q.heads (known_head head x y p.others knows) (subst IsLone (sym (p.others 2 (λ e. cc) two_table)) one);
+  amounts = λ knows. q.amounts (known_head head x y p.others knows);
+  tasks = λ knows. subst (λ rows. Tells rows (Has d.tasks)) (sym (q.others 3 (λ e. cc) (λ e. cc) (λ e. cc) three_table)) (p.tells knows);
+  runs = q.others 1 (λ e. cc) (λ e. cc) (λ e. cc) one_table ∙ p.others 1 (λ e. cc) one_table;
 }
 
 -- ---- what the types of the parts keep
@@ -134,7 +134,7 @@ pub written_durable : (d : Durable) → IsHead d → AllByRecursion IsPut d.task
 written_durable d head all = record { named = head.named; total = head.total; session = head.session; run = head.run; tasks = (put_tasks d.tasks all).0 }
 
 pub written_utf8 : (d : Durable) → IsHead d → AllByRecursion IsPut d.tasks → IsUtf8 (record_form d)
-written_utf8 d head all = record_utf8 d head.name head.run head.session (IsUtf8-from_is_utf8 (total_form d.total) head.utf8) (put_tasks d.tasks all).1
+written_utf8 d head all = record_utf8 d head.name head.run head.session (total_utf8 d.total head.total head.amounts) (put_tasks d.tasks all).1
 
 -- what is kept then
 pub record_kept : (seen : Option (List RecordedTask)) (head : Option Durable) (d : Durable) (x z : Trees) → keys_rise d.tasks ≡ true → IsLone (x 0) → IsLone (x 2) → Knows seen x → KnowsHead head x → HasRecord seen head d x z
@@ -142,12 +142,13 @@ pub record_kept : (seen : Option (List RecordedTask)) (head : Option Durable) (d
 record_kept seen head d x z rise one_record one_head knows knows_head h =
     let is = written_durable d h.is_head h.put in
     let tasks = h.tasks knows in
-    let row = head_row d.name d.run d.session (total_form d.total) in
+    let row = head_row d.name d.run d.session in
+    let told_head : head_told (head_of row) (map amount_shown (z 5)) ≡ Some (with_tasks [] d) = ap (λ (rows : List Row). head_told (head_of row) (map amount_shown rows)) (h.amounts knows_head) ∙ head_again d h.is_head in
     let all = tells_all d.tasks (rises d.tasks is.tasks rise) (z 3) (λ r at. let it = tasks.each r at in (it.0, it.1, it.2.0)) tasks.all in
-    let body : body_in (z 0) (z 2) (z 3) ≡ Some (Text (record_form d)) =
-    with_head (z 0) (z 2) (z 3) row [] (h.records knows_head one_record) (h.heads knows_head one_head)
-    ∙ ap (λ (o : Option (List RecordedTask)). Some (text_of (o >>= λ told. head_told (head_of row) >>= λ e. Some (with_tasks told e)))) all
-    ∙ ap (λ (o : Option Durable). Some (text_of (o >>= λ e. Some (with_tasks d.tasks e)))) h.head in
+    let body : body_in (z 0) (z 2) (z 3) (z 5) ≡ Some (Text (record_form d)) =
+    with_head (z 0) (z 2) (z 3) (z 5) row [] (h.records knows_head one_record) (h.heads knows_head one_head)
+    ∙ ap (λ (o : Option (List RecordedTask)). Some (text_of (o >>= λ told. head_told (head_of row) (map amount_shown (z 5)) >>= λ e. Some (with_tasks told e)))) all
+    ∙ ap (λ (o : Option Durable). Some (text_of (o >>= λ e. Some (with_tasks d.tasks e)))) told_head in
     rw (body, h.runs) refl
 
 -- the launch keys of a record rise
@@ -158,11 +159,11 @@ keys_of d is =
     (and_parts (keys_rise d.tasks) (none_is_done d.tasks) b.0).0
 
 -- the store is ready then
-pub record_ready : (seen : Option (List RecordedTask)) (head : Option Durable) (d : Durable) (old new : State) → IsReady old → KnowsHead head old.now.trees → IsCommitted (HasRecord seen head d) old new → IsReady new
+pub record_ready : (seen : Option (List RecordedTask)) (head : Option Durable) (d : Durable) (old new : State) → IsReady old → KnowsHead head old.now.trees → IsCommitted keeper_schema (HasRecord seen head d) old new → IsReady new
 record_ready seen head d old new ready knows h = record {
   is_open = h.is_open;
   ours = record {
-    schema = h.schema;
+    schema = h.tables;
     one_record = subst IsLone (sym (h.changes.records knows ready.ours.one_record)) tt;
     one_run = subst IsLone (sym h.changes.runs) ready.ours.one_run;
     one_head = subst IsLone (sym (h.changes.heads knows ready.ours.one_head)) refl;

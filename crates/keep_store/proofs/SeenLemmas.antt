@@ -12,7 +12,7 @@ use Rattle.names_core.specs.Ids.{Numbered}
 use Rattle.cluster_model.specs.Ids.{before}
 use Rattle.agent_core.specs.Records.{is_behind, keys_rise, rise_behind}
 use Rattle.mails.specs.declared.record.RecordedTask.{RecordedTask}
-use Rattle.keep_store.specs.Tables.{Cuts, place_of}
+use Rattle.keep_rows.specs.Tables.{Cuts, place_of}
 use Rattle.keep_store.specs.Kept.{Adds, ArePut, HasNoTask, HasTasks, IsPut, Rise}
 
 abbrev place : RecordedTask → ℕ

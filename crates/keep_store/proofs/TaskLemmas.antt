@@ -8,7 +8,7 @@ use Rattle.sqlite_rules.specs.Lists.{Has}
 use Rattle.sqlite_rules.proofs.ListLemmas.{all_has}
 use Rattle.mails.specs.declared.record.RecordedTask.{RecordedTask}
 use Rattle.record_text.specs.Reading.{◌>>=◌}
-use Rattle.keep_store.specs.Tables.{place_of}
+use Rattle.keep_rows.specs.Tables.{place_of}
 use Rattle.keep_store.specs.Kept.{told, put_task, tasks_in, Rise}
 
 abbrev place : RecordedTask → ℕ

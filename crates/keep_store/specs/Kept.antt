@@ -1,5 +1,5 @@
 -- What a store keeps: an agent's record, and the last run of the master that was given out.
-use Rattle.std.specs.Prelude.{◌≡◌, ◌≢◌, ◌⊎◌, ◌<◌, ◌^◌, ◌==◌, ⊤, ℕ, suc, true, nat_lt, if◌then◌else◌, List, [], ◌∷◌, map, IsPermutation, Option, Some, None, Result, Ok, Err, pos}
+use Rattle.std.specs.Prelude.{◌≡◌, ◌≢◌, ◌⊎◌, ◌<◌, ◌^◌, ◌==◌, ⊤, ℕ, suc, true, nat_lt, if◌then◌else◌, List, [], ◌∷◌, map, Option, Some, None, pos}
 use Rattle.std.specs.Str.{IsUtf8, is_utf8}
 use Rattle.std.specs.List.{AllByRecursion}
 use Rattle.std.specs.Option.{MatchOption}
@@ -13,28 +13,16 @@ use Rattle.names_core.specs.Names.{is_name}
 use Rattle.quantity.specs.Rows.{AreRows}
 use Rattle.mails.specs.declared.record.RecordedTask.{RecordedTask}
 use Rattle.record_text.specs.Reading.{◌>>=◌, where_true, task_in, total_in}
-use Rattle.keep_store.specs.Tables.{IsLone, SparesOthers, head_row, place_of}
-use Rattle.sqlite.specs.declared.error.Error.{Error}
-use Rattle.sqlite.specs.declared.error.Error.TheVariants.{SqliteFailure}
-use Rattle.sqlite.specs.declared.error.ErrorCode.TheVariants.{OutOfMemory}
+use Rattle.keep_rows.specs.Columns.{number_at, text_at}
+use Rattle.keep_rows.specs.Tables.{IsLone, IsTable, SparesOthers, amount_shown, head_of, head_row, place_of}
+use Rattle.keep_rows.specs.Totals.{AreNamed, amount_rows, total_told}
+use Rattle.quantity.specs.declared.rows.Row.{Row as Amount}
 use Rattle.mails.specs.declared.record.Durable.{Durable}
-use Rattle.record_text.specs.Texts.{record_form, task_form, total_form}
+use Rattle.record_text.specs.Texts.{record_form, task_form}
 use Rattle.record_text.specs.Written.{IsTask, IsWritten}
 use Rattle.agent_core.specs.Records.{is_record}
-use Rattle.keep_store.specs.declared.fault.KeepFault.{KeepFault}
-use Rattle.keep_store.specs.declared.fault.KeepFault.TheVariants as fault
 
 -- ---- what a row tells
-
--- a whole number of 32 bits
-abbrev pub number_at : Value → Option ℕ
-number_at (Int (pos n)) = where_true (nat_lt n (2 ^ 32)) n
-number_at _ = None
-
--- a UTF-8 text (RFC 3629)
-abbrev pub text_at : Value → Option (List ℕ)
-text_at (Text t) = where_true (is_utf8 t) t
-text_at _ = None
 
 -- the task of a row of agent_task: its body is the written form of a task that has the row's key
 unfoldable pub told : Row → Option RecordedTask
@@ -57,21 +45,35 @@ abbrev pub tasks_in : List Row → Option (List RecordedTask)
 tasks_in [] = Some []
 tasks_in (row ∷ rows) = told row >>= λ task. tasks_in rows >>= λ tasks. Some (put_task task tasks)
 
--- a row of agent_head, less its id: name, run, session, total, version
-abbrev pub head_of : Row → Row
-head_of row = column row 2 ∷ column row 3 ∷ column row 4 ∷ column row 5 ∷ column row 6 ∷ []
-
--- the record of a head, with no tasks yet
-unfoldable pub head_told : Row → Option Durable
-head_told head = do
+-- the record of a head, with its own total and no tasks yet
+unfoldable pub own_told : Row → Option Durable
+own_told head = do
   text ← text_at (column head 0)
   name ← where_true (is_name text) text
   run ← number_at (column head 1)
   session ← number_at (column head 2)
   body ← text_at (column head 3)
   total ← total_in body
-  version ← number_at (column head 4)
-  where_true (version == 1) (record { name = name; total = total; session = session; run = run; tasks = [] })
+  Some (record { name = name; total = total; session = session; run = run; tasks = [] })
+
+abbrev pub where_none : {A B : Type 0} → List A → Option B → Option B
+where_none [] found = found
+where_none (x ∷ xs) found = None
+
+-- the total of a head of a version: 1, its own, beside no row of agent_total; 2, that which these rows tell, where its own is empty
+abbrev pub total_by : ℕ → List Amount → List Row → Option (List Amount)
+total_by version own amounts =
+    if version == 1 then where_none amounts (Some own)
+    else (if version == 2 then where_none own (total_told amounts) else None)
+
+-- a record with this total
+abbrev pub with_total : List Amount → Durable → Durable
+with_total total d = record { name = d.name; total = total; session = d.session; run = d.run; tasks = d.tasks }
+
+-- the record of a head and of rows of agent_total, with no tasks yet
+unfoldable pub head_told : Row → List Row → Option Durable
+head_told head amounts =
+    own_told head >>= λ d. number_at (column head 4) >>= λ version. total_by version d.total amounts >>= λ total. Some (with_total total d)
 
 -- a record with these tasks
 abbrev pub with_tasks : List RecordedTask → Durable → Durable
@@ -82,15 +84,18 @@ abbrev pub text_of : Option Durable → Value
 text_of None = Null
 text_of (Some d) = Text (record_form d)
 
--- what is kept of an agent's record: the text in agent_record, or that of the record which the head and the tasks tell; no text where
--- there are rows of both forms, or tasks without a head
-abbrev pub body_in : List Row → List Row → List Row → Option Value
-body_in [] [] [] = None
-body_in [] [] (task ∷ tasks) = Some Null
-body_in [] (head ∷ more) tasks = Some (text_of (tasks_in tasks >>= λ told. head_told (head_of head) >>= λ d. Some (with_tasks told d)))
-body_in (row ∷ more) [] [] = Some (column row 2)
-body_in (row ∷ more) [] (task ∷ tasks) = Some Null
-body_in (row ∷ more) (head ∷ heads) tasks = Some Null
+-- what is kept of an agent's record: the text in agent_record, or that of the record which the head, the tasks and the amounts tell; no text
+-- where there are rows of both forms, or tasks or amounts without a head
+abbrev pub body_in : List Row → List Row → List Row → List Row → Option Value
+body_in [] [] [] [] = None
+body_in [] [] [] (amount ∷ amounts) = Some Null
+body_in [] [] (task ∷ tasks) amounts = Some Null
+body_in [] (head ∷ more) tasks amounts =
+    Some (text_of (tasks_in tasks >>= λ told. head_told (head_of head) (map amount_shown amounts) >>= λ d. Some (with_tasks told d)))
+body_in (row ∷ more) [] [] [] = Some (column row 2)
+body_in (row ∷ more) [] [] (amount ∷ amounts) = Some Null
+body_in (row ∷ more) [] (task ∷ tasks) amounts = Some Null
+body_in (row ∷ more) (head ∷ heads) tasks amounts = Some Null
 
 -- what a database keeps: an agent's record as a text, if there is one, and the last run that was given out, 0 where none was
 pub record Kept : Type 0 where
@@ -110,9 +115,13 @@ abbrev pub last_in : List Row → ℕ
 last_in [] = 0
 last_in (row ∷ more) = whole (column row 2)
 
--- tree 0 is the table agent_record, tree 1 run_number, tree 2 agent_head, tree 3 agent_task
+-- tree 0 is the table agent_record, tree 1 run_number, tree 2 agent_head, tree 3 agent_task, tree 5 agent_total
 abbrev pub kept_in : Trees → Kept
-kept_in db = record { body = body_in (db 0) (db 2) (db 3); last = last_in (db 1) }
+kept_in db = record { body = body_in (db 0) (db 2) (db 3) (db 5); last = last_in (db 1) }
+
+-- what a database keeps of the tables but agent_total, which has a total in its head
+abbrev pub second_kept : Trees → Kept
+second_kept db = record { body = body_in (db 0) (db 2) (db 3) []; last = last_in (db 1) }
 
 -- what a database of the two tables agent_record and run_number keeps
 abbrev pub first_kept : Trees → Kept
@@ -163,11 +172,6 @@ TellsRun (Some value) n = value ≡ Int (pos n)
 abbrev pub TellsNoRun : Option Value → Type 0
 TellsNoRun held = (n : ℕ) → n < 2 ^ 32 → TellsRun held n → ⊥
 
--- a want of memory is named, and another fault of the store is carried
-abbrev pub fault_for : Error → KeepFault
-fault_for (SqliteFailure OutOfMemory) = fault.OutOfMemory
-fault_for e = fault.Store e
-
 -- ---- for private clauses: what the shown rows say
 
 abbrev pub shown_body : List Row → Option Value
@@ -177,13 +181,6 @@ shown_body (row ∷ more) = Some (column row 0)
 abbrev pub shown_last : List Row → ℕ
 shown_last [] = 0
 shown_last (row ∷ more) = whole (column row 0)
-
--- what a function answered, seen by v, is what is due, unless memory ran out
-abbrev pub Gives : {X A : Type 0} → (X → A) → Result X KeepFault → Option A → Type 0
-Gives v (Ok x) due = due ≡ Some (v x)
-Gives v (Err fault.Damaged) due = due ≡ None
-Gives v (Err fault.OutOfMemory) due = ⊤
-Gives v (Err _) due = ⊥
 
 -- each row tells the task that stands at its place in the list
 abbrev pub AreTold : List Row → List RecordedTask → Type 0
@@ -195,16 +192,6 @@ AreTold (row ∷ rows) (task ∷ tasks) = (told row ≡ Some task) × AreTold ro
 -- some row tells no task
 abbrev pub SomeUntold : List Row → Type 0
 SomeUntold rows = (row : Row) × Has rows row × (told row ≡ None)
-
--- a row of agent_task, as a query shows it
-abbrev pub task_shown : Row → Row
-task_shown row = rowid row ∷ column row 1 ∷ column row 2 ∷ column row 3 ∷ []
-
--- the rows of the three tables that keep a record, as queries show them
-pub record Shows (db : Trees) (records heads tasks : List Row) : Type 0 where
-  pub old_rows : records ≡ map (λ row. column row 2 ∷ []) (db 0)
-  pub head_rows : heads ≡ map head_of (db 2)
-  pub task_rows : IsPermutation (map task_shown (db 3)) tasks
 
 -- a row at its place tells a task
 abbrev pub TellsTask : Row → RecordedTask → Type 0
@@ -262,36 +249,46 @@ pub record IsHead (d : Durable) : Type 0 where
   pub run : d.run < 2 ^ 32
   pub session : d.session < 2 ^ 32
   pub total : AreRows d.total
-  pub utf8 : is_utf8 (total_form d.total) ≡ true
+  pub amounts : AreNamed d.total
 
 -- the head that was seen last was written, if any was
 abbrev pub IsHeadSeen : Option Durable → Type 0
 IsHeadSeen None = ⊤
 IsHeadSeen (Some seen) = IsHead seen
 
--- the head is the one that was seen last, if any was, and no record stands as one text
+-- the head and the rows of its total are those that were seen last, if any were, and no record stands as one text
 abbrev pub KnowsHead : Option Durable → Trees → Type 0
 KnowsHead None db = ⊤
 KnowsHead (Some d) db =
-    (db 0 ≡ []) × (db 2 ≡ head_row d.name d.run d.session (total_form d.total) ∷ [])
+    (db 0 ≡ []) × (db 2 ≡ head_row d.name d.run d.session ∷ []) × (db 5 ≡ amount_rows 1 d.total)
+
+-- the rows of a total are those of the head that was seen last, if any was
+abbrev pub KnowsTotal : Option Durable → Trees → Type 0
+KnowsTotal None db = ⊤
+KnowsTotal (Some d) db = db 5 ≡ amount_rows 1 d.total
+
+-- where the rows of a total were those of the head that was seen last, they are those of this total
+pub record HasTotal (seen : Option Durable) (total : List Amount) (old new : Trees) : Type 0 where
+  pub rows : KnowsTotal seen old → new 5 ≡ amount_rows 1 total
+  pub others : SparesOthers 5 old new
 
 -- no row of a task is left
 pub record HasNoTask (old new : Trees) : Type 0 where
   pub none : new 3 ≡ []
   pub others : SparesOthers 3 old new
 
--- where the head was the one that was seen last, it is that of this record, and no record stands as one text
+-- where the head was the one that was seen last, it and the rows of its total are those of this record, and no record stands as one text
 pub record HasHead (seen : Option Durable) (d : Durable) (old new : Trees) : Type 0 where
   pub records : KnowsHead seen old → IsLone (old 0) → new 0 ≡ []
-  pub heads : KnowsHead seen old → IsLone (old 2) → new 2 ≡ head_row d.name d.run d.session (total_form d.total) ∷ []
-  pub head : head_told (head_of (head_row d.name d.run d.session (total_form d.total))) ≡ Some (with_tasks [] d)
-  pub others : (t : ℕ) → t ≢ 0 → t ≢ 2 → t ≢ 4 → new t ≡ old t
+  pub heads : KnowsHead seen old → IsLone (old 2) → new 2 ≡ head_row d.name d.run d.session ∷ []
+  pub amounts : KnowsHead seen old → new 5 ≡ amount_rows 1 d.total
+  pub others : (t : ℕ) → t ≢ 0 → t ≢ 2 → t ≢ 5 → IsTable t → new t ≡ old t
 
 -- the rows are those of this record, where those of the head and tasks that were seen last were there
 pub record HasRecord (seen : Option (List RecordedTask)) (head_seen : Option Durable) (d : Durable) (old new : Trees) : Type 0 where
   pub records : KnowsHead head_seen old → IsLone (old 0) → new 0 ≡ []
-  pub heads : KnowsHead head_seen old → IsLone (old 2) → new 2 ≡ head_row d.name d.run d.session (total_form d.total) ∷ []
-  pub head : head_told (head_of (head_row d.name d.run d.session (total_form d.total))) ≡ Some (with_tasks [] d)
+  pub heads : KnowsHead head_seen old → IsLone (old 2) → new 2 ≡ head_row d.name d.run d.session ∷ []
+  pub amounts : KnowsHead head_seen old → new 5 ≡ amount_rows 1 d.total
   pub tasks : Knows seen old → Tells (new 3) (Has d.tasks)
   pub is_head : IsHead d
   pub put : AllByRecursion IsPut d.tasks

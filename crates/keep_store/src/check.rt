@@ -3,14 +3,16 @@
 ghost use Rattle.std.specs.Prelude.{◌≡◌, ◌≢◌, length, IsTrue, IfOk, IfErr, OnOk};
 ghost use Rattle.sqlite.specs.State.{HasCleanDisk};
 ghost use Rattle.sqlite.specs.Held.{state};
-ghost use Rattle.keep_store.specs.Kept.{first_kept, kept_in, nothing};
-ghost use Rattle.keep_store.specs.Tables.{IsReady, IsLone, HasNoRow, first_schema, no_schema};
+ghost use Rattle.keep_store.specs.Kept.{first_kept, kept_in, nothing, second_kept};
+ghost use Rattle.keep_rows.specs.Tables.{IsReady, IsLone, HasNoRow, first_schema, second_schema, no_schema};
 
-use crate::fault::{KeepFault, fault_of};
-use crate::statements::{
-    make_first_tables, make_task_tables, read_head_ids, read_record_ids, read_run_ids, read_tasks,
+use crate::fault::fault_of;
+use keep_rows::KeepFault;
+use keep_rows::statements::{
+    make_first_tables, make_task_tables, make_total_table, read_amounts, read_head_ids,
+    read_record_ids, read_run_ids, read_tasks,
 };
-use keep_tables::{is_first, is_new, is_ours};
+use keep_tables::{is_first, is_new, is_ours, is_second};
 use sqlite::{Alter, Connection, Row};
 
 /// At most one row, which begins with 1.
@@ -38,7 +40,7 @@ fn are_lone(records: &[Row], runs: &[Row], heads: &[Row]) -> bool
     is_lone(records) && is_lone(runs) && is_lone(heads)
 }
 
-/// The four tables are there and no other, with at most one row each but that of the tasks; and whether those are empty.
+/// The five tables are there and no other, with at most one row each but those of tasks and of amounts; and whether those are empty.
 fn check_tables<S: Alter>(conn: &mut Connection<S>) -> Result<bool, KeepFault>
     ensures clean { HasCleanDisk (state S.Store conn.new) → HasCleanDisk (state S.Store conn.old) }
     ensures ready { HasCleanDisk (state S.Store conn.new) → OnOk result (IsReady (state S.Store conn.new)) }
@@ -58,8 +60,8 @@ fn check_tables<S: Alter>(conn: &mut Connection<S>) -> Result<bool, KeepFault>
     Ok(are_empty(records.as_slice(), runs.as_slice(), heads.as_slice()))
 }
 
-/// The four tables are there, and none has a row.
-#[tactic(auto, using(crate::proofs::ReadLemmas::no_task_shown, crate::proofs::ReadLemmas::nothing_kept))]
+/// The five tables are there, and none has a row.
+#[tactic(auto, using(crate::proofs::MoveLemmas::no_task_shown, crate::proofs::MoveLemmas::no_amount_shown, crate::proofs::MoveLemmas::nothing_kept))]
 fn check_new<S: Alter>(conn: &mut Connection<S>) -> Result<(), KeepFault>
     ensures clean { HasCleanDisk (state S.Store conn.new) → HasCleanDisk (state S.Store conn.old) }
     ensures ready { HasCleanDisk (state S.Store conn.new) → OnOk result (IsReady (state S.Store conn.new)) }
@@ -68,32 +70,46 @@ fn check_new<S: Alter>(conn: &mut Connection<S>) -> Result<(), KeepFault>
 {
     let is_empty = check_tables(conn)?;
     let tasks = read_tasks(conn).map_err(fault_of)?;
-    if is_empty && tasks.is_empty() {
+    let amounts = read_amounts(conn).map_err(fault_of)?;
+    if is_empty && tasks.is_empty() && amounts.is_empty() {
         Ok(())
     } else {
         Err(KeepFault::Damaged)
     }
 }
 
-/// Makes the tables that a new store lacks, or one that kept a record as one text, and tests them.
+/// Makes the tables that a new store lacks, one that kept a record as one text, or one that kept a total in its head, and tests them.
+#[tactic(auto, using(crate::proofs::MoveLemmas::first_moved, crate::proofs::MoveLemmas::second_moved))]
 pub fn prepare<S: Alter>(conn: &mut Connection<S>) -> Result<(), KeepFault>
     ensures clean { HasCleanDisk (state S.Store conn.new) → HasCleanDisk (state S.Store conn.old) }
     ensures ready { HasCleanDisk (state S.Store conn.new) → OnOk result (IsReady (state S.Store conn.new)) }
-    ensures found { HasCleanDisk (state S.Store conn.new) → (state S.Store conn.old).now.schema ≢ no_schema → (state S.Store conn.old).now.schema ≢ first_schema → OnOk result ((state S.Store conn.new).now ≡ (state S.Store conn.old).now) }
+    ensures found { HasCleanDisk (state S.Store conn.new)
+        → (state S.Store conn.old).now.schema ≢ no_schema
+        → (state S.Store conn.old).now.schema ≢ first_schema
+        → (state S.Store conn.old).now.schema ≢ second_schema
+        → OnOk result ((state S.Store conn.new).now ≡ (state S.Store conn.old).now) }
     ensures fresh { HasCleanDisk (state S.Store conn.new) → (state S.Store conn.old).now.schema ≡ no_schema → OnOk result (kept_in (state S.Store conn.new).now.trees ≡ nothing) }
     ensures moved { HasCleanDisk (state S.Store conn.new)
         → (state S.Store conn.old).now.schema ≡ first_schema
         → OnOk result (kept_in (state S.Store conn.new).now.trees
         ≡ first_kept (state S.Store conn.old).now.trees) }
+    ensures moved_rows { HasCleanDisk (state S.Store conn.new)
+        → (state S.Store conn.old).now.schema ≡ second_schema
+        → OnOk result (kept_in (state S.Store conn.new).now.trees
+        ≡ second_kept (state S.Store conn.old).now.trees) }
     ensures unspent { IfErr result (λ e. e ≢ KeepFault.RunsSpent) }
 {
     let is_new = is_new(conn.schema());
     let lacks_tasks = is_new || is_first(conn.schema());
+    let lacks_totals = lacks_tasks || is_second(conn.schema());
     if is_new && conn.is_autocommit() {
         make_first_tables(conn).map_err(fault_of)?;
     }
     if lacks_tasks && conn.is_autocommit() {
         make_task_tables(conn).map_err(fault_of)?;
+    }
+    if lacks_totals && conn.is_autocommit() {
+        make_total_table(conn).map_err(fault_of)?;
     }
     if is_new {
         return check_new(conn);

@@ -9,19 +9,19 @@ ghost use Rattle.mails.specs.declared.record.Durable.{Durable};
 ghost use Rattle.agent_core.specs.Records.{is_record};
 ghost use Rattle.record_text.specs.Texts.{record_form};
 ghost use Rattle.record_text.specs.Written.{IsDurable};
-ghost use Rattle.keep_store.specs.Kept.{Kept, first_kept, kept_in, nothing, with_last, with_record, with_run, HoldsText, IsDamaged, IsLoaded, TellsRun, TellsNoRun, run_in, shown_body, shown_last};
+ghost use Rattle.keep_store.specs.Kept.{Kept, first_kept, kept_in, nothing, second_kept, with_last, with_record, with_run, HoldsText, IsDamaged, IsLoaded, TellsRun, TellsNoRun, run_in, shown_body, shown_last};
 ghost use Rattle.keep_store.specs.Stops.{LeavesEither, Stands};
-ghost use Rattle.keep_store.specs.Tables.{IsReady, Stays, first_schema, no_schema};
-ghost use Rattle.keep_store.specs.declared.fault.KeepFault.TheVariants as faults;
+ghost use Rattle.keep_rows.specs.Tables.{IsReady, Stays, first_schema, second_schema, no_schema};
+ghost use Rattle.keep_rows.specs.declared.fault.KeepFault.TheVariants as faults;
 
 use crate::check::prepare;
-use crate::fault::{KeepFault, fault_of};
+use crate::fault::fault_of;
 use crate::save::{head_seen, save_record};
 use crate::seen::seen_in;
-use crate::statements::{read_lasts, write_last};
-use crate::tables::read_rows;
 use crate::told::record_shown;
 use agent_core::Record;
+use keep_rows::statements::{read_lasts, write_last};
+use keep_rows::{KeepFault, read_rows};
 use listed::Listed;
 use mails::{Durable, RecordedTask};
 use shared_value::Shared;
@@ -50,7 +50,7 @@ impl<S: Alter> Model for Keeper<S> {
     ghost use Rattle.sqlite.specs.Held.{Held, held_code, state};
     ghost use Rattle.sqlite.specs.State.{HasCleanDisk};
     ghost use Rattle.keep_store.specs.Kept.{AreSeen, IsHeadSeen, Knows, KnowsHead};
-    ghost use Rattle.keep_store.specs.Tables.{IsReady};
+    ghost use Rattle.keep_rows.specs.Tables.{IsReady};
 
     ghost Value = { Held S };
 
@@ -126,18 +126,26 @@ fn run_behind<S: Alter>(conn: &mut Connection<S>, last: u32) -> Result<u32, Keep
 }
 
 impl<S: Alter + Drop> Keeper<S> {
-    /// The keeper over a connection. Its tables are made where there is none yet, and the two of heads and tasks beside the two of a store
-    /// that kept a record as one text. A refusal hands the connection back:
+    /// The keeper over a connection. Its tables are made where there is none yet, and those that are lacking beside the two of a store that
+    /// kept a record as one text, and beside the four of one that kept a total in its head. A refusal hands the connection back:
     /// K1 for an error of the store, K2 where the tables aren't those of a keeper or the connection is in a transaction, K4 for want of memory.
     pub fn adopt(mut conn: Connection<S>) -> Result<Keeper<S>, (KeepFault, Connection<S>)>
         ensures clean { IfOk result (λ keeper. HasCleanDisk (state S.Store keeper) → HasCleanDisk (state S.Store conn)) }
         ensures ready { IfOk result (λ keeper. HasCleanDisk (state S.Store keeper) → IsReady (state S.Store keeper)) }
-        ensures found { IfOk result (λ keeper. HasCleanDisk (state S.Store keeper) → (state S.Store conn).now.schema ≢ no_schema → (state S.Store conn).now.schema ≢ first_schema → (state S.Store keeper).now ≡ (state S.Store conn).now) }
+        ensures found { IfOk result (λ keeper. HasCleanDisk (state S.Store keeper)
+            → (state S.Store conn).now.schema ≢ no_schema
+            → (state S.Store conn).now.schema ≢ first_schema
+            → (state S.Store conn).now.schema ≢ second_schema
+            → (state S.Store keeper).now ≡ (state S.Store conn).now) }
         ensures fresh { IfOk result (λ keeper. HasCleanDisk (state S.Store keeper) → (state S.Store conn).now.schema ≡ no_schema → kept_in (state S.Store keeper).now.trees ≡ nothing) }
         ensures moved { IfOk result (λ keeper. HasCleanDisk (state S.Store keeper)
             → (state S.Store conn).now.schema ≡ first_schema
             → kept_in (state S.Store keeper).now.trees
             ≡ first_kept (state S.Store conn).now.trees) }
+        ensures moved_rows { IfOk result (λ keeper. HasCleanDisk (state S.Store keeper)
+            → (state S.Store conn).now.schema ≡ second_schema
+            → kept_in (state S.Store keeper).now.trees
+            ≡ second_kept (state S.Store conn).now.trees) }
         ensures unspent { IfErr result (λ refused. refused.0 ≢ KeepFault.RunsSpent) }
     {
         match prepare(&mut conn) {
@@ -182,13 +190,17 @@ impl<S: Alter> Keeper<S> {
         let is_ready = mem::replace(&mut self.is_ready, false);
         self.seen = None;
         self.head = None;
-        let rows = read_rows(&mut self.conn).map_err(fault_of)?;
+        let rows = match read_rows(&mut self.conn) {
+            Ok(rows) => rows,
+            Err(error) => return Err(fault_of(error)),
+        };
         self.is_ready = is_ready;
         let found = record_shown(
             alloc,
             rows.records.as_slice(),
             rows.heads.as_slice(),
             rows.tasks.as_slice(),
+            rows.amounts.as_slice(),
         )?;
         if is_ready {
             self.seen = seen_in(&rows, &found);

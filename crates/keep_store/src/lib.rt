@@ -1,7 +1,6 @@
 //! An agent's record and the number of the master's last run, kept in a SQLite store.
 #![tactic(auto)]
 
-mod changes;
 mod check;
 mod fault;
 mod files;
@@ -10,10 +9,8 @@ mod open;
 mod record;
 mod save;
 mod seen;
-mod statements;
-mod tables;
 mod told;
 
-pub use fault::KeepFault;
+pub use keep_rows::KeepFault;
 pub use keeper::Keeper;
 pub use record_text::{record_of, record_text};

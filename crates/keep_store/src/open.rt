@@ -6,12 +6,13 @@ ghost use Rattle.sqlite.specs.State.{HasCleanDisk};
 ghost use Rattle.sqlite.specs.Files.{file_state, HoldsDatabase};
 ghost use Rattle.sqlite.specs.WalFiles.{image_at};
 ghost use Rattle.sqlite_catalog.specs.Listing.{IsSound};
-ghost use Rattle.keep_store.specs.Kept.{first_kept, kept_in};
-ghost use Rattle.keep_store.specs.Tables.{IsReady, first_schema, keeper_schema, no_schema};
+ghost use Rattle.keep_store.specs.Kept.{first_kept, kept_in, second_kept};
+ghost use Rattle.keep_rows.specs.Tables.{IsReady, first_schema, second_schema, keeper_schema, no_schema};
 
-use crate::fault::{KeepFault, fault_of};
+use crate::fault::fault_of;
 use crate::files::connect;
 use crate::keeper::Keeper;
+use keep_rows::KeepFault;
 use sqlite::{Alter, Connection, Error, FileFrom, FileStore, Start, Unknown};
 
 /// The keeper over a connection, where it was opened. Of one that isn't adopted only the reason is left.
@@ -19,11 +20,20 @@ fn keeper_over<S: Alter + Drop>(
     opened: Result<Connection<S>, Error>,
 ) -> Result<Keeper<S>, KeepFault>
     ensures ready { IfOk result (λ keeper. HasCleanDisk (state S.Store keeper) → IsReady (state S.Store keeper)) }
-    ensures found { IfOk result (λ keeper. HasCleanDisk (state S.Store keeper) → (conn : Held S) × (opened ≡ Ok conn) × HasCleanDisk (state S.Store conn) × ((state S.Store conn).now.schema ≢ no_schema → (state S.Store conn).now.schema ≢ first_schema → (state S.Store keeper).now ≡ (state S.Store conn).now)) }
+    ensures found { IfOk result (λ keeper. HasCleanDisk (state S.Store keeper)
+        → (conn : Held S) × (opened ≡ Ok conn) × HasCleanDisk (state S.Store conn)
+        × ((state S.Store conn).now.schema ≢ no_schema
+        → (state S.Store conn).now.schema ≢ first_schema
+        → (state S.Store conn).now.schema ≢ second_schema
+        → (state S.Store keeper).now ≡ (state S.Store conn).now)) }
     ensures moved { IfOk result (λ keeper. HasCleanDisk (state S.Store keeper)
         → (conn : Held S) × (opened ≡ Ok conn) × HasCleanDisk (state S.Store conn)
         × ((state S.Store conn).now.schema ≡ first_schema
         → kept_in (state S.Store keeper).now.trees ≡ first_kept (state S.Store conn).now.trees)) }
+    ensures moved_rows { IfOk result (λ keeper. HasCleanDisk (state S.Store keeper)
+        → (conn : Held S) × (opened ≡ Ok conn) × HasCleanDisk (state S.Store conn)
+        × ((state S.Store conn).now.schema ≡ second_schema
+        → kept_in (state S.Store keeper).now.trees ≡ second_kept (state S.Store conn).now.trees)) }
     ensures unspent { IfErr result (λ e. e ≢ KeepFault.RunsSpent) }
 {
     let conn = match opened {

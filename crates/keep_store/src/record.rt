@@ -8,8 +8,8 @@ ghost use Rattle.record_text.specs.Written.{IsDurable, IsWritten};
 ghost use Rattle.agent_core.specs.Records.{is_record};
 ghost use Rattle.keep_store.specs.Kept.{IsDamaged, IsLoaded, IsRecordText, shown_body};
 
-use crate::fault::KeepFault;
 use agent_core::Record;
+use keep_rows::KeepFault;
 use mails::Durable;
 use record_text::{RecordFault, record_of};
 use sqlite::{Error, ErrorCode, Row};

@@ -8,17 +8,20 @@ ghost use Rattle.sqlite.specs.Held.{state};
 ghost use Rattle.agent_core.specs.Records.{is_record, keys_rise};
 ghost use Rattle.record_text.specs.Texts.{record_form};
 ghost use Rattle.record_text.specs.Written.{IsDurable};
-ghost use Rattle.keep_store.specs.Kept.{ArePut, AreSeen, HasHead, HasRecord, IsHead, IsHeadSeen, IsPut, Knows, KnowsHead, kept_in, with_record, with_tasks};
+ghost use Rattle.keep_store.specs.Kept.{ArePut, AreSeen, HasHead, HasRecord, HasTotal, IsHead, IsHeadSeen, IsPut, Knows, KnowsHead, kept_in, with_record, with_tasks};
 ghost use Rattle.keep_store.specs.Stops.{LeavesEither, Stands};
-ghost use Rattle.keep_store.specs.Tables.{IsReady, IsWriting, IsCommitted, Stays, WritesOn};
+ghost use Rattle.keep_rows.specs.Tables.{IsReady, IsWriting, IsCommitted, Stays, WritesOn, keeper_schema};
+ghost use Rattle.keep_rows.specs.Totals.{AreNamed};
+ghost use Rattle.quantity.specs.Rows.{AreRows};
 
-use crate::changes::{clear_heads, clear_records, put_head};
-use crate::fault::{KeepFault, fault_of};
+use crate::fault::fault_of;
 use crate::seen::write_tasks;
+use keep_rows::changes::{clear_heads, clear_records, put_head};
+use keep_rows::{KeepFault, write_total};
 use listed::Listed;
 use mails::{Durable, RecordedTask};
 use plain_data::Plain;
-use record_text::total_text;
+use quantity::Resources;
 use shared_value::Shared;
 use sqlite::{Alter, Connection, Error, ErrorCode, Transaction};
 use std::alloc::Global;
@@ -37,11 +40,47 @@ fn is_head_of(head: &Option<Durable>, durable: &Durable) -> bool
         && seen.run == durable.run
 }
 
-/// Writes the head, and takes out the row of a record that is kept as one text, unless `head` is known to be there
-/// and has the same parts.
+/// Whether these are the amounts of a record's total.
+fn is_total_of(head: &Option<Durable>, total: &Resources) -> bool
+    ensures { IsTrue result → (seen : Durable) × (head.now ≡ Some seen) × (seen.total ≡ total.now) }
+{
+    let Some(seen) = head else {
+        return false;
+    };
+    seen.total.is_same(total)
+}
+
+/// Writes the rows of a total, unless those of `head` are known to be there and are the same.
+fn write_amounts<S: Alter>(
+    tx: &mut Transaction<'_, S>,
+    head: &Option<Durable>,
+    total: &Resources,
+) -> Result<(), KeepFault>
+    requires { IsHeadSeen head.now }
+    ensures same_reference { tx.new.conn.ghost_name ≡ tx.old.conn.ghost_name }
+    ensures quiet { Survives (state S.Store tx.old.conn.now) (state S.Store tx.new.conn.now)
+        (λ _. ⊥) }
+    ensures went { IsWriting (state S.Store tx.old.conn.now)
+        → HasCleanDisk (state S.Store tx.new.conn.now)
+        → MatchResult result
+        (λ _. WritesOn (HasTotal head.now total.now) (state S.Store tx.old.conn.now)
+        (state S.Store tx.new.conn.now))
+        (λ _. KeepsCommit (state S.Store tx.old.conn.now) (state S.Store tx.new.conn.now)) }
+    ensures rows { OnOk result (AreRows total.now) }
+    ensures named { OnOk result (AreNamed total.now) }
+    ensures undamaged { IfErr result (λ e. e ≢ KeepFault.Damaged) }
+    ensures unspent { IfErr result (λ e. e ≢ KeepFault.RunsSpent) }
+{
+    if is_total_of(head, total) {
+        return Ok(());
+    }
+    write_total(tx, total)
+}
+
+/// Writes the head and the rows of its total, and takes out the row of a record that is kept as one text, unless `head`
+/// is known to be there and has the same parts.
 fn write_head<S: Alter>(
     tx: &mut Transaction<'_, S>,
-    alloc: Global,
     head: &Option<Durable>,
     durable: &Durable,
 ) -> Result<(), KeepFault>
@@ -62,15 +101,11 @@ fn write_head<S: Alter>(
     if is_head_of(head, durable) {
         return Ok(());
     }
-    let run = durable.run;
-    let session = durable.session;
-    let total = total_text(alloc, &durable.total)?;
+    let name = durable.name.as_text();
     clear_records(tx).map_err(fault_of)?;
     clear_heads(tx).map_err(fault_of)?;
-    match put_head(tx, durable.name.as_text(), run, session, total.as_str()) {
-        Ok(_) => Ok(()),
-        Err(error) => Err(fault_of(error)),
-    }
+    put_head(tx, name, durable.run, durable.session).map_err(fault_of)?;
+    write_amounts(tx, head, &durable.total)
 }
 
 /// Writes the rows of a record, and gives the tasks back that it has. The rows of `seen` are known to be there.
@@ -100,7 +135,7 @@ fn write_rows<S: Alter>(
     ensures unspent { IfErr result (λ e. e ≢ KeepFault.RunsSpent) }
 {
     let tasks = write_tasks(tx, alloc, seen, durable.tasks.as_slice())?;
-    write_head(tx, alloc, head, durable)?;
+    write_head(tx, head, durable)?;
     Ok(tasks)
 }
 
@@ -118,8 +153,8 @@ fn commit_record<S: Alter>(
     requires rise { keys_rise durable.now.tasks ≡ true }
     ensures clean { HasCleanDisk (state S.Store conn.new) → HasCleanDisk (state S.Store conn.old) }
     ensures saved { IsReady (state S.Store conn.old) → HasCleanDisk (state S.Store conn.new)
-        → OnOk result (IsCommitted (HasRecord seen head.now durable.now) (state S.Store conn.old)
-        (state S.Store conn.new)) }
+        → OnOk result (IsCommitted keeper_schema (HasRecord seen head.now durable.now)
+        (state S.Store conn.old) (state S.Store conn.new)) }
     ensures failed { IsReady (state S.Store conn.old) → HasCleanDisk (state S.Store conn.new)
         → OnErr result (Stays (state S.Store conn.old) (state S.Store conn.new)) }
     ensures crash { IsReady (state S.Store conn.old)

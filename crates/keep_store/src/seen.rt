@@ -8,13 +8,14 @@ ghost use Rattle.sqlite.specs.Tree.{Trees};
 ghost use Rattle.sqlite_rules.specs.Lists.{Has};
 ghost use Rattle.agent_core.specs.Records.{keys_rise};
 ghost use Rattle.mails.specs.declared.record.Durable.{Durable};
-ghost use Rattle.keep_store.specs.Kept.{Adds, ArePut, AreSeen, AreTold, HasNoTask, HasTasks, IsPlaced, IsPut, Knows, Shows};
-ghost use Rattle.keep_store.specs.Tables.{AreIds, Cuts, IsSame, IsWriting, WritesOn, place_of};
+ghost use Rattle.keep_store.specs.Kept.{Adds, ArePut, AreSeen, AreTold, HasNoTask, HasTasks, IsPlaced, IsPut, Knows};
+ghost use Rattle.keep_rows.specs.Tables.{Shows};
+ghost use Rattle.keep_rows.specs.Tables.{AreIds, Cuts, IsSame, IsWriting, WritesOn, place_of};
 
-use crate::changes::{clear_tasks, cut_task, place_of, put_task, read_places};
-use crate::fault::{KeepFault, fault_of};
-use crate::tables::Rows;
+use crate::fault::fault_of;
 use agent_core::Record;
+use keep_rows::changes::{clear_tasks, cut_task, place_of, put_task, read_places};
+use keep_rows::{KeepFault, Rows, corrupt};
 use listed::Listed;
 use mails::RecordedTask;
 use plain_data::Plain;
@@ -22,13 +23,6 @@ use record_text::task_text;
 use shared_value::Shared;
 use sqlite::{Alter, Error, ErrorCode, Row, Transaction};
 use std::alloc::Global;
-
-/// Rows are others than was known of them.
-fn corrupt() -> KeepFault
-    ensures { (result ≢ KeepFault.Damaged) × (result ≢ KeepFault.RunsSpent) }
-{
-    KeepFault::Store(Error::SqliteFailure(ErrorCode::DatabaseCorrupt))
-}
 
 /// Takes the rows of all tasks out, and looks whether any is left.
 fn forget_tasks<S: Alter>(tx: &mut Transaction<'_, S>) -> Result<(), KeepFault>
@@ -138,6 +132,7 @@ pub fn seen_in(rows: &Rows, found: &Option<Record>) -> Option<Listed<Shared<Reco
     ensures put { AreSeen result }
     ensures knows { (db : Trees)
         → Shows db rows.now.records.items rows.now.heads.items rows.now.tasks.items
+        rows.now.amounts.items
         → Knows result db }
 {
     let Some(record) = found else {

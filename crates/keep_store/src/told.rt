@@ -1,22 +1,24 @@
 //! What rows tell of a record.
 
-ghost use Rattle.std.specs.Prelude.{◌≡◌, ◌≢◌, ◌⊎◌, true, false, Some, None, IfOk, IfErr, IsErrOf, length, string_bytes};
+ghost use Rattle.std.specs.Prelude.{◌≡◌, ◌≢◌, ◌⊎◌, true, false, Some, None, IfOk, IfErr, IsErrOf, IsPermutation, List, [], length, string_bytes};
 ghost use Rattle.sqlite.specs.Tree.{Trees};
 ghost use Rattle.agent_core.specs.Records.{keys_rise, is_record};
 ghost use Rattle.mails.specs.declared.record.Durable.{Durable};
 ghost use Rattle.record_text.specs.Texts.{record_form};
 ghost use Rattle.std.specs.List.{AllByRecursion};
-ghost use Rattle.sqlite.specs.Order.{column};
+ghost use Rattle.sqlite.specs.Order.{Row as Shown, column};
 ghost use Rattle.names_core.specs.Names.{is_name};
 ghost use Rattle.quantity.specs.Rows.{AreRows};
 ghost use Rattle.record_text.specs.Reading.{task_in, total_in, where_true};
+ghost use Rattle.keep_rows.specs.Columns.{Gives, number_at, text_at};
 ghost use Rattle.record_text.specs.Written.{IsTask, IsDurable};
-ghost use Rattle.keep_store.specs.Kept.{Gives, IsDamaged, IsLoaded, IsPut, HoldsText, AreTold, SomeUntold, Shows, kept_in, number_at, text_at, told, head_told, with_tasks};
-ghost use Rattle.keep_store.specs.declared.fault.KeepFault.TheVariants as faults;
+ghost use Rattle.keep_store.specs.Kept.{IsDamaged, IsLoaded, IsPut, HoldsText, AreTold, SomeUntold, kept_in, told, own_told, total_by, head_told, with_tasks};
+ghost use Rattle.keep_rows.specs.Tables.{Shows};
+ghost use Rattle.keep_rows.specs.declared.fault.KeepFault.TheVariants as faults;
 
-use crate::fault::KeepFault;
 use crate::record::{first_body, of_an_agent, record_in};
 use agent_core::{Record, keys_rise};
+use keep_rows::{KeepFault, number_at, text_at};
 use listed::Listed;
 use mails::{Durable, RecordedTask};
 use names_core::{AgentName, NameFault};
@@ -25,28 +27,6 @@ use record_text::{RecordFault, task_of_text, total_of_text};
 use shared_value::Shared;
 use sqlite::{Error, ErrorCode, Row};
 use std::alloc::Global;
-
-/// The number in a column.
-fn number_at(row: &Row, at: usize) -> Result<u32, KeepFault>
-    ensures { Gives (λ n. n) result (number_at (column row.now at)) }
-{
-    match row.get::<u32>(at) {
-        Ok(number) => Ok(number),
-        Err(Error::SqliteFailure(ErrorCode::OutOfMemory)) => Err(KeepFault::OutOfMemory),
-        Err(_) => Err(KeepFault::Damaged),
-    }
-}
-
-/// The text in a column.
-fn text_at(row: &Row, at: usize) -> Result<String, KeepFault>
-    ensures { Gives string_bytes result (text_at (column row.now at)) }
-{
-    match row.get::<String>(at) {
-        Ok(text) => Ok(text),
-        Err(Error::SqliteFailure(ErrorCode::OutOfMemory)) => Err(KeepFault::OutOfMemory),
-        Err(_) => Err(KeepFault::Damaged),
-    }
-}
 
 /// The task of a text.
 fn task_of(alloc: Global, text: &str) -> Result<Shared<RecordedTask>, KeepFault>
@@ -99,10 +79,10 @@ fn name_of(alloc: Global, text: &str) -> Result<AgentName, KeepFault>
     }
 }
 
-/// The record of a head, which is a row of name, run, session, total and version, with no tasks yet.
-#[tactic(auto, unfolding(crate::specs::Kept::head_told))]
-fn head_told(alloc: Global, head: &Row) -> Result<Durable, KeepFault>
-    ensures told { Gives (λ d. d) result (head_told head.now) }
+/// The record of a head's row of name, run, session, total and version, with its own total and no tasks yet.
+#[tactic(auto, unfolding(crate::specs::Kept::own_told))]
+fn own_told(alloc: Global, head: &Row) -> Result<Durable, KeepFault>
+    ensures told { Gives (λ d. d) result (own_told head.now) }
     ensures durable { IfOk result IsDurable }
 {
     let text = text_at(head, 0)?;
@@ -111,15 +91,92 @@ fn head_told(alloc: Global, head: &Row) -> Result<Durable, KeepFault>
     let session = number_at(head, 2)?;
     let body = text_at(head, 3)?;
     let total = total_of(alloc, body.as_str())?;
-    if number_at(head, 4)? != 1 {
-        return Err(KeepFault::Damaged);
-    }
     Ok(Durable {
         name,
         total,
         session,
         run,
         tasks: Listed::new(alloc),
+    })
+}
+
+/// In version 1 a head has its own total, beside no row of an amount.
+fn first_total(own: Resources, amounts: &[Row]) -> Result<Resources, KeepFault>
+    ensures told { (held : List Shown) → IsPermutation held amounts.now
+        → IfOk result (λ total. total_by 1 own held ≡ Some total) }
+    ensures untold { (held : List Shown) → IsPermutation held amounts.now
+        → IsErrOf result KeepFault.Damaged → total_by 1 own held ≡ None }
+    ensures ordered { AreRows own → IfOk result AreRows }
+    ensures unspent { IfErr result (λ e. e ≢ KeepFault.RunsSpent) }
+{
+    if amounts.is_empty() {
+        Ok(own)
+    } else {
+        Err(KeepFault::Damaged)
+    }
+}
+
+/// In version 2 a head has no total of its own, but that which the rows of its amounts tell.
+fn second_total(alloc: Global, own: Resources, amounts: &[Row]) -> Result<Resources, KeepFault>
+    ensures told { (held : List Shown) → IsPermutation held amounts.now
+        → IfOk result (λ total. total_by 2 own held ≡ Some total) }
+    ensures untold { (held : List Shown) → IsPermutation held amounts.now
+        → IsErrOf result KeepFault.Damaged → total_by 2 own held ≡ None }
+    ensures ordered { IfOk result AreRows }
+    ensures unspent { IfErr result (λ e. e ≢ KeepFault.RunsSpent) }
+{
+    if own.is_empty() {
+        keep_rows::total_of(alloc, amounts)
+    } else {
+        Err(KeepFault::Damaged)
+    }
+}
+
+/// The total of a head of a version.
+fn total_by(
+    alloc: Global,
+    version: u32,
+    own: Resources,
+    amounts: &[Row],
+) -> Result<Resources, KeepFault>
+    ensures told { (held : List Shown) → IsPermutation held amounts.now
+        → IfOk result (λ total. total_by version own held ≡ Some total) }
+    ensures untold { (held : List Shown) → IsPermutation held amounts.now
+        → IsErrOf result KeepFault.Damaged → total_by version own held ≡ None }
+    ensures ordered { AreRows own → IfOk result AreRows }
+    ensures unspent { IfErr result (λ e. e ≢ KeepFault.RunsSpent) }
+{
+    match version {
+        1 => first_total(own, amounts),
+        2 => second_total(alloc, own, amounts),
+        _ => Err(KeepFault::Damaged),
+    }
+}
+
+/// The record of a head, with no tasks yet. The rows are those of the amounts of its total.
+fn head_told(alloc: Global, head: &Row, amounts: &[Row]) -> Result<Durable, KeepFault>
+    ensures told { (held : List Shown) → IsPermutation held amounts.now
+        → IfOk result (λ d. head_told head.now held ≡ Some d) }
+    ensures untold { (held : List Shown) → IsPermutation held amounts.now
+        → IsErrOf result KeepFault.Damaged → head_told head.now held ≡ None }
+    ensures durable { IfOk result IsDurable }
+    ensures unspent { IfErr result (λ e. e ≢ KeepFault.RunsSpent) }
+{
+    let Durable {
+        name,
+        total,
+        session,
+        run,
+        tasks,
+    } = own_told(alloc, head)?;
+    let version = number_at(head, 4)?;
+    let total = total_by(alloc, version, total, amounts)?;
+    Ok(Durable {
+        name,
+        total,
+        session,
+        run,
+        tasks,
     })
 }
 
@@ -142,14 +199,21 @@ fn record_with(
     alloc: Global,
     head: &Row,
     tasks: Vec<Shared<RecordedTask>>,
+    amounts: &[Row],
 ) -> Result<Option<Record>, KeepFault>
-    ensures found { AllByRecursion IsTask tasks.items → IfOk result (λ found. (d : Durable) × (head_told head.now ≡ Some d) × (found ≡ Some (with_tasks tasks.items d))
-        × (keys_rise tasks.items ≡ true) × IsDurable (with_tasks tasks.items d) × (is_record (with_tasks tasks.items d) ≡ true)) }
-    ensures damaged { AllByRecursion IsTask tasks.items → IsErrOf result KeepFault.Damaged → (head_told head.now ≡ None)
-        ⊎ ((d : Durable) × (head_told head.now ≡ Some d) × (keys_rise tasks.items ≡ true) × IsDurable (with_tasks tasks.items d) × (is_record (with_tasks tasks.items d) ≡ false)) }
+    ensures found { (held : List Shown) → IsPermutation held amounts.now
+        → AllByRecursion IsTask tasks.items → IfOk result (λ found. (d : Durable)
+        × (head_told head.now held ≡ Some d) × (found ≡ Some (with_tasks tasks.items d))
+        × (keys_rise tasks.items ≡ true) × IsDurable (with_tasks tasks.items d)
+        × (is_record (with_tasks tasks.items d) ≡ true)) }
+    ensures damaged { (held : List Shown) → IsPermutation held amounts.now
+        → AllByRecursion IsTask tasks.items → IsErrOf result KeepFault.Damaged
+        → (head_told head.now held ≡ None)
+        ⊎ ((d : Durable) × (head_told head.now held ≡ Some d) × (keys_rise tasks.items ≡ true)
+        × IsDurable (with_tasks tasks.items d) × (is_record (with_tasks tasks.items d) ≡ false)) }
     ensures unspent { IfErr result (λ e. e ≢ KeepFault.RunsSpent) }
 {
-    let mut durable = head_told(alloc, head)?;
+    let mut durable = head_told(alloc, head, amounts)?;
     if !keys_rise(tasks.as_slice()) {
         return Err(KeepFault::Store(Error::SqliteFailure(ErrorCode::DatabaseCorrupt)));
     }
@@ -158,16 +222,21 @@ fn record_with(
     Ok(Some(found))
 }
 
-/// The record that the rows of the three tables tell, as queries show them.
+/// The record that the rows of the four tables tell, as queries show them.
 pub fn record_shown(
     alloc: Global,
     records: &[Row],
     heads: &[Row],
     tasks: &[Row],
+    amounts: &[Row],
 ) -> Result<Option<Record>, KeepFault>
-    ensures loaded { (db : Trees) → Shows db records.now heads.now tasks.now → IfOk result (IsLoaded (kept_in db).body) }
-    ensures saved { (db : Trees) (d : Durable) → Shows db records.now heads.now tasks.now → IsDurable d → HoldsText (kept_in db).body (record_form d) → IfOk result (λ found. found ≡ Some d) }
-    ensures damaged { (db : Trees) → Shows db records.now heads.now tasks.now → IsErrOf result KeepFault.Damaged → IsDamaged (kept_in db).body }
+    ensures loaded { (db : Trees) → Shows db records.now heads.now tasks.now amounts.now
+        → IfOk result (IsLoaded (kept_in db).body) }
+    ensures saved { (db : Trees) (d : Durable)
+        → Shows db records.now heads.now tasks.now amounts.now → IsDurable d
+        → HoldsText (kept_in db).body (record_form d) → IfOk result (λ found. found ≡ Some d) }
+    ensures damaged { (db : Trees) → Shows db records.now heads.now tasks.now amounts.now
+        → IsErrOf result KeepFault.Damaged → IsDamaged (kept_in db).body }
     ensures told { IfOk result (λ found. (d : Durable) → found ≡ Some d → length heads.now ≢ 0
         → AreTold tasks.now d.tasks × AllByRecursion IsPut d.tasks) }
     ensures unspent { IfErr result (λ e. e ≢ KeepFault.RunsSpent) }
@@ -177,10 +246,13 @@ pub fn record_shown(
         if !tasks.is_empty() {
             return Err(KeepFault::Damaged);
         }
+        if !amounts.is_empty() {
+            return Err(KeepFault::Damaged);
+        }
         return record_in(alloc, first_body(records)?);
     }
     if !records.is_empty() {
         return Err(KeepFault::Damaged);
     }
-    record_with(alloc, &heads[0], told)
+    record_with(alloc, &heads[0], told, amounts)
 }

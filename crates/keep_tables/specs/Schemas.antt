@@ -55,6 +55,9 @@ head_columns =
 abbrev pub task_columns : List Column
 task_columns = column_of (codes "run") Integer true ∷ column_of (codes "n") Integer true ∷ column_of (codes "body") Words true ∷ []
 
+abbrev pub total_columns : List Column
+total_columns = column_of (codes "name") Words false ∷ column_of (codes "amount") Integer true ∷ []
+
 abbrev pub record_table : Table
 record_table = lone_table (codes "agent_record") 0 record_columns
 
@@ -81,13 +84,41 @@ task_table = record {
   is_counted = false;
 }
 
+-- a unique index of a table's columns
+abbrev pub index_of : List ℕ → ℕ → ℕ → List ℕ → Index
+index_of name tree table columns = record { name = name; tree = tree; table = table; columns = columns; order = plain; is_unique = true }
+
 abbrev pub task_index : Index
-task_index = record { name = codes "sqlite_autoindex_agent_task_1"; tree = 4; table = 3; columns = 1 ∷ 2 ∷ []; order = plain; is_unique = true }
+task_index = index_of (codes "sqlite_autoindex_agent_task_1") 4 3 (1 ∷ 2 ∷ [])
+
+-- the table of a total's amounts, whose key is the resource's name
+abbrev pub total_table : Table
+total_table = record {
+  name = codes "agent_total";
+  tree = 5;
+  columns = total_columns;
+  key = None;
+  primary = 1 ∷ [];
+  uniques = (1 ∷ []) ∷ [];
+  orders = plain ∷ [];
+  checks = [];
+  references = [];
+  computed = [];
+  stamps = no_stamps;
+  is_counted = false;
+}
+
+abbrev pub total_index : Index
+total_index = index_of (codes "sqlite_autoindex_agent_total_1") 6 5 (1 ∷ [])
 
 abbrev pub keeper_schema : Schema
-keeper_schema = record { tables = record_table ∷ run_table ∷ head_table ∷ task_table ∷ []; indexes = task_index ∷ []; views = [] }
+keeper_schema = record { tables = record_table ∷ run_table ∷ head_table ∷ task_table ∷ total_table ∷ []; indexes = task_index ∷ total_index ∷ []; views = [] }
 
--- the two tables of a store of the form before
+-- the four tables of a store that has a total in its head
+abbrev pub second_schema : Schema
+second_schema = record { tables = record_table ∷ run_table ∷ head_table ∷ task_table ∷ []; indexes = task_index ∷ []; views = [] }
+
+-- the two tables of a store that has a record as one text
 abbrev pub first_schema : Schema
 first_schema = record { tables = record_table ∷ run_table ∷ []; indexes = []; views = [] }
 

@@ -9,7 +9,7 @@ ghost use Rattle.sqlite.specs.declared.types.Value.TheVariants.{Int};
 ghost use Rattle.sqlite_sql.specs.declared.ops.BinaryOp.TheVariants.{Compare};
 ghost use Rattle.sqlite_sql.specs.declared.ops.CompareOp.TheVariants.{Eq};
 ghost use Rattle.sqlite.specs.Collation.TheVariants.{Binary};
-ghost use Rattle.keep_tables.specs.Schemas.{no_schema, first_schema, keeper_schema, lone_table, record_table, run_table, head_table, task_table, task_index, head_columns, task_columns, column_of, id_check, no_stamps};
+ghost use Rattle.keep_tables.specs.Schemas.{no_schema, first_schema, second_schema, keeper_schema, lone_table, record_table, run_table, head_table, task_table, task_index, total_table, total_index, head_columns, task_columns, total_columns, column_of, index_of, id_check, no_stamps};
 
 use sqlite_schema::code::{Op, Terms};
 use sqlite_schema::schema::{Column, Index, Kind, Schema, Stamps, Table};
@@ -111,7 +111,7 @@ fn are_task_columns(columns: &[Column]) -> bool
         && is_column(&columns[2], b"body", Kind::Text, true)
 }
 
-/// What the four tables have none of.
+/// What the tables have none of.
 fn is_simple(table: &Table) -> bool
     ensures { IsTrue result → (table.now.references ≡ []) × (table.now.computed ≡ []) × (table.now.stamps ≡ no_stamps) × (table.now.is_counted ≡ false) }
 {
@@ -147,13 +147,14 @@ fn is_head(table: &Table) -> bool
     is_lone(table, b"agent_head", 2) && are_head_columns(table.columns.as_slice())
 }
 
-fn has_unique(table: &Table) -> bool
-    ensures { IsTrue result → table.now.uniques ≡ (1 ∷ 2 ∷ []) ∷ [] }
+/// The columns at these places are the only ones that are unique together.
+fn has_unique(table: &Table, columns: &[usize]) -> bool
+    ensures { IsTrue result → table.now.uniques ≡ columns.now ∷ [] }
 {
     let [unique] = table.uniques.as_slice() else {
         return false;
     };
-    unique.as_slice() == [1, 2].as_slice()
+    unique.as_slice() == columns
 }
 
 fn has_order(table: &Table) -> bool
@@ -165,13 +166,14 @@ fn has_order(table: &Table) -> bool
     order.digits == 0
 }
 
-/// The primary key is that of run and number.
-fn has_task_key(table: &Table) -> bool
-    ensures { IsTrue result → (table.now.key ≡ None) × (table.now.primary ≡ 1 ∷ 2 ∷ []) × (table.now.uniques ≡ (1 ∷ 2 ∷ []) ∷ []) × (table.now.orders ≡ plain ∷ []) }
+/// The primary key is that of the columns at these places, and no rowid.
+fn has_key(table: &Table, columns: &[usize]) -> bool
+    ensures { IsTrue result → (table.now.key ≡ None) × (table.now.primary ≡ columns.now)
+        × (table.now.uniques ≡ columns.now ∷ []) × (table.now.orders ≡ plain ∷ []) }
 {
     table.key.is_none()
-        && table.primary.as_slice() == [1, 2].as_slice()
-        && has_unique(table)
+        && table.primary.as_slice() == columns
+        && has_unique(table, columns)
         && has_order(table)
 }
 
@@ -181,20 +183,52 @@ fn is_task(table: &Table) -> bool
     table.name.as_slice() == b"agent_task".as_slice()
         && table.tree == 3
         && are_task_columns(table.columns.as_slice())
-        && has_task_key(table)
+        && has_key(table, &[1, 2])
         && table.checks.roots.is_empty()
         && is_simple(table)
+}
+
+/// A unique index of the columns at these places.
+fn is_index(index: &Index, name: &[u8], tree: u32, table: u32, columns: &[usize]) -> bool
+    ensures { IsTrue result → index.now ≡ index_of name.now tree table columns.now }
+{
+    index.name.as_slice() == name
+        && index.tree == tree
+        && index.table == table
+        && index.columns.as_slice() == columns
+        && index.order.digits == 0
+        && index.is_unique
 }
 
 fn is_task_index(index: &Index) -> bool
     ensures { IsTrue result → index.now ≡ task_index }
 {
-    index.name.as_slice() == b"sqlite_autoindex_agent_task_1".as_slice()
-        && index.tree == 4
-        && index.table == 3
-        && index.columns.as_slice() == [1, 2].as_slice()
-        && index.order.digits == 0
-        && index.is_unique
+    is_index(index, b"sqlite_autoindex_agent_task_1", 4, 3, &[1, 2])
+}
+
+fn are_total_columns(columns: &[Column]) -> bool
+    ensures { IsTrue result → columns.now ≡ total_columns }
+{
+    columns.len() == 2
+        && is_column(&columns[0], b"name", Kind::Text, false)
+        && is_column(&columns[1], b"amount", Kind::Integer, true)
+}
+
+fn is_total(table: &Table) -> bool
+    ensures { IsTrue result → table.now ≡ total_table }
+{
+    table.name.as_slice() == b"agent_total".as_slice()
+        && table.tree == 5
+        && are_total_columns(table.columns.as_slice())
+        && has_key(table, &[1])
+        && table.checks.roots.is_empty()
+        && is_simple(table)
+}
+
+fn is_total_index(index: &Index) -> bool
+    ensures { IsTrue result → index.now ≡ total_index }
+{
+    is_index(index, b"sqlite_autoindex_agent_total_1", 6, 5, &[1])
 }
 
 fn are_first(tables: &[Table]) -> bool
@@ -212,7 +246,7 @@ fn are_both(record: &Table, run: &Table) -> bool
         && is_table(run, b"run_number", 1, b"last", Kind::Integer)
 }
 
-fn are_all(tables: &[Table]) -> bool
+fn are_second(tables: &[Table]) -> bool
     ensures { IsTrue result → tables.now ≡ record_table ∷ run_table ∷ head_table ∷ task_table ∷ [] }
 {
     let [record, run, head, task] = tables else {
@@ -221,12 +255,39 @@ fn are_all(tables: &[Table]) -> bool
     are_both(record, run) && is_head(head) && is_task(task)
 }
 
-/// The schema is that of the four tables.
+fn are_all(tables: &[Table]) -> bool
+    ensures { IsTrue result → tables.now ≡ record_table ∷ run_table ∷ head_table ∷ task_table ∷ total_table ∷ [] }
+{
+    let [record, run, head, task, total] = tables else {
+        return false;
+    };
+    are_both(record, run) && is_head(head) && is_task(task) && is_total(total)
+}
+
+fn are_indexes(indexes: &[Index]) -> bool
+    ensures { IsTrue result → indexes.now ≡ task_index ∷ total_index ∷ [] }
+{
+    let [task, total] = indexes else {
+        return false;
+    };
+    is_task_index(task) && is_total_index(total)
+}
+
+/// The schema is that of the five tables.
 pub fn is_ours(schema: &Schema) -> bool
     ensures { IsTrue result → schema.now ≡ keeper_schema }
 {
-    let indexes = schema.indexes.as_slice();
     are_all(schema.tables.as_slice())
+        && are_indexes(schema.indexes.as_slice())
+        && schema.views.is_empty()
+}
+
+/// The schema is that of the four tables which a store had that kept an agent's total in its head.
+pub fn is_second(schema: &Schema) -> bool
+    ensures { IsTrue result → schema.now ≡ second_schema }
+{
+    let indexes = schema.indexes.as_slice();
+    are_second(schema.tables.as_slice())
         && indexes.len() == 1
         && is_task_index(&indexes[0])
         && schema.views.is_empty()

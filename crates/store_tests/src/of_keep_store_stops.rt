@@ -2,9 +2,10 @@
 //! before or the new one as a whole, and no run is given twice.
 
 use crate::disks::{Calls, Contents, NO_STOP, calls_of, connected, contents_of, disks_of, nothing};
-use crate::records::{OTHER_TASKS, SESSION_1, SESSION_2, TASKS, load, save};
+use crate::older_forms::{write_rows, write_text};
+use crate::records::{OTHER_TASKS, OWNS_4, OWNS_8, SESSION_1, SESSION_2, TASKS, load, save};
 use keep_store::Keeper;
-use sqlite::{Alter, Connection, FileStore, Files, params};
+use sqlite::{Alter, Connection, FileStore, Files};
 use sqlite_disk::Disk;
 use std::alloc::Global;
 
@@ -129,39 +130,40 @@ fn rows(alloc: Global, text: &str) -> Option<Contents> {
     }
 }
 
-/// The tables of a store that keeps a record as one text, with run 1 given out.
-const TABLES_OF_TEXT: &str =
-    "CREATE TABLE agent_record (id INTEGER PRIMARY KEY CHECK (id = 1), body TEXT NOT NULL);
-CREATE TABLE run_number (id INTEGER PRIMARY KEY CHECK (id = 1), last INTEGER NOT NULL);
-INSERT INTO run_number (id, last) VALUES (1, 1)";
-
-/// Whether a record was kept as one text.
-fn write_text<S: Alter>(conn: &mut Connection<S>, text: &str) -> bool {
-    let insert = "INSERT INTO agent_record (id, body) VALUES (1, ?1)";
-    conn.execute_batch(TABLES_OF_TEXT).is_ok() && conn.execute(insert, params![text]).is_ok()
+/// A store of an older form.
+#[derive(Clone, Copy)]
+enum Older<'a> {
+    /// The record of a text, as one text.
+    Text(&'a str),
+    /// That of `OWNS_4`, in rows with its total in the head.
+    Rows,
 }
 
-/// The disks of a store in which a record was kept as one text.
-fn with_text<S: OverDisks>(mut conn: Connection<S>, text: &str) -> Option<S::Disks> {
-    if write_text(&mut conn, text) {
+fn write_older<S: Alter>(alloc: Global, conn: &mut Connection<S>, form: Older<'_>) -> bool {
+    match form {
+        Older::Text(text) => write_text(alloc, conn, text),
+        Older::Rows => write_rows(conn),
+    }
+}
+
+/// The disks of a store of an older form.
+fn with_older<S: OverDisks>(
+    alloc: Global,
+    mut conn: Connection<S>,
+    form: Older<'_>,
+) -> Option<S::Disks> {
+    if write_older(alloc, &mut conn, form) {
         Some(conn.into_store().into_disks())
     } else {
         None
     }
 }
 
-/// A record's text in version 1, which stores had that kept it as one text.
-fn first_version(alloc: Global, text: &str) -> Option<String> {
-    let front = text.strip_suffix("2}")?;
-    format!(in alloc; "{front}1}}").ok()
-}
-
-/// The files in which a record is kept as one text and run 1 was given out.
-fn text_alone(alloc: Global, text: &str) -> Option<Contents> {
-    let text = first_version(alloc, text)?;
+/// The files of a store of an older form, in which run 1 was given out.
+fn older_files(alloc: Global, form: Older<'_>) -> Option<Contents> {
     let disks = disks_of(alloc, &nothing(alloc), NO_STOP)?;
     match connected(alloc, disks) {
-        Ok(conn) => contents_of(alloc, with_text(conn, text.as_str())?, false),
+        Ok(conn) => contents_of(alloc, with_older(alloc, conn, form)?, false),
         Err(_) => None,
     }
 }
@@ -281,7 +283,30 @@ fn stops_behind_a_text(alloc: Global, is_journal: bool) -> bool {
         texts: &[TASKS, OTHER_TASKS],
         kept: 1,
     };
-    stops_well(alloc, text_alone(alloc, TASKS), plan, is_journal)
+    stops_well(
+        alloc,
+        older_files(alloc, Older::Text(TASKS)),
+        plan,
+        is_journal,
+    )
+}
+
+/// A save of a larger total over rows with the total in the head.
+fn stops_behind_rows(alloc: Global, is_journal: bool) -> bool {
+    let plan = Plan {
+        texts: &[OWNS_4, OWNS_8],
+        kept: 1,
+    };
+    stops_well(alloc, older_files(alloc, Older::Rows), plan, is_journal)
+}
+
+/// A save of a total and one of a larger total by the same keeper, which writes the head and the rows of the total alone.
+fn stops_in_a_rise(alloc: Global, is_journal: bool) -> bool {
+    let plan = Plan {
+        texts: &[SESSION_1, OWNS_4, OWNS_8],
+        kept: 1,
+    };
+    stops_well(alloc, rows(alloc, SESSION_1), plan, is_journal)
 }
 
 /// The journal's file stops at each call.
@@ -324,4 +349,20 @@ pub fn a_journal_stops_behind_a_text(alloc: Global) -> bool {
 
 pub fn a_database_file_stops_behind_a_text(alloc: Global) -> bool {
     stops_behind_a_text(alloc, false)
+}
+
+pub fn a_journal_stops_behind_rows(alloc: Global) -> bool {
+    stops_behind_rows(alloc, true)
+}
+
+pub fn a_database_file_stops_behind_rows(alloc: Global) -> bool {
+    stops_behind_rows(alloc, false)
+}
+
+pub fn a_journal_stops_in_a_rise(alloc: Global) -> bool {
+    stops_in_a_rise(alloc, true)
+}
+
+pub fn a_database_file_stops_in_a_rise(alloc: Global) -> bool {
+    stops_in_a_rise(alloc, false)
 }

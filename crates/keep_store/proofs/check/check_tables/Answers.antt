@@ -2,8 +2,8 @@ use Rattle.std.proofs.Common.{rules, ◌≡◌, ◌∙◌, ap, false, length}
 use Rattle.sqlite.specs.Effect.{Database}
 use Rattle.sqlite.specs.Held.{state}
 use Rattle.sqlite.specs.State.{HasCleanDisk, IsUnchanged}
-use Rattle.keep_store.specs.Tables.{AreIds, IsLone, keeper_schema}
-use Rattle.keep_store.proofs.ReadLemmas.{checked, emptied}
+use Rattle.keep_rows.specs.Tables.{AreIds, IsLone, keeper_schema}
+use Rattle.keep_rows.proofs.ReadLemmas.{checked, emptied}
 use Rattle.keep_store.proofs.check.check_tables.Goals as goal
 
 pub returns-clause-ready : goal.returns-clause-ready

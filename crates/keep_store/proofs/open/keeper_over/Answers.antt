@@ -5,3 +5,6 @@ returns-in-Ok-adopt-clause-found g c clean = (c.in-Ok.conn, c.in-Ok.is, c.in-Ok-
 
 pub returns-in-Ok-adopt-clause-moved : goal.returns-in-Ok-adopt-clause-moved
 returns-in-Ok-adopt-clause-moved g c clean = (c.in-Ok.conn, c.in-Ok.is, c.in-Ok-adopt.ensures.clean clean, c.in-Ok-adopt.ensures.moved clean)
+
+pub returns-in-Ok-adopt-clause-moved_rows : goal.returns-in-Ok-adopt-clause-moved_rows
+returns-in-Ok-adopt-clause-moved_rows g c clean = (c.in-Ok.conn, c.in-Ok.is, c.in-Ok-adopt.ensures.clean clean, c.in-Ok-adopt.ensures.moved_rows clean)

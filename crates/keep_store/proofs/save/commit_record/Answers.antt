@@ -2,7 +2,7 @@ use Rattle.std.proofs.Common.{refl, arith, true, ◌≡◌, rules}
 use Rattle.sqlite.specs.Held.{state}
 use Rattle.sqlite.specs.State.{HasCleanDisk}
 use Rattle.keep_store.specs.Kept.{HasRecord}
-use Rattle.keep_store.specs.Tables.{WritesOn}
+use Rattle.keep_rows.specs.Tables.{WritesOn}
 use Rattle.keep_store.proofs.SaveLemmas.{failed_commit}
 use Rattle.keep_store.proofs.save.commit_record.Goals as goal
 

@@ -5,7 +5,7 @@ use Rattle.sqlite.specs.Held.{state}
 use Rattle.sqlite_rules.specs.Lists.{Has}
 use Rattle.mails.specs.declared.record.RecordedTask.{RecordedTask}
 use Rattle.keep_store.specs.Kept.{Adds, HasTasks}
-use Rattle.keep_store.specs.Tables.{WritesOn}
+use Rattle.keep_rows.specs.Tables.{WritesOn}
 use Rattle.keep_store.proofs.SeenLemmas.{add_tasks, put_front, put_known}
 use Rattle.keep_store.proofs.seen.add_at.Goals as goal
 

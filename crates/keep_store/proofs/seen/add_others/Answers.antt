@@ -7,7 +7,7 @@ use Rattle.sqlite_rules.specs.Lists.{Has}
 use Rattle.sqlite_rules.proofs.ListLemmas.{has_at}
 use Rattle.mails.specs.declared.record.RecordedTask.{RecordedTask}
 use Rattle.keep_store.specs.Kept.{HasTasks}
-use Rattle.keep_store.proofs.SaveLemmas.{then_on, then_err}
+use Rattle.keep_rows.proofs.StoreLemmas.{then_on, then_err}
 use Rattle.keep_store.proofs.SeenLemmas.{among_keyed, known_among, then_tasks}
 use Rattle.keep_store.proofs.seen.add_others.Goals as goal
 

@@ -3,7 +3,7 @@ use Rattle.std.specs.Str.{IsUtf8}
 use Rattle.sqlite.specs.Held.{state}
 use Rattle.record_text.specs.Texts.{task_form}
 use Rattle.std.proofs.lemmas.Str.{is_utf8-from_IsUtf8}
-use Rattle.keep_store.specs.Tables.{Puts, WritesOn, task_row}
+use Rattle.keep_rows.specs.Tables.{Puts, WritesOn, task_row}
 use Rattle.keep_store.proofs.SaveLemmas.{adds_one}
 use Rattle.keep_store.proofs.seen.add_task.Goals as goal
 

@@ -2,7 +2,7 @@ use Rattle.std.proofs.Common.{rules, arith, ◌≡◌, ◌<◌, length, List, So
 use Rattle.sqlite.specs.Held.{state}
 use Rattle.mails.specs.declared.record.RecordedTask.{RecordedTask}
 use Rattle.keep_store.specs.Kept.{ArePut, HasTasks}
-use Rattle.keep_store.specs.Tables.{Cuts, WritesOn, place_of}
+use Rattle.keep_rows.specs.Tables.{Cuts, WritesOn, place_of}
 use Rattle.keep_store.proofs.SeenLemmas.{cut_tasks, gone_put}
 use Rattle.keep_store.proofs.seen.cut_at.Goals as goal
 

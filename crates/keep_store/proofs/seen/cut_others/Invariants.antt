@@ -4,7 +4,7 @@ use Rattle.sqlite.specs.Held.{state}
 use Rattle.sqlite.specs.State.{HasCleanDisk, Survives}
 use Rattle.sqlite_rules.specs.Lists.{Has}
 use Rattle.keep_store.specs.Kept.{ArePut, HasTasks}
-use Rattle.keep_store.specs.Tables.{IsWriting, WritesOn}
+use Rattle.keep_rows.specs.Tables.{IsWriting, WritesOn}
 use Rattle.keep_store.proofs.seen.cut_others.Given as goal
 
 abbrev pub decreases-loop-at : goal.decreases-loop-at

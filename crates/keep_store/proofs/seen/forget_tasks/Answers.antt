@@ -2,8 +2,9 @@ use Rattle.std.proofs.Common.{rules, ◌≡◌, length, arith}
 use Rattle.sqlite.specs.Held.{state}
 use Rattle.sqlite.specs.State.{HasCleanDisk}
 use Rattle.keep_store.specs.Kept.{HasNoTask}
-use Rattle.keep_store.specs.Tables.{AreIds, IsSame, SparesOthers, WritesOn}
-use Rattle.keep_store.proofs.SaveLemmas.{then_on, no_task_left}
+use Rattle.keep_rows.specs.Tables.{AreIds, IsSame, SparesOthers, WritesOn}
+use Rattle.keep_store.proofs.SaveLemmas.{no_task_left}
+use Rattle.keep_rows.proofs.StoreLemmas.{then_on}
 use Rattle.keep_store.proofs.seen.forget_tasks.Goals as goal
 
 pub returns-then-is_empty-clause-went : goal.returns-then-is_empty-clause-went

@@ -4,8 +4,8 @@ use Rattle.sqlite.specs.Held.{state}
 use Rattle.sqlite.specs.State.{HasCleanDisk, KeepsCommit, State}
 use Rattle.mails.specs.declared.record.RecordedTask.{RecordedTask}
 use Rattle.keep_store.specs.Kept.{HasTasks}
-use Rattle.keep_store.specs.Tables.{WritesOn}
-use Rattle.keep_store.proofs.SaveLemmas.{then_on, then_err}
+use Rattle.keep_rows.specs.Tables.{WritesOn}
+use Rattle.keep_rows.proofs.StoreLemmas.{then_on, then_err}
 use Rattle.keep_store.proofs.SeenLemmas.{then_tasks}
 use Rattle.keep_store.proofs.seen.write_tasks.Goals as goal
 

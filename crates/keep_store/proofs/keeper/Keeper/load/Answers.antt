@@ -2,8 +2,9 @@ use Rattle.std.proofs.Common.{rules, ◌≡◌, IsTrue, subst, sym}
 use Rattle.sqlite.specs.Effect.{Database}
 use Rattle.sqlite.specs.Held.{state}
 use Rattle.sqlite.specs.State.{HasCleanDisk}
-use Rattle.keep_store.specs.Kept.{Knows, Shows}
-use Rattle.keep_store.specs.Tables.{IsReady}
+use Rattle.keep_store.specs.Kept.{Knows}
+use Rattle.keep_rows.specs.Tables.{Shows}
+use Rattle.keep_rows.specs.Tables.{IsReady}
 use Rattle.keep_store.proofs.keeper.Keeper.load.Goals as goal
 
 pub seen_in-requires : goal.seen_in-requires
@@ -14,26 +15,25 @@ invariant_of-self-then-is_ready-2 g c =
     let old = state g.S.Store c.self.inside.conn in
     let new = state g.S.Store c.read_rows.new.conn in
     let was_ready : IsTrue c.self.inside.is_ready = search rules in
-    let was = λ (clean : HasCleanDisk new). c.self.invariant.2 was_ready (c.read_rows.ensures.clean clean) in
-    let up = λ (clean : HasCleanDisk new). (let a = c.read_rows.ensures.up (was clean) clean in (let ready : IsReady new = search rules in ready)) in
+    let was = λ (clean : HasCleanDisk new). c.self.invariant.2 was_ready (c.in-Ok.ensures.clean clean) in
+    let up = λ (clean : HasCleanDisk new). c.in-Ok.ensures.up (was clean) clean in
     let knows = λ (clean : HasCleanDisk new). (
-    let a = c.read_rows.ensures.rows (was clean) clean in
-    let shows : Shows old.now.trees c.in_ok-rows.rows.records.items c.in_ok-rows.rows.heads.items c.in_ok-rows.rows.tasks.items = search rules in
-    let same : new.now ≡ old.now = (c.read_rows.ensures.stays (was clean) clean).same (up clean).is_open in
+    let shows = c.in-Ok.ensures.rows (was clean) clean in
+    let same : new.now ≡ old.now = (c.in-Ok.ensures.stays (was clean) clean).same (up clean).is_open in
     subst (λ (d : Database). Knows c.seen_in.result d.trees) (sym same) (c.seen_in.ensures.knows old.now.trees shows)) in
     (c.seen_in.ensures.put, tt, λ is clean. up clean, λ clean. (knows clean, tt))
 
 pub returns-clause-loaded : goal.returns-clause-loaded
 returns-clause-loaded g c = λ ready clean.
     let db = (state g.S.Store c.args.self.now).now.trees in
-    let shows : Shows db c.as_slice.result.now c.as_slice-2.result.now c.as_slice-3.result.now = search rules in
+    let shows : Shows db c.as_slice.result.now c.as_slice-2.result.now c.as_slice-3.result.now c.as_slice-4.result.now = search rules in
     c.in_ok-found.ensures.loaded db shows
 
 pub returns-clause-saved : goal.returns-clause-saved
-returns-clause-saved g c = λ d ready clean durable holds.
+returns-clause-saved g c = λ d ready clean.
     let db = (state g.S.Store c.args.self.now).now.trees in
-    let shows : Shows db c.as_slice.result.now c.as_slice-2.result.now c.as_slice-3.result.now = search rules in
-    c.in_ok-found.ensures.saved db d shows durable holds
+    let shows : Shows db c.as_slice.result.now c.as_slice-2.result.now c.as_slice-3.result.now c.as_slice-4.result.now = search rules in
+    c.in_ok-found.ensures.saved db d shows
 
 pub returns-clause-up : goal.returns-clause-up
 returns-clause-up g c = λ ready clean.
@@ -41,6 +41,5 @@ returns-clause-up g c = λ ready clean.
     let same : c.if-is_ready.self ≡ c.read_rows.new.conn = search rules in
     let cleaned : HasCleanDisk new = rw same at clean in
     let was : IsReady (state g.S.Store c.self.inside.conn) = search rules in
-    let a = c.read_rows.ensures.up was cleaned in
-    let up : IsReady new = search rules in
+    let up : IsReady new = c.in-Ok.ensures.up was cleaned in
     rw same up

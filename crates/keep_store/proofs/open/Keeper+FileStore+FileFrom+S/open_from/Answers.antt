@@ -3,7 +3,7 @@ use Rattle.std.proofs.lemmas.Result.{IfOk-at_ok, IfOk-weaker}
 use Rattle.sqlite.specs.Effect.{Database}
 use Rattle.sqlite.specs.Files.{file_state}
 use Rattle.sqlite_catalog.specs.Listing.{IsSound}
-use Rattle.keep_store.proofs.OpenLemmas.{not_new, not_first}
+use Rattle.keep_store.proofs.OpenLemmas.{not_new, not_first, not_second}
 use Rattle.keep_store.proofs.open.Keeper+FileStore+FileFrom+S.open_from.Goals as goal
 
 then : {X Y : Type 0} (r : Result X Y) {P Q : X → Type 0} → IfOk r P → ((x : X) → P x → Q x) → IfOk r Q
@@ -17,4 +17,4 @@ returns-clause-found g c = then c.keeper_over.result c.keeper_over.ensures.found
     let trees = ap (λ (d : Database). d.trees) opened.0.clean ∙ (IfOk-at_ok _ over.1 c.connect.ensures.found over.2).holds db holds in
     let live = opened.1 opened.0.is_open in
     let sound = subst (IsSound (file_state conn).now.schema) trees live.0 in
-    ap (λ (d : Database). d.trees) (over.3 (not_new db (file_state conn).now.schema ours sound) (not_first db (file_state conn).now.schema ours sound)) ∙ trees)
+    ap (λ (d : Database). d.trees) (over.3 (not_new db (file_state conn).now.schema ours sound) (not_first db (file_state conn).now.schema ours sound) (not_second db (file_state conn).now.schema ours sound)) ∙ trees)

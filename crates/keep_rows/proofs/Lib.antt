@@ -1,0 +1,9 @@
+pub mod TextLemmas
+pub mod RowLemmas
+pub mod StepLemmas
+pub mod ReadLemmas
+pub mod StoreLemmas
+pub mod QueryLemmas
+pub mod MakeLemmas
+pub mod ColumnLemmas
+pub mod TotalLemmas

@@ -1,0 +1,23 @@
+use Rattle.std.proofs.Common.{arith, refl, rules, true, ◌≡◌, OnOk}
+use Rattle.sqlite.specs.Held.{state}
+use Rattle.sqlite.specs.State.{HasCleanDisk}
+use Rattle.keep_rows.specs.Tables.{AddsTables, IsCommitted, second_schema}
+use Rattle.keep_rows.proofs.MakeLemmas.{creates_head, creates_task, made_if}
+use Rattle.keep_rows.proofs.statements.make_task_tables.Goals as goal
+
+pub returns-clause-made : goal.returns-clause-made
+returns-clause-made g c = λ clean has.
+    let old = state g.S.Store c.args.conn.now in
+    let begun = state g.S.Store (record c.args.conn.now { in_transaction = true }) in
+    let mid = state g.S.Store c.execute.new.self.conn.now in
+    let end = state g.S.Store c.execute-2.new.self.conn.now in
+    let new = state g.S.Store c.commit.new.self.0 in
+    let same : c.commit.new.self.0 ≡ c.conn-2-1.given.0 = search rules in
+    let clean3 : HasCleanDisk new = rw same clean in
+    let clean2 : HasCleanDisk end = omega (arith, c.commit.ensures.survives.clean) in
+    let clean1 : HasCleanDisk mid = omega (arith, c.in_ok-execute-2.ensures.survives.clean) in
+    let ran = rw c.transaction-tx.ensures.begun at c.in_ok-execute.ensures.runs in
+    let head = creates_head begun mid c.in_ok-execute.field-0 has (ran clean1 refl) in
+    let task = creates_task mid end c.in_ok-execute-2.field-0 head.schema (c.in_ok-execute-2.ensures.runs clean2 head.mode) in
+    let made : OnOk c.commit.result (IsCommitted second_schema AddsTables old new) = made_if old begun mid end new c.commit.result refl head task (c.commit.ensures.ok clean3) in
+    rw same at made

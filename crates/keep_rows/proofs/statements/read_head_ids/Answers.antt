@@ -1,0 +1,16 @@
+use Rattle.std.proofs.Common.{arith, [], ◌∷◌, refl, codes}
+use Rattle.sqlite.specs.Held.{state}
+use Rattle.sqlite.specs.Term.{col}
+use Rattle.keep_rows.proofs.TextLemmas.{head_ids_is, head_ids_plain, head_ids_text}
+use Rattle.keep_rows.proofs.ReadLemmas.{rows_if, unchanged_if}
+use Rattle.keep_rows.proofs.statements.read_head_ids.Goals as goal
+
+pub returns : goal.returns
+returns g c =
+    let old = state g.S.Store c.args.conn.now in
+    let new = state g.S.Store c.query_all.new.self in
+    record {
+      clean = λ clean. omega (arith, c.query_all.ensures.survives.clean);
+      rows = λ has clean. rows_if head_ids_text 2 (col 1 0 ∷ []) [] (λ _. refl) (codes "id" ∷ []) head_ids_is head_ids_plain old new c.query_all.result has (c.query_all.ensures.ok clean);
+      same = λ has clean. unchanged_if head_ids_text 2 (col 1 0 ∷ []) [] (λ _. refl) (codes "id" ∷ []) head_ids_is head_ids_plain old new c.query_all.result has (c.query_all.ensures.ok clean);
+    }

@@ -1,0 +1,169 @@
+//! The statements of a save, each within its transaction.
+
+ghost use Rattle.std.specs.Prelude.{◌≡◌, ◌≤◌, ◌^◌, ◌∷◌, [], pos, IfOk, MatchResult};
+ghost use Rattle.sqlite.specs.declared.types.Value.TheVariants.{Null, Int, Text};
+ghost use Rattle.sqlite.specs.State.{HasCleanDisk, KeepsCommit, Survives};
+ghost use Rattle.sqlite.specs.Held.{state};
+ghost use Rattle.keep_rows.specs.Tables.{IsWriting, WritesOn, IsSame, AreIds, SparesOthers, Empties, Cuts, Puts, place_of, task_row, head_row, amount_row};
+
+use names_core::LaunchKey;
+use sqlite::{Alter, Error, Row, Transaction, params};
+
+/// The rowid of a task's row.
+pub fn place_of(key: LaunchKey) -> i64
+    ensures { result ≡ pos (place_of key) }
+{
+    let place = u64::from(key.run()) * 4_294_967_296 + u64::from(key.number());
+    place as i64
+}
+
+/// Takes the row of a task out.
+pub fn cut_task<S: Alter>(tx: &mut Transaction<'_, S>, key: LaunchKey) -> Result<usize, Error>
+    ensures same_reference { tx.new.conn.ghost_name ≡ tx.old.conn.ghost_name }
+    ensures quiet { Survives (state S.Store tx.old.conn.now) (state S.Store tx.new.conn.now) (λ _. ⊥) }
+    ensures went { IsWriting (state S.Store tx.old.conn.now) → HasCleanDisk (state S.Store tx.new.conn.now)
+        → MatchResult result (λ _. WritesOn (Cuts (place_of key)) (state S.Store tx.old.conn.now) (state S.Store tx.new.conn.now))
+        (λ _. KeepsCommit (state S.Store tx.old.conn.now) (state S.Store tx.new.conn.now)) }
+{
+    let place = place_of(key);
+    tx.execute("DELETE FROM agent_task WHERE rowid = ?1", params![place])
+}
+
+/// Puts a row in for a task that has none.
+pub fn put_task<S: Alter>(
+    tx: &mut Transaction<'_, S>,
+    key: LaunchKey,
+    body: &str,
+) -> Result<usize, Error>
+    ensures same_reference { tx.new.conn.ghost_name ≡ tx.old.conn.ghost_name }
+    ensures quiet { Survives (state S.Store tx.old.conn.now) (state S.Store tx.new.conn.now) (λ _. ⊥) }
+    ensures went { IsWriting (state S.Store tx.old.conn.now) → HasCleanDisk (state S.Store tx.new.conn.now)
+        → MatchResult result (λ _. WritesOn (Puts 3 (task_row key body.now)) (state S.Store tx.old.conn.now) (state S.Store tx.new.conn.now))
+        (λ _. KeepsCommit (state S.Store tx.old.conn.now) (state S.Store tx.new.conn.now)) }
+{
+    let place = place_of(key);
+    tx.execute(
+        "INSERT INTO agent_task (rowid, run, n, body) VALUES (?1, ?2, ?3, ?4)",
+        params![place, u32::from(key.run()), key.number(), body],
+    )
+}
+
+/// Puts the head's row in where there is none.
+pub fn put_head<S: Alter>(
+    tx: &mut Transaction<'_, S>,
+    name: &str,
+    run: u32,
+    session: u32,
+) -> Result<usize, Error>
+    ensures same_reference { tx.new.conn.ghost_name ≡ tx.old.conn.ghost_name }
+    ensures quiet { Survives (state S.Store tx.old.conn.now) (state S.Store tx.new.conn.now) (λ _. ⊥) }
+    ensures went { IsWriting (state S.Store tx.old.conn.now) → HasCleanDisk (state S.Store tx.new.conn.now)
+        → MatchResult result (λ _. WritesOn (Puts 2 (head_row name.now run session)) (state S.Store tx.old.conn.now) (state S.Store tx.new.conn.now))
+        (λ _. KeepsCommit (state S.Store tx.old.conn.now) (state S.Store tx.new.conn.now)) }
+{
+    tx.execute(
+        "INSERT INTO agent_head (id, name, run, session, total, version) VALUES (1, ?1, ?2, ?3, '{}', 2)",
+        params![name, run, session],
+    )
+}
+
+/// Takes the head's row out.
+pub fn clear_heads<S: Alter>(tx: &mut Transaction<'_, S>) -> Result<usize, Error>
+    ensures same_reference { tx.new.conn.ghost_name ≡ tx.old.conn.ghost_name }
+    ensures quiet { Survives (state S.Store tx.old.conn.now) (state S.Store tx.new.conn.now) (λ _. ⊥) }
+    ensures went { IsWriting (state S.Store tx.old.conn.now) → HasCleanDisk (state S.Store tx.new.conn.now)
+        → MatchResult result (λ _. WritesOn (Empties 2) (state S.Store tx.old.conn.now) (state S.Store tx.new.conn.now))
+        (λ _. KeepsCommit (state S.Store tx.old.conn.now) (state S.Store tx.new.conn.now)) }
+{
+    tx.execute("DELETE FROM agent_head", &[])
+}
+
+/// Takes the row of a record's text out.
+pub fn clear_records<S: Alter>(tx: &mut Transaction<'_, S>) -> Result<usize, Error>
+    ensures same_reference { tx.new.conn.ghost_name ≡ tx.old.conn.ghost_name }
+    ensures quiet { Survives (state S.Store tx.old.conn.now) (state S.Store tx.new.conn.now) (λ _. ⊥) }
+    ensures went { IsWriting (state S.Store tx.old.conn.now) → HasCleanDisk (state S.Store tx.new.conn.now)
+        → MatchResult result (λ _. WritesOn (Empties 0) (state S.Store tx.old.conn.now) (state S.Store tx.new.conn.now))
+        (λ _. KeepsCommit (state S.Store tx.old.conn.now) (state S.Store tx.new.conn.now)) }
+{
+    tx.execute("DELETE FROM agent_record", &[])
+}
+
+/// Takes the rows of all tasks out.
+pub fn clear_tasks<S: Alter>(tx: &mut Transaction<'_, S>) -> Result<usize, Error>
+    ensures same_reference { tx.new.conn.ghost_name ≡ tx.old.conn.ghost_name }
+    ensures quiet { Survives (state S.Store tx.old.conn.now) (state S.Store tx.new.conn.now) (λ _. ⊥) }
+    ensures went { IsWriting (state S.Store tx.old.conn.now) → HasCleanDisk (state S.Store tx.new.conn.now)
+        → MatchResult result (λ _. WritesOn (SparesOthers 3) (state S.Store tx.old.conn.now) (state S.Store tx.new.conn.now))
+        (λ _. KeepsCommit (state S.Store tx.old.conn.now) (state S.Store tx.new.conn.now)) }
+{
+    tx.execute("DELETE FROM agent_task", &[])
+}
+
+/// The rowids of the rows of tasks.
+pub fn read_places<S: Alter>(tx: &mut Transaction<'_, S>) -> Result<Vec<Row>, Error>
+    ensures same_reference { tx.new.conn.ghost_name ≡ tx.old.conn.ghost_name }
+    ensures quiet { Survives (state S.Store tx.old.conn.now) (state S.Store tx.new.conn.now) (λ _. ⊥) }
+    ensures rows { IsWriting (state S.Store tx.old.conn.now) → HasCleanDisk (state S.Store tx.new.conn.now) → IfOk result (λ rows. AreIds rows.items ((state S.Store tx.old.conn.now).now.trees 3)) }
+    ensures went { IsWriting (state S.Store tx.old.conn.now) → HasCleanDisk (state S.Store tx.new.conn.now)
+        → MatchResult result (λ _. WritesOn IsSame (state S.Store tx.old.conn.now) (state S.Store tx.new.conn.now))
+        (λ _. KeepsCommit (state S.Store tx.old.conn.now) (state S.Store tx.new.conn.now)) }
+{
+    tx.query_all("SELECT rowid FROM agent_task", &[])
+}
+
+/// Puts a row in for an amount of a total, at a rowid that is free.
+pub fn put_amount<S: Alter>(
+    tx: &mut Transaction<'_, S>,
+    place: u32,
+    name: &str,
+    amount: u64,
+) -> Result<usize, Error>
+    requires { amount ≤ 2 ^ 40 }
+    ensures same_reference { tx.new.conn.ghost_name ≡ tx.old.conn.ghost_name }
+    ensures quiet { Survives (state S.Store tx.old.conn.now) (state S.Store tx.new.conn.now)
+        (λ _. ⊥) }
+    ensures went { IsWriting (state S.Store tx.old.conn.now)
+        → HasCleanDisk (state S.Store tx.new.conn.now)
+        → MatchResult result
+        (λ _. WritesOn (Puts 5 (amount_row place name.now amount))
+        (state S.Store tx.old.conn.now) (state S.Store tx.new.conn.now))
+        (λ _. KeepsCommit (state S.Store tx.old.conn.now) (state S.Store tx.new.conn.now)) }
+{
+    tx.execute(
+        "INSERT INTO agent_total (rowid, name, amount) VALUES (?1, ?2, ?3)",
+        params![place, name, amount as i64],
+    )
+}
+
+/// Takes the rows of a total out.
+pub fn clear_amounts<S: Alter>(tx: &mut Transaction<'_, S>) -> Result<usize, Error>
+    ensures same_reference { tx.new.conn.ghost_name ≡ tx.old.conn.ghost_name }
+    ensures quiet { Survives (state S.Store tx.old.conn.now) (state S.Store tx.new.conn.now)
+        (λ _. ⊥) }
+    ensures went { IsWriting (state S.Store tx.old.conn.now)
+        → HasCleanDisk (state S.Store tx.new.conn.now)
+        → MatchResult result
+        (λ _. WritesOn (SparesOthers 5) (state S.Store tx.old.conn.now)
+        (state S.Store tx.new.conn.now))
+        (λ _. KeepsCommit (state S.Store tx.old.conn.now) (state S.Store tx.new.conn.now)) }
+{
+    tx.execute("DELETE FROM agent_total", &[])
+}
+
+/// The rowids of the rows of a total.
+pub fn read_amount_places<S: Alter>(tx: &mut Transaction<'_, S>) -> Result<Vec<Row>, Error>
+    ensures same_reference { tx.new.conn.ghost_name ≡ tx.old.conn.ghost_name }
+    ensures quiet { Survives (state S.Store tx.old.conn.now) (state S.Store tx.new.conn.now)
+        (λ _. ⊥) }
+    ensures rows { IsWriting (state S.Store tx.old.conn.now)
+        → HasCleanDisk (state S.Store tx.new.conn.now)
+        → IfOk result (λ rows. AreIds rows.items ((state S.Store tx.old.conn.now).now.trees 5)) }
+    ensures went { IsWriting (state S.Store tx.old.conn.now)
+        → HasCleanDisk (state S.Store tx.new.conn.now)
+        → MatchResult result
+        (λ _. WritesOn IsSame (state S.Store tx.old.conn.now) (state S.Store tx.new.conn.now))
+        (λ _. KeepsCommit (state S.Store tx.old.conn.now) (state S.Store tx.new.conn.now)) }
+{
+    tx.query_all("SELECT rowid FROM agent_total", &[])
+}
