@@ -6,9 +6,12 @@ mod framework;
 mod launches;
 mod offices;
 mod parts;
+mod stops;
+mod stores;
 mod tests;
 
 pub use launches::{a_stop_in_a_save, what_is_unacknowledged_goes_first};
+pub use stops::{a_database_file_stops_in_a_launch, a_journal_stops_in_a_launch};
 pub use tests::{
     a_larger_total, an_unknown_agent, another_record_stands, the_new_record_stands,
     the_old_record_stands, two_rounds, two_saves_overlap,

@@ -89,7 +89,7 @@ fn cause_letter(cause: &StepCause) -> u8 {
     }
 }
 
-fn played_from<L: ledger::Ledger>(
+pub fn played_from<L: ledger::Ledger>(
     alloc: Global,
     pass: &Pass<Given, L>,
     end: End,
@@ -113,7 +113,7 @@ fn played_from<L: ledger::Ledger>(
     })
 }
 
-fn end_of(fault: Option<ActivityFault<AllocError>>) -> End {
+pub fn end_of(fault: Option<ActivityFault<AllocError>>) -> End {
     match fault {
         None => End::Finished,
         Some(ActivityFault::Damaged) => End::Damaged,

@@ -47,3 +47,23 @@ fn a_stop_in_a_save(rt: HostRuntime) {
 fn a_larger_total(rt: HostRuntime) {
     assert!(rt; tests::a_larger_total(&rt, rt.alloc()));
 }
+
+#[test]
+fn a_journal_stops_in_a_launch(rt: HostRuntime) {
+    assert!(rt; tests::a_journal_stops_in_a_launch(&rt, rt.alloc(), false));
+}
+
+#[test]
+fn a_journal_stops_in_a_launch_and_loses(rt: HostRuntime) {
+    assert!(rt; tests::a_journal_stops_in_a_launch(&rt, rt.alloc(), true));
+}
+
+#[test]
+fn a_database_file_stops_in_a_launch(rt: HostRuntime) {
+    assert!(rt; tests::a_database_file_stops_in_a_launch(&rt, rt.alloc(), false));
+}
+
+#[test]
+fn a_database_file_stops_in_a_launch_and_loses(rt: HostRuntime) {
+    assert!(rt; tests::a_database_file_stops_in_a_launch(&rt, rt.alloc(), true));
+}

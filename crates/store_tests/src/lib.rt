@@ -1,4 +1,4 @@
-//! Tests of records in stores, each a function that says whether it passed.
+//! Tests of records in stores, each a function that says whether it passed; and files in memory that stop, for stores that others test.
 #![tactic(auto)]
 
 mod disks;
@@ -7,7 +7,9 @@ mod of_keep_store_moves;
 mod of_keep_store_stops;
 mod older_forms;
 mod records;
+mod visits;
 
+pub use disks::{Calls, Contents, NO_STOP, calls_of, nothing};
 pub use of_keep_store::the_last_saved_is_loaded;
 pub use of_keep_store_moves::{
     a_text_is_moved, rows_of_version_1_are_moved, rows_that_do_not_fit_are_refused,
@@ -19,3 +21,4 @@ pub use of_keep_store_stops::{
     a_journal_stops_among_tasks, a_journal_stops_behind_a_text, a_journal_stops_behind_rows,
     a_journal_stops_in_a_first_save, a_journal_stops_in_a_rise, a_journal_stops_in_two_saves,
 };
+pub use visits::{load_at, save_at};

@@ -29,7 +29,7 @@ struct Answers {
 }
 
 /// A store over disks, which it gives back. What is done with one is written once, for every store.
-trait OverDisks: Alter + Drop {
+pub(crate) trait OverDisks: Alter + Drop {
     type Disks: Drop;
 
     fn into_disks(self) -> Self::Disks;
@@ -51,11 +51,13 @@ fn adopted<S: OverDisks>(conn: Connection<S>) -> Result<Keeper<S>, S::Disks> {
 }
 
 /// The keeper over a connection, or what is left of its disks.
-fn opened<S: OverDisks>(conn: Result<Connection<S>, S::Disks>) -> Result<Keeper<S>, S::Disks> {
+pub(crate) fn opened<S: OverDisks>(
+    conn: Result<Connection<S>, S::Disks>,
+) -> Result<Keeper<S>, S::Disks> {
     adopted(conn?)
 }
 
-fn closed<S: OverDisks>(keeper: Keeper<S>) -> S::Disks {
+pub(crate) fn closed<S: OverDisks>(keeper: Keeper<S>) -> S::Disks {
     keeper.into_connection().into_store().into_disks()
 }
 
