@@ -221,7 +221,8 @@ def try_overwritten(stores, whole, page):
     start = name - name % page
     stores.refuse("a total's page of no kind", overwritten(whole, start, b"\x03"), "K1 Store ")
     stores.refuse("a total's page of zeros", overwritten(whole, start, bytes(page)), "K1 Store ")
-    stores.refuse("a resource that isn't UTF-8", overwritten(whole, name, b"\xff\xff"), "K2 Damaged: ")
+    # (the table and the index of its key name other resources then)
+    stores.refuse("a resource that isn't UTF-8", overwritten(whole, name, b"\xff\xff"), "K1 Store ")
 
 
 def try_damaged_text(stores, first, page):
