@@ -1,10 +1,10 @@
 -- What a ticker's rounds add.
 use Rattle.std.proofs.Common.{List, [], ◌∷◌, ◌++◌, refl, subst}
 use Rattle.desk_seats.specs.Receipts.{PassState}
-use Rattle.cluster_core.specs.declared.given.Given.{Given}
+use Rattle.cluster_steps.specs.declared.entry.Entry.{Entry}
 use Rattle.activities.specs.Rounds.{AreRounds, IsRound}
 
 -- one round more
-pub rounds_then : (passes : List (PassState Given)) (p q r : PassState Given) → AreRounds passes p q → IsRound q r → AreRounds (passes ++ r ∷ []) p r
-rounds_then [] p q r rounds round = (subst (λ (x : PassState Given). IsRound x r) rounds round, refl)
+pub rounds_then : (passes : List (PassState Entry)) (p q r : PassState Entry) → AreRounds passes p q → IsRound q r → AreRounds (passes ++ r ∷ []) p r
+rounds_then [] p q r rounds round = (subst (λ (x : PassState Entry). IsRound x r) rounds round, refl)
 rounds_then (next ∷ passes) p q r rounds round = (rounds.0, rounds_then passes next q r rounds.1 round)

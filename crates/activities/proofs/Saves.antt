@@ -1,84 +1,102 @@
 -- What each step of an activity keeps.
-use Rattle.std.proofs.Common.{◌≡◌, ℕ, ◌-◌, suc, length, arith, List, [], ◌∷◌, ◌++◌, Option, Some, None, Result, Ok, Err, refl, sym, ap, ◌∙◌, subst}
+use Rattle.std.proofs.Common.{◌≡◌, ℕ, List, [], ◌∷◌, ◌++◌, Option, Some, None, Result, Ok, Err, refl, sym, ap, ◌∙◌, subst}
 use Rattle.std.proofs.lemmas.List.{append_assoc, append-nil}
-use Rattle.std.specs.Prelude.{Bool, true, IfSome, OnOk, OnErr, slice_get}
+use Rattle.std.specs.Prelude.{Bool, true, IfOk, IfSome, OnErr}
 use Rattle.mails.specs.declared.record.Durable.{Durable}
+use Rattle.cluster_steps.specs.declared.entry.Entry.{Entry}
 use Rattle.cluster_steps.specs.declared.step.Step.{Step}
+use Rattle.cluster_steps.specs.declared.step.Step.TheVariants.{Prepare}
+use Rattle.cluster_steps.specs.declared.step.StepCause.{StepCause}
+use Rattle.desk_seats.specs.declared.desk.pass.Answered.{Answered}
 use Rattle.desk_seats.specs.declared.desk.pass.Receipt.{Receipt}
 use Rattle.desk_seats.specs.Receipts.{AnswersBy, PassState}
+use Rattle.cluster_core.specs.Answering.{Answers}
 use Rattle.cluster_core.specs.declared.given.Given.{Given}
-use Rattle.activities.specs.Saved.{IsBehindSave, IsDraftIn, IsGrown, IsLastDraft, IsLastSaved, IsSaved, Keeps, SavedFrom, last_of, taker_of}
+use Rattle.activities.specs.Saved.{IsBehindSave, IsDraftIn, IsGrown, IsLastSaved, IsOpen, IsSaved, Keeps, SavedFrom, last_of, taker_of}
 
 -- one receipt more
-pushed : (saved : Durable → Bool) (before : Option (Receipt Given)) (rs : List (Receipt Given)) (r : Receipt Given) → SavedFrom saved before rs
-    → IsBehindSave saved (last_of before rs) r.given.taken.entry.step → SavedFrom saved before (rs ++ r ∷ [])
+pushed : (saved : Durable → Bool) (before : Option (Receipt Entry)) (rs : List (Receipt Entry)) (r : Receipt Entry) → SavedFrom saved before rs
+    → IsBehindSave saved (last_of before rs) r.entry.step → SavedFrom saved before (rs ++ r ∷ [])
 pushed saved before [] r h behind = (behind, tt)
 pushed saved before (q ∷ qs) r h behind = (h.0, pushed saved (Some q) qs r h.1 behind)
 
-still_saved : (saved now : Durable → Bool) → ((d : Durable) → saved d ≡ true → now d ≡ true) → (agent : List ℕ) (before : Option (Receipt Given)) → IsSaved saved agent before → IsSaved now agent before
+still_saved : (saved now : Durable → Bool) → ((d : Durable) → saved d ≡ true → now d ≡ true) → (agent : List ℕ) (before : Option (Receipt Entry)) → IsSaved saved agent before → IsSaved now agent before
 still_saved saved now still agent before h = record { draft = h.draft; opened = h.opened; kept = still h.draft h.kept }
 
 -- more records saved
-with_more : (saved now : Durable → Bool) → ((d : Durable) → saved d ≡ true → now d ≡ true) → (before : Option (Receipt Given)) (rs : List (Receipt Given)) → SavedFrom saved before rs → SavedFrom now before rs
+with_more : (saved now : Durable → Bool) → ((d : Durable) → saved d ≡ true → now d ≡ true) → (before : Option (Receipt Entry)) (rs : List (Receipt Entry)) → SavedFrom saved before rs → SavedFrom now before rs
 with_more saved now still before [] h = tt
 with_more saved now still before (r ∷ rs) h = ((λ agent is. still_saved saved now still agent before (h.0 agent is)), with_more saved now still (Some r) rs h.1)
 
-pub grown_itself : (p : PassState Given) → IsGrown p p
+pub grown_itself : (p : PassState Entry) → IsGrown p p
 grown_itself p = record { seat = refl; more = []; receipts = sym (append-nil p.receipts) }
 
-grown_then : (p q r : PassState Given) → IsGrown p q → IsGrown q r → IsGrown p r
+grown_then : (p q r : PassState Entry) → IsGrown p q → IsGrown q r → IsGrown p r
 grown_then p q r first second = record {
   seat = second.seat ∙ first.seat;
   more = first.more ++ second.more;
-  receipts = second.receipts ∙ ap (λ (rs : List (Receipt Given)). rs ++ second.more) first.receipts ∙ append_assoc p.receipts first.more second.more;
+  receipts = second.receipts ∙ ap (λ (rs : List (Receipt Entry)). rs ++ second.more) first.receipts ∙ append_assoc p.receipts first.more second.more;
 }
 
 -- nothing was done
-pub keeps_itself : (saved : Durable → Bool) (p : PassState Given) → Keeps saved saved p p
+pub keeps_itself : (saved : Durable → Bool) (p : PassState Entry) → Keeps saved saved p p
 keeps_itself saved p = record { grown = grown_itself p; commits = λ h. h }
 
 -- one thing after another
-pub keeps_then : (s t u : Durable → Bool) (p q r : PassState Given) → Keeps s t p q → Keeps t u q r → Keeps s u p r
+pub keeps_then : (s t u : Durable → Bool) (p q r : PassState Entry) → Keeps s t p q → Keeps t u q r → Keeps s u p r
 keeps_then s t u p q r first second = record { grown = grown_then p q r first.grown second.grown; commits = λ h. second.commits (first.commits h) }
 
 -- more was saved
-pub keeps_more : (saved now : Durable → Bool) (p : PassState Given) → ((d : Durable) → saved d ≡ true → now d ≡ true) → Keeps saved now p p
+pub keeps_more : (saved now : Durable → Bool) (p : PassState Entry) → ((d : Durable) → saved d ≡ true → now d ≡ true) → Keeps saved now p p
 keeps_more saved now p still = record { grown = grown_itself p; commits = λ h. with_more saved now still None p.receipts h }
 
-abbrev pub step_in : Given → Step
-step_in given = given.taken.entry.step
+abbrev pub step_in : Entry → Step
+step_in e = e.step
 
-answered : (saved : Durable → Bool) (old new : PassState Given) (step : Step) (r : Receipt Given) → AnswersBy step_in old new step r
+answered : (saved : Durable → Bool) (old new : PassState Entry) (step : Step) (r : Receipt Entry) → AnswersBy step_in old new step r
     → IsBehindSave saved (last_of None old.receipts) step → Keeps saved saved old new
 answered saved old new step r is behind =
     let same : new.receipts ≡ old.receipts ++ r ∷ [] = ap (λ p. p.receipts) is.pushed in
     record {
       grown = record { seat = ap (λ p. p.seat) is.pushed; more = r ∷ []; receipts = same };
-      commits = λ h. subst (λ (rs : List (Receipt Given)). SavedFrom saved None rs) (sym same) (pushed saved None old.receipts r h (λ agent e. behind agent (sym (ap taker_of is.of_step) ∙ e)));
+      commits = λ h. subst (λ (rs : List (Receipt Entry)). SavedFrom saved None rs) (sym same) (pushed saved None old.receipts r h (λ agent e. behind agent (sym (ap taker_of is.of_step) ∙ e)));
     }
 
 -- a call that was answered or refused
-pub called : {A F : Type 0} (saved : Durable → Bool) (old new : PassState Given) (step : Step) (res : Result A F) → OnOk res ((r : Receipt Given) × AnswersBy step_in old new step r)
+pub called : {F : Type 0} (saved : Durable → Bool) (old new : PassState Entry) (step : Step) (res : Result (Answered Entry Given) F) → IfOk res (λ a. Answers old step a new)
     → OnErr res (new ≡ old) → IsBehindSave saved (last_of None old.receipts) step → Keeps saved saved old new
-called saved old new step (Ok a) ok err behind = answered saved old new step ok.0 ok.1 behind
-called saved old new step (Err e) ok err behind = subst (λ (p : PassState Given). Keeps saved saved old p) (sym err) (keeps_itself saved old)
+called saved old new step (Ok a) ok err behind = answered saved old new step a.receipt ok.answers behind
+called saved old new step (Err e) ok err behind = subst (λ (p : PassState Entry). Keeps saved saved old p) (sym err) (keeps_itself saved old)
 
 -- the draft was saved just now
-pub just_saved : (now : Durable → Bool) (agent : List ℕ) (draft : Durable) (before : Option (Receipt Given)) → now draft ≡ true → IsDraftIn agent draft before → IsSaved now agent before
+pub just_saved : (now : Durable → Bool) (agent : List ℕ) (draft : Durable) (before : Option (Receipt Entry)) → now draft ≡ true → IsDraftIn agent draft before → IsSaved now agent before
 just_saved now agent draft before kept opened = record { draft = draft; opened = opened; kept = kept }
 
--- the draft was found where it was to be saved
-pub found_saved : (now : Durable → Bool) (agent : List ℕ) (kept : Option Durable) (p : PassState Given) → IfSome kept (λ d. now d ≡ true) → IsLastDraft agent kept p → IsLastSaved now agent p
-found_saved now agent None p is opened = absurd opened
-found_saved now agent (Some draft) p is opened = just_saved now agent draft (last_of None p.receipts) is opened
+-- the draft that is open was saved just now
+pub open_saved : (now : Durable → Bool) (agent : List ℕ) (draft : Durable) (open_draft : Option Durable) (p : PassState Entry) → open_draft ≡ Some draft → now draft ≡ true → IsOpen agent open_draft p → IsLastSaved now agent p
+open_saved now agent draft open_draft p is kept opened =
+    just_saved now agent draft (last_of None p.receipts) kept (subst (λ (o : Option Durable). IsOpen agent o p) is opened)
 
--- the last receipt by its index
-pub last_is_last : (before : Option (Receipt Given)) (rs : List (Receipt Given)) (r : Receipt Given) → slice_get rs (length rs - 1) ≡ Some r → last_of before rs ≡ Some r
-last_is_last before [] r is = (cc)
-last_is_last before (q ∷ []) r is = is
-last_is_last before (q ∷ p ∷ ps) r is =
-    let e : length (q ∷ p ∷ ps) - 1 ≡ suc (length (p ∷ ps) - 1) = omega arith in
-    last_is_last (Some q) (p ∷ ps) r (sym (ap (λ k. slice_get (q ∷ p ∷ ps) k) e) ∙ is)
+-- the draft that is open was found where it was to be saved
+pub found_saved : (now : Durable → Bool) (agent : List ℕ) (kept open_draft : Option Durable) (p : PassState Entry) → IfSome kept (λ d. now d ≡ true) → (d : Durable) → kept ≡ Some d → open_draft ≡ Some d → IsOpen agent open_draft p → IsLastSaved now agent p
+found_saved now agent kept open_draft p is d at open_is opened =
+    open_saved now agent d open_draft p open_is (subst (λ (o : Option Durable). IfSome o (λ x. now x ≡ true)) at is) opened
+
+-- the receipt that was pushed last is the last
+pub pushed_is_last : (before : Option (Receipt Entry)) (rs : List (Receipt Entry)) (r : Receipt Entry) → last_of before (rs ++ r ∷ []) ≡ Some r
+pushed_is_last before [] r = refl
+pushed_is_last before (q ∷ qs) r = pushed_is_last (Some q) qs r
+
+draft_of : (agent : List ℕ) (cause : StepCause) (old new : PassState Entry) (a : Answered Entry Given) (draft : Option Durable) → Answers old (Prepare agent cause) a new → a.given.durable ≡ draft → IsOpen agent draft new
+draft_of agent cause old new a None is opens = tt
+draft_of agent cause old new a (Some d) is opens =
+    let same : new.receipts ≡ old.receipts ++ a.receipt ∷ [] = ap (λ p. p.receipts) is.answers.pushed in
+    let last : last_of None new.receipts ≡ Some a.receipt = ap (last_of None) same ∙ pushed_is_last None old.receipts a.receipt in
+    subst (IsDraftIn agent d) (sym last) (record { cause = cause; prepared = is.answers.of_step; given = a.given; taken = is.is_taken; opened = opens })
+
+-- a Prepare that was answered opened the draft whose record was given with it
+pub drafted : (name agent : List ℕ) (cause : StepCause) (old new : PassState Entry) (a : Answered Entry Given) → name ≡ agent → Answers old (Prepare name cause) a new → IsOpen agent a.given.durable new
+drafted name agent cause old new a same is = subst (λ (n : List ℕ). IsOpen n a.given.durable new) same (draft_of name cause old new a a.given.durable is refl)
 
 pub none_is_not_some : (agent : List ℕ) → None ≡ Some agent → ⊥
 none_is_not_some agent e = (cc)
@@ -87,5 +105,13 @@ pub some_is : (a b : List ℕ) → Some a ≡ Some b → a ≡ b
 some_is a b e = (cc)
 
 -- a saved draft of the agent, whose name was copied
-pub of_name : (saved : Durable → Bool) (name agent a : List ℕ) (before : Option (Receipt Given)) → name ≡ agent → Some name ≡ Some a → IsSaved saved agent before → IsSaved saved a before
+pub of_name : (saved : Durable → Bool) (name agent a : List ℕ) (before : Option (Receipt Entry)) → name ≡ agent → Some name ≡ Some a → IsSaved saved agent before → IsSaved saved a before
 of_name saved name agent a before copied is h = (let same : agent ≡ a = sym copied ∙ some_is name a is in subst (λ (b : List ℕ). IsSaved saved b before) same h)
+
+-- no draft is open
+pub none_open : (agent : List ℕ) (o : Option Durable) (p : PassState Entry) → o ≡ None → IsOpen agent o p
+none_open agent o p none = subst (λ (x : Option Durable). IsOpen agent x p) (sym none) tt
+
+-- nothing was done to the pass
+pub still_open : (agent : List ℕ) (o : Option Durable) (old new : PassState Entry) → new ≡ old → IsOpen agent o old → IsOpen agent o new
+still_open agent o old new same h = subst (λ (p : PassState Entry). IsOpen agent o p) (sym same) h

@@ -1,71 +1,80 @@
 -- What an activity has saved, and what it adds to its pass.
 use Rattle.std.specs.Prelude.{◌≡◌, ℕ, List, [], ◌∷◌, ◌++◌, Option, Some, None, Bool, true, ⊤}
 use Rattle.mails.specs.declared.record.Durable.{Durable}
+use Rattle.cluster_steps.specs.declared.entry.Entry.{Entry}
 use Rattle.cluster_steps.specs.declared.step.Step.{Step}
 use Rattle.cluster_steps.specs.declared.step.Step.TheVariants.{Prepare, Commit, StopAgent}
 use Rattle.cluster_steps.specs.declared.step.StepCause.{StepCause}
 use Rattle.cluster_steps.specs.declared.step.Keep.TheVariants.{After}
 use Rattle.desk_seats.specs.declared.desk.pass.Receipt.{Receipt}
 use Rattle.desk_seats.specs.Receipts.{PassState}
+use Rattle.cluster_core.specs.Answering.{IsTakenBy}
 use Rattle.cluster_core.specs.declared.given.Given.{Given}
 
--- the receipt is of a Prepare of this agent, which opened a draft with this record
-pub record IsDraft (agent : List ℕ) (draft : Durable) (r : Receipt Given) : Type 0 where
+-- the receipt is of a Prepare of this agent,
+-- which was taken in a sound state and opened a draft with this record there
+pub record IsDraft (agent : List ℕ) (draft : Durable) (r : Receipt Entry) : Type 0 where
   pub cause : StepCause
-  pub prepared : r.given.taken.entry.step ≡ Prepare agent cause
-  pub opened : r.given.taken.durable ≡ Some draft
+  pub prepared : r.entry.step ≡ Prepare agent cause
+  pub given : Given
+  pub taken : IsTakenBy (Prepare agent cause) (record { receipt = r; given = given })
+  pub opened : given.durable ≡ Some draft
 
 -- there is a receipt, and it is of such a Prepare
-abbrev pub IsDraftIn : List ℕ → Durable → Option (Receipt Given) → Type 0
+abbrev pub IsDraftIn : List ℕ → Durable → Option (Receipt Entry) → Type 0
 IsDraftIn agent draft None = ⊥
 IsDraftIn agent draft (Some r) = IsDraft agent draft r
 
 -- the receipt opened a draft of this agent, whose record was saved
-pub record IsSaved (saved : Durable → Bool) (agent : List ℕ) (before : Option (Receipt Given)) : Type 0 where
+pub record IsSaved (saved : Durable → Bool) (agent : List ℕ)
+    (before : Option (Receipt Entry)) : Type 0 where
   pub draft : Durable
   pub opened : IsDraftIn agent draft before
   pub kept : saved draft ≡ true
 
--- the agent whose open draft a step makes its record: at a Commit, and at a stop that keeps the draft's record
+-- the agent whose open draft a step makes its record: at a Commit,
+-- and at a stop that keeps the draft's record
 abbrev pub taker_of : Step → Option (List ℕ)
 taker_of (Commit agent) = Some agent
 taker_of (StopAgent agent After) = Some agent
 taker_of step = None
 
 -- if a step takes a draft on so, the receipt before it opened that draft, whose record was saved
-abbrev pub IsBehindSave : (Durable → Bool) → Option (Receipt Given) → Step → Type 0
-IsBehindSave saved before step = (agent : List ℕ) → taker_of step ≡ Some agent → IsSaved saved agent before
+abbrev pub IsBehindSave : (Durable → Bool) → Option (Receipt Entry) → Step → Type 0
+IsBehindSave saved before step =
+    (agent : List ℕ) → taker_of step ≡ Some agent → IsSaved saved agent before
 
 -- so it is with each receipt; `before` stands before them all
-abbrev pub SavedFrom : (Durable → Bool) → Option (Receipt Given) → List (Receipt Given) → Type 0
+abbrev pub SavedFrom : (Durable → Bool) → Option (Receipt Entry) → List (Receipt Entry) → Type 0
 SavedFrom saved before [] = ⊤
-SavedFrom saved before (r ∷ rs) = IsBehindSave saved before r.given.taken.entry.step × SavedFrom saved (Some r) rs
+SavedFrom saved before (r ∷ rs) =
+    IsBehindSave saved before r.entry.step × SavedFrom saved (Some r) rs
 
 -- each commit in a pass stands behind its save
-abbrev pub CommitsSaved : (Durable → Bool) → PassState Given → Type 0
+abbrev pub CommitsSaved : (Durable → Bool) → PassState Entry → Type 0
 CommitsSaved saved p = SavedFrom saved None p.receipts
 
 -- the last receipt, or the one before them all
-abbrev pub last_of : Option (Receipt Given) → List (Receipt Given) → Option (Receipt Given)
+abbrev pub last_of : Option (Receipt Entry) → List (Receipt Entry) → Option (Receipt Entry)
 last_of before [] = before
 last_of before (r ∷ rs) = last_of (Some r) rs
 
 -- the last receipt of a pass opened a draft of this agent, whose record was saved
-abbrev pub IsLastSaved : (Durable → Bool) → List ℕ → PassState Given → Type 0
+abbrev pub IsLastSaved : (Durable → Bool) → List ℕ → PassState Entry → Type 0
 IsLastSaved saved agent p = IsSaved saved agent (last_of None p.receipts)
 
--- the last receipt of a pass opened a draft of this agent, with the record that there is
-abbrev pub IsLastDraft : List ℕ → Option Durable → PassState Given → Type 0
-IsLastDraft agent None p = ⊥
-IsLastDraft agent (Some draft) p = IsDraftIn agent draft (last_of None p.receipts)
+-- if there is a record, the last receipt of a pass opened a draft of this agent with it
+abbrev pub IsOpen : List ℕ → Option Durable → PassState Entry → Type 0
+IsOpen agent None p = ⊤
+IsOpen agent (Some draft) p = IsDraftIn agent draft (last_of None p.receipts)
 
 -- a pass of the same seat, with more receipts behind those that it had
-pub record IsGrown (old new : PassState Given) : Type 0 where
+pub record IsGrown (old new : PassState Entry) : Type 0 where
   pub seat : new.seat ≡ old.seat
-  pub more : List (Receipt Given)
+  pub more : List (Receipt Entry)
   pub receipts : new.receipts ≡ old.receipts ++ more
 
 -- a pass has grown, and if each commit stood behind its save, so it does now
-pub record Keeps (saved_before saved : Durable → Bool) (old new : PassState Given) : Type 0 where
+pub record Keeps (saved_before saved : Durable → Bool) (old new : PassState Entry) : Type 0 where
   pub grown : IsGrown old new
   pub commits : CommitsSaved saved_before old → CommitsSaved saved new

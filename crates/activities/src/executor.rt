@@ -1,4 +1,5 @@
-//! What the executors of an agent's tasks tell: a task runs at once, and ends by itself after some time.
+//! What the executors of an agent's tasks tell: a task runs at once,
+//! and ends by itself after some time.
 
 use cluster_core::StepCause;
 use mails::{Durable, RecordedTask};
@@ -142,8 +143,8 @@ impl Executors {
         }
     }
 
-    /// Begins a turn: an agent that owns less than is configured starts with that, what isn't acknowledged is sent again, and each executor
-    /// tells its next state.
+    /// Begins a turn: an agent that owns less than is configured starts with that,
+    /// what isn't acknowledged is sent again, and each executor tells its next state.
     pub fn begin_turn(
         &mut self,
         seen: &Seen,

@@ -12,7 +12,8 @@ pub enum ActivityFault<F> {
     /// The cabinet failed in a save, and couldn't be opened again.
     #[error("{0}")]
     Cabinet(F),
-    /// What the cabinet keeps is neither the record of the draft that was to be saved nor the agent's own.
+    /// What the cabinet keeps is neither the record of the draft that
+    /// was to be saved nor the agent's own.
     #[error("K2 Damaged")]
     Damaged,
 }

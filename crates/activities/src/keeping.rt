@@ -1,16 +1,17 @@
 //! Each draft is saved before it is committed.
 
-ghost use Rattle.std.specs.Prelude.{◌≡◌, IsTrue, IfOk};
-ghost use Rattle.activities.specs.Saved.{IsLastDraft, IsLastSaved, Keeps};
-ghost use Rattle.activities.specs.declared.keeping.Saving.TheVariants.{Kept};
+ghost use Rattle.std.specs.Prelude.{◌≡◌, false, None, Some, IsTrue, IfOk};
+ghost use Rattle.mails.specs.declared.record.Durable.{Durable};
+ghost use Rattle.activities.specs.Saved.{IsLastSaved, IsOpen, Keeps};
+ghost use Rattle.activities.specs.declared.keeping.Saving.TheVariants.{Kept, NoDraft};
 ghost use Rattle.cluster_steps.specs.declared.step.Keep.TheVariants.{After};
 
 use crate::fault::{ActivityFault, Stop, stop_of};
-use crate::receipts::{has_stopped, last_draft};
+use crate::receipts::has_stopped;
 use crate::records::is_own;
 use crate::worker::Worker;
 use agent_core::{Cabinet, Record};
-use cluster_core::{ClusterFault, Given, Keep, RecordedCluster, StepCause, agent_group};
+use cluster_core::{Awaited, ClusterFault, Keep, KeptEntry, RecordedCluster, StepCause};
 use desk_lock::{Pass, Waited};
 use names_core::AgentName;
 use plain_data::Plain;
@@ -26,15 +27,12 @@ pub(crate) enum Saving {
     Failed,
 }
 
-/// Whether what a cabinet keeps is the record of the draft that the last answer of a pass opened.
-fn is_last_draft<L: ledger::Ledger>(
-    pass: &Pass<Given, L>,
-    agent: &AgentName,
-    kept: &Option<Record>,
-) -> bool
-    ensures { IsTrue result → IsLastDraft agent.now kept.now pass.now }
+/// Whether what a cabinet keeps is the record of the draft that is open.
+fn is_open_draft(opened: &Option<Record>, kept: &Option<Record>) -> bool
+    ensures { IsTrue result → (draft : Durable) × (kept.now ≡ Some draft)
+        × (opened.now ≡ Some draft) }
 {
-    match (last_draft(pass, agent), kept) {
+    match (opened, kept) {
         (Some(draft), Some(kept)) => kept.is_same(draft),
         _ => false,
     }
@@ -42,12 +40,20 @@ fn is_last_draft<L: ledger::Ledger>(
 
 impl<'a, L: ledger::Ledger, R: Wait + Clock> Worker<'a, L, R> {
     /// Saves the draft that the last answer opened.
-    #[tactic(auto, using(crate::proofs::Saves::keeps_itself, crate::proofs::Saves::keeps_more, crate::proofs::Saves::just_saved))]
-    fn save<C: Cabinet>(&self, pass: &Pass<Given, L>, cabinet: &mut C) -> Saving
-        ensures kept { result ≡ Kept → IsLastSaved (C.saved cabinet.new) self.now.agent.now pass.now }
+    #[tactic(auto, using(crate::proofs::Saves::keeps_itself, crate::proofs::Saves::keeps_more, crate::proofs::Saves::open_saved))]
+    fn save<C: Cabinet>(
+        &self,
+        pass: &Pass<KeptEntry, L>,
+        opened: &Option<Record>,
+        cabinet: &mut C,
+    ) -> Saving
+        requires { IsOpen self.now.agent.now opened.now pass.now }
+        ensures kept { result ≡ Kept → IsLastSaved (C.saved cabinet.new) self.now.agent.now
+            pass.now }
         ensures keeps { Keeps (C.saved cabinet.old) (C.saved cabinet.new) pass.now pass.now }
+        ensures none { result ≡ NoDraft → opened.now ≡ None }
     {
-        let Some(draft) = last_draft(pass, self.agent) else {
+        let Some(draft) = opened else {
             return Saving::NoDraft;
         };
         match cabinet.save(self.alloc, draft) {
@@ -57,7 +63,7 @@ impl<'a, L: ledger::Ledger, R: Wait + Clock> Worker<'a, L, R> {
     }
 
     /// Whether what a cabinet keeps is the agent's own record.
-    fn owns<F>(&self, pass: &Pass<Given, L>, kept: &Option<Record>) -> Result<bool, Stop<F>> {
+    fn owns<F>(&self, pass: &Pass<KeptEntry, L>, kept: &Option<Record>) -> Result<bool, Stop<F>> {
         let agent = self.agent;
         let look = |recorded: &RecordedCluster| match recorded.cluster().durable(agent) {
             Some(own) => Ok(Some(is_own(kept, own))),
@@ -65,7 +71,7 @@ impl<'a, L: ledger::Ledger, R: Wait + Clock> Worker<'a, L, R> {
         };
         match self
             .office
-            .wait_for(self.rt, pass, agent_group(agent), 0, look)
+            .wait_for(self.rt, pass, Awaited::mails_to(agent), 0, look)
         {
             Ok(Waited::Found(owns)) => Ok(owns),
             Ok(_) => Err(Stop::Ended),
@@ -77,17 +83,20 @@ impl<'a, L: ledger::Ledger, R: Wait + Clock> Worker<'a, L, R> {
     #[tactic(auto, using(crate::proofs::Saves::keeps_itself, crate::proofs::Saves::keeps_more, crate::proofs::Saves::found_saved))]
     fn standing<C: Cabinet>(
         &self,
-        pass: &Pass<Given, L>,
+        pass: &Pass<KeptEntry, L>,
+        opened: &Option<Record>,
         cabinet: &mut C,
     ) -> Result<Keep, Stop<C::Fault>>
-        ensures after { IfOk result (λ keep. keep ≡ After → IsLastSaved (C.saved cabinet.new) self.now.agent.now pass.now) }
+        requires { IsOpen self.now.agent.now opened.now pass.now }
+        ensures after { IfOk result (λ keep. keep ≡ After
+            → IsLastSaved (C.saved cabinet.new) self.now.agent.now pass.now) }
         ensures keeps { Keeps (C.saved cabinet.old) (C.saved cabinet.new) pass.now pass.now }
     {
         let kept = match cabinet.reopen(self.alloc) {
             Ok(kept) => kept,
             Err(fault) => return Err(Stop::Failed(ActivityFault::Cabinet(fault))),
         };
-        if is_last_draft(pass, self.agent, &kept) {
+        if is_open_draft(opened, &kept) {
             return Ok(Keep::After);
         }
         if self.owns(pass, &kept)? {
@@ -96,44 +105,56 @@ impl<'a, L: ledger::Ledger, R: Wait + Clock> Worker<'a, L, R> {
         Err(Stop::Failed(ActivityFault::Damaged))
     }
 
-    /// After a save that failed the agent stops, and comes up over the record that stands in the cabinet.
+    /// After a save that failed the agent stops,
+    /// and comes up over the record that stands in the cabinet.
     #[tactic(auto, using(crate::proofs::Saves::keeps_itself, crate::proofs::Saves::keeps_then))]
     fn reopen<C: Cabinet>(
         &self,
-        pass: &mut Pass<Given, L>,
+        pass: &mut Pass<KeptEntry, L>,
+        opened: &mut Option<Record>,
         cabinet: &mut C,
     ) -> Result<(), Stop<C::Fault>>
-        ensures { Keeps (C.saved cabinet.old) (C.saved cabinet.new) pass.old pass.new }
+        requires { IsOpen self.now.agent.now opened.old pass.old }
+        ensures keeps { Keeps (C.saved cabinet.old) (C.saved cabinet.new) pass.old pass.new }
+        ensures opened { IsOpen self.now.agent.now opened.new pass.new }
     {
-        match self.standing(pass, cabinet)? {
-            Keep::After => self.stop_after(pass),
-            Keep::Before => self.stop_before(pass),
+        match self.standing(pass, opened, cabinet)? {
+            Keep::After => self.stop_after(pass, opened),
+            Keep::Before => self.stop_before(pass, opened),
         }
     }
 
-    /// Does what the last answer leaves to be done, and tells whether there was something: a draft is saved and committed, and an agent that
-    /// stopped starts.
+    /// Does what the last answer leaves to be done, and tells whether there was something: a draft
+    /// is saved and committed, and an agent that stopped starts. Where there was nothing no draft
+    /// is open.
     #[tactic(auto, using(crate::proofs::Saves::keeps_itself, crate::proofs::Saves::keeps_then))]
     pub fn settle<C: Cabinet>(
         &self,
-        pass: &mut Pass<Given, L>,
+        pass: &mut Pass<KeptEntry, L>,
+        opened: &mut Option<Record>,
         cabinet: &mut C,
     ) -> Result<bool, Stop<C::Fault>>
-        ensures { Keeps (C.saved cabinet.old) (C.saved cabinet.new) pass.old pass.new }
+        requires { IsOpen self.now.agent.now opened.old pass.old }
+        ensures keeps { Keeps (C.saved cabinet.old) (C.saved cabinet.new) pass.old pass.new }
+        ensures opened { IsOpen self.now.agent.now opened.new pass.new }
+        ensures none { IfOk result (λ did. did ≡ false → opened.new ≡ None) }
     {
-        match self.save(pass, cabinet) {
-            Saving::Kept => self.commit(pass)?,
+        match self.save(pass, opened, cabinet) {
+            Saving::Kept => {
+                self.commit(pass, opened)?;
+                Ok(true)
+            }
             Saving::Failed => {
-                self.reopen(pass, cabinet)?;
-                return Err(Stop::Later);
+                self.reopen(pass, opened, cabinet)?;
+                Err(Stop::Later)
             }
             Saving::NoDraft => {
                 if !has_stopped(pass) {
                     return Ok(false);
                 }
-                self.prepare(pass, StepCause::Start(None))?;
+                self.prepare(pass, opened, StepCause::Start(None))?;
+                Ok(true)
             }
         }
-        Ok(true)
     }
 }

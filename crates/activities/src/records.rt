@@ -9,7 +9,8 @@ fn is_fresh(durable: &Record) -> bool {
     parts.session == 0 && parts.run == 0 && parts.tasks.is_empty()
 }
 
-/// Whether what a cabinet keeps is an agent's own record. An agent of which none was ever kept has the fresh one.
+/// Whether what a cabinet keeps is an agent's own record.
+/// An agent of which none was ever kept has the fresh one.
 pub(crate) fn is_own(kept: &Option<Record>, own: &Record) -> bool {
     match kept {
         Some(kept) => kept.is_same(own),

@@ -4,18 +4,14 @@ ghost use Rattle.std.specs.Prelude.{◌≡◌, ◌⊎◌, MatchBool};
 ghost use Rattle.activities.specs.Rounds.{HasRounds, IsAsked, IsCutRound, IsRound, goes_on_after};
 ghost use Rattle.cluster_steps.specs.declared.step.Step.TheVariants.{Allocate, Tick};
 
-use cluster_core::{ClusterFault, Given, RecordedCluster, Step};
+use cluster_core::{Awaited, ClusterFault, KeptEntry, RecordedCluster, Step};
 use desk_lock::{Office, OfficeFault, Pass, Waited};
 use std::alloc::Global;
 use std::sync::{Wait, ledger};
 use std::time::{Clock, Instant};
 
-/// Where a ticker waits. No group is free of callers: in this one those wait too who take events of the streams whose numbers are divisible by 32,
-/// and a step that tells such a stream something wakes the ticker, which waits on.
-const GROUP: u32 = 0;
-
 /// Whether the ticker goes on after an answer.
-fn goes_on(answer: Result<(), OfficeFault<ClusterFault>>) -> bool
+fn goes_on<A: Drop>(answer: Result<A, OfficeFault<ClusterFault>>) -> bool
     ensures { result ≡ goes_on_after answer }
 {
     match answer {
@@ -40,10 +36,11 @@ fn tick<L: ledger::Ledger, R: Wait>(
     rt: &R,
     alloc: Global,
     office: &Office<RecordedCluster, L>,
-    pass: &mut Pass<Given, L>,
+    pass: &mut Pass<KeptEntry, L>,
     moment: u32,
 ) -> bool
-    ensures { MatchBool result (IsAsked (Tick moment) pass.old pass.new) (IsCutRound pass.old pass.new) }
+    ensures { MatchBool result (IsAsked (Tick moment) pass.old pass.new)
+        (IsCutRound pass.old pass.new) }
 {
     goes_on(office.call(rt, alloc, pass, Step::Tick(moment)))
 }
@@ -53,35 +50,39 @@ fn allocate<L: ledger::Ledger, R: Wait>(
     rt: &R,
     alloc: Global,
     office: &Office<RecordedCluster, L>,
-    pass: &mut Pass<Given, L>,
+    pass: &mut Pass<KeptEntry, L>,
 ) -> bool
     ensures { IsAsked Allocate pass.old pass.new }
 {
     goes_on(office.call(rt, alloc, pass, Step::Allocate))
 }
 
-/// A Tick, and a round of offers where the ticker goes on after it. It tells whether the ticker goes on after both.
+/// A Tick, and a round of offers where the ticker goes on after it.
+/// It tells whether the ticker goes on after both.
 fn round<L: ledger::Ledger, R: Wait>(
     rt: &R,
     alloc: Global,
     office: &Office<RecordedCluster, L>,
-    pass: &mut Pass<Given, L>,
+    pass: &mut Pass<KeptEntry, L>,
     moment: u32,
 ) -> bool
-    ensures { MatchBool result (IsRound pass.old pass.new) (IsRound pass.old pass.new ⊎ IsCutRound pass.old pass.new) }
+    ensures { MatchBool result (IsRound pass.old pass.new)
+        (IsRound pass.old pass.new ⊎ IsCutRound pass.old pass.new) }
 {
     tick(rt, alloc, office, pass, moment) && allocate(rt, alloc, office, pass)
 }
 
-/// Lets the master's time pass until the office is finished: at once, and then every `interval` seconds (any number; at 0 without a pause), it sends a Tick of the whole
-/// seconds since its start, 2^32 - 1 at most, and has offers made. It ends before by O1 and C8. It doesn't start a master that is down.
+/// Lets the master's time pass until the office is finished: at once, and then every `interval`
+/// seconds (any number; at 0 without a pause), it sends a Tick of the whole seconds since its
+/// start, 2^32 - 1 at most, and has offers made. It ends before by O1 and C8. It doesn't start a
+/// master that is down.
 pub fn ticker<L: ledger::Ledger, R: Wait + Clock>(
     rt: &R,
     alloc: Global,
     office: &Office<RecordedCluster, L>,
-    mut pass: Pass<Given, L>,
+    mut pass: Pass<KeptEntry, L>,
     interval: u64,
-) -> Pass<Given, L>
+) -> Pass<KeptEntry, L>
     ensures { HasRounds pass result }
 {
     let start = Instant::now(rt).ok();
@@ -92,7 +93,7 @@ pub fn ticker<L: ledger::Ledger, R: Wait + Clock>(
             return pass;
         }
         let look = |_: &RecordedCluster| -> Result<Option<()>, ClusterFault> { Ok(None) };
-        match office.wait_for(rt, &pass, GROUP, interval, look) {
+        match office.wait_for(rt, &pass, Awaited::time(), interval, look) {
             Ok(Waited::Elapsed) => {}
             _ => return pass,
         }

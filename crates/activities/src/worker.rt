@@ -1,12 +1,16 @@
 //! The steps that an activity takes, each at the office.
 
-ghost use Rattle.std.specs.Prelude.{◌≡◌, Bool, None, IfOk};
-ghost use Rattle.mails.specs.declared.record.Durable.{Durable as Record};
-ghost use Rattle.activities.specs.Saved.{IsBehindSave, IsLastSaved, Keeps, last_of};
+ghost use Rattle.std.specs.Prelude.{◌≡◌, Bool, None, IfOk, OnErr};
+ghost use Rattle.mails.specs.declared.record.Durable.{Durable};
+ghost use Rattle.cluster_core.specs.Answering.{Answers};
+ghost use Rattle.activities.specs.Saved.{IsBehindSave, IsLastSaved, IsOpen, Keeps, last_of};
 
 use crate::fault::{Stop, stop_of};
-use cluster_core::{ClusterFault, Given, Keep, RecordedCluster, Step, StepCause, agent_group};
-use desk_lock::{Office, OfficeFault, Pass, Waited};
+use agent_core::Record;
+use cluster_core::{
+    Awaited, ClusterFault, Given, Keep, KeptEntry, RecordedCluster, Step, StepCause,
+};
+use desk_lock::{Answered, Office, OfficeFault, Pass, Waited};
 use names_core::AgentName;
 use plain_data::Plain;
 use quantity::Resources;
@@ -20,6 +24,21 @@ fn unless_later<F>(stop: Stop<F>) -> Result<(), Stop<F>> {
         Stop::Later => Ok(()),
         stop => Err(stop),
     }
+}
+
+/// The draft is open that an answer opened, if it did.
+fn opens(opened: &mut Option<Record>, answered: Answered<KeptEntry, Given>)
+    ensures { opened.new ≡ answered.given.durable }
+{
+    *opened = answered.given.durable;
+}
+
+/// Behind an answer no draft is open.
+fn closes(opened: &mut Option<Record>, answered: Answered<KeptEntry, Given>)
+    ensures { opened.new ≡ None }
+{
+    drop(answered);
+    *opened = None;
 }
 
 /// What an activity works with.
@@ -45,105 +64,149 @@ impl<'a, L: ledger::Ledger, R: Wait + Clock> Worker<'a, L, R> {
     }
 
     /// Takes a step at the office.
-    fn call(&self, pass: &mut Pass<Given, L>, step: Step) -> Result<(), OfficeFault<ClusterFault>>
-        ensures { (saved : Record → Bool) → IsBehindSave saved (last_of None pass.old.receipts) step → Keeps saved saved pass.old pass.new }
+    fn call(
+        &self,
+        pass: &mut Pass<KeptEntry, L>,
+        step: Step,
+    ) -> Result<Answered<KeptEntry, Given>, OfficeFault<ClusterFault>>
+        ensures keeps { (saved : Durable → Bool)
+            → IsBehindSave saved (last_of None pass.old.receipts) step
+            → Keeps saved saved pass.old pass.new }
+        ensures answered { IfOk result (λ a. Answers pass.old step a pass.new) }
+        ensures unchanged { OnErr result (pass.new ≡ pass.old) }
     {
         self.office.call(self.rt, self.alloc, pass, step)
     }
 
     /// The agent stops, and comes up over its record.
     #[tactic(auto, using(crate::proofs::Saves::keeps_itself))]
-    pub fn stop_before<F>(&self, pass: &mut Pass<Given, L>) -> Result<(), Stop<F>>
-        ensures { (saved : Record → Bool) → Keeps saved saved pass.old pass.new }
+    pub fn stop_before<F>(
+        &self,
+        pass: &mut Pass<KeptEntry, L>,
+        opened: &mut Option<Record>,
+    ) -> Result<(), Stop<F>>
+        requires { IsOpen self.now.agent.now opened.old pass.old }
+        ensures keeps { (saved : Durable → Bool) → Keeps saved saved pass.old pass.new }
+        ensures opened { IsOpen self.now.agent.now opened.new pass.new }
     {
         let step = Step::StopAgent {
             agent: self.name()?,
             keep: Keep::Before,
         };
         match self.call(pass, step) {
-            Ok(()) => Ok(()),
+            Ok(answered) => Ok(closes(opened, answered)),
             Err(fault) => Err(stop_of(fault)),
         }
     }
 
     /// The agent stops, and comes up over the record of its open draft, which was saved.
     #[tactic(auto, using(crate::proofs::Saves::keeps_itself))]
-    pub fn stop_after<F>(&self, pass: &mut Pass<Given, L>) -> Result<(), Stop<F>>
-        ensures { (saved : Record → Bool) → IsLastSaved saved self.now.agent.now pass.old → Keeps saved saved pass.old pass.new }
+    pub fn stop_after<F>(
+        &self,
+        pass: &mut Pass<KeptEntry, L>,
+        opened: &mut Option<Record>,
+    ) -> Result<(), Stop<F>>
+        requires { IsOpen self.now.agent.now opened.old pass.old }
+        ensures keeps { (saved : Durable → Bool) → IsLastSaved saved self.now.agent.now pass.old
+            → Keeps saved saved pass.old pass.new }
+        ensures opened { IsOpen self.now.agent.now opened.new pass.new }
     {
         let step = Step::StopAgent {
             agent: self.name()?,
             keep: Keep::After,
         };
         match self.call(pass, step) {
-            Ok(()) => Ok(()),
+            Ok(answered) => Ok(closes(opened, answered)),
             Err(fault) => Err(stop_of(fault)),
         }
     }
 
     /// The agent stops, and is to start at the next turn.
     #[tactic(auto, using(crate::proofs::Saves::keeps_then))]
-    fn restart<F>(&self, pass: &mut Pass<Given, L>) -> Result<(), Stop<F>>
-        ensures { (saved : Record → Bool) → Keeps saved saved pass.old pass.new }
+    fn restart<F>(
+        &self,
+        pass: &mut Pass<KeptEntry, L>,
+        opened: &mut Option<Record>,
+    ) -> Result<(), Stop<F>>
+        requires { IsOpen self.now.agent.now opened.old pass.old }
+        ensures keeps { (saved : Durable → Bool) → Keeps saved saved pass.old pass.new }
+        ensures opened { IsOpen self.now.agent.now opened.new pass.new }
     {
-        self.stop_before(pass)?;
+        self.stop_before(pass, opened)?;
         Err(Stop::Later)
     }
 
-    /// The record of the agent's open draft, which was saved, becomes its own. An agent that is down or has no draft stops, and comes up.
+    /// The record of the agent's open draft, which was saved, becomes its own.
+    /// An agent that is down or has no draft stops, and comes up.
     #[tactic(auto, using(crate::proofs::Saves::keeps_itself, crate::proofs::Saves::keeps_then))]
-    pub fn commit<F>(&self, pass: &mut Pass<Given, L>) -> Result<(), Stop<F>>
-        ensures { (saved : Record → Bool) → IsLastSaved saved self.now.agent.now pass.old → Keeps saved saved pass.old pass.new }
+    pub fn commit<F>(
+        &self,
+        pass: &mut Pass<KeptEntry, L>,
+        opened: &mut Option<Record>,
+    ) -> Result<(), Stop<F>>
+        requires { IsOpen self.now.agent.now opened.old pass.old }
+        ensures keeps { (saved : Durable → Bool) → IsLastSaved saved self.now.agent.now pass.old
+            → Keeps saved saved pass.old pass.new }
+        ensures opened { IsOpen self.now.agent.now opened.new pass.new }
     {
         let step = Step::Commit(self.name()?);
         match self.call(pass, step) {
-            Ok(()) => Ok(()),
+            Ok(answered) => Ok(closes(opened, answered)),
             Err(OfficeFault::Core(ClusterFault::AgentDown | ClusterFault::NoDraft)) => {
-                self.restart(pass)
+                self.restart(pass, opened)
             }
             Err(fault) => Err(stop_of(fault)),
         }
     }
 
-    /// Opens a draft of what a cause makes of the agent. An agent that is down stops, and comes up.
+    /// Opens a draft of what a cause makes of the agent, whose record is given.
+    /// An agent that is down stops, and comes up.
     #[tactic(auto, using(crate::proofs::Saves::keeps_itself, crate::proofs::Saves::keeps_then))]
-    pub fn prepare<F>(&self, pass: &mut Pass<Given, L>, cause: StepCause) -> Result<(), Stop<F>>
-        ensures { (saved : Record → Bool) → Keeps saved saved pass.old pass.new }
+    pub fn prepare<F>(
+        &self,
+        pass: &mut Pass<KeptEntry, L>,
+        opened: &mut Option<Record>,
+        cause: StepCause,
+    ) -> Result<(), Stop<F>>
+        requires { opened.old ≡ None }
+        ensures keeps { (saved : Durable → Bool) → Keeps saved saved pass.old pass.new }
+        ensures opened { IsOpen self.now.agent.now opened.new pass.new }
     {
         let step = Step::Prepare {
             agent: self.name()?,
             cause,
         };
         match self.call(pass, step) {
-            Ok(()) => Ok(()),
-            Err(OfficeFault::Core(ClusterFault::AgentDown)) => self.restart(pass),
+            Ok(answered) => Ok(opens(opened, answered)),
+            Err(OfficeFault::Core(ClusterFault::AgentDown)) => self.restart(pass, opened),
             Err(fault) => Err(stop_of(fault)),
         }
     }
 
     /// The first mail from the agent that waits; none where the office is finished.
-    fn first_sent<F>(&self, pass: &Pass<Given, L>) -> Result<Option<u64>, Stop<F>> {
+    fn first_sent<F>(&self, pass: &Pass<KeptEntry, L>) -> Result<Option<u64>, Stop<F>> {
         let agent = self.agent;
         let look = |recorded: &RecordedCluster| Ok(recorded.cluster().first_mail_from(agent));
-        let group = agent_group(agent);
-        match self.office.wait_for(self.rt, pass, group, 0, look) {
+        let mails = Awaited::mails_to(agent);
+        match self.office.wait_for(self.rt, pass, mails, 0, look) {
             Ok(Waited::Found(number)) => Ok(Some(number)),
             Ok(_) => Ok(None),
             Err(fault) => Err(stop_of(fault)),
         }
     }
 
-    /// The master takes the agent's mails, in their order. Behind one that is refused the others wait with it.
+    /// The master takes the agent's mails, in their order.
+    /// Behind one that is refused the others wait with it.
     #[tactic(auto, using(crate::proofs::Saves::keeps_itself, crate::proofs::Saves::keeps_then))]
-    pub fn deliver<F>(&self, pass: &mut Pass<Given, L>) -> Result<(), Stop<F>>
-        ensures { (saved : Record → Bool) → Keeps saved saved pass.old pass.new }
+    pub fn deliver<F>(&self, pass: &mut Pass<KeptEntry, L>) -> Result<(), Stop<F>>
+        ensures { (saved : Durable → Bool) → Keeps saved saved pass.old pass.new }
     {
         for _ in self.rt.forever() {
             let Some(number) = self.first_sent(pass)? else {
                 return Ok(());
             };
             match self.call(pass, Step::Deliver(number)) {
-                Ok(()) => {}
+                Ok(answered) => drop(answered),
                 Err(fault) => return unless_later(stop_of(fault)),
             }
         }
@@ -153,7 +216,7 @@ impl<'a, L: ledger::Ledger, R: Wait + Clock> Worker<'a, L, R> {
     /// Waits for the first mail to the agent, for so many seconds at most.
     pub fn first_mail<F>(
         &self,
-        pass: &Pass<Given, L>,
+        pass: &Pass<KeptEntry, L>,
         seconds: u64,
     ) -> Result<Option<u64>, Stop<F>> {
         let agent = self.agent;
@@ -161,8 +224,8 @@ impl<'a, L: ledger::Ledger, R: Wait + Clock> Worker<'a, L, R> {
             Some(_) => Ok(recorded.cluster().first_mail(agent)),
             None => Err(ClusterFault::NoSuchAgent),
         };
-        let group = agent_group(agent);
-        match self.office.wait_for(self.rt, pass, group, seconds, look) {
+        let mails = Awaited::mails_to(agent);
+        match self.office.wait_for(self.rt, pass, mails, seconds, look) {
             Ok(Waited::Found(number)) => Ok(Some(number)),
             Ok(Waited::Elapsed) => Ok(None),
             Ok(Waited::Finished) => Err(Stop::Ended),
@@ -171,11 +234,11 @@ impl<'a, L: ledger::Ledger, R: Wait + Clock> Worker<'a, L, R> {
     }
 
     /// Waits for a second, and tells whether the activity goes on.
-    pub fn pause(&self, pass: &Pass<Given, L>) -> bool {
+    pub fn pause(&self, pass: &Pass<KeptEntry, L>) -> bool {
         let look = |_: &RecordedCluster| -> Result<Option<()>, ClusterFault> { Ok(None) };
         match self
             .office
-            .wait_for(self.rt, pass, agent_group(self.agent), 1, look)
+            .wait_for(self.rt, pass, Awaited::time(), 1, look)
         {
             Ok(Waited::Finished) | Err(_) => false,
             Ok(_) => true,

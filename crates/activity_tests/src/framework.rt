@@ -1,23 +1,25 @@
 //! A framework that launches a task on the one agent.
 
 use crate::offices::wait_for_entries;
-use cluster_core::{Given, Keep, RecordedCluster, Step};
+use cluster_core::{Keep, KeptEntry, RecordedCluster, Step};
 use desk_lock::{Office, Pass};
 use listed::Listed;
 use mails::{Call, TaskInfo};
 use names_core::{AgentName, FrameworkId, OfferId, RoleName, StreamId, TaskName};
 use quantity::Resources;
+use shared_value::Shared;
 use std::alloc::Global;
 use std::sync::{Wait, ledger};
 use std::time::Clock;
 
 fn subscribe(alloc: Global) -> Option<Step> {
+    let call = Call::Subscribe {
+        framework: None,
+        role: RoleName::from_text(alloc, "*").ok()?,
+    };
     Some(Step::Send {
         stream: None,
-        call: Call::Subscribe {
-            framework: None,
-            role: RoleName::from_text(alloc, "*").ok()?,
-        },
+        call: Shared::new(alloc, call).ok()?,
     })
 }
 
@@ -38,39 +40,44 @@ fn accept(alloc: Global) -> Option<Step> {
     offers.push(OfferId::new(1, 1)).ok()?;
     let mut tasks = Listed::new(alloc);
     tasks.push(task(alloc)?).ok()?;
+    let call = Call::Accept {
+        framework: FrameworkId::new(1, 1),
+        offers,
+        tasks,
+        refuse_seconds: 0,
+    };
     Some(Step::Send {
         stream: Some(StreamId::new(1, 1)),
-        call: Call::Accept {
-            framework: FrameworkId::new(1, 1),
-            offers,
-            tasks,
-            refuse_seconds: 0,
-        },
+        call: Shared::new(alloc, call).ok()?,
     })
 }
 
-/// Takes a step once the history has so many entries; None where it hasn't in time, or the step is refused.
+/// Takes a step once the history has so many entries;
+/// None where it hasn't in time, or the step is refused.
 fn take_at<L: ledger::Ledger, R: Wait + Clock>(
     rt: &R,
     alloc: Global,
     office: &Office<RecordedCluster, L>,
-    pass: &mut Pass<Given, L>,
+    pass: &mut Pass<KeptEntry, L>,
     count: usize,
     step: Step,
 ) -> Option<()> {
     if !wait_for_entries(rt, office, pass, count) {
         return None;
     }
-    office.call(rt, alloc, pass, step).ok()
+    match office.call(rt, alloc, pass, step) {
+        Ok(_) => Some(()),
+        Err(_) => None,
+    }
 }
 
-/// Once the agent has greeted back, by 3 entries, a framework subscribes by call 3, is offered the agent, and launches a task by call 4. The launch goes
-/// to the agent as mail 5.
+/// Once the agent has greeted back, by 3 entries, a framework subscribes by call 3,
+/// is offered the agent, and launches a task by call 4. The launch goes to the agent as mail 5.
 pub fn launch<L: ledger::Ledger, R: Wait + Clock>(
     rt: &R,
     alloc: Global,
     office: &Office<RecordedCluster, L>,
-    pass: &mut Pass<Given, L>,
+    pass: &mut Pass<KeptEntry, L>,
 ) -> Option<()> {
     take_at(rt, alloc, office, pass, 3, subscribe(alloc)?)?;
     take_at(rt, alloc, office, pass, 4, Step::Deliver(3))?;
@@ -84,7 +91,7 @@ pub fn stop<L: ledger::Ledger, R: Wait + Clock>(
     rt: &R,
     alloc: Global,
     office: &Office<RecordedCluster, L>,
-    pass: &mut Pass<Given, L>,
+    pass: &mut Pass<KeptEntry, L>,
 ) -> Option<()> {
     let step = Step::StopAgent {
         agent: AgentName::from_text(alloc, "a1").ok()?,

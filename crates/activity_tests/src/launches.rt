@@ -1,4 +1,5 @@
-//! An agent that launches a task: what it tells of the task, and a stop while the draft of the launch is saved.
+//! An agent that launches a task: what it tells of the task,
+//! and a stop while the draft of the launch is saved.
 
 ghost use Rattle.std.specs.Prelude.{◌≡◌};
 
@@ -14,7 +15,8 @@ use std::sync::{Wait, ledger};
 use std::thread::Threads;
 use std::time::Clock;
 
-/// What an agent does that holds no save before so many, and what the framework does that launches a task there.
+/// What an agent does that holds no save before so many,
+/// and what the framework does that launches a task there.
 fn launched_at<L: ledger::Ledger + Send + Sync, R: Threads + Wait + Clock + Sync>(
     rt: &R,
     alloc: Global,
@@ -83,9 +85,10 @@ fn comes_up(played: &Option<(Option<Played>, Option<Played>)>) -> bool {
     }
 }
 
-/// The agent hears the greeting and the launch, tells that the task runs, sends that again as long as nobody acknowledges it, and tells the end a second
-/// after it saw the task run, again behind what isn't acknowledged. Each of the six causes makes three entries, Prepare, Commit and Deliver, and the
-/// framework has five.
+/// The agent hears the greeting and the launch, tells that the task runs, sends that again as long
+/// as nobody acknowledges it, and tells the end a second after it saw the task run, again behind
+/// what isn't acknowledged. Each of the six causes makes three entries, Prepare, Commit and
+/// Deliver, and the framework has five.
 pub fn what_is_unacknowledged_goes_first<R: Threads + Wait + Clock + Sync>(
     rt: &R,
     alloc: Global,
@@ -93,8 +96,8 @@ pub fn what_is_unacknowledged_goes_first<R: Threads + Wait + Clock + Sync>(
     sends_again(&after_launch(rt, alloc, u32::MAX, false, 23))
 }
 
-/// The agent is stopped while its second save is held, so its Commit is refused by C5: it stops, and starts. The two have all entries of the history, and
-/// nobody commits the launch's draft.
+/// The agent is stopped while its second save is held, so its Commit is refused by C5: it stops,
+/// and starts. The two have all entries of the history, and nobody commits the launch's draft.
 pub fn a_stop_in_a_save<R: Threads + Wait + Clock + Sync>(rt: &R, alloc: Global) -> bool {
     comes_up(&after_launch(rt, alloc, 1, true, 14))
 }

@@ -2,7 +2,9 @@
 
 ghost use Rattle.std.specs.Prelude.{◌≡◌, [], IfSome};
 
-use cluster_core::{Cluster, Given, RecordedCluster, fresh_agents_open, fresh_records};
+use cluster_core::{
+    Awaited, Cluster, KeptEntry, RecordedCluster, fresh_agents_open, fresh_records,
+};
 use desk_lock::{Desk, Office, Pass, Waited};
 use master_core::Config;
 use names_core::{AgentName, Run};
@@ -95,7 +97,7 @@ pub fn seat<L: ledger::Ledger, R: Wait>(
     rt: &R,
     alloc: Global,
     office: &Office<RecordedCluster, L>,
-) -> Option<Pass<Given, L>>
+) -> Option<Pass<KeptEntry, L>>
     ensures { IfSome result (λ pass. pass.receipts ≡ []) }
 {
     office.open_seat(rt, alloc).ok()
@@ -105,7 +107,7 @@ pub fn seat<L: ledger::Ledger, R: Wait>(
 fn has_entries<L: ledger::Ledger, R: Wait + Clock>(
     rt: &R,
     office: &Office<RecordedCluster, L>,
-    pass: &Pass<Given, L>,
+    pass: &Pass<KeptEntry, L>,
     count: usize,
 ) -> bool {
     let look = |recorded: &RecordedCluster| {
@@ -115,7 +117,7 @@ fn has_entries<L: ledger::Ledger, R: Wait + Clock>(
             Ok(Some(()))
         }
     };
-    match office.wait_for(rt, pass, 0, 0, look) {
+    match office.wait_for(rt, pass, Awaited::time(), 0, look) {
         Ok(Waited::Found(()) | Waited::Finished) => true,
         _ => false,
     }
@@ -125,7 +127,7 @@ fn has_entries<L: ledger::Ledger, R: Wait + Clock>(
 pub fn wait_for_entries<L: ledger::Ledger, R: Wait + Clock>(
     rt: &R,
     office: &Office<RecordedCluster, L>,
-    pass: &Pass<Given, L>,
+    pass: &Pass<KeptEntry, L>,
     count: usize,
 ) -> bool {
     for _ in 0..200u32 {

@@ -6,7 +6,7 @@ use crate::cabinets::{Flags, Held, Shelf};
 use crate::framework::{launch, stop};
 use crate::offices::{OWNED, cpus, seat, wait_for_entries};
 use activities::{ActivityFault, activity, ticker};
-use cluster_core::{Given, Keep, RecordedCluster, Step, StepCause};
+use cluster_core::{Keep, KeptEntry, RecordedCluster, Step, StepCause};
 use desk_lock::{Office, Pass};
 use names_core::{AgentName, TaskState};
 use std::alloc::{AllocError, Global};
@@ -22,7 +22,8 @@ pub enum Part<'a> {
     Agent(AgentName, Shelf, u64),
     /// An agent whose saves wait for the other's.
     Held(AgentName, Held<'a>),
-    /// A framework launches a task, the agent is stopped behind it if so, and the agent's saves are let go. It finishes the office as a finisher does.
+    /// A framework launches a task, the agent is stopped behind it if so,
+    /// and the agent's saves are let go. It finishes the office as a finisher does.
     Launcher {
         flags: &'a Flags,
         stops: bool,
@@ -30,7 +31,8 @@ pub enum Part<'a> {
     },
     /// A ticker with a round each second.
     Ticker,
-    /// It finishes the office once the history has so many entries, and after 20 seconds at the latest.
+    /// It finishes the office once the history has so many entries,
+    /// and after 20 seconds at the latest.
     Finisher(usize),
 }
 
@@ -50,11 +52,12 @@ pub enum End {
 /// What a thread did.
 #[derive(Drop)]
 pub struct Played {
-    /// A letter for each of its steps: P, C and D for Prepare, Commit and Deliver, B and A for a stop before and after a draft's save, T and O for
-    /// a Tick and a round of offers, and S for a call that is sent.
+    /// A letter for each of its steps: P, C and D for Prepare, Commit and Deliver, B and A for a
+    /// stop before and after a draft's save, T and O for a Tick and a round of offers, and S for a
+    /// call that is sent.
     pub letters: Vec<u8>,
-    /// A letter for each cause that it prepared: M for a mail, R and F for a task that runs and that has finished, A for what is sent again, S for
-    /// a start, and T for one with a total.
+    /// A letter for each cause that it prepared: M for a mail, R and F for a task that runs and
+    /// that has finished, A for what is sent again, S for a start, and T for one with a total.
     pub causes: Vec<u8>,
     /// The moments of its Ticks.
     pub moments: Vec<u32>,
@@ -91,13 +94,13 @@ fn cause_letter(cause: &StepCause) -> u8 {
 
 pub fn played_from<L: ledger::Ledger>(
     alloc: Global,
-    pass: &Pass<Given, L>,
+    pass: &Pass<KeptEntry, L>,
     end: End,
 ) -> Result<Played, AllocError> {
     let (mut letters, mut causes) = (Vec::new(alloc), Vec::new(alloc));
     let mut moments = Vec::new(alloc);
     for receipt in pass.receipts() {
-        let step = &receipt.given.taken.entry.step;
+        let step = &receipt.entry.get().step;
         letters.push(letter(step))?;
         match step {
             Step::Tick(moment) => moments.push(*moment)?,
@@ -121,12 +124,13 @@ pub fn end_of(fault: Option<ActivityFault<AllocError>>) -> End {
     }
 }
 
-/// Launches a task and stops the agent if so, and finishes the office once the history has so many entries.
+/// Launches a task and stops the agent if so,
+/// and finishes the office once the history has so many entries.
 fn lead<L: ledger::Ledger, R: Wait + Clock>(
     rt: &R,
     alloc: Global,
     office: &Office<RecordedCluster, L>,
-    pass: &mut Pass<Given, L>,
+    pass: &mut Pass<KeptEntry, L>,
     flags: &Flags,
     stops: bool,
     count: usize,
@@ -146,7 +150,7 @@ fn play_from<L: ledger::Ledger, R: Wait + Clock>(
     rt: &R,
     alloc: Global,
     office: &Office<RecordedCluster, L>,
-    mut pass: Pass<Given, L>,
+    mut pass: Pass<KeptEntry, L>,
     part: Part<'_>,
 ) -> Result<Played, AllocError>
     requires { pass.receipts ≡ [] }
@@ -183,7 +187,8 @@ fn play_from<L: ledger::Ledger, R: Wait + Clock>(
     }
 }
 
-/// Does a part, and says what it did; None for want of memory. Where it can't begin it finishes the office, so that the other ends too.
+/// Does a part, and says what it did; None for want of memory.
+/// Where it can't begin it finishes the office, so that the other ends too.
 pub fn play<L: ledger::Ledger, R: Wait + Clock>(
     rt: &R,
     alloc: Global,

@@ -1,4 +1,5 @@
-//! An agent whose record a keeper keeps, over files in memory that stop while the draft of a launch is saved.
+//! An agent whose record a keeper keeps,
+//! over files in memory that stop while the draft of a launch is saved.
 
 ghost use Rattle.std.specs.Prelude.{◌≡◌, []};
 
@@ -7,7 +8,7 @@ use crate::offices::{OWNED, PARTS, cpus, named, office, seat};
 use crate::parts::{End, Part, Played, end_of, play, played_from};
 use crate::stores::{MemoryStore, StopAt};
 use activities::activity;
-use cluster_core::{Given, RecordedCluster};
+use cluster_core::{KeptEntry, RecordedCluster};
 use desk_lock::{Office, Pass};
 use names_core::AgentName;
 use quantity::Resources;
@@ -27,14 +28,15 @@ struct Stored {
     due: Vec<u8>,
 }
 
-/// How many entries there are once the step behind the launch's Prepare is taken: three of the greeting, five of the framework, and these two.
+/// How many entries there are once the step behind the launch's Prepare is taken:
+/// three of the greeting, five of the framework, and these two.
 const ENTRIES: usize = 10;
 
 fn stored_from<L: ledger::Ledger, R: Wait + Clock>(
     rt: &R,
     alloc: Global,
     office: &Office<RecordedCluster, L>,
-    pass: Pass<Given, L>,
+    pass: Pass<KeptEntry, L>,
     agent: &AgentName,
     total: &Resources,
     stop: StopAt,
@@ -66,7 +68,8 @@ fn stored_at<L: ledger::Ledger, R: Wait + Clock>(
     }
 }
 
-/// What the agent does whose store stops there. Where it can't begin it finishes the office, so that the framework ends too.
+/// What the agent does whose store stops there. Where it can't begin it finishes the office,
+/// so that the framework ends too.
 fn stored_or_finished<L: ledger::Ledger, R: Wait + Clock>(
     rt: &R,
     alloc: Global,
@@ -134,8 +137,8 @@ fn launch_with<R: Threads + Wait + Clock + Sync>(
     launch_in::<Brand, R>(rt, alloc, Blank::new(PARTS), stop)
 }
 
-/// The letter of the step that was due behind the launch's Prepare, where that step was taken there: the greeting's Prepare, Commit
-/// and Deliver come before. None where another was.
+/// The letter of the step that was due behind the launch's Prepare, where that step was taken
+/// there: the greeting's Prepare, Commit and Deliver come before. None where another was.
 fn taken_as_due(stored: &Stored) -> Option<u8> {
     let due = stored.due.as_slice().get(1)?;
     let letters = stored.played.letters.as_slice();
@@ -166,8 +169,9 @@ fn taken_after<R: Threads + Wait + Clock + Sync>(
     }
 }
 
-/// How often the agent was stopped before the save, and how often after it, as was due, with a file that stops at each of its calls in
-/// turn, until the save is kept. None where another step was taken than the one that was due, or the file always stopped.
+/// How often the agent was stopped before the save, and how often after it, as was due, with a file
+/// that stops at each of its calls in turn, until the save is kept. None where another step was
+/// taken than the one that was due, or the file always stopped.
 fn stops_from<R: Threads + Wait + Clock + Sync>(
     rt: &R,
     alloc: Global,
@@ -185,8 +189,9 @@ fn stops_from<R: Threads + Wait + Clock + Sync>(
     None
 }
 
-/// The journal's file stops at each call while a launch's draft is saved. Where a stop leaves all that was written, the draft's record
-/// stands if the stop comes once that is in the journal, before the save is told to be kept.
+/// The journal's file stops at each call while a launch's draft is saved. Where a stop leaves all
+/// that was written, the draft's record stands if the stop comes once that is in the journal,
+/// before the save is told to be kept.
 pub fn a_journal_stops_in_a_launch<R: Threads + Wait + Clock + Sync>(
     rt: &R,
     alloc: Global,
@@ -198,7 +203,8 @@ pub fn a_journal_stops_in_a_launch<R: Threads + Wait + Clock + Sync>(
     }
 }
 
-/// The database's file stops at each call while a launch's draft is saved. No record stands there before the journal has it.
+/// The database's file stops at each call while a launch's draft is saved.
+/// No record stands there before the journal has it.
 pub fn a_database_file_stops_in_a_launch<R: Threads + Wait + Clock + Sync>(
     rt: &R,
     alloc: Global,

@@ -16,15 +16,17 @@ pub struct StopAt {
     pub is_lossy: bool,
 }
 
-/// A keeper's store over two files in memory, which are opened anew for each call. The files stop in one save.
+/// A keeper's store over two files in memory, which are opened anew for each call.
+/// The files stop in one save.
 #[derive(Drop)]
 pub struct MemoryStore {
     contents: Contents,
     stop: StopAt,
     /// The record whose save stopped.
     lost: Option<Record>,
-    /// What became of each save, by the letter of the step that is due then: C for a Commit, where it was kept; where it stopped, A or B
-    /// for a stop of the agent after or before it, by whether what is found when the store is opened again is the record of that save.
+    /// What became of each save, by the letter of the step that is due then: C for a Commit, where
+    /// it was kept; where it stopped, A or B for a stop of the agent after or before it, by whether
+    /// what is found when the store is opened again is the record of that save.
     due: Vec<u8>,
 }
 

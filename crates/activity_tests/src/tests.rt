@@ -5,7 +5,7 @@ ghost use Rattle.std.specs.Prelude.{◌≡◌};
 use crate::cabinets::{Flags, Held, Kept, Shelf};
 use crate::offices::{OWNED, PARTS, named, office, seat};
 use crate::parts::{End, Part, Played, both, play};
-use cluster_core::{RecordedCluster, Step};
+use cluster_core::{Awaited, RecordedCluster, Step};
 use desk_lock::{Office, Turn};
 use std::alloc::Global;
 use std::marker::Brand;
@@ -96,7 +96,8 @@ pub fn the_new_record_stands<R: Threads + Wait + Clock + Sync>(rt: &R, alloc: Gl
     begins(&played, b"PAPCD", End::Finished)
 }
 
-/// What an activity does of whose agent more is configured than it owns, where the office is finished at so many entries.
+/// What an activity does of whose agent more is configured than it owns,
+/// where the office is finished at so many entries.
 fn grown<L: ledger::Ledger + Send + Sync, R: Threads + Wait + Clock + Sync>(
     rt: &R,
     alloc: Global,
@@ -128,7 +129,8 @@ fn grows<L: ledger::Ledger + Send + Sync, R: Threads + Wait + Clock + Sync>(
     }
 }
 
-/// The agent hears the greeting, and at its first turn in the session starts with the larger total, once.
+/// The agent hears the greeting, and at its first turn in the session
+/// starts with the larger total, once.
 pub fn a_larger_total<R: Threads + Wait + Clock + Sync>(rt: &R, alloc: Global) -> bool {
     grows::<Brand, _>(rt, alloc, Blank::new(PARTS))
 }
@@ -210,7 +212,17 @@ fn answers<L: ledger::Ledger, R: Wait + Clock>(
     match seat(rt, alloc, office) {
         Some(mut pass) => {
             let step = Step::Allocate;
-            office.wait_call(rt, alloc, &mut pass, 0, |_| Turn::Answer, step) == Ok(true)
+            matches!(
+                office.wait_call(
+                    rt,
+                    alloc,
+                    &mut pass,
+                    Awaited::time(),
+                    |_| Turn::Answer,
+                    step
+                ),
+                Ok(Some(_))
+            )
         }
         None => false,
     }
@@ -225,7 +237,8 @@ fn played_unknown<L: ledger::Ledger, R: Wait + Clock>(
     play(rt, alloc, office, part)
 }
 
-/// Whether the activity of an agent that isn't configured does nothing, and the office answers others still.
+/// Whether the activity of an agent that isn't configured does nothing,
+/// and the office answers others still.
 fn ends_at_once<L: ledger::Ledger, R: Wait + Clock>(rt: &R, alloc: Global, blank: Blank) -> bool
     requires name { blank.name ≡ L.name }
     requires parts { (blank.parts ≡ L.parts) × (blank.parts ≡ 4294967296) }

@@ -43,14 +43,18 @@ told_front (Some key) a = front_at key a
 abbrev pub applied_with : Agent → List RecordedTask → Option Numbered → Draft
 applied_with a tasks told = record {
   after = with_tasks a tasks (suc a.applied);
-  mails = Applied a.durable.session (suc a.applied) ∷ told_front told (with_tasks a tasks (suc a.applied));
+  mails =
+      Applied a.durable.session (suc a.applied)
+      ∷ told_front told (with_tasks a tasks (suc a.applied));
 }
 
 -- a state comes to the task of a key
 abbrev pub after_state : Agent → Numbered → TaskState → Draft
 after_state a key state = record {
   after = with_tasks a (map (stated key state) a.durable.tasks) a.applied;
-  mails = if a.in_session then front_at key (with_tasks a (map (stated key state) a.durable.tasks) a.applied) else [];
+  mails =
+      if a.in_session then front_at key
+      (with_tasks a (map (stated key state) a.durable.tasks) a.applied) else [];
 }
 
 abbrev pub told_again : Agent → Draft
@@ -82,13 +86,16 @@ launches_in_order a (EndFramework framework) = true
 
 -- whether a command's number is next in the open session
 abbrev pub is_next_command : Agent → ℕ → ℕ → Bool
-is_next_command a session number = a.in_session && session == a.durable.session && number == suc a.applied
+is_next_command a session number =
+    a.in_session && session == a.durable.session && number == suc a.applied
 
 abbrev pub hears_in_order : Agent → MasterMail → Bool
 hears_in_order a (Hello run dead) = nat_lt 0 run
-hears_in_order a (Issued session number command) = not (is_next_command a session number) || launches_in_order a command
+hears_in_order a (Issued session number command) =
+    not (is_next_command a session number) || launches_in_order a command
 
--- what a caller owes: a Hello is of a run above 0, and a Launch that is next has a key behind all those of the record
+-- what a caller owes: a Hello is of a run above 0,
+-- and a Launch that is next has a key behind all those of the record
 abbrev pub is_in_order : Agent → Cause → Bool
 is_in_order a (Start total) = true
 is_in_order a Again = true

@@ -31,7 +31,9 @@ has_begun d = not (d.run == 0) || (d.session == 0 && length d.tasks == 0)
 
 -- the live tasks have together at most what the agent owns
 abbrev pub is_record : Durable → Bool
-is_record d = keys_rise d.tasks && none_is_done d.tasks && has_begun d && covers d.total (task_rows (live_tasks d.tasks))
+is_record d =
+    keys_rise d.tasks && none_is_done d.tasks && has_begun d
+    && covers d.total (task_rows (live_tasks d.tasks))
 
 -- the record, if it can be one
 abbrev pub rebuilt : Durable → Option Durable
@@ -39,4 +41,5 @@ rebuilt d = if is_record d then Some d else None
 
 -- the record with other tasks
 abbrev pub with_other_tasks : Durable → List RecordedTask → Durable
-with_other_tasks d ts = record { name = d.name; total = d.total; session = d.session; run = d.run; tasks = ts }
+with_other_tasks d ts =
+    record { name = d.name; total = d.total; session = d.session; run = d.run; tasks = ts }

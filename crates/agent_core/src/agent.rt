@@ -68,7 +68,8 @@ impl Agent {
         self.state.link = LinkIn::new();
     }
 
-    /// Stops once a draft's record was saved, and comes up again over that, with no open session. It takes no memory.
+    /// Stops once a draft's record was saved, and comes up again over that,
+    /// with no open session. It takes no memory.
     pub fn stop_with(&mut self, draft: Draft)
         ensures { self.new ≡ recovered draft.draft.after }
     {
@@ -77,8 +78,9 @@ impl Agent {
         self.stop();
     }
 
-    /// Whether a cause is in order: a Hello for this agent is of a run above 0, and the next command of the open session launches
-    /// no task under a key that isn't behind all launch keys of the record.
+    /// Whether a cause is in order: a Hello for this agent is of a run above 0, and the next
+    /// command of the open session launches no task under a key that isn't behind all launch keys
+    /// of the record.
     pub fn is_in_order(&self, cause: &Cause) -> bool
         ensures { result ≡ is_in_order self.now cause.now }
     {
@@ -110,9 +112,11 @@ impl Agent {
         Ok(Draft::of(alloc, &self.state, next)?)
     }
 
-    /// Makes a draft's record the agent's, and gives the draft's mails, which are to be sent. It takes no memory.
+    /// Makes a draft's record the agent's, and gives the draft's mails,
+    /// which are to be sent. It takes no memory.
     ///
-    /// `A7 StaleDraft` where the agent isn't what the draft was prepared for: then nothing changes, and the draft is handed back.
+    /// `A7 StaleDraft` where the agent isn't what the draft was prepared for: then nothing changes,
+    /// and the draft is handed back.
     pub fn commit(&mut self, draft: Draft) -> Result<Vec<AgentMail>, (Draft, AgentFault)>
         ensures current { IfOk result (λ mails. draft.before ≡ self.old) }
         ensures changed { IfOk result (λ mails. self.new ≡ draft.draft.after) }

@@ -14,7 +14,8 @@ pub trait Cabinet {
     /// Whether a record is known to have been kept.
     ghost saved: { Self → Durable → Bool };
 
-    /// Keeps a record in place of the one before. After a fault it may keep either of the two: then it is to be opened again.
+    /// Keeps a record in place of the one before. After a fault it may keep either of the two:
+    /// then it is to be opened again.
     fn save(&mut self, alloc: Global, durable: &Record) -> Result<(), Self::Fault>
         ensures kept { OnOk result (saved self.new durable.now ≡ true) }
         ensures before { (d : Durable) → saved self.old d ≡ true → saved self.new d ≡ true };

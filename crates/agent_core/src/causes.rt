@@ -153,8 +153,9 @@ impl State {
             && number - 1 == self.link.count()
     }
 
-    /// Whether a mail for this agent is a Hello of a run above 0, or a command that isn't the next one of the open session, or one that
-    /// launches no task under a key that isn't behind all launch keys of the record.
+    /// Whether a mail for this agent is a Hello of a run above 0, or a command that isn't the next
+    /// one of the open session, or one that launches no task under a key that isn't behind all
+    /// launch keys of the record.
     pub fn hears_in_order(&self, mail: &MasterMail) -> bool
         ensures { result ≡ hears_in_order (agent_of self.now) mail.now }
     {

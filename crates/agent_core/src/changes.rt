@@ -1,4 +1,5 @@
-//! What changes of an agent's tasks leave is a record: each function's contract is a law, and its call brings the law into a proof.
+//! What changes of an agent's tasks leave is a record: each function's contract is a law,
+//! and its call brings the law into a proof.
 
 ghost use Rattle.std.specs.Prelude.{◌≡◌, ◌<◌, true, map};
 ghost use Rattle.std.specs.List.{AllByRecursion as Each};
@@ -24,7 +25,8 @@ fn tasks_are_recorded(tasks: &[Shared<RecordedTask>])
 impl State {
     /// A state that comes to the task of a key leaves a record.
     pub fn stated_is_record(&self, key: LaunchKey, state: TaskState)
-        ensures { is_record (with_other_tasks self.now.durable (map (stated key state) self.now.durable.tasks)) ≡ true }
+        ensures { is_record (with_other_tasks self.now.durable
+            (map (stated key state) self.now.durable.tasks)) ≡ true }
     {
         quantity::amounts_add_up();
         quantity::covers_is_at_least();
@@ -37,7 +39,8 @@ impl State {
         requires run { 0 < self.now.durable.run }
         requires room { has_room (agent_of self.now) command.now ≡ true }
         requires order { launches_in_order (agent_of self.now) command.now ≡ true }
-        ensures { is_record (with_other_tasks self.now.durable (tasks_after command.now self.now.durable.tasks)) ≡ true }
+        ensures { is_record (with_other_tasks self.now.durable
+            (tasks_after command.now self.now.durable.tasks)) ≡ true }
     {
         quantity::amounts_add_up();
         quantity::covers_is_at_least();

@@ -57,7 +57,8 @@ impl State {
     ) -> Result<Next, AllocError>
         requires next { link ≡ suc self.now.link }
         requires recorded { is_record (with_other_tasks self.now.durable tasks.items) ≡ true }
-        ensures { IfOk result (λ n. next_draft n ≡ applied_with (agent_of self.now) tasks.items told) }
+        ensures { IfOk result (λ n. next_draft n
+            ≡ applied_with (agent_of self.now) tasks.items told) }
     {
         let after = self.with_tasks(tasks, link)?;
         let mut mails = Vec::new(alloc);

@@ -8,7 +8,8 @@ use mails::RecordedTask;
 use plain_data::{Plain, are_same};
 use shared_value::Shared;
 
-/// Two lists of tasks are the same up to `from`, and from `end` of the one and `to` of the other on.
+/// Two lists of tasks are the same up to `from`,
+/// and from `end` of the one and `to` of the other on.
 #[derive(Clone, Copy, Drop)]
 pub struct Difference {
     pub from: usize,
@@ -33,7 +34,8 @@ fn common_front(tasks: &[Shared<RecordedTask>], others: &[Shared<RecordedTask>])
 fn common_back(tasks: &[Shared<RecordedTask>], others: &[Shared<RecordedTask>]) -> usize
     ensures tasks_have { result ≤ length tasks.now }
     ensures others_have { result ≤ length others.now }
-    ensures same { drop (length tasks.now - result) tasks.now ≡ drop (length others.now - result) others.now }
+    ensures same { drop (length tasks.now - result) tasks.now
+        ≡ drop (length others.now - result) others.now }
 {
     let most = tasks.len().min(others.len());
     for i in 0..most {
@@ -51,7 +53,8 @@ pub fn difference_of(tasks: &[Shared<RecordedTask>], after: &[Shared<RecordedTas
     ensures end { result.end ≤ length tasks.now }
     ensures to_ordered { result.from ≤ result.to }
     ensures to { result.to ≤ length after.now }
-    ensures spliced { tasks.now ≡ spliced result.from result.to after.now (slice_range tasks.now result.from result.end) }
+    ensures spliced { tasks.now ≡ spliced result.from result.to after.now
+        (slice_range tasks.now result.from result.end) }
 {
     let from = common_front(tasks, after);
     let back = common_back(&tasks[from..], &after[from..]);

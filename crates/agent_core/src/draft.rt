@@ -12,7 +12,8 @@ use plain_data::copies_of;
 use std::alloc::{AllocError, Global};
 use std::marker::Model;
 
-/// A change of an agent, prepared and not yet made: its record is to be saved before it is committed.
+/// A change of an agent, prepared and not yet made:
+/// its record is to be saved before it is committed.
 #[derive(Drop)]
 pub struct Draft {
     /// What the agent is, with those tasks alone that the draft doesn't keep as they are.
@@ -40,7 +41,8 @@ impl Model for Draft {
 impl Draft {
     pub(crate) fn of(alloc: Global, state: &State, next: Next) -> Result<Draft, AllocError>
         requires { is_with_run (agent_of next.after) ≡ true }
-        ensures { IfOk result (λ d. d ≡ record { before = agent_of state.now; draft = next_draft next }) }
+        ensures { IfOk result
+            (λ d. d ≡ record { before = agent_of state.now; draft = next_draft next }) }
     {
         let tasks = state.tasks();
         let difference = difference_of(tasks, next.after.tasks());

@@ -1,4 +1,5 @@
-//! An agent that never loses what it promised: each change is first a draft to be saved, and then a commit.
+//! An agent that never loses what it promised:
+//! each change is first a draft to be saved, and then a commit.
 #![tactic(auto)]
 
 mod agent;

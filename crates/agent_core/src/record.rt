@@ -14,9 +14,9 @@ use shared_value::Shared;
 use std::alloc::{AllocError, Global};
 use std::marker::Model;
 
-/// A record that an agent can have: launch keys rise, no task is done, run 0 stands only with session 0 and no tasks, and the live
-/// tasks fit the total. (That a task has at most 4,096 updates, a terminal one last, and acknowledges at most these holds of every
-/// `Updates`.)
+/// A record that an agent can have: launch keys rise, no task is done, run 0 stands only with
+/// session 0 and no tasks, and the live tasks fit the total. (That a task has at most 4,096
+/// updates, a terminal one last, and acknowledges at most these holds of every `Updates`.)
 #[derive(Clone, Debug, Drop, PartialEq)]
 pub struct Record {
     parts: Durable,
@@ -80,8 +80,8 @@ fn has_begun(durable: &Durable) -> bool
     durable.run != 0 || (durable.session == 0 && durable.tasks.len() == 0)
 }
 
-/// Whether an agent can have this record: its launch keys rise, no task is done, run 0 stands only with session 0 and no tasks,
-/// and the live tasks fit the total.
+/// Whether an agent can have this record: its launch keys rise, no task is done,
+/// run 0 stands only with session 0 and no tasks, and the live tasks fit the total.
 fn is_record(alloc: Global, durable: &Durable) -> Result<bool, AllocError>
     ensures { IfOk result (λ is. is ≡ is_record durable.now) }
 {

@@ -77,7 +77,8 @@ impl State {
 
     /// With other tasks, which need make no record.
     pub fn former(&self, tasks: Vec<Shared<RecordedTask>>) -> Result<Former, AllocError>
-        ensures { IfOk result (λ f. former_of f ≡ with_tasks (agent_of self.now) tasks.items self.now.link) }
+        ensures { IfOk result (λ f. former_of f
+            ≡ with_tasks (agent_of self.now) tasks.items self.now.link) }
     {
         Ok(Former {
             durable: self.durable_with(tasks)?,
@@ -130,7 +131,8 @@ impl State {
 impl Former {
     /// Whether an agent is this one in all but its tasks.
     pub fn is_same_but_for_tasks(&self, other: &State) -> bool
-        ensures { IsTrue result ↔ (with_tasks (former_of self.now) [] self.now.link ≡ without_tasks other.now) }
+        ensures { IsTrue result
+            ↔ (with_tasks (former_of self.now) [] self.now.link ≡ without_tasks other.now) }
     {
         let parts = other.parts();
         self.in_session == other.in_session

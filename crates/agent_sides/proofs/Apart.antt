@@ -17,7 +17,7 @@ use Rattle.agent_sides.proofs.Joining.{KeepsApart}
 abbrev ids : List Offer → List Numbered
 ids os = map (λ o. o.id) os
 
-or_parts : (a b : Bool) → (a || b) ≡ false → (a ≡ false) × (b ≡ false)
+pub or_parts : (a b : Bool) → (a || b) ≡ false → (a ≡ false) × (b ≡ false)
 or_parts true b e = absurd cc
 or_parts false b e = (refl, e)
 
@@ -47,9 +47,6 @@ some_apart test (o ∷ os) h = by_case (test o) (some_apart test os parts.1)
 pub of_apart : (framework : Numbered) → KeepsApart (accounts.without_offers_of framework)
 of_apart framework a h = some_apart (λ o. not (is_of framework o)) a.offers h
 
-pub ids_apart : (named : List Numbered) → KeepsApart (accounts.without_ids named)
-ids_apart named a h = some_apart (λ o. not (is_among named o.id)) a.offers h
-
 pub named_apart : (framework : Numbered) (named : List Numbered) → KeepsApart (accounts.without_named framework named)
 named_apart framework named a h = some_apart (λ o. not (is_named framework named o)) a.offers h
 
@@ -64,20 +61,12 @@ not_among_more (p ∷ os) o id h other =
 same_back : (i j : Numbered) → same i j ≡ same j i
 same_back i j = grind (arith, nat_tests)
 
-apart_more : (os : List Offer) (o : Offer) → is_repeated (ids os) ≡ false → list_any (accounts.is_offered_as o.id) os ≡ false → is_repeated (ids (os ++ o ∷ [])) ≡ false
+pub apart_more : (os : List Offer) (o : Offer) → is_repeated (ids os) ≡ false → list_any (accounts.is_offered_as o.id) os ≡ false → is_repeated (ids (os ++ o ∷ [])) ≡ false
 apart_more [] o h new = refl
 apart_more (p ∷ os) o h new =
     let parts = or_parts (is_among (ids os) p.id) (is_repeated (ids os)) h in
     let others = or_parts (same p.id o.id) (list_any (accounts.is_offered_as o.id) os) new in
     rw (not_among_more os o p.id parts.0 (same_back o.id p.id ∙ others.0)) (apart_more os o parts.1 others.1)
-
-pub offering_apart : (o : Offer) → KeepsApart (accounts.offering o)
-offering_apart o a h = by (list_any (accounts.is_offered_as o.id) a.offers) refl (accounts.fits a o.resources) refl
-  where
-    by : (v : Bool) → list_any (accounts.is_offered_as o.id) a.offers ≡ v → (w : Bool) → accounts.fits a o.resources ≡ w → is_repeated (ids (accounts.offering o a).offers) ≡ false
-    by true e w f = rw e h
-    by false e true f = rw (e, f) (apart_more a.offers o h e)
-    by false e false f = rw (e, f) h
 
 -- withdrawing by a test, and by the ids of offers that pass it
 

@@ -1,9 +1,8 @@
 -- Which changes of an account or of a session are which changes of a side.
-use Rattle.std.proofs.Common.{◌≡◌, ℕ, Bool, true, false, List, ◌++◌, ◌∷◌, [], Option, Some, None, Result, Ok, Err, cond, map, refl, ap, ◌∙◌, arith}
+use Rattle.std.proofs.Common.{◌≡◌, ℕ, Bool, true, false, List, ◌++◌, ◌∷◌, [], Option, Some, None, Result, Ok, Err, cond, map, refl, sym, ap, ◌∙◌, arith}
 use Rattle.std.specs.Prelude.{◌==◌, nat_lt, nat_le}
 use Rattle.std.proofs.lemmas.Bool.Decides.{nat_tests}
 use Rattle.quantity.specs.declared.rows.Row.{Row}
-use Rattle.mails.specs.declared.task.Offer.{Offer}
 use Rattle.mails.specs.declared.mail.Command.{Command}
 use Rattle.mails.specs.declared.task.Booked.{Booked}
 use Rattle.mails.specs.declared.refusal.MasterRefusal.{MasterRefusal}
@@ -17,28 +16,15 @@ use Rattle.cluster_model.specs.Mails.{judged_session}
 use Rattle.roster.specs.Sessions.{after_applied, after_report, newly, answered, judged_report, report_opens, reported, with_command}
 use Rattle.offer_book.specs.declared.account.Account.{Account}
 use Rattle.offer_book.specs.Accounts as accounts
-use Rattle.agent_sides.specs.Changes.{account_of, offering, reporting, side_of}
+use Rattle.offer_book.specs.Books.{entered, entered_at, is_named_so}
+use Rattle.offer_book.specs.declared.fault.BookFault.{BookFault}
+use Rattle.offer_book.specs.declared.fault.BookFault.TheVariants.{Twice}
+use Rattle.agent_sides.specs.Changes.{account_of, reporting, side_of}
 use Rattle.agent_sides.specs.declared.config.ConfiguredAgent.{ConfiguredAgent}
-use Rattle.std.specs.List.{AllByRecursion, list_any}
+use Rattle.std.specs.List.{AllByRecursion, find}
 use Rattle.agent_sides.specs.Configs.{are_ordered, names_of}
-use Rattle.agent_sides.specs.Joined.{AreApart, AreOfOne, Fit, join, joined, side_names}
+use Rattle.agent_sides.specs.Joined.{AreApart, AreOfOne, Fit, IsIn, join, joined, side_names}
 use Rattle.agent_sides.proofs.Joining.{KeepsAccount, KeepsSide}
-
-pub offering_joins : (o : Offer) (s : Side) (a : Account) → join s (accounts.offering o a) ≡ offering o (join s a)
-offering_joins o s a = by (list_any (accounts.is_offered_as o.id) a.offers) refl (accounts.fits a o.resources) refl
-  where
-    by : (v : Bool) → list_any (accounts.is_offered_as o.id) a.offers ≡ v → (b : Bool) → accounts.fits a o.resources ≡ b → join s (accounts.offering o a) ≡ offering o (join s a)
-    by true i b h = rw i refl
-    by false i true h = rw (i, h) refl
-    by false i false h = rw (i, h) refl
-
-pub offering_keeps : (o : Offer) → KeepsAccount (accounts.offering o)
-offering_keeps o = record { name = λ a. name a (list_any (accounts.is_offered_as o.id) a.offers) refl (accounts.fits a o.resources) refl }
-  where
-    name : (a : Account) (v : Bool) → list_any (accounts.is_offered_as o.id) a.offers ≡ v → (b : Bool) → accounts.fits a o.resources ≡ b → (accounts.offering o a).name ≡ a.name
-    name a true i b h = rw i refl
-    name a false i true h = rw (i, h) refl
-    name a false i false h = rw (i, h) refl
 
 pub command_joins : (command : Command) (s : Side) (a : Account) → join (with_command command s) a ≡ with_command command (join s a)
 command_joins command s a = by s.is_open refl
@@ -124,7 +110,7 @@ pub report_refused_joins : (run session number : ℕ) (tasks : List Booked) (tot
 report_refused_joins run session number tasks total refusal s a e = stays_closed run session number tasks total s a (closed_if run s session number refusal e)
 
 pub reopened_keeps : (tasks : List Booked) (total : List Row) → KeepsAccount (accounts.reopened tasks total)
-reopened_keeps tasks total = record { name = λ a. refl }
+reopened_keeps tasks total = record { name = λ a. refl; present = λ a. refl }
 
 -- agents that just entered
 
@@ -144,8 +130,33 @@ entered_apart : (agents : List ConfiguredAgent) → AllByRecursion AreApart (map
 entered_apart [] = tt
 entered_apart (a ∷ agents) = (refl, entered_apart agents)
 
+pub entered_present : (agents : List ConfiguredAgent) → AllByRecursion IsIn (map account_of agents)
+entered_present [] = tt
+entered_present (a ∷ agents) = (refl, entered_present agents)
+
 pub entered_fit : (agents : List ConfiguredAgent) → are_ordered (names_of agents) ≡ true → Fit (map side_of agents) (map account_of agents)
-entered_fit agents ordered = record { one = entered_are_one agents; ordered = ap are_ordered (entered_names agents) ∙ ordered; apart = entered_apart agents }
+entered_fit agents ordered = record { one = entered_are_one agents; ordered = ap are_ordered (entered_names agents) ∙ ordered; present = entered_present agents; apart = entered_apart agents }
+
+-- an agent enters behind those that are in
+
+in_found : (test : Account → Bool) (as_ : List Account) (a : Account) → AllByRecursion IsIn as_ → find test as_ ≡ Some a → a.is_in ≡ true
+in_found test [] a present found = absurd cc
+in_found test (b ∷ as_) a present found = by (test b) found (in_found test as_ a present.1)
+  where
+    by : (v : Bool) → cond v (Some b) (find test as_) ≡ Some a → (find test as_ ≡ Some a → a.is_in ≡ true) → a.is_in ≡ true
+    by true is behind = let same : b ≡ a = cc in ap (λ (x : Account). x.is_in) (sym same) ∙ present.0
+    by false is behind = behind is
+
+twice_not : (new : List Account) (v : Bool) (made : Result (List Account) BookFault) → v ≡ true → cond v (Err Twice) made ≡ Ok new → ⊥
+twice_not new true made is e = absurd cc
+twice_not new false made is e = absurd cc
+
+pub entered_behind : (name : List ℕ) (total : List Row) (as_ new : List Account) → AllByRecursion IsIn as_ → entered name total as_ ≡ Ok new → new ≡ as_ ++ accounts.new_account name total ∷ []
+entered_behind name total as_ new present e = by (find (is_named_so name) as_) refl e
+  where
+    by : (found : Option Account) → find (is_named_so name) as_ ≡ found → entered_at name total as_ found ≡ Ok new → new ≡ as_ ++ accounts.new_account name total ∷ []
+    by None is made = cc
+    by (Some a) is made = absurd (twice_not new a.is_in _ (in_found (is_named_so name) as_ a present is) made)
 
 -- updates and counts of applied commands
 

@@ -3,14 +3,15 @@ use Rattle.std.proofs.Common.{◌≡◌, ℕ, zero, suc, ◌<◌, ◌≤◌, len
 use Rattle.cluster_model.specs.Sides.{Side}
 use Rattle.roster.specs.Places.{at_place, told_at}
 use Rattle.offer_book.specs.declared.account.Account.{Account}
-use Rattle.offer_book.specs.Books as books
 use Rattle.std.specs.List.{AllByRecursion}
 use Rattle.agent_sides.specs.Configs.{are_ordered}
-use Rattle.agent_sides.specs.Joined.{AreApart, AreOfOne, Fit, join, joined, side_names}
+use Rattle.agent_sides.specs.Joined as joins
+use Rattle.agent_sides.specs.Joined.{AreApart, AreOfOne, Fit, IsIn, join, joined, side_names}
 
--- a change of an account keeps its agent
+-- a change of an account keeps its agent, and keeps it in
 pub record KeepsAccount (g : Account → Account) : Type 0 where
   pub name : (a : Account) → (g a).name ≡ a.name
+  pub present : (a : Account) → (g a).is_in ≡ a.is_in
 
 pub record KeepsSide (f : Side → Side) : Type 0 where
   pub name : (s : Side) → (f s).name ≡ s.name
@@ -31,14 +32,14 @@ one_map g keeps (s ∷ ss) (a ∷ as_) one = (one.0 ∙ sym (keeps.name a), one_
 
 -- one account changes
 
-pub joined_book : (i : ℕ) (g : Account → Account) (h : Side → Side) → ((s : Side) (a : Account) → join s (g a) ≡ h (join s a)) → (ss : List Side) (as_ : List Account) → AreOfOne ss as_ → joined ss (books.at_place i g as_) ≡ at_place i h (joined ss as_)
+pub joined_book : (i : ℕ) (g : Account → Account) (h : Side → Side) → ((s : Side) (a : Account) → join s (g a) ≡ h (join s a)) → (ss : List Side) (as_ : List Account) → AreOfOne ss as_ → joined ss (joins.at_place i g as_) ≡ at_place i h (joined ss as_)
 joined_book i g h same [] [] one = refl
 joined_book i g h same [] (a ∷ as_) one = absurd one
 joined_book i g h same (s ∷ ss) [] one = absurd one
 joined_book zero g h same (s ∷ ss) (a ∷ as_) one = rw (same s a) refl
 joined_book (suc i) g h same (s ∷ ss) (a ∷ as_) one = rw (joined_book i g h same ss as_ one.1) refl
 
-pub one_book : (i : ℕ) (g : Account → Account) → KeepsAccount g → (ss : List Side) (as_ : List Account) → AreOfOne ss as_ → AreOfOne ss (books.at_place i g as_)
+pub one_book : (i : ℕ) (g : Account → Account) → KeepsAccount g → (ss : List Side) (as_ : List Account) → AreOfOne ss as_ → AreOfOne ss (joins.at_place i g as_)
 one_book i g keeps [] [] one = one
 one_book i g keeps [] (a ∷ as_) one = absurd one
 one_book i g keeps (s ∷ ss) [] one = absurd one
@@ -108,7 +109,7 @@ told_past (suc i) tell none (t ∷ ts) past = told_past i tell none ts (omega ar
 -- an entry and an account change together, where something is told of the entry
 
 pub joined_when : {X : Type 0} (i : ℕ) (f h : Side → Side) (g : Account → Account) (tell : Side → X) (none told : X) → ((s : Side) (a : Account) → tell s ≡ told → join (f s) (g a) ≡ h (join s a))
-    → (ss : List Side) (as_ : List Account) → AreOfOne ss as_ → told_at i tell none ss ≡ told → joined (at_place i f ss) (books.at_place i g as_) ≡ at_place i h (joined ss as_)
+    → (ss : List Side) (as_ : List Account) → AreOfOne ss as_ → told_at i tell none ss ≡ told → joined (at_place i f ss) (joins.at_place i g as_) ≡ at_place i h (joined ss as_)
 joined_when i f h g tell none told same [] [] one is = refl
 joined_when i f h g tell none told same [] (a ∷ as_) one is = absurd one
 joined_when i f h g tell none told same (s ∷ ss) [] one is = absurd one
@@ -147,19 +148,28 @@ apart_map : (g : Account → Account) → KeepsApart g → (as_ : List Account) 
 apart_map g keeps [] h = h
 apart_map g keeps (a ∷ as_) h = (keeps a h.0, apart_map g keeps as_ h.1)
 
-apart_at : (i : ℕ) (g : Account → Account) → KeepsApart g → (as_ : List Account) → AllByRecursion AreApart as_ → AllByRecursion AreApart (books.at_place i g as_)
+apart_at : (i : ℕ) (g : Account → Account) → KeepsApart g → (as_ : List Account) → AllByRecursion AreApart as_ → AllByRecursion AreApart (joins.at_place i g as_)
 apart_at i g keeps [] h = h
 apart_at zero g keeps (a ∷ as_) h = (keeps a h.0, h.1)
 apart_at (suc i) g keeps (a ∷ as_) h = (h.0, apart_at i g keeps as_ h.1)
 
-pub fit_map : (g : Account → Account) → KeepsAccount g → KeepsApart g → (ss : List Side) (as_ : List Account) → Fit ss as_ → Fit ss (map g as_)
-fit_map g keeps apart ss as_ fit = record { one = one_map g keeps ss as_ fit.one; ordered = fit.ordered; apart = apart_map g apart as_ fit.apart }
+present_map : (g : Account → Account) → KeepsAccount g → (as_ : List Account) → AllByRecursion IsIn as_ → AllByRecursion IsIn (map g as_)
+present_map g keeps [] h = h
+present_map g keeps (a ∷ as_) h = (keeps.present a ∙ h.0, present_map g keeps as_ h.1)
 
-pub fit_book : (i : ℕ) (g : Account → Account) → KeepsAccount g → KeepsApart g → (ss : List Side) (as_ : List Account) → Fit ss as_ → Fit ss (books.at_place i g as_)
-fit_book i g keeps apart ss as_ fit = record { one = one_book i g keeps ss as_ fit.one; ordered = fit.ordered; apart = apart_at i g apart as_ fit.apart }
+present_at : (i : ℕ) (g : Account → Account) → KeepsAccount g → (as_ : List Account) → AllByRecursion IsIn as_ → AllByRecursion IsIn (joins.at_place i g as_)
+present_at i g keeps [] h = h
+present_at zero g keeps (a ∷ as_) h = (keeps.present a ∙ h.0, h.1)
+present_at (suc i) g keeps (a ∷ as_) h = (h.0, present_at i g keeps as_ h.1)
+
+pub fit_map : (g : Account → Account) → KeepsAccount g → KeepsApart g → (ss : List Side) (as_ : List Account) → Fit ss as_ → Fit ss (map g as_)
+fit_map g keeps apart ss as_ fit = record { one = one_map g keeps ss as_ fit.one; ordered = fit.ordered; present = present_map g keeps as_ fit.present; apart = apart_map g apart as_ fit.apart }
+
+pub fit_book : (i : ℕ) (g : Account → Account) → KeepsAccount g → KeepsApart g → (ss : List Side) (as_ : List Account) → Fit ss as_ → Fit ss (joins.at_place i g as_)
+fit_book i g keeps apart ss as_ fit = record { one = one_book i g keeps ss as_ fit.one; ordered = fit.ordered; present = present_at i g keeps as_ fit.present; apart = apart_at i g apart as_ fit.apart }
 
 pub fit_roster : (i : ℕ) (f : Side → Side) → KeepsSide f → (ss : List Side) (as_ : List Account) → Fit ss as_ → Fit (at_place i f ss) as_
-fit_roster i f keeps ss as_ fit = record { one = one_roster i f keeps ss as_ fit.one; ordered = ap are_ordered (names_at i f keeps ss) ∙ fit.ordered; apart = fit.apart }
+fit_roster i f keeps ss as_ fit = record { one = one_roster i f keeps ss as_ fit.one; ordered = ap are_ordered (names_at i f keeps ss) ∙ fit.ordered; present = fit.present; apart = fit.apart }
 
 pub joined_names : (ss : List Side) (as_ : List Account) → AreOfOne ss as_ → side_names (joined ss as_) ≡ side_names ss
 joined_names [] [] one = refl
@@ -170,7 +180,7 @@ joined_names (s ∷ ss) (a ∷ as_) one = ap (λ ns. s.name ∷ ns) (joined_name
 -- an account changes by what is told of the entry, which changes too
 
 pub joined_by : {X : Type 0} (i : ℕ) (f h : Side → Side) (g : X → Account → Account) (tell : Side → X) (none : X) → ((s : Side) (a : Account) → join (f s) (g (tell s) a) ≡ h (join s a))
-    → (ss : List Side) (as_ : List Account) → AreOfOne ss as_ → joined (at_place i f ss) (books.at_place i (g (told_at i tell none ss)) as_) ≡ at_place i h (joined ss as_)
+    → (ss : List Side) (as_ : List Account) → AreOfOne ss as_ → joined (at_place i f ss) (joins.at_place i (g (told_at i tell none ss)) as_) ≡ at_place i h (joined ss as_)
 joined_by i f h g tell none same [] [] one = refl
 joined_by i f h g tell none same [] (a ∷ as_) one = absurd one
 joined_by i f h g tell none same (s ∷ ss) [] one = absurd one
@@ -179,7 +189,7 @@ joined_by (suc i) f h g tell none same (s ∷ ss) (a ∷ as_) one = rw (joined_b
 
 -- an account changes alone, where something is told of the entry
 pub joined_where : {X : Type 0} (i : ℕ) (h : Side → Side) (g : Account → Account) (tell : Side → X) (none told : X) → ((s : Side) (a : Account) → tell s ≡ told → join s (g a) ≡ h (join s a))
-    → (ss : List Side) (as_ : List Account) → AreOfOne ss as_ → told_at i tell none ss ≡ told → joined ss (books.at_place i g as_) ≡ at_place i h (joined ss as_)
+    → (ss : List Side) (as_ : List Account) → AreOfOne ss as_ → told_at i tell none ss ≡ told → joined ss (joins.at_place i g as_) ≡ at_place i h (joined ss as_)
 joined_where i h g tell none told same [] [] one is = refl
 joined_where i h g tell none told same [] (a ∷ as_) one is = absurd one
 joined_where i h g tell none told same (s ∷ ss) [] one is = absurd one

@@ -6,3 +6,5 @@ pub mod Looking
 pub mod Telling
 pub mod Owning
 pub mod Freeing
+pub mod Placing
+pub mod Due

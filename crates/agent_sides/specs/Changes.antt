@@ -17,18 +17,23 @@ use Rattle.agent_sides.specs.declared.config.ConfiguredAgent.{ConfiguredAgent}
 abbrev pub without_offers_of : Numbered → Side → Side
 without_offers_of framework s = record s { offers = filter (λ o. not (is_of framework o)) s.offers }
 
+abbrev pub with_offer : Offer → Side → Side
+with_offer o s = record s { offers = s.offers ++ o ∷ [] }
+
 -- with one more offer, where no current offer on the agent has its id and it fits the total
 abbrev pub offering : Offer → Side → Side
 offering o s =
     if list_any (λ other. same other.id o.id) s.offers then s
-    else (if covers s.total (o.resources ++ taken s) then record s { offers = s.offers ++ o ∷ [] } else s)
+    else (if covers s.total (o.resources ++ taken s) then with_offer o s else s)
 
 abbrev pub with_task : Booked → Side → Side
 with_task b s = record s { booked = s.booked ++ b ∷ [] }
 
--- a Report is heard with these tasks and this total: where it opens a session, the session is open, the tasks are booked, and the agent owns the total
+-- a Report is heard with these tasks and this total: where it opens a session, the session is open,
+-- the tasks are booked, and the agent owns the total
 abbrev pub reporting : ℕ → ℕ → ℕ → List Booked → List Row → Side → Side
-reporting run session number tasks total s = if report_opens run s session number then opened s session tasks total else s
+reporting run session number tasks total s =
+    if report_opens run s session number then opened s session tasks total else s
 
 -- a configured agent that has not yet opened a session: what it owns isn't known
 

@@ -6,3 +6,4 @@ pub mod Looks
 pub mod Named
 pub mod Own
 pub mod Told
+pub mod Taking

@@ -9,7 +9,8 @@ use Rattle.cluster_model.specs.Masters.{Placed, is_task_of, placed_on}
 -- the first side of a name is changed
 abbrev pub at_name : List ℕ → (Side → Side) → List Side → List Side
 at_name name change [] = []
-at_name name change (s ∷ ss) = if bytes_eq s.name name then change s ∷ ss else s ∷ at_name name change ss
+at_name name change (s ∷ ss) =
+    if bytes_eq s.name name then change s ∷ ss else s ∷ at_name name change ss
 
 -- what is told of the first side of a name, or of none
 abbrev pub told_of : {X : Type 0} → List ℕ → (Side → X) → X → List Side → X
@@ -34,4 +35,6 @@ all_placed ss = flat_map placed_on ss
 
 -- the update last heard of a framework's task of this name and key on this agent
 abbrev pub is_heard_last : Numbered → List ℕ → List ℕ → Numbered → ℕ → Placed → Bool
-is_heard_last framework agent task key k p = same p.booked.job.key key && is_task_of framework task p && bytes_eq p.agent agent && p.booked.heard == suc k
+is_heard_last framework agent task key k p =
+    same p.booked.job.key key && is_task_of framework task p && bytes_eq p.agent agent
+    && p.booked.heard == suc k

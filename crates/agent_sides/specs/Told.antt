@@ -10,7 +10,8 @@ use Rattle.offer_book.specs.declared.account.Account.{Account}
 -- what is told of the first account of a name, or of none
 abbrev pub told_by : {X : Type 0} → List ℕ → (Account → X) → X → List Account → X
 told_by name tell none [] = none
-told_by name tell none (a ∷ as_) = if bytes_eq a.name name then tell a else told_by name tell none as_
+told_by name tell none (a ∷ as_) =
+    if bytes_eq a.name name then tell a else told_by name tell none as_
 
 abbrev pub oldest_of : Side → List Command → Option MasterMail
 oldest_of s [] = None

@@ -125,7 +125,8 @@ impl Config {
 
     /// Configures an agent of this name, which owns `total`.
     pub fn add(&mut self, name: AgentName, total: Resources) -> Result<(), ConfigFault>
-        ensures ok { OnOk result (self.new ≡ with_agent (record { name = name; total = total }) self.old) }
+        ensures ok { OnOk result (self.new ≡ with_agent (record { name = name; total = total })
+            self.old) }
         ensures once { OnOk result (has_name name self.old ≡ false) }
         ensures few { OnOk result (length self.old < most_agents) }
         ensures refused { IfErr result (IsConfigRefusal name self.old) }

@@ -1,16 +1,13 @@
-//! What is free of agents, and offers to agents by their names.
+//! What is free of agents.
 
-ghost use Rattle.std.specs.Prelude.{◌≡◌, None, length, option_map, OnOk, OnErr, IfOk};
+ghost use Rattle.std.specs.Prelude.{◌≡◌, None, length, option_map, IfOk};
 ghost use Rattle.std.specs.List.{AllByRecursion};
 ghost use Rattle.quantity.specs.Rows.{AreRows};
 ghost use Rattle.roster.specs.Places.{told_at};
-ghost use Rattle.agent_sides.specs.Changes.{offering};
 ghost use Rattle.agent_sides.specs.Free.{open_part};
 ghost use Rattle.agent_sides.specs.Joined.{AreOfOne, joined};
-ghost use Rattle.agent_sides.specs.Looks.{at_name};
 
 use crate::sides::Sides;
-use mails::Offer;
 use names_core::AgentName;
 use offer_book::Account;
 use quantity::Resources;
@@ -24,7 +21,8 @@ fn open_part_in<'a>(
     place: usize,
 ) -> Result<Option<(&'a AgentName, Resources)>, AllocError>
     requires { AreOfOne entries.now accounts.now }
-    ensures { IfOk result (λ part. option_map (λ p. (p.0.now, p.1)) part ≡ told_at place open_part None (joined entries.entry.now accounts.now)) }
+    ensures { IfOk result (λ part. option_map (λ p. (p.0.now, p.1)) part
+        ≡ told_at place open_part None (joined entries.entry.now accounts.now)) }
 {
     if place >= entries.len() {
         return Ok(None);
@@ -69,7 +67,8 @@ impl Sides {
         alloc: Global,
         place: usize,
     ) -> Result<Option<(&AgentName, Resources)>, AllocError>
-        ensures { IfOk result (λ part. option_map (λ p. (p.0.now, p.1)) part ≡ told_at place open_part None self.now) }
+        ensures { IfOk result (λ part. option_map (λ p. (p.0.now, p.1)) part
+            ≡ told_at place open_part None self.now) }
     {
         open_part_in(self.roster.entries(), self.book.accounts(), alloc, place)
     }
@@ -87,20 +86,5 @@ impl Sides {
         ensures one { AreOfOne result.0.now result.1.now }
     {
         (self.roster.entries(), self.book.accounts())
-    }
-
-    /// Makes an offer at the agent of a name, as `offer_at` does.
-    pub fn offer_to(
-        &mut self,
-        alloc: Global,
-        name: &AgentName,
-        offer: Offer,
-    ) -> Result<(), AllocError>
-        ensures { OnOk result (self.new ≡ at_name name.now (offering offer) self.old) }
-    {
-        let Some(place) = self.place_of(name) else {
-            return Ok(());
-        };
-        self.offer_at(alloc, place, offer)
     }
 }

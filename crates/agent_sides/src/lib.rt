@@ -1,11 +1,14 @@
-//! The master's sides of all agents: each agent's session, current offers and booked tasks (Mesos paper, sections 3.1 and 3.5).
+//! The master's sides of all agents: each agent's session,
+//! current offers and booked tasks (Mesos paper, sections 3.1 and 3.5).
 #![tactic(auto)]
 
 mod config;
 mod free;
 mod look;
 mod own;
+mod placed;
 mod sides;
+mod taking;
 mod told;
 
 pub use config::{Config, ConfigFault, ConfiguredAgent};

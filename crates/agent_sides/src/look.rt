@@ -49,7 +49,8 @@ pub fn is_session_in(entries: &[RosterEntry], place: usize, session: u32) -> boo
     is_session(&entries[place], session)
 }
 
-/// Whether so many command numbers are left in the session of the agent of a name, where there is one.
+/// Whether so many command numbers are left in the session of the
+/// agent of a name, where there is one.
 pub fn may_have_numbers(entries: &[RosterEntry], name: &AgentName, count: u64) -> bool
     ensures { result ≡ may_have_numbers count (find (λ s. bytes_eq s.name name.now) entries.now) }
 {
@@ -75,7 +76,8 @@ pub fn is_any_awaited(entries: &[RosterEntry]) -> bool
 
 /// Whether the agent of this name hasn't opened a session in this run.
 pub fn is_one_awaited(entries: &[RosterEntry], name: &AgentName) -> bool
-    ensures { result ≡ list_any (λ s. bytes_eq s.name name.now && not (has_returned s)) entries.now }
+    ensures { result ≡ list_any (λ s. bytes_eq s.name name.now && not (has_returned s))
+        entries.now }
 {
     for entry in entries {
         if entry.name().is(name) && !entry.has_returned() {
@@ -130,7 +132,8 @@ fn any_heard_last(
     key: LaunchKey,
     k: u32,
 ) -> bool
-    ensures { result ≡ list_any (is_heard_last framework agent.now name.now key k) (placed_on account.now) }
+    ensures { result ≡ list_any (is_heard_last framework agent.now name.now key k)
+        (placed_on account.now) }
 {
     for task in account.booked.as_slice() {
         if is_heard_last(task, &account.name, framework, agent, name, key, k) {
@@ -149,7 +152,8 @@ pub fn is_heard_last_in(
     key: LaunchKey,
     k: u32,
 ) -> bool
-    ensures { result ≡ list_any (is_heard_last framework agent.now name.now key k) (all_placed accounts.now) }
+    ensures { result ≡ list_any (is_heard_last framework agent.now name.now key k)
+        (all_placed accounts.now) }
 {
     for account in accounts {
         if any_heard_last(account, framework, agent, name, key, k) {

@@ -1,19 +1,18 @@
 //! What a framework has on all agents: its offers, and its booked tasks.
 
-ghost use Rattle.std.specs.Prelude.{◌≡◌, ◌++◌, ◌∷◌, [], map, not, OnOk, OnErr, IfOk, IfSome};
+ghost use Rattle.std.specs.Prelude.{◌≡◌, ◌++◌, ◌∷◌, [], map, not, OnOk, IfOk, IfSome};
 ghost use Rattle.std.specs.List.{list_any};
 ghost use Rattle.std.specs.Option.{option_copied};
 ghost use Rattle.quantity.specs.Rows.{AreRows};
 ghost use Rattle.cluster_model.specs.Sides.{without_used};
 ghost use Rattle.cluster_model.specs.Masters.{has_numbers};
 ghost use Rattle.roster.specs.Places.{at_place};
-ghost use Rattle.agent_sides.specs.Changes.{with_task};
 ghost use Rattle.agent_sides.specs.Looks.{at_name};
 ghost use Rattle.agent_sides.specs.Own.{good_account, good_offers, holding, holding_of, lacks_numbers, names_with_tasks, sides_with_tasks};
 
+use crate::placed;
 use crate::sides::Sides;
 use listed::Listed;
-use mails::Booked;
 use names_core::{AgentName, FrameworkId, OfferId};
 use offer_book::Account;
 use plain_data::Plain;
@@ -101,8 +100,9 @@ impl Sides {
         self.book.accounts()
     }
 
-    /// The agent on which a framework may use the offers of these ids together, and what these have: it has an open session,
-    /// there are some ids, none stands twice, and each is that of a current offer there to the framework.
+    /// The agent on which a framework may use the offers of these ids together, and what these
+    /// have: it has an open session, there are some ids, none stands twice, and each is that of a
+    /// current offer there to the framework.
     pub fn good_offers(
         &self,
         alloc: Global,
@@ -124,7 +124,8 @@ impl Sides {
 
     /// Whether the session of an agent with booked tasks of a framework has no command number left.
     pub fn lacks_numbers(&self, framework: FrameworkId) -> bool
-        ensures { result ≡ list_any (λ s. not (has_numbers 1 s)) (sides_with_tasks framework self.now) }
+        ensures { result ≡ list_any (λ s. not (has_numbers 1 s))
+            (sides_with_tasks framework self.now) }
     {
         lacks_numbers(self.roster.entries(), self.book.accounts(), framework)
     }
@@ -135,7 +136,8 @@ impl Sides {
         alloc: Global,
         framework: FrameworkId,
     ) -> Result<Listed<AgentName>, AllocError>
-        ensures { IfOk result (λ names. names ≡ map (λ s. s.name) (sides_with_tasks framework self.now)) }
+        ensures { IfOk result (λ names. names ≡ map (λ s. s.name)
+            (sides_with_tasks framework self.now)) }
     {
         names_with_tasks(alloc, self.book.accounts(), framework)
     }
@@ -143,26 +145,17 @@ impl Sides {
     fn withdraw_used_at(&mut self, place: usize, framework: FrameworkId, ids: &[OfferId])
         ensures { self.new ≡ at_place place (λ s. without_used s framework ids.now) self.old }
     {
-        self.book.withdraw_named_at(place, framework, ids);
+        let entries = self.roster.entries();
+        placed::withdraw_named_at(entries, &mut self.book, place, framework, ids);
     }
 
-    /// Withdraws the offers to a framework on the agent of a name that have one of these ids. It takes no memory.
+    /// Withdraws the offers to a framework on the agent of a name that
+    /// have one of these ids. It takes no memory.
     pub fn withdraw_used(&mut self, name: &AgentName, framework: FrameworkId, ids: &[OfferId])
         ensures { self.new ≡ at_name name.now (λ s. without_used s framework ids.now) self.old }
     {
         if let Some(place) = self.place_of(name) {
             self.withdraw_used_at(place, framework, ids);
-        }
-    }
-
-    /// Books a task on the agent of a name, whatever is free.
-    pub fn book_on(&mut self, name: &AgentName, task: Booked) -> Result<(), AllocError>
-        ensures ok { OnOk result (self.new ≡ at_name name.now (with_task task) self.old) }
-        ensures err { OnErr result (self.new ≡ self.old) }
-    {
-        match self.place_of(name) {
-            None => Ok(()),
-            Some(place) => self.book_at(place, task),
         }
     }
 }

@@ -1,7 +1,7 @@
 //! The roster and the book of the same agents.
 
-ghost use Rattle.std.specs.Prelude.{◌≡◌, ◌<◌, [], Some, None, Ok, Err, true, false, not, ◌&&◌, bytes_eq, map, length, option_map, OnOk, OnErr, IfOk, IfErr};
-ghost use Rattle.std.specs.List.{find, list_any};
+ghost use Rattle.std.specs.Prelude.{◌≡◌, ◌<◌, ◌++◌, ◌∷◌, [], Some, None, Ok, Err, true, false, not, ◌&&◌, bytes_eq, map, length, option_map, OnOk, OnErr, IfOk, IfErr};
+ghost use Rattle.std.specs.List.{AllByRecursion, find, list_any};
 ghost use Rattle.mails.specs.declared.mail.AgentMail.TheVariants.{Applied, Update};
 ghost use Rattle.cluster_model.specs.Sides.{Run as ModelRun, heard, lost};
 ghost use Rattle.cluster_model.specs.Masters.{has_returned, held_among, is_of, may_have_numbers};
@@ -12,14 +12,14 @@ ghost use Rattle.roster.specs.Places.{at_place, place_of, told_at};
 ghost use Rattle.roster.specs.Faults.{IsAppliedRefusal, IsIssueRefusal};
 ghost use Rattle.offer_book.specs.Held.{place};
 ghost use Rattle.agent_sides.specs.Configs.{are_ordered};
-ghost use Rattle.agent_sides.specs.Joined.{side_names};
-ghost use Rattle.agent_sides.specs.Changes.{account_of, offering, reporting, side_of, with_task};
+ghost use Rattle.agent_sides.specs.Joined.{IsIn, side_names};
+ghost use Rattle.agent_sides.specs.Changes.{account_of, reporting, side_of};
 ghost use Rattle.agent_sides.specs.Looks.{all_placed, at_name, is_heard_last, next_command, told_of, withdrawing};
 
 use crate::config::{Config, ConfiguredAgent};
-use crate::look;
+use crate::{look, placed};
 use listed::Listed;
-use mails::{Booked, Command, MasterRefusal, Offer};
+use mails::{Booked, Command, MasterRefusal};
 use names_core::{AgentName, FrameworkId, LaunchKey, OfferId, Run, TaskName};
 use offer_book::{Heard, OfferBook, ids_name_offers};
 use plain_data::Plain;
@@ -28,8 +28,8 @@ use roster::{Roster, RosterFault};
 use std::alloc::{AllocError, Global};
 use std::marker::Model;
 
-/// What the master has of each configured agent, each at its place. At a place past the end nothing is known, and nothing
-/// happens there.
+/// What the master has of each configured agent, each at its place.
+/// At a place past the end nothing is known, and nothing happens there.
 #[derive(Drop)]
 pub struct Sides {
     pub(crate) roster: Roster,
@@ -48,6 +48,18 @@ impl Model for Sides {
     ghost invariant = { λ sides. Fit sides.roster sides.book };
 }
 
+/// Enters an agent into a book that has none of its name.
+fn enter(alloc: Global, book: &mut OfferBook, agent: &ConfiguredAgent) -> Result<(), AllocError>
+    requires { AllByRecursion IsIn book.old }
+    ensures { OnOk result (book.new ≡ book.old ++ account_of agent.now ∷ []) }
+{
+    let name = agent.name.copy()?;
+    match book.enter_agent(alloc, name, Resources::new(alloc)) {
+        Ok(()) => Ok(()),
+        Err(_) => Err(AllocError),
+    }
+}
+
 /// Enters agents into an empty roster and an empty book.
 fn enter_all(
     alloc: Global,
@@ -62,7 +74,7 @@ fn enter_all(
 {
     for agent in agents {
         roster.add_agent(alloc, agent.name.copy()?)?;
-        book.add_agent(alloc, agent.name.copy()?, Resources::new(alloc))?;
+        enter(alloc, book, agent)?;
     }
     Ok(())
 }
@@ -98,27 +110,12 @@ impl Sides {
         ensures { self.new ≡ map (withdrawing (is_named framework ids.now)) self.old }
     {
         ids_name_offers();
-        self.book.withdraw_named(framework, ids);
+        self.book.withdraw_offers(framework, ids);
     }
 
-    /// Makes an offer, if no current one on the agent has its id and with it all that is taken of the agent still fits its total.
-    pub fn offer_at(&mut self, alloc: Global, place: usize, offer: Offer) -> Result<(), AllocError>
-        ensures ok { OnOk result (self.new ≡ at_place place (offering offer) self.old) }
-        ensures err { OnErr result (self.new ≡ self.old) }
-    {
-        self.book.offer_at(alloc, place, offer)
-    }
-
-    /// Books a task, whatever is free.
-    pub fn book_at(&mut self, place: usize, task: Booked) -> Result<(), AllocError>
-        ensures ok { OnOk result (self.new ≡ at_place place (with_task task) self.old) }
-        ensures err { OnErr result (self.new ≡ self.old) }
-    {
-        self.book.book_at(place, task)
-    }
-
-    /// Issues a command in the agent's open session and gives its number; where no session is open there is no command and no
-    /// number. `L2 Spent` where the session's last command has the last number, `G5 OutOfMemory` where memory was refused.
+    /// Issues a command in the agent's open session and gives its number; where no session is open
+    /// there is no command and no number. `L2 Spent` where the session's last command has the last
+    /// number, `G5 OutOfMemory` where memory was refused.
     pub fn issue(&mut self, place: usize, command: Command) -> Result<Option<u32>, RosterFault>
         ensures number { IfOk result (λ n. n ≡ told_at place issued_number None self.old) }
         ensures ok { OnOk result (self.new ≡ at_place place (with_command command) self.old) }
@@ -129,10 +126,11 @@ impl Sides {
         self.roster.issue(place, command)
     }
 
-    /// An agent reports that it has opened a session with the master of a run, that it has these tasks, and that it owns this
-    /// total, which stands in the book from then on. The answer tells whether the session is opened here; a Report of the open session is no news. `G1 OtherRun` where it isn't this run, `G2
-    /// OldSession` below the open session, `G3 Closed` where none is open and the session isn't above every closed one. It takes
-    /// no memory.
+    /// An agent reports that it has opened a session with the master of a run, that it has these
+    /// tasks, and that it owns this total, which stands in the book from then on. The answer tells
+    /// whether the session is opened here; a Report of the open session is no news. `G1 OtherRun`
+    /// where it isn't this run, `G2 OldSession` below the open session, `G3 Closed` where none is
+    /// open and the session isn't above every closed one. It takes no memory.
     pub fn report(
         &mut self,
         alloc: Global,
@@ -143,33 +141,38 @@ impl Sides {
         tasks: Listed<Booked>,
         total: Resources,
     ) -> Result<bool, MasterRefusal>
-        ensures answer { result ≡ told_at place (λ s. reported run s session number) (Ok false) self.old }
-        ensures sides { self.new ≡ at_place place (reporting run session number tasks total) self.old }
+        ensures answer { result ≡ told_at place (λ s. reported run s session number) (Ok false)
+            self.old }
+        ensures sides { self.new ≡ at_place place (reporting run session number tasks total)
+            self.old }
     {
         let opens = match self.roster.report(alloc, place, run, session, number) {
             Ok(opens) => opens,
             Err(refusal) => return Err(refusal),
         };
         if opens {
-            self.book.reopen(alloc, place, tasks, total);
+            let entries = self.roster.entries();
+            placed::reopen_at(entries, &mut self.book, alloc, place, tasks, total);
         }
         Ok(opens)
     }
 
-    /// The agent is lost: its open session, where there is one, is closed, its offers and tasks are gone, and it owns nothing as far
-    /// as is known. It takes no memory.
+    /// The agent is lost: its open session, where there is one, is closed,
+    /// its offers and tasks are gone, and it owns nothing as far as is known. It takes no memory.
     pub fn lose(&mut self, alloc: Global, place: usize)
         ensures { self.new ≡ at_place place lost self.old }
     {
         if look::is_open_in(self.roster.entries(), place) {
-            self.roster.close_session(alloc, place);
             let (none, nothing) = (Listed::new(alloc), Resources::new(alloc));
-            self.book.reopen(alloc, place, none, nothing);
+            let entries = self.roster.entries();
+            placed::reopen_at(entries, &mut self.book, alloc, place, none, nothing);
+            self.roster.close_session(alloc, place);
         }
     }
 
-    /// The agent has applied the first `count` commands of a session: the books forget what they end. `G2 OldSession`, `G3
-    /// Closed` and `G4 NotOpen` where this isn't the open session, `G5 OutOfMemory` where memory was refused.
+    /// The agent has applied the first `count` commands of a session: the books forget what they
+    /// end. `G2 OldSession`, `G3 Closed` and `G4 NotOpen` where this isn't the open session, `G5
+    /// OutOfMemory` where memory was refused.
     pub fn applied(
         &mut self,
         alloc: Global,
@@ -177,30 +180,37 @@ impl Sides {
         session: u32,
         count: u32,
     ) -> Result<(), RosterFault>
-        ensures ok { (run : ModelRun) → OnOk result (self.new ≡ at_place place (λ s. heard run s (Applied session count)) self.old) }
-        ensures judged { OnOk result (told_at place (λ s. in_session s session) None self.old ≡ None) }
-        ensures refused { IfErr result (IsAppliedRefusal (told_at place (λ s. in_session s session) None self.old)) }
+        ensures ok { (run : ModelRun)
+            → OnOk result (self.new ≡ at_place place (λ s. heard run s (Applied session count))
+            self.old) }
+        ensures judged { OnOk result (told_at place (λ s. in_session s session) None self.old
+            ≡ None) }
+        ensures refused { IfErr result
+            (IsAppliedRefusal (told_at place (λ s. in_session s session) None self.old)) }
         ensures err { OnErr result (self.new ≡ self.old) }
     {
         let commands = match self.roster.applied(alloc, place, session, count) {
             Ok(commands) => commands,
             Err(fault) => return Err(fault),
         };
-        self.book.forget_by(place, &commands);
+        placed::forget_by_at(self.roster.entries(), &mut self.book, place, &commands);
         Ok(())
     }
 
     /// An update of a task is heard of, where the session is the open one. It takes no memory.
     pub fn hear(&mut self, place: usize, session: u32, update: &Heard)
         requires { update.now.k < 4294967295 }
-        ensures { (run : ModelRun) → self.new ≡ at_place place (λ s. heard run s (Update session update.now.key update.now.k update.now.state update.now.ended)) self.old }
+        ensures { (run : ModelRun) → self.new ≡ at_place place
+            (λ s. heard run s (Update session update.now.key update.now.k update.now.state
+            update.now.ended)) self.old }
     {
         if look::is_session_in(self.roster.entries(), place, session) {
-            self.book.hear(place, update);
+            placed::hear_at(self.roster.entries(), &mut self.book, place, update);
         }
     }
 
-    /// Issues a command to the agent of a name, as `issue` does, and gives the session and the number.
+    /// Issues a command to the agent of a name, as `issue` does,
+    /// and gives the session and the number.
     pub fn issue_to(
         &mut self,
         name: &AgentName,
@@ -239,10 +249,11 @@ impl Sides {
         look::session_in(self.roster.entries(), place)
     }
 
-    /// The booked task of a framework with this name, if any, and its agent. Of several it is one that hasn't ended, if there
-    /// is one, and of these the one with the least launch key.
+    /// The booked task of a framework with this name, if any, and its agent. Of several it is one
+    /// that hasn't ended, if there is one, and of these the one with the least launch key.
     pub fn held(&self, framework: FrameworkId, name: &TaskName) -> Option<(&AgentName, &Booked)>
-        ensures { option_map (λ t. place t.0.now t.1.now) result ≡ held_among (all_placed self.now) framework name.now }
+        ensures { option_map (λ t. place t.0.now t.1.now) result
+            ≡ held_among (all_placed self.now) framework name.now }
     {
         self.book.held(framework, name)
     }
@@ -254,7 +265,8 @@ impl Sides {
         self.book.booked_count()
     }
 
-    /// Whether this is the update last heard of a framework's task of this name and key on this agent.
+    /// Whether this is the update last heard of a framework's task
+    /// of this name and key on this agent.
     pub fn is_heard_last(
         &self,
         framework: FrameworkId,
@@ -263,12 +275,14 @@ impl Sides {
         key: LaunchKey,
         k: u32,
     ) -> bool
-        ensures { result ≡ list_any (is_heard_last framework agent.now name.now key k) (all_placed self.now) }
+        ensures { result ≡ list_any (is_heard_last framework agent.now name.now key k)
+            (all_placed self.now) }
     {
         look::is_heard_last_in(self.book.accounts(), framework, agent, name, key, k)
     }
 
-    /// Whether so many command numbers are left in the session of the agent of a name, where there is one.
+    /// Whether so many command numbers are left in the session of the
+    /// agent of a name, where there is one.
     pub fn may_have_numbers(&self, name: &AgentName, count: u64) -> bool
         ensures { result ≡ may_have_numbers count (find (λ s. bytes_eq s.name name.now) self.now) }
     {
@@ -284,7 +298,8 @@ impl Sides {
 
     /// Whether the agent of this name hasn't opened a session in this run.
     pub fn is_one_awaited(&self, name: &AgentName) -> bool
-        ensures { result ≡ list_any (λ s. bytes_eq s.name name.now && not (has_returned s)) self.now }
+        ensures { result ≡ list_any (λ s. bytes_eq s.name name.now && not (has_returned s))
+            self.now }
     {
         look::is_one_awaited(self.roster.entries(), name)
     }

@@ -107,7 +107,8 @@ fn report_of(
     session: u32,
     number: u32,
 ) -> Result<bool, MasterRefusal>
-    ensures { result ≡ told_of name.now (λ s. reported run s session number) (Ok false) entries.now }
+    ensures { result ≡ told_of name.now (λ s. reported run s session number) (Ok false)
+        entries.now }
 {
     for entry in entries {
         if entry.name().is(name) {
@@ -206,15 +207,17 @@ impl Sides {
         closed_of(self.roster.entries(), name)
     }
 
-    /// Why a mail of a session is refused, if it is: `G2 OldSession` below the open session, `G3 Closed` where none is open and
-    /// this one is closed, `G4 NotOpen` where no Report has opened it.
+    /// Why a mail of a session is refused, if it is: `G2 OldSession` below the open session, `G3
+    /// Closed` where none is open and this one is closed, `G4 NotOpen` where no Report has opened
+    /// it.
     pub fn judge(&self, name: &AgentName, session: u32) -> Option<MasterRefusal>
         ensures { result ≡ told_of name.now (λ s. in_session s session) None self.now }
     {
         judge_of(self.roster.entries(), name, session)
     }
 
-    /// Whether a Report of this session, with the master of run `number`, would open it. Refused as `report` tells.
+    /// Whether a Report of this session, with the master of run `number`, would open it.
+    /// Refused as `report` tells.
     pub fn judge_report(
         &self,
         name: &AgentName,
@@ -222,7 +225,8 @@ impl Sides {
         session: u32,
         number: u32,
     ) -> Result<bool, MasterRefusal>
-        ensures { result ≡ told_of name.now (λ s. reported run s session number) (Ok false) self.now }
+        ensures { result ≡ told_of name.now (λ s. reported run s session number) (Ok false)
+            self.now }
     {
         report_of(self.roster.entries(), name, run, session, number)
     }
@@ -241,8 +245,8 @@ impl Sides {
         tasks_of(self.book.accounts(), name)
     }
 
-    /// Puts behind other mails what a tick sends to each agent, in order of the agents: a Hello where no session is open, else the
-    /// oldest command that isn't known to be applied, again.
+    /// Puts behind other mails what a tick sends to each agent, in order of the agents: a Hello
+    /// where no session is open, else the oldest command that isn't known to be applied, again.
     pub fn send_again(
         &self,
         alloc: Global,
@@ -263,7 +267,8 @@ impl Sides {
         }
     }
 
-    /// A Report of the agent is heard, as `report` does it; where it opens no session nothing happens.
+    /// A Report of the agent is heard, as `report` does it;
+    /// where it opens no session nothing happens.
     pub fn hear_report(
         &mut self,
         alloc: Global,
@@ -289,8 +294,11 @@ impl Sides {
         session: u32,
         count: u32,
     ) -> Result<(), RosterFault>
-        ensures ok { (run : ModelRun) → OnOk result (self.new ≡ at_name name.now (λ s. heard run s (Applied session count)) self.old) }
-        ensures refused { IfErr result (IsAppliedRefusal (told_of name.now (λ s. in_session s session) None self.old)) }
+        ensures ok { (run : ModelRun)
+            → OnOk result (self.new ≡ at_name name.now (λ s. heard run s (Applied session count))
+            self.old) }
+        ensures refused { IfErr result
+            (IsAppliedRefusal (told_of name.now (λ s. in_session s session) None self.old)) }
         ensures err { OnErr result (self.new ≡ self.old) }
     {
         match self.place_of(name) {
@@ -302,7 +310,9 @@ impl Sides {
     /// An update of a task on the agent is heard of, as `hear` does it.
     pub fn hear_update(&mut self, name: &AgentName, session: u32, update: &Heard)
         requires { update.now.k < 4294967295 }
-        ensures { (run : ModelRun) → self.new ≡ at_name name.now (λ s. heard run s (Update session update.now.key update.now.k update.now.state update.now.ended)) self.old }
+        ensures { (run : ModelRun) → self.new ≡ at_name name.now
+            (λ s. heard run s (Update session update.now.key update.now.k update.now.state
+            update.now.ended)) self.old }
     {
         if let Some(place) = self.place_of(name) {
             self.hear(place, session, update);

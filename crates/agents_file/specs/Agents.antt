@@ -10,7 +10,8 @@ use Rattle.agents_file.specs.declared.fault.AgentsFault.TheVariants.{File, Lines
 
 -- the text is this one line, whose line feed may lack
 abbrev pub IsLine : List ℕ → List ℕ → Type 0
-IsLine text line = ((text ≡ line) ⊎ (text ≡ line ++ 10 ∷ [])) × (list_any (λ b. b == 10) line ≡ false)
+IsLine text line =
+    ((text ≡ line) ⊎ (text ≡ line ++ 10 ∷ [])) × (list_any (λ b. b == 10) line ≡ false)
 
 -- no line is the text's only one
 abbrev pub IsNoLine : List ℕ → Type 0
@@ -20,7 +21,8 @@ IsNoLine text = (line : List ℕ) → IsLine text line → ⊥
 abbrev pub ReadsAs : List ℕ → Result Configured LineRefusal → Type 0
 ReadsAs text due = (line : List ℕ) × IsLine text line × (read_config line ≡ due)
 
--- what is said of a text: what its one line configures, or that it isn't one line, or that its line is no configuration
+-- what is said of a text: what its one line configures, or that it isn't one line,
+-- or that its line is no configuration
 abbrev pub Says : List ℕ → Result Configuration AgentsFault → Type 0
 Says text (Ok config) = ReadsAs text (Ok (configured_by config))
 Says text (Err Lines) = IsNoLine text

@@ -22,9 +22,10 @@ fn only_line(text: &[u8]) -> Option<&[u8]>
     Some(line)
 }
 
-/// The agents that a text says, and the weights of roles: one line, whose line feed may lack, and which is a configuration as the replayer reads it, with 1 to 256
-/// agents.
-/// `X3 BadConfig` where it isn't one line, and where its line is no configuration; `C9 OutOfMemory` may come before that is known.
+/// The agents that a text says, and the weights of roles: one line, whose line feed may lack, and
+/// which is a configuration as the replayer reads it, with 1 to 256 agents. `X3 BadConfig` where it
+/// isn't one line, and where its line is no configuration; `C9 OutOfMemory` may come before that is
+/// known.
 pub fn agents_in(alloc: Global, text: &[u8]) -> Result<Configuration, AgentsFault>
     ensures { Says text.now result }
 {
@@ -38,8 +39,8 @@ pub fn agents_in(alloc: Global, text: &[u8]) -> Result<Configuration, AgentsFaul
     }
 }
 
-/// The agents and weights that the text of the file at this path says (see `agents_in`); `Z2 DeviceFault` where the file can't be read. Which text a file has no
-/// clause says.
+/// The agents and weights that the text of the file at this path says (see `agents_in`);
+/// `Z2 DeviceFault` where the file can't be read. Which text a file has no clause says.
 pub fn read_agents(rt: &HostRuntime, path: &str) -> Result<Configuration, AgentsFault>
     ensures { IsRead result }
 {

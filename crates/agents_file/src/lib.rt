@@ -1,4 +1,5 @@
-//! The file of the agents: one line, which says which agents a cluster has, what each owns, and how much roles count.
+//! The file of the agents: one line, which says which agents a cluster has, what each owns,
+//! and how much roles count.
 #![tactic(auto)]
 
 mod agents;

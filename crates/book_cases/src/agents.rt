@@ -1,4 +1,5 @@
-//! An agent over a given record. Commands are of session 1; all speak of task t1 of framework F1-1 under L1-1.
+//! An agent over a given record. Commands are of session 1;
+//! all speak of task t1 of framework F1-1 under L1-1.
 
 use crate::answers::{amounts_text, shown, word};
 use crate::words::{amounts, first, number, task};

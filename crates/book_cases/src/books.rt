@@ -75,15 +75,6 @@ fn offer(book: &mut OfferBook, alloc: Global, text: &str) -> Option<String> {
     told(alloc, &book.offer(alloc, &name, offer))
 }
 
-/// An offer at the first agent, which is made only where it fits.
-fn offer_first(book: &mut OfferBook, alloc: Global, text: &str) -> Option<String> {
-    let offer = offer_in(alloc, text)?;
-    match book.offer_at(alloc, 0, offer) {
-        Ok(()) => word(alloc, "ok"),
-        Err(_) => None,
-    }
-}
-
 fn withdraw(book: &mut OfferBook, alloc: Global, text: &str) -> Option<String> {
     let id = OfferId::from_text(text).ok()?;
     told(alloc, &book.withdraw(id))
@@ -153,7 +144,6 @@ pub fn answer(book: &mut OfferBook, alloc: Global, kind: &str, text: &str) -> Op
         "enter" => enter(book, alloc, text),
         "drop" => leave(book, alloc, text),
         "offer" => offer(book, alloc, text),
-        "offer_first" => offer_first(book, alloc, text),
         "withdraw" => withdraw(book, alloc, text),
         "book" => book_task(book, alloc, text),
         "end" => end(book, alloc, text),

@@ -1,5 +1,6 @@
-//! Says of a line, a call by its name and arguments, what the call answers: of a book of offers and tasks, shares, sessions, a configuration and an
-//! agent over a given record. The program makes these calls otherwise, or never with these arguments, so that no history shows them.
+//! Says of a line, a call by its name and arguments, what the call answers: of a book of offers and
+//! tasks, shares, sessions, a configuration and an agent over a given record. The program makes
+//! these calls otherwise, or never with these arguments, so that no history shows them.
 #![tactic(auto)]
 
 mod agents;

@@ -1,1 +1,3 @@
 pub mod Tasks
+pub mod Bounds
+pub mod Used

@@ -12,10 +12,13 @@ has_tasks_of framework bs = list_any (λ b. same b.job.framework framework) bs
 abbrev pub has_key : Numbered → Booked → Bool
 has_key key b = same b.job.key key
 
--- its end is acknowledged by this: it has ended, and the last update that was heard of is this one and terminal
+-- its end is acknowledged by this: it has ended,
+-- and the last update that was heard of is this one and terminal
 abbrev pub is_acknowledged : Numbered → ℕ → Booked → Bool
 is_acknowledged key k b = b.ended && same b.job.key key && b.heard == suc k && is_terminal b.state
 
 -- a task with this key has ended
 abbrev pub ended : Numbered → Booked → Booked
-ended key b = if has_key key b then record { job = b.job; ended = true; heard = b.heard; state = b.state } else b
+ended key b =
+    if has_key key b then record { job = b.job; ended = true; heard = b.heard; state = b.state }
+    else b

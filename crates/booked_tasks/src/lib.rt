@@ -1,8 +1,11 @@
-//! The tasks that a master has booked on one agent (Mesos paper, section 3.1), and what an update and an applied command make of them.
+//! The tasks that a master has booked on one agent (Mesos paper, section 3.1),
+//! and what an update and an applied command make of them.
 #![tactic(auto)]
 
+mod bound;
 mod ids;
 mod tasks;
+mod used;
 
 pub use ids::is_same_framework;
 pub use tasks::{Heard, Tasks};

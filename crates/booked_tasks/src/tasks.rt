@@ -1,16 +1,19 @@
 //! The booked tasks of one agent.
 
-ghost use Rattle.std.specs.Prelude.{◌≡◌, ◌++◌, ◌∷◌, [], not, filter, map, ◌<◌, OnOk, OnErr};
+ghost use Rattle.std.specs.Prelude.{◌≡◌, ◌++◌, ◌∷◌, [], not, filter, map, ◌<◌, OnOk, OnErr, IfSome};
 ghost use Rattle.cluster_model.specs.Sides.{heard_update, forget, forget_all};
 ghost use Rattle.std.specs.List.{find, list_any};
 ghost use Rattle.std.specs.Option.{option_copied};
 ghost use Rattle.cluster_model.specs.Ids.{same};
 ghost use Rattle.booked_tasks.specs.Tasks.{has_tasks_of, has_key, ended, is_acknowledged};
+ghost use Rattle.booked_tasks.specs.Used.{IsSum};
 
 use crate::ids::{is_same_framework, is_same_launch};
+use crate::{bound, used};
 use listed::Listed;
 use mails::{Booked, Command};
 use names_core::{FrameworkId, LaunchKey, TaskState};
+use quantity::Resources;
 use std::alloc::{AllocError, Global};
 use std::marker::Model;
 
@@ -18,15 +21,24 @@ use std::marker::Model;
 #[derive(Drop)]
 pub struct Tasks {
     items: Vec<Booked>,
+    /// The sum of what the tasks use that haven't ended, where it is known.
+    sum: Option<Resources>,
+    /// No task has a key above this one.
+    bound: Option<LaunchKey>,
 }
 
 impl Model for Tasks {
     ghost use Rattle.std.specs.Prelude.{List};
     ghost use Rattle.mails.specs.declared.task.Booked.{Booked};
+    ghost use Rattle.booked_tasks.specs.Bounds.{AreWithin};
+    ghost use Rattle.booked_tasks.specs.Used.{IsSumIfKnown};
 
     ghost Value = { List Booked };
 
     ghost view = { λ tasks. tasks.items.items };
+
+    ghost invariant = { λ tasks. IsSumIfKnown tasks.sum tasks.items.items
+        × AreWithin tasks.bound tasks.items.items };
 }
 
 fn has_key(task: &Booked, key: LaunchKey) -> bool
@@ -84,7 +96,8 @@ pub struct Heard {
 
 fn hear_one(task: &mut Booked, update: &Heard)
     requires { update.now.k < 4294967295 }
-    ensures { task.new ≡ heard_update update.now.key update.now.k update.now.state update.now.ended task.old }
+    ensures { task.new ≡ heard_update update.now.key update.now.k update.now.state update.now.ended
+        task.old }
 {
     if is_same_launch(task.job.key, update.key) {
         let count = update.k + 1;
@@ -100,7 +113,9 @@ fn hear_one(task: &mut Booked, update: &Heard)
 
 fn hear_in(tasks: &mut Vec<Booked>, update: &Heard)
     requires { update.now.k < 4294967295 }
-    ensures { tasks.new.items ≡ map (heard_update update.now.key update.now.k update.now.state update.now.ended) tasks.old.items }
+    ensures { tasks.new.items
+        ≡ map (heard_update update.now.key update.now.k update.now.state update.now.ended)
+        tasks.old.items }
 {
     for i in 0..tasks.len() {
         hear_one(&mut tasks[i], update);
@@ -157,15 +172,21 @@ impl Tasks {
     {
         Tasks {
             items: Vec::new(alloc),
+            sum: Some(Resources::new(alloc)),
+            bound: None,
         }
     }
 
-    /// Tasks that an agent reported.
-    pub fn from_list(tasks: Listed<Booked>) -> Tasks
+    /// Tasks that an agent reported. It isn't refused for want of memory.
+    pub fn from_list(alloc: Global, tasks: Listed<Booked>) -> Tasks
         ensures { result ≡ tasks }
     {
+        let sum = used::sum_of(alloc, tasks.as_slice());
+        let bound = bound::bound_of(tasks.as_slice());
         Tasks {
             items: tasks.into_vec(),
+            sum,
+            bound,
         }
     }
 
@@ -173,6 +194,15 @@ impl Tasks {
         ensures { result.now ≡ self.now }
     {
         self.items.as_slice()
+    }
+
+    /// The sum of what the tasks use that haven't ended. `None` where memory was refused for it,
+    /// where it is past the limits of resources, and from the end of a framework until a task is
+    /// booked.
+    pub fn sum(&self) -> Option<&Resources>
+        ensures { IfSome result (λ sum. IsSum sum.now self.now) }
+    {
+        self.sum.as_ref()
     }
 
     /// The task of this key, if it is booked here.
@@ -183,10 +213,11 @@ impl Tasks {
     }
 
     /// Whether a task of this key is booked here.
+    /// For a key above all that were booked it doesn't go over the tasks.
     pub fn is_booked(&self, key: LaunchKey) -> bool
         ensures { result ≡ list_any (has_key key) self.now }
     {
-        is_booked(&self.items, key)
+        bound::is_within(self.bound, key) && is_booked(&self.items, key)
     }
 
     /// Whether a task of the framework is booked here, ended or not.
@@ -197,40 +228,52 @@ impl Tasks {
     }
 
     /// One task more, the last. It fails for want of memory alone.
-    pub fn push(&mut self, task: Booked) -> Result<(), AllocError>
+    pub fn push(&mut self, alloc: Global, task: Booked) -> Result<(), AllocError>
         ensures ok { OnOk result (self.new ≡ self.old ++ task ∷ []) }
         ensures err { OnErr result (self.new ≡ self.old) }
     {
+        let known = self.sum.take();
+        let sum = used::sum_with(alloc, known, &self.items, &task);
+        let bound = bound::raised(self.bound, &task);
         self.items.push(task)?;
+        self.sum = sum;
+        self.bound = bound;
         Ok(())
     }
 
-    /// The task of this key, if it is booked here, has ended.
+    /// The task of this key, if it is booked here, has ended. It takes no memory.
     pub fn end(&mut self, key: LaunchKey)
         ensures { self.new ≡ map (ended key) self.old }
     {
+        self.sum = used::without_key(self.sum.take(), &self.items, key);
         end_in(&mut self.items, key);
     }
 
-    /// The task of this key isn't booked here any more.
+    /// The task of this key isn't booked here any more. It takes no memory.
     pub fn forget(&mut self, key: LaunchKey)
         ensures { self.new ≡ filter (λ b. not (has_key key b)) self.old }
     {
+        self.sum = used::without_key(self.sum.take(), &self.items, key);
         forget_key(&mut self.items, key);
     }
 
-    /// An update of the task of its launch key is heard.
+    /// An update of the task of its launch key is heard. It takes no memory.
     pub fn hear(&mut self, update: &Heard)
         requires { update.now.k < 4294967295 }
-        ensures { self.new ≡ map (heard_update update.now.key update.now.k update.now.state update.now.ended) self.old }
+        ensures { self.new
+            ≡ map (heard_update update.now.key update.now.k update.now.state update.now.ended)
+            self.old }
     {
+        self.sum = used::after_update(self.sum.take(), &self.items, update);
         hear_in(&mut self.items, update);
     }
 
-    /// The agent has applied these commands: a task is let go whose end is acknowledged by one, or whose framework one ends.
+    /// The agent has applied these commands: a task is let go whose end is acknowledged by one,
+    /// or whose framework one ends. It takes no memory.
     pub fn forget_by(&mut self, commands: &[Command])
         ensures { self.new ≡ forget_all commands.now self.old }
     {
+        self.sum = used::after_commands(self.sum.take(), commands);
         forget_all(&mut self.items, commands);
     }
 }

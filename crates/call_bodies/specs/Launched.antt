@@ -33,7 +33,8 @@ tasks_limit = 256
 
 -- a list that with the tasks before it keeps within the limit
 abbrev pub still_few : List TaskInfo → List Data → Result (List Data) Refusal
-still_few tasks ds = if nat_lt tasks_limit (length tasks + length ds) then Err LimitExceeded else Ok ds
+still_few tasks ds =
+    if nat_lt tasks_limit (length tasks + length ds) then Err LimitExceeded else Ok ds
 
 -- the tasks of an operation, behind those of the operations before it
 unfoldable pub add_operation : List TaskInfo → Data → Result (List TaskInfo) Refusal

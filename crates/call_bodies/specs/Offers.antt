@@ -27,7 +27,8 @@ seconds_of o = min 31536000 (unwrap_or (option_and_then as_u64 (option_and_then 
 
 -- for how long the filters of a call's body refuse
 abbrev pub refused_for : Option Data → ℕ
-refused_for body = seconds_of (member_of (codes "refuse_seconds") (member_of (codes "filters") body))
+refused_for body =
+    seconds_of (member_of (codes "refuse_seconds") (member_of (codes "filters") body))
 
 unfoldable pub accept_of : Data → Result Call Refusal
 accept_of d = do
@@ -39,5 +40,6 @@ accept_of d = do
 unfoldable pub decline_of : Data → Result Call Refusal
 decline_of d = do
   framework ← framework_of d
-  offers ← offers_of members.DeclinedOffers (member_of (codes "offer_ids") (get (codes "decline") d))
+  offers ← offers_of members.DeclinedOffers
+      (member_of (codes "offer_ids") (get (codes "decline") d))
   Ok (Decline framework offers (refused_for (get (codes "decline") d)))

@@ -32,7 +32,10 @@ whole (Some n) = Ok n
 
 -- a number is there, and is whole
 unfoldable pub amount_of : Data → Result ℕ Refusal
-amount_of d = required members.ResourceValue (option_and_then as_number (member_of (codes "value") (get (codes "scalar") d))) >>= λ n. whole (as_u64 n)
+amount_of d =
+    required members.ResourceValue
+    (option_and_then as_number (member_of (codes "value") (get (codes "scalar") d))) >>= λ n.
+    whole (as_u64 n)
 
 -- what is over a limit of resources is over a limit of the call
 abbrev pub within_limits : Result (List Row) QuantityFault → Result (List Row) Refusal

@@ -16,7 +16,8 @@ use Rattle.call_members.specs.declared.fault.Refusal.TheVariants.{BadId, TooMany
 abbrev pub roles_of : Option Items → Result (Option (List ℕ)) Refusal
 roles_of None = Ok None
 roles_of (Some no_items) = Ok None
-roles_of (Some (item d no_items)) = required members.Roles (as_str d) >>= λ text. optional role_name (Some text)
+roles_of (Some (item d no_items)) =
+    required members.Roles (as_str d) >>= λ text. optional role_name (Some text)
 roles_of (Some (item d (item e ds))) = Err TooManyRoles
 
 -- two ids that may be absent and don't differ

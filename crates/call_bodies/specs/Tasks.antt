@@ -16,16 +16,20 @@ use Rattle.mails.specs.declared.call.ReconciledTask.{ReconciledTask}
 unfoldable pub kill_of : Data → Result Call Refusal
 kill_of d = do
   framework ← framework_of d
-  task ← needed members.KilledTask plain_name (id_text_of (member_of (codes "task_id") (get (codes "kill") d)))
+  task ← needed members.KilledTask plain_name
+      (id_text_of (member_of (codes "task_id") (get (codes "kill") d)))
   agent ← optional plain_name (id_text_of (member_of (codes "agent_id") (get (codes "kill") d)))
   Ok (Kill framework task agent)
 
 unfoldable pub acknowledge_of : Data → Result Call Refusal
 acknowledge_of d = do
   framework ← framework_of d
-  agent ← needed members.AcknowledgedAgent plain_name (id_text_of (member_of (codes "agent_id") (get (codes "acknowledge") d)))
-  task ← needed members.AcknowledgedTask plain_name (id_text_of (member_of (codes "task_id") (get (codes "acknowledge") d)))
-  update ← needed members.AcknowledgedUpdate update_of (text_of (member_of (codes "uuid") (get (codes "acknowledge") d)))
+  agent ← needed members.AcknowledgedAgent plain_name
+      (id_text_of (member_of (codes "agent_id") (get (codes "acknowledge") d)))
+  task ← needed members.AcknowledgedTask plain_name
+      (id_text_of (member_of (codes "task_id") (get (codes "acknowledge") d)))
+  update ← needed members.AcknowledgedUpdate update_of
+      (text_of (member_of (codes "uuid") (get (codes "acknowledge") d)))
   Ok (Acknowledge framework agent task update)
 
 unfoldable pub add_query : List ReconciledTask → Data → Result (List ReconciledTask) Refusal
@@ -38,6 +42,7 @@ add_query queries d = do
 unfoldable pub reconcile_of : Data → Result Call Refusal
 reconcile_of d = do
   framework ← framework_of d
-  list ← short_list_of members.ReconciledTasks 1024 (member_of (codes "tasks") (get (codes "reconcile") d))
+  list ← short_list_of members.ReconciledTasks 1024
+      (member_of (codes "tasks") (get (codes "reconcile") d))
   tasks ← each_in add_query [] list
   Ok (Reconcile framework tasks)

@@ -42,7 +42,8 @@ pub fn add_tasks(
     tasks: &mut Vec<TaskInfo>,
     values: &[Value],
 ) -> Result<(), CallFault>
-    ensures { Gives (λ _. tasks.new.items) result (each_in add_task tasks.old.items (map view values.now)) }
+    ensures { Gives (λ _. tasks.new.items) result
+        (each_in add_task tasks.old.items (map view values.now)) }
 {
     for value in values {
         add_task(alloc, tasks, value)?;

@@ -1,4 +1,5 @@
-//! The nine calls of the Mesos scheduler HTTP API, each read from the object that it is in JSON. Each is refused by its first fault, in the order of its members.
+//! The nine calls of the Mesos scheduler HTTP API, each read from the object that it is in JSON.
+//! Each is refused by its first fault, in the order of its members.
 #![tactic(auto)]
 
 mod framework_calls;

@@ -12,7 +12,8 @@ use mails::Call;
 use serde_json::Value;
 use std::alloc::Global;
 
-/// An ACCEPT: its framework, the offers (256 at most), the tasks that its LAUNCHes list (256 at most), and the seconds for which what is left is declined.
+/// An ACCEPT: its framework, the offers (256 at most), the tasks that its LAUNCHes list (256 at
+/// most), and the seconds for which what is left is declined.
 #[tactic(auto, unfolding(crate::specs::Offers::accept_of))]
 pub fn accept(alloc: Global, call: &Value) -> Result<Call, CallFault>
     ensures { Gives (λ c. c) result (accept_of (view call.now)) }

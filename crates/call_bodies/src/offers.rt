@@ -32,7 +32,8 @@ fn add_offer(ids: &mut Vec<OfferId>, value: &Value, member: Member) -> Result<()
 }
 
 fn all_offers(alloc: Global, values: &[Value], member: Member) -> Result<Vec<OfferId>, CallFault>
-    ensures { Gives (λ ids. ids.items) result (each_in (add_offer member) [] (map view values.now)) }
+    ensures { Gives (λ ids. ids.items) result
+        (each_in (add_offer member) [] (map view values.now)) }
 {
     let mut ids = Vec::new(alloc);
     for value in values {

@@ -42,8 +42,8 @@ fn all_tasks(alloc: Global, values: &[Value]) -> Result<Vec<TaskInfo>, CallFault
     Ok(tasks)
 }
 
-/// The tasks of a value that is a list of operations, those of several operations joined in order, at most 256. A value that
-/// is no list has none.
+/// The tasks of a value that is a list of operations, those of several operations joined in order,
+/// at most 256. A value that is no list has none.
 pub fn launched_tasks(alloc: Global, value: Option<&Value>) -> Result<Vec<TaskInfo>, CallFault>
     ensures { Gives (λ tasks. tasks.items) result (tasks_of (seen value.entry)) }
 {

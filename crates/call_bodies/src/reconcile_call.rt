@@ -41,7 +41,8 @@ fn all_queries(alloc: Global, values: &[Value]) -> Result<Vec<ReconciledTask>, C
     Ok(queries)
 }
 
-/// A RECONCILE: its framework, and the tasks whose states it asks for (1,024 at most); with none it asks for those of all.
+/// A RECONCILE: its framework, and the tasks whose states it asks for (1,024 at most);
+/// with none it asks for those of all.
 #[tactic(auto, unfolding(crate::specs::Tasks::reconcile_of))]
 pub fn reconcile(alloc: Global, call: &Value) -> Result<Call, CallFault>
     ensures { Gives (λ c. c) result (reconcile_of (view call.now)) }

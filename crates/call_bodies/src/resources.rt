@@ -17,7 +17,8 @@ use std::alloc::Global;
 
 #[tactic(auto, unfolding(call_members::specs::Ids::needed))]
 fn name(alloc: Global, value: Option<&Value>) -> Result<ResourceName, CallFault>
-    ensures { Gives (λ n. n) result (needed members.ResourceName resource_name (text_of (seen value.entry))) }
+    ensures { Gives (λ n. n) result
+        (needed members.ResourceName resource_name (text_of (seen value.entry))) }
 {
     let text = required_text(value, Member::ResourceName)?;
     match ResourceName::from_text(alloc, text) {
@@ -43,7 +44,8 @@ fn amount(value: &Value) -> Result<u64, CallFault>
 }
 
 fn raise(alloc: Global, resources: &mut Resources, name: &str, amount: u64) -> Result<(), CallFault>
-    ensures { Gives (λ _. resources.new) result (within_limits (added name.now amount resources.old)) }
+    ensures { Gives (λ _. resources.new) result
+        (within_limits (added name.now amount resources.old)) }
 {
     match resources.add(alloc, name, amount) {
         Ok(()) => Ok(()),

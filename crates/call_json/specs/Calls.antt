@@ -49,7 +49,8 @@ by_type (Some text) d = by_known (kind_of text) d
 
 -- the call that an object is
 unfoldable pub nested_call : Data → Result Call Refusal
-nested_call d = if is_some (as_object d) then by_type (text_of (get (codes "type") d)) d else Err NotJson
+nested_call d =
+    if is_some (as_object d) then by_type (text_of (get (codes "type") d)) d else Err NotJson
 
 -- the call that a JSON value is, where it nests no deeper than a text may
 unfoldable pub call_of : Data → Result Call Refusal

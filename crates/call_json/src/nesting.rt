@@ -1,4 +1,5 @@
-//! How deep values nest (RFC 8259, section 9: an implementation may set limits on the depth of nesting).
+//! How deep values nest (RFC 8259, section 9:
+//! an implementation may set limits on the depth of nesting).
 
 ghost use Rattle.std.specs.Prelude.{◌≤◌, ◌↔◌, IsTrue};
 ghost use Rattle.serde_json.specs.Data.{depth, items_depth, members_depth};

@@ -82,8 +82,9 @@ fn nested_call(alloc: Global, value: &Value) -> Result<Call, CallFault>
     }
 }
 
-/// The call that a JSON value is. A member of another kind than asked for counts as absent, and members that aren't asked
-/// for may hold anything. Of a member that stands twice the last counts. As of a text, it is J1 where arrays and objects nest deeper than 127 levels.
+/// The call that a JSON value is. A member of another kind than asked for counts as absent, and
+/// members that aren't asked for may hold anything. Of a member that stands twice the last counts.
+/// As of a text, it is J1 where arrays and objects nest deeper than 127 levels.
 #[tactic(auto, unfolding(crate::specs::Calls::call_of))]
 pub fn call_of(alloc: Global, value: &Value) -> Result<Call, CallFault>
     ensures { Gives (λ c. c) result (call_of (view value.now)) }
@@ -110,8 +111,8 @@ fn read_json(alloc: Global, bytes: &[u8]) -> Result<Call, CallFault>
     }
 }
 
-/// The call that a text is, in the JSON of the Mesos scheduler HTTP API. A number that is whole but written with a point and
-/// zeros, as clients write doubles, counts as the whole number.
+/// The call that a text is, in the JSON of the Mesos scheduler HTTP API. A number that is whole but
+/// written with a point and zeros, as clients write doubles, counts as the whole number.
 pub fn read_call(alloc: Global, bytes: &[u8]) -> Result<Call, CallFault>
     ensures { Gives (λ c. c) result (read_call bytes.now) }
 {

@@ -18,12 +18,14 @@ known None = Err BadId
 known (Some x) = Ok x
 
 -- a text that may be absent, but not wrong
-unfoldable pub optional : {A : Type 0} → (List ℕ → Option A) → Option (List ℕ) → Result (Option A) Refusal
+unfoldable pub optional : {A : Type 0} → (List ℕ → Option A) → Option (List ℕ)
+    → Result (Option A) Refusal
 optional reads None = Ok None
 optional reads (Some text) = known (reads text) >>= λ x. Ok (Some x)
 
 -- a text that is neither absent nor wrong
-unfoldable pub needed : {A : Type 0} → Member → (List ℕ → Option A) → Option (List ℕ) → Result A Refusal
+unfoldable pub needed : {A : Type 0} → Member → (List ℕ → Option A) → Option (List ℕ)
+    → Result A Refusal
 needed member reads o = required member o >>= λ text. known (reads text)
 
 -- the text itself, where the test holds

@@ -20,9 +20,12 @@ missing_text members.TaskLabel = codes "J4 Missing accept.operations.launch.task
 missing_text members.TaskId = codes "J4 Missing accept.operations.launch.task_infos.task_id"
 missing_text members.TaskAgent = codes "J4 Missing accept.operations.launch.task_infos.agent_id"
 missing_text members.Resources = codes "J4 Missing accept.operations.launch.task_infos.resources"
-missing_text members.ResourceName = codes "J4 Missing accept.operations.launch.task_infos.resources.name"
-missing_text members.ResourceType = codes "J4 Missing accept.operations.launch.task_infos.resources.type"
-missing_text members.ResourceValue = codes "J4 Missing accept.operations.launch.task_infos.resources.scalar.value"
+missing_text members.ResourceName =
+    codes "J4 Missing accept.operations.launch.task_infos.resources.name"
+missing_text members.ResourceType =
+    codes "J4 Missing accept.operations.launch.task_infos.resources.type"
+missing_text members.ResourceValue =
+    codes "J4 Missing accept.operations.launch.task_infos.resources.scalar.value"
 missing_text members.DeclinedOffers = codes "J4 Missing decline.offer_ids"
 missing_text members.KilledTask = codes "J4 Missing kill.task_id"
 missing_text members.AcknowledgedAgent = codes "J4 Missing acknowledge.agent_id"

@@ -42,7 +42,9 @@ first_master = Some (master_of (fresh 1 []))
 
 -- a call comes on the open stream of its framework, where it has one
 abbrev pub stream_given : Asked → Call → Option Numbered
-stream_given asked call = option_and_then (λ f. option_and_then (λ m. stream_of (framework_of m f)) asked) (framework_of_call call)
+stream_given asked call =
+    option_and_then (λ f. option_and_then (λ m. stream_of (framework_of m f)) asked)
+    (framework_of_call call)
 
 -- the events that answer a record, and the master then
 pub record Reply : Type 0 where
@@ -54,8 +56,10 @@ event_in e = e.event
 
 -- a call is answered by its events, and a refused one by an ERROR event with the refusal's text
 abbrev pub reply_by : Master → Doing → Option MasterRefusal → Reply
-reply_by m d None = record { events = map event_in (outs_of m d).events; after = Some (after_doing m d) }
-reply_by m d (Some refusal) = record { events = Error (master_texts.refusal_text refusal) ∷ []; after = Some m }
+reply_by m d None =
+    record { events = map event_in (outs_of m d).events; after = Some (after_doing m d) }
+reply_by m d (Some refusal) =
+    record { events = Error (master_texts.refusal_text refusal) ∷ []; after = Some m }
 
 abbrev pub answered : Master → Doing → Reply
 answered m d = reply_by m d d.refusal
@@ -68,7 +72,8 @@ reply_of (Some m) call = answered m (called m (stream_given (Some m) call) call)
 -- a record that is no call is answered by an ERROR event with the text of what is wrong with it
 abbrev pub reply : Asked → Result Call Refusal → Reply
 reply asked (Ok call) = reply_of asked call
-reply asked (Err refusal) = record { events = Error (call_texts.refusal_text refusal) ∷ []; after = asked }
+reply asked (Err refusal) =
+    record { events = Error (call_texts.refusal_text refusal) ∷ []; after = asked }
 
 abbrev pub frame : Event → List ℕ
 frame e = record_text (event_text e)
@@ -79,7 +84,8 @@ frames es = flat_map frame es
 -- the frames that answer records, one record after another
 unfoldable pub replies : Asked → List (List ℕ) → List ℕ
 replies s [] = []
-replies s (r ∷ rs) = frames (reply s (read_call r)).events ++ replies (reply s (read_call r)).after rs
+replies s (r ∷ rs) =
+    frames (reply s (read_call r)).events ++ replies (reply s (read_call r)).after rs
 
 unfoldable pub after_all : Asked → List (List ℕ) → Asked
 after_all s [] = s
@@ -90,6 +96,9 @@ abbrev pub fault_in : Result Unit FrameFault → Option FrameFault
 fault_in (Ok nothing) = None
 fault_in (Err f) = Some f
 
--- the text is what the records of the input are answered by, in run 1 and without agents, and the fault is what stands behind them
+-- the text is what the records of the input are answered by, in run 1 and without agents,
+-- and the fault is what stands behind them
 abbrev pub IsAnswer : List ℕ → List ℕ → Option FrameFault → Type 0
-IsAnswer input text fault = (records : List (List ℕ)) × (s : Standing) × Reads input records s × (text ≡ replies first_master records) × (fault ≡ fault_in (end_of s))
+IsAnswer input text fault =
+    (records : List (List ℕ)) × (s : Standing) × Reads input records s
+    × (text ≡ replies first_master records) × (fault ≡ fault_in (end_of s))

@@ -46,7 +46,8 @@ fn first_master(alloc: Global) -> Result<Master, Stop>
     }
 }
 
-/// Answers the calls that a reader gives, which it reads by this buffer, by a master that was asked nothing yet.
+/// Answers the calls that a reader gives, which it reads by this buffer,
+/// by a master that was asked nothing yet.
 fn answer_input<R: Read, W: Write>(
     alloc: Global,
     reader: &mut R,
@@ -86,11 +87,13 @@ fn answer_input<R: Read, W: Write>(
     Err(Stop::Device(io::Error::from(ErrorKind::Other)))
 }
 
-/// Answers the calls that a reader gives, in run 1 and without agents, each as soon as its frame is whole: it writes the frames of
-/// all events in order. A call comes on the open stream of its framework, if there is one. A record that is no call, or whose call
-/// is refused, is answered by an ERROR event with the refusal's text. It tells the fault of a frame that ended the input, if any:
-/// `F1 BadSize`, `F2 TooLong`, or `F3 Cut` where the input ends within a frame. `Err` is want of memory in a frame, a call or the
-/// master (`F4`, `J10`, `M5`), or a read or write that failed (`Z2`).
+/// Answers the calls that a reader gives, in run 1 and without agents, each as soon as its frame is
+/// whole: it writes the frames of all events in order. A call comes on the open stream of its
+/// framework, if there is one. A record that is no call, or whose call is refused, is answered by
+/// an ERROR event with the refusal's text. It tells the fault of a frame that ended the input, if
+/// any: `F1 BadSize`, `F2 TooLong`, or `F3 Cut` where the input ends within a frame. `Err` is want
+/// of memory in a frame, a call or the master (`F4`, `J10`, `M5`), or a read or write that failed
+/// (`Z2`).
 pub fn calls<R: Read, W: Write>(
     alloc: Global,
     reader: &mut R,

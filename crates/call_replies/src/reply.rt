@@ -86,7 +86,8 @@ fn error_frame(alloc: Global, message: &str) -> Result<Vec<u8>, Stop>
 
 /// What the master answers to a call.
 fn answer(alloc: Global, master: &mut Master, call: Call) -> Result<Vec<u8>, Stop>
-    ensures { IfOk result (λ text. (text.items ≡ frames (reply master.old (Ok call)).events) × (master.new ≡ (reply master.old (Ok call)).after)) }
+    ensures { IfOk result (λ text. (text.items ≡ frames (reply master.old (Ok call)).events)
+        × (master.new ≡ (reply master.old (Ok call)).after)) }
 {
     let given = stream_given(master, &call);
     match master.call(alloc, given, call) {
@@ -98,7 +99,9 @@ fn answer(alloc: Global, master: &mut Master, call: Call) -> Result<Vec<u8>, Sto
 
 /// What a record is answered by.
 fn reply(alloc: Global, master: &mut Master, body: &[u8]) -> Result<Vec<u8>, Stop>
-    ensures { IfOk result (λ text. (text.items ≡ frames (reply master.old (read_call body.now)).events) × (master.new ≡ (reply master.old (read_call body.now)).after)) }
+    ensures { IfOk result
+        (λ text. (text.items ≡ frames (reply master.old (read_call body.now)).events)
+        × (master.new ≡ (reply master.old (read_call body.now)).after)) }
 {
     match read_call(alloc, body) {
         Ok(call) => answer(alloc, master, call),
@@ -114,9 +117,12 @@ fn answer_one<W: Write>(
     body: &[u8],
     writer: &mut W,
 ) -> Result<(), Stop>
-    ensures ok { OnOk result (Appends (W.contents writer.old) (W.contents writer.new) (frames (reply master.old (read_call body.now)).events)) }
+    ensures ok { OnOk result (Appends (W.contents writer.old) (W.contents writer.new)
+        (frames (reply master.old (read_call body.now)).events)) }
     ensures after { OnOk result (master.new ≡ (reply master.old (read_call body.now)).after) }
-    ensures err { OnErr result (AppendsFront (W.contents writer.old) (W.contents writer.new) (frames (reply master.old (read_call body.now)).events)) }
+    ensures err { OnErr result
+        (AppendsFront (W.contents writer.old) (W.contents writer.new)
+        (frames (reply master.old (read_call body.now)).events)) }
 {
     let text = match reply(alloc, master, body) {
         Ok(text) => text,
@@ -135,9 +141,12 @@ pub fn answer_all<W: Write>(
     records: &[Vec<u8>],
     writer: &mut W,
 ) -> Result<(), Stop>
-    ensures ok { OnOk result (Appends (W.contents writer.old) (W.contents writer.new) (replies master.old (bodies records.now))) }
+    ensures ok { OnOk result (Appends (W.contents writer.old) (W.contents writer.new)
+        (replies master.old (bodies records.now))) }
     ensures after { OnOk result (master.new ≡ after_all master.old (bodies records.now)) }
-    ensures err { OnErr result (AppendsFront (W.contents writer.old) (W.contents writer.new) (replies master.old (bodies records.now))) }
+    ensures err { OnErr result
+        (AppendsFront (W.contents writer.old) (W.contents writer.new)
+        (replies master.old (bodies records.now))) }
 {
     for body in records {
         if let Err(stop) = answer_one(alloc, master, body, writer) {

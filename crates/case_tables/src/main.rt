@@ -1,4 +1,5 @@
-//! Answers the lines of its input: behind the word `named` a call by its name and arguments (`book_cases`), else a kind and a text (`text_cases`).
+//! Answers the lines of its input: behind the word `named` a call by its name and arguments
+//! (`book_cases`), else a kind and a text (`text_cases`).
 #![tactic(auto)]
 
 use book_cases::Cases;

@@ -46,7 +46,6 @@ master_takes c s moment made p q of m agents run tick none = record {
   answers = m.answers;
   ends = m.ends;
   brings = m.brings;
-  gives = m.gives;
   drafts = m.drafts ∙ none;
   stands = record {
     as_agents = agents ∙ of.stands.as_agents ∙ sym (agents_stay c m.done.after m.leaves_parts m.leaves_fallen);
@@ -62,7 +61,6 @@ restart_takes c made p q of m agents tick = record {
   answers = m.answers;
   ends = m.ends;
   brings = m.brings;
-  gives = m.gives;
   drafts = m.drafts;
   stands = record {
     as_agents = agents ∙ of.stands.as_agents ∙ sym (agents_stay c m.done.after m.leaves_parts m.leaves_fallen);
@@ -72,14 +70,13 @@ restart_takes c made p q of m agents tick = record {
   };
 }
 
-pub agent_takes : (c : Cluster) (s : Step) (made : Made) (p q : Parts) → PartsOf c p → Makes c s made.verdict made.outputs q.agents.items q.items → made.given ≡ made.outputs → made.durable ≡ record_of s made.verdict q.agents.items →
+pub agent_takes : (c : Cluster) (s : Step) (made : Made) (p q : Parts) → PartsOf c p → Makes c s made.verdict made.outputs q.agents.items q.items → made.durable ≡ record_of s made.verdict q.agents.items →
     q.master ≡ p.master → q.streams ≡ p.streams → q.run ≡ p.run → q.last_tick ≡ p.last_tick → Takes c s made q
-agent_takes c s made p q of m gives drafts master streams run tick = record {
+agent_takes c s made p q of m drafts master streams run tick = record {
   done = m.done;
   answers = m.answers;
   ends = m.ends;
   brings = m.brings;
-  gives = gives;
   drafts = drafts;
   stands = record {
     as_agents = m.keeps_agents;
@@ -193,18 +190,18 @@ by_take id (Err e) p ts h = tt
 by_take id (Ok made) p ts h = λ c of. master_takes c (Take id) c.last_tick made p (record p { streams = ts }) of (h c p.master p.items of.reached of.stands.as_others) refl refl (sym of.stands.as_moment) refl
 
 pub by_send : (stream : Option Numbered) (call : Call) (r : Result Made ClusterFault) (p : Parts) (js : List Item) →
-    IfOk r (λ made. (c : Cluster) → Reached c → StandIn c p.items → Makes c (Send stream call) made.verdict made.outputs (kept_agents c) js) → IfOk r (λ made. made.given ≡ made.outputs) → IfOk r (λ made. made.durable ≡ None) → AllTake (Send stream call) r p (record p { items = js })
-by_send stream call (Err e) p js h g d = tt
-by_send stream call (Ok made) p js h g d = λ c of.
-    agent_takes c (Send stream call) made p (record p { items = js }) of (subst (λ (xs : List KeptAgent). Makes c (Send stream call) made.verdict made.outputs xs js) (sym of.stands.as_agents) (h c of.reached of.stands.as_others.as_items)) g d refl refl refl refl
+    IfOk r (λ made. (c : Cluster) → Reached c → StandIn c p.items → Makes c (Send stream call) made.verdict made.outputs (kept_agents c) js) → IfOk r (λ made. made.durable ≡ None) → AllTake (Send stream call) r p (record p { items = js })
+by_send stream call (Err e) p js h d = tt
+by_send stream call (Ok made) p js h d = λ c of.
+    agent_takes c (Send stream call) made p (record p { items = js }) of (subst (λ (xs : List KeptAgent). Makes c (Send stream call) made.verdict made.outputs xs js) (sym of.stands.as_agents) (h c of.reached of.stands.as_others.as_items)) d refl refl refl refl
 
 pub by_commit : (name : List ℕ) (r : Result Made ClusterFault) (p q : Parts) (os ns : List KeptAgent) → os ≡ p.agents.items → q.agents.items ≡ ns → q.master ≡ p.master → q.streams ≡ p.streams → q.run ≡ p.run → q.last_tick ≡ p.last_tick →
-    IfOk r (λ made. (c : Cluster) → Reached c → os ≡ kept_agents c → StandIn c p.items → Makes c (Commit name) made.verdict made.outputs ns q.items) → IfOk r (λ made. made.given ≡ made.outputs) → IfOk r (λ made. made.durable ≡ None) → AllTake (Commit name) r p q
-by_commit name (Err e) p q os ns olds news master streams run tick h g d = tt
-by_commit name (Ok made) p q os ns olds news master streams run tick h g d = λ c of.
-    agent_takes c (Commit name) made p q of (subst (λ (xs : List KeptAgent). Makes c (Commit name) made.verdict made.outputs xs q.items) (sym news) (h c of.reached (olds ∙ of.stands.as_agents) of.stands.as_others.as_items)) g d master streams run tick
+    IfOk r (λ made. (c : Cluster) → Reached c → os ≡ kept_agents c → StandIn c p.items → Makes c (Commit name) made.verdict made.outputs ns q.items) → IfOk r (λ made. made.durable ≡ None) → AllTake (Commit name) r p q
+by_commit name (Err e) p q os ns olds news master streams run tick h d = tt
+by_commit name (Ok made) p q os ns olds news master streams run tick h d = λ c of.
+    agent_takes c (Commit name) made p q of (subst (λ (xs : List KeptAgent). Makes c (Commit name) made.verdict made.outputs xs q.items) (sym news) (h c of.reached (olds ∙ of.stands.as_agents) of.stands.as_others.as_items)) d master streams run tick
 
 pub by_agent : (c : Cluster) (s : Step) (made : Made) (p q : Parts) (os ns : List KeptAgent) → PartsOf c p → os ≡ p.agents.items → q.agents.items ≡ ns → q.master ≡ p.master → q.streams ≡ p.streams → q.run ≡ p.run → q.last_tick ≡ p.last_tick →
-    (Reached c → os ≡ kept_agents c → StandIn c p.items → Makes c s made.verdict made.outputs ns q.items) → made.given ≡ made.outputs → made.durable ≡ record_of s made.verdict q.agents.items → Takes c s made q
-by_agent c s made p q os ns of olds news master streams run tick h g d =
-    agent_takes c s made p q of (subst (λ (xs : List KeptAgent). Makes c s made.verdict made.outputs xs q.items) (sym news) (h of.reached (olds ∙ of.stands.as_agents) of.stands.as_others.as_items)) g d master streams run tick
+    (Reached c → os ≡ kept_agents c → StandIn c p.items → Makes c s made.verdict made.outputs ns q.items) → made.durable ≡ record_of s made.verdict q.agents.items → Takes c s made q
+by_agent c s made p q os ns of olds news master streams run tick h d =
+    agent_takes c s made p q of (subst (λ (xs : List KeptAgent). Makes c s made.verdict made.outputs xs q.items) (sym news) (h of.reached (olds ∙ of.stands.as_agents) of.stands.as_others.as_items)) d master streams run tick

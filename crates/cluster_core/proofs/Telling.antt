@@ -171,13 +171,12 @@ keeps_on law items_law s opened p q count before more ways between news step mad
 
 pub takes_on : CountLaw → (s : Story) (q : Parts) (step : Step) (made : Made) → IsLegal s → length s.entries < 4294967294 → Takes (state_of s) (step_of step) made q → IsTaken s step (taken_made step made) (with_entry s (entry_made step made))
 takes_on law s q step made l h t =
-    let given : entry_made step made ≡ (taken_made step made).entry = ap (λ (o : Outputs). record { step = step; verdict = made.verdict; outputs = o }) (sym t.gives) in
     record {
       done = t.done;
       answers = made_marks law s step made q l h t;
-      makes = sym given ∙ rw (t.ends, t.brings) refl;
+      makes = rw (t.ends, t.brings) refl;
       drafts = t.drafts ∙ ap (record_of (step_of step) made.verdict) t.stands.as_agents;
-      tells = ap (with_entry s) given;
+      tells = refl;
     }
 
 pub stays : (s : Story) (opened : Outputs) (p q : Parts) (count more : ℕ) (ways news : ℕ → Option Direction) → IsKept s opened p count ways → Same p q → more ≡ count → ((n : ℕ) → news n ≡ ways n) → IsKept s opened q more news

@@ -30,14 +30,21 @@ abbrev pub entry_made : Step → Made → Entry
 entry_made step made = record { step = step; verdict = made.verdict; outputs = made.outputs }
 
 abbrev pub taken_made : Step → Made → Taken
-taken_made step made = record { entry = record { step = step; verdict = made.verdict; outputs = made.given }; durable = made.durable }
+taken_made step made = record { entry = entry_made step made; durable = made.durable }
 
 -- the story that a history tells
 abbrev pub story_of : History → Story
-story_of h = record { setup = record { run = h.run; weights = h.weights }; records = h.records.items; entries = h.entries.items }
+story_of h =
+    record {
+      setup = record { run = h.run; weights = h.weights };
+      records = h.records.items;
+      entries = h.entries.items;
+    }
 
--- its story is legal, its parts stand for the state in which the story ends, and the post has had all that was sent, each item in its direction
-pub record IsKept (s : Story) (opened : Outputs) (p : Parts) (count : ℕ) (directions : ℕ → Option Direction) : Type 0 where
+-- its story is legal, its parts stand for the state in which the story ends,
+-- and the post has had all that was sent, each item in its direction
+pub record IsKept (s : Story) (opened : Outputs) (p : Parts) (count : ℕ)
+    (directions : ℕ → Option Direction) : Type 0 where
   pub legal : IsLegal s
   pub short : length s.entries < 4294967295
   pub begins : opened ≡ outputs_of (open_cluster s.setup s.records).entry.outs
@@ -46,7 +53,8 @@ pub record IsKept (s : Story) (opened : Outputs) (p : Parts) (count : ℕ) (dire
   pub counted : count ≡ length p.items
   pub put : ArePut 0 p.config p.items directions
 
--- a step was taken: its entry is the one that the model makes of it, and stands behind the others; with a Prepare goes the record of the draft that it opened
+-- a step was taken: its entry is the one that the model makes of it, and stands behind the others;
+-- with a Prepare goes the record of the draft that it opened
 pub record IsTaken (s : Story) (step : Step) (taken : Taken) (new : Story) : Type 0 where
   pub done : Done
   pub answers : step_marked (state_of s) (marked_of taken.entry) ≡ Ok done
@@ -56,11 +64,15 @@ pub record IsTaken (s : Story) (step : Step) (taken : Taken) (new : Story) : Typ
 
 -- the model takes the step, but what it hands out can't be
 abbrev pub WithheldFrom : Cluster → (ℕ → Bool) → model.Step → Type 0
-WithheldFrom c gives step = (n : ℕ) × (d : Done) × (handed step ≡ Some n) × (gives n ≡ false) × (step_marked c (unmarked step) ≡ Ok d)
+WithheldFrom c gives step =
+    (n : ℕ) × (d : Done) × (handed step ≡ Some n) × (gives n ≡ false)
+    × (step_marked c (unmarked step) ≡ Ok d)
 
--- why a step may be refused: memory was, or the model refuses the step so, or what the step hands out is withheld
+-- why a step may be refused: memory was, or the model refuses the step so,
+-- or what the step hands out is withheld
 abbrev pub IsRefused : Cluster → (ℕ → Bool) → model.Step → ClusterFault → Type 0
-IsRefused c gives step NoSuchMail = (step_marked c (unmarked step) ≡ Err model.NoSuchMail) ⊎ WithheldFrom c gives step
+IsRefused c gives step NoSuchMail =
+    (step_marked c (unmarked step) ≡ Err model.NoSuchMail) ⊎ WithheldFrom c gives step
 IsRefused c gives step MasterDown = step_marked c (unmarked step) ≡ Err model.MasterDown
 IsRefused c gives step AgentDown = step_marked c (unmarked step) ≡ Err model.AgentDown
 IsRefused c gives step DraftOpen = step_marked c (unmarked step) ≡ Err model.DraftOpen
@@ -72,7 +84,8 @@ IsRefused c gives step OutOfMemory = ⊤
 
 -- before a step is looked at it is refused where the history is full, or for want of memory
 abbrev pub IsRefusedFirst : Story → ClusterFault → Type 0
-IsRefusedFirst s fault = (fault ≡ OutOfMemory) ⊎ ((fault ≡ HistoryFull) × (4294967294 ≤ length s.entries))
+IsRefusedFirst s fault =
+    (fault ≡ OutOfMemory) ⊎ ((fault ≡ HistoryFull) × (4294967294 ≤ length s.entries))
 
 -- what is known of a cluster: its story, and what it can hand out
 pub record Known (P : Type 0) : Type 0 where
@@ -83,9 +96,13 @@ pub record Known (P : Type 0) : Type 0 where
 abbrev pub sent_since : Story → Story → List Post
 sent_since old new = drop (length (state_of old).posts) (state_of new).posts
 
--- what a post knows behind a step that made one story of another: what the step hands out was handed out, and all that it sent was put, each in its direction
-abbrev pub known_after : {K : Type 0} → (K → ℕ → K) → (K → Direction → K) → Story → model.Step → Story → K → K
-known_after with_given with_put old step new k = fold with_put (with_handed with_given k (handed step)) (map (way_of (map configured old.records)) (sent_since old new))
+-- what a post knows behind a step that made one story of another:
+-- what the step hands out was handed out, and all that it sent was put, each in its direction
+abbrev pub known_after : {K : Type 0} → (K → ℕ → K) → (K → Direction → K) → Story → model.Step
+    → Story → K → K
+known_after with_given with_put old step new k =
+    fold with_put (with_handed with_given k (handed step))
+    (map (way_of (map configured old.records)) (sent_since old new))
 
 -- the sum of an agent's current offers, where a master serves
 abbrev pub offered_in : List ℕ → Master → Option (List Row)

@@ -7,3 +7,4 @@ pub mod Reading
 pub mod Stopping
 pub mod Running
 pub mod Recording
+pub mod Answering

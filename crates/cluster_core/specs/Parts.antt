@@ -55,6 +55,5 @@ pub record Takes (c : Cluster) (step : Step) (made : Made) (p : Parts) : Type 0 
   pub answers : (if fell made.verdict then fallen_answer c step else answer c step) ≡ Ok done
   pub ends : made.verdict ≡ verdict_of done.entry.verdict
   pub brings : made.outputs ≡ outputs_of done.entry.outs
-  pub gives : made.given ≡ made.outputs
   pub drafts : made.durable ≡ record_of step made.verdict p.agents.items
   pub stands : Stands done.after p

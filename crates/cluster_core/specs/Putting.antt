@@ -15,7 +15,8 @@ place_in name agents = position (λ a. bytes_eq a.name name) agents
 abbrev pub place_or_end : List ℕ → List ConfiguredAgent → ℕ
 place_or_end name agents = unwrap_or (place_in name agents) (length agents)
 
--- a call goes to no agent's queue, a mail to an agent to that agent's, and a mail from it to that agent's other one
+-- a call goes to no agent's queue, a mail to an agent to that agent's,
+-- and a mail from it to that agent's other one
 abbrev pub direction_of : List ConfiguredAgent → Item → Direction
 direction_of agents (items.Call stream call) = Call
 direction_of agents (items.ToAgent to) = ToAgent (place_or_end to.agent agents)
@@ -34,16 +35,22 @@ with_handed with_given k (Some n) = with_given k n
 
 -- the item at a place was put in its direction, where the post keeps directions
 abbrev pub IsPut : List ConfiguredAgent → (ℕ → Option Direction) → ℕ → Item → Type 0
-IsPut agents directions place item = IfSome (directions (suc place)) (λ d. d ≡ direction_of agents item)
+IsPut agents directions place item =
+    IfSome (directions (suc place)) (λ d. d ≡ direction_of agents item)
 
 -- so was each item from a place on
 abbrev pub ArePut : ℕ → List ConfiguredAgent → List Item → (ℕ → Option Direction) → Type 0
-ArePut from agents sent directions = (place : ℕ) (item : Item) → from ≤ place → slice_get sent place ≡ Some item → IsPut agents directions place item
+ArePut from agents sent directions =
+    (place : ℕ) (item : Item) → from ≤ place → slice_get sent place ≡ Some item
+    → IsPut agents directions place item
 
 -- of the items behind those that were there before so many were put, and the rest has room
-pub record Puts (agents : List ConfiguredAgent) (sent : List Item) (before done count room : ℕ) (old_gives new_gives : ℕ → Bool) (old_directions new_directions : ℕ → Option Direction) : Type 0 where
+pub record Puts (agents : List ConfiguredAgent) (sent : List Item) (before done count room : ℕ)
+    (old_gives new_gives : ℕ → Bool) (old_directions new_directions : ℕ
+    → Option Direction) : Type 0 where
   pub counts : count ≡ before + done
   pub fits : length sent ≤ (before + done) + room
   pub same : (n : ℕ) → n ≤ before → new_gives n ≡ old_gives n
   pub same_directions : (n : ℕ) → n ≤ before → new_directions n ≡ old_directions n
-  pub put : (place : ℕ) (item : Item) → before ≤ place → place < before + done → slice_get sent place ≡ Some item → IsPut agents new_directions place item
+  pub put : (place : ℕ) (item : Item) → before ≤ place → place < before + done
+      → slice_get sent place ≡ Some item → IsPut agents new_directions place item

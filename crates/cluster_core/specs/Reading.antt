@@ -16,7 +16,8 @@ waiting_in stream c = count_on stream (kept_streams c.streams)
 abbrev pub is_open_in : Numbered → Cluster → Bool
 is_open_in stream c = if c.world.run.serves then is_open stream (Some (master_of c)) else false
 
--- under this number stands a mail to an agent that can be handed out: of the mails to it the first that wasn't
+-- under this number stands a mail to an agent that can be handed out:
+-- of the mails to it the first that wasn't
 pub record IsNextTo (agent : List ℕ) (c : Cluster) (queued : List Item) (number : ℕ) : Type 0 where
   pub place : ℕ
   pub is : post_at c number ≡ Some (Down agent place)
@@ -24,14 +25,19 @@ pub record IsNextTo (agent : List ℕ) (c : Cluster) (queued : List Item) (numbe
 
 -- no mail to an agent can be handed out
 abbrev pub NoneTo : List ℕ → Cluster → List Item → Type 0
-NoneTo agent c queued = (number place : ℕ) → post_at c number ≡ Some (Down agent place) → hands_out queued number ≡ false
+NoneTo agent c queued =
+    (number place : ℕ) → post_at c number ≡ Some (Down agent place)
+    → hands_out queued number ≡ false
 
--- under this number stands a mail from an agent that can be handed out: of the mails from it the first that wasn't
-pub record IsNextFrom (agent : List ℕ) (c : Cluster) (queued : List Item) (number : ℕ) : Type 0 where
+-- under this number stands a mail from an agent that can be handed out:
+-- of the mails from it the first that wasn't
+pub record IsNextFrom (agent : List ℕ) (c : Cluster) (queued : List Item)
+    (number : ℕ) : Type 0 where
   pub place : ℕ
   pub is : post_at c number ≡ Some (Up agent place)
   pub waits : hands_out queued number ≡ true
 
 -- no mail from an agent can be handed out
 abbrev pub NoneFrom : List ℕ → Cluster → List Item → Type 0
-NoneFrom agent c queued = (number place : ℕ) → post_at c number ≡ Some (Up agent place) → hands_out queued number ≡ false
+NoneFrom agent c queued =
+    (number place : ℕ) → post_at c number ≡ Some (Up agent place) → hands_out queued number ≡ false

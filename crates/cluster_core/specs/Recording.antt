@@ -1,6 +1,7 @@
 -- A cluster as what is recorded.
 use Rattle.std.specs.Prelude.{◌≡◌, length}
 use Rattle.std.proofs.Common.{refl}
+use Rattle.cluster_steps.specs.declared.entry.Entry.{Entry}
 use Rattle.cluster_steps.specs.declared.fault.ClusterFault.{ClusterFault}
 use Rattle.cluster_steps.specs.declared.fault.ClusterFault.TheVariants as faults
 use Rattle.cluster_steps.specs.declared.step.Step.{Step}
@@ -28,11 +29,14 @@ pub record IsSound (c : Recorded) : Type 0 where
   pub legal : IsLegal c.story
   pub safe : Safe c.story
 
--- a step was taken: what it hands out was its queue's first, and isn't handed out again; what it sends has the numbers behind those of all that was sent before
-pub record Takes (old : Recorded) (step : Step) (given : Given) (new : Recorded) : Type 0 where
-  pub taken : IsTaken old.story step given.taken new.story
+-- a step was taken: what it hands out was its queue's first, and isn't handed out again;
+-- what it sends has the numbers behind those of all that was sent before
+pub record Takes (old : Recorded) (step : Step) (entry : Entry) (given : Given)
+    (new : Recorded) : Type 0 where
+  pub taken : IsTaken old.story step (record { entry = entry; durable = given.durable }) new.story
   pub handed : IsGiven (hands_out old.post.items) (step_of step)
-  pub posted : new.post.items ≡ known_after with_given with_put old.story (step_of step) new.story old.post.items
+  pub posted : new.post.items ≡ known_after with_given with_put old.story (step_of step) new.story
+      old.post.items
   pub numbered : given.sent_before ≡ length (state_of old.story).posts
 
 -- why it refuses a step

@@ -13,12 +13,15 @@ marked_as fell step = record { fell = fell; step = step }
 -- a story went on by a step, or stayed where it is refused
 pub record Passes (s : Story) (step : model.Step) (new : Story) : Type 0 where
   pub fell : Bool
-  pub goes_on : history_of new ≡ extended (history_of s) (step_marked (state_of s) (marked_as fell step))
+  pub goes_on : history_of new ≡ extended (history_of s)
+      (step_marked (state_of s) (marked_as fell step))
   pub same_setup : new.setup ≡ s.setup
   pub same_records : new.records ≡ s.records
 
--- a story that was opened so over these records, whose history is that of the steps, each with a mark
-pub record Ran (setup : Setup) (records : List Durable) (steps : List Step) (s : Story) : Type 0 where
+-- a story that was opened so over these records,
+-- whose history is that of the steps, each with a mark
+pub record Ran (setup : Setup) (records : List Durable) (steps : List Step)
+    (s : Story) : Type 0 where
   pub marks : List Marked
   pub of_steps : map (λ m. m.step) marks ≡ map step_of steps
   pub opened : s.setup ≡ setup

@@ -34,22 +34,29 @@ IsKeyIn s framework key = IsKeyOf framework key (jobs_of (trail_of s) ++ recorde
 
 -- what the framework has acknowledged of the key is a beginning of the updates of its task
 abbrev pub AcknowledgesInOrder : Story → Numbered → Numbered → Type 0
-AcknowledgesInOrder s framework key = IsBeginningOf (updates_of key (history_of s).happenings (open_world s.setup.run s.records)) (acknowledged_by s.records framework key (state_of s).posts)
+AcknowledgesInOrder s framework key =
+    IsBeginningOf (updates_of key (history_of s).happenings (open_world s.setup.run s.records))
+    (acknowledged_by s.records framework key (state_of s).posts)
 
--- of all that was ever offered and launched, also of tasks that have left their records: no offer id and no launch key is given out twice, each use of
--- offers is covered by offers that were made before and that no use before it used, and the offers and the uses are those of the entries
+-- of all that was ever offered and launched, also of tasks that have left their records: no offer
+-- id and no launch key is given out twice, each use of offers is covered by offers that were made
+-- before and that no use before it used, and the offers and the uses are those of the entries
 pub record KeepsTrail (s : Story) : Type 0 where
   pub covered : HasOrigin s.records (state_of s).world (trail_of s)
   pub traced : Traced (moments_of s) (trail_of s)
 
--- on every agent current offers and live tasks fit what it owns; each task was launched by exactly one entry, which delivered an ACCEPT of its framework, out
--- of offers that older entries told and that no other entry uses, or it stood in a record; each update counts as acknowledged by the task's own framework
--- alone, also the last one, whose Ack takes the task out of its record; an honest framework acknowledges in order; and no agent ever lacked room
+-- on every agent current offers and live tasks fit what it owns; each task was launched by exactly
+-- one entry, which delivered an ACCEPT of its framework, out of offers that older entries told and
+-- that no other entry uses, or it stood in a record; each update counts as acknowledged by the
+-- task's own framework alone, also the last one, whose Ack takes the task out of its record; an
+-- honest framework acknowledges in order; and no agent ever lacked room
 pub record Safe (s : Story) : Type 0 where
   pub fits : AllFit (state_of s).world
   pub origin : Origin s.records (state_of s).world (moments_of s)
   pub trail : KeepsTrail s
   pub acknowledged : AcknowledgedByOwner s.records (state_of s).world (state_of s).posts
-  pub acks : AcksAreOwners s.records (jobs_of (trail_of s) ++ recorded_jobs s.records) (state_of s).world (state_of s).posts
-  pub in_order : (framework key : Numbered) → IsHonest framework s → IsKeyIn s framework key → AcknowledgesInOrder s framework key
+  pub acks : AcksAreOwners s.records (jobs_of (trail_of s) ++ recorded_jobs s.records)
+      (state_of s).world (state_of s).posts
+  pub in_order : (framework key : Numbered) → IsHonest framework s → IsKeyIn s framework key
+      → AcknowledgesInOrder s framework key
   pub room : NeverLacksRoom (history_of s)

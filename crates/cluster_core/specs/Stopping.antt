@@ -18,7 +18,9 @@ pub record AreFound (c : Cluster) (found : List Durable) : Type 0 where
 
 -- each agent is configured to own at least what a record of its name says
 abbrev pub AreCovered : List ConfiguredAgent → List Durable → Type 0
-AreCovered agents records = (a : ConfiguredAgent) (d : Durable) → Contains agents a → Contains records d → a.name ≡ d.name → AtLeast a.total d.total
+AreCovered agents records =
+    (a : ConfiguredAgent) (d : Durable) → Contains agents a → Contains records d → a.name ≡ d.name
+    → AtLeast a.total d.total
 
 -- the live tasks of each agent
 abbrev pub live_in : Cluster → List (List RecordedTask)

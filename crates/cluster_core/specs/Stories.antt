@@ -1,4 +1,5 @@
--- A cluster's story: how it was opened, and every entry since. What holds of it is a function of the story.
+-- A cluster's story: how it was opened, and every entry since.
+-- What holds of it is a function of the story.
 use Rattle.std.specs.Prelude.{◌≡◌, List, [], ◌∷◌, ◌++◌, map, Ok}
 use Rattle.mails.specs.declared.record.Durable.{Durable}
 use Rattle.agent_sides.specs.declared.config.ConfiguredAgent.{ConfiguredAgent}
@@ -17,7 +18,8 @@ pub record Story : Type 0 where
 
 -- the story of a cluster of these agents that was opened so over records
 abbrev pub opened_over : Setup → List ConfiguredAgent → List Durable → Story
-opened_over setup agents records = record { setup = setup; records = in_order agents records; entries = [] }
+opened_over setup agents records =
+    record { setup = setup; records = in_order agents records; entries = [] }
 
 abbrev pub history_of : Story → History
 history_of s = history s.setup s.records (map marked_of s.entries)
@@ -28,10 +30,13 @@ state_of s = (history_of s).state
 abbrev pub with_entry : Story → Entry → Story
 with_entry s e = record { setup = s.setup; records = s.records; entries = s.entries ++ e ∷ [] }
 
--- each entry is a legal step: the one that the model makes of its step, with its mark as the only free choice
+-- each entry is a legal step: the one that the model makes of its step,
+-- with its mark as the only free choice
 abbrev pub Legal : Cluster → List Entry → Cluster → Type 0
 Legal c [] new = new ≡ c
-Legal c (e ∷ es) new = (d : Done) × (step_marked c (marked_of e) ≡ Ok d) × (e ≡ entry_of e.step d.entry) × Legal d.after es new
+Legal c (e ∷ es) new =
+    (d : Done) × (step_marked c (marked_of e) ≡ Ok d) × (e ≡ entry_of e.step d.entry)
+    × Legal d.after es new
 
 -- a story from a good opening, whose entries are legal
 pub record IsLegal (s : Story) : Type 0 where

@@ -8,12 +8,13 @@ ghost use Rattle.cluster_parts.specs.Handing.{IsGiven, handed};
 ghost use Rattle.cluster_steps.specs.Steps.{step_of};
 
 use crate::parts::Parts;
-use crate::taken::{History, Taken};
+use crate::taken::{History, KeptEntry, Taken};
 use agent_sides::ConfiguredAgent;
 use cluster_laws::{Item, sent_items_stand, states_count_entries, weights_stay};
 use cluster_parts::Made;
 use cluster_steps::{ClusterFault, Entry, Step, StepCause};
 use names_core::AgentName;
+use permanent_value::Place;
 use plain_data::Plain;
 use post_rules::{Direction, Post};
 use std::alloc::Global;
@@ -55,10 +56,13 @@ pub fn put_all<P: Post>(post: &mut P, agents: &[ConfiguredAgent], items: &[Item]
     requires within { before ≤ length items.now }
     requires room { length items.now ≤ before + P.room post.old }
     ensures count { P.count (P.known post.new) ≡ length items.now }
-    ensures gives { (n : ℕ) → n ≤ before → P.gives (P.known post.new) n ≡ P.gives (P.known post.old) n }
-    ensures directions { (n : ℕ) → n ≤ before → P.direction_at (P.known post.new) n ≡ P.direction_at (P.known post.old) n }
+    ensures gives { (n : ℕ) → n ≤ before → P.gives (P.known post.new) n
+        ≡ P.gives (P.known post.old) n }
+    ensures directions { (n : ℕ) → n ≤ before
+        → P.direction_at (P.known post.new) n ≡ P.direction_at (P.known post.old) n }
     ensures put { ArePut before agents.now items.now (P.direction_at (P.known post.new)) }
-    ensures known { P.known post.new ≡ fold P.with_put (P.known post.old) (map (direction_of agents.now) (drop before items.now)) }
+    ensures known { P.known post.new ≡ fold P.with_put (P.known post.old)
+        (map (direction_of agents.now) (drop before items.now)) }
 {
     let sent = &items[before..];
     for item in sent {
@@ -87,9 +91,13 @@ fn hand_on<P: Post>(post: &mut P, parts: &Parts, before: usize, step: &Step)
     requires room { length parts.now.items ≤ before + P.room post.old }
     requires given { IsGiven (P.gives (P.known post.old)) (step_of step.now) }
     ensures count { P.count (P.known post.new) ≡ length parts.now.items }
-    ensures directions { (n : ℕ) → n ≤ before → P.direction_at (P.known post.new) n ≡ P.direction_at (P.known post.old) n }
-    ensures put { ArePut before parts.now.config parts.now.items (P.direction_at (P.known post.new)) }
-    ensures known { P.known post.new ≡ fold P.with_put (with_handed P.with_given (P.known post.old) (handed (step_of step.now))) (map (direction_of parts.now.config) (drop before parts.now.items)) }
+    ensures directions { (n : ℕ) → n ≤ before
+        → P.direction_at (P.known post.new) n ≡ P.direction_at (P.known post.old) n }
+    ensures put { ArePut before parts.now.config parts.now.items
+        (P.direction_at (P.known post.new)) }
+    ensures known { P.known post.new ≡ fold P.with_put
+        (with_handed P.with_given (P.known post.old) (handed (step_of step.now)))
+        (map (direction_of parts.now.config) (drop before parts.now.items)) }
 {
     if let Some(number) = handed(step) {
         post.given(number);
@@ -97,9 +105,9 @@ fn hand_on<P: Post>(post: &mut P, parts: &Parts, before: usize, step: &Step)
     put_all(post, parts.config.agents(), parts.items.as_slice(), before);
 }
 
-/// Makes room for an entry more, and gives a copy of its step. C6 where the history is full, C9 for want of memory.
-fn make_room(history: &mut History, step: &Step) -> Result<Step, ClusterFault>
-    ensures copy { IfOk result (λ copy. copy ≡ step.now) }
+/// Makes room for an entry more, in the history and on the heap.
+/// C6 where the history is full, C9 for want of memory.
+fn make_room(alloc: Global, history: &mut History) -> Result<Place<Entry>, ClusterFault>
     ensures room { OnOk result (vec_len history.new.entries < vec_capacity history.new.entries) }
     ensures within { OnOk result (length history.old.entries.items < 4294967294) }
     ensures story { story_of history.new ≡ story_of history.old }
@@ -110,34 +118,31 @@ fn make_room(history: &mut History, step: &Step) -> Result<Step, ClusterFault>
         return Err(ClusterFault::HistoryFull);
     }
     history.entries.reserve(1)?;
-    Ok(step.copy()?)
+    Ok(Place::new(alloc)?)
 }
 
-/// Writes an entry down, for which there is room, and gives it.
-fn write_down(history: &mut History, step: Step, copy: Step, made: Made) -> Taken
+/// Writes an entry down, for which there is room, and gives it. It takes no memory.
+fn write_down(history: &mut History, place: Place<Entry>, step: Step, made: Made) -> Taken
     requires room { vec_len history.old.entries < vec_capacity history.old.entries }
-    requires copy { copy ≡ step }
     ensures told { story_of history.new ≡ with_entry (story_of history.old) (entry_made step made) }
     ensures opened { history.new.opened ≡ history.old.opened }
     ensures taken { result ≡ taken_made step made }
 {
-    history.entries.push_reserved(Entry {
+    let made_entry = Entry {
         step,
         verdict: made.verdict,
         outputs: made.outputs,
-    });
+    };
+    let entry = KeptEntry::new(place, made_entry);
+    history.entries.push_reserved(entry.share());
     Taken {
-        entry: Entry {
-            step: copy,
-            verdict: made.verdict,
-            outputs: made.given,
-        },
+        entry,
         durable: made.durable,
     }
 }
 
-/// Takes a step, for whose entry there is room first. Of several refusals the first is given in the order C6, C8, C2, C3, C4, C5, C1, C7;
-/// C9 may come before any but C6.
+/// Takes a step, for whose entry there is room first. Of several refusals the first is given in the
+/// order C6, C8, C2, C3, C4, C5, C1, C7; C9 may come before any but C6.
 pub fn advance<P: Post>(
     history: &mut History,
     parts: &mut Parts,
@@ -145,24 +150,30 @@ pub fn advance<P: Post>(
     alloc: Global,
     step: Step,
 ) -> Result<Taken, ClusterFault>
-    requires { IsKept (story_of history.old) history.old.opened parts.old (P.count (P.known post.old)) (P.direction_at (P.known post.old)) }
-    ensures kept { IsKept (story_of history.new) history.new.opened parts.new (P.count (P.known post.new)) (P.direction_at (P.known post.new)) }
-    ensures taken { IfOk result (λ taken. IsTaken (story_of history.old) step taken (story_of history.new)) }
+    requires { IsKept (story_of history.old) history.old.opened parts.old
+        (P.count (P.known post.old)) (P.direction_at (P.known post.old)) }
+    ensures kept { IsKept (story_of history.new) history.new.opened parts.new
+        (P.count (P.known post.new)) (P.direction_at (P.known post.new)) }
+    ensures taken { IfOk result
+        (λ taken. IsTaken (story_of history.old) step taken (story_of history.new)) }
     ensures given { IfOk result (λ _. IsGiven (P.gives (P.known post.old)) (step_of step)) }
-    ensures known { OnOk result (P.known post.new ≡ known_after P.with_given P.with_put (story_of history.old) (step_of step) (story_of history.new) (P.known post.old)) }
-    ensures refused { IfErr result (IsRefused (state_of (story_of history.old)) (P.gives (P.known post.old)) (step_of step)) }
+    ensures known { OnOk result (P.known post.new
+        ≡ known_after P.with_given P.with_put (story_of history.old) (step_of step)
+        (story_of history.new) (P.known post.old)) }
+    ensures refused { IfErr result
+        (IsRefused (state_of (story_of history.old)) (P.gives (P.known post.old)) (step_of step)) }
     ensures unchanged { OnErr result (story_of history.new ≡ story_of history.old) }
     ensures post { OnErr result (P.known post.new ≡ P.known post.old) }
 {
     sent_items_stand();
     states_count_entries();
     weights_stay();
-    let copy = make_room(history, &step)?;
+    let place = make_room(alloc, history)?;
     let before = parts.items.as_slice().len();
     match parts.take_step(post, alloc, &history.weights, &step) {
         Ok(made) => {
             hand_on(post, parts, before, &step);
-            Ok(write_down(history, step, copy, made))
+            Ok(write_down(history, place, step, made))
         }
         Err(fault) => Err(fault),
     }

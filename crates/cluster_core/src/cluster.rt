@@ -26,11 +26,11 @@ use crate::advancing::{advance, put_all};
 use crate::parts::Parts;
 use crate::safety::stories_are_safe;
 use crate::stopping::stopped_stories_open_again;
-use crate::taken::{History, Taken};
+use crate::taken::{History, KeptEntry, Taken};
 use agent_core::Record;
 use cluster_openings::{put_in_order, records_are_recorded};
 use cluster_parts::{ClusterAgent, open_parts};
-use cluster_steps::{ClusterFault, Entry, Outputs, Step};
+use cluster_steps::{ClusterFault, Outputs, Step};
 use master_core::Config;
 use names_core::{AgentName, Run};
 use post_rules::Post;
@@ -39,7 +39,8 @@ use role_weights::Weights;
 use std::alloc::Global;
 use std::marker::Model;
 
-/// A master and its agents under one history, whose every entry is a legal step. What is sent is handed out as the post allows.
+/// A master and its agents under one history, whose every entry is a legal step.
+/// What is sent is handed out as the post allows.
 #[derive(Drop)]
 pub struct Cluster<P: Post + Drop> {
     history: History,
@@ -58,8 +59,10 @@ impl<P: Post + Drop> Model for Cluster<P> {
 }
 
 impl<P: Post + Drop> Cluster<P> {
-    /// The cluster of configured agents, whose totals cover those of their records, that come up over these, given in any order, whose first master begins this run and greets
-    /// each in the order of their names. Its rounds of offers go by these weights of roles. Of the faults there is `C9 OutOfMemory` alone.
+    /// The cluster of configured agents, whose totals cover those of their records, that come up
+    /// over these, given in any order, whose first master begins this run and greets each in the
+    /// order of their names. Its rounds of offers go by these weights of roles. Of the faults there
+    /// is `C9 OutOfMemory` alone.
     pub fn open(
         alloc: Global,
         config: Config,
@@ -99,14 +102,19 @@ impl<P: Post + Drop> Cluster<P> {
         })
     }
 
-    /// Takes a step: its entry stands in the history and is given. A step that is refused is no entry, and changes nothing. Of several
-    /// refusals the first is given in the order C6, C8, C2, C3, C4, C5, C1, C7; C9, for want of memory, may come before any but C6. A part that
-    /// runs out of memory in mid-step is down, and the entry says so.
+    /// Takes a step: its entry stands in the history and is given. A step that is refused is no
+    /// entry, and changes nothing. Of several refusals the first is given in the order C6, C8, C2,
+    /// C3, C4, C5, C1, C7; C9, for want of memory, may come before any but C6. A part that runs out
+    /// of memory in mid-step is down, and the entry says so.
     pub fn step(&mut self, alloc: Global, step: Step) -> Result<Taken, ClusterFault>
         ensures taken { IfOk result (λ taken. IsTaken self.old.story step taken self.new.story) }
-        ensures given { IfOk result (λ _. IsGiven (P.gives (P.known self.old.post)) (step_of step)) }
-        ensures post { OnOk result (P.known self.new.post ≡ known_after P.with_given P.with_put self.old.story (step_of step) self.new.story (P.known self.old.post)) }
-        ensures refused { IfErr result (IsRefused (state_of self.old.story) (P.gives (P.known self.old.post)) (step_of step)) }
+        ensures given { IfOk result
+            (λ _. IsGiven (P.gives (P.known self.old.post)) (step_of step)) }
+        ensures post { OnOk result (P.known self.new.post
+            ≡ known_after P.with_given P.with_put self.old.story (step_of step) self.new.story
+            (P.known self.old.post)) }
+        ensures refused { IfErr result
+            (IsRefused (state_of self.old.story) (P.gives (P.known self.old.post)) (step_of step)) }
         ensures unchanged { OnErr result (self.new.story ≡ self.old.story) }
         ensures kept { OnErr result (P.known self.new.post ≡ P.known self.old.post) }
         ensures safe { Safe self.new.story }
@@ -137,12 +145,17 @@ impl<P: Post + Drop> Cluster<P> {
         let _ = &self.history;
     }
 
-    /// Let each agent's record, or that of its open draft, be found after a stop. Then its agents may be opened over these records, whatever
-    /// their order, in any run above the last of this cluster, by any configuration of them whose totals cover those of the records, and the
-    /// live tasks of each agent are those of its record.
+    /// Let each agent's record, or that of its open draft, be found after a stop. Then its agents
+    /// may be opened over these records, whatever their order, in any run above the last of this
+    /// cluster, by any configuration of them whose totals cover those of the records, and the live
+    /// tasks of each agent are those of its record.
     pub fn found_records_open(&self)
-        ensures good { (later : ℕ) (found : List Record) → (state_of self.now.story).world.run.number < later → AreFound (state_of self.now.story) found → GoodOpening later found }
-        ensures records { (agents : List ConfiguredAgent) (found : List Record) → AreAgentsOf agents self.now.story.records → AreCovered agents found → AreFound (state_of self.now.story) found → AreRecordsOf agents found }
+        ensures good { (later : ℕ) (found : List Record)
+            → (state_of self.now.story).world.run.number < later
+            → AreFound (state_of self.now.story) found → GoodOpening later found }
+        ensures records { (agents : List ConfiguredAgent) (found : List Record)
+            → AreAgentsOf agents self.now.story.records → AreCovered agents found
+            → AreFound (state_of self.now.story) found → AreRecordsOf agents found }
         ensures live { (later : Setup) (agents : List ConfiguredAgent) (found : List Record) → AreAgentsOf agents self.now.story.records →
             (state_of self.now.story).world.run.number < later.run →
             (f : AreFound (state_of self.now.story) found) → live_in (state_of (opened_over later agents found)) ≡ live_of f.by_agent }
@@ -160,13 +173,15 @@ impl<P: Post + Drop> Cluster<P> {
 
     /// A post that hands out all that was put withholds nothing that the model would hand out.
     pub fn withholds_nothing(&self)
-        ensures { (gives : ℕ → Bool) (step : model.Step) → ((n : ℕ) → 0 < n → n ≤ P.count (P.known self.now.post) → gives n ≡ true) → WithheldFrom (state_of self.now.story) gives step → ⊥ }
+        ensures { (gives : ℕ → Bool) (step : model.Step)
+            → ((n : ℕ) → 0 < n → n ≤ P.count (P.known self.now.post) → gives n ≡ true)
+            → WithheldFrom (state_of self.now.story) gives step → ⊥ }
     {
         self.has_all_sent();
     }
 
     /// The entries since the opening, the oldest first.
-    pub fn history(&self) -> &[Entry]
+    pub fn history(&self) -> &[KeptEntry]
         ensures { result.now ≡ self.now.story.entries }
     {
         self.history.entries.as_slice()
@@ -189,21 +204,24 @@ impl<P: Post + Drop> Cluster<P> {
 
     /// The record of the agent at a place, in the order of the configuration.
     pub fn durable_at(&self, place: usize) -> Option<&Record>
-        ensures { option_map (λ d. d.now) result ≡ option_map recorded (slice_get (kept_agents (state_of self.now.story)) place) }
+        ensures { option_map (λ d. d.now) result
+            ≡ option_map recorded (slice_get (kept_agents (state_of self.now.story)) place) }
     {
         Some(self.parts.agents.get(place)?.durable())
     }
 
     /// The record of the agent of a name.
     pub fn durable(&self, name: &AgentName) -> Option<&Record>
-        ensures { option_map (λ d. d.now) result ≡ recorded_in (agent_in name.now (kept_agents (state_of self.now.story))) }
+        ensures { option_map (λ d. d.now) result
+            ≡ recorded_in (agent_in name.now (kept_agents (state_of self.now.story))) }
     {
         Some(agent_of(self.parts.agents.as_slice(), name)?.durable())
     }
 
     /// Whether the agent of a name has an open session.
     pub fn is_in_session(&self, name: &AgentName) -> bool
-        ensures { result ≡ is_in_session_in (agent_in name.now (kept_agents (state_of self.now.story))) }
+        ensures { result ≡ is_in_session_in
+            (agent_in name.now (kept_agents (state_of self.now.story))) }
     {
         match agent_of(self.parts.agents.as_slice(), name) {
             Some(agent) => agent.is_in_session(),
@@ -213,7 +231,8 @@ impl<P: Post + Drop> Cluster<P> {
 
     /// The record of the open draft of the agent of a name.
     pub fn draft(&self, name: &AgentName) -> Option<&Record>
-        ensures { option_map (λ d. d.now) result ≡ drafted_in (agent_in name.now (kept_agents (state_of self.now.story))) }
+        ensures { option_map (λ d. d.now) result
+            ≡ drafted_in (agent_in name.now (kept_agents (state_of self.now.story))) }
     {
         Some(
             agent_of(self.parts.agents.as_slice(), name)?
@@ -222,13 +241,15 @@ impl<P: Post + Drop> Cluster<P> {
         )
     }
 
-    /// The sum of the current offers on the agent of a name; none where no master serves. Of the faults there is `C9 OutOfMemory` alone.
+    /// The sum of the current offers on the agent of a name; none where no master serves.
+    /// Of the faults there is `C9 OutOfMemory` alone.
     pub fn offered_on(
         &self,
         alloc: Global,
         name: &AgentName,
     ) -> Result<Option<Resources>, ClusterFault>
-        ensures sum { IfOk result (λ sum. sum ≡ offered_in name.now (master_of (state_of self.now.story))) }
+        ensures sum { IfOk result
+            (λ sum. sum ≡ offered_in name.now (master_of (state_of self.now.story))) }
         ensures memory { IfErr result (λ fault. fault ≡ OutOfMemory) }
     {
         match &self.parts.master {

@@ -1,11 +1,14 @@
-//! What is given of a step.
+//! What is given of a step with its entry.
 
-use crate::taken::Taken;
+use agent_core::Record;
 
-/// A step that was taken.
+/// What goes with the entry of a step that was taken.
 #[derive(Drop)]
 pub struct Given {
-    pub taken: Taken,
-    /// How many calls and mails were sent before it: those that it sent have the numbers after this one, in order.
+    /// The record of the draft that a Prepare opened;
+    /// it is to be saved before the draft is committed.
+    pub durable: Option<Record>,
+    /// How many calls and mails were sent before the step:
+    /// those that it sent have the numbers after this one, in order.
     pub sent_before: usize,
 }

@@ -1,5 +1,6 @@
-//! A cluster: one master and its agents under one history. Each entry of the history is a legal step of the model, whatever calls, deliveries, losses,
-//! repeats, reorderings and restarts it is given, and so the cluster is safe.
+//! A cluster: one master and its agents under one history. Each entry of the history is a legal
+//! step of the model, whatever calls, deliveries, losses, repeats, reorderings and restarts it is
+//! given, and so the cluster is safe.
 #![tactic(auto)]
 
 mod advancing;
@@ -18,7 +19,7 @@ pub use cluster::Cluster;
 pub use cluster_openings::{fresh_agents_open, fresh_records, good_opening};
 pub use cluster_steps::{ClusterFault, Entry, Keep, Outputs, Sent, Step, StepCause, Verdict};
 pub use given::Given;
-pub use groups::{agent_group, stream_group};
+pub use groups::Awaited;
 pub use recorded::RecordedCluster;
 pub use running::{open_fresh, run};
-pub use taken::Taken;
+pub use taken::{KeptEntry, Taken};

@@ -18,6 +18,7 @@ use names_core::{AgentName, Run, StreamId};
 use plain_data::Plain;
 use post_rules::Post;
 use role_weights::Weights;
+use shared_value::Shared;
 use std::alloc::Global;
 use told_streams::Streams;
 
@@ -44,18 +45,20 @@ impl Parts {
         post: &mut P,
         alloc: Global,
         stream: Option<StreamId>,
-        call: &Call,
+        call: &Shared<Call>,
     ) -> Result<Made, ClusterFault>
         requires { AreParts self.old }
-        ensures made { IfOk result (λ made. (c : Cluster) → PartsOf c self.old → Takes c (Send stream call.now) made self.new) }
-        ensures refused { IfErr result (λ fault. (c : Cluster) → PartsOf c self.old → Refuses c (Send stream call.now) fault) }
+        ensures made { IfOk result (λ made. (c : Cluster) → PartsOf c self.old
+            → Takes c (Send stream call.now) made self.new) }
+        ensures refused { IfErr result (λ fault. (c : Cluster) → PartsOf c self.old
+            → Refuses c (Send stream call.now) fault) }
         ensures unchanged { OnErr result (Same self.old self.new) }
         ensures config { self.new.config ≡ self.old.config }
         ensures post { P.known post.new ≡ P.known post.old }
         ensures room { Grows (length self.old.items) (length self.new.items) (P.room post.new) }
     {
-        let copy = call.copy()?;
-        cluster_parts::send(&mut self.items, post, alloc, stream, copy)
+        let shared = call.share()?;
+        cluster_parts::send(&mut self.items, post, alloc, stream, shared)
     }
 
     /// What was sent under a number comes to the master, if the post can hand it out.
@@ -66,8 +69,10 @@ impl Parts {
         number: u64,
     ) -> Result<Made, ClusterFault>
         requires { AreParts self.old }
-        ensures made { IfOk result (λ made. (c : Cluster) → PartsOf c self.old → Takes c (Deliver number) made self.new) }
-        ensures refused { IfErr result (λ fault. (c : Cluster) → PartsOf c self.old → MayRefuse c (P.gives (P.known post.old)) (Deliver number) fault) }
+        ensures made { IfOk result (λ made. (c : Cluster) → PartsOf c self.old
+            → Takes c (Deliver number) made self.new) }
+        ensures refused { IfErr result (λ fault. (c : Cluster) → PartsOf c self.old
+            → MayRefuse c (P.gives (P.known post.old)) (Deliver number) fault) }
         ensures unchanged { OnErr result (Same self.old self.new) }
         ensures config { self.new.config ≡ self.old.config }
         ensures post { P.known post.new ≡ P.known post.old }
@@ -101,7 +106,8 @@ impl Parts {
         requires { ArePartsBy weights.now self.old }
         ensures made { IfOk result (λ made. (c : Cluster) → PartsOf c self.old →
             c.weights ≡ weights.now → Takes c Allocate made self.new) }
-        ensures refused { IfErr result (λ fault. (c : Cluster) → PartsOf c self.old → Refuses c Allocate fault) }
+        ensures refused { IfErr result (λ fault. (c : Cluster) → PartsOf c self.old
+            → Refuses c Allocate fault) }
         ensures unchanged { OnErr result (Same self.old self.new) }
         ensures config { self.new.config ≡ self.old.config }
         ensures post { P.known post.new ≡ P.known post.old }
@@ -120,8 +126,10 @@ impl Parts {
     /// The master's moment is this one.
     fn tick<P: Post>(&mut self, post: &mut P, alloc: Global, now: u32) -> Result<Made, ClusterFault>
         requires { AreParts self.old }
-        ensures made { IfOk result (λ made. (c : Cluster) → PartsOf c self.old → Takes c (Tick now) made self.new) }
-        ensures refused { IfErr result (λ fault. (c : Cluster) → PartsOf c self.old → Refuses c (Tick now) fault) }
+        ensures made { IfOk result (λ made. (c : Cluster) → PartsOf c self.old
+            → Takes c (Tick now) made self.new) }
+        ensures refused { IfErr result (λ fault. (c : Cluster) → PartsOf c self.old
+            → Refuses c (Tick now) fault) }
         ensures unchanged { OnErr result (Same self.old self.new) }
         ensures config { self.new.config ≡ self.old.config }
         ensures post { P.known post.new ≡ P.known post.old }
@@ -150,8 +158,10 @@ impl Parts {
         name: &AgentName,
     ) -> Result<Made, ClusterFault>
         requires { AreParts self.old }
-        ensures made { IfOk result (λ made. (c : Cluster) → PartsOf c self.old → Takes c (LoseAgent name.now) made self.new) }
-        ensures refused { IfErr result (λ fault. (c : Cluster) → PartsOf c self.old → Refuses c (LoseAgent name.now) fault) }
+        ensures made { IfOk result (λ made. (c : Cluster) → PartsOf c self.old
+            → Takes c (LoseAgent name.now) made self.new) }
+        ensures refused { IfErr result (λ fault. (c : Cluster) → PartsOf c self.old
+            → Refuses c (LoseAgent name.now) fault) }
         ensures unchanged { OnErr result (Same self.old self.new) }
         ensures config { self.new.config ≡ self.old.config }
         ensures post { P.known post.new ≡ P.known post.old }
@@ -178,8 +188,10 @@ impl Parts {
         stream: StreamId,
     ) -> Result<Made, ClusterFault>
         requires { AreParts self.old }
-        ensures made { IfOk result (λ made. (c : Cluster) → PartsOf c self.old → Takes c (HangUp stream) made self.new) }
-        ensures refused { IfErr result (λ fault. (c : Cluster) → PartsOf c self.old → Refuses c (HangUp stream) fault) }
+        ensures made { IfOk result (λ made. (c : Cluster) → PartsOf c self.old
+            → Takes c (HangUp stream) made self.new) }
+        ensures refused { IfErr result (λ fault. (c : Cluster) → PartsOf c self.old
+            → Refuses c (HangUp stream) fault) }
         ensures unchanged { OnErr result (Same self.old self.new) }
         ensures config { self.new.config ≡ self.old.config }
         ensures post { P.known post.new ≡ P.known post.old }
@@ -199,8 +211,10 @@ impl Parts {
     /// The master stops, and one of the next run begins.
     fn stop_master<P: Post>(&mut self, post: &mut P, alloc: Global) -> Result<Made, ClusterFault>
         requires { AreParts self.old }
-        ensures made { IfOk result (λ made. (c : Cluster) → PartsOf c self.old → Takes c StopMaster made self.new) }
-        ensures refused { IfErr result (λ fault. (c : Cluster) → PartsOf c self.old → Refuses c StopMaster fault) }
+        ensures made { IfOk result (λ made. (c : Cluster) → PartsOf c self.old
+            → Takes c StopMaster made self.new) }
+        ensures refused { IfErr result (λ fault. (c : Cluster) → PartsOf c self.old
+            → Refuses c StopMaster fault) }
         ensures unchanged { OnErr result (Same self.old self.new) }
         ensures config { self.new.config ≡ self.old.config }
         ensures post { P.known post.new ≡ P.known post.old }
@@ -221,8 +235,10 @@ impl Parts {
     /// A framework takes the next event of a stream.
     fn take(&mut self, alloc: Global, stream: StreamId) -> Result<Made, ClusterFault>
         requires { AreParts self.old }
-        ensures made { IfOk result (λ made. (c : Cluster) → PartsOf c self.old → Takes c (Take stream) made self.new) }
-        ensures refused { IfErr result (λ fault. (c : Cluster) → PartsOf c self.old → Refuses c (Take stream) fault) }
+        ensures made { IfOk result (λ made. (c : Cluster) → PartsOf c self.old
+            → Takes c (Take stream) made self.new) }
+        ensures refused { IfErr result (λ fault. (c : Cluster) → PartsOf c self.old
+            → Refuses c (Take stream) fault) }
         ensures unchanged { OnErr result (Same self.old self.new) }
         ensures config { self.new.config ≡ self.old.config }
         ensures items { length self.new.items ≡ length self.old.items }
@@ -239,11 +255,15 @@ impl Parts {
         cause: &StepCause,
     ) -> Result<Made, ClusterFault>
         requires { AreParts self.old }
-        ensures made { IfOk result (λ made. (c : Cluster) → PartsOf c self.old → Takes c (Prepare name.now (cause_of cause.now)) made self.new) }
-        ensures refused { IfErr result (λ fault. (c : Cluster) → PartsOf c self.old → MayRefuse c (P.gives (P.known post.now)) (Prepare name.now (cause_of cause.now)) fault) }
+        ensures made { IfOk result (λ made. (c : Cluster) → PartsOf c self.old
+            → Takes c (Prepare name.now (cause_of cause.now)) made self.new) }
+        ensures refused { IfErr result (λ fault. (c : Cluster) → PartsOf c self.old
+            → MayRefuse c (P.gives (P.known post.now)) (Prepare name.now (cause_of cause.now))
+            fault) }
         ensures unchanged { OnErr result (Same self.old self.new) }
         ensures config { self.new.config ≡ self.old.config }
-        ensures given { IfOk result (λ _. is_withheld (P.gives (P.known post.now)) cause.now ≡ false) }
+        ensures given { IfOk result (λ _. is_withheld (P.gives (P.known post.now)) cause.now
+            ≡ false) }
         ensures items { length self.new.items ≡ length self.old.items }
     {
         mails_to_agents_come_in_order();
@@ -254,7 +274,6 @@ impl Parts {
         Ok(Made {
             verdict: prepared.verdict,
             outputs: sending(alloc, Listed::new(alloc)),
-            given: sending(alloc, Listed::new(alloc)),
             durable: prepared.durable,
         })
     }
@@ -267,8 +286,10 @@ impl Parts {
         name: &AgentName,
     ) -> Result<Made, ClusterFault>
         requires { AreParts self.old }
-        ensures made { IfOk result (λ made. (c : Cluster) → PartsOf c self.old → Takes c (Commit name.now) made self.new) }
-        ensures refused { IfErr result (λ fault. (c : Cluster) → PartsOf c self.old → Refuses c (Commit name.now) fault) }
+        ensures made { IfOk result (λ made. (c : Cluster) → PartsOf c self.old
+            → Takes c (Commit name.now) made self.new) }
+        ensures refused { IfErr result (λ fault. (c : Cluster) → PartsOf c self.old
+            → Refuses c (Commit name.now) fault) }
         ensures unchanged { OnErr result (Same self.old self.new) }
         ensures config { self.new.config ≡ self.old.config }
         ensures post { P.known post.new ≡ P.known post.old }
@@ -286,8 +307,10 @@ impl Parts {
     /// An agent stops, and is recovered over its record.
     fn stop_before(&mut self, alloc: Global, name: &AgentName) -> Result<Made, ClusterFault>
         requires { AreParts self.old }
-        ensures made { IfOk result (λ made. (c : Cluster) → PartsOf c self.old → Takes c (StopBefore name.now) made self.new) }
-        ensures refused { IfErr result (λ fault. (c : Cluster) → PartsOf c self.old → Refuses c (StopBefore name.now) fault) }
+        ensures made { IfOk result (λ made. (c : Cluster) → PartsOf c self.old
+            → Takes c (StopBefore name.now) made self.new) }
+        ensures refused { IfErr result (λ fault. (c : Cluster) → PartsOf c self.old
+            → Refuses c (StopBefore name.now) fault) }
         ensures unchanged { OnErr result (Same self.old self.new) }
         ensures config { self.new.config ≡ self.old.config }
         ensures items { length self.new.items ≡ length self.old.items }
@@ -299,8 +322,10 @@ impl Parts {
     /// An agent stops, and is recovered over its draft's record.
     fn stop_after(&mut self, alloc: Global, name: &AgentName) -> Result<Made, ClusterFault>
         requires { AreParts self.old }
-        ensures made { IfOk result (λ made. (c : Cluster) → PartsOf c self.old → Takes c (StopAfter name.now) made self.new) }
-        ensures refused { IfErr result (λ fault. (c : Cluster) → PartsOf c self.old → Refuses c (StopAfter name.now) fault) }
+        ensures made { IfOk result (λ made. (c : Cluster) → PartsOf c self.old
+            → Takes c (StopAfter name.now) made self.new) }
+        ensures refused { IfErr result (λ fault. (c : Cluster) → PartsOf c self.old
+            → Refuses c (StopAfter name.now) fault) }
         ensures unchanged { OnErr result (Same self.old self.new) }
         ensures config { self.new.config ≡ self.old.config }
         ensures items { length self.new.items ≡ length self.old.items }
@@ -309,7 +334,8 @@ impl Parts {
         Ok(ends_with(alloc, Verdict::Ok))
     }
 
-    /// Makes a step, of which the post has room for what it sends; a round of offers goes by the weights of roles.
+    /// Makes a step, of which the post has room for what it sends;
+    /// a round of offers goes by the weights of roles.
     pub fn take_step<P: Post>(
         &mut self,
         post: &mut P,
@@ -321,7 +347,8 @@ impl Parts {
         requires weights { ArePartsBy weights.now self.old }
         ensures made { IfOk result (λ made. (c : Cluster) → PartsOf c self.old →
             c.weights ≡ weights.now → Takes c (step_of step.now) made self.new) }
-        ensures refused { IfErr result (λ fault. (c : Cluster) → PartsOf c self.old → MayRefuse c (P.gives (P.known post.old)) (step_of step.now) fault) }
+        ensures refused { IfErr result (λ fault. (c : Cluster) → PartsOf c self.old
+            → MayRefuse c (P.gives (P.known post.old)) (step_of step.now) fault) }
         ensures unchanged { OnErr result (Same self.old self.new) }
         ensures config { self.new.config ≡ self.old.config }
         ensures post { P.known post.new ≡ P.known post.old }

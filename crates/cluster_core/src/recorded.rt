@@ -4,9 +4,10 @@ ghost use Rattle.std.specs.Prelude.{◌≡◌};
 
 use crate::cluster::Cluster;
 use crate::given::Given;
-use crate::groups::groups_of;
-use cluster_steps::{ClusterFault, Entry, Step};
-use desk_seats::{FaultKind, Recorded};
+use crate::groups::{Awaited, groups_of};
+use crate::taken::{KeptEntry, Taken};
+use cluster_steps::{ClusterFault, Step};
+use desk_seats::{Entered, FaultKind, Recorded};
 use plain_data::Plain;
 use post_rules::Queues;
 use std::alloc::Global;
@@ -46,43 +47,58 @@ impl Recorded for RecordedCluster {
 
     type Step = Step;
 
-    type Entry = Entry;
+    type Entry = KeptEntry;
 
     type Given = Given;
 
     type Fault = ClusterFault;
 
+    type Awaited = Awaited;
+
     ghost history = { λ c. c.story.entries };
 
     ghost step_of = { λ e. e.step };
-
-    ghost entry_of = { λ g. g.taken.entry };
 
     ghost kind_of = { recording.kind_of };
 
     ghost sound = { λ c. recording.IsSound c };
 
-    ghost takes = { λ old step given new. recording.Takes old step given new };
+    ghost takes = { λ old step entry given new. recording.Takes old step entry given new };
 
     ghost may_refuse = { λ c step fault. recording.MayRefuse c step fault };
 
     ghost alike = { λ old new. recording.AreAlike old new };
 
-    fn step(&mut self, alloc: Global, step: Step) -> Result<Given, ClusterFault> {
+    fn step(
+        &mut self,
+        alloc: Global,
+        step: Step,
+    ) -> Result<Entered<KeptEntry, Given>, ClusterFault> {
         let sent_before = self.cluster.sent_count();
         let taken = self.cluster.step(alloc, step)?;
-        Ok(Given { taken, sent_before })
+        let Taken { entry, durable } = taken;
+        Ok(Entered {
+            entry,
+            given: Given {
+                durable,
+                sent_before,
+            },
+        })
     }
 
     fn len(&self) -> u32 {
         self.cluster.entry_count() as u32
     }
 
-    fn is_entry(&self, index: usize, given: &Given) -> bool {
+    fn is_entry(&self, index: usize, entry: &KeptEntry) -> bool {
         match self.cluster.history().get(index) {
-            Some(entry) => entry.is_same(&given.taken.entry),
+            Some(kept) => kept.get().is_same(entry.get()),
             None => false,
         }
+    }
+
+    fn share(entry: &KeptEntry) -> KeptEntry {
+        entry.share()
     }
 
     fn kind(fault: &ClusterFault) -> FaultKind {
@@ -93,8 +109,12 @@ impl Recorded for RecordedCluster {
         }
     }
 
-    fn frees(given: &Given) -> u64 {
-        groups_of(&given.taken.entry)
+    fn group_of(awaited: &Awaited) -> u32 {
+        awaited.group()
+    }
+
+    fn frees(entry: &KeptEntry) -> u64 {
+        groups_of(entry.get())
     }
 
     fn is_sound(&self) {

@@ -59,7 +59,8 @@ fn pass(cluster: &mut Cluster<EverSent>, alloc: Global, step: &Step) -> Result<(
     unless_memory(&taken)
 }
 
-/// Runs steps over agents that never ran, in run 1, with these weights of roles. A refused step is passed over. Of the faults there is `C9 OutOfMemory` alone.
+/// Runs steps over agents that never ran, in run 1, with these weights of roles.
+/// A refused step is passed over. Of the faults there is `C9 OutOfMemory` alone.
 pub fn run(
     alloc: Global,
     config: Config,

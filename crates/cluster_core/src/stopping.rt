@@ -13,11 +13,15 @@ ghost use Rattle.mails.specs.declared.record.Durable.{Durable as Record};
 use cluster_laws::masters_leave_agents;
 use cluster_safe::found_records_open_again;
 
-/// Over what a stop of a legal story leaves, its agents may be opened in any later run, as long as they are configured to own what the
-/// records say, and their live tasks are those of the records.
+/// Over what a stop of a legal story leaves, its agents may be opened in any later run, as long as
+/// they are configured to own what the records say, and their live tasks are those of the records.
 pub(crate) fn stopped_stories_open_again()
-    ensures good { (s : Story) (later : ℕ) (found : List Record) → IsLegal s → (state_of s).world.run.number < later → AreFound (state_of s) found → GoodOpening later found }
-    ensures records { (s : Story) (agents : List ConfiguredAgent) (found : List Record) → IsLegal s → AreAgentsOf agents s.records → AreCovered agents found → AreFound (state_of s) found → AreRecordsOf agents found }
+    ensures good { (s : Story) (later : ℕ) (found : List Record) → IsLegal s
+        → (state_of s).world.run.number < later → AreFound (state_of s) found
+        → GoodOpening later found }
+    ensures records { (s : Story) (agents : List ConfiguredAgent) (found : List Record) → IsLegal s
+        → AreAgentsOf agents s.records → AreCovered agents found → AreFound (state_of s) found
+        → AreRecordsOf agents found }
     ensures live { (s : Story) (later : Setup) (agents : List ConfiguredAgent) (found : List Record) → IsLegal s → AreAgentsOf agents s.records →
         (state_of s).world.run.number < later.run → (f : AreFound (state_of s) found) →
         live_in (state_of (opened_over later agents found))

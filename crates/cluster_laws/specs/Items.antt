@@ -1,4 +1,5 @@
--- What each post stands for: code keeps one list of all that was ever sent, in the order of sending.
+-- What each post stands for: code keeps one list of all that was ever sent,
+-- in the order of sending.
 use Rattle.std.specs.Prelude.{◌≡◌, ℕ, List, [], ◌∷◌, map, flat_map, slice_get, Option, Some, None, option_map, bytes_eq}
 use Rattle.std.specs.List.{find}
 use Rattle.mails.specs.declared.mail.MasterMail.{MasterMail}

@@ -48,7 +48,12 @@ anew c = record c { world = after c.world Restart; registers = new_registers }
 
 -- the new master: of the sides it has the names alone
 abbrev pub next_master : Master → Master
-next_master m = record { run = new_run (1 + m.run.number); sides = map restarted m.sides; registers = new_registers }
+next_master m =
+    record {
+      run = new_run (1 + m.run.number);
+      sides = map restarted m.sides;
+      registers = new_registers;
+    }
 
 -- the agent of a record, with what the record says that it owns
 abbrev pub configured : Durable → ConfiguredAgent

@@ -12,12 +12,17 @@ use Rattle.cluster_safe.specs.Acknowledged.{recorded_tasks}
 
 -- the tasks of the records have updates as every value of the type `Updates` is
 abbrev pub AreRecorded : List Durable → Type 0
-AreRecorded records = Each (λ t. are_updates t.updates.states t.updates.acknowledged ≡ true) (recorded_tasks records)
+AreRecorded records =
+    Each (λ t. are_updates t.updates.states t.updates.acknowledged ≡ true) (recorded_tasks records)
 
 -- the post at a place of all posts is this mail to an agent, in its channel
 abbrev pub IsDown : Cluster → ℕ → ToAgent → Type 0
-IsDown c n to = (place : ℕ) × (x : Channel) × (slice_get c.posts n ≡ Some (Down to.agent place)) × (channel_of c to.agent ≡ Some x) × (slice_get x.to_agent place ≡ Some to.mail)
+IsDown c n to =
+    (place : ℕ) × (x : Channel) × (slice_get c.posts n ≡ Some (Down to.agent place))
+    × (channel_of c to.agent ≡ Some x) × (slice_get x.to_agent place ≡ Some to.mail)
 
 -- or this mail of an agent
 abbrev pub IsUp : Cluster → ℕ → ToMaster → Type 0
-IsUp c n to = (place : ℕ) × (x : Channel) × (slice_get c.posts n ≡ Some (Up to.agent place)) × (channel_of c to.agent ≡ Some x) × (slice_get x.to_master place ≡ Some to.mail)
+IsUp c n to =
+    (place : ℕ) × (x : Channel) × (slice_get c.posts n ≡ Some (Up to.agent place))
+    × (channel_of c to.agent ≡ Some x) × (slice_get x.to_master place ≡ Some to.mail)

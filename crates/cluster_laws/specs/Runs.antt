@@ -31,7 +31,9 @@ RefusesAlone m d = (r : MasterRefusal) → d.refusal ≡ Some r → d ≡ refuse
 
 -- no stream opens, or the one with the number behind the last one
 abbrev pub OpensNext : Master → Doing → Type 0
-OpensNext m d = ((d.opens ≡ []) × (d.registers.last_stream ≡ m.registers.last_stream)) ⊎ ((d.opens ≡ new_stream m ∷ []) × (d.registers.last_stream ≡ suc m.registers.last_stream))
+OpensNext m d =
+    ((d.opens ≡ []) × (d.registers.last_stream ≡ m.registers.last_stream))
+    ⊎ ((d.opens ≡ new_stream m ∷ []) × (d.registers.last_stream ≡ suc m.registers.last_stream))
 
 abbrev pub ids_of : List Stream → List Numbered
 ids_of streams = map (λ s. s.id) streams

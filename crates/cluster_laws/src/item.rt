@@ -2,11 +2,13 @@
 
 use mails::{Call as SentCall, ToAgent, ToMaster};
 use names_core::StreamId;
+use shared_value::Shared;
 
 /// A call with the stream that it came with, or a mail with its agent.
+/// It is shared with the entry that sent it.
 #[derive(Drop)]
 pub enum Item {
-    Call(Option<StreamId>, SentCall),
-    ToAgent(ToAgent),
-    ToMaster(ToMaster),
+    Call(Option<StreamId>, Shared<SentCall>),
+    ToAgent(Shared<ToAgent>),
+    ToMaster(Shared<ToMaster>),
 }

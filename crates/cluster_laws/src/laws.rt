@@ -20,7 +20,8 @@ ghost use Rattle.side_fits.specs.Fits.{MailFitsAt};
 
 use cluster_safe::mails_meet_their_premises;
 
-/// The agents keep their names and their order, and no name stands twice. Each agent's record has its name.
+/// The agents keep their names and their order, and no name stands twice.
+/// Each agent's record has its name.
 pub fn agents_keep_their_names()
     ensures names { (setup : Setup) (records : List Durable) (steps : List Marked) →
         names_of (history setup records steps).state.world.channels ≡ map (λ d. d.name) records }
@@ -39,22 +40,30 @@ pub fn opening_items_stand()
         (items_sent [] (open_cluster setup records).entry.outs.sent) }
 {}
 
-/// Where items stand for all posts, they stand so after each step, with the items that it sends behind them.
+/// Where items stand for all posts, they stand so after each step,
+/// with the items that it sends behind them.
 pub fn sent_items_stand()
     ensures { (setup : Setup) (records : List Durable) (steps : List Marked) (s : Marked) (d : Done) (sent : List Item) → GoodOpening setup.run records →
         step_marked (history setup records steps).state s ≡ Ok d → StandIn (history setup records steps).state sent → StandIn d.after (sent ++ new_items s.step d) }
 {}
 
-/// From an item at its place, which is its number less 1, to its post, and to the mail in its channel.
+/// From an item at its place, which is its number less 1, to its post,
+/// and to the mail in its channel.
 pub fn items_are_posts()
-    ensures calls { (c : Cluster) (sent : List Item) (n : ℕ) (stream : Option Numbered) (call : Call) → StandIn c sent → slice_get sent n ≡ Some (items.Call stream call) → slice_get c.posts n ≡ Some (Called stream call) }
-    ensures to_agents { (c : Cluster) (sent : List Item) (n : ℕ) (to : ToAgent) → StandIn c sent → slice_get sent n ≡ Some (items.ToAgent to) → IsDown c n to }
-    ensures to_master { (c : Cluster) (sent : List Item) (n : ℕ) (to : ToMaster) → StandIn c sent → slice_get sent n ≡ Some (items.ToMaster to) → IsUp c n to }
-    ensures none { (c : Cluster) (sent : List Item) (n : ℕ) → StandIn c sent → slice_get sent n ≡ None → slice_get c.posts n ≡ None }
+    ensures calls { (c : Cluster) (sent : List Item) (n : ℕ) (stream : Option Numbered)
+        (call : Call) → StandIn c sent → slice_get sent n ≡ Some (items.Call stream call)
+        → slice_get c.posts n ≡ Some (Called stream call) }
+    ensures to_agents { (c : Cluster) (sent : List Item) (n : ℕ) (to : ToAgent) → StandIn c sent
+        → slice_get sent n ≡ Some (items.ToAgent to) → IsDown c n to }
+    ensures to_master { (c : Cluster) (sent : List Item) (n : ℕ) (to : ToMaster) → StandIn c sent
+        → slice_get sent n ≡ Some (items.ToMaster to) → IsUp c n to }
+    ensures none { (c : Cluster) (sent : List Item) (n : ℕ) → StandIn c sent
+        → slice_get sent n ≡ None → slice_get c.posts n ≡ None }
 {}
 
-/// Each mail of an agent that was ever sent tells an update of a number that a record has room for, where the records of the opening have
-/// updates as their type allows, and the tasks that it reports fit the total that it tells.
+/// Each mail of an agent that was ever sent tells an update of a number that a record has room for,
+/// where the records of the opening have updates as their type allows, and the tasks that it
+/// reports fit the total that it tells.
 pub fn mails_of_agents_fit()
     ensures number { (setup : Setup) (records : List Durable) (steps : List Marked) (sent : List Item) (n : ℕ) (to : ToMaster) → AreRecorded records →
         StandIn (history setup records steps).state sent → slice_get sent n ≡ Some (items.ToMaster to) → FitsRecord to.mail }
@@ -64,8 +73,8 @@ pub fn mails_of_agents_fit()
     mails_meet_their_premises();
 }
 
-/// Each mail to an agent that was ever sent comes in order: a Hello tells a run above 0, and a Launch that is next has a key behind all those of the
-/// record of the agent that it is handed to.
+/// Each mail to an agent that was ever sent comes in order: a Hello tells a run above 0, and a
+/// Launch that is next has a key behind all those of the record of the agent that it is handed to.
 pub fn mails_to_agents_come_in_order()
     ensures { (setup : Setup) (records : List Durable) (steps : List Marked) (sent : List Item) (n : ℕ) (to : ToAgent) → GoodOpening setup.run records →
         StandIn (history setup records steps).state sent → slice_get sent n ≡ Some (items.ToAgent to) → Each (λ x. is_in_order x.agent (Mail to) ≡ true) (history setup records steps).state.world.channels }

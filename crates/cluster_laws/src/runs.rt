@@ -16,20 +16,26 @@ ghost use Rattle.mails.specs.declared.mail.AgentMail.{AgentMail};
 ghost use Rattle.mails.specs.declared.record.Durable.{Durable};
 ghost use Rattle.names_core.specs.Ids.{Numbered};
 
-/// Whatever a master does on a call, in a round, at a Tick, where it loses an agent, at a hang-up or at a mail, it stays in its run, and
-/// serves if it did.
+/// Whatever a master does on a call, in a round, at a Tick, where it loses an agent,
+/// at a hang-up or at a mail, it stays in its run, and serves if it did.
 pub fn masters_stay_in_their_run()
-    ensures calls { (c : Cluster) (stream : Option Numbered) (call : Call) → KeepsRun c (called (master_of c) stream call) }
+    ensures calls { (c : Cluster) (stream : Option Numbered) (call : Call)
+        → KeepsRun c (called (master_of c) stream call) }
     ensures rounds { (c : Cluster) → KeepsRun c (allocated c.weights (master_of c)) }
     ensures ticks { (c : Cluster) (now : ℕ) → KeepsRun c (ticked (master_of c) now) }
     ensures losses { (c : Cluster) (s : Side) → KeepsRun c (agent_lost (master_of c) s) }
-    ensures hang_ups { (c : Cluster) (stream : Numbered) → KeepsRun c (hung_up (master_of c) stream) }
-    ensures mails { (c : Cluster) (agent : List ℕ) (place : ℕ) (s : Side) (mail : AgentMail) → SameRun c.world.run (done c (effect_of (At agent (Hear place) ∷ []) (mailed (master_of c) s mail))).after.world.run }
+    ensures hang_ups { (c : Cluster) (stream : Numbered)
+        → KeepsRun c (hung_up (master_of c) stream) }
+    ensures mails { (c : Cluster) (agent : List ℕ) (place : ℕ) (s : Side) (mail : AgentMail)
+        → SameRun c.world.run
+        (done c (effect_of (At agent (Hear place) ∷ [])
+        (mailed (master_of c) s mail))).after.world.run }
 {}
 
 /// A master opens no stream in a step, or the one with the number behind the last one.
 pub fn masters_open_next_streams()
-    ensures calls { (m : Master) (stream : Option Numbered) (call : Call) → OpensNext m (called m stream call) }
+    ensures calls { (m : Master) (stream : Option Numbered) (call : Call)
+        → OpensNext m (called m stream call) }
     ensures rounds { (weights : List RoleWeight) (m : Master) → OpensNext m (allocated weights m) }
     ensures ticks { (m : Master) (now : ℕ) → OpensNext m (ticked m now) }
     ensures losses { (m : Master) (s : Side) → OpensNext m (agent_lost m s) }
@@ -49,7 +55,8 @@ pub fn weights_stay()
         (history setup records steps).state.weights ≡ setup.weights }
 {}
 
-/// The ids of the streams that were ever opened rise, by run and then by number, so that none stands twice.
+/// The ids of the streams that were ever opened rise, by run and then by number,
+/// so that none stands twice.
 pub fn streams_rise()
     ensures { (setup : Setup) (records : List Durable) (steps : List Marked) →
         AreRising (ids_of (history setup records steps).state.streams) }

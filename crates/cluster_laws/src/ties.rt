@@ -21,22 +21,28 @@ ghost use Rattle.agent_sides.specs.Named.{lost_by, mailed_by};
 ghost use Rattle.master_state.specs.States.{fresh};
 ghost use Rattle.master_state.specs.Works.{master_of as master_in};
 
-/// What the master does at the agent of a name is what the model has it do at the side of its channel.
+/// What the master does at the agent of a name is what the model
+/// has it do at the side of its channel.
 pub fn named_agents_are_found()
-    ensures losses { (c : Cluster) (agent : List ℕ) (x : Channel) → channel_of c agent ≡ Some x → lost_by (master_of c) agent ≡ agent_lost (master_of c) x.side }
-    ensures mails { (c : Cluster) (agent : List ℕ) (x : Channel) (mail : AgentMail) → channel_of c agent ≡ Some x → mailed_by (master_of c) agent mail ≡ mailed (master_of c) x.side mail }
+    ensures losses { (c : Cluster) (agent : List ℕ) (x : Channel) → channel_of c agent ≡ Some x
+        → lost_by (master_of c) agent ≡ agent_lost (master_of c) x.side }
+    ensures mails { (c : Cluster) (agent : List ℕ) (x : Channel) (mail : AgentMail)
+        → channel_of c agent ≡ Some x → mailed_by (master_of c) agent mail
+        ≡ mailed (master_of c) x.side mail }
 {}
 
-/// A master that begins a run over the agents of records, whatever they are configured to own, is the one that the opening has before it greets
-/// them.
+/// A master that begins a run over the agents of records, whatever they are configured to own,
+/// is the one that the opening has before it greets them.
 pub fn fresh_masters_open()
     ensures { (setup : Setup) (agents : List ConfiguredAgent) (records : List Durable) →
         AreAgentsOf agents records → master_in (fresh setup.run agents) ≡ master_of (opened_over setup records) }
 {}
 
-/// What a master refuses, but for a mail, it refuses alone: nothing moves, nothing is told, and no stream opens or closes.
+/// What a master refuses, but for a mail, it refuses alone: nothing moves, nothing is told,
+/// and no stream opens or closes.
 pub fn refusals_stand_alone()
-    ensures calls { (m : Master) (stream : Option Numbered) (call : Call) → RefusesAlone m (called m stream call) }
+    ensures calls { (m : Master) (stream : Option Numbered) (call : Call)
+        → RefusesAlone m (called m stream call) }
     ensures rounds { (weights : List RoleWeight) (m : Master) →
         RefusesAlone m (allocated weights m) }
     ensures ticks { (m : Master) (now : ℕ) → RefusesAlone m (ticked m now) }

@@ -1,4 +1,5 @@
--- An agent: its record, its open session, and what it prepares at each cause (Mesos paper, section 3.2: agents run tasks and report them).
+-- An agent: its record, its open session, and what it prepares at each cause (Mesos paper,
+-- section 3.2: agents run tasks and report them).
 use Rattle.std.specs.Prelude.{ℕ, suc, zero, max, Bool, true, false, not, ◌&&◌, ◌||◌, ◌==◌, nat_lt, nat_le, if◌then◌else◌, List, [], ◌∷◌, ◌++◌, length, map, filter, flat_map, Option, Some, None, Result, Ok, Err, bytes_eq}
 use Rattle.std.specs.List.{list_any}
 use Rattle.names_core.specs.Ids.{Numbered}
@@ -24,7 +25,8 @@ use Rattle.mails.specs.declared.refusal.AgentRefusal.{AgentRefusal}
 use Rattle.mails.specs.declared.refusal.AgentRefusal.TheVariants.{NotForMe, OldSession, NotNext, NoSuchTask, Ended, NoRoom, UpdatesFull, SessionsSpent, TotalLess}
 use Rattle.cluster_model.specs.Ids.{same, last_number}
 
--- an agent that runs: its record, whether its session is open, and how many commands of that session it has applied
+-- an agent that runs: its record, whether its session is open,
+-- and how many commands of that session it has applied
 pub record Agent : Type 0 where
   pub durable : Durable
   pub open durable use *
@@ -60,17 +62,26 @@ state_at (s ∷ ss) (suc (suc k)) = state_at ss (suc k)
 
 -- how many updates were sent so far: those acknowledged and the next one, if there is one
 abbrev pub sent_count : RecordedTask → ℕ
-sent_count t = if nat_lt t.updates.acknowledged (length t.updates.states) then suc t.updates.acknowledged else length t.updates.states
+sent_count t =
+    if nat_lt t.updates.acknowledged (length t.updates.states) then suc t.updates.acknowledged
+    else length t.updates.states
 
 -- a task as a Report has it
 abbrev pub reported : RecordedTask → Booked
-reported t = record { job = t.job; ended = has_ended t; heard = sent_count t; state = state_at t.updates.states (sent_count t) }
+reported t =
+    record {
+      job = t.job;
+      ended = has_ended t;
+      heard = sent_count t;
+      state = state_at t.updates.states (sent_count t);
+    }
 
 -- the first update of a task that isn't acknowledged, as a mail of a session
 abbrev pub front_of : ℕ → RecordedTask → List AgentMail
 front_of session t =
     if nat_lt t.updates.acknowledged (length t.updates.states)
-    then Update session t.job.key t.updates.acknowledged (state_at t.updates.states (suc t.updates.acknowledged)) (has_ended t) ∷ []
+    then Update session t.job.key t.updates.acknowledged
+    (state_at t.updates.states (suc t.updates.acknowledged)) (has_ended t) ∷ []
     else []
 
 -- the fronts of all tasks, where a session is open
@@ -88,19 +99,28 @@ report_of a = Report a.durable.session a.durable.run (map reported a.durable.tas
 
 -- the record with another session, opened with a run
 abbrev pub with_session : Durable → ℕ → ℕ → Durable
-with_session d session run = record { name = d.name; total = d.total; session = session; run = run; tasks = d.tasks }
+with_session d session run =
+    record { name = d.name; total = d.total; session = session; run = run; tasks = d.tasks }
 
 -- the agent, which owns this from now on
 abbrev pub owning : List Row → Agent → Agent
 owning total a = record {
-  durable = record { name = a.durable.name; total = total; session = a.durable.session; run = a.durable.run; tasks = a.durable.tasks };
+  durable =
+      record {
+        name = a.durable.name;
+        total = total;
+        session = a.durable.session;
+        run = a.durable.run;
+        tasks = a.durable.tasks;
+      };
   in_session = a.in_session;
   applied = a.applied;
 }
 
 -- a session of the agent that has just opened
 abbrev pub reopened : Agent → ℕ → ℕ → Agent
-reopened a session run = record { durable = with_session a.durable session run; in_session = true; applied = 0 }
+reopened a session run =
+    record { durable = with_session a.durable session run; in_session = true; applied = 0 }
 
 -- the agent as it is, with its Report and its fronts
 abbrev pub reports : Agent → Draft
@@ -108,7 +128,8 @@ reports a = record { after = a; mails = report_of a ∷ fronts a }
 
 -- the session behind the last one is opened, with a run
 abbrev pub opens_next : Agent → ℕ → ℕ → Result Draft AgentRefusal
-opens_next a last run = if nat_le last_number last then Err SessionsSpent else Ok (reports (reopened a (suc last) run))
+opens_next a last run =
+    if nat_le last_number last then Err SessionsSpent else Ok (reports (reopened a (suc last) run))
 
 -- an agent that was stopped: no session is open
 abbrev pub recovered : Agent → Agent
@@ -118,37 +139,53 @@ recovered a = record { durable = a.durable; in_session = false; applied = 0 }
 
 -- a state that comes to the task of a key, unless it has ended
 abbrev pub stated : Numbered → TaskState → RecordedTask → RecordedTask
-stated key state t = if is_task key t && not (has_ended t) then record { job = t.job; offers = t.offers; updates = updates.pushed state t.updates } else t
+stated key state t =
+    if is_task key t && not (has_ended t)
+    then record { job = t.job; offers = t.offers; updates = updates.pushed state t.updates } else t
 
 -- the front of a key's task is acknowledged, if it has this number
 abbrev pub acknowledged : Numbered → ℕ → RecordedTask → RecordedTask
-acknowledged key k t = if is_task key t && updates.is_front k t.updates then record { job = t.job; offers = t.offers; updates = updates.acknowledged_one t.updates } else t
+acknowledged key k t =
+    if is_task key t && updates.is_front k t.updates
+    then record { job = t.job; offers = t.offers; updates = updates.acknowledged_one t.updates }
+    else t
 
 -- a task that was just launched
 abbrev pub launched_task : Job → List Numbered → RecordedTask
-launched_task job offers = record { job = job; offers = offers; updates = record { states = []; acknowledged = 0 } }
+launched_task job offers =
+    record { job = job; offers = offers; updates = record { states = []; acknowledged = 0 } }
 
 -- what a command makes of the tasks
 abbrev pub tasks_after : Command → List RecordedTask → List RecordedTask
 tasks_after (Launch job offers) ts = ts ++ launched_task job offers ∷ []
 tasks_after (Kill key) ts = map (stated key Killed) ts
-tasks_after (Ack key k) ts = filter (λ t. not (updates.is_done t.updates)) (map (acknowledged key k) ts)
+tasks_after (Ack key k) ts =
+    filter (λ t. not (updates.is_done t.updates)) (map (acknowledged key k) ts)
 tasks_after (EndFramework framework) ts = filter (λ t. not (same t.job.framework framework)) ts
 
 -- whether the number is that of the front of a key's task
 abbrev pub is_front_at : Numbered → ℕ → List RecordedTask → Bool
 is_front_at key k ts = list_any (λ t. is_task key t && updates.is_front k t.updates) ts
 
--- the updates that go out with a command, which was applied to one agent and left the other: the next front of a task goes out where its front was just acknowledged
+-- the updates that go out with a command, which was applied to one agent and left the other:
+-- the next front of a task goes out where its front was just acknowledged
 abbrev pub fronts_after : Command → Agent → Agent → List AgentMail
 fronts_after (Launch job offers) before after = []
 fronts_after (Kill key) before after = front_at key after
-fronts_after (Ack key k) before after = if is_front_at key k before.durable.tasks then front_at key after else []
+fronts_after (Ack key k) before after =
+    if is_front_at key k before.durable.tasks then front_at key after else []
 fronts_after (EndFramework framework) before after = []
 
 abbrev pub with_tasks : Agent → List RecordedTask → ℕ → Agent
 with_tasks a ts applied = record {
-  durable = record { name = a.durable.name; total = a.durable.total; session = a.durable.session; run = a.durable.run; tasks = ts };
+  durable =
+      record {
+        name = a.durable.name;
+        total = a.durable.total;
+        session = a.durable.session;
+        run = a.durable.run;
+        tasks = ts;
+      };
   in_session = a.in_session;
   applied = applied;
 }
@@ -160,29 +197,37 @@ after_command a command = with_tasks a (tasks_after command a.durable.tasks) (su
 abbrev pub applies : Agent → Command → Draft
 applies a command =
     let after = after_command a command in
-    record { after = after; mails = Applied a.durable.session (suc a.applied) ∷ fronts_after command a after }
+    record {
+      after = after;
+      mails = Applied a.durable.session (suc a.applied)
+          ∷ fronts_after command a after;
+    }
 
 -- whether the agent has room for what a command launches, beside its live tasks
 abbrev pub has_room : Agent → Command → Bool
-has_room a (Launch job offers) = covers a.durable.total (job.resources ++ task_rows (live_tasks a.durable.tasks))
+has_room a (Launch job offers) =
+    covers a.durable.total (job.resources ++ task_rows (live_tasks a.durable.tasks))
 has_room a (Kill key) = true
 has_room a (Ack key k) = true
 has_room a (EndFramework framework) = true
 
 -- what an agent prepares at a cause, or why it doesn't
 
--- Hello: an older run is refused; a newer run, a closed session or no session opens the next session; else it reports again
+-- Hello: an older run is refused; a newer run,
+-- a closed session or no session opens the next session; else it reports again
 abbrev pub hears_hello : Agent → ℕ → ℕ → Result Draft AgentRefusal
 hears_hello a run dead =
     if nat_lt run a.durable.run then Err OldSession
-    else (if (nat_lt a.durable.run run || nat_le a.durable.session dead) || not a.in_session then opens_next a (max a.durable.session dead) run
+    else (if (nat_lt a.durable.run run || nat_le a.durable.session dead) || not a.in_session
+    then opens_next a (max a.durable.session dead) run
     else Ok (reports a))
 
 -- a command: of the open session only; one that is applied is told again; the next one is applied
 abbrev pub hears_command : Agent → ℕ → ℕ → Command → Result Draft AgentRefusal
 hears_command a session number command =
     if not (a.in_session && session == a.durable.session) then Err OldSession
-    else (if nat_le number a.applied then Ok (record { after = a; mails = Applied a.durable.session a.applied ∷ [] })
+    else (if nat_le number a.applied
+    then Ok (record { after = a; mails = Applied a.durable.session a.applied ∷ [] })
     else (if not (number == suc a.applied) then Err NotNext
     else (if has_room a command then Ok (applies a command) else Err NoRoom)))
 
@@ -194,12 +239,14 @@ hears_mail a (Issued session number command) = hears_command a session number co
 abbrev pub needs_place : TaskState → Bool
 needs_place state = not (is_terminal state)
 
--- a state told by an executor: of a task of the record that hasn't ended; one that isn't terminal only where a place is left
+-- a state told by an executor: of a task of the record that hasn't ended;
+-- one that isn't terminal only where a place is left
 abbrev pub executes : Agent → Numbered → TaskState → Result Draft AgentRefusal
 executes a key state =
     if not (list_any (is_task key) a.durable.tasks) then Err NoSuchTask
     else (if list_any (λ t. is_task key t && has_ended t) a.durable.tasks then Err Ended
-    else (if needs_place state && list_any (λ t. is_task key t && updates.is_full t.updates) a.durable.tasks then Err UpdatesFull
+    else (if needs_place state && list_any (λ t. is_task key t && updates.is_full t.updates)
+    a.durable.tasks then Err UpdatesFull
     else (let after = with_tasks a (map (stated key state) a.durable.tasks) a.applied in
     Ok (record { after = after; mails = if a.in_session then front_at key after else [] }))))
 
@@ -207,15 +254,18 @@ executes a key state =
 abbrev pub opens_again : Agent → Result Draft AgentRefusal
 opens_again a = opens_next a a.durable.session a.durable.run
 
--- a start, which may come with a total that the agent owns from then on: what an agent owns never falls
+-- a start, which may come with a total that the agent owns from then on:
+-- what an agent owns never falls
 abbrev pub starts : Agent → Option (List Row) → Result Draft AgentRefusal
 starts a None = opens_again a
-starts a (Some total) = if covers total a.durable.total then opens_again (owning total a) else Err TotalLess
+starts a (Some total) =
+    if covers total a.durable.total then opens_again (owning total a) else Err TotalLess
 
 abbrev pub next_of : Agent → Cause → Result Draft AgentRefusal
 next_of a (Start total) = if a.durable.run == 0 then Err OldSession else starts a total
 next_of a Again = Ok (record { after = a; mails = fronts a })
-next_of a (Mail to) = if bytes_eq to.agent a.durable.name then hears_mail a to.mail else Err NotForMe
+next_of a (Mail to) =
+    if bytes_eq to.agent a.durable.name then hears_mail a to.mail else Err NotForMe
 next_of a (Executor key state) = executes a key state
 
 -- records

@@ -31,14 +31,23 @@ to_list (Some id) = id ∷ []
 
 -- the framework as it is once subscribed
 abbrev pub subscriber : Master → Numbered → List ℕ → Framework
-subscriber m id role = record { id = id; role = role; stream = Some (new_stream m); suppressed = false; last_beat = m.registers.now; filters = [] }
+subscriber m id role =
+    record {
+      id = id;
+      role = role;
+      stream = Some (new_stream m);
+      suppressed = false;
+      last_beat = m.registers.now;
+      filters = [];
+    }
 
 -- a framework is subscribed on a new stream; an open one of it closes, and its offers are withdrawn
 abbrev pub subscribed : Master → Registers → Numbered → List ℕ → Option Framework → Doing
 subscribed m r id role known = record {
   refusal = None;
   moves = withdraws (is_of id) m;
-  events = on_stream (stream_of known) FAILED_OVER ++ on_stream (Some (new_stream m)) (SUBSCRIBED id);
+  events =
+      on_stream (stream_of known) FAILED_OVER ++ on_stream (Some (new_stream m)) (SUBSCRIBED id);
   opens = new_stream m ∷ [];
   closes = to_list (stream_of known);
   registers = record (with_framework r (subscriber m id role)) { last_stream = suc r.last_stream };
@@ -47,9 +56,12 @@ subscribed m r id role known = record {
 -- without id: the next one is given out
 abbrev pub on_subscribe : Master → List ℕ → Doing
 on_subscribe m role =
-    if nat_le frameworks_limit (length m.registers.frameworks) || nat_le last_number m.registers.last_framework || nat_le last_number m.registers.last_stream
+    if nat_le frameworks_limit (length m.registers.frameworks)
+    || nat_le last_number m.registers.last_framework
+    || nat_le last_number m.registers.last_stream
     then refused m LimitExceeded
-    else subscribed m (record m.registers { last_framework = suc m.registers.last_framework }) (record { run = m.run.number; n = suc m.registers.last_framework }) role None
+    else subscribed m (record m.registers { last_framework = suc m.registers.last_framework })
+    (record { run = m.run.number; n = suc m.registers.last_framework }) role None
 
 -- a framework that was torn down gets a stream with an error alone
 abbrev pub removed : Master → Doing
@@ -63,12 +75,15 @@ removed m = record {
 }
 
 abbrev pub resubscribed : Master → Numbered → List ℕ → Option Framework → Doing
-resubscribed m id role None = if nat_le frameworks_limit (length m.registers.frameworks) then refused m LimitExceeded else subscribed m m.registers id role None
+resubscribed m id role None =
+    if nat_le frameworks_limit (length m.registers.frameworks) then refused m LimitExceeded
+    else subscribed m m.registers id role None
 resubscribed m id role (Some f) = subscribed m m.registers id role (Some f)
 
 -- an id that this run can't have given out
 abbrev pub is_unheard_of : Master → Numbered → Bool
-is_unheard_of m id = nat_lt m.run.number id.run || (id.run == m.run.number && nat_lt m.registers.last_framework id.n)
+is_unheard_of m id =
+    nat_lt m.run.number id.run || (id.run == m.run.number && nat_lt m.registers.last_framework id.n)
 
 -- with an id
 abbrev pub on_resubscribe : Master → Numbered → List ℕ → Doing
@@ -91,7 +106,9 @@ on_teardown m f =
     if list_any (λ s. not (has_numbers 1 s)) (sides_with_tasks m f.id) then refused m LimitExceeded
     else record {
       refusal = None;
-      moves = withdraws (is_of f.id) m ++ TearDownAll f.id ∷ map (λ s. AtSide s.name (SendEnd f.id)) (sides_with_tasks m f.id);
+      moves =
+          withdraws (is_of f.id) m ++ TearDownAll f.id
+          ∷ map (λ s. AtSide s.name (SendEnd f.id)) (sides_with_tasks m f.id);
       events = [];
       opens = [];
       closes = to_list f.stream;
@@ -123,7 +140,8 @@ good_side m framework ids = find (λ s. is_good s framework ids) m.sides
 
 abbrev pub given_by : Numbered → List Numbered → Option Side → Option Given
 given_by framework ids None = None
-given_by framework ids (Some s) = Some (record { agent = s.name; budget = offer_rows (used_offers s framework ids) })
+given_by framework ids (Some s) =
+    Some (record { agent = s.name; budget = offer_rows (used_offers s framework ids) })
 
 -- how far an ACCEPT's tasks have come
 pub record Accepting : Type 0 where
@@ -135,10 +153,13 @@ pub record Accepting : Type 0 where
 
 -- the task is for the offers' agent, asks for something, and the rest covers it
 abbrev pub is_covered : Given → List Row → TaskInfo → Bool
-is_covered g used task = bytes_eq task.agent g.agent && not (is_empty task.resources) && covers g.budget (task.resources ++ used)
+is_covered g used task =
+    bytes_eq task.agent g.agent && not (is_empty task.resources)
+    && covers g.budget (task.resources ++ used)
 
 abbrev pub job_of : Framework → Numbered → TaskInfo → Job
-job_of f key task = record { key = key; framework = f.id; name = task.name; resources = task.resources }
+job_of f key task =
+    record { key = key; framework = f.id; name = task.name; resources = task.resources }
 
 abbrev pub launching : Framework → Given → Accepting → TaskInfo → Accepting
 launching f g x task = record {
@@ -150,47 +171,71 @@ launching f g x task = record {
 }
 
 abbrev pub answering : Accepting → List Told → Accepting
-answering x events = record { booked = x.booked; jobs = x.jobs; used = x.used; next = x.next; events = x.events ++ events }
+answering x events =
+    record {
+      booked = x.booked;
+      jobs = x.jobs;
+      used = x.used;
+      next = x.next;
+      events = x.events ++ events;
+    }
 
 abbrev pub accepts_as : Framework → Option Given → Accepting → TaskInfo → Option Placed → Accepting
 accepts_as f given x task (Some p) = answering x (answers_held f p)
 accepts_as f None x task None = answering x (answers f task.name Lost (Some task.agent))
-accepts_as f (Some g) x task None = if is_covered g x.used task then launching f g x task else answering x (answers f task.name Error (Some task.agent))
+accepts_as f (Some g) x task None =
+    if is_covered g x.used task then launching f g x task
+    else answering x (answers f task.name Error (Some task.agent))
 
 abbrev pub accepts_one : Framework → Option Given → Accepting → TaskInfo → Accepting
 accepts_one f given x task = accepts_as f given x task (held_among x.booked f.id task.name)
 
 abbrev pub accepts_all : Master → Framework → Option Given → List TaskInfo → Accepting
-accepts_all m f given tasks = fold (accepts_one f given) (record { booked = all_booked m; jobs = []; used = []; next = m.run.next_key; events = [] }) tasks
+accepts_all m f given tasks =
+    fold (accepts_one f given)
+    (record { booked = all_booked m; jobs = []; used = []; next = m.run.next_key; events = [] })
+    tasks
 
--- booked tasks, launch numbers or the command numbers of the offers' agent would pass their limits, counted by the tasks asked for
+-- booked tasks, launch numbers or the command numbers of the offers' agent would pass their limits,
+-- counted by the tasks asked for
 abbrev pub passes_limits : Master → ℕ → Option Side → Bool
 passes_limits m count good =
-    (nat_lt 0 count && nat_lt tasks_limit (length (all_booked m) + count)) || nat_lt (suc last_number) (m.run.next_key.n + count) || not (may_have_numbers count good)
+    (nat_lt 0 count && nat_lt tasks_limit (length (all_booked m) + count))
+    || nat_lt (suc last_number) (m.run.next_key.n + count) || not (may_have_numbers count good)
 
 -- the sum of the used offers less what is launched
 abbrev pub rest_after : Given → Accepting → List Row
 rest_after g x = rest_of (plus_rows [] g.budget) x.used
 
 abbrev pub accepted_as : Master → Framework → List Numbered → ℕ → Option Given → Accepting → Doing
-accepted_as m f ids seconds None x = record (saying m x.events) { moves = withdraws (is_named f.id ids) m }
+accepted_as m f ids seconds None x =
+    record (saying m x.events) { moves = withdraws (is_named f.id ids) m }
 accepted_as m f ids seconds (Some g) x = record (saying m x.events) {
   moves = AtSide g.agent (LaunchFrom f.id ids x.jobs) ∷ [];
-  registers = with_framework m.registers (record f { filters = add_filter m.registers.now seconds f.filters g.agent (rest_after g x) });
+  registers =
+      with_framework m.registers
+      (record f {
+        filters = add_filter m.registers.now seconds f.filters g.agent (rest_after g x);
+      });
 }
 
-abbrev pub accepted_from : Master → List Numbered → List TaskInfo → ℕ → Framework → Option Given → Doing
-accepted_from m ids tasks seconds f given = accepted_as m f ids seconds given (accepts_all m f given tasks)
+abbrev pub accepted_from : Master → List Numbered → List TaskInfo → ℕ → Framework → Option Given
+    → Doing
+accepted_from m ids tasks seconds f given =
+    accepted_as m f ids seconds given (accepts_all m f given tasks)
 
 abbrev pub on_accept : Master → List Numbered → List TaskInfo → ℕ → Framework → Doing
 on_accept m ids tasks seconds f =
     let good = good_side m f.id ids in
-    if passes_limits m (length tasks) good then refused m LimitExceeded else accepted_from m ids tasks seconds f (given_by f.id ids good)
+    if passes_limits m (length tasks) good then refused m LimitExceeded
+    else accepted_from m ids tasks seconds f (given_by f.id ids good)
 
 -- DECLINE
 
 abbrev pub own_offers_on : Numbered → Numbered → Side → List MadeOffer
-own_offers_on framework id s = map (λ o. record { agent = s.name; offer = o }) (filter (λ o. is_of framework o && same o.id id) s.offers)
+own_offers_on framework id s =
+    map (λ o. record { agent = s.name; offer = o })
+    (filter (λ o. is_of framework o && same o.id id) s.offers)
 
 -- the current offer of a framework with this id, if any
 abbrev pub own_offers : Master → Numbered → Numbered → List MadeOffer
@@ -199,7 +244,9 @@ own_offers m framework id = flat_map (own_offers_on framework id) m.sides
 abbrev pub on_decline : Master → List Numbered → ℕ → Framework → Doing
 on_decline m ids seconds f = record (moving m (withdraws (is_named f.id ids) m)) {
   registers = with_framework m.registers (record f {
-    filters = fold (λ fs made. add_filter m.registers.now seconds fs made.agent made.offer.resources) f.filters (flat_map (own_offers m f.id) (each_once ids));
+    filters =
+        fold (λ fs made. add_filter m.registers.now seconds fs made.agent made.offer.resources)
+        f.filters (flat_map (own_offers m f.id) (each_once ids));
   });
 }
 
@@ -215,7 +262,8 @@ on_suppress m f = keeping (with_framework m.registers (record f { suppressed = t
 
 -- a command to an agent
 abbrev pub commanding : Master → Option Side → Move → Doing
-commanding m s order = if may_have_numbers 1 s then moving m (order ∷ []) else refused m LimitExceeded
+commanding m s order =
+    if may_have_numbers 1 s then moving m (order ∷ []) else refused m LimitExceeded
 
 abbrev pub on_kill : Master → List ℕ → Option (List ℕ) → Framework → Option Placed → Doing
 on_kill m task agent f None = saying m (answers f task Lost agent)
@@ -225,11 +273,14 @@ on_kill m task agent f (Some p) =
 
 -- the update last heard of the framework's task of this name and key on this agent
 abbrev pub is_last_heard : Framework → List ℕ → List ℕ → Numbered → ℕ → Placed → Bool
-is_last_heard f agent task key k p = same p.booked.job.key key && is_task_of f.id task p && bytes_eq p.agent agent && p.booked.heard == suc k
+is_last_heard f agent task key k p =
+    same p.booked.job.key key && is_task_of f.id task p && bytes_eq p.agent agent
+    && p.booked.heard == suc k
 
 abbrev pub on_acknowledge : Master → List ℕ → List ℕ → Numbered → ℕ → Framework → Doing
 on_acknowledge m agent task key k f =
-    if list_any (is_last_heard f agent task key k) (all_booked m) then commanding m (side_of m agent) (AtSide agent (SendAck key k))
+    if list_any (is_last_heard f agent task key k) (all_booked m)
+    then commanding m (side_of m agent) (AtSide agent (SendAck key k))
     else nothing m
 
 -- RECONCILE
@@ -244,13 +295,16 @@ is_awaited m (Some agent) = list_any (λ s. bytes_eq s.name agent && not (has_re
 
 abbrev pub reconciles_as : Master → Framework → ReconciledTask → Option Placed → List Told
 reconciles_as m f asked (Some p) = answers_held f p
-reconciles_as m f asked None = if is_awaited m asked.agent then [] else answers f asked.name Lost asked.agent
+reconciles_as m f asked None =
+    if is_awaited m asked.agent then [] else answers f asked.name Lost asked.agent
 
 abbrev pub reconciles : Master → Framework → ReconciledTask → List Told
 reconciles m f asked = reconciles_as m f asked (held m f.id asked.name)
 
 abbrev pub on_reconcile : Master → List ReconciledTask → Framework → Doing
-on_reconcile m [] f = saying m (flat_map (answers_held f) (fold put_placed [] (filter (is_live_of f.id) (all_booked m))))
+on_reconcile m [] f =
+    saying m (flat_map (answers_held f)
+    (fold put_placed [] (filter (is_live_of f.id) (all_booked m))))
 on_reconcile m (asked ∷ more) f = saying m (flat_map (reconciles m f) (asked ∷ more))
 
 -- all calls
@@ -262,11 +316,13 @@ is_stream open_one (Some stream) = same stream open_one
 
 abbrev pub on_its_stream : Master → Option Numbered → Option Numbered → Doing → Doing
 on_its_stream m stream None doing = refused m NotSubscribed
-on_its_stream m stream (Some open_one) doing = if is_stream open_one stream then doing else refused m WrongStream
+on_its_stream m stream (Some open_one) doing =
+    if is_stream open_one stream then doing else refused m WrongStream
 
 abbrev pub by_known : Master → Option Numbered → Option Framework → (Framework → Doing) → Doing
 by_known m stream None doing = refused m NoSuchFramework
-by_known m stream (Some f) doing = if is_torn m f.id then refused m NoSuchFramework else on_its_stream m stream f.stream (doing f)
+by_known m stream (Some f) doing =
+    if is_torn m f.id then refused m NoSuchFramework else on_its_stream m stream f.stream (doing f)
 
 -- a call of a framework that is known in this run and not torn down, on its open stream
 abbrev pub by_framework : Master → Option Numbered → Numbered → (Framework → Doing) → Doing
@@ -276,10 +332,14 @@ abbrev pub called : Master → Option Numbered → Call → Doing
 called m stream (Subscribe None role) = on_subscribe m role
 called m stream (Subscribe (Some id) role) = on_resubscribe m id role
 called m stream (Teardown framework) = by_framework m stream framework (on_teardown m)
-called m stream (Accept framework offers tasks seconds) = by_framework m stream framework (on_accept m offers tasks seconds)
-called m stream (Decline framework offers seconds) = by_framework m stream framework (on_decline m offers seconds)
+called m stream (Accept framework offers tasks seconds) =
+    by_framework m stream framework (on_accept m offers tasks seconds)
+called m stream (Decline framework offers seconds) =
+    by_framework m stream framework (on_decline m offers seconds)
 called m stream (Revive framework) = by_framework m stream framework (on_revive m)
 called m stream (Suppress framework) = by_framework m stream framework (on_suppress m)
-called m stream (Kill framework task agent) = by_framework m stream framework (λ f. on_kill m task agent f (held m f.id task))
-called m stream (Acknowledge framework agent task uuid) = by_framework m stream framework (on_acknowledge m agent task uuid.key uuid.k)
+called m stream (Kill framework task agent) =
+    by_framework m stream framework (λ f. on_kill m task agent f (held m f.id task))
+called m stream (Acknowledge framework agent task uuid) =
+    by_framework m stream framework (on_acknowledge m agent task uuid.key uuid.k)
 called m stream (Reconcile framework tasks) = by_framework m stream framework (on_reconcile m tasks)

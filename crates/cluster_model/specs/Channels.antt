@@ -1,4 +1,5 @@
--- A channel: the master's side of one agent, the agent, and every mail that was ever sent between them; and all channels together.
+-- A channel: the master's side of one agent, the agent,
+-- and every mail that was ever sent between them; and all channels together.
 use Rattle.std.specs.Prelude.{ℕ, ◌+◌, ◌≤◌, Bool, true, false, if◌then◌else◌, List, [], ◌∷◌, ◌++◌, map, sum_by, slice_get, Option, Some, None, Result, Ok, Err, bytes_eq}
 use Rattle.std.specs.List.{AllByRecursion as Each}
 use Rattle.names_core.specs.Ids.{Numbered}
@@ -12,7 +13,8 @@ use Rattle.mails.specs.declared.refusal.AgentRefusal.{AgentRefusal}
 use Rattle.cluster_model.specs.Agents.{Agent, Draft, live_tasks, hears_mail, next_of, recovered, recovered_from}
 use Rattle.cluster_model.specs.Sides.{Run, Side, SideStep, new_run, new_side, torn_down, heard, halted, restarted, side_step}
 
--- mails are never taken out: a step names a mail by its place, so that a mail can be lost, repeated or overtaken
+-- mails are never taken out: a step names a mail by its place,
+-- so that a mail can be lost, repeated or overtaken
 pub record Channel : Type 0 where
   pub side : Side
   pub open side use *
@@ -86,7 +88,8 @@ by_master run c step =
 
 abbrev pub happens : Run → Channel → ChannelStep → InRun
 happens run c (ByMaster step) = by_master run c step
-happens run c (Hear place) = record { run = run; channel = heard_mail run c (slice_get c.to_master place) }
+happens run c (Hear place) =
+    record { run = run; channel = heard_mail run c (slice_get c.to_master place) }
 happens run c (ByAgent step) = record { run = run; channel = agent_step c step }
 
 -- all channels, by agents' names in byte order
@@ -110,7 +113,9 @@ in_front x cs = record { run = x.run; channels = x.channel ∷ cs }
 -- a step in the channel of an agent
 abbrev pub at_agent : List ℕ → ChannelStep → Run → List Channel → World
 at_agent agent step run [] = record { run = run; channels = [] }
-at_agent agent step run (c ∷ cs) = if bytes_eq c.side.name agent then in_front (happens run c step) cs else behind c (at_agent agent step run cs)
+at_agent agent step run (c ∷ cs) =
+    if bytes_eq c.side.name agent then in_front (happens run c step) cs
+    else behind c (at_agent agent step run cs)
 
 abbrev pub with_side : (Side → Side) → Channel → Channel
 with_side f c = record c { side = f c.side }
@@ -121,7 +126,8 @@ halted_run run = record run { serves = false }
 abbrev pub after : World → Happening → World
 after w (At agent step) = at_agent agent step w.run w.channels
 after w (TearDown framework) = record { run = torn_down framework w.run; channels = w.channels }
-after w Restart = record { run = new_run (1 + w.run.number); channels = map (with_side restarted) w.channels }
+after w Restart =
+    record { run = new_run (1 + w.run.number); channels = map (with_side restarted) w.channels }
 after w Halt = record { run = halted_run w.run; channels = map (with_side halted) w.channels }
 
 abbrev pub after_all : List Happening → World → World
@@ -130,15 +136,25 @@ after_all (h ∷ hs) w = after_all hs (after w h)
 
 -- the opening: agents that come up over their records, and a master of this run
 abbrev pub open_channel : Durable → Channel
-open_channel d = record { side = new_side d.name; agent = recovered_from d; draft = None; to_agent = []; to_master = [] }
+open_channel d =
+    record {
+      side = new_side d.name;
+      agent = recovered_from d;
+      draft = None;
+      to_agent = [];
+      to_master = [];
+    }
 
 abbrev pub open_world : ℕ → List Durable → World
 open_world run records = record { run = new_run run; channels = map open_channel records }
 
--- Fits: of each name, the agent's current offers and the live tasks of its record have together at most what it owns
+-- Fits: of each name, the agent's current offers and the live tasks of its
+-- record have together at most what it owns
 abbrev pub Fits : Channel → Type 0
 Fits c = (name : List ℕ) →
-    sum_by (λ o. amount name o.resources) c.side.offers + sum_by (λ t. amount name t.job.resources) (live_tasks c.agent.durable.tasks) ≤ amount name c.agent.durable.total
+    sum_by (λ o. amount name o.resources) c.side.offers
+    + sum_by (λ t. amount name t.job.resources) (live_tasks c.agent.durable.tasks)
+    ≤ amount name c.agent.durable.total
 
 abbrev pub AllFit : World → Type 0
 AllFit w = Each Fits w.channels

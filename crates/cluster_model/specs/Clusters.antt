@@ -20,7 +20,8 @@ pub record Stream : Type 0 where
   pub events : List Event
   pub taken : ℕ
 
--- what was ever sent: a call, or a mail by its place in its channel. Its number is its place in the order of sending, from 1
+-- what was ever sent: a call, or a mail by its place in its channel.
+-- Its number is its place in the order of sending, from 1
 pub data Post : Type 0 where
   Called : (stream : Option Numbered) → (call : Call) → Post
   Down : (agent : List ℕ) → (place : ℕ) → Post
@@ -41,7 +42,8 @@ abbrev pub sides_of : List Channel → List Side
 sides_of cs = map (λ c. c.side) cs
 
 abbrev pub master_of : Cluster → Master
-master_of c = record { run = c.world.run; sides = sides_of c.world.channels; registers = c.registers }
+master_of c =
+    record { run = c.world.run; sides = sides_of c.world.channels; registers = c.registers }
 
 -- a cause of an agent: a mail is named by its number
 pub data StepCause : Type 0 where

@@ -14,7 +14,8 @@ pub data Event : Type 0 where
   SUBSCRIBED : (framework : Numbered) → Event
   OFFERS : (offers : List MadeOffer) → Event
   RESCIND : (offer : Numbered) → Event
-  UPDATE : (task : List ℕ) → (state : TaskState) → (agent : Option (List ℕ)) → (uuid : Option Update) → Event
+  UPDATE : (task : List ℕ) → (state : TaskState) → (agent : Option (List ℕ))
+      → (uuid : Option Update) → Event
   FAILURE : (agent : List ℕ) → Event
   FAILED_OVER : Event  -- ERROR with the message `Framework failed over`
   REMOVED : Event  -- ERROR with the message `Framework has been removed`

@@ -32,11 +32,13 @@ judged_session s session otherwise =
     else (if not s.is_open && nat_le session s.closed then Some Closed else otherwise)
 
 abbrev pub in_session : Side → ℕ → Option MasterRefusal
-in_session s session = if s.is_open && session == s.session then None else judged_session s session (Some NotOpen)
+in_session s session =
+    if s.is_open && session == s.session then None else judged_session s session (Some NotOpen)
 
 -- why a mail is refused, if it is
 abbrev pub judged : Run → Side → AgentMail → Option MasterRefusal
-judged run s (Report session number tasks total) = if number == run.number then judged_session s session None else Some OtherRun
+judged run s (Report session number tasks total) =
+    if number == run.number then judged_session s session None else Some OtherRun
 judged run s (Applied session count) = in_session s session
 judged run s (Update session key k state ended) = in_session s session
 
@@ -46,7 +48,9 @@ rescinds m os = flat_map (λ o. tells m o.framework (RESCIND o.id)) os
 
 -- TASK_LOST of booked tasks that haven't ended
 abbrev pub loses : Master → List ℕ → List Booked → List Told
-loses m agent bs = flat_map (λ b. if b.ended then [] else tells m b.job.framework (UPDATE b.job.name Lost (Some agent) None)) bs
+loses m agent bs =
+    flat_map (λ b. if b.ended then []
+    else tells m b.job.framework (UPDATE b.job.name Lost (Some agent) None)) bs
 
 abbrev pub is_reported : List Booked → Booked → Bool
 is_reported tasks b = list_any (λ t. same t.job.key b.job.key) tasks
@@ -59,7 +63,8 @@ is_to_end m tasks f = is_torn m f.id && list_any (λ t. same t.job.framework f.i
 abbrev pub session_opens : Master → Side → List Booked → Doing
 session_opens m s tasks = record {
   refusal = None;
-  moves = map (λ f. AtSide s.name (SendEnd f.id)) (filter (is_to_end m tasks) m.registers.frameworks);
+  moves =
+      map (λ f. AtSide s.name (SendEnd f.id)) (filter (is_to_end m tasks) m.registers.frameworks);
   events = rescinds m s.offers ++ loses m s.name (filter (λ b. not (is_reported tasks b)) s.booked);
   opens = [];
   closes = [];
@@ -68,18 +73,24 @@ session_opens m s tasks = record {
 
 -- an update of a booked task that isn't older than what was heard goes to its framework
 abbrev pub news_of : Master → List ℕ → Numbered → ℕ → TaskState → Booked → List Told
-news_of m agent key k state b = if same b.job.key key && nat_le b.heard (suc k) then tells m b.job.framework (UPDATE b.job.name state (Some agent) (Some (record { key = key; k = k }))) else []
+news_of m agent key k state b =
+    if same b.job.key key && nat_le b.heard (suc k)
+    then tells m b.job.framework
+    (UPDATE b.job.name state (Some agent) (Some (record { key = key; k = k }))) else []
 
 abbrev pub goes_with : Master → Side → AgentMail → Doing
-goes_with m s (Report session number tasks total) = if opens m.run s session number then session_opens m s tasks else nothing m
+goes_with m s (Report session number tasks total) =
+    if opens m.run s session number then session_opens m s tasks else nothing m
 goes_with m s (Applied session count) = nothing m
-goes_with m s (Update session key k state ended) = saying m (flat_map (news_of m s.name key k state) s.booked)
+goes_with m s (Update session key k state ended) =
+    saying m (flat_map (news_of m s.name key k state) s.booked)
 
 -- a Hello goes with every refusal but that of another run
 abbrev pub mailed_as : Master → Side → AgentMail → Option MasterRefusal → Doing
 mailed_as m s mail None = goes_with m s mail
 mailed_as m s mail (Some OtherRun) = refused m OtherRun
-mailed_as m s mail (Some refusal) = record (refused m refusal) { moves = AtSide s.name SendHello ∷ [] }
+mailed_as m s mail (Some refusal) =
+    record (refused m refusal) { moves = AtSide s.name SendHello ∷ [] }
 
 -- what goes with a mail of this side's agent, beside what the side hears
 abbrev pub mailed : Master → Side → AgentMail → Doing
@@ -88,10 +99,12 @@ mailed m s mail = mailed_as m s mail (judged m.run s mail)
 -- the master, once the side of an agent has heard a mail
 abbrev pub hear_at : List ℕ → Run → AgentMail → List Side → List Side
 hear_at agent run mail [] = []
-hear_at agent run mail (s ∷ ss) = if bytes_eq s.name agent then heard run s mail ∷ ss else s ∷ hear_at agent run mail ss
+hear_at agent run mail (s ∷ ss) =
+    if bytes_eq s.name agent then heard run s mail ∷ ss else s ∷ hear_at agent run mail ss
 
 abbrev pub having_heard : Master → List ℕ → AgentMail → Master
-having_heard m agent mail = record { run = m.run; sides = hear_at agent m.run mail m.sides; registers = m.registers }
+having_heard m agent mail =
+    record { run = m.run; sides = hear_at agent m.run mail m.sides; registers = m.registers }
 
 -- Tick
 
@@ -122,7 +135,8 @@ ticked m now = record {
   events = flat_map (beats now) m.registers.frameworks;
   opens = [];
   closes = [];
-  registers = record m.registers { now = now; frameworks = map (beaten now) m.registers.frameworks };
+  registers =
+      record m.registers { now = now; frameworks = map (beaten now) m.registers.frameworks };
 }
 
 -- LoseAgent
@@ -133,7 +147,9 @@ agent_lost m s =
     then record {
       refusal = None;
       moves = AtSide s.name Lose ∷ AtSide s.name SendHello ∷ [];
-      events = rescinds m s.offers ++ loses m s.name s.booked ++ tells_all m.registers.frameworks (FAILURE s.name);
+      events =
+          rescinds m s.offers ++ loses m s.name s.booked
+          ++ tells_all m.registers.frameworks (FAILURE s.name);
       opens = [];
       closes = [];
       registers = without_filters_on s.name m.registers;
@@ -154,4 +170,5 @@ hung_up_by m stream (Some f) = record {
 }
 
 abbrev pub hung_up : Master → Numbered → Doing
-hung_up m stream = hung_up_by m stream (find (λ f. is_stream stream f.stream) m.registers.frameworks)
+hung_up m stream =
+    hung_up_by m stream (find (λ f. is_stream stream f.stream) m.registers.frameworks)

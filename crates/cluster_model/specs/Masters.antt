@@ -39,7 +39,8 @@ pub data Move : Type 0 where
   RestartAll : Move
   HaltAll : Move
 
--- why it refuses, if it does; its moves; its events in the order made; the streams that it opens and closes; and what it has then beside its sides
+-- why it refuses, if it does; its moves; its events in the order made;
+-- the streams that it opens and closes; and what it has then beside its sides
 pub record Doing : Type 0 where
   pub refusal : Option MasterRefusal
   pub moves : List Move
@@ -49,21 +50,62 @@ pub record Doing : Type 0 where
   pub registers : Registers
 
 abbrev pub nothing : Master → Doing
-nothing m = record { refusal = None; moves = []; events = []; opens = []; closes = []; registers = m.registers }
+nothing m =
+    record {
+      refusal = None;
+      moves = [];
+      events = [];
+      opens = [];
+      closes = [];
+      registers = m.registers;
+    }
 
 abbrev pub refused : Master → MasterRefusal → Doing
-refused m refusal = record { refusal = Some refusal; moves = []; events = []; opens = []; closes = []; registers = m.registers }
+refused m refusal =
+    record {
+      refusal = Some refusal;
+      moves = [];
+      events = [];
+      opens = [];
+      closes = [];
+      registers = m.registers;
+    }
 
 abbrev pub saying : Master → List Told → Doing
-saying m events = record { refusal = None; moves = []; events = events; opens = []; closes = []; registers = m.registers }
+saying m events =
+    record {
+      refusal = None;
+      moves = [];
+      events = events;
+      opens = [];
+      closes = [];
+      registers = m.registers;
+    }
 
 abbrev pub moving : Master → List Move → Doing
-moving m moves = record { refusal = None; moves = moves; events = []; opens = []; closes = []; registers = m.registers }
+moving m moves =
+    record {
+      refusal = None;
+      moves = moves;
+      events = [];
+      opens = [];
+      closes = [];
+      registers = m.registers;
+    }
 
 abbrev pub keeping : Registers → Doing
-keeping registers = record { refusal = None; moves = []; events = []; opens = []; closes = []; registers = registers }
+keeping registers =
+    record {
+      refusal = None;
+      moves = [];
+      events = [];
+      opens = [];
+      closes = [];
+      registers = registers;
+    }
 
--- the master's own view of its moves: the run, its sides, and the mails that it sends, in the order made
+-- the master's own view of its moves: the run, its sides,
+-- and the mails that it sends, in the order made
 pub record Moved : Type 0 where
   pub run : Run
   pub sides : List Side
@@ -73,20 +115,30 @@ abbrev pub past_side : Side → Moved → Moved
 past_side s x = record { run = x.run; sides = s ∷ x.sides; sent = x.sent }
 
 abbrev pub at_this_side : List ℕ → Sending → List Side → Moved
-at_this_side agent x ss = record { run = x.run; sides = x.side ∷ ss; sent = map (λ mail. record { agent = agent; mail = mail }) x.sent }
+at_this_side agent x ss =
+    record {
+      run = x.run;
+      sides = x.side ∷ ss;
+      sent = map (λ mail. record { agent = agent; mail = mail }) x.sent;
+    }
 
 abbrev pub at_side : List ℕ → SideStep → Run → List Side → Moved
 at_side agent step run [] = record { run = run; sides = []; sent = [] }
-at_side agent step run (s ∷ ss) = if bytes_eq s.name agent then at_this_side agent (side_step run s step) ss else past_side s (at_side agent step run ss)
+at_side agent step run (s ∷ ss) =
+    if bytes_eq s.name agent then at_this_side agent (side_step run s step) ss
+    else past_side s (at_side agent step run ss)
 
 abbrev pub sending_more : List ToAgent → Moved → Moved
 sending_more sent x = record { run = x.run; sides = x.sides; sent = sent ++ x.sent }
 
 abbrev pub move : Moved → Move → Moved
 move x (AtSide agent step) = sending_more x.sent (at_side agent step x.run x.sides)
-move x (TearDownAll framework) = record { run = torn_down framework x.run; sides = x.sides; sent = x.sent }
-move x RestartAll = record { run = new_run (1 + x.run.number); sides = map restarted x.sides; sent = x.sent }
-move x HaltAll = record { run = record x.run { serves = false }; sides = map halted x.sides; sent = x.sent }
+move x (TearDownAll framework) =
+    record { run = torn_down framework x.run; sides = x.sides; sent = x.sent }
+move x RestartAll =
+    record { run = new_run (1 + x.run.number); sides = map restarted x.sides; sent = x.sent }
+move x HaltAll =
+    record { run = record x.run { serves = false }; sides = map halted x.sides; sent = x.sent }
 
 abbrev pub move_all : List Move → Moved → Moved
 move_all [] x = x
@@ -101,7 +153,8 @@ moved m moves = move_all moves (unmoved m)
 
 -- the master after a step
 abbrev pub after_doing : Master → Doing → Master
-after_doing m d = let x = moved m d.moves in record { run = x.run; sides = x.sides; registers = d.registers }
+after_doing m d = let x =
+    moved m d.moves in record { run = x.run; sides = x.sides; registers = d.registers }
 
 -- frameworks and their streams
 
@@ -149,10 +202,13 @@ all_booked m = flat_map placed_on m.sides
 
 -- in its place by launch key
 abbrev pub put_placed : List Placed → Placed → List Placed
-put_placed ps p = filter (λ q. before q.booked.job.key p.booked.job.key) ps ++ p ∷ filter (λ q. before p.booked.job.key q.booked.job.key) ps
+put_placed ps p =
+    filter (λ q. before q.booked.job.key p.booked.job.key) ps ++ p
+    ∷ filter (λ q. before p.booked.job.key q.booked.job.key) ps
 
 abbrev pub is_task_of : Numbered → List ℕ → Placed → Bool
-is_task_of framework task p = same p.booked.job.framework framework && bytes_eq p.booked.job.name task
+is_task_of framework task p =
+    same p.booked.job.framework framework && bytes_eq p.booked.job.name task
 
 -- of two, the one that hasn't ended, then the one with the least key
 abbrev pub stands_before : Placed → Placed → Bool
@@ -188,7 +244,8 @@ withdraws test m = map (withdraws_on test) m.sides
 -- without the oldest on that agent
 abbrev pub drop_oldest : List ℕ → List Filter → List Filter
 drop_oldest agent [] = []
-drop_oldest agent (x ∷ xs) = let rest = x ∷ drop_oldest agent xs in cond (bytes_eq x.agent agent) xs rest
+drop_oldest agent (x ∷ xs) = let rest =
+    x ∷ drop_oldest agent xs in cond (bytes_eq x.agent agent) xs rest
 
 abbrev pub count_on : List ℕ → List Filter → ℕ
 count_on agent xs = length (filter (λ x. bytes_eq x.agent agent) xs)
@@ -197,12 +254,14 @@ count_on agent xs = length (filter (λ x. bytes_eq x.agent agent) xs)
 abbrev pub most_filters : ℕ
 most_filters = 64
 
--- a filter of refused rows, where there are any and the seconds aren't 0; the oldest one on the agent makes room
+-- a filter of refused rows, where there are any and the seconds aren't 0;
+-- the oldest one on the agent makes room
 abbrev pub add_filter : ℕ → ℕ → List Filter → List ℕ → List Row → List Filter
 add_filter now seconds filters agent [] = filters
 add_filter now seconds filters agent (row ∷ rows) =
     if seconds == 0 then filters
-    else (if nat_le most_filters (count_on agent filters) then drop_oldest agent filters else filters)
+    else (if nat_le most_filters (count_on agent filters) then drop_oldest agent filters
+    else filters)
     ++ record { agent = agent; made = now; seconds = seconds; refused = row ∷ rows } ∷ []
 
 -- filters on an agent end with its session

@@ -9,7 +9,9 @@ use Rattle.cluster_model.specs.Agents.{live_tasks}
 
 -- the live tasks of a record have together at most what the agent owns
 abbrev pub RecordFits : Durable → Type 0
-RecordFits d = (name : List ℕ) → sum_by (λ t. amount name t.job.resources) (live_tasks d.tasks) ≤ amount name d.total
+RecordFits d =
+    (name : List ℕ) → sum_by (λ t. amount name t.job.resources) (live_tasks d.tasks)
+    ≤ amount name d.total
 
 -- the tasks of all records
 abbrev pub recorded_jobs : List Durable → List Job

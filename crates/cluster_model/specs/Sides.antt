@@ -1,4 +1,5 @@
--- What the master has of one agent, and what it does there (Mesos paper, section 3.1: offers; section 3.5: soft state, rebuilt from agents' reports).
+-- What the master has of one agent, and what it does there (Mesos paper, section 3.1: offers;
+-- section 3.5: soft state, rebuilt from agents' reports).
 use Rattle.std.specs.Prelude.{ℕ, suc, ◌+◌, ◌-◌, Bool, true, false, not, ◌&&◌, ◌||◌, ◌==◌, nat_lt, nat_le, if◌then◌else◌, List, [], ◌∷◌, ◌++◌, length, map, filter, flat_map, drop, take}
 use Rattle.std.specs.List.{list_any, list_all}
 use Rattle.names_core.specs.Ids.{Numbered}
@@ -29,7 +30,7 @@ pub record Run : Type 0 where
 -- what the master has of one agent
 pub record Side : Type 0 where
   pub name : List ℕ
-  pub total : List Row  -- what the agent owns, as the Report of the open session told it; nothing where none is open
+  pub total : List Row  -- owned, as the Report of the open session told it; else nothing
   pub is_open : Bool  -- a session is open
   pub session : ℕ  -- the open one
   pub closed : ℕ  -- the greatest that this run has closed, 0 if none
@@ -40,11 +41,29 @@ pub record Side : Type 0 where
 
 -- a run begins
 abbrev pub new_run : ℕ → Run
-new_run number = record { number = number; serves = true; torn = []; next_key = first_of_run number; next_offer = first_of_run number }
+new_run number =
+    record {
+      number = number;
+      serves = true;
+      torn = [];
+      next_key = first_of_run number;
+      next_offer = first_of_run number;
+    }
 
 -- nothing is known of an agent but its name
 abbrev pub new_side : List ℕ → Side
-new_side name = record { name = name; total = []; is_open = false; session = 0; closed = 0; waiting = []; known = 0; offers = []; booked = [] }
+new_side name =
+    record {
+      name = name;
+      total = [];
+      is_open = false;
+      session = 0;
+      closed = 0;
+      waiting = [];
+      known = 0;
+      offers = [];
+      booked = [];
+    }
 
 abbrev pub torn_down : Numbered → Run → Run
 torn_down framework run = record run { torn = run.torn ++ framework ∷ [] }
@@ -84,7 +103,8 @@ issue x command =
     then record {
       run = x.run;
       side = record x.side { waiting = x.side.waiting ++ command ∷ [] };
-      sent = x.sent ++ Issued x.side.session (suc (x.side.known + length x.side.waiting)) command ∷ [];
+      sent =
+          x.sent ++ Issued x.side.session (suc (x.side.known + length x.side.waiting)) command ∷ [];
     }
     else x
 
@@ -98,12 +118,20 @@ oldest_again s (command ∷ later) = Issued s.session (suc s.known) command ∷ 
 abbrev pub just_booked : Job → Booked
 just_booked job = record { job = job; ended = false; heard = 0; state = Staging }
 
--- a job may be launched: it has the next key, is of the framework, and the budget covers it beside what is used
+-- a job may be launched: it has the next key, is of the framework,
+-- and the budget covers it beside what is used
 abbrev pub may_launch : Run → Numbered → List Row → List Row → Job → Bool
-may_launch run framework budget used job = same job.key run.next_key && same job.framework framework && covers budget (job.resources ++ used)
+may_launch run framework budget used job =
+    same job.key run.next_key && same job.framework framework
+    && covers budget (job.resources ++ used)
 
 abbrev pub books : Sending → Job → Sending
-books x job = record { run = record x.run { next_key = following job.key }; side = record x.side { booked = x.side.booked ++ just_booked job ∷ [] }; sent = x.sent }
+books x job =
+    record {
+      run = record x.run { next_key = following job.key };
+      side = record x.side { booked = x.side.booked ++ just_booked job ∷ [] };
+      sent = x.sent;
+    }
 
 -- how far an ACCEPT's launches have come: what they use, and the side after them
 pub record Launching : Type 0 where
@@ -113,12 +141,16 @@ pub record Launching : Type 0 where
 abbrev pub launch_one : Numbered → List Numbered → List Row → Launching → Job → Launching
 launch_one framework ids budget x job =
     if may_launch x.sending.run framework budget x.used job
-    then record { used = job.resources ++ x.used; sending = issue (books x.sending job) (Launch job ids) }
+    then record {
+      used = job.resources ++ x.used;
+      sending = issue (books x.sending job) (Launch job ids);
+    }
     else x
 
 abbrev pub launch_all : Numbered → List Numbered → List Row → List Job → Launching → Sending
 launch_all framework ids budget [] x = x.sending
-launch_all framework ids budget (job ∷ jobs) x = launch_all framework ids budget jobs (launch_one framework ids budget x job)
+launch_all framework ids budget (job ∷ jobs) x =
+    launch_all framework ids budget jobs (launch_one framework ids budget x job)
 
 -- an offer that a framework names
 abbrev pub is_named : Numbered → List Numbered → Offer → Bool
@@ -129,32 +161,38 @@ has_offer s framework id = list_any (λ o. same o.framework framework && same o.
 
 -- an ACCEPT's offers are good: some, none twice, all current, of the framework, and on this agent
 abbrev pub is_good : Side → Numbered → List Numbered → Bool
-is_good s framework ids = s.is_open && not (is_empty ids) && not (is_repeated ids) && list_all (has_offer s framework) ids
+is_good s framework ids =
+    s.is_open && not (is_empty ids) && not (is_repeated ids) && list_all (has_offer s framework) ids
 
 -- the offers that an ACCEPT uses
 abbrev pub used_offers : Side → Numbered → List Numbered → List Offer
 used_offers s framework ids = filter (is_named framework ids) s.offers
 
 abbrev pub without_used : Side → Numbered → List Numbered → Side
-without_used s framework ids = record s { offers = filter (λ o. not (is_named framework ids o)) s.offers }
+without_used s framework ids =
+    record s { offers = filter (λ o. not (is_named framework ids o)) s.offers }
 
 -- an ACCEPT of good offers: they are withdrawn, and the jobs are launched out of their sum
 abbrev pub accepted : Run → Side → Numbered → List Numbered → List Job → Sending
 accepted run s framework ids jobs =
     if is_good s framework ids && not (is_among run.torn framework)
-    then launch_all framework ids (offer_rows (used_offers s framework ids)) jobs (record { used = []; sending = sends_nothing run (without_used s framework ids) })
+    then launch_all framework ids (offer_rows (used_offers s framework ids)) jobs
+    (record { used = []; sending = sends_nothing run (without_used s framework ids) })
     else sends_nothing run s
 
 -- offers
 
--- an offer may be made: it has the next id, the agent's session is open, and with it all still fits the total
+-- an offer may be made: it has the next id, the agent's session is open,
+-- and with it all still fits the total
 abbrev pub may_offer : Run → Side → Offer → Bool
-may_offer run s offer = s.is_open && same offer.id run.next_offer && covers s.total (offer.resources ++ taken s)
+may_offer run s offer =
+    s.is_open && same offer.id run.next_offer && covers s.total (offer.resources ++ taken s)
 
 abbrev pub offered : Run → Side → Offer → Sending
 offered run s offer =
     if may_offer run s offer
-    then sends_nothing (record run { next_offer = following offer.id }) (record s { offers = s.offers ++ offer ∷ [] })
+    then sends_nothing (record run { next_offer = following offer.id })
+    (record s { offers = s.offers ++ offer ∷ [] })
     else sends_nothing run s
 
 abbrev pub withdrawn : Side → List Numbered → Side
@@ -162,7 +200,8 @@ withdrawn s ids = record s { offers = filter (λ o. not (is_among ids o.id)) s.o
 
 -- the agent's mails
 
--- an update that is told: the mark of an end stays for good; count and state follow where it isn't older than what was heard
+-- an update that is told: the mark of an end stays for good;
+-- count and state follow where it isn't older than what was heard
 abbrev pub heard_update : Numbered → ℕ → TaskState → Bool → Booked → Booked
 heard_update key k state ended b =
     if same b.job.key key
@@ -178,7 +217,8 @@ heard_update key k state ended b =
 abbrev pub forget : Command → List Booked → List Booked
 forget (Launch job offers) bs = bs
 forget (Kill key) bs = bs
-forget (Ack key k) bs = filter (λ b. not (b.ended && same b.job.key key && b.heard == suc k && is_terminal b.state)) bs
+forget (Ack key k) bs =
+    filter (λ b. not (b.ended && same b.job.key key && b.heard == suc k && is_terminal b.state)) bs
 forget (EndFramework framework) bs = filter (λ b. not (same b.job.framework framework)) bs
 
 abbrev pub forget_all : List Command → List Booked → List Booked
@@ -193,29 +233,58 @@ last_session s = if s.is_open then s.session else s.closed
 abbrev pub opens : Run → Side → ℕ → ℕ → Bool
 opens run s session number = run.serves && number == run.number && nat_lt (last_session s) session
 
--- the old session is closed, the offers are gone, the books are the reported tasks, and the agent owns the reported total
+-- the old session is closed, the offers are gone, the books are the reported tasks,
+-- and the agent owns the reported total
 abbrev pub opened : Side → ℕ → List Booked → List Row → Side
-opened s session tasks total = record s { total = total; is_open = true; session = session; closed = last_session s; waiting = []; known = 0; offers = []; booked = tasks }
+opened s session tasks total =
+    record s {
+      total = total;
+      is_open = true;
+      session = session;
+      closed = last_session s;
+      waiting = [];
+      known = 0;
+      offers = [];
+      booked = tasks;
+    }
 
 -- a count of applied commands tells something new
 abbrev pub counts : Side → ℕ → ℕ → Bool
-counts s session count = (s.is_open && session == s.session) && (nat_lt s.known count && nat_le count (s.known + length s.waiting))
+counts s session count =
+    (s.is_open && session == s.session)
+    && (nat_lt s.known count && nat_le count (s.known + length s.waiting))
 
 -- what a mail of the agent does
 abbrev pub heard : Run → Side → AgentMail → Side
-heard run s (Report session number tasks total) = if opens run s session number then opened s session tasks total else s
+heard run s (Report session number tasks total) =
+    if opens run s session number then opened s session tasks total else s
 heard run s (Applied session count) =
     if counts s session count
-    then record s { booked = forget_all (take (count - s.known) s.waiting) s.booked; waiting = drop (count - s.known) s.waiting; known = count }
+    then record s {
+      booked = forget_all (take (count - s.known) s.waiting) s.booked;
+      waiting = drop (count - s.known) s.waiting;
+      known = count;
+    }
     else s
 heard run s (Update session key k state ended) =
-    if s.is_open && session == s.session then record s { booked = map (heard_update key k state ended) s.booked } else s
+    if s.is_open && session == s.session then record s
+    { booked = map (heard_update key k state ended) s.booked } else s
 
 -- ends of sessions and runs
 
 -- no session is open, and the last one that was closed is this
 abbrev pub shut : Side → ℕ → Side
-shut s closed = record s { total = []; is_open = false; session = 0; closed = closed; waiting = []; known = 0; offers = []; booked = [] }
+shut s closed =
+    record s {
+      total = [];
+      is_open = false;
+      session = 0;
+      closed = closed;
+      waiting = [];
+      known = 0;
+      offers = [];
+      booked = [];
+    }
 
 -- the agent is lost: its session is closed, and it leaves the books
 abbrev pub lost : Side → Side
@@ -248,7 +317,10 @@ side_step run s (Withdraw ids) = sends_nothing run (withdrawn s ids)
 side_step run s (LaunchFrom framework ids jobs) = accepted run s framework ids jobs
 side_step run s (SendKill key) = issue (sends_nothing run s) (Kill key)
 side_step run s (SendAck key k) = issue (sends_nothing run s) (Ack key k)
-side_step run s (SendEnd framework) = if is_among run.torn framework then issue (sends_nothing run s) (EndFramework framework) else sends_nothing run s
+side_step run s (SendEnd framework) =
+    if is_among run.torn framework then issue (sends_nothing run s) (EndFramework framework)
+    else sends_nothing run s
 side_step run s SendHello = record { run = run; side = s; sent = Hello run.number s.closed ∷ [] }
-side_step run s SendAgain = record { run = run; side = s; sent = if s.is_open then oldest_again s s.waiting else [] }
+side_step run s SendAgain =
+    record { run = run; side = s; sent = if s.is_open then oldest_again s s.waiting else [] }
 side_step run s Lose = sends_nothing run (lost s)

@@ -39,8 +39,10 @@ new_to_master old new = drop (length old.to_master) new.to_master
 
 abbrev pub sent_in : Channel → Channel → List Sent
 sent_in old new =
-    map (λ mail. MailToAgent (record { agent = new.side.name; mail = mail })) (new_to_agent old new) ++
-    map (λ mail. MailToMaster (record { agent = new.side.name; mail = mail })) (new_to_master old new)
+    map (λ mail. MailToAgent (record { agent = new.side.name; mail = mail })) (new_to_agent old new)
+    ++
+    map (λ mail. MailToMaster (record { agent = new.side.name; mail = mail }))
+    (new_to_master old new)
 
 abbrev pub posts_in : Channel → Channel → List Post
 posts_in old new =
@@ -60,11 +62,13 @@ posts_between (old ∷ olds) (new ∷ news) = posts_in old new ++ posts_between 
 -- the mails that happenings send, in the order made
 abbrev pub sent_by : List Happening → World → List Sent
 sent_by [] w = []
-sent_by (h ∷ hs) w = let next = after w h in sent_between w.channels next.channels ++ sent_by hs next
+sent_by (h ∷ hs) w = let next =
+    after w h in sent_between w.channels next.channels ++ sent_by hs next
 
 abbrev pub posts_by : List Happening → World → List Post
 posts_by [] w = []
-posts_by (h ∷ hs) w = let next = after w h in posts_between w.channels next.channels ++ posts_by hs next
+posts_by (h ∷ hs) w = let next =
+    after w h in posts_between w.channels next.channels ++ posts_by hs next
 
 -- streams
 
@@ -82,7 +86,8 @@ streams_after streams opens told = map (hears told) (streams ++ map new_stream o
 
 -- what a step does
 
--- its verdict, what happens in the channels, its events, the streams that it opens and closes, and the registers after it
+-- its verdict, what happens in the channels, its events, the streams that it opens and closes,
+-- and the registers after it
 pub record Effect : Type 0 where
   pub verdict : Verdict
   pub happenings : List Happening
@@ -99,7 +104,16 @@ pub record Done : Type 0 where
 
 abbrev pub done : Cluster → Effect → Done
 done c e = record {
-  entry = record { verdict = e.verdict; outs = record { events = e.events; closed = e.closes; sent = sent_by e.happenings c.world; taken = [] } };
+  entry =
+      record {
+        verdict = e.verdict;
+        outs = record {
+          events = e.events;
+          closed = e.closes;
+          sent = sent_by e.happenings c.world;
+          taken = [];
+        };
+      };
   happenings = e.happenings;
   after = record {
     world = after_all e.happenings c.world;
@@ -118,7 +132,15 @@ does c e = Ok (done c e)
 
 -- what happens in channels alone
 abbrev pub happening : Cluster → Verdict → List Happening → Effect
-happening c verdict hs = record { verdict = verdict; happenings = hs; events = []; opens = []; closes = []; registers = c.registers }
+happening c verdict hs =
+    record {
+      verdict = verdict;
+      happenings = hs;
+      events = [];
+      opens = [];
+      closes = [];
+      registers = c.registers;
+    }
 
 -- the master's steps
 
@@ -133,7 +155,15 @@ verdict_of None = Fine
 verdict_of (Some refusal) = MasterRefused refusal
 
 abbrev pub effect_of : List Happening → Doing → Effect
-effect_of first d = record { verdict = verdict_of d.refusal; happenings = first ++ map happening_of d.moves; events = d.events; opens = d.opens; closes = d.closes; registers = d.registers }
+effect_of first d =
+    record {
+      verdict = verdict_of d.refusal;
+      happenings = first ++ map happening_of d.moves;
+      events = d.events;
+      opens = d.opens;
+      closes = d.closes;
+      registers = d.registers;
+    }
 
 -- what the master does
 abbrev pub master_does : Cluster → Doing → Result Done StepRefusal
@@ -142,7 +172,8 @@ master_does c d = does c (effect_of [] d)
 -- what the master does at a mail, which its side hears first
 abbrev pub master_hears : Cluster → Channel → ℕ → Option AgentMail → Result Done StepRefusal
 master_hears c x place None = Err NoSuchMail
-master_hears c x place (Some mail) = does c (effect_of (At x.side.name (Hear place) ∷ []) (mailed (master_of c) x.side mail))
+master_hears c x place (Some mail) =
+    does c (effect_of (At x.side.name (Hear place) ∷ []) (mailed (master_of c) x.side mail))
 
 abbrev pub channel_of : Cluster → List ℕ → Option Channel
 channel_of c agent = find (λ x. bytes_eq x.side.name agent) c.world.channels
@@ -166,7 +197,9 @@ abbrev pub with_tick : Cluster → ℕ → Cluster
 with_tick c now = record c { last_tick = now }
 
 abbrev pub ticks_at : Cluster → ℕ → Result Done StepRefusal
-ticks_at c now = if nat_lt now c.last_tick then Err TimeBack else master_does (with_tick c now) (ticked (master_of c) now)
+ticks_at c now =
+    if nat_lt now c.last_tick then Err TimeBack
+    else master_does (with_tick c now) (ticked (master_of c) now)
 
 abbrev pub stream_at : Cluster → Numbered → Option Stream
 stream_at c id = find (λ s. same s.id id) c.streams
@@ -181,16 +214,19 @@ loses_agent c x = master_does c (agent_lost (master_of c) x.side)
 abbrev pub hello_to : Channel → Happening
 hello_to x = At x.side.name (ByMaster SendHello)
 
--- a master that stops: all streams close, and a new one of the next run greets every agent; behind the last run none comes
+-- a master that stops: all streams close, and a new one of the next run greets every agent;
+-- behind the last run none comes
 abbrev pub master_stops : Cluster → Effect
 master_stops c =
     if nat_lt c.world.run.number last_run
-    then record (happening c Fine (Restart ∷ map hello_to c.world.channels)) { registers = new_registers }
+    then record (happening c Fine (Restart ∷ map hello_to c.world.channels))
+    { registers = new_registers }
     else record (happening c Fine (Halt ∷ [])) { registers = new_registers }
 
 -- the agents' steps
 
-abbrev pub drafts : Cluster → Channel → AgentStep → Result Draft AgentRefusal → Result Done StepRefusal
+abbrev pub drafts : Cluster → Channel → AgentStep → Result Draft AgentRefusal
+    → Result Done StepRefusal
 drafts c x step (Ok draft) = does c (happening c Fine (At x.side.name (ByAgent step) ∷ []))
 drafts c x step (Err refusal) = does c (happening c (AgentRefused refusal) [])
 
@@ -223,14 +259,16 @@ abbrev pub up_again : Cluster → List ℕ → Cluster
 up_again c agent = record c { fallen = filter (λ a. not (bytes_eq a agent)) c.fallen }
 
 abbrev pub stops : Cluster → AgentStep → Channel → Result Done StepRefusal
-stops c stop x = does (up_again c x.side.name) (happening c Fine (At x.side.name (ByAgent stop) ∷ []))
+stops c stop x =
+    does (up_again c x.side.name) (happening c Fine (At x.side.name (ByAgent stop) ∷ []))
 
 -- what a step asks first
 
 abbrev pub with_master : Cluster → Result Done StepRefusal → Result Done StepRefusal
 with_master c answer = if c.world.run.serves then answer else Err MasterDown
 
-abbrev pub at_channel : Option Channel → (Channel → Result Done StepRefusal) → Result Done StepRefusal
+abbrev pub at_channel : Option Channel → (Channel → Result Done StepRefusal)
+    → Result Done StepRefusal
 at_channel None step = Err NoSuchAgent
 at_channel (Some x) step = step x
 
@@ -240,7 +278,8 @@ is_fallen c x = list_any (bytes_eq x.side.name) c.fallen
 abbrev pub if_up : Cluster → (Channel → Result Done StepRefusal) → Channel → Result Done StepRefusal
 if_up c step x = if is_fallen c x then Err AgentDown else step x
 
-abbrev pub by_draft : Option Draft → Result Done StepRefusal → Result Done StepRefusal → Result Done StepRefusal
+abbrev pub by_draft : Option Draft → Result Done StepRefusal → Result Done StepRefusal
+    → Result Done StepRefusal
 by_draft None without with_one = without
 by_draft (Some draft) without with_one = with_one
 
@@ -260,12 +299,18 @@ sends c stream call = record {
 }
 
 abbrev pub takes_one : Numbered → Stream → Stream
-takes_one id s = if same s.id id then record { id = s.id; events = s.events; taken = suc s.taken } else s
+takes_one id s =
+    if same s.id id then record { id = s.id; events = s.events; taken = suc s.taken } else s
 
 abbrev pub takes_event : Cluster → Numbered → Option Event → Result Done StepRefusal
 takes_event c id None = Err NoSuchMail
 takes_event c id (Some event) = Ok (record {
-  entry = record { verdict = Fine; outs = record no_outs { taken = record { stream = id; event = event } ∷ [] } };
+  entry =
+      record {
+        verdict = Fine;
+        outs = record no_outs
+            { taken = record { stream = id; event = event } ∷ [] };
+      };
   happenings = [];
   after = record c { streams = map (takes_one id) c.streams; entries = suc c.entries };
 })
@@ -282,27 +327,31 @@ answer c Allocate = with_master c (master_does c (allocated c.weights (master_of
 answer c (Tick now) = with_master c (ticks_at c now)
 answer c (LoseAgent agent) = at_channel (channel_of c agent) (λ x. with_master c (loses_agent c x))
 answer c (HangUp stream) = with_master c (hangs_up c stream (stream_at c stream))
-answer c (Prepare agent cause) = at_channel (channel_of c agent) (if_up c (without_draft (prepares c cause)))
+answer c (Prepare agent cause) =
+    at_channel (channel_of c agent) (if_up c (without_draft (prepares c cause)))
 answer c (Commit agent) = at_channel (channel_of c agent) (if_up c (with_draft (commits c)))
 answer c (StopBefore agent) = at_channel (channel_of c agent) (stops c StopWithout)
 answer c (StopAfter agent) = at_channel (channel_of c agent) (with_draft (stops c StopWith))
 answer c StopMaster = does c (master_stops c)
 answer c (Take stream) = takes c stream (stream_at c stream)
 
--- where a part runs out of memory: it is down, the entry has no outputs, and a StopAgent has chosen its record
+-- where a part runs out of memory: it is down, the entry has no outputs,
+-- and a StopAgent has chosen its record
 
 abbrev pub master_falls : Cluster → Done
 master_falls c = done c (record (happening c Fell (Halt ∷ [])) { registers = new_registers })
 
 -- the new master of a StopMaster
 abbrev pub new_master_falls : Cluster → Done
-new_master_falls c = done c (record (happening c Fell (Restart ∷ Halt ∷ [])) { registers = new_registers })
+new_master_falls c =
+    done c (record (happening c Fell (Restart ∷ Halt ∷ [])) { registers = new_registers })
 
 abbrev pub fallen_too : Cluster → List ℕ → Cluster
 fallen_too c agent = record c { fallen = agent ∷ filter (λ a. not (bytes_eq a agent)) c.fallen }
 
 abbrev pub agent_falls : Cluster → List ℕ → AgentStep → Done
-agent_falls c agent stop = done (fallen_too c agent) (happening c Fell (At agent (ByAgent stop) ∷ []))
+agent_falls c agent stop =
+    done (fallen_too c agent) (happening c Fell (At agent (ByAgent stop) ∷ []))
 
 abbrev pub instead : Result Done StepRefusal → Done → Result Done StepRefusal
 instead (Ok done) fell = Ok fell
@@ -316,11 +365,15 @@ fallen_answer c Allocate = instead (answer c Allocate) (master_falls c)
 fallen_answer c (Tick now) = instead (answer c (Tick now)) (master_falls (with_tick c now))
 fallen_answer c (LoseAgent agent) = instead (answer c (LoseAgent agent)) (master_falls c)
 fallen_answer c (HangUp stream) = instead (answer c (HangUp stream)) (master_falls c)
-fallen_answer c (Prepare agent cause) = instead (answer c (Prepare agent cause)) (agent_falls c agent StopWithout)
+fallen_answer c (Prepare agent cause) =
+    instead (answer c (Prepare agent cause)) (agent_falls c agent StopWithout)
 fallen_answer c (Commit agent) = answer c (Commit agent)
-fallen_answer c (StopBefore agent) = instead (answer c (StopBefore agent)) (agent_falls c agent StopWithout)
-fallen_answer c (StopAfter agent) = instead (answer c (StopAfter agent)) (agent_falls c agent StopWith)
-fallen_answer c StopMaster = if nat_lt c.world.run.number last_run then Ok (new_master_falls c) else answer c StopMaster
+fallen_answer c (StopBefore agent) =
+    instead (answer c (StopBefore agent)) (agent_falls c agent StopWithout)
+fallen_answer c (StopAfter agent) =
+    instead (answer c (StopAfter agent)) (agent_falls c agent StopWith)
+fallen_answer c StopMaster =
+    if nat_lt c.world.run.number last_run then Ok (new_master_falls c) else answer c StopMaster
 fallen_answer c (Take stream) = answer c (Take stream)
 
 -- a step, with the mark of its entry: whether the part that it moves ran out of memory
@@ -329,7 +382,9 @@ pub record Marked : Type 0 where
   pub step : Step
 
 abbrev pub step_marked : Cluster → Marked → Result Done StepRefusal
-step_marked c s = if nat_le last_number c.entries then Err HistoryFull else (if s.fell then fallen_answer c s.step else answer c s.step)
+step_marked c s =
+    if nat_le last_number c.entries then Err HistoryFull
+    else (if s.fell then fallen_answer c s.step else answer c s.step)
 
 abbrev pub unmarked : Step → Marked
 unmarked s = record { fell = false; step = s }
@@ -371,11 +426,21 @@ pub record History : Type 0 where
   pub state : Cluster
 
 abbrev pub opening : Setup → List Durable → History
-opening setup records = let d = open_cluster setup records in record { entries = d.entry ∷ []; happenings = d.happenings; state = d.after }
+opening setup records = let d =
+    open_cluster setup records in record {
+      entries = d.entry ∷ [];
+      happenings = d.happenings;
+      state = d.after;
+    }
 
 -- a step that is refused adds no entry
 abbrev pub extended : History → Result Done StepRefusal → History
-extended h (Ok d) = record { entries = h.entries ++ d.entry ∷ []; happenings = h.happenings ++ d.happenings; state = d.after }
+extended h (Ok d) =
+    record {
+      entries = h.entries ++ d.entry ∷ [];
+      happenings = h.happenings ++ d.happenings;
+      state = d.after;
+    }
 extended h (Err refusal) = h
 
 abbrev pub extend_all : History → List Marked → History

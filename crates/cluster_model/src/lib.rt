@@ -1,5 +1,5 @@
-//! The model of the whole cluster: what frameworks, master and agents do at each step, said from all that was ever sent.
-//! It has no code: contracts of the crates above cite its definitions.
+//! The model of the whole cluster: what frameworks, master and agents do at each step, said from
+//! all that was ever sent. It has no code: contracts of the crates above cite its definitions.
 #![tactic(auto)]
 
 ghost use Rattle.cluster_model.specs.Channels.{Happening, World, after_all};
@@ -7,5 +7,6 @@ ghost use Rattle.std.specs.Prelude.{◌≡◌, ◌++◌, List};
 
 /// What happens after two lists of happenings is what happens after the one and then the other.
 pub fn happenings_follow_one_another()
-    ensures { (hs more : List Happening) (w : World) → after_all (hs ++ more) w ≡ after_all more (after_all hs w) }
+    ensures { (hs more : List Happening) (w : World)
+        → after_all (hs ++ more) w ≡ after_all more (after_all hs w) }
 {}

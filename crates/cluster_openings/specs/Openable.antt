@@ -10,7 +10,9 @@ use Rattle.mails.specs.declared.record.RecordedTask.{RecordedTask}
 
 -- every run in a task lies before this one
 abbrev pub is_task_before : ℕ → RecordedTask → Bool
-is_task_before run t = nat_lt t.job.key.run run && nat_lt t.job.framework.run run && list_all (λ id. nat_lt id.run run) t.offers
+is_task_before run t =
+    nat_lt t.job.key.run run && nat_lt t.job.framework.run run
+    && list_all (λ id. nat_lt id.run run) t.offers
 
 -- every run in a record lies before this one
 abbrev pub is_before : ℕ → Durable → Bool
@@ -25,7 +27,8 @@ any_has_key key records = list_any (λ d. has_key key d.tasks) records
 -- no key of these tasks stands twice, nor in the records behind them
 abbrev pub are_keys_new : List RecordedTask → List Durable → Bool
 are_keys_new [] behind = true
-are_keys_new (t ∷ ts) behind = not (has_key t.job.key ts || any_has_key t.job.key behind) && are_keys_new ts behind
+are_keys_new (t ∷ ts) behind =
+    not (has_key t.job.key ts || any_has_key t.job.key behind) && are_keys_new ts behind
 
 -- no key stands twice
 abbrev pub are_keys_once : List Durable → Bool

@@ -13,8 +13,10 @@ IsRecordOf a d = (a.name ≡ d.name) × AtLeast a.total d.total
 
 -- each agent has a record among them, and each is that of one of the agents
 pub record AreRecordsOf (agents : List ConfiguredAgent) (records : List Durable) : Type 0 where
-  pub each : (a : ConfiguredAgent) → Contains agents a → (d : Durable) × Contains records d × IsRecordOf a d
-  pub only : (d : Durable) → Contains records d → (a : ConfiguredAgent) × Contains agents a × IsRecordOf a d
+  pub each : (a : ConfiguredAgent) → Contains agents a → (d : Durable) × Contains records d
+      × IsRecordOf a d
+  pub only : (d : Durable) → Contains records d → (a : ConfiguredAgent) × Contains agents a
+      × IsRecordOf a d
 
 -- the records stand in the order of their agents: one for each, and no other
 abbrev pub StandInOrder : List ConfiguredAgent → List Durable → Type 0

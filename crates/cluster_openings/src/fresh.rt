@@ -11,7 +11,8 @@ use agent_sides::{Config, ConfiguredAgent};
 use plain_data::Plain;
 use std::alloc::{AllocError, Global};
 
-/// A cluster may be opened in any run over configured agents that never ran: their records are those of the configuration, and in its order.
+/// A cluster may be opened in any run over configured agents that never ran:
+/// their records are those of the configuration, and in its order.
 pub fn fresh_agents_open(config: &Config)
     ensures good { (run : ℕ) → 0 < run → GoodOpening run (fresh_records config.now) }
     ensures recorded { AreRecorded (fresh_records config.now) }

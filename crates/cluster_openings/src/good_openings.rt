@@ -133,11 +133,16 @@ fn are_all_before(records: &[Record], run: u16) -> bool
     records.iter().all(|durable| is_before(durable, run))
 }
 
-/// The tests decide, of records of configured agents that fit their totals, whether they are a good opening.
+/// The tests decide, of records of configured agents that fit their totals,
+/// whether they are a good opening.
 fn openings_are_decided()
-    ensures good { (agents : List Configured) (run : ℕ) (records : List Durable) → are_ordered (names_of agents) ≡ true → StandInOrder agents records → Each RecordFits records → are_good run records ≡ true → GoodOpening run records }
-    ensures agents { (agents : List Configured) (records : List Durable) → IsTrue (are_records_of agents records) ↔ StandInOrder agents records }
-    ensures tests { (run : ℕ) (records : List Durable) → GoodOpening run records → are_good run records ≡ true }
+    ensures good { (agents : List Configured) (run : ℕ) (records : List Durable)
+        → are_ordered (names_of agents) ≡ true → StandInOrder agents records
+        → Each RecordFits records → are_good run records ≡ true → GoodOpening run records }
+    ensures agents { (agents : List Configured) (records : List Durable)
+        → IsTrue (are_records_of agents records) ↔ StandInOrder agents records }
+    ensures tests { (run : ℕ) (records : List Durable) → GoodOpening run records
+        → are_good run records ≡ true }
 {}
 
 /// Whether a cluster of these agents may be opened over records that stand in their order.
@@ -151,11 +156,13 @@ fn is_good_in_order(config: &Config, records: &[Record], run: Run) -> bool
         && are_all_before(records, run.number())
 }
 
-/// Sorts records by the names of their agents, and tells whether a cluster of these agents may be opened over them in this run: there is one
-/// record for each agent and no other, which the agent's total covers, no launch key stands twice, and every run in them lies before this one. (That each
+/// Sorts records by the names of their agents, and tells whether a cluster of these agents may be
+/// opened over them in this run: there is one record for each agent and no other, which the agent's
+/// total covers, no launch key stands twice, and every run in them lies before this one. (That each
 /// record's live tasks fit its total holds of every `Record`.)
 pub fn good_opening(config: &Config, records: &mut [Record], run: Run) -> bool
-    ensures test { IsTrue result ↔ (GoodOpening run records.old × AreRecordsOf config.now records.old) }
+    ensures test { IsTrue result
+        ↔ (GoodOpening run records.old × AreRecordsOf config.now records.old) }
     ensures good { IsTrue result → GoodOpening run records.new }
     ensures records { IsTrue result → AreRecordsOf config.now records.new }
     ensures permutation { IsPermutation records.old records.new }

@@ -1,4 +1,5 @@
-//! Over which records configured agents may be opened: those of agents that never ran, and any that are a good opening, in any order.
+//! Over which records configured agents may be opened: those of agents that never ran,
+//! and any that are a good opening, in any order.
 #![tactic(auto)]
 
 mod fresh;

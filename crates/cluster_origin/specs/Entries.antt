@@ -18,7 +18,9 @@ noted c s (Err refusal) older = older
 -- the entries of a list of steps from a history on, the newest first, before the older ones
 abbrev pub moments_from : History → List Marked → List Moment → List Moment
 moments_from h [] older = older
-moments_from h (s ∷ ss) older = moments_from (extended h (step_marked h.state s)) ss (noted h.state s (step_marked h.state s) older)
+moments_from h (s ∷ ss) older =
+    moments_from (extended h (step_marked h.state s)) ss
+    (noted h.state s (step_marked h.state s) older)
 
 -- all entries since the opening, the newest first
 abbrev pub moments : Setup → List Durable → List Marked → List Moment

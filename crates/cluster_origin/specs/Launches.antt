@@ -27,7 +27,8 @@ use Rattle.cluster_origin.specs.Entries.{Moment}
 
 -- the entry delivered, with verdict ok, an ACCEPT of this framework, which names these offers and
 -- lists these tasks
-pub record Accepts (m : Moment) (framework : Numbered) (ids : List Numbered) (tasks : List TaskInfo) : Type 0 where
+pub record Accepts (m : Moment) (framework : Numbered) (ids : List Numbered)
+    (tasks : List TaskInfo) : Type 0 where
   pub number : ℕ
   pub stream : Option Numbered
   pub seconds : ℕ
@@ -87,8 +88,8 @@ Issues m key =
 
 -- offers that were made
 
--- the entry was a round of offers, and an OFFERS event of it, on the stream of the offer's framework,
--- has the offer
+-- the entry was a round of offers, and an OFFERS event of it,
+-- on the stream of the offer's framework, has the offer
 pub record IsOffered (m : Moment) (g : MadeOffer) : Type 0 where
   pub step : m.step.step ≡ Allocate
   pub told : IsTold m.before.registers.frameworks m.did.entry.outs.events g
@@ -96,7 +97,8 @@ pub record IsOffered (m : Moment) (g : MadeOffer) : Type 0 where
 -- one of these entries made the offer on this agent, and told it to its framework
 abbrev pub WasOffered : List Moment → List ℕ → Offer → Type 0
 WasOffered [] agent o = ⊥
-WasOffered (m ∷ older) agent o = IsOffered m (record { agent = agent; offer = o }) ⊎ WasOffered older agent o
+WasOffered (m ∷ older) agent o =
+    IsOffered m (record { agent = agent; offer = o }) ⊎ WasOffered older agent o
 
 -- origins
 
@@ -113,7 +115,8 @@ launches_in (CallSent ∷ more) = launches_in more
 launches_in (MailToMaster to ∷ more) = launches_in more
 
 -- the task's origin is this entry, among the newer and the older ones
-pub record Launches (newer : List Moment) (m : Moment) (older : List Moment) (agent : List ℕ) (j : Job) : Type 0 where
+pub record Launches (newer : List Moment) (m : Moment) (older : List Moment) (agent : List ℕ)
+    (j : Job) : Type 0 where
   -- exactly this entry issued a Launch with the task's key
   pub issues : Issues m j.key
   pub alone : Each (λ n. Issues n j.key → ⊥) (newer ++ older)
@@ -144,7 +147,8 @@ IsLaunched ms agent j =
 
 -- the task was launched on this agent by exactly one entry, or stood in its record at the opening
 abbrev pub IsLaunchedOrRecorded : List Durable → List Moment → List ℕ → Job → Type 0
-IsLaunchedOrRecorded records ms agent j = IsLaunched ms agent j ⊎ IsOneOf j (recorded_on agent records)
+IsLaunchedOrRecorded records ms agent j =
+    IsLaunched ms agent j ⊎ IsOneOf j (recorded_on agent records)
 
 -- each task of the agent's record has its origin, live or ended
 abbrev pub HaveOrigin : List Durable → List Moment → Channel → Type 0

@@ -10,8 +10,8 @@ use Rattle.cluster_safe.specs.Origin.{Mark, Made, Used, Use, IsCovered, IsOneOf,
 use Rattle.cluster_origin.specs.Entries.{Moment}
 use Rattle.cluster_origin.specs.Launches.{Accepts, IsCurrent, IsOffered, WasOffered}
 
--- the entry delivered an ACCEPT of the use's framework, which named its offers and lists each job that was launched, on this agent; the offers that were
--- used were current just before
+-- the entry delivered an ACCEPT of the use's framework, which named its offers and lists each job
+-- that was launched, on this agent; the offers that were used were current just before
 pub record IsAccepted (m : Moment) (u : Use) : Type 0 where
   pub tasks : List TaskInfo
   pub accepts : Accepts m u.framework u.ids tasks
@@ -25,10 +25,12 @@ IsSource m (Used u) = IsAccepted m u
 -- the marks are those of the entries, one entry after another, the newest first
 abbrev pub Traced : List Moment → List Mark → Type 0
 Traced [] marks = marks ≡ []
-Traced (m ∷ older) marks = (own rest : List Mark) × (marks ≡ own ++ rest) × Each (IsSource m) own × Traced older rest
+Traced (m ∷ older) marks =
+    (own rest : List Mark) × (marks ≡ own ++ rest) × Each (IsSource m) own × Traced older rest
 
--- the entry launched the job on this agent: it delivered an ACCEPT of the job's framework, out of whose offers the job was launched, and each of these was
--- made on the agent by an older entry, which told it to that framework
+-- the entry launched the job on this agent: it delivered an ACCEPT of the job's framework, out of
+-- whose offers the job was launched, and each of these was made on the agent by an older entry,
+-- which told it to that framework
 pub record LaunchedBy (m : Moment) (older : List Moment) (agent : List ℕ) (j : Job) : Type 0 where
   pub used : Use
   pub here : used.agent ≡ agent
@@ -44,4 +46,6 @@ WasLaunched (m ∷ older) agent j = LaunchedBy m older agent j ⊎ WasLaunched o
 
 -- each task of a record was launched on its agent by an entry, or stood there at the opening
 abbrev pub HaveSources : List Durable → World → List Moment → Type 0
-HaveSources records w ms = Each (λ (c : Channel). Each (λ t. WasLaunched ms c.side.name t.job ⊎ IsOneOf t.job (recorded_on c.side.name records)) c.agent.durable.tasks) w.channels
+HaveSources records w ms =
+    Each (λ (c : Channel). Each (λ t. WasLaunched ms c.side.name t.job
+    ⊎ IsOneOf t.job (recorded_on c.side.name records)) c.agent.durable.tasks) w.channels

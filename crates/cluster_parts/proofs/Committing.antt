@@ -15,7 +15,7 @@ use Rattle.cluster_steps.specs.declared.entry.Verdict.TheVariants as verdicts
 use Rattle.cluster_parts.specs.Agents.{AdoptsOne, KeptAgent, place_in, with_part}
 use Rattle.cluster_parts.specs.Moves.{Makes, Reached, kept_agents, kept_part, sending}
 use Rattle.cluster_parts.specs.Sending.{BringsOut, item_from, sent_from}
-use Rattle.cluster_parts.specs.declared.commits.Outgoing.{Outgoing}
+use Rattle.cluster_parts.specs.declared.masters.Outgoing.{Outgoing}
 use Rattle.cluster_parts.proofs.Finding.{Found, found, not_found, kept_at}
 use Rattle.cluster_parts.proofs.Making.{Laws, OneMoves, names_once, one_moves}
 
@@ -99,15 +99,15 @@ CommitLaw = (c : Cluster) (name : List ℕ) (place : ℕ) (a : KeptAgent) (d : D
     Makes c (Commit name) verdicts.Ok (sending (map (sent_from name) d.mails)) (slice_set (kept_agents c) place (with_part d.after None a)) (sent ++ map (item_from name) d.mails)
 
 pub commit_so : CommitLaw → (c : Cluster) (name : List ℕ) (place : ℕ) (as_ : List KeptAgent) (a new : KeptAgent) (out : Outgoing) (mails : Option (List AgentMail)) (items js : List Item) → Reached c → as_ ≡ kept_agents c → StandIn c items →
-    place_in name as_ ≡ Some place → slice_get as_ place ≡ Some a → a.is_down ≡ false → BringsOut name a.part.draft out → AdoptsOne mails a.part.draft a new → js ≡ items ++ out.items → Makes c (Commit name) verdicts.Ok (sending out.told.sent) (slice_set as_ place new) js
+    place_in name as_ ≡ Some place → slice_get as_ place ≡ Some a → a.is_down ≡ false → BringsOut name a.part.draft out → AdoptsOne mails a.part.draft a new → js ≡ items ++ out.items → Makes c (Commit name) verdicts.Ok (sending out.sent) (slice_set as_ place new) js
 commit_so law c name place as_ a new out mails items js r same stand e at is_up brings adopts more = by a.part.draft refl brings adopts
   where
-    by : (o : Option Draft) → a.part.draft ≡ o → BringsOut name o out → AdoptsOne mails o a new → Makes c (Commit name) verdicts.Ok (sending out.told.sent) (slice_set as_ place new) js
+    by : (o : Option Draft) → a.part.draft ≡ o → BringsOut name o out → AdoptsOne mails o a new → Makes c (Commit name) verdicts.Ok (sending out.sent) (slice_set as_ place new) js
     by None f b h = absurd b
     by (Some d) f b h =
         let made : Makes c (Commit name) verdicts.Ok (sending (map (sent_from name) d.mails)) (slice_set (kept_agents c) place (with_part d.after None a)) (items ++ map (item_from name) d.mails) =
         law c name place a d items r stand (subst (λ (xs : List KeptAgent). place_in name xs ≡ Some place) same e) (subst (λ (xs : List KeptAgent). slice_get xs place ≡ Some a) same at) is_up f in
-        let kept : js ≡ items ++ map (item_from name) d.mails = more ∙ ap (λ (xs : List Item). items ++ xs) b.2 in
+        let kept : js ≡ items ++ map (item_from name) d.mails = more ∙ ap (λ (xs : List Item). items ++ xs) b.1 in
         let agents : slice_set as_ place new ≡ slice_set (kept_agents c) place (with_part d.after None a) = ap (λ (xs : List KeptAgent). slice_set xs place new) same ∙ ap (slice_set (kept_agents c) place) h.1 in
         subst (λ (xs : List code.Sent). Makes c (Commit name) verdicts.Ok (sending xs) (slice_set as_ place new) js) (sym b.0)
         (subst (λ (xs : List KeptAgent). Makes c (Commit name) verdicts.Ok (sending (map (sent_from name) d.mails)) xs js) (sym agents)

@@ -60,7 +60,6 @@ take_one laws c id event master sent r stands e = record {
   answers = answers;
   ends = refl;
   brings = refl;
-  gives = refl;
   drafts = refl;
   stands = record {
     as_master = stands.as_master;

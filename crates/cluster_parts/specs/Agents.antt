@@ -18,7 +18,11 @@ IsCurrent a None = ⊤
 IsCurrent a (Some d) = d.before ≡ a
 
 abbrev pub with_part : Agent → Option Draft → KeptAgent → KeptAgent
-with_part agent draft a = record { part = record { name = a.part.name; agent = agent; draft = draft }; is_down = a.is_down }
+with_part agent draft a =
+    record {
+      part = record { name = a.part.name; agent = agent; draft = draft };
+      is_down = a.is_down;
+    }
 
 -- a draft was opened, or the cause was refused and nothing changed
 abbrev pub Draws : Option AgentRefusal → KeptAgent → KeptAgent → Result Draft AgentRefusal → Type 0
@@ -31,7 +35,8 @@ AdoptsOne given None old new = (given ≡ None) × (new ≡ old)
 AdoptsOne given (Some d) old new = (given ≡ Some d.mails) × (new ≡ with_part d.after None old)
 
 abbrev pub up : Agent → KeptAgent → KeptAgent
-up agent a = record { part = record { name = a.part.name; agent = agent; draft = None }; is_down = false }
+up agent a =
+    record { part = record { name = a.part.name; agent = agent; draft = None }; is_down = false }
 
 -- it was stopped, and is up again over its record
 abbrev pub comes_up_without : KeptAgent → KeptAgent

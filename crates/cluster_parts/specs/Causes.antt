@@ -30,7 +30,8 @@ mail_due name (Some (items.Call stream call)) = None
 mail_due name (Some (items.ToAgent to)) = Some (for_it name to)
 mail_due name (Some (items.ToMaster to)) = None
 
--- the cause that the agent acts on, or no cause where a mail is for another one; nothing where no such mail was sent
+-- the cause that the agent acts on, or no cause where a mail is for another one;
+-- nothing where no such mail was sent
 abbrev pub cause_due : List Item → List ℕ → StepCause → Option (Option Cause)
 cause_due sent name (Start total) = Some (Some (causes.Start total))
 cause_due sent name Again = Some (Some causes.Again)
@@ -62,7 +63,8 @@ Causes (Err TimeBack) due = ⊥
 Causes (Err NoSuchAgent) due = ⊥
 Causes (Err OutOfMemory) due = ⊤
 
--- how a draft is opened: it was, or the cause was refused, or the agent has run out of memory and is down
+-- how a draft is opened: it was, or the cause was refused,
+-- or the agent has run out of memory and is down
 abbrev pub Drawn : Verdict → KeptAgent → KeptAgent → Result Draft AgentRefusal → Type 0
 Drawn verdicts.Ok old new due = Draws None old new due
 Drawn (verdicts.MasterRefused refusal) old new due = ⊥

@@ -23,11 +23,13 @@ is_withheld gives (Mail n) = not (gives n)
 
 -- the model takes the step, but what it hands out can't be
 abbrev pub IsWithheld : Cluster → (ℕ → Bool) → Step → Type 0
-IsWithheld c gives step = (n : ℕ) × (d : Done) × (handed step ≡ Some n) × (gives n ≡ false) × (answer c step ≡ Ok d)
+IsWithheld c gives step =
+    (n : ℕ) × (d : Done) × (handed step ≡ Some n) × (gives n ≡ false) × (answer c step ≡ Ok d)
 
 -- memory was refused, the step is, or what it hands out is withheld
 abbrev pub MayRefuse : Cluster → (ℕ → Bool) → Step → ClusterFault → Type 0
-MayRefuse c gives step fault = Refuses c step fault ⊎ ((fault ≡ NoSuchMail) × IsWithheld c gives step)
+MayRefuse c gives step fault =
+    Refuses c step fault ⊎ ((fault ≡ NoSuchMail) × IsWithheld c gives step)
 
 -- what a step hands out can be handed out
 abbrev pub IsGiven : (ℕ → Bool) → Step → Type 0

@@ -1,4 +1,5 @@
--- What is delivered to the master, and how it ends where the master refuses a mail that it has heard.
+-- What is delivered to the master,
+-- and how it ends where the master refuses a mail that it has heard.
 use Rattle.std.specs.Prelude.{◌≡◌, List, Option, Some, None, Result, Ok, Err, ⊤}
 use Rattle.mails.specs.declared.refusal.MasterRefusal.{MasterRefusal}
 use Rattle.cluster_model.specs.Masters.{Master}
@@ -50,6 +51,9 @@ with_refusal None made = made
 with_refusal (Some refusal) made = record made { verdict = refusing refusal made.verdict }
 
 -- what becomes of what a mail brought out, refused or not
-abbrev pub SettlesHeard : Result HeardMail MasterFault → Made → Option (Option Master) → Option (Option Master) → List Item → List Item → List KeptStream → List KeptStream → Type 0
-SettlesHeard (Ok heard) made m n is js ss ts = (settled : Made) × (made ≡ with_refusal heard.refusal settled) × Settles (Ok heard.outs) settled m n is js ss ts
+abbrev pub SettlesHeard : Result HeardMail MasterFault → Made → Option (Option Master)
+    → Option (Option Master) → List Item → List Item → List KeptStream → List KeptStream → Type 0
+SettlesHeard (Ok heard) made m n is js ss ts =
+    (settled : Made) × (made ≡ with_refusal heard.refusal settled)
+    × Settles (Ok heard.outs) settled m n is js ss ts
 SettlesHeard (Err fault) made m n is js ss ts = Settles (Err fault) made m n is js ss ts

@@ -33,19 +33,22 @@ use Rattle.cluster_parts.specs.declared.masters.Made.{Made}
 abbrev pub kept_master : Master → Option (Option Master)
 kept_master m = if m.run.serves then Some (Some m) else None
 
-pub record StandsFor (c : Cluster) (master : Option (Option Master)) (items_sent : List Item) (streams : List KeptStream) : Type 0 where
+pub record StandsFor (c : Cluster) (master : Option (Option Master)) (items_sent : List Item)
+    (streams : List KeptStream) : Type 0 where
   pub as_master : master ≡ kept_master (master_of c)
   pub as_items : StandIn c items_sent
   pub as_streams : streams ≡ kept_streams c.streams
   pub within : AreWithin c.streams
 
--- a step of the master was made: what it answers, and what then stands for the master's part; the agents are as they were
-pub record MasterMakes (c : Cluster) (step : Step) (moment : ℕ) (made : Made) (master : Option (Option Master)) (items_sent : List Item) (streams : List KeptStream) : Type 0 where
+-- a step of the master was made: what it answers, and what then stands for the master's part;
+-- the agents are as they were
+pub record MasterMakes (c : Cluster) (step : Step) (moment : ℕ) (made : Made)
+    (master : Option (Option Master)) (items_sent : List Item)
+    (streams : List KeptStream) : Type 0 where
   pub done : Done
   pub answers : (if fell made.verdict then fallen_answer c step else answer c step) ≡ Ok done
   pub ends : made.verdict ≡ verdict_of done.entry.verdict
   pub brings : made.outputs ≡ outputs_of done.entry.outs
-  pub gives : made.given ≡ made.outputs
   pub drafts : made.durable ≡ None
   pub stands : StandsFor done.after master items_sent streams
   pub leaves_parts : parts_of done.after.world.channels ≡ parts_of c.world.channels
@@ -69,59 +72,82 @@ abbrev pub item_to : ToAgent → Item
 item_to to = items.ToAgent to
 
 abbrev pub told_by : Outs → Outputs
-told_by outs = record { events = outs.events; closed = outs.closed; sent = map sent_to outs.mails; taken = None }
+told_by outs =
+    record {
+      events = outs.events;
+      closed = outs.closed;
+      sent = map sent_to outs.mails;
+      taken = None;
+    }
 
 abbrev pub ends_with : Verdict → Made
-ends_with verdict = record { verdict = verdict; outputs = sending []; given = sending []; durable = None }
+ends_with verdict = record { verdict = verdict; outputs = sending []; durable = None }
 
 abbrev pub tells : Outs → Made
-tells outs = record { verdict = verdicts.Ok; outputs = told_by outs; given = told_by outs; durable = None }
+tells outs = record { verdict = verdicts.Ok; outputs = told_by outs; durable = None }
 
 -- the master has fallen, and nothing else changed
-pub record Falls (made : Made) (master : Option (Option Master)) (old_items new_items : List Item) (old_streams new_streams : List KeptStream) : Type 0 where
+pub record Falls (made : Made) (master : Option (Option Master)) (old_items new_items : List Item)
+    (old_streams new_streams : List KeptStream) : Type 0 where
   pub is : made ≡ ends_with verdicts.OutOfMemory
   pub down : master ≡ None
   pub same_items : new_items ≡ old_items
   pub same_streams : new_streams ≡ old_streams
 
-pub record Tells (outs : Outs) (made : Made) (old_master new_master : Option (Option Master)) (old_items new_items : List Item) (old_streams new_streams : List KeptStream) : Type 0 where
+pub record Tells (outs : Outs) (made : Made) (old_master new_master : Option (Option Master))
+    (old_items new_items : List Item) (old_streams new_streams : List KeptStream) : Type 0 where
   pub is : made ≡ tells outs
   pub same_master : new_master ≡ old_master
   pub more_items : new_items ≡ old_items ++ map item_to outs.mails
   pub more_streams : new_streams ≡ heard outs.opened outs.events old_streams
 
-pub record Refused (refusal : MasterRefusal) (made : Made) (old_master new_master : Option (Option Master)) (old_items new_items : List Item) (old_streams new_streams : List KeptStream) : Type 0 where
+pub record Refused (refusal : MasterRefusal) (made : Made)
+    (old_master new_master : Option (Option Master)) (old_items new_items : List Item)
+    (old_streams new_streams : List KeptStream) : Type 0 where
   pub is : made ≡ ends_with (verdicts.MasterRefused refusal)
   pub same_master : new_master ≡ old_master
   pub same_items : new_items ≡ old_items
   pub same_streams : new_streams ≡ old_streams
 
 -- what becomes of the master's answer
-abbrev pub Settles : Result Outs MasterFault → Made → Option (Option Master) → Option (Option Master) → List Item → List Item → List KeptStream → List KeptStream → Type 0
+abbrev pub Settles : Result Outs MasterFault → Made → Option (Option Master)
+    → Option (Option Master) → List Item → List Item → List KeptStream → List KeptStream → Type 0
 Settles (Ok outs) made m n is js ss ts = Tells outs made m n is js ss ts ⊎ Falls made n is js ss ts
 Settles (Err fault.OutOfMemory) made m n is js ss ts = Falls made n is js ss ts
 Settles (Err (fault.Refused refusal)) made m n is js ss ts = Refused refusal made m n is js ss ts
 
 -- what a step of the master is taken on: it stands for a state that is reached
 abbrev pub Standing : Option (Option Master) → List Item → List KeptStream → Type 0
-Standing master items_sent streams = (c : Cluster) × Reached c × StandsFor c master items_sent streams
+Standing master items_sent streams =
+    (c : Cluster) × Reached c × StandsFor c master items_sent streams
 
 -- an event is taken
 
 abbrev pub taking_out : Numbered → Event → Outputs
-taking_out id event = record { events = []; closed = []; sent = []; taken = Some (record { stream = id; event = event }) }
+taking_out id event =
+    record {
+      events = [];
+      closed = [];
+      sent = [];
+      taken = Some (record { stream = id; event = event });
+    }
 
 abbrev pub taking : Numbered → Event → Made
-taking id event = record { verdict = verdicts.Ok; outputs = taking_out id event; given = taking_out id event; durable = None }
+taking id event = record { verdict = verdicts.Ok; outputs = taking_out id event; durable = None }
 
 -- with the moment of its last tick
 abbrev pub StandingAt : ℕ → Option (Option Master) → List Item → List KeptStream → Type 0
-StandingAt moment master items_sent streams = (c : Cluster) × Reached c × (c.last_tick ≡ moment) × StandsFor c master items_sent streams
+StandingAt moment master items_sent streams =
+    (c : Cluster) × Reached c × (c.last_tick ≡ moment) × StandsFor c master items_sent streams
 
 -- with these weights of roles
-abbrev pub StandingBy : List RoleWeight → Option (Option Master) → List Item → List KeptStream → Type 0
-StandingBy weights master items_sent streams = (c : Cluster) × Reached c × (c.weights ≡ weights) × StandsFor c master items_sent streams
+abbrev pub StandingBy : List RoleWeight → Option (Option Master) → List Item → List KeptStream
+    → Type 0
+StandingBy weights master items_sent streams =
+    (c : Cluster) × Reached c × (c.weights ≡ weights) × StandsFor c master items_sent streams
 
 -- with its agents
-abbrev pub StandingWith : List KeptAgent → Option (Option Master) → List Item → List KeptStream → Type 0
-StandingWith agents master items_sent streams = (c : Cluster) × Reached c × (agents ≡ kept_agents c) × StandsFor c master items_sent streams
+abbrev pub StandingWith : List KeptAgent → Option (Option Master) → List Item → List KeptStream
+    → Type 0
+StandingWith agents master items_sent streams =
+    (c : Cluster) × Reached c × (agents ≡ kept_agents c) × StandsFor c master items_sent streams

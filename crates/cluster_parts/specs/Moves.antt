@@ -41,14 +41,18 @@ kept_agents c = map (kept_part c.fallen) (parts_of c.world.channels)
 
 -- no mail that was sent launches again on an agent
 abbrev pub ComeInOrder : List KeptAgent → List Item → Type 0
-ComeInOrder agents sent = (n : ℕ) (to : ToAgent) → slice_get sent n ≡ Some (items.ToAgent to) → Each (λ a. is_in_order a.part.agent (Mail to) ≡ true) agents
+ComeInOrder agents sent =
+    (n : ℕ) (to : ToAgent) → slice_get sent n ≡ Some (items.ToAgent to)
+    → Each (λ a. is_in_order a.part.agent (Mail to) ≡ true) agents
 
 -- the outputs of a step that the master has no part in
 abbrev pub sending : List Sent → Outputs
 sending sent = record { events = []; closed = []; sent = sent; taken = None }
 
--- a step was made: what it answers, and the agents and the items that then stand for the state; master, streams and moment are as they were
-pub record Makes (c : Cluster) (step : Step) (verdict : Verdict) (outputs : Outputs) (agents : List KeptAgent) (sent : List Item) : Type 0 where
+-- a step was made: what it answers, and the agents and the items that then stand for the state;
+-- master, streams and moment are as they were
+pub record Makes (c : Cluster) (step : Step) (verdict : Verdict) (outputs : Outputs)
+    (agents : List KeptAgent) (sent : List Item) : Type 0 where
   pub done : Done
   pub answers : (if fell verdict then fallen_answer c step else answer c step) ≡ Ok done
   pub ends : verdict ≡ verdict_of done.entry.verdict

@@ -26,8 +26,11 @@ abbrev pub new_master : ℕ → List ConfiguredAgent → Master
 new_master run agents = master_of (fresh run agents)
 
 -- a new master stands in its place and greets every agent; or memory was refused
-abbrev pub Starts : Result Outs MasterFault → Option (Option Master) → ℕ → List ConfiguredAgent → Type 0
-Starts (Ok outs) master run agents = (master ≡ Some (Some (new_master run agents))) × (outs ≡ outs_of (new_master run agents) (greeting (new_master run agents)))
+abbrev pub Starts : Result Outs MasterFault → Option (Option Master) → ℕ → List ConfiguredAgent
+    → Type 0
+Starts (Ok outs) master run agents =
+    (master ≡ Some (Some (new_master run agents)))
+    × (outs ≡ outs_of (new_master run agents) (greeting (new_master run agents)))
 Starts (Err fault.OutOfMemory) master run agents = ⊤
 Starts (Err (fault.Refused refusal)) master run agents = ⊥
 

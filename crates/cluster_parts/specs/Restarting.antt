@@ -18,16 +18,21 @@ abbrev pub run_behind : ℕ → Option ℕ
 run_behind run = if nat_lt run last_run then Some (1 + run) else None
 
 -- what a stop of the master is taken on: with the agents of the opening's records, in this run
-abbrev pub StandingOver : List ConfiguredAgent → ℕ → Option (Option Master) → List Item → List KeptStream → Type 0
-StandingOver agents run master sent streams = (c : Cluster) × (r : Reached c) × AreAgentsOf agents r.records × (c.world.run.number ≡ run) × StandsFor c master sent streams
+abbrev pub StandingOver : List ConfiguredAgent → ℕ → Option (Option Master) → List Item
+    → List KeptStream → Type 0
+StandingOver agents run master sent streams =
+    (c : Cluster) × (r : Reached c) × AreAgentsOf agents r.records × (c.world.run.number ≡ run)
+    × StandsFor c master sent streams
 
--- the master was stopped: how it ends, and what then stands for the master's part in this run; the agents are as they were
-pub record Restarts (c : Cluster) (made : Made) (run : ℕ) (master : Option (Option Master)) (sent : List Item) (streams : List KeptStream) : Type 0 where
+-- the master was stopped: how it ends, and what then stands for the master's part in this run;
+-- the agents are as they were
+pub record Restarts (c : Cluster) (made : Made) (run : ℕ) (master : Option (Option Master))
+    (sent : List Item) (streams : List KeptStream) : Type 0 where
   pub done : Done
-  pub answers : (if fell made.verdict then fallen_answer c StopMaster else answer c StopMaster) ≡ Ok done
+  pub answers : (if fell made.verdict then fallen_answer c StopMaster else answer c StopMaster)
+      ≡ Ok done
   pub ends : made.verdict ≡ verdict_of done.entry.verdict
   pub brings : made.outputs ≡ outputs_of done.entry.outs
-  pub gives : made.given ≡ made.outputs
   pub drafts : made.durable ≡ None
   pub stands : StandsFor done.after master sent streams
   pub leaves_parts : parts_of done.after.world.channels ≡ parts_of c.world.channels

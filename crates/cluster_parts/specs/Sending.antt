@@ -9,7 +9,7 @@ use Rattle.cluster_steps.specs.declared.entry.Sent.{Sent}
 use Rattle.cluster_steps.specs.declared.entry.Sent.TheVariants as sent
 use Rattle.cluster_steps.specs.declared.fault.ClusterFault.{ClusterFault}
 use Rattle.cluster_steps.specs.declared.fault.ClusterFault.TheVariants.{NoSuchMail, MasterDown, AgentDown, DraftOpen, NoDraft, HistoryFull, TimeBack, NoSuchAgent, OutOfMemory}
-use Rattle.cluster_parts.specs.declared.commits.Outgoing.{Outgoing}
+use Rattle.cluster_parts.specs.declared.masters.Outgoing.{Outgoing}
 
 abbrev pub sent_from : List ℕ → AgentMail → Sent
 sent_from agent mail = sent.ToMaster (record { agent = agent; mail = mail })
@@ -20,7 +20,8 @@ item_from agent mail = items.ToMaster (record { agent = agent; mail = mail })
 -- what an open draft will send; there is one
 abbrev pub BringsOut : List ℕ → Option Draft → Outgoing → Type 0
 BringsOut agent None o = ⊥
-BringsOut agent (Some d) o = (o.told.sent ≡ map (sent_from agent) d.mails) × (o.told.given ≡ o.told.sent) × (o.items ≡ map (item_from agent) d.mails)
+BringsOut agent (Some d) o =
+    (o.sent ≡ map (sent_from agent) d.mails) × (o.items ≡ map (item_from agent) d.mails)
 
 -- or there is none, or memory was refused
 abbrev pub BringsNothing : Option Draft → ClusterFault → Type 0

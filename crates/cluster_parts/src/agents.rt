@@ -87,7 +87,8 @@ impl ClusterAgent {
     ) -> Result<Option<AgentRefusal>, AllocError>
         requires none { self.old.part.draft ≡ None }
         requires order { is_in_order self.old.part.agent cause ≡ true }
-        ensures drawn { IfOk result (λ refusal. Draws refusal self.old self.new (next_of self.old.part.agent cause)) }
+        ensures drawn { IfOk result
+            (λ refusal. Draws refusal self.old self.new (next_of self.old.part.agent cause)) }
         ensures unchanged { OnErr result (self.new ≡ self.old) }
     {
         match self.agent.next(alloc, cause) {
@@ -107,9 +108,11 @@ impl ClusterAgent {
         self.draft.as_ref()
     }
 
-    /// Makes the open draft the agent's, and gives its mails, which are to be sent. It takes no memory.
+    /// Makes the open draft the agent's, and gives its mails,
+    /// which are to be sent. It takes no memory.
     pub(crate) fn commit(&mut self) -> Option<Vec<AgentMail>>
-        ensures { AdoptsOne (option_map (λ mails. mails.items) result) self.old.part.draft self.old self.new }
+        ensures { AdoptsOne (option_map (λ mails. mails.items) result) self.old.part.draft self.old
+            self.new }
     {
         let draft = self.draft.take()?;
         match self.agent.commit(draft) {
@@ -130,7 +133,8 @@ impl ClusterAgent {
         self.is_down = false;
     }
 
-    /// Stops once its draft's record was saved, and is up again over that. Nothing happens where no draft is open.
+    /// Stops once its draft's record was saved, and is up again over that.
+    /// Nothing happens where no draft is open.
     pub(crate) fn stop_after(&mut self)
         ensures { self.new ≡ comes_up_with self.old }
     {
@@ -149,7 +153,8 @@ impl ClusterAgent {
     }
 }
 
-/// The place of the agent of a name, from 0 in the order of the configuration; none where no agent has the name.
+/// The place of the agent of a name, from 0 in the order of the configuration;
+/// none where no agent has the name.
 pub fn place_of(agents: &[ClusterAgent], name: &AgentName) -> Option<usize>
     ensures place { result ≡ place_in name.now agents.now }
     ensures within { IfSome result (λ place. place < length agents.now) }

@@ -44,7 +44,7 @@ pub fn cause_due(
         StepCause::Again => Ok(Some(Cause::Again)),
         StepCause::Executor(key, state) => Ok(Some(Cause::Executor(key, state))),
         StepCause::Mail(number) => match item_at(items, number) {
-            Some(Item::ToAgent(to)) => mail_for(to, name),
+            Some(Item::ToAgent(to)) => mail_for(to.get(), name),
             _ => Err(ClusterFault::NoSuchMail),
         },
     }

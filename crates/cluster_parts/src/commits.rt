@@ -11,7 +11,7 @@ ghost use Rattle.cluster_steps.specs.declared.entry.Verdict.TheVariants as verdi
 use crate::agents::ClusterAgent;
 use crate::items::Items;
 use crate::laws::commits_are_made;
-use crate::masters::{Made, sending_twice};
+use crate::masters::{Made, Outgoing, made_sending};
 use crate::stops::found;
 use cluster_laws::Item;
 use cluster_steps::{ClusterFault, Sent};
@@ -20,21 +20,8 @@ use mails::{AgentMail, ToMaster};
 use names_core::AgentName;
 use plain_data::Plain;
 use post_rules::Post;
+use shared_value::Shared;
 use std::alloc::{AllocError, Global};
-
-/// The mails of a draft, as an entry tells them. They are there twice, to be kept and to be given away.
-#[derive(Drop)]
-struct ToldTwice {
-    sent: Listed<Sent>,
-    given: Listed<Sent>,
-}
-
-/// The mails of a draft, as they are told and as they are kept.
-#[derive(Drop)]
-struct Outgoing {
-    told: ToldTwice,
-    items: Listed<Item>,
-}
 
 fn to_master(name: &AgentName, mail: &AgentMail) -> Result<ToMaster, AllocError>
     ensures { IfOk result (λ to. to ≡ record { agent = name.now; mail = mail.now }) }
@@ -45,34 +32,23 @@ fn to_master(name: &AgentName, mail: &AgentMail) -> Result<ToMaster, AllocError>
     })
 }
 
-/// The mails of an agent, as an entry tells them.
-fn sent_from(
+/// The mails of an agent, as they are told and kept.
+fn outgoing_from(
     alloc: Global,
     name: &AgentName,
     mails: &[AgentMail],
-) -> Result<Listed<Sent>, AllocError>
-    ensures { IfOk result (λ sent. sent ≡ map (sent_from name.now) mails.now) }
+) -> Result<Outgoing, AllocError>
+    ensures sent { IfOk result (λ out. out.sent ≡ map (sent_from name.now) mails.now) }
+    ensures items { IfOk result (λ out. out.items ≡ map (item_from name.now) mails.now) }
 {
     let mut sent = Listed::from_vec(Vec::with_capacity(alloc, mails.len())?);
-    for mail in mails {
-        sent.push(Sent::ToMaster(to_master(name, mail)?))?;
-    }
-    Ok(sent)
-}
-
-/// The mails of an agent, as they are kept.
-fn items_from(
-    alloc: Global,
-    name: &AgentName,
-    mails: &[AgentMail],
-) -> Result<Listed<Item>, AllocError>
-    ensures { IfOk result (λ items. items ≡ map (item_from name.now) mails.now) }
-{
     let mut items = Listed::from_vec(Vec::with_capacity(alloc, mails.len())?);
     for mail in mails {
-        items.push(Item::ToMaster(to_master(name, mail)?))?;
+        let mail = Shared::new(alloc, to_master(name, mail)?)?;
+        items.push(Item::ToMaster(mail.share()?))?;
+        sent.push(Sent::ToMaster(mail))?;
     }
-    Ok(items)
+    Ok(Outgoing { sent, items })
 }
 
 /// What an agent's open draft will send.
@@ -87,14 +63,7 @@ fn draft_mails(
     let Some(draft) = agent.draft() else {
         return Err(ClusterFault::NoDraft);
     };
-    let mails = draft.mails();
-    Ok(Outgoing {
-        told: ToldTwice {
-            sent: sent_from(alloc, name, mails)?,
-            given: sent_from(alloc, name, mails)?,
-        },
-        items: items_from(alloc, name, mails)?,
-    })
+    Ok(outgoing_from(alloc, name, draft.mails())?)
 }
 
 /// The agent's draft becomes its record, and its mails are kept, for which the post has room first.
@@ -104,10 +73,11 @@ fn send_draft<P: Post>(
     post: &mut P,
     alloc: Global,
     name: &AgentName,
-) -> Result<ToldTwice, ClusterFault>
-    ensures made { IfOk result (λ told. (c : Cluster) → Reached c → agents.old ≡ kept_agents c → StandIn c items.old → Makes c (Commit name.now) verdicts.Ok (sending told.sent) agents.new items.new) }
-    ensures given { IfOk result (λ told. told.given ≡ told.sent) }
-    ensures refused { IfErr result (λ fault. (c : Cluster) → agents.old ≡ kept_agents c → Refuses c (Commit name.now) fault) }
+) -> Result<Listed<Sent>, ClusterFault>
+    ensures made { IfOk result (λ sent. (c : Cluster) → Reached c → agents.old ≡ kept_agents c → StandIn c items.old →
+        Makes c (Commit name.now) verdicts.Ok (sending sent) agents.new items.new) }
+    ensures refused { IfErr result (λ fault. (c : Cluster) → agents.old ≡ kept_agents c
+        → Refuses c (Commit name.now) fault) }
     ensures unchanged { OnErr result ((agents.new ≡ agents.old) × (items.new ≡ items.old)) }
     ensures post { P.known post.new ≡ P.known post.old }
     ensures room { Grows (length items.old) (length items.new) (P.room post.new) }
@@ -122,11 +92,12 @@ fn send_draft<P: Post>(
     post.reserve(alloc, out.items.len())?;
     items.append(out.items)?;
     let _mails = agent.commit();
-    Ok(out.told)
+    Ok(out.sent)
 }
 
-/// The agent's draft becomes its record, and its mails are sent, for which the post has room first. It is refused with `C8 NoSuchAgent`,
-/// `C3 AgentDown` or `C5 NoDraft`, of several the first in this order, and with `C9 OutOfMemory`.
+/// The agent's draft becomes its record, and its mails are sent, for which the post has room first.
+/// It is refused with `C8 NoSuchAgent`, `C3 AgentDown` or `C5 NoDraft`, of several the first in
+/// this order, and with `C9 OutOfMemory`.
 pub fn commit<P: Post>(
     agents: &mut [ClusterAgent],
     items: &mut Items,
@@ -134,14 +105,16 @@ pub fn commit<P: Post>(
     alloc: Global,
     name: &AgentName,
 ) -> Result<Made, ClusterFault>
-    ensures made { IfOk result (λ made. (c : Cluster) → Reached c → agents.old ≡ kept_agents c → StandIn c items.old → Makes c (Commit name.now) made.verdict made.outputs agents.new items.new) }
-    ensures given { IfOk result (λ made. made.given ≡ made.outputs) }
+    ensures made { IfOk result (λ made. (c : Cluster) → Reached c → agents.old ≡ kept_agents c
+        → StandIn c items.old → Makes c (Commit name.now) made.verdict made.outputs agents.new
+        items.new) }
     ensures durable { IfOk result (λ made. made.durable ≡ None) }
-    ensures refused { IfErr result (λ fault. (c : Cluster) → agents.old ≡ kept_agents c → Refuses c (Commit name.now) fault) }
+    ensures refused { IfErr result (λ fault. (c : Cluster) → agents.old ≡ kept_agents c
+        → Refuses c (Commit name.now) fault) }
     ensures unchanged { OnErr result ((agents.new ≡ agents.old) × (items.new ≡ items.old)) }
     ensures post { P.known post.new ≡ P.known post.old }
     ensures room { Grows (length items.old) (length items.new) (P.room post.new) }
 {
-    let told = send_draft(agents, items, post, alloc, name)?;
-    Ok(sending_twice(alloc, told.sent, told.given))
+    let sent = send_draft(agents, items, post, alloc, name)?;
+    Ok(made_sending(alloc, sent))
 }

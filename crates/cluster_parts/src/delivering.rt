@@ -47,7 +47,8 @@ enum ForMaster {
     Mail(ToMaster),
 }
 
-/// A mail of an agent that was sent is one that the master may hear, and what it makes of it is the step's.
+/// A mail of an agent that was sent is one that the master may hear,
+/// and what it makes of it is the step's.
 fn mails_are_heard()
     ensures made { (c : Cluster) (number : ℕ) (to : SentMail) (before after : Option ModelMaster) (answered : Result HeardSo Fault) (made : MadeSo) (n : Option (Option ModelMaster)) (items js : List SentItem) (ss ts : List KeptStream) →
         Reached c → StandsFor c (Some before) items ss → item_at number items ≡ Some (sent.ToMaster to) → Hears answered before after to.agent to.mail → SettlesHeard answered made (Some after) n items js ss ts → MasterMakes c (Deliver number) c.last_tick made n js ts }
@@ -78,8 +79,8 @@ fn for_master(items: &[Item], number: u64) -> Result<ForMaster, ClusterFault>
     ensures { IsForMaster result (item_at number items.now) }
 {
     match item_at(items, number) {
-        Some(Item::Call(stream, call)) => Ok(ForMaster::Call(*stream, call.copy()?)),
-        Some(Item::ToMaster(to)) => Ok(ForMaster::Mail(to.copy()?)),
+        Some(Item::Call(stream, call)) => Ok(ForMaster::Call(*stream, call.get().copy()?)),
+        Some(Item::ToMaster(to)) => Ok(ForMaster::Mail(to.get().copy()?)),
         _ => Err(ClusterFault::NoSuchMail),
     }
 }
@@ -104,7 +105,8 @@ fn settle_heard<P: Post>(
     heard: Result<HeardMail, MasterFault>,
 ) -> Made
     requires { IfOk heard (λ heard. AreRising (kept_ids streams.old ++ heard.outs.opened)) }
-    ensures settled { SettlesHeard heard result master.old master.new items.old items.new streams.old streams.new }
+    ensures settled { SettlesHeard heard result master.old master.new items.old items.new
+        streams.old streams.new }
     ensures post { P.known post.new ≡ P.known post.old }
     ensures room { Grows (length items.old) (length items.new) (P.room post.new) }
 {
@@ -129,9 +131,13 @@ fn deliver_mail<P: Post>(
 ) -> Result<Made, ClusterFault>
     requires stands { Standing master.old items.old streams.old }
     requires sent { item_at number items.old ≡ Some (sent.ToMaster to) }
-    ensures made { IfOk result (λ made. (c : Cluster) → Reached c → StandsFor c master.old items.old streams.old → MasterMakes c (Deliver number) c.last_tick made master.new items.new streams.new) }
-    ensures refused { IfErr result (λ fault. (c : Cluster) → StandsFor c master.old items.old streams.old → Refuses c (Deliver number) fault) }
-    ensures unchanged { OnErr result ((master.new ≡ master.old) × (items.new ≡ items.old) × (streams.new ≡ streams.old)) }
+    ensures made { IfOk result (λ made. (c : Cluster) → Reached c
+        → StandsFor c master.old items.old streams.old
+        → MasterMakes c (Deliver number) c.last_tick made master.new items.new streams.new) }
+    ensures refused { IfErr result (λ fault. (c : Cluster)
+        → StandsFor c master.old items.old streams.old → Refuses c (Deliver number) fault) }
+    ensures unchanged { OnErr result ((master.new ≡ master.old) × (items.new ≡ items.old)
+        × (streams.new ≡ streams.old)) }
     ensures post { P.known post.new ≡ P.known post.old }
     ensures room { Grows (length items.old) (length items.new) (P.room post.new) }
 {
@@ -144,9 +150,10 @@ fn deliver_mail<P: Post>(
     Ok(settle_heard(master, items, streams, post, alloc, heard))
 }
 
-/// A call or a mail that was sent under a number, from 1, comes to the master. It is refused with `C2 MasterDown` where no master serves,
-/// with `C1 NoSuchMail` where nothing was sent under the number or it is a mail to an agent, and with `C9 OutOfMemory`. A master that runs
-/// out of memory in the step is down.
+/// A call or a mail that was sent under a number, from 1, comes to the master. It is refused with
+/// `C2 MasterDown` where no master serves, with `C1 NoSuchMail` where nothing was sent under the
+/// number or it is a mail to an agent, and with `C9 OutOfMemory`. A master that runs out of memory
+/// in the step is down.
 pub fn deliver<P: Post>(
     master: &mut Option<Master>,
     items: &mut Items,
@@ -156,9 +163,13 @@ pub fn deliver<P: Post>(
     number: u64,
 ) -> Result<Made, ClusterFault>
     requires { Standing master.old items.old streams.old }
-    ensures made { IfOk result (λ made. (c : Cluster) → Reached c → StandsFor c master.old items.old streams.old → MasterMakes c (Deliver number) c.last_tick made master.new items.new streams.new) }
-    ensures refused { IfErr result (λ fault. (c : Cluster) → StandsFor c master.old items.old streams.old → Refuses c (Deliver number) fault) }
-    ensures unchanged { OnErr result ((master.new ≡ master.old) × (items.new ≡ items.old) × (streams.new ≡ streams.old)) }
+    ensures made { IfOk result (λ made. (c : Cluster) → Reached c
+        → StandsFor c master.old items.old streams.old
+        → MasterMakes c (Deliver number) c.last_tick made master.new items.new streams.new) }
+    ensures refused { IfErr result (λ fault. (c : Cluster)
+        → StandsFor c master.old items.old streams.old → Refuses c (Deliver number) fault) }
+    ensures unchanged { OnErr result ((master.new ≡ master.old) × (items.new ≡ items.old)
+        × (streams.new ≡ streams.old)) }
     ensures post { P.known post.new ≡ P.known post.old }
     ensures room { Grows (length items.old) (length items.new) (P.room post.new) }
 {

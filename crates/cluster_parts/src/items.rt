@@ -7,7 +7,8 @@ use listed::Listed;
 use std::alloc::{AllocError, Global};
 use std::marker::Model;
 
-/// All calls and mails that were ever sent, in the order of sending: number n stands at place n - 1.
+/// All calls and mails that were ever sent, in the order of sending:
+/// number n stands at place n - 1.
 #[derive(Drop)]
 pub struct Items {
     items: Vec<Item>,

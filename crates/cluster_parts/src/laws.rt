@@ -31,8 +31,11 @@ pub fn stops_are_made()
         Makes c (StopBefore name) verdicts.Ok (sending []) (slice_set (kept_agents c) place (comes_up_without a)) sent }
     ensures after { (c : Cluster) (name : List ℕ) (place : ℕ) (a : KeptAgent) (d : Draft) (sent : List Item) → Reached c → StandIn c sent → place_in name (kept_agents c) ≡ Some place → slice_get (kept_agents c) place ≡ Some a → a.part.draft ≡ Some d →
         Makes c (StopAfter name) verdicts.Ok (sending []) (slice_set (kept_agents c) place (comes_up_with a)) sent }
-    ensures unknown { (c : Cluster) (name : List ℕ) → place_in name (kept_agents c) ≡ None → Refuses c (StopBefore name) NoSuchAgent × Refuses c (StopAfter name) NoSuchAgent }
-    ensures without { (c : Cluster) (name : List ℕ) (place : ℕ) (a : KeptAgent) → place_in name (kept_agents c) ≡ Some place → slice_get (kept_agents c) place ≡ Some a → a.part.draft ≡ None → Refuses c (StopAfter name) NoDraft }
+    ensures unknown { (c : Cluster) (name : List ℕ) → place_in name (kept_agents c) ≡ None
+        → Refuses c (StopBefore name) NoSuchAgent × Refuses c (StopAfter name) NoSuchAgent }
+    ensures without { (c : Cluster) (name : List ℕ) (place : ℕ) (a : KeptAgent)
+        → place_in name (kept_agents c) ≡ Some place → slice_get (kept_agents c) place ≡ Some a
+        → a.part.draft ≡ None → Refuses c (StopAfter name) NoDraft }
 {
     agents_keep_their_names();
     agents_leave_the_others();
@@ -45,9 +48,14 @@ pub fn stops_are_made()
 pub fn commits_are_made()
     ensures made { (c : Cluster) (name : List ℕ) (place : ℕ) (a : KeptAgent) (d : Draft) (sent : List Item) → Reached c → StandIn c sent → place_in name (kept_agents c) ≡ Some place → slice_get (kept_agents c) place ≡ Some a → a.is_down ≡ false → a.part.draft ≡ Some d →
         Makes c (Commit name) verdicts.Ok (sending (map (sent_from name) d.mails)) (slice_set (kept_agents c) place (with_part d.after None a)) (sent ++ map (item_from name) d.mails) }
-    ensures unknown { (c : Cluster) (name : List ℕ) → place_in name (kept_agents c) ≡ None → Refuses c (Commit name) NoSuchAgent }
-    ensures down { (c : Cluster) (name : List ℕ) (place : ℕ) (a : KeptAgent) → place_in name (kept_agents c) ≡ Some place → slice_get (kept_agents c) place ≡ Some a → a.is_down ≡ true → Refuses c (Commit name) AgentDown }
-    ensures without { (c : Cluster) (name : List ℕ) (place : ℕ) (a : KeptAgent) → place_in name (kept_agents c) ≡ Some place → slice_get (kept_agents c) place ≡ Some a → a.is_down ≡ false → a.part.draft ≡ None → Refuses c (Commit name) NoDraft }
+    ensures unknown { (c : Cluster) (name : List ℕ) → place_in name (kept_agents c) ≡ None
+        → Refuses c (Commit name) NoSuchAgent }
+    ensures down { (c : Cluster) (name : List ℕ) (place : ℕ) (a : KeptAgent)
+        → place_in name (kept_agents c) ≡ Some place → slice_get (kept_agents c) place ≡ Some a
+        → a.is_down ≡ true → Refuses c (Commit name) AgentDown }
+    ensures without { (c : Cluster) (name : List ℕ) (place : ℕ) (a : KeptAgent)
+        → place_in name (kept_agents c) ≡ Some place → slice_get (kept_agents c) place ≡ Some a
+        → a.is_down ≡ false → a.part.draft ≡ None → Refuses c (Commit name) NoDraft }
 {
     agents_keep_their_names();
     agents_leave_the_others();
@@ -56,16 +64,24 @@ pub fn commits_are_made()
     steps_move_agents();
 }
 
-/// A draft is opened, or its cause refused, where the agent stands, is up and has no open draft; or the agent falls.
+/// A draft is opened, or its cause refused, where the agent stands,
+/// is up and has no open draft; or the agent falls.
 pub fn prepares_are_made()
     ensures made { (c : Cluster) (name : List ℕ) (place : ℕ) (a new : KeptAgent) (cause : StepCause) (given : Cause) (verdict : Verdict) (sent : List Item) → Reached c → StandIn c sent → place_in name (kept_agents c) ≡ Some place → slice_get (kept_agents c) place ≡ Some a →
         a.is_down ≡ false → a.part.draft ≡ None → cause_due sent name cause ≡ Some (Some given) → Drawn verdict a new (next_of a.part.agent given) →
         Makes c (Prepare name (cause_of cause)) verdict (sending []) (slice_set (kept_agents c) place new) sent }
     ensures astray { (c : Cluster) (name : List ℕ) (place : ℕ) (a : KeptAgent) (cause : StepCause) (sent : List Item) → Reached c → StandIn c sent → place_in name (kept_agents c) ≡ Some place → slice_get (kept_agents c) place ≡ Some a →
         a.is_down ≡ false → a.part.draft ≡ None → cause_due sent name cause ≡ Some None → Makes c (Prepare name (cause_of cause)) (verdicts.AgentRefused NotForMe) (sending []) (kept_agents c) sent }
-    ensures unknown { (c : Cluster) (name : List ℕ) (asked : model.StepCause) → place_in name (kept_agents c) ≡ None → Refuses c (Prepare name asked) NoSuchAgent }
-    ensures down { (c : Cluster) (name : List ℕ) (place : ℕ) (a : KeptAgent) (asked : model.StepCause) → place_in name (kept_agents c) ≡ Some place → slice_get (kept_agents c) place ≡ Some a → a.is_down ≡ true → Refuses c (Prepare name asked) AgentDown }
-    ensures opened { (c : Cluster) (name : List ℕ) (place : ℕ) (a : KeptAgent) (asked : model.StepCause) → place_in name (kept_agents c) ≡ Some place → slice_get (kept_agents c) place ≡ Some a → a.is_down ≡ false → is_some a.part.draft ≡ true → Refuses c (Prepare name asked) DraftOpen }
+    ensures unknown { (c : Cluster) (name : List ℕ) (asked : model.StepCause)
+        → place_in name (kept_agents c) ≡ None → Refuses c (Prepare name asked) NoSuchAgent }
+    ensures down { (c : Cluster) (name : List ℕ) (place : ℕ) (a : KeptAgent)
+        (asked : model.StepCause) → place_in name (kept_agents c) ≡ Some place
+        → slice_get (kept_agents c) place ≡ Some a → a.is_down ≡ true
+        → Refuses c (Prepare name asked) AgentDown }
+    ensures opened { (c : Cluster) (name : List ℕ) (place : ℕ) (a : KeptAgent)
+        (asked : model.StepCause) → place_in name (kept_agents c) ≡ Some place
+        → slice_get (kept_agents c) place ≡ Some a → a.is_down ≡ false → is_some a.part.draft ≡ true
+        → Refuses c (Prepare name asked) DraftOpen }
     ensures refused { (c : Cluster) (name : List ℕ) (place : ℕ) (a : KeptAgent) (cause : StepCause) (fault : ClusterFault) (sent : List Item) → StandIn c sent → place_in name (kept_agents c) ≡ Some place → slice_get (kept_agents c) place ≡ Some a → a.is_down ≡ false → a.part.draft ≡ None →
         Causes (Err fault) (cause_due sent name cause) → Refuses c (Prepare name (cause_of cause)) fault }
     ensures withheld { (c : Cluster) (name : List ℕ) (place : ℕ) (a : KeptAgent) (cause : StepCause) (gives : ℕ → Bool) → place_in name (kept_agents c) ≡ Some place → slice_get (kept_agents c) place ≡ Some a → a.is_down ≡ false → a.part.draft ≡ None →

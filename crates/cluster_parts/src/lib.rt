@@ -1,5 +1,6 @@
-//! The parts of a cluster, its agents, its master and all that was sent, and what a step makes of the part that it moves. Each step here is
-//! the model's, said of that part alone; what stands for the other parts stays as it was.
+//! The parts of a cluster, its agents, its master and all that was sent, and what a step makes of
+//! the part that it moves. Each step here is the model's, said of that part alone; what stands for
+//! the other parts stays as it was.
 #![tactic(auto)]
 
 mod agents;

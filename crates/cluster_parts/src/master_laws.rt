@@ -22,7 +22,8 @@ use cluster_laws::{
 use cluster_safe::masters_step_alone;
 use told_streams::{kept_streams_follow, no_more_is_taken};
 
-/// A step of the master is made as its answer is settled; the streams that it opens stand behind all others.
+/// A step of the master is made as its answer is settled;
+/// the streams that it opens stand behind all others.
 pub fn answers_are_made()
     ensures made { (c : Cluster) (s : Step) (moment : ℕ) (doing : Master → Doing) (answered : Result Outs MasterFault) (after : Option Master) (made : Made) (n : Option (Option Master)) (items js : List Item) (ts : List KeptStream) →
         Reached c → AreWithin c.streams → StandIn c items → c.world.run.serves ≡ true → Does c s moment (doing (master_of c)) → Answers answered (Some (master_of c)) after doing → Settles answered made (Some after) n items js (kept_streams c.streams) ts → MasterMakes c s moment made n js ts }

@@ -18,17 +18,24 @@ use master_core::{Master, MasterFault, Outs, StreamEvent};
 use names_core::StreamId;
 use plain_data::Plain;
 use post_rules::Post;
+use shared_value::Shared;
 use std::alloc::{AllocError, Global};
 use told_streams::Streams;
 
-/// How a step ended and what it brought out: its entry, but for the step. The outputs are there twice, to be kept and to be given away.
+/// How a step ended and what it brought out: its entry, but for the step.
 #[derive(Drop)]
 pub struct Made {
     pub verdict: Verdict,
     pub outputs: Outputs,
-    pub given: Outputs,
     /// A copy of the record of the draft that the step opened.
     pub durable: Option<Record>,
+}
+
+/// Mails, as an entry tells them and as they are kept. Each stands once.
+#[derive(Drop)]
+pub(crate) struct Outgoing {
+    pub sent: Listed<Sent>,
+    pub items: Listed<Item>,
 }
 
 /// What a step brings out that only sends.
@@ -43,14 +50,13 @@ pub fn sending(alloc: Global, sent: Listed<Sent>) -> Outputs
     }
 }
 
-/// A step that was taken and only sends. Both lists are the same.
-pub fn sending_twice(alloc: Global, sent: Listed<Sent>, given: Listed<Sent>) -> Made
-    ensures { result ≡ record { verdict = verdicts.Ok; outputs = sending sent; given = sending given; durable = None } }
+/// A step that was taken and only sends.
+pub fn made_sending(alloc: Global, sent: Listed<Sent>) -> Made
+    ensures { result ≡ record { verdict = verdicts.Ok; outputs = sending sent; durable = None } }
 {
     Made {
         verdict: Verdict::Ok,
         outputs: sending(alloc, sent),
-        given: sending(alloc, given),
         durable: None,
     }
 }
@@ -62,31 +68,23 @@ pub fn ends_with(alloc: Global, verdict: Verdict) -> Made
     Made {
         verdict,
         outputs: sending(alloc, Listed::new(alloc)),
-        given: sending(alloc, Listed::new(alloc)),
         durable: None,
     }
 }
 
-/// The master's mails, as an entry tells them.
-fn sent_to(alloc: Global, mails: &[ToAgent]) -> Result<Listed<Sent>, AllocError>
-    ensures { IfOk result (λ sent. sent ≡ map sent_to mails.now) }
+/// The master's mails, as they are told and kept.
+fn outgoing_to(alloc: Global, mails: &[ToAgent]) -> Result<Outgoing, AllocError>
+    ensures sent { IfOk result (λ out. out.sent ≡ map sent_to mails.now) }
+    ensures items { IfOk result (λ out. out.items ≡ map item_to mails.now) }
 {
     let mut sent = Listed::from_vec(Vec::with_capacity(alloc, mails.len())?);
-    for to in mails {
-        sent.push(Sent::ToAgent(to.copy()?))?;
-    }
-    Ok(sent)
-}
-
-/// The master's mails, as they are kept.
-fn items_to(alloc: Global, mails: &[ToAgent]) -> Result<Listed<Item>, AllocError>
-    ensures { IfOk result (λ items. items ≡ map item_to mails.now) }
-{
     let mut items = Listed::from_vec(Vec::with_capacity(alloc, mails.len())?);
     for to in mails {
-        items.push(Item::ToAgent(to.copy()?))?;
+        let mail = Shared::new(alloc, to.copy()?)?;
+        items.push(Item::ToAgent(mail.share()?))?;
+        sent.push(Sent::ToAgent(mail))?;
     }
-    Ok(items)
+    Ok(Outgoing { sent, items })
 }
 
 /// Keeps what was sent and hears what was told, or neither where memory is refused.
@@ -94,17 +92,16 @@ fn keep(
     items: &mut Items,
     streams: &mut Streams,
     alloc: Global,
-    mails: &[ToAgent],
+    more: Listed<Item>,
     opened: &[StreamId],
     events: &[StreamEvent],
 ) -> Result<(), AllocError>
     requires { AreRising (kept_ids streams.old ++ opened.now) }
-    ensures items { OnOk result (items.new ≡ items.old ++ map item_to mails.now) }
+    ensures items { OnOk result (items.new ≡ items.old ++ more) }
     ensures streams { OnOk result (streams.new ≡ heard opened.now events.now streams.old) }
     ensures unchanged { OnErr result ((items.new ≡ items.old) × (streams.new ≡ streams.old)) }
 {
     let before = items.as_slice().len();
-    let more = items_to(alloc, mails)?;
     items.append(more)?;
     match streams.hear(alloc, opened, events) {
         Ok(()) => Ok(()),
@@ -132,31 +129,30 @@ fn tell<P: Post>(
     ensures room { OnOk result (length outs.mails ≤ P.room post.new) }
 {
     post.reserve(alloc, outs.mails.len())?;
+    let out = outgoing_to(alloc, outs.mails.as_slice())?;
     let outputs = Outputs {
         events: outs.events,
         closed: outs.closed,
-        sent: sent_to(alloc, outs.mails.as_slice())?,
+        sent: out.sent,
         taken: None,
     };
-    let given = outputs.copy()?;
-    let mails = outs.mails.as_slice();
     keep(
         items,
         streams,
         alloc,
-        mails,
+        out.items,
         outs.opened.as_slice(),
         outputs.events.as_slice(),
     )?;
     Ok(Made {
         verdict: Verdict::Ok,
         outputs,
-        given,
         durable: None,
     })
 }
 
-/// Keeps and tells what the master's answer brought out. Where memory was refused the master has fallen, and nothing else changes.
+/// Keeps and tells what the master's answer brought out.
+/// Where memory was refused the master has fallen, and nothing else changes.
 pub fn settle<P: Post>(
     master: &mut Option<Master>,
     items: &mut Items,
@@ -166,7 +162,8 @@ pub fn settle<P: Post>(
     answer: Result<Outs, MasterFault>,
 ) -> Made
     requires { IfOk answer (λ outs. AreRising (kept_ids streams.old ++ outs.opened)) }
-    ensures settled { Settles answer result master.old master.new items.old items.new streams.old streams.new }
+    ensures settled { Settles answer result master.old master.new items.old items.new streams.old
+        streams.new }
     ensures post { P.known post.new ≡ P.known post.old }
     ensures room { Grows (length items.old) (length items.new) (P.room post.new) }
 {

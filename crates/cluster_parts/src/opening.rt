@@ -48,7 +48,8 @@ pub struct Opened {
     pub outputs: Outputs,
 }
 
-/// A new master that greets every agent stands for the opening, and so do agents that come up over their records.
+/// A new master that greets every agent stands for the opening,
+/// and so do agents that come up over their records.
 fn openings_are_made()
     ensures made { (setup : Setup) (agents : List ConfiguredAgent) (records : List Record) (answered : Result OutsSo Fault) (made : MadeSo) (started n : Option (Option ModelMaster)) (js : List Item) (ts : List KeptStream) →
         AreAgentsOf agents records → GoodOpening setup.run records → Starts answered started setup.run agents → Settles answered made started n [] js [] ts → made.verdict ≡ verdicts.Ok → StandsFor (opening setup records).state n js ts × (made.outputs ≡ outputs_of (open_cluster setup records).entry.outs) }
@@ -56,7 +57,10 @@ fn openings_are_made()
         (opening setup records).state.world.run.number ≡ setup.run }
     ensures agents { (setup : Setup) (records : List Record) →
         map up_over records ≡ kept_agents (opening setup records).state }
-    ensures rise { (run : ℕ) (agents : List ConfiguredAgent) (records : List Record) (answered : Result OutsSo Fault) (started : Option (Option ModelMaster)) → AreAgentsOf agents records → Starts answered started run agents → IfOk answered (λ outs. AreRising (kept_ids [] ++ outs.opened)) }
+    ensures rise { (run : ℕ) (agents : List ConfiguredAgent) (records : List Record)
+        (answered : Result OutsSo Fault) (started : Option (Option ModelMaster))
+        → AreAgentsOf agents records → Starts answered started run agents
+        → IfOk answered (λ outs. AreRising (kept_ids [] ++ outs.opened)) }
 {
     fresh_masters_open();
     masters_begin_with_greetings();
@@ -94,8 +98,9 @@ fn recover_all(alloc: Global, records: &[Record]) -> Result<Vec<ClusterAgent>, A
     Ok(agents)
 }
 
-/// What a cluster of these agents has at its opening: they come up over copies of the records, and the first master begins this run and
-/// greets each. The post has room for the greetings. Of its faults there is `C9 OutOfMemory` alone.
+/// What a cluster of these agents has at its opening: they come up over copies of the records, and
+/// the first master begins this run and greets each. The post has room for the greetings. Of its
+/// faults there is `C9 OutOfMemory` alone.
 pub fn open_parts<P: Post>(
     post: &mut P,
     alloc: Global,

@@ -101,10 +101,15 @@ fn prepare_at<P: Post>(
     requires order { ComeInOrder agents.old items.now }
     requires place { place_in name.now agents.old ≡ Some place }
     requires within { place < length agents.old }
-    ensures made { IfOk result (λ prepared. (c : Cluster) → Reached c → agents.old ≡ kept_agents c → StandIn c items.now → Makes c (Prepare name.now (cause_of cause)) prepared.verdict (sending []) agents.new items.now) }
-    ensures durable { IfOk result (λ prepared. prepared.durable ≡ record_prepared prepared.verdict name.now agents.new) }
+    ensures made { IfOk result (λ prepared. (c : Cluster) → Reached c → agents.old ≡ kept_agents c
+        → StandIn c items.now → Makes c (Prepare name.now (cause_of cause)) prepared.verdict
+        (sending []) agents.new items.now) }
+    ensures durable { IfOk result (λ prepared. prepared.durable
+        ≡ record_prepared prepared.verdict name.now agents.new) }
     ensures given { IfOk result (λ _. is_withheld (P.gives (P.known post.now)) cause ≡ false) }
-    ensures refused { IfErr result (λ fault. (c : Cluster) → agents.old ≡ kept_agents c → StandIn c items.now → MayRefuse c (P.gives (P.known post.now)) (Prepare name.now (cause_of cause)) fault) }
+    ensures refused { IfErr result (λ fault. (c : Cluster) → agents.old ≡ kept_agents c
+        → StandIn c items.now → MayRefuse c (P.gives (P.known post.now))
+        (Prepare name.now (cause_of cause)) fault) }
     ensures unchanged { OnErr result (agents.new ≡ agents.old) }
 {
     prepares_are_made();
@@ -128,9 +133,10 @@ fn prepare_at<P: Post>(
     }
 }
 
-/// The agent opens a draft of what a cause makes of it, or refuses the cause, or runs out of memory and is down. It is refused with
-/// `C8 NoSuchAgent`, `C3 AgentDown`, `C4 DraftOpen` or `C1 NoSuchMail` (a mail that the post can't hand out, or that is none to an agent),
-/// of several the first in this order, and with `C9 OutOfMemory`.
+/// The agent opens a draft of what a cause makes of it, or refuses the cause, or runs out of memory
+/// and is down. It is refused with `C8 NoSuchAgent`, `C3 AgentDown`, `C4 DraftOpen` or `C1
+/// NoSuchMail` (a mail that the post can't hand out, or that is none to an agent), of several the
+/// first in this order, and with `C9 OutOfMemory`.
 pub fn prepare<P: Post>(
     agents: &mut [ClusterAgent],
     items: &[Item],
@@ -140,10 +146,15 @@ pub fn prepare<P: Post>(
     cause: StepCause,
 ) -> Result<Prepared, ClusterFault>
     requires { ComeInOrder agents.old items.now }
-    ensures made { IfOk result (λ prepared. (c : Cluster) → Reached c → agents.old ≡ kept_agents c → StandIn c items.now → Makes c (Prepare name.now (cause_of cause)) prepared.verdict (sending []) agents.new items.now) }
-    ensures durable { IfOk result (λ prepared. prepared.durable ≡ record_prepared prepared.verdict name.now agents.new) }
+    ensures made { IfOk result (λ prepared. (c : Cluster) → Reached c → agents.old ≡ kept_agents c
+        → StandIn c items.now → Makes c (Prepare name.now (cause_of cause)) prepared.verdict
+        (sending []) agents.new items.now) }
+    ensures durable { IfOk result (λ prepared. prepared.durable
+        ≡ record_prepared prepared.verdict name.now agents.new) }
     ensures given { IfOk result (λ _. is_withheld (P.gives (P.known post.now)) cause ≡ false) }
-    ensures refused { IfErr result (λ fault. (c : Cluster) → agents.old ≡ kept_agents c → StandIn c items.now → MayRefuse c (P.gives (P.known post.now)) (Prepare name.now (cause_of cause)) fault) }
+    ensures refused { IfErr result (λ fault. (c : Cluster) → agents.old ≡ kept_agents c
+        → StandIn c items.now → MayRefuse c (P.gives (P.known post.now))
+        (Prepare name.now (cause_of cause)) fault) }
     ensures unchanged { OnErr result (agents.new ≡ agents.old) }
 {
     prepares_are_made();

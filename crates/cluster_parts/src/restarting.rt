@@ -38,7 +38,8 @@ use told_streams::{Streams, kept_streams_follow};
 /// The last run of a master.
 const LAST_RUN: u16 = 65_535;
 
-/// A new master of the next run that greets every agent stands for the state behind a stop of the master; behind the last run none does.
+/// A new master of the next run that greets every agent stands for the state behind a
+/// stop of the master; behind the last run none does.
 fn restarts_are_made()
     ensures anew { (c : Cluster) (r : Reached c) (agents : List ConfiguredAgent) (answered : Result Outs Fault) (made : MadeSo) (master started n : Option (Option ModelMaster)) (items js : List Item) (ss ts : List KeptStream) →
         AreAgentsOf agents r.records → StandsFor c master items ss → nat_lt c.world.run.number last_run ≡ true → Starts answered started (1 + c.world.run.number) agents → Settles answered made started n items js ss ts → Restarts c made (1 + c.world.run.number) n js ts }
@@ -67,8 +68,9 @@ fn run_behind(run: Run) -> Option<Run>
     }
 }
 
-/// The master stops: every stream closes untold, and what waits on it can still be taken. A new one begins the next run, with the agents of
-/// the configuration, and greets each. Behind the last run, 65,535, none comes, and none where memory is refused. It is never refused.
+/// The master stops: every stream closes untold, and what waits on it can still be taken. A new one
+/// begins the next run, with the agents of the configuration, and greets each. Behind the last run,
+/// 65,535, none comes, and none where memory is refused. It is never refused.
 pub fn stop_master<P: Post>(
     master: &mut Option<Master>,
     config: &Config,
@@ -79,7 +81,9 @@ pub fn stop_master<P: Post>(
     run: &mut Run,
 ) -> Made
     requires { StandingOver config.now run.old master.old items.old streams.old }
-    ensures made { (c : Cluster) (r : Reached c) → AreAgentsOf config.now r.records → c.world.run.number ≡ run.old → StandsFor c master.old items.old streams.old → Restarts c result run.new master.new items.new streams.new }
+    ensures made { (c : Cluster) (r : Reached c) → AreAgentsOf config.now r.records
+        → c.world.run.number ≡ run.old → StandsFor c master.old items.old streams.old
+        → Restarts c result run.new master.new items.new streams.new }
     ensures post { P.known post.new ≡ P.known post.old }
     ensures room { Grows (length items.old) (length items.new) (P.room post.new) }
 {

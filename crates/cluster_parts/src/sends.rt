@@ -20,7 +20,7 @@ ghost use Rattle.told_streams.specs.Kept.{kept_streams};
 ghost use Rattle.told_streams.specs.Streams.{next_on, taken};
 
 use crate::items::Items;
-use crate::masters::{Made, sending_twice};
+use crate::masters::{Made, made_sending};
 use cluster_laws::{Item, sent_items_stand, streams_rise};
 use cluster_steps::{ClusterFault, Outputs, Sent, Verdict};
 use event_json::Event;
@@ -30,6 +30,7 @@ use master_core::StreamEvent;
 use names_core::StreamId;
 use plain_data::Plain;
 use post_rules::Post;
+use shared_value::Shared;
 use std::alloc::{AllocError, Global};
 use told_streams::{Streams, kept_streams_are_found, kept_streams_follow, no_more_is_taken};
 
@@ -45,7 +46,8 @@ fn sends_are_made()
 fn takes_are_made()
     ensures made { (c : Cluster) (id : Numbered) (event : told.Event) (master : Option (Option Master)) (sent : List Item) → Reached c → StandsFor c master sent (kept_streams c.streams) → next_on id (kept_streams c.streams) ≡ Some event →
         MasterMakes c (Take id) c.last_tick (taking id event) master sent (taken id (kept_streams c.streams)) }
-    ensures refused { (c : Cluster) (id : Numbered) → next_on id (kept_streams c.streams) ≡ None → Refuses c (Take id) NoSuchMail }
+    ensures refused { (c : Cluster) (id : Numbered) → next_on id (kept_streams c.streams) ≡ None
+        → Refuses c (Take id) NoSuchMail }
 {
     kept_streams_are_found();
     kept_streams_follow();
@@ -63,17 +65,17 @@ fn list_of_one<T: Drop>(alloc: Global, item: T) -> Result<Listed<T>, AllocError>
     Ok(Listed::from_vec(items))
 }
 
-/// A framework sends a call, on a stream or on none; the stream may be one that was never opened. The post has room for the call. It is
-/// refused with `C9 OutOfMemory` alone.
+/// A framework sends a call, on a stream or on none; the stream may be one that was never opened.
+/// The post has room for the call. It is refused with `C9 OutOfMemory` alone.
 pub fn send<P: Post>(
     items: &mut Items,
     post: &mut P,
     alloc: Global,
     stream: Option<StreamId>,
-    call: SentCall,
+    call: Shared<SentCall>,
 ) -> Result<Made, ClusterFault>
-    ensures made { IfOk result (λ made. (c : Cluster) → Reached c → StandIn c items.old → Makes c (Send stream call) made.verdict made.outputs (kept_agents c) items.new) }
-    ensures given { IfOk result (λ made. made.given ≡ made.outputs) }
+    ensures made { IfOk result (λ made. (c : Cluster) → Reached c → StandIn c items.old
+        → Makes c (Send stream call) made.verdict made.outputs (kept_agents c) items.new) }
     ensures durable { IfOk result (λ made. made.durable ≡ None) }
     ensures memory { IfErr result (λ fault. fault ≡ OutOfMemory) }
     ensures unchanged { OnErr result (items.new ≡ items.old) }
@@ -83,22 +85,22 @@ pub fn send<P: Post>(
     sends_are_made();
     let more = list_of_one(alloc, Item::Call(stream, call))?;
     let sent = list_of_one(alloc, Sent::Call)?;
-    let given = list_of_one(alloc, Sent::Call)?;
     post.reserve(alloc, 1)?;
     items.append(more)?;
-    Ok(sending_twice(alloc, sent, given))
+    Ok(made_sending(alloc, sent))
 }
 
 /// An event that was taken, and nothing else.
-fn taking(alloc: Global, stream: StreamId, event: Event) -> Outputs
-    ensures { result ≡ taking_out stream event }
+fn taking(alloc: Global, stream: StreamId, event: Event) -> Result<Outputs, AllocError>
+    ensures { IfOk result (λ outputs. outputs ≡ taking_out stream event) }
 {
-    Outputs {
+    let taken = Shared::new(alloc, StreamEvent { stream, event })?;
+    Ok(Outputs {
         events: Listed::new(alloc),
         closed: Listed::new(alloc),
         sent: Listed::new(alloc),
-        taken: Some(StreamEvent { stream, event }),
-    }
+        taken: Some(taken),
+    })
 }
 
 /// A copy of the first event that waits on a stream, or `C1 NoSuchMail` where none waits.
@@ -112,20 +114,24 @@ fn first_waiting(streams: &Streams, id: StreamId) -> Result<Event, ClusterFault>
     }
 }
 
-/// A framework takes the first event that waits on a stream, of any run. It is refused with `C1 NoSuchMail` where none waits, and with
-/// `C9 OutOfMemory`.
+/// A framework takes the first event that waits on a stream, of any run.
+/// It is refused with `C1 NoSuchMail` where none waits, and with `C9 OutOfMemory`.
 pub fn take(streams: &mut Streams, alloc: Global, id: StreamId) -> Result<Made, ClusterFault>
-    ensures made { IfOk result (λ made. (c : Cluster) (master : Option (Option Master)) (sent : List Item) → Reached c → StandsFor c master sent streams.old → MasterMakes c (Take id) c.last_tick made master sent streams.new) }
-    ensures refused { IfErr result (λ fault. (c : Cluster) → streams.old ≡ kept_streams c.streams → Refuses c (Take id) fault) }
+    ensures made { IfOk result
+        (λ made. (c : Cluster) (master : Option (Option Master)) (sent : List Item) → Reached c
+        → StandsFor c master sent streams.old
+        → MasterMakes c (Take id) c.last_tick made master sent streams.new) }
+    ensures refused { IfErr result (λ fault. (c : Cluster) → streams.old ≡ kept_streams c.streams
+        → Refuses c (Take id) fault) }
     ensures unchanged { OnErr result (streams.new ≡ streams.old) }
 {
     takes_are_made();
-    let copy = first_waiting(streams, id)?;
+    let event = first_waiting(streams, id)?;
+    let outputs = taking(alloc, id, event)?;
     match streams.take(id) {
-        Some(event) => Ok(Made {
+        Some(_) => Ok(Made {
             verdict: Verdict::Ok,
-            outputs: taking(alloc, id, event),
-            given: taking(alloc, id, copy),
+            outputs,
             durable: None,
         }),
         None => Err(ClusterFault::NoSuchMail),

@@ -24,8 +24,8 @@ use role_weights::Weights;
 use std::alloc::Global;
 use told_streams::{Streams, kept_streams_are_found};
 
-/// The master makes a round of offers by the weights of roles. It is refused with `C2 MasterDown` where no master serves. A master that runs out of memory in the
-/// step is down.
+/// The master makes a round of offers by the weights of roles. It is refused with `C2 MasterDown`
+/// where no master serves. A master that runs out of memory in the step is down.
 pub fn allocate<P: Post>(
     master: &mut Option<Master>,
     items: &mut Items,
@@ -38,8 +38,10 @@ pub fn allocate<P: Post>(
     ensures made { IfOk result (λ made. (c : Cluster) → Reached c → c.weights ≡ weights.now →
         StandsFor c master.old items.old streams.old →
         MasterMakes c Allocate c.last_tick made master.new items.new streams.new) }
-    ensures refused { IfErr result (λ fault. (c : Cluster) → StandsFor c master.old items.old streams.old → Refuses c Allocate fault) }
-    ensures unchanged { OnErr result ((master.new ≡ master.old) × (items.new ≡ items.old) × (streams.new ≡ streams.old)) }
+    ensures refused { IfErr result (λ fault. (c : Cluster)
+        → StandsFor c master.old items.old streams.old → Refuses c Allocate fault) }
+    ensures unchanged { OnErr result ((master.new ≡ master.old) × (items.new ≡ items.old)
+        × (streams.new ≡ streams.old)) }
     ensures post { P.known post.new ≡ P.known post.old }
     ensures room { Grows (length items.old) (length items.new) (P.room post.new) }
 {
@@ -52,8 +54,9 @@ pub fn allocate<P: Post>(
     Ok(settle(master, items, streams, post, alloc, answer))
 }
 
-/// The master's moment is this one, in seconds. It is refused with `C2 MasterDown` where no master serves, else with `C7 TimeBack` where
-/// it lies before the last one. A master that runs out of memory in the step is down.
+/// The master's moment is this one, in seconds. It is refused with `C2 MasterDown` where no master
+/// serves, else with `C7 TimeBack` where it lies before the last one. A master that runs out of
+/// memory in the step is down.
 pub fn tick<P: Post>(
     master: &mut Option<Master>,
     items: &mut Items,
@@ -64,9 +67,13 @@ pub fn tick<P: Post>(
     now: u32,
 ) -> Result<Made, ClusterFault>
     requires { StandingAt last_tick master.old items.old streams.old }
-    ensures made { IfOk result (λ made. (c : Cluster) → Reached c → c.last_tick ≡ last_tick → StandsFor c master.old items.old streams.old → MasterMakes c (Tick now) now made master.new items.new streams.new) }
-    ensures refused { IfErr result (λ fault. (c : Cluster) → c.last_tick ≡ last_tick → StandsFor c master.old items.old streams.old → Refuses c (Tick now) fault) }
-    ensures unchanged { OnErr result ((master.new ≡ master.old) × (items.new ≡ items.old) × (streams.new ≡ streams.old)) }
+    ensures made { IfOk result (λ made. (c : Cluster) → Reached c → c.last_tick ≡ last_tick
+        → StandsFor c master.old items.old streams.old
+        → MasterMakes c (Tick now) now made master.new items.new streams.new) }
+    ensures refused { IfErr result (λ fault. (c : Cluster) → c.last_tick ≡ last_tick
+        → StandsFor c master.old items.old streams.old → Refuses c (Tick now) fault) }
+    ensures unchanged { OnErr result ((master.new ≡ master.old) × (items.new ≡ items.old)
+        × (streams.new ≡ streams.old)) }
     ensures post { P.known post.new ≡ P.known post.old }
     ensures room { Grows (length items.old) (length items.new) (P.room post.new) }
 {
@@ -95,9 +102,13 @@ pub fn deliver_call<P: Post>(
 ) -> Result<Made, ClusterFault>
     requires stands { Standing master.old items.old streams.old }
     requires sent { item_at number items.old ≡ Some (sent.Call stream call) }
-    ensures made { IfOk result (λ made. (c : Cluster) → Reached c → StandsFor c master.old items.old streams.old → MasterMakes c (Deliver number) c.last_tick made master.new items.new streams.new) }
-    ensures refused { IfErr result (λ fault. (c : Cluster) → StandsFor c master.old items.old streams.old → Refuses c (Deliver number) fault) }
-    ensures unchanged { OnErr result ((master.new ≡ master.old) × (items.new ≡ items.old) × (streams.new ≡ streams.old)) }
+    ensures made { IfOk result (λ made. (c : Cluster) → Reached c
+        → StandsFor c master.old items.old streams.old
+        → MasterMakes c (Deliver number) c.last_tick made master.new items.new streams.new) }
+    ensures refused { IfErr result (λ fault. (c : Cluster)
+        → StandsFor c master.old items.old streams.old → Refuses c (Deliver number) fault) }
+    ensures unchanged { OnErr result ((master.new ≡ master.old) × (items.new ≡ items.old)
+        × (streams.new ≡ streams.old)) }
     ensures post { P.known post.new ≡ P.known post.old }
     ensures room { Grows (length items.old) (length items.new) (P.room post.new) }
 {
@@ -111,8 +122,9 @@ pub fn deliver_call<P: Post>(
     Ok(settle(master, items, streams, post, alloc, answer))
 }
 
-/// A framework hangs a stream up. It is refused with `C2 MasterDown` where no master serves, else with `C1 NoSuchMail` where the stream
-/// was never opened. A master that runs out of memory in the step is down.
+/// A framework hangs a stream up. It is refused with `C2 MasterDown` where no master serves, else
+/// with `C1 NoSuchMail` where the stream was never opened. A master that runs out of memory in the
+/// step is down.
 pub fn hang_up<P: Post>(
     master: &mut Option<Master>,
     items: &mut Items,
@@ -122,9 +134,13 @@ pub fn hang_up<P: Post>(
     id: StreamId,
 ) -> Result<Made, ClusterFault>
     requires { Standing master.old items.old streams.old }
-    ensures made { IfOk result (λ made. (c : Cluster) → Reached c → StandsFor c master.old items.old streams.old → MasterMakes c (HangUp id) c.last_tick made master.new items.new streams.new) }
-    ensures refused { IfErr result (λ fault. (c : Cluster) → StandsFor c master.old items.old streams.old → Refuses c (HangUp id) fault) }
-    ensures unchanged { OnErr result ((master.new ≡ master.old) × (items.new ≡ items.old) × (streams.new ≡ streams.old)) }
+    ensures made { IfOk result (λ made. (c : Cluster) → Reached c
+        → StandsFor c master.old items.old streams.old
+        → MasterMakes c (HangUp id) c.last_tick made master.new items.new streams.new) }
+    ensures refused { IfErr result (λ fault. (c : Cluster)
+        → StandsFor c master.old items.old streams.old → Refuses c (HangUp id) fault) }
+    ensures unchanged { OnErr result ((master.new ≡ master.old) × (items.new ≡ items.old)
+        × (streams.new ≡ streams.old)) }
     ensures post { P.known post.new ≡ P.known post.old }
     ensures room { Grows (length items.old) (length items.new) (P.room post.new) }
 {
@@ -148,8 +164,9 @@ fn is_known(agents: &[ClusterAgent], name: &AgentName) -> bool
     place_of(agents, name).is_some()
 }
 
-/// The master takes an agent for lost. It is refused with `C8 NoSuchAgent` where no agent of this name is configured, else with
-/// `C2 MasterDown` where no master serves. A master that runs out of memory in the step is down.
+/// The master takes an agent for lost. It is refused with `C8 NoSuchAgent` where no agent of this
+/// name is configured, else with `C2 MasterDown` where no master serves. A master that runs out of
+/// memory in the step is down.
 pub fn lose_agent<P: Post>(
     master: &mut Option<Master>,
     agents: &[ClusterAgent],
@@ -160,9 +177,13 @@ pub fn lose_agent<P: Post>(
     name: &AgentName,
 ) -> Result<Made, ClusterFault>
     requires { StandingWith agents.now master.old items.old streams.old }
-    ensures made { IfOk result (λ made. (c : Cluster) → Reached c → agents.now ≡ kept_agents c → StandsFor c master.old items.old streams.old → MasterMakes c (LoseAgent name.now) c.last_tick made master.new items.new streams.new) }
-    ensures refused { IfErr result (λ fault. (c : Cluster) → agents.now ≡ kept_agents c → StandsFor c master.old items.old streams.old → Refuses c (LoseAgent name.now) fault) }
-    ensures unchanged { OnErr result ((master.new ≡ master.old) × (items.new ≡ items.old) × (streams.new ≡ streams.old)) }
+    ensures made { IfOk result (λ made. (c : Cluster) → Reached c → agents.now ≡ kept_agents c
+        → StandsFor c master.old items.old streams.old
+        → MasterMakes c (LoseAgent name.now) c.last_tick made master.new items.new streams.new) }
+    ensures refused { IfErr result (λ fault. (c : Cluster) → agents.now ≡ kept_agents c
+        → StandsFor c master.old items.old streams.old → Refuses c (LoseAgent name.now) fault) }
+    ensures unchanged { OnErr result ((master.new ≡ master.old) × (items.new ≡ items.old)
+        × (streams.new ≡ streams.old)) }
     ensures post { P.known post.new ≡ P.known post.old }
     ensures room { Grows (length items.old) (length items.new) (P.room post.new) }
 {

@@ -18,7 +18,8 @@ use names_core::AgentName;
 pub fn found(agents: &[ClusterAgent], name: &AgentName) -> Result<usize, ClusterFault>
     ensures place { IfOk result (λ place. place_in name.now agents.now ≡ Some place) }
     ensures within { IfOk result (λ place. place < length agents.now) }
-    ensures none { IfErr result (λ fault. (place_in name.now agents.now ≡ None) × (fault ≡ NoSuchAgent)) }
+    ensures none { IfErr result (λ fault. (place_in name.now agents.now ≡ None)
+        × (fault ≡ NoSuchAgent)) }
 {
     match place_of(agents, name) {
         Some(place) => Ok(place),
@@ -26,10 +27,14 @@ pub fn found(agents: &[ClusterAgent], name: &AgentName) -> Result<usize, Cluster
     }
 }
 
-/// The agent stops, and is up again over its record; an open draft is gone. It is refused with `C8 NoSuchAgent` alone.
+/// The agent stops, and is up again over its record; an open draft is gone.
+/// It is refused with `C8 NoSuchAgent` alone.
 pub fn stop_before(agents: &mut [ClusterAgent], name: &AgentName) -> Result<(), ClusterFault>
-    ensures made { IfOk result (λ _. (c : Cluster) (sent : List Item) → Reached c → agents.old ≡ kept_agents c → StandIn c sent → Makes c (StopBefore name.now) verdicts.Ok (sending []) agents.new sent) }
-    ensures refused { IfErr result (λ fault. (c : Cluster) → agents.old ≡ kept_agents c → Refuses c (StopBefore name.now) fault) }
+    ensures made { IfOk result (λ _. (c : Cluster) (sent : List Item) → Reached c
+        → agents.old ≡ kept_agents c → StandIn c sent
+        → Makes c (StopBefore name.now) verdicts.Ok (sending []) agents.new sent) }
+    ensures refused { IfErr result (λ fault. (c : Cluster) → agents.old ≡ kept_agents c
+        → Refuses c (StopBefore name.now) fault) }
     ensures unchanged { OnErr result (agents.new ≡ agents.old) }
 {
     stops_are_made();
@@ -39,11 +44,14 @@ pub fn stop_before(agents: &mut [ClusterAgent], name: &AgentName) -> Result<(), 
     Ok(())
 }
 
-/// The agent stops once its draft's record was saved, and is up again over that; the draft's mails aren't sent. It is refused with
-/// `C8 NoSuchAgent`, else with `C5 NoDraft`.
+/// The agent stops once its draft's record was saved, and is up again over that;
+/// the draft's mails aren't sent. It is refused with `C8 NoSuchAgent`, else with `C5 NoDraft`.
 pub fn stop_after(agents: &mut [ClusterAgent], name: &AgentName) -> Result<(), ClusterFault>
-    ensures made { IfOk result (λ _. (c : Cluster) (sent : List Item) → Reached c → agents.old ≡ kept_agents c → StandIn c sent → Makes c (StopAfter name.now) verdicts.Ok (sending []) agents.new sent) }
-    ensures refused { IfErr result (λ fault. (c : Cluster) → agents.old ≡ kept_agents c → Refuses c (StopAfter name.now) fault) }
+    ensures made { IfOk result (λ _. (c : Cluster) (sent : List Item) → Reached c
+        → agents.old ≡ kept_agents c → StandIn c sent
+        → Makes c (StopAfter name.now) verdicts.Ok (sending []) agents.new sent) }
+    ensures refused { IfErr result (λ fault. (c : Cluster) → agents.old ≡ kept_agents c
+        → Refuses c (StopAfter name.now) fault) }
     ensures unchanged { OnErr result (agents.new ≡ agents.old) }
 {
     stops_are_made();

@@ -10,7 +10,8 @@ use Rattle.cluster_model.specs.Clusters.{Post, Called}
 
 -- an ACKNOWLEDGE of this framework names this update
 abbrev pub Names : Numbered → Numbered → ℕ → Post → Type 0
-Names framework key k (Called stream (Acknowledge f agent task uuid)) = (f ≡ framework) × (uuid.key ≡ key) × (uuid.k ≡ k)
+Names framework key k (Called stream (Acknowledge f agent task uuid)) =
+    (f ≡ framework) × (uuid.key ≡ key) × (uuid.k ≡ k)
 Names framework key k post = ⊥
 
 -- such a call was sent
@@ -26,6 +27,10 @@ WasCounted key k (t ∷ ts) = ((t.job.key ≡ key) × (k < t.updates.acknowledge
 abbrev pub recorded_tasks : List Durable → List RecordedTask
 recorded_tasks records = flat_map (λ d. d.tasks) records
 
--- each update that a record counts as acknowledged was named by a sent ACKNOWLEDGE of the task's own framework, or was counted at the opening
+-- each update that a record counts as acknowledged was named by a sent ACKNOWLEDGE of the
+-- task's own framework, or was counted at the opening
 abbrev pub AcknowledgedByOwner : List Durable → World → List Post → Type 0
-AcknowledgedByOwner records w posts = Each (λ c. Each (λ t. (k : ℕ) → k < t.updates.acknowledged → WasSent t.job.framework t.job.key k posts ⊎ WasCounted t.job.key k (recorded_tasks records)) c.agent.durable.tasks) w.channels
+AcknowledgedByOwner records w posts =
+    Each (λ c. Each (λ t. (k : ℕ) → k < t.updates.acknowledged
+    → WasSent t.job.framework t.job.key k posts ⊎ WasCounted t.job.key k (recorded_tasks records))
+    c.agent.durable.tasks) w.channels

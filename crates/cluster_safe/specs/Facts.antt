@@ -35,7 +35,9 @@ pub record Stake : Type 0 where
   pub states : List TaskState  -- its updates
   pub comes : Bool  -- whether it is a launch that may still come into the record
 
--- what is told of the past beside the channel: all commands ever issued in each session, the greatest session ever opened, the run with which each session is told, the latest run that a Hello told, and the updates that ever stood in the agent's record for each key
+-- what is told of the past beside the channel: all commands ever issued in each session, the
+-- greatest session ever opened, the run with which each session is told, the latest run that a
+-- Hello told, and the updates that ever stood in the agent's record for each key
 pub record Past : Type 0 where
   pub ever : ℕ → List Command
   pub peak : ℕ
@@ -50,9 +52,13 @@ Within (x ∷ xs) [] = ⊥
 Within (x ∷ xs) (y ∷ ys) = ((x ≡ y) × Within xs ys) ⊎ Within (x ∷ xs) ys
 
 abbrev pub Aged : Stake → Stake → Type 0
-Aged new old = (new.job ≡ old.job) × (old.ended ≡ true → new.ended ≡ true) × (new.comes ≡ true → old.comes ≡ true) × ((more : List TaskState) × (new.states ≡ old.states ++ more))
+Aged new old =
+    (new.job ≡ old.job) × (old.ended ≡ true → new.ended ≡ true)
+    × (new.comes ≡ true → old.comes ≡ true)
+    × ((more : List TaskState) × (new.states ≡ old.states ++ more))
 
--- the first are some of the second, in their order, and more of them may have ended, and have more updates
+-- the first are some of the second, in their order,
+-- and more of them may have ended, and have more updates
 abbrev pub Fades : List Stake → List Stake → Type 0
 Fades [] ys = ⊤
 Fades (x ∷ xs) [] = ⊥
@@ -67,7 +73,8 @@ task_stake t = record { job = t.job; ended = has_ended t; states = t.updates.sta
 
 abbrev pub launches : List Command → List Stake
 launches [] = []
-launches (Launch job offers ∷ whats) = record { job = job; ended = false; states = []; comes = true } ∷ launches whats
+launches (Launch job offers ∷ whats) =
+    record { job = job; ended = false; states = []; comes = true } ∷ launches whats
 launches (Kill key ∷ whats) = launches whats
 launches (Ack key k ∷ whats) = launches whats
 launches (EndFramework framework ∷ whats) = launches whats
@@ -114,7 +121,8 @@ EndsTorn torn [] = ⊤
 EndsTorn torn (Launch job offers ∷ whats) = EndsTorn torn whats
 EndsTorn torn (Kill key ∷ whats) = EndsTorn torn whats
 EndsTorn torn (Ack key k ∷ whats) = EndsTorn torn whats
-EndsTorn torn (EndFramework framework ∷ whats) = (is_among torn framework ≡ true) × EndsTorn torn whats
+EndsTorn torn (EndFramework framework ∷ whats) =
+    (is_among torn framework ≡ true) × EndsTorn torn whats
 
 abbrev pub AtMost : List Row → List Row → Type 0
 AtMost rows total = (name : List ℕ) → amount name rows ≤ amount name total
@@ -127,7 +135,8 @@ EndedAt key ss = Each (λ s. s.job.key ≡ key → s.ended ≡ true) ss
 abbrev pub Grown : (Numbered → List TaskState) → Stake → Type 0
 Grown sent s = (more : List TaskState) × (s.states ≡ sent s.job.key ++ more)
 
--- the agent owns at least what the master takes to be its total, and all that it has or may still get fits what it owns
+-- the agent owns at least what the master takes to be its total,
+-- and all that it has or may still get fits what it owns
 pub record StateOk (p : Past) (next : Numbered) (total : List Row) (a : Agent) : Type 0 where
   pub owns : AtMost total a.total
   pub told : p.told a.session ≡ a.run
@@ -142,17 +151,23 @@ pub record StateOk (p : Past) (next : Numbered) (total : List Row) (a : Agent) :
 
 abbrev pub DownOk : Past → MasterMail → Type 0
 DownOk p (Hello run dead) = (run ≤ p.latest) × (0 < run)
-DownOk p (Issued session number what) = (session ≤ p.peak) × ((m : ℕ) × (number ≡ suc m) × (slice_get (p.ever session) m ≡ Some what))
+DownOk p (Issued session number what) =
+    (session ≤ p.peak) × ((m : ℕ) × (number ≡ suc m) × (slice_get (p.ever session) m ≡ Some what))
 
--- a Report isn't ahead of the agent: its session and its total are at most those of the record, and the total is the record's as long as the agent is in that session; until the session is heard of, it has all that may be live
-pub record IsReportOf (p : Past) (session : ℕ) (tasks : List Booked) (total : List Row) (a : Agent) : Type 0 where
+-- a Report isn't ahead of the agent: its session and its total are at most those of the record, and
+-- the total is the record's as long as the agent is in that session; until the session is heard of,
+-- it has all that may be live
+pub record IsReportOf (p : Past) (session : ℕ) (tasks : List Booked) (total : List Row)
+    (a : Agent) : Type 0 where
   pub reached : session ≤ a.session
   pub owns : AtMost total a.total
   pub same : session ≡ a.session → total ≡ a.total
   pub covered : p.peak < session → Within (live (stakes p a)) (unended tasks)
 
 abbrev pub UpOk : Past → Numbered → List Agent → AgentMail → Type 0
-UpOk p next ags (Report session run tasks total) = (p.told session ≡ run) × AtMost (job_rows (unended tasks)) total × Each (IsReportOf p session tasks total) ags
+UpOk p next ags (Report session run tasks total) =
+    (p.told session ≡ run) × AtMost (job_rows (unended tasks)) total
+    × Each (IsReportOf p session tasks total) ags
 UpOk p next ags (Applied session count) =
     (session ≤ p.peak) × (count ≤ length (p.ever session)) ×
     (session ≡ p.peak → Each (λ a. EndsKept (take count (p.ever session)) (stakes p a)) ags)
@@ -224,9 +239,12 @@ HasRoom (Err NoRoom) = ⊥
 
 -- no mail ever sent finds the agent without room
 abbrev pub RoomForAll : Channel → Type 0
-RoomForAll c = (place : ℕ) (mail : MasterMail) → slice_get c.to_agent place ≡ Some mail → HasRoom (hears_mail c.agent mail)
+RoomForAll c =
+    (place : ℕ) (mail : MasterMail) → slice_get c.to_agent place ≡ Some mail
+    → HasRoom (hears_mail c.agent mail)
 
--- a record that may stand when a run opens: its live tasks fit, no launch key stands twice, and its run and keys are below the opening's
+-- a record that may stand when a run opens: its live tasks fit, no launch key stands twice,
+-- and its run and keys are below the opening's
 pub record IsGood (run : ℕ) (d : Durable) : Type 0 where
   pub fits : AtMost (job_rows (live (map task_stake d.tasks))) d.total
   pub once : Distinct (map task_stake d.tasks)

@@ -7,7 +7,9 @@ use Rattle.mails.specs.declared.record.RecordedTask.{RecordedTask}
 -- a task of the same job stood there, and its updates are a beginning of this task's
 abbrev pub Continues : List RecordedTask → RecordedTask → Type 0
 Continues [] t = ⊥
-Continues (u ∷ us) t = ((u.job ≡ t.job) × (more : List TaskState) × (t.updates.states ≡ u.updates.states ++ more)) ⊎ Continues us t
+Continues (u ∷ us) t =
+    ((u.job ≡ t.job) × (more : List TaskState) × (t.updates.states ≡ u.updates.states ++ more))
+    ⊎ Continues us t
 
 -- each task continues one that stood there, or is new and has no updates
 abbrev pub OnlyGrow : List RecordedTask → List RecordedTask → Type 0

@@ -30,17 +30,21 @@ handed_in entries = flat_map (λ e. e.outs.taken) entries
 
 -- a call that acknowledges as this framework names an update that was handed out before
 abbrev pub IsHonestCall : Numbered → List Entry → Call → Type 0
-IsHonestCall framework entries (Acknowledge f agent task uuid) = f ≡ framework → WasTold uuid.key uuid.k (handed_in entries)
+IsHonestCall framework entries (Acknowledge f agent task uuid) =
+    f ≡ framework → WasTold uuid.key uuid.k (handed_in entries)
 IsHonestCall framework entries call = ⊤
 
 abbrev pub IsHonestStep : Numbered → List Entry → Step → Type 0
 IsHonestStep framework entries (Send stream call) = IsHonestCall framework entries call
 IsHonestStep framework entries step = ⊤
 
--- from this history on, the framework acknowledges only updates that were handed out before, on whatever stream
+-- from this history on, the framework acknowledges only updates that
+-- were handed out before, on whatever stream
 abbrev pub Honest : Numbered → History → List Marked → Type 0
 Honest framework h [] = ⊤
-Honest framework h (s ∷ ss) = IsHonestStep framework h.entries s.step × Honest framework (extended h (step_marked h.state s)) ss
+Honest framework h (s ∷ ss) =
+    IsHonestStep framework h.entries s.step
+    × Honest framework (extended h (step_marked h.state s)) ss
 
 -- the numbers that a framework has acknowledged of a key, in order of first sending
 
@@ -48,7 +52,9 @@ abbrev pub has_number : List ℕ → ℕ → Bool
 has_number ks k = list_any (λ other. other == k) ks
 
 abbrev pub noted : Numbered → Numbered → List ℕ → Post → List ℕ
-noted framework key ks (Called stream (Acknowledge f agent task uuid)) = if same f framework && same uuid.key key && not (has_number ks uuid.k) then ks ++ uuid.k ∷ [] else ks
+noted framework key ks (Called stream (Acknowledge f agent task uuid)) =
+    if same f framework && same uuid.key key && not (has_number ks uuid.k) then ks ++ uuid.k ∷ []
+    else ks
 noted framework key ks post = ks
 
 -- 0, 1, 2 and so on, n of them
@@ -59,16 +65,20 @@ up_to (suc n) = up_to n ++ n ∷ []
 -- how many updates of a key the records of the opening count as acknowledged
 abbrev pub counted : Numbered → List RecordedTask → ℕ
 counted key [] = 0
-counted key (t ∷ ts) = if same t.job.key key then max t.updates.acknowledged (counted key ts) else counted key ts
+counted key (t ∷ ts) =
+    if same t.job.key key then max t.updates.acknowledged (counted key ts) else counted key ts
 
--- what a framework has acknowledged of a key: what the records of the opening count, and then each further number, where a call of it first names it
+-- what a framework has acknowledged of a key: what the records of the opening count,
+-- and then each further number, where a call of it first names it
 abbrev pub acknowledged_by : List Durable → Numbered → Numbered → List Post → List ℕ
-acknowledged_by records framework key posts = fold (noted framework key) (up_to (counted key (recorded_tasks records))) posts
+acknowledged_by records framework key posts =
+    fold (noted framework key) (up_to (counted key (recorded_tasks records))) posts
 
 -- a task of the framework was launched under the key, or stood under it in a record of the opening
 abbrev pub IsKeyOf : Numbered → Numbered → List Job → Type 0
 IsKeyOf framework key jobs = (j : Job) × IsOneOf j jobs × (j.key ≡ key) × (j.framework ≡ framework)
 
--- numbers that are a beginning of those of updates: 0, 1, 2 and so on without gap, and no more than there are updates
+-- numbers that are a beginning of those of updates: 0, 1, 2 and so on without gap,
+-- and no more than there are updates
 abbrev pub IsBeginningOf : List TaskState → List ℕ → Type 0
 IsBeginningOf updates ks = (n : ℕ) × (ks ≡ up_to n) × (n ≤ length updates)

@@ -12,11 +12,14 @@ use Rattle.cluster_model.specs.Masters.{Move, AtSide}
 -- a list of tasks has one of the job's name and resources, on this agent
 abbrev pub IsListed : List ℕ → List TaskInfo → Job → Type 0
 IsListed agent [] j = ⊥
-IsListed agent (t ∷ ts) j = ((t.name ≡ j.name) × (t.agent ≡ agent) × (t.resources ≡ j.resources)) ⊎ IsListed agent ts j
+IsListed agent (t ∷ ts) j =
+    ((t.name ≡ j.name) × (t.agent ≡ agent) × (t.resources ≡ j.resources)) ⊎ IsListed agent ts j
 
--- the call is an ACCEPT of this framework, which names these offers and lists each of these jobs on this agent
+-- the call is an ACCEPT of this framework,
+-- which names these offers and lists each of these jobs on this agent
 abbrev pub IsAcceptOf : List ℕ → Numbered → List Numbered → List Job → Call → Type 0
-IsAcceptOf agent framework ids jobs (Accept f offers tasks seconds) = (f ≡ framework) × (offers ≡ ids) × Each (λ j. IsListed agent tasks j) jobs
+IsAcceptOf agent framework ids jobs (Accept f offers tasks seconds) =
+    (f ≡ framework) × (offers ≡ ids) × Each (λ j. IsListed agent tasks j) jobs
 IsAcceptOf agent framework ids jobs call = ⊥
 
 -- what a call may do at a side: it launches only as an ACCEPT lists it, and makes no offer

@@ -19,8 +19,10 @@ IsOfferedOn stream g (t ∷ ts) = ((t.stream ≡ stream) × Offers g t.event) �
 
 -- a framework of this id is subscribed on this stream
 abbrev pub IsSubscribed : List Framework → Numbered → Numbered → Type 0
-IsSubscribed fs framework stream = (f : Framework) × IsAmong f fs × (f.id ≡ framework) × (f.stream ≡ Some stream)
+IsSubscribed fs framework stream =
+    (f : Framework) × IsAmong f fs × (f.id ≡ framework) × (f.stream ≡ Some stream)
 
 -- an offer's framework is subscribed, and an OFFERS event on its stream has the offer
 abbrev pub IsTold : List Framework → List Told → MadeOffer → Type 0
-IsTold fs events g = (stream : Numbered) × IsSubscribed fs g.offer.framework stream × IsOfferedOn stream g events
+IsTold fs events g =
+    (stream : Numbered) × IsSubscribed fs g.offer.framework stream × IsOfferedOn stream g events

@@ -39,14 +39,19 @@ use_of run s framework ids jobs = record {
   framework = framework;
   ids = ids;
   offers = used_offers s framework ids;
-  jobs = launched framework ids (offer_rows (used_offers s framework ids)) jobs (record { used = []; sending = sends_nothing run (without_used s framework ids) });
+  jobs =
+      launched framework ids (offer_rows (used_offers s framework ids)) jobs
+      (record { used = []; sending = sends_nothing run (without_used s framework ids) });
 }
 
 -- the marks of a step, of a happening, and of a list of happenings, the newest first
 
 abbrev pub marks_at : Run → Side → SideStep → List Mark
-marks_at run s (MakeOffer offer) = if may_offer run s offer then Made (record { agent = s.name; offer = offer }) ∷ [] else []
-marks_at run s (LaunchFrom framework ids jobs) = if is_good s framework ids && not (is_among run.torn framework) then Used (use_of run s framework ids jobs) ∷ [] else []
+marks_at run s (MakeOffer offer) =
+    if may_offer run s offer then Made (record { agent = s.name; offer = offer }) ∷ [] else []
+marks_at run s (LaunchFrom framework ids jobs) =
+    if is_good s framework ids && not (is_among run.torn framework)
+    then Used (use_of run s framework ids jobs) ∷ [] else []
 marks_at run s step = []
 
 abbrev pub marks_of : Run → Channel → ChannelStep → List Mark
@@ -55,7 +60,8 @@ marks_of run c step = []
 
 abbrev pub marks_in : List ℕ → ChannelStep → Run → List Channel → List Mark
 marks_in agent step run [] = []
-marks_in agent step run (c ∷ cs) = if bytes_eq c.side.name agent then marks_of run c step else marks_in agent step run cs
+marks_in agent step run (c ∷ cs) =
+    if bytes_eq c.side.name agent then marks_of run c step else marks_in agent step run cs
 
 abbrev pub marks_by : World → Happening → List Mark
 marks_by w (At agent step) = marks_in agent step w.run w.channels
@@ -99,14 +105,18 @@ jobs_of (Used u ∷ older) = u.jobs ++ jobs_of older
 abbrev pub jobs_on : List ℕ → List Mark → List Job
 jobs_on agent [] = []
 jobs_on agent (Made m ∷ older) = jobs_on agent older
-jobs_on agent (Used u ∷ older) = if bytes_eq u.agent agent then u.jobs ++ jobs_on agent older else jobs_on agent older
+jobs_on agent (Used u ∷ older) =
+    if bytes_eq u.agent agent then u.jobs ++ jobs_on agent older else jobs_on agent older
 
 -- the tasks that stood in an agent's record at the opening
 abbrev pub recorded_on : List ℕ → List Durable → List Job
 recorded_on agent [] = []
-recorded_on agent (d ∷ ds) = if bytes_eq d.name agent then map (λ t. t.job) d.tasks ++ recorded_on agent ds else recorded_on agent ds
+recorded_on agent (d ∷ ds) =
+    if bytes_eq d.name agent then map (λ t. t.job) d.tasks ++ recorded_on agent ds
+    else recorded_on agent ds
 
--- some offers are used, each named one, all of the framework; and what is launched is of the framework and at most their sum
+-- some offers are used, each named one, all of the framework;
+-- and what is launched is of the framework and at most their sum
 pub record IsCovered (u : Use) : Type 0 where
   pub some : is_empty u.offers ≡ false
   pub named : Each (λ id. is_among (map (λ o. o.id) u.offers) id ≡ true) u.ids
@@ -114,11 +124,13 @@ pub record IsCovered (u : Use) : Type 0 where
   pub own_jobs : Each (λ j. j.framework ≡ u.framework) u.jobs
   pub sum : AtMost (job_rows u.jobs) (offer_rows u.offers)
 
--- each use is covered, its offers were made before on its agent, and no other use before used them; and no offer's id was made twice
+-- each use is covered, its offers were made before on its agent, and no other use before used them;
+-- and no offer's id was made twice
 abbrev pub IsTrail : List Mark → Type 0
 IsTrail [] = ⊤
 IsTrail (Made m ∷ older) = NotMade m.offer.id older × IsTrail older
-IsTrail (Used u ∷ older) = IsCovered u × Each (λ o. WasMade u.agent o older × NotUsed o.id older) u.offers × IsTrail older
+IsTrail (Used u ∷ older) =
+    IsCovered u × Each (λ o. WasMade u.agent o older × NotUsed o.id older) u.offers × IsTrail older
 
 -- a job that was launched on an agent, or stood in its record at the opening
 abbrev pub From : List Durable → List ℕ → List Mark → Job → Type 0
@@ -126,6 +138,7 @@ From records agent marks j = IsOneOf j (jobs_on agent marks) ⊎ IsOneOf j (reco
 
 -- each task of a record was launched on its agent by exactly one use, or stood there at the opening
 pub record HasOrigin (records : List Durable) (w : World) (marks : List Mark) : Type 0 where
-  pub tasks : Each (λ c. Each (λ t. From records c.side.name marks t.job) c.agent.durable.tasks) w.channels
+  pub tasks : Each (λ c. Each (λ t. From records c.side.name marks t.job) c.agent.durable.tasks)
+      w.channels
   pub once : KeysOnce (jobs_of marks ++ recorded_jobs records)
   pub uses : IsTrail marks

@@ -12,18 +12,27 @@ use Rattle.cluster_model.specs.Sides.{job_rows, unended}
 use Rattle.cluster_model.specs.Channels.{Channel}
 use Rattle.cluster_safe.specs.Facts.{AtMost, Less}
 
--- the key of a Launch that is the next command of the agent's open session is behind all those in its record
+-- the key of a Launch that is the next command of the agent's open
+-- session is behind all those in its record
 abbrev pub NextLaunchIsLater : Channel → Type 0
-NextLaunchIsLater c = (place session number : ℕ) (job : Job) (offers : List Numbered) → slice_get c.to_agent place ≡ Some (Issued session number (Launch job offers)) → c.agent.in_session ≡ true →
-    session ≡ c.agent.durable.session → number ≡ suc c.agent.applied → Each (λ t. Less t.job.key job.key) c.agent.durable.tasks
+NextLaunchIsLater c =
+    (place session number : ℕ) (job : Job) (offers : List Numbered)
+    → slice_get c.to_agent place ≡ Some (Issued session number (Launch job offers))
+    → c.agent.in_session ≡ true →
+    session ≡ c.agent.durable.session → number ≡ suc c.agent.applied
+    → Each (λ t. Less t.job.key job.key) c.agent.durable.tasks
 
 -- a Hello tells a run above 0
 abbrev pub HellosTellRuns : Channel → Type 0
-HellosTellRuns c = (place run dead : ℕ) → slice_get c.to_agent place ≡ Some (Hello run dead) → 0 < run
+HellosTellRuns c =
+    (place run dead : ℕ) → slice_get c.to_agent place ≡ Some (Hello run dead) → 0 < run
 
 -- the tasks of a Report that haven't ended fit the total that it tells
 abbrev pub ReportFits : Channel → Type 0
-ReportFits c = (place session run : ℕ) (tasks : List Booked) (total : List Row) → slice_get c.to_master place ≡ Some (Report session run tasks total) → AtMost (job_rows (unended tasks)) total
+ReportFits c =
+    (place session run : ℕ) (tasks : List Booked) (total : List Row)
+    → slice_get c.to_master place ≡ Some (Report session run tasks total)
+    → AtMost (job_rows (unended tasks)) total
 
 pub record MeetsPremises (c : Channel) : Type 0 where
   pub launch : NextLaunchIsLater c

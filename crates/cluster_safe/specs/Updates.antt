@@ -19,29 +19,37 @@ longer xs ys = if nat_lt (length xs) (length ys) then ys else xs
 -- the states that stand in tasks for a key
 abbrev pub states_under : Numbered → List RecordedTask → List TaskState
 states_under key [] = []
-states_under key (t ∷ ts) = if same t.job.key key then longer t.updates.states (states_under key ts) else states_under key ts
+states_under key (t ∷ ts) =
+    if same t.job.key key then longer t.updates.states (states_under key ts)
+    else states_under key ts
 
 -- the states that stand in the agents' records for a key
 abbrev pub recorded_states : Numbered → World → List TaskState
-recorded_states key w = states_under key (flat_map (λ (c : Channel). c.agent.durable.tasks) w.channels)
+recorded_states key w =
+    states_under key (flat_map (λ (c : Channel). c.agent.durable.tasks) w.channels)
 
 -- the most that stood there while this happened, and what had stood there before
 abbrev pub updates_over : Numbered → List Happening → World → List TaskState → List TaskState
 updates_over key [] w before = before
-updates_over key (h ∷ hs) w before = updates_over key hs (after w h) (longer before (recorded_states key (after w h)))
+updates_over key (h ∷ hs) w before =
+    updates_over key hs (after w h) (longer before (recorded_states key (after w h)))
 
--- the updates of a key from a world on: states are only added while a task is in its record, so the most that ever stood there are all of them
+-- the updates of a key from a world on: states are only added while a task is in its record,
+-- so the most that ever stood there are all of them
 abbrev pub updates_of : Numbered → List Happening → World → List TaskState
 updates_of key hs start = updates_over key hs start (recorded_states key start)
 
 -- the states that stand in the record of one agent for a key
 abbrev pub states_on : List ℕ → Numbered → List Channel → List TaskState
 states_on agent key [] = []
-states_on agent key (c ∷ cs) = if bytes_eq c.side.name agent then states_under key c.agent.durable.tasks else states_on agent key cs
+states_on agent key (c ∷ cs) =
+    if bytes_eq c.side.name agent then states_under key c.agent.durable.tasks
+    else states_on agent key cs
 
 abbrev pub sent_over : List ℕ → Numbered → List Happening → World → List TaskState → List TaskState
 sent_over agent key [] w before = before
-sent_over agent key (h ∷ hs) w before = sent_over agent key hs (after w h) (longer before (states_on agent key (after w h).channels))
+sent_over agent key (h ∷ hs) w before =
+    sent_over agent key hs (after w h) (longer before (states_on agent key (after w h).channels))
 
 -- the updates of a key in one agent's record from a world on
 abbrev pub updates_on : List ℕ → Numbered → List Happening → World → List TaskState
@@ -49,12 +57,17 @@ updates_on agent key hs start = sent_over agent key hs start (states_on agent ke
 
 -- each task of a record has all updates that ever stood for its key
 abbrev pub HaveAllUpdates : List Happening → World → World → Type 0
-HaveAllUpdates hs start w = Each (λ (c : Channel). Each (λ (t : RecordedTask). t.updates.states ≡ updates_of t.job.key hs start) c.agent.durable.tasks) w.channels
+HaveAllUpdates hs start w =
+    Each (λ (c : Channel). Each (λ (t : RecordedTask). t.updates.states
+    ≡ updates_of t.job.key hs start) c.agent.durable.tasks) w.channels
 
--- an update that is told has the state of its number among the updates of its key, and these stand in its agent's record
+-- an update that is told has the state of its number among the updates of its key,
+-- and these stand in its agent's record
 abbrev pub IsUpdateOf : List Happening → World → Option (List ℕ) → Update → TaskState → Type 0
 IsUpdateOf hs start None uuid state = ⊥
-IsUpdateOf hs start (Some agent) uuid state = (slice_get (updates_of uuid.key hs start) uuid.k ≡ Some state) × (slice_get (updates_on agent uuid.key hs start) uuid.k ≡ Some state)
+IsUpdateOf hs start (Some agent) uuid state =
+    (slice_get (updates_of uuid.key hs start) uuid.k ≡ Some state)
+    × (slice_get (updates_on agent uuid.key hs start) uuid.k ≡ Some state)
 
 abbrev pub TellsUpdate : List Happening → World → Event → Type 0
 TellsUpdate hs start (UPDATE task state agent (Some uuid)) = IsUpdateOf hs start agent uuid state
@@ -62,11 +75,17 @@ TellsUpdate hs start event = ⊤
 
 -- so does each update of an entry that is told, or handed out by a Take
 abbrev pub TellsUpdates : World → History → Type 0
-TellsUpdates start h = Each (λ (e : Entry). Each (λ (t : Told). TellsUpdate h.happenings start t.event) e.outs.events) h.entries
+TellsUpdates start h =
+    Each (λ (e : Entry). Each (λ (t : Told). TellsUpdate h.happenings start t.event) e.outs.events)
+    h.entries
 
 abbrev pub HandsUpdates : World → History → Type 0
-HandsUpdates start h = Each (λ (e : Entry). Each (λ (t : Told). TellsUpdate h.happenings start t.event) e.outs.taken) h.entries
+HandsUpdates start h =
+    Each (λ (e : Entry). Each (λ (t : Told). TellsUpdate h.happenings start t.event) e.outs.taken)
+    h.entries
 
--- the records of an opening acknowledge no more updates than there are, as every value of `Updates` does
+-- the records of an opening acknowledge no more updates than there are,
+-- as every value of `Updates` does
 abbrev pub AcknowledgeTheirs : List Durable → Type 0
-AcknowledgeTheirs records = Each (λ t. t.updates.acknowledged ≤ length t.updates.states) (recorded_tasks records)
+AcknowledgeTheirs records =
+    Each (λ t. t.updates.acknowledged ≤ length t.updates.states) (recorded_tasks records)

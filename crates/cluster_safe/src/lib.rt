@@ -45,34 +45,38 @@ pub fn agents_have_room()
         GoodOpening setup.run records → NeverLacksRoom (history setup records steps) }
 {}
 
-/// Each task was launched by exactly one ACCEPT of its framework, out of offers of its agent that were made before and that no other ACCEPT uses,
-/// or it stood in a record at the opening.
+/// Each task was launched by exactly one ACCEPT of its framework, out of offers of its agent that
+/// were made before and that no other ACCEPT uses, or it stood in a record at the opening.
 pub fn tasks_have_their_origin()
     ensures { (setup : Setup) (records : List Durable) (steps : List Marked) → GoodOpening setup.run records →
         HasOrigin records (history setup records steps).state.world (trail (history setup records steps).happenings (open_world setup.run records) []) }
 {}
 
-/// Each update that an agent's record counts as acknowledged was named by an ACKNOWLEDGE that the task's own framework sent before,
-/// or was counted in a record at the opening.
+/// Each update that an agent's record counts as acknowledged was named by an ACKNOWLEDGE that the
+/// task's own framework sent before, or was counted in a record at the opening.
 pub fn acknowledged_by_the_owner()
     ensures { (setup : Setup) (records : List Durable) (steps : List Marked) → GoodOpening setup.run records →
         AcknowledgedByOwner records (history setup records steps).state.world (history setup records steps).state.posts }
 {}
 
-/// What a framework has acknowledged of a task of its own, if it acknowledges only updates that were handed out before, is a beginning of the
-/// task's updates over the whole history: 0, 1, 2 and so on without gap.
+/// What a framework has acknowledged of a task of its own, if it acknowledges only updates that
+/// were handed out before, is a beginning of the task's updates over the whole history: 0, 1, 2 and
+/// so on without gap.
 pub fn acknowledgements_are_prefixes()
     ensures { (setup : Setup) (records : List Durable) (steps : List Marked) (framework key : Numbered) → GoodOpening setup.run records → AcknowledgeTheirs records → Honest framework (opening setup records) steps →
         IsKeyOf framework key (jobs_of (trail (history setup records steps).happenings (open_world setup.run records) []) ++ recorded_jobs records) →
         IsBeginningOf (updates_of key (history setup records steps).happenings (open_world setup.run records)) (acknowledged_by records framework key (history setup records steps).state.posts) }
 {}
 
-/// The updates of a task only grow at their end, as long as it stays in its agent's record; a new task has none.
+/// The updates of a task only grow at their end,
+/// as long as it stays in its agent's record; a new task has none.
 pub fn updates_only_grow()
-    ensures { (a : Agent) (cause : Cause) (d : Draft) → next_of a cause ≡ Ok d → OnlyGrow a.durable.tasks d.after.durable.tasks }
+    ensures { (a : Agent) (cause : Cause) (d : Draft) → next_of a cause ≡ Ok d
+        → OnlyGrow a.durable.tasks d.after.durable.tasks }
 {}
 
-/// Each update that is told or handed out has the state of its number among the updates of its launch key, which stand in the record of the agent that it names.
+/// Each update that is told or handed out has the state of its number among the updates of its
+/// launch key, which stand in the record of the agent that it names.
 pub fn updates_have_the_states_of_their_numbers()
     ensures told { (setup : Setup) (records : List Durable) (steps : List Marked) →
         GoodOpening setup.run records →
@@ -82,7 +86,8 @@ pub fn updates_have_the_states_of_their_numbers()
         HandsUpdates (open_world setup.run records) (history setup records steps) }
 {}
 
-/// A task in a record has all updates that ever stood for its launch key: none is lost or changed over stops.
+/// A task in a record has all updates that ever stood for its launch key:
+/// none is lost or changed over stops.
 pub fn records_have_all_updates()
     ensures { (setup : Setup) (records : List Durable) (steps : List Marked) →
         GoodOpening setup.run records →
@@ -90,54 +95,66 @@ pub fn records_have_all_updates()
         (history setup records steps).state.world }
 {}
 
-/// All updates of a launch key stand in the record of the agent on which the task was launched, or stood at the opening.
+/// All updates of a launch key stand in the record of the agent on which the task was launched,
+/// or stood at the opening.
 pub fn updates_stand_with_their_agent()
     ensures { (setup : Setup) (records : List Durable) (steps : List Marked) (agent : List ℕ) (j : Job) → GoodOpening setup.run records →
         From records agent (trail (history setup records steps).happenings (open_world setup.run records) []) j →
         updates_of j.key (history setup records steps).happenings (open_world setup.run records) ≡ updates_on agent j.key (history setup records steps).happenings (open_world setup.run records) }
 {}
 
-/// Whatever is found of the agents' records after a stop, each the record before or the record of an open draft, is a good opening for any later run.
+/// Whatever is found of the agents' records after a stop,
+/// each the record before or the record of an open draft, is a good opening for any later run.
 pub fn found_records_open_again()
     ensures { (setup : Setup) (records : List Durable) (steps : List Marked) (later : ℕ) (found : List Durable) → GoodOpening setup.run records →
         (history setup records steps).state.world.run.number < later → IsFound (history setup records steps).state.world.channels found → GoodOpening later found }
 {}
 
-/// Of every mail ever sent: a Launch that is next has a key behind all those of its agent's record, a Hello tells a run above 0, and the tasks of
-/// a Report fit the total that it tells.
+/// Of every mail ever sent: a Launch that is next has a key behind all those of its agent's record,
+/// a Hello tells a run above 0, and the tasks of a Report fit the total that it tells.
 pub fn mails_meet_their_premises()
     ensures { (setup : Setup) (records : List Durable) (steps : List Marked) → GoodOpening setup.run records →
         Each MeetsPremises (history setup records steps).state.world.channels }
 {}
 
-/// The master of a cluster after a step, and the mails of the entry, are those that the master's own moves make, without the agents' parts.
+/// The master of a cluster after a step, and the mails of the entry,
+/// are those that the master's own moves make, without the agents' parts.
 pub fn masters_step_alone()
-    ensures master { (c : Cluster) (d : Doing) → master_of (done c (effect_of [] d)).after ≡ after_doing (master_of c) d }
-    ensures mails { (c : Cluster) (d : Doing) → (done c (effect_of [] d)).entry.outs.sent ≡ map MailToAgent (moved (master_of c) d.moves).sent }
+    ensures master { (c : Cluster) (d : Doing)
+        → master_of (done c (effect_of [] d)).after ≡ after_doing (master_of c) d }
+    ensures mails { (c : Cluster) (d : Doing)
+        → (done c (effect_of [] d)).entry.outs.sent
+        ≡ map MailToAgent (moved (master_of c) d.moves).sent }
     // At an agent's mail its side hears it first.
     ensures hears { (c : Cluster) (agent : List ℕ) (place : ℕ) (x : Channel) (mail : AgentMail) (d : Doing) → channel_of c agent ≡ Some x → slice_get x.to_master place ≡ Some mail →
         (master_of (done c (effect_of (At agent (Hear place) ∷ []) d)).after ≡ after_doing (having_heard (master_of c) agent mail) d) ×
         ((done c (effect_of (At agent (Hear place) ∷ []) d)).entry.outs.sent ≡ map MailToAgent (moved (having_heard (master_of c) agent mail) d.moves).sent) }
 {}
 
-/// Each offer that enters the current ones in a round is told in an OFFERS event, on the stream of its framework, which is subscribed.
+/// Each offer that enters the current ones in a round is told in an OFFERS event,
+/// on the stream of its framework, which is subscribed.
 pub fn entered_offers_are_told()
     ensures { (weights : List RoleWeight) (m : Master) →
         Each (IsTold m.registers.frameworks (allocated weights m).events) (entered m.sides (moved m (allocated weights m).moves).sides) }
 {}
 
-/// A launch comes from an ACCEPT alone: of its framework, with the offers that it names, and of tasks that it lists on that agent.
+/// A launch comes from an ACCEPT alone: of its framework, with the offers that it names,
+/// and of tasks that it lists on that agent.
 pub fn launches_come_from_accepts()
-    ensures calls { (m : Master) (stream : Option Numbered) (call : Call) → Each (MoveFrom call) (called m stream call).moves }
-    ensures mails { (m : Master) (s : Side) (mail : AgentMail) → Each MoveWithout (mailed m s mail).moves }
+    ensures calls { (m : Master) (stream : Option Numbered) (call : Call)
+        → Each (MoveFrom call) (called m stream call).moves }
+    ensures mails { (m : Master) (s : Side) (mail : AgentMail)
+        → Each MoveWithout (mailed m s mail).moves }
     ensures ticks { (m : Master) (now : ℕ) → Each MoveWithout (ticked m now).moves }
     ensures losses { (m : Master) (s : Side) → Each MoveWithout (agent_lost m s).moves }
-    ensures hang_ups { (m : Master) (stream : Numbered) → Each MoveWithout (hung_up m stream).moves }
+    ensures hang_ups { (m : Master) (stream : Numbered)
+        → Each MoveWithout (hung_up m stream).moves }
     ensures rounds { (weights : List RoleWeight) (m : Master) →
         Each MoveWithout (allocated weights m).moves }
 {}
 
-/// An ACCEPT of good offers launches each task for which it answers nothing: no launch is passed over unseen.
+/// An ACCEPT of good offers launches each task for which it answers nothing:
+/// no launch is passed over unseen.
 pub fn accepts_launch_what_they_do_not_answer()
     ensures { (m : Master) (f : Framework) (g : Given) (ids : List Numbered) (tasks : List TaskInfo) (s : Side) →
         launched f.id ids g.budget (accepts_all m f (Some g) tasks).jobs (record { used = []; sending = sends_nothing m.run s }) ≡ (accepts_all m f (Some g) tasks).jobs }

@@ -64,10 +64,17 @@ taken_of [] = None
 taken_of (t ∷ ts) = Some (written t)
 
 abbrev pub outputs_of : model.Outs → Outputs
-outputs_of o = record { events = map written o.events; closed = o.closed; sent = map sent_of o.sent; taken = taken_of o.taken }
+outputs_of o =
+    record {
+      events = map written o.events;
+      closed = o.closed;
+      sent = map sent_of o.sent;
+      taken = taken_of o.taken;
+    }
 
 abbrev pub entry_of : Step → model.Entry → Entry
-entry_of step e = record { step = step; verdict = verdict_of e.verdict; outputs = outputs_of e.outs }
+entry_of step e =
+    record { step = step; verdict = verdict_of e.verdict; outputs = outputs_of e.outs }
 
 -- whether an entry has the mark that its part ran out of memory
 abbrev pub fell : Verdict → Bool

@@ -8,6 +8,7 @@ use mails::{AgentRefusal, MasterRefusal, ToAgent, ToMaster};
 use master_state::StreamEvent;
 use names_core::StreamId;
 use plain_data::Plain;
+use shared_value::Shared;
 
 /// How a step ended.
 #[derive(Clone, Copy, Drop, PartialEq, Eq)]
@@ -25,12 +26,13 @@ impl Plain for Verdict {
     ghost decided = { Prim.search rules };
 }
 
-/// A call or a mail that was sent; a call's text is its step's.
+/// A call or a mail that was sent. A call is its step's; a mail stands once,
+/// and who delivers it shares it.
 #[derive(Clone, Drop, PartialEq)]
 pub enum Sent {
     Call,
-    ToAgent(ToAgent),
-    ToMaster(ToMaster),
+    ToAgent(Shared<ToAgent>),
+    ToMaster(Shared<ToMaster>),
 }
 
 impl Plain for Sent {
@@ -56,7 +58,7 @@ pub struct Outputs {
     /// In the order of their numbers.
     pub sent: Listed<Sent>,
     /// The event that a Take handed out.
-    pub taken: Option<StreamEvent>,
+    pub taken: Option<Shared<StreamEvent>>,
 }
 
 impl Plain for Outputs {
@@ -70,7 +72,7 @@ impl Plain for Outputs {
 
     ghost cloned = { Prim.search rules };
 
-    ghost decided = { λ x y. (let taken : Decides (⟦<Option<StreamEvent> as PartialEq>⟧.eq x.taken y.taken) (x.taken ≡ y.taken) = Prim.search (rules, event_decided) in (let d = and_decides (pointwise_decides event_decided x.events y.events) (and_decides (pointwise_decides stream_decided x.closed y.closed) (and_decides (pointwise_decides sent_decided x.sent y.sent) (taken))) in ((λ h. let e = d.0 h in Prim.search rules), (λ e. d.1 (Prim.search rules))))) };
+    ghost decided = { λ x y. (let taken : Decides (⟦<Option<Shared<StreamEvent>> as PartialEq>⟧.eq x.taken y.taken) (x.taken ≡ y.taken) = Prim.search (rules, event_decided) in (let d = and_decides (pointwise_decides event_decided x.events y.events) (and_decides (pointwise_decides stream_decided x.closed y.closed) (and_decides (pointwise_decides sent_decided x.sent y.sent) (taken))) in ((λ h. let e = d.0 h in Prim.search rules), (λ e. d.1 (Prim.search rules))))) };
 }
 
 /// A step of a history, with how it ended and what it brought out.

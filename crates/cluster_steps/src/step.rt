@@ -6,15 +6,18 @@ use mails::Call;
 use names_core::{AgentName, LaunchKey, StreamId, TaskState};
 use plain_data::Plain;
 use quantity::Resources;
+use shared_value::Shared;
 
 /// What an agent acts on; a mail from the master is named by its number.
 #[derive(Clone, Debug, Drop, PartialEq)]
 pub enum StepCause {
-    /// It starts, and opens a new session with the master of its last run. With a total it owns that from then on.
+    /// It starts, and opens a new session with the master of its last run.
+    /// With a total it owns that from then on.
     Start(Option<Resources>),
     /// It sends again what isn't acknowledged.
     Again,
-    /// The executor of the task of this key tells a state: TASK_RUNNING, TASK_FINISHED or TASK_FAILED.
+    /// The executor of the task of this key tells a state: TASK_RUNNING,
+    /// TASK_FINISHED or TASK_FAILED.
     Executor(LaunchKey, TaskState),
     Mail(u64),
 }
@@ -51,10 +54,11 @@ impl Plain for Keep {
 /// What happens in a cluster. Calls and mails have numbers from 1, in the order of their sending.
 #[derive(Clone, Debug, Drop, PartialEq)]
 pub enum Step {
-    /// A framework sends a call on a stream, or on none.
+    /// A framework sends a call on a stream, or on none. The call stands once,
+    /// and who delivers it shares it.
     Send {
         stream: Option<StreamId>,
-        call: Call,
+        call: Shared<Call>,
     },
     /// The call or the agent's mail of this number comes to the master.
     Deliver(u64),

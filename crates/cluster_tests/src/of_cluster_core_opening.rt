@@ -53,7 +53,8 @@ const BUSY_B: &str =
 const B_WITH_THE_KEY_OF_A: &str =
     r#"{"name":"b","run":2,"session":2,"tasks":[{"acked":0,"framework":"F1-1","key":"L2-1","name":"t","offers":["O2-1"],"resources":{"cpus":4},"updates":[]}],"total":{"cpus":4},"version":1}"#;
 
-/// The first record, the second one, the run, and whether they are a good opening; none where no agent can have one of them.
+/// The first record, the second one, the run, and whether they are a good opening;
+/// none where no agent can have one of them.
 const OPENINGS: [(&str, &str, u16, Option<bool>); 13] = [
     (A, B, 1, Some(true)),
     (B, A, 1, Some(true)),
@@ -106,7 +107,8 @@ fn both_records(alloc: Global, first: &str, second: &str) -> Option<Vec<Record>>
     }
 }
 
-/// Whether two records are a good opening in a run; none where memory was refused, or no agent can have one of them.
+/// Whether two records are a good opening in a run; none where memory was refused,
+/// or no agent can have one of them.
 fn opens(alloc: Global, first: &str, second: &str, run: u16) -> Option<bool> {
     if run == 0 {
         return None;

@@ -2,7 +2,7 @@
 
 ghost use Rattle.std.specs.Prelude.{◌≡◌, [], IfSome};
 
-use cluster_core::{Cluster, Given, RecordedCluster, Step, fresh_agents_open, fresh_records};
+use cluster_core::{Cluster, KeptEntry, RecordedCluster, Step, fresh_agents_open, fresh_records};
 use desk_lock::{Desk, Office, Pass, Passes, Recorded};
 use master_core::Config;
 use names_core::Run;
@@ -33,7 +33,8 @@ fn one_agent(alloc: Global) -> Option<Config> {
     )
 }
 
-/// The agent answers the master's Hello, which has the number 1, by a Report, which has the number 2.
+/// The agent answers the master's Hello, which has the number 1,
+/// by a Report, which has the number 2.
 const REPORTS: [&str; 3] = [
     r#"{"step":"prepare","agent":"a1","mail":1}"#,
     r#"{"step":"commit","agent":"a1"}"#,
@@ -68,7 +69,7 @@ fn pass_of<C: Recorded, L: ledger::Ledger, R: Wait>(
     alloc: Global,
     office: &Office<C, L>,
     steps: Vec<C::Step>,
-) -> Option<Pass<C::Given, L>> {
+) -> Option<Pass<C::Entry, L>> {
     let mut pass = office.open_seat(rt, alloc).ok()?;
     for step in steps {
         office.call(rt, alloc, &mut pass, step).ok()?;
@@ -83,7 +84,7 @@ fn passes_of<C: Recorded, L: ledger::Ledger, R: Wait>(
     office: &Office<C, L>,
     first: Vec<C::Step>,
     others: Vec<C::Step>,
-) -> Option<(Pass<C::Given, L>, Pass<C::Given, L>)> {
+) -> Option<(Pass<C::Entry, L>, Pass<C::Entry, L>)> {
     let one = pass_of(rt, alloc, office, first)?;
     let two = pass_of(rt, alloc, office, others)?;
     Some((one, two))
@@ -96,7 +97,7 @@ fn passes_at_once<L: ledger::Ledger + Send + Sync, R: Threads + Wait + Sync>(
     office: &Office<RecordedCluster, L>,
     first: Vec<Step>,
     others: Vec<Step>,
-) -> Option<(Pass<Given, L>, Pass<Given, L>)> {
+) -> Option<(Pass<KeptEntry, L>, Pass<KeptEntry, L>)> {
     thread::scope(thread::scope_env(), rt, |scope| {
         let Ok(child) = scope.spawn(move || pass_of(rt, alloc, office, first)) else {
             return None;
@@ -128,7 +129,7 @@ fn both<G: Drop, L: ledger::Ledger>(
 fn closed<C: Recorded, L: ledger::Ledger>(
     alloc: Global,
     office: Office<C, L>,
-    passes: Option<Passes<C::Given, L>>,
+    passes: Option<Passes<C::Entry, L>>,
 ) -> Option<Closed> {
     match office.close(passes?) {
         Ok(history) => {
@@ -143,7 +144,7 @@ fn closed<C: Recorded, L: ledger::Ledger>(
 fn seats_of<C: Recorded, L: ledger::Ledger>(
     alloc: Global,
     office: Office<C, L>,
-    passes: Option<(Pass<C::Given, L>, Pass<C::Given, L>)>,
+    passes: Option<(Pass<C::Entry, L>, Pass<C::Entry, L>)>,
 ) -> Option<Seats> {
     match passes {
         Some((one, two)) => {

@@ -102,7 +102,8 @@ fn plays(alloc: Global, text: Option<&str>, run: Run, rows: &[Row]) -> bool {
     }
 }
 
-/// The agent reports its task, a framework subscribes, is offered the rest, and takes both of its events.
+/// The agent reports its task, a framework subscribes, is offered the rest,
+/// and takes both of its events.
 const OVER_A_RECORD: [Row; 9] = [
     (r#"{"step":"prepare","agent":"a1","mail":1}"#, None),
     (r#"{"step":"commit","agent":"a1"}"#, None),
@@ -188,7 +189,8 @@ fn first_fell(cluster: &Cluster<EverSent>) -> bool {
     }
 }
 
-/// Whether the agent falls at its first draft; none where a step is answered otherwise than it should be then.
+/// Whether the agent falls at its first draft;
+/// none where a step is answered otherwise than it should be then.
 fn falls_in(cluster: &mut Cluster<EverSent>, alloc: Global) -> Option<bool> {
     if !is_refused(cluster, alloc, PREPARE, None) {
         return None;
@@ -208,8 +210,8 @@ fn falls(alloc: Global) -> Option<bool> {
     }
 }
 
-/// Where the memory of its first draft is refused, an agent is down until it stops and is recovered. Whether one fell; none where a step is answered
-/// otherwise than it should be.
+/// Where the memory of its first draft is refused, an agent is down until it stops and is
+/// recovered. Whether one fell; none where a step is answered otherwise than it should be.
 pub fn an_agent_that_fell_is_down(alloc: Global) -> Option<bool> {
     falls(alloc)
 }

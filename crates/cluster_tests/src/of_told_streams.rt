@@ -19,7 +19,8 @@ fn rescind(run: u16, stream: u32, offer: u32) -> StreamEvent
     }
 }
 
-/// Three streams of two runs; offers 1 and 3 are told on the first one, 2 on the last one, and 4 on one that was never opened.
+/// Three streams of two runs; offers 1 and 3 are told on the first one, 2 on the last one,
+/// and 4 on one that was never opened.
 fn three_streams(alloc: Global) -> Option<Streams> {
     let mut streams = Streams::new(alloc);
     let opened = [
@@ -80,7 +81,8 @@ fn counts(streams: &Streams) -> [Option<usize>; 4] {
     ]
 }
 
-/// The next events of two streams, those that are taken of the first one until none is left, the next one of the other, and none of one that was never opened.
+/// The next events of two streams, those that are taken of the first one until none is left,
+/// the next one of the other, and none of one that was never opened.
 fn taken(streams: &mut Streams) -> [Option<u32>; 7] {
     [
         next(streams, 2, 1),

@@ -14,7 +14,9 @@ asks_for_command a = record a { top = record a.top { subcommand_required = true 
 -- the program's commands: `calls` and `replay`, without arguments, and `serve`
 abbrev pub command_line : App
 command_line =
-    with_subcommand (with_subcommand (with_subcommand (asks_for_command (new_app (codes "mesos_node"))) (new_app (codes "calls")).top) (new_app (codes "replay")).top) serve_command.top
+    with_subcommand
+    (with_subcommand (with_subcommand (asks_for_command (new_app (codes "mesos_node")))
+    (new_app (codes "calls")).top) (new_app (codes "replay")).top) serve_command.top
 
 -- the table of commands takes the words, the program's name first: they have no fault by `clap`'s
 -- definitions

@@ -40,7 +40,11 @@ connections = otherwise (codes "0") (number_in 0 18446744073709551615 (option (c
 
 -- the command `serve`
 abbrev pub serve_command : App
-serve_command = with_rule (with_rule (with_rule (with_rule (with_rule (with_rule (new_app (codes "serve")) port) agents) state) interval) task_seconds) connections
+serve_command =
+    with_rule
+    (with_rule
+    (with_rule (with_rule (with_rule (with_rule (new_app (codes "serve")) port) agents) state)
+    interval) task_seconds) connections
 
 -- an option has this number of so many bits in decimal digits, which a plus may stand before
 pub record HasNumber (bits : ℕ) (rows : List Row) (id : Text) (n : ℕ) : Type 0 where

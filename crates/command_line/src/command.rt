@@ -52,7 +52,7 @@ roles have a whole number from 1 to 1000:
 
   {\"agents\":{\"a1\":{\"cpus\":4,\"mem\":4096}},\"weights\":{\"prod\":2}}
 
-Each other line is a step. Its members, of which only `stream` of a send may lack:
+Each other line is a step. Its members, of which only `stream` of a send and `total` of a start may lack:
 
   {\"step\":\"send\",\"stream\":\"S1-1\",\"call\":CALL}      a framework sends a call of the Mesos scheduler API
   {\"step\":\"deliver\",\"mail\":2}                       the master takes the call or mail of this number
@@ -63,7 +63,9 @@ Each other line is a step. Its members, of which only `stream` of a send may lac
   {\"step\":\"hangup\",\"stream\":\"S1-1\"}                 a stream of events is closed
   {\"step\":\"take\",\"stream\":\"S1-1\"}                   a framework takes the next event of a stream
   {\"step\":\"prepare\",\"agent\":\"a1\",\"mail\":1}          the agent drafts what it does at the mail of this number,
-  {\"step\":\"prepare\",\"agent\":\"a1\",\"cause\":\"start\"}   .. when it has come up (\"again\": at its next turn),
+  {\"step\":\"prepare\",\"agent\":\"a1\",\"cause\":\"start\",\"total\":{\"cpus\":8,\"mem\":8192}}
+                                                    .. when it has come up, with no less than it owned,
+  {\"step\":\"prepare\",\"agent\":\"a1\",\"cause\":\"again\"}   .. at its next turn,
   {\"step\":\"prepare\",\"agent\":\"a1\",\"launch\":\"L1-1\",\"state\":\"TASK_RUNNING\"}
                                                     .. at its task's new state (or TASK_FINISHED, TASK_FAILED)
   {\"step\":\"commit\",\"agent\":\"a1\"}                    the draft is the agent's record, and its mails are sent
@@ -109,7 +111,8 @@ fn app<'a>(alloc: Global) -> Result<Command<'a>, AllocError>
 
 fn action_named<'a>(name: &str, found: &ArgMatches<'a>) -> Option<Action<'a>>
     ensures named { IfSome result (IsAction name.now (rows_of (found_of found.now))) }
-    ensures none { IfNone result ((a : Asked) → IsAction name.now (rows_of (found_of found.now)) a → ⊥) }
+    ensures none { IfNone result ((a : Asked) → IsAction name.now (rows_of (found_of found.now)) a
+        → ⊥) }
 {
     match name {
         "calls" => Some(Action::Calls),
@@ -121,8 +124,10 @@ fn action_named<'a>(name: &str, found: &ArgMatches<'a>) -> Option<Action<'a>>
 
 /// What was found to be asked for.
 fn action_in<'a>(matches: &ArgMatches<'a>) -> Option<Action<'a>>
-    ensures found { IfSome result (λ action. (name : Text) × (rows : List Row) × (subcommand_rows_of matches.now ≡ Some (name, rows)) × IsAction name rows action) }
-    ensures none { IfNone result ((name : Text) (rows : List Row) (a : Asked) → subcommand_rows_of matches.now ≡ Some (name, rows) → IsAction name rows a → ⊥) }
+    ensures found { IfSome result (λ action. (name : Text) × (rows : List Row)
+        × (subcommand_rows_of matches.now ≡ Some (name, rows)) × IsAction name rows action) }
+    ensures none { IfNone result ((name : Text) (rows : List Row) (a : Asked)
+        → subcommand_rows_of matches.now ≡ Some (name, rows) → IsAction name rows a → ⊥) }
 {
     let (name, found) = matches.subcommand()?;
     action_named(name, found)
@@ -130,7 +135,8 @@ fn action_in<'a>(matches: &ArgMatches<'a>) -> Option<Action<'a>>
 
 /// What the words of a command line are, the program's name first.
 fn matches_of<'a>(alloc: Global, words: &'a [&'a str]) -> Result<ArgMatches<'a>, Error>
-    ensures matches { IfOk result (λ matches. subcommand_rows_of matches ≡ subcommand_of command_line (texts words.entry.now)) }
+    ensures matches { IfOk result (λ matches. subcommand_rows_of matches
+        ≡ subcommand_of command_line (texts words.entry.now)) }
     ensures faults { FailsBy (fault_of command_line (texts words.entry.now)) result }
 {
     let app = app(alloc)?;
@@ -142,8 +148,8 @@ pub fn taken_words_ask()
     ensures { (words : List Text) → IsTaken words → (a : Asked) × AsksFor words a }
 {}
 
-/// The action that the words of a command line ask for, the program's name first. A fault tells what is wrong with them, or holds
-/// the help that they ask for.
+/// The action that the words of a command line ask for, the program's name first.
+/// A fault tells what is wrong with them, or holds the help that they ask for.
 pub fn command_of<'a>(alloc: Global, words: &'a [&'a str]) -> Result<Action<'a>, Error>
     ensures asked { IfOk result (AsksFor (texts words.entry.now)) }
     ensures taken { IfOk result (λ _. IsTaken (texts words.entry.now)) }

@@ -178,7 +178,8 @@ fn text_in<'a>(found: &ArgMatches<'a>, name: &str) -> Option<&'a str>
 /// The port of an option.
 fn port_in(found: &ArgMatches, name: &str) -> Option<u16>
     ensures found { IfSome result (options.HasNumber 16 (rows_of (found_of found.now)) name.now) }
-    ensures none { IfNone result ((n : ℕ) → options.HasNumber 16 (rows_of (found_of found.now)) name.now n → ⊥) }
+    ensures none { IfNone result ((n : ℕ)
+        → options.HasNumber 16 (rows_of (found_of found.now)) name.now n → ⊥) }
 {
     found.get_one::<u16>(name)
 }
@@ -186,7 +187,8 @@ fn port_in(found: &ArgMatches, name: &str) -> Option<u16>
 /// The number of an option.
 fn number_in(found: &ArgMatches, name: &str) -> Option<u64>
     ensures found { IfSome result (options.HasNumber 64 (rows_of (found_of found.now)) name.now) }
-    ensures none { IfNone result ((n : ℕ) → options.HasNumber 64 (rows_of (found_of found.now)) name.now n → ⊥) }
+    ensures none { IfNone result ((n : ℕ)
+        → options.HasNumber 64 (rows_of (found_of found.now)) name.now n → ⊥) }
 {
     found.get_one::<u64>(name)
 }
@@ -194,7 +196,8 @@ fn number_in(found: &ArgMatches, name: &str) -> Option<u64>
 /// What a cluster is served with, by the options that were found.
 pub(crate) fn serve_options<'a>(found: &ArgMatches<'a>) -> Option<ServeOptions<'a>>
     ensures found { IfSome result (options.HasOptions (rows_of (found_of found.now))) }
-    ensures none { IfNone result ((o : Options) → options.HasOptions (rows_of (found_of found.now)) o → ⊥) }
+    ensures none { IfNone result ((o : Options)
+        → options.HasOptions (rows_of (found_of found.now)) o → ⊥) }
 {
     Some(ServeOptions {
         port: port_in(found, "port")?,

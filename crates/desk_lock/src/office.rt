@@ -1,8 +1,7 @@
 //! A desk under a lock.
 
-ghost use Rattle.std.specs.Prelude.{◌≡◌, ◌≤◌, ◌+◌, [], Err, Ok, Some, IfOk, IfErr, OnOk, OnErr, All, MatchBool, MatchResult, length, sum_by};
-ghost use Rattle.desk_seats.specs.Receipts.{AnswersBy, StandsIn};
-ghost use Rattle.desk_seats.specs.declared.desk.pass.Receipt.{Receipt};
+ghost use Rattle.std.specs.Prelude.{◌≡◌, ◌≤◌, ◌+◌, [], Err, Ok, Some, IfOk, IfErr, OnErr, All, MatchOption, MatchResult, length, sum_by};
+ghost use Rattle.desk_seats.specs.Receipts.{IsAnswered, StandsIn};
 ghost use Rattle.std.specs.Fn.{FnReturnsAt};
 ghost use Rattle.desk_lock.specs.Waits.{IfFound};
 ghost use Rattle.desk_seats.specs.Found.{IsRefusedCall, IsRefusedWait};
@@ -10,7 +9,7 @@ ghost use Rattle.desk_seats.specs.Refused.{refused_by};
 ghost use Rattle.desk_seats.specs.declared.fault.OfficeFault.TheVariants.{ForeignPass};
 
 use crate::groups::Groups;
-use desk_seats::{Desk, OfficeFault, Pass, Passes, Recorded, SeatedHistory, refusal};
+use desk_seats::{Answered, Desk, OfficeFault, Pass, Passes, Recorded, SeatedHistory, refusal};
 use std::alloc::Global;
 use std::sync::{CondvarTimeouts, Mutex, Wait, ledger};
 use std::time::{Clock, Duration};
@@ -67,8 +66,12 @@ fn found_at<T, C: Recorded, L: ledger::Ledger, F: Fn(&C) -> Result<Option<T>, C:
     look: &F,
 ) -> Result<Waited<T>, OfficeFault<C::Fault>>
     requires { F.IsAlwaysCallable look.now }
-    ensures found { IfOk result (λ waited. IfFound waited (λ found. FnReturnsAt F.Fn look.now desk.now.recorded (Ok (Some found)))) }
-    ensures refused { IfErr result (λ fault. (f : C.Fault) × FnReturnsAt F.Fn look.now desk.now.recorded (Err f) × (fault ≡ refused_by (C.kind_of f) f)) }
+    ensures found { IfOk result
+        (λ waited. IfFound waited
+        (λ found. FnReturnsAt F.Fn look.now desk.now.recorded (Ok (Some found)))) }
+    ensures refused { IfErr result (λ fault. (f : C.Fault)
+        × FnReturnsAt F.Fn look.now desk.now.recorded (Err f)
+        × (fault ≡ refused_by (C.kind_of f) f)) }
 {
     if desk.is_finished() {
         return Ok(Waited::Finished);
@@ -84,12 +87,14 @@ fn found_at<T, C: Recorded, L: ledger::Ledger, F: Fn(&C) -> Result<Option<T>, C:
 fn answer_at<C: Recorded, L: ledger::Ledger>(
     desk: &mut Desk<C, L>,
     alloc: Global,
-    pass: &mut Pass<C::Given, L>,
+    pass: &mut Pass<C::Entry, L>,
     step: C::Step,
-) -> Result<(), OfficeFault<C::Fault>>
-    ensures answered { OnOk result ((r : Receipt C.Given) × AnswersBy (λ given. C.step_of (C.entry_of given)) pass.old pass.new step r) }
+) -> Result<Answered<C::Entry, C::Given>, OfficeFault<C::Fault>>
+    ensures answered { IfOk result
+        (λ a. IsAnswered C.history C.sound C.step_of C.takes pass.old pass.new step a) }
     ensures unchanged { OnErr result (pass.new ≡ pass.old) }
-    ensures refused { IfErr result (λ fault. IsRefusedCall C.history C.sound C.kind_of C.may_refuse pass.old step fault) }
+    ensures refused { IfErr result
+        (λ fault. IsRefusedCall C.history C.sound C.kind_of C.may_refuse pass.old step fault) }
     ensures seat { pass.new.seat ≡ pass.old.seat }
 {
     desk.is_sound();
@@ -117,92 +122,103 @@ impl<C: Recorded, L: ledger::Ledger> Office<C, L> {
         &self,
         rt: &R,
         alloc: Global,
-    ) -> Result<Pass<C::Given, L>, OfficeFault<C::Fault>>
+    ) -> Result<Pass<C::Entry, L>, OfficeFault<C::Fault>>
         ensures { IfOk result (λ p. (p.receipts ≡ []) × (p.seen ≡ 0)) }
     {
         self.desk.lock(rt).open_seat(alloc)
     }
 
-    /// Wakes those whom the last answer of a pass may let go on.
-    fn wake(&self, pass: &Pass<C::Given, L>) {
-        if let Some(receipt) = pass.last() {
-            self.groups.wake(C::frees(&receipt.given));
-        }
+    /// Wakes those whom an answer may let go on.
+    fn wake(&self, answered: &Answered<C::Entry, C::Given>) {
+        self.groups.wake(C::frees(&answered.receipt.entry));
     }
 
-    /// Answers a call: the pass gets its receipt. Refusals: O1 for a pass of another history, with how many entries there are at that moment, O2, O3 and O4.
+    /// Answers a call: the pass gets its receipt, which is given back too, with what goes with it.
+    /// Refusals: O1 for a pass of another history, with how many entries there are at that moment,
+    /// O2, O3 and O4.
     pub fn call<R: Wait>(
         &self,
         rt: &R,
         alloc: Global,
-        pass: &mut Pass<C::Given, L>,
+        pass: &mut Pass<C::Entry, L>,
         step: C::Step,
-    ) -> Result<(), OfficeFault<C::Fault>>
-        ensures answered { OnOk result ((r : Receipt C.Given) × AnswersBy (λ given. C.step_of (C.entry_of given)) pass.old pass.new step r) }
+    ) -> Result<Answered<C::Entry, C::Given>, OfficeFault<C::Fault>>
+        ensures answered { IfOk result
+            (λ a. IsAnswered C.history C.sound C.step_of C.takes pass.old pass.new step a) }
         ensures unchanged { OnErr result (pass.new ≡ pass.old) }
-        ensures refused { IfErr result (λ fault. IsRefusedCall C.history C.sound C.kind_of C.may_refuse pass.old step fault) }
+        ensures refused { IfErr result
+            (λ fault. IsRefusedCall C.history C.sound C.kind_of C.may_refuse pass.old step fault) }
         ensures seat { pass.new.seat ≡ pass.old.seat }
     {
         let answer = answer_at(&mut *self.desk.lock(rt), alloc, pass, step);
         match answer {
-            Ok(()) => {
-                self.wake(pass);
-                Ok(())
+            Ok(answered) => {
+                self.wake(&answered);
+                Ok(answered)
             }
             Err(fault) => Err(fault),
         }
     }
 
-    /// Waits in a group until a look at what is recorded says what to do, then answers the step, and says whether it did. Once the office is finished
-    /// nobody waits, and it isn't answered. Refusals: as of `call`.
+    /// Waits for what is awaited, until a look at what is recorded says what to do, then answers the
+    /// step, if it is to, as `call` does. It looks again behind each step that may have brought that
+    /// out. Once the office is finished nobody waits, and it isn't answered. Refusals: as of `call`.
     pub fn wait_call<R: Wait, F: Fn(&C) -> Turn>(
         &self,
         rt: &R,
         alloc: Global,
-        pass: &mut Pass<C::Given, L>,
-        group: u32,
+        pass: &mut Pass<C::Entry, L>,
+        awaited: C::Awaited,
         look: F,
         step: C::Step,
-    ) -> Result<bool, OfficeFault<C::Fault>>
+    ) -> Result<Option<Answered<C::Entry, C::Given>>, OfficeFault<C::Fault>>
         requires { F.IsAlwaysCallable look }
-        ensures answered { IfOk result (λ answered. MatchBool answered ((r : Receipt C.Given) × AnswersBy (λ given. C.step_of (C.entry_of given)) pass.old pass.new step r) (pass.new ≡ pass.old)) }
+        ensures answered { IfOk result
+            (λ answered. MatchOption answered (pass.new ≡ pass.old)
+            (λ a. IsAnswered C.history C.sound C.step_of C.takes pass.old pass.new step a)) }
         ensures unchanged { OnErr result (pass.new ≡ pass.old) }
-        ensures refused { IfErr result (λ fault. IsRefusedCall C.history C.sound C.kind_of C.may_refuse pass.old step fault) }
+        ensures refused { IfErr result
+            (λ fault. IsRefusedCall C.history C.sound C.kind_of C.may_refuse pass.old step fault) }
         ensures seat { pass.new.seat ≡ pass.old.seat }
     {
         let mut desk = self
             .groups
-            .of(group)
+            .of(C::group_of(&awaited))
             .wait_while(rt, self.desk.lock(rt), |desk| {
                 turn_at(&*desk, &look) == Turn::Wait
             });
         if turn_at(&*desk, &look) != Turn::Answer {
-            return Ok(false);
+            return Ok(None);
         }
         let answer = answer_at(&mut *desk, alloc, pass, step);
         drop(desk);
         match answer {
-            Ok(()) => {
-                self.wake(pass);
-                Ok(true)
+            Ok(answered) => {
+                self.wake(&answered);
+                Ok(Some(answered))
             }
             Err(fault) => Err(fault),
         }
     }
 
-    /// Waits in a group, for so many seconds at most, until a look at what is recorded finds something; it was so in one state, and may have changed
-    /// since. Refusals: O1 for a pass of another history, and O2, O3 or O4 for a fault that the look gives.
+    /// Waits for what is awaited, for so many seconds at most, until a look at what is recorded finds
+    /// something; it was so in one state, and may have changed since. Refusals: O1 for a pass of
+    /// another history, and O2, O3 or O4 for a fault that the look gives.
     pub fn wait_for<T: Drop, R: Wait + Clock, F: Fn(&C) -> Result<Option<T>, C::Fault>>(
         &self,
         rt: &R,
-        pass: &Pass<C::Given, L>,
-        group: u32,
+        pass: &Pass<C::Entry, L>,
+        awaited: C::Awaited,
         seconds: u64,
         look: F,
     ) -> Result<Waited<T>, OfficeFault<C::Fault>>
         requires { F.IsAlwaysCallable look }
-        ensures refused { IfErr result (λ fault. IsRefusedWait C.history C.sound C.kind_of (λ c f. FnReturnsAt F.Fn look c (Err f)) pass.now fault) }
-        ensures found { IfOk result (λ waited. IfFound waited (λ found. (state : C) × C.sound state × FnReturnsAt F.Fn look state (Ok (Some found)))) }
+        ensures refused { IfErr result
+            (λ fault. IsRefusedWait C.history C.sound C.kind_of
+            (λ c f. FnReturnsAt F.Fn look c (Err f)) pass.now fault) }
+        ensures found { IfOk result
+            (λ waited. IfFound waited (λ found. (state : C) × C.sound state
+            × FnReturnsAt F.Fn look state (Ok (Some found)))) }
     {
         let desk = self.desk.lock(rt);
         let found = &*desk;
@@ -210,6 +226,7 @@ impl<C: Recorded, L: ledger::Ledger> Office<C, L> {
             found.is_sound();
             return Err(OfficeFault::ForeignPass(found.len()));
         }
+        let group = C::group_of(&awaited);
         let (desk, _) = self.groups.of(group).wait_timeout_while(
             rt,
             desk,
@@ -227,17 +244,23 @@ impl<C: Recorded, L: ledger::Ledger> Office<C, L> {
         self.groups.wake(u64::MAX);
     }
 
-    /// Closes the office over the passes that are handed in, as `Desk::close` says: for each the entries of its seat are its receipts, each once and in
-    /// order. Refusal: O1; the desk and the passes come back. It waits for nobody.
+    /// Closes the office over the passes that are handed in, as `Desk::close` says: for each the
+    /// entries of its seat are its receipts, each once and in order. Refusal: O1; the desk and the
+    /// passes come back. It waits for nobody.
     pub fn close(
         self,
-        passes: Passes<C::Given, L>,
-    ) -> Result<SeatedHistory<C>, (Desk<C, L>, Passes<C::Given, L>, OfficeFault<C::Fault>)>
+        passes: Passes<C::Entry, L>,
+    ) -> Result<SeatedHistory<C>, (Desk<C, L>, Passes<C::Entry, L>, OfficeFault<C::Fault>)>
         ensures sound { IfOk result (λ h. C.sound h.recorded) }
-        ensures stands { IfOk result (λ h. All (λ p. StandsIn C.entry_of (C.history h.recorded) h.seats p) passes) }
+        ensures stands { IfOk result
+            (λ h. All (λ p. StandsIn (C.history h.recorded) h.seats p) passes) }
         ensures returned { IfErr result (λ e. e.1 ≡ passes) }
-        ensures foreign { IfErr result (λ e. (e.2 ≡ ForeignPass (length (C.history e.0.recorded) + 1)) × (All (λ p. StandsIn C.entry_of (C.history e.0.recorded) e.0.seats p) passes → ⊥)) }
-        ensures count { MatchResult result (λ h. sum_by (λ p. length p.receipts) passes ≤ length (C.history h.recorded)) (λ e. sum_by (λ p. length p.receipts) passes ≤ length (C.history e.0.recorded)) }
+        ensures foreign { IfErr result
+            (λ e. (e.2 ≡ ForeignPass (length (C.history e.0.recorded) + 1))
+            × (All (λ p. StandsIn (C.history e.0.recorded) e.0.seats p) passes → ⊥)) }
+        ensures count { MatchResult result (λ h. sum_by (λ p. length p.receipts) passes
+            ≤ length (C.history h.recorded))
+            (λ e. sum_by (λ p. length p.receipts) passes ≤ length (C.history e.0.recorded)) }
     {
         let Office { desk, groups } = self;
         drop(groups);

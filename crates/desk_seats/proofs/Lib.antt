@@ -1,4 +1,4 @@
-pub mod Answered
+pub mod Answering
 pub mod Keeps
 pub mod Rows
 pub mod Walks

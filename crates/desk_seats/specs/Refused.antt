@@ -15,26 +15,37 @@ refused_by Step fault = Core fault
 abbrev pub IsUnopened : ℕ → ℕ → Type 0
 IsUnopened opened seat = (seat ≡ 0) ⊎ (opened < seat)
 
--- why a step of a seat is refused, where the history has so many entries with its opening: the seat wasn't opened, memory was refused, or the step was
-abbrev pub MayRefuseStep : {F : Type 0} → (F → FaultKind) → (F → Type 0) → ℕ → ℕ → ℕ → OfficeFault F → Type 0
-MayRefuseStep kind may_refuse entries opened seat (ForeignPass n) = (n ≡ entries) × IsUnopened opened seat
-MayRefuseStep {F} kind may_refuse entries opened seat HistoryFull = (fault : F) × may_refuse fault × (kind fault ≡ FullHistory)
+-- why a step of a seat is refused, where the history has so many entries with its opening:
+-- the seat wasn't opened, memory was refused, or the step was
+abbrev pub MayRefuseStep : {F : Type 0} → (F → FaultKind) → (F → Type 0) → ℕ → ℕ → ℕ → OfficeFault F
+    → Type 0
+MayRefuseStep kind may_refuse entries opened seat (ForeignPass n) =
+    (n ≡ entries) × IsUnopened opened seat
+MayRefuseStep {F} kind may_refuse entries opened seat HistoryFull =
+    (fault : F) × may_refuse fault × (kind fault ≡ FullHistory)
 MayRefuseStep kind may_refuse entries opened seat OutOfMemory = ⊤
-MayRefuseStep kind may_refuse entries opened seat (Core fault) = may_refuse fault × (kind fault ≡ Step)
+MayRefuseStep kind may_refuse entries opened seat (Core fault) =
+    may_refuse fault × (kind fault ≡ Step)
 MayRefuseStep kind may_refuse entries opened seat SeatsSpent = ⊥
 
 -- why a call of a pass is refused: as a step of its seat, or it has seen more than there is
-abbrev pub MayRefuseCall : {F : Type 0} → (F → FaultKind) → (F → Type 0) → ℕ → ℕ → ℕ → ℕ → OfficeFault F → Type 0
-MayRefuseCall kind may_refuse entries opened seat seen fault = MayRefuseStep kind may_refuse entries opened seat fault ⊎ ((fault ≡ ForeignPass entries) × (entries < seen))
+abbrev pub MayRefuseCall : {F : Type 0} → (F → FaultKind) → (F → Type 0) → ℕ → ℕ → ℕ → ℕ
+    → OfficeFault F → Type 0
+MayRefuseCall kind may_refuse entries opened seat seen fault =
+    MayRefuseStep kind may_refuse entries opened seat fault
+    ⊎ ((fault ≡ ForeignPass entries) × (entries < seen))
 
 -- a pass is of a seat that wasn't opened, or it has seen more than there is
 abbrev pub IsForeign : ℕ → ℕ → ℕ → ℕ → Type 0
 IsForeign entries opened seat seen = IsUnopened opened seat ⊎ (entries < seen)
 
--- why a wait of a pass ends in a fault, where the history has so many entries with its opening: the pass is foreign, or a look gives a fault
-abbrev pub MayRefuseWait : {F : Type 0} → (F → FaultKind) → (F → Type 0) → ℕ → ℕ → ℕ → ℕ → OfficeFault F → Type 0
+-- why a wait of a pass ends in a fault, where the history has so many entries with its opening:
+-- the pass is foreign, or a look gives a fault
+abbrev pub MayRefuseWait : {F : Type 0} → (F → FaultKind) → (F → Type 0) → ℕ → ℕ → ℕ → ℕ
+    → OfficeFault F → Type 0
 MayRefuseWait {F} kind gives entries opened seat seen fault =
-    ((fault ≡ ForeignPass entries) × IsForeign entries opened seat seen) ⊎ ((f : F) × gives f × (fault ≡ refused_by (kind f) f))
+    ((fault ≡ ForeignPass entries) × IsForeign entries opened seat seen)
+    ⊎ ((f : F) × gives f × (fault ≡ refused_by (kind f) f))
 
 -- why no seat is opened: memory was refused, or there are 4,294,967,295
 abbrev pub MayRefuseSeat : {F : Type 0} → ℕ → OfficeFault F → Type 0

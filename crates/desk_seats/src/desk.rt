@@ -13,14 +13,15 @@ pub mod passes;
 pub mod seated;
 
 use crate::fault::{FaultKind, OfficeFault};
-use crate::recorded::Recorded;
-use pass::{Pass, Receipt, Slip};
+use crate::recorded::{Entered, Recorded};
+use pass::{Answered, Pass, Receipt, Slip};
 use std::alloc::Global;
 use std::marker::Model;
 use std::sync::ledger;
 use std::sync::ledger::{Blank, Book, Share};
 
-/// A recorded thing with the seat of each of its entries, and the count of the answers that passes hold.
+/// A recorded thing with the seat of each of its entries,
+/// and the count of the answers that passes hold.
 #[derive(Drop)]
 pub struct Desk<C: Recorded, L: ledger::Ledger> {
     recorded: C,
@@ -57,8 +58,19 @@ pub fn refusal<C: Recorded>(fault: C::Fault) -> OfficeFault<C::Fault>
     }
 }
 
+/// A receipt of the same entry, which has one more owner.
+fn shared_receipt<C: Recorded>(receipt: &Receipt<C::Entry>) -> Receipt<C::Entry>
+    ensures { result ≡ receipt.now }
+{
+    Receipt {
+        number: receipt.number,
+        entry: C::share(&receipt.entry),
+    }
+}
+
 impl<C: Recorded, L: ledger::Ledger> Desk<C, L> {
-    /// A desk over what has no entries since its opening. The blank is to be of 4,294,967,296 parts, one for each seat and one for the desk.
+    /// A desk over what has no entries since its opening.
+    /// The blank is to be of 4,294,967,296 parts, one for each seat and one for the desk.
     pub fn new(alloc: Global, recorded: C, blank: Blank) -> Desk<C, L>
         requires opening { C.history recorded ≡ [] }
         requires name { blank.name ≡ L.name }
@@ -111,7 +123,7 @@ impl<C: Recorded, L: ledger::Ledger> Desk<C, L> {
     }
 
     /// A pass of its ledger holds no more answers than are counted. Nothing changes.
-    pub fn counts(&mut self, pass: &mut Pass<C::Given, L>)
+    pub fn counts(&mut self, pass: &mut Pass<C::Entry, L>)
         ensures counts { Counts self.old pass.old }
         ensures unchanged { (self.new ≡ self.old) × (pass.new ≡ pass.old) }
     {
@@ -132,17 +144,20 @@ impl<C: Recorded, L: ledger::Ledger> Desk<C, L> {
     }
 
     /// Whether a pass is of a seat that wasn't opened here, or has seen more than there is.
-    pub fn is_foreign(&self, pass: &Pass<C::Given, L>) -> bool
-        ensures { IsTrue result ↔ IsForeign (length (C.history self.now.recorded) + 1) self.now.opened pass.now.seat pass.now.seen }
+    pub fn is_foreign(&self, pass: &Pass<C::Entry, L>) -> bool
+        ensures { IsTrue result ↔ IsForeign (length (C.history self.now.recorded) + 1)
+            self.now.opened pass.now.seat pass.now.seen }
     {
         let seat = pass.seat();
         seat == 0 || seat as usize > self.counts.len() || pass.seen() > self.len()
     }
 
     /// Opens the next seat, of which there is no entry yet. Refusals: O3 and O5.
-    pub fn open_seat(&mut self, alloc: Global) -> Result<Pass<C::Given, L>, OfficeFault<C::Fault>>
-        ensures pass { IfOk result (λ p. p ≡ record { seat = self.old.opened + 1; seen = 0; receipts = [] }) }
-        ensures stands { IfOk result (λ p. StandsIn C.entry_of (C.history self.new.recorded) self.new.seats p) }
+    pub fn open_seat(&mut self, alloc: Global) -> Result<Pass<C::Entry, L>, OfficeFault<C::Fault>>
+        ensures pass { IfOk result
+            (λ p. p ≡ record { seat = self.old.opened + 1; seen = 0; receipts = [] }) }
+        ensures stands { IfOk result
+            (λ p. StandsIn (C.history self.new.recorded) self.new.seats p) }
         ensures opened { OnOk result (self.new ≡ record self.old { opened = self.old.opened + 1 }) }
         ensures unchanged { OnErr result (self.new ≡ self.old) }
         ensures refused { IfErr result (λ fault. MayRefuseSeat self.old.opened fault) }
@@ -164,20 +179,25 @@ impl<C: Recorded, L: ledger::Ledger> Desk<C, L> {
         })
     }
 
-    /// Takes a step for a seat: one entry more with that seat. It isn't counted as an answer, so a pass of that seat can't account for it at the close.
-    /// Refusals: O1 for a seat that wasn't opened, O2, O3 and O4.
+    /// Takes a step for a seat: one entry more with that seat. It isn't counted as an answer, so a
+    /// pass of that seat can't account for it at the close. Refusals: O1 for a seat that wasn't
+    /// opened, O2, O3 and O4.
     pub fn apply(
         &mut self,
         alloc: Global,
         seat: u32,
         step: C::Step,
-    ) -> Result<Receipt<C::Given>, OfficeFault<C::Fault>>
-        ensures entered { IfOk result (λ r. Enters C.history C.entry_of self.old seat r self.new) }
-        ensures step { IfOk result (λ r. C.step_of (C.entry_of r.given) ≡ step) }
-        ensures taken { IfOk result (λ r. C.takes self.old.recorded step r.given self.new.recorded) }
-        ensures kept { (self.new.opened ≡ self.old.opened) × (self.new.total ≡ self.old.total) × (self.new.finished ≡ self.old.finished) }
+    ) -> Result<Answered<C::Entry, C::Given>, OfficeFault<C::Fault>>
+        ensures entered { IfOk result (λ a. Enters C.history self.old seat a.receipt self.new) }
+        ensures step { IfOk result (λ a. C.step_of a.receipt.entry ≡ step) }
+        ensures taken { IfOk result
+            (λ a. C.takes self.old.recorded step a.receipt.entry a.given self.new.recorded) }
+        ensures kept { (self.new.opened ≡ self.old.opened) × (self.new.total ≡ self.old.total)
+            × (self.new.finished ≡ self.old.finished) }
         ensures unchanged { OnErr result (Unchanged C.history C.alike self.old self.new) }
-        ensures refused { IfErr result (λ fault. MayRefuseStep C.kind_of (λ f. C.may_refuse self.old.recorded step f) (length (C.history self.old.recorded) + 1) self.old.opened seat fault) }
+        ensures refused { IfErr result
+            (λ fault. MayRefuseStep C.kind_of (λ f. C.may_refuse self.old.recorded step f)
+            (length (C.history self.old.recorded) + 1) self.old.opened seat fault) }
     {
         let number = self.len();
         if seat == 0 || seat as usize > self.counts.len() {
@@ -187,30 +207,45 @@ impl<C: Recorded, L: ledger::Ledger> Desk<C, L> {
             return Err(OfficeFault::OutOfMemory);
         }
         match self.recorded.step(alloc, step) {
-            Ok(given) => {
+            Ok(entered) => {
                 self.seats.push_reserved(seat);
                 self.counts[seat as usize - 1] += 1;
-                Ok(Receipt { number, given })
+                let Entered { entry, given } = entered;
+                Ok(Answered {
+                    receipt: Receipt { number, entry },
+                    given,
+                })
             }
             Err(fault) => Err(refusal::<C>(fault)),
         }
     }
 
-    /// Answers a call: one entry more with the seat of the pass, which gets its receipt. Refusals: O1 for a pass of an unopened seat or one that has
-    /// seen more than there is, O2, O3 and O4.
+    /// Answers a call: one entry more with the seat of the pass, which gets its receipt. The
+    /// receipt is given back too, with what goes with it. Refusals: O1 for a pass of an unopened
+    /// seat or one that has seen more than there is, O2, O3 and O4.
     pub fn answer(
         &mut self,
         alloc: Global,
-        pass: &mut Pass<C::Given, L>,
+        pass: &mut Pass<C::Entry, L>,
         step: C::Step,
-    ) -> Result<(), OfficeFault<C::Fault>>
-        ensures answered { OnOk result ((r : Receipt C.Given) × AnswersBy (λ given. C.step_of (C.entry_of given)) pass.old pass.new step r × Enters C.history C.entry_of self.old pass.old.seat r self.new × C.takes self.old.recorded step r.given self.new.recorded) }
+    ) -> Result<Answered<C::Entry, C::Given>, OfficeFault<C::Fault>>
+        ensures answered { IfOk result (λ a. AnswersBy C.step_of pass.old pass.new step a.receipt) }
+        ensures entered { IfOk result
+            (λ a. Enters C.history self.old pass.old.seat a.receipt self.new) }
+        ensures taken { IfOk result
+            (λ a. C.takes self.old.recorded step a.receipt.entry a.given self.new.recorded) }
         ensures counted { OnOk result (self.new.total ≡ self.old.total + 1) }
-        ensures stands { OnOk result (StandsIn C.entry_of (C.history self.old.recorded) self.old.seats pass.old → StandsIn C.entry_of (C.history self.new.recorded) self.new.seats pass.new) }
-        ensures kept { (self.new.opened ≡ self.old.opened) × (self.new.finished ≡ self.old.finished) }
+        ensures stands { OnOk result (StandsIn (C.history self.old.recorded) self.old.seats pass.old
+            → StandsIn (C.history self.new.recorded) self.new.seats pass.new) }
+        ensures kept { (self.new.opened ≡ self.old.opened)
+            × (self.new.finished ≡ self.old.finished) }
         ensures seat { pass.new.seat ≡ pass.old.seat }
-        ensures unchanged { OnErr result (Unchanged C.history C.alike self.old self.new × (pass.new ≡ pass.old)) }
-        ensures refused { IfErr result (λ fault. MayRefuseCall C.kind_of (λ f. C.may_refuse self.old.recorded step f) (length (C.history self.old.recorded) + 1) self.old.opened pass.old.seat pass.old.seen fault) }
+        ensures unchanged { OnErr result (Unchanged C.history C.alike self.old self.new
+            × (pass.new ≡ pass.old)) }
+        ensures refused { IfErr result
+            (λ fault. MayRefuseCall C.kind_of (λ f. C.may_refuse self.old.recorded step f)
+            (length (C.history self.old.recorded) + 1) self.old.opened pass.old.seat pass.old.seen
+            fault) }
     {
         self.is_counted();
         let entries = self.len();
@@ -221,10 +256,11 @@ impl<C: Recorded, L: ledger::Ledger> Desk<C, L> {
         if slip.receipts.reserve(1).is_err() {
             return Err(OfficeFault::OutOfMemory);
         }
-        let receipt = self.apply(alloc, slip.seat, step)?;
+        let answered = self.apply(alloc, slip.seat, step)?;
         slip.seen = self.len();
         self.book.add(share, 1);
-        slip.receipts.push_reserved(receipt);
-        Ok(())
+        slip.receipts
+            .push_reserved(shared_receipt::<C>(&answered.receipt));
+        Ok(answered)
     }
 }

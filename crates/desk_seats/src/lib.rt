@@ -1,14 +1,14 @@
-//! A recorded thing, and the seat of each of its entries: each step that is taken is an entry of its history, and has the seat of the caller who asked for it.
-//! Nothing here waits.
+//! A recorded thing, and the seat of each of its entries: each step that is taken is an entry of
+//! its history, and has the seat of the caller who asked for it. Nothing here waits.
 #![tactic(auto)]
 
 mod desk;
 mod fault;
 mod recorded;
 
-pub use desk::pass::{Pass, Receipt};
+pub use desk::pass::{Answered, Pass, Receipt};
 pub use desk::passes::Passes;
 pub use desk::seated::SeatedHistory;
 pub use desk::{Desk, refusal};
 pub use fault::{FaultKind, OfficeFault};
-pub use recorded::Recorded;
+pub use recorded::{Entered, Recorded};

@@ -6,19 +6,31 @@ ghost use Rattle.desk_seats.specs.declared.fault.FaultKind.{FaultKind};
 use crate::fault::FaultKind;
 use std::alloc::Global;
 
+/// The entry of a step that was taken, and what goes with it.
+#[derive(Drop)]
+pub struct Entered<E, G> {
+    pub entry: E,
+    pub given: G,
+}
+
 /// What takes one step after another, and records each that it took.
 pub trait Recorded: Drop {
     /// What it is asked.
     type Step: Drop;
 
-    /// A step that was taken, with what became of it.
-    type Entry;
+    /// A step that was taken, with what became of it. It stands once:
+    /// what is handed on is one more owner of it.
+    type Entry: Drop;
 
-    /// What is given of a step that was taken: a copy of its entry, and what goes with it.
+    /// What goes with the entry of a step. It is given once, to who asked for the step,
+    /// and nobody else keeps it.
     type Given: Drop;
 
     /// Why a step isn't taken.
     type Fault: Drop;
+
+    /// What a caller may wait for.
+    type Awaited: Drop;
 
     /// The entries since the opening, the oldest first.
     ghost history: { Self → List Self.Entry };
@@ -26,17 +38,14 @@ pub trait Recorded: Drop {
     /// What an entry was asked.
     ghost step_of: { Self.Entry → Self.Step };
 
-    /// The entry of what is given.
-    ghost entry_of: { Self.Given → Self.Entry };
-
     /// What a fault means.
     ghost kind_of: { Self.Fault → FaultKind };
 
     /// What is true of it whatever it was asked.
     ghost sound: { Self → Type 0 };
 
-    /// The one state took this step and gave this, which left the other state.
-    ghost takes: { Self → Self.Step → Self.Given → Self → Type 0 };
+    /// The one state took this step with this entry and gave this, which left the other state.
+    ghost takes: { Self → Self.Step → Self.Entry → Self.Given → Self → Type 0 };
 
     /// This state may refuse this step so.
     ghost may_refuse: { Self → Self.Step → Self.Fault → Type 0 };
@@ -45,10 +54,14 @@ pub trait Recorded: Drop {
     ghost alike: { Self → Self → Type 0 };
 
     /// Takes a step, or refuses it.
-    fn step(&mut self, alloc: Global, step: Self::Step) -> Result<Self::Given, Self::Fault>
-        ensures entry { IfOk result (λ given. history self.new ≡ history self.old ++ entry_of given ∷ []) }
-        ensures step { IfOk result (λ given. step_of (entry_of given) ≡ step) }
-        ensures taken { IfOk result (λ given. takes self.old step given self.new) }
+    fn step(
+        &mut self,
+        alloc: Global,
+        step: Self::Step,
+    ) -> Result<Entered<Self::Entry, Self::Given>, Self::Fault>
+        ensures entry { IfOk result (λ e. history self.new ≡ history self.old ++ e.entry ∷ []) }
+        ensures step { IfOk result (λ e. step_of e.entry ≡ step) }
+        ensures taken { IfOk result (λ e. takes self.old step e.entry e.given self.new) }
         ensures refused { IfErr result (λ fault. may_refuse self.old step fault) }
         ensures history { OnErr result (history self.new ≡ history self.old) }
         ensures unchanged { OnErr result (alike self.old self.new) };
@@ -58,16 +71,24 @@ pub trait Recorded: Drop {
         ensures len { result ≡ length (history self.now) }
         ensures most { length (history self.now) ≤ 4294967294 };
 
-    /// Whether the entry at an index, from 0 for the first since the opening, is the one that was given.
-    fn is_entry(&self, index: usize, given: &Self::Given) -> bool
-        ensures { IsTrue result ↔ (slice_get (history self.now) index ≡ Some (entry_of given.now)) };
+    /// Whether the entry at an index, from 0 for the first since the opening, is this one.
+    fn is_entry(&self, index: usize, entry: &Self::Entry) -> bool
+        ensures { IsTrue result ↔ (slice_get (history self.now) index ≡ Some entry.now) };
+
+    /// One more owner of an entry. It takes no memory.
+    fn share(entry: &Self::Entry) -> Self::Entry
+        ensures { result ≡ entry.now };
 
     /// What a fault means.
     fn kind(fault: &Self::Fault) -> FaultKind
         ensures { result ≡ kind_of fault.now };
 
-    /// Which of 64 groups of waiting callers the step may let go on, a bit for each: those who wait for what it brought out.
-    fn frees(given: &Self::Given) -> u64;
+    /// The group of those who wait for this, from 0 to 63; a greater one is taken modulo 64.
+    fn group_of(awaited: &Self::Awaited) -> u32;
+
+    /// Which of 64 groups of waiting callers the step may let go on, a bit for each:
+    /// those who wait for what it brought out.
+    fn frees(entry: &Self::Entry) -> u64;
 
     /// Whatever it was asked, it is sound.
     fn is_sound(&self)

@@ -3,7 +3,8 @@ use Rattle.std.specs.Prelude.{◌≡◌, true, false, ℕ, List, [], ◌∷◌, 
 use Rattle.device_io.specs.Texts.{all_lines}
 
 -- what is told on each line, each behind the lines before it
-unfoldable pub told_all : {S : Type 0} → (S → List ℕ → List ℕ) → (S → List ℕ → S) → S → List (List ℕ) → List ℕ
+unfoldable pub told_all : {S : Type 0} → (S → List ℕ → List ℕ) → (S → List ℕ → S) → S
+    → List (List ℕ) → List ℕ
 told_all told after s [] = []
 told_all told after s (l ∷ ls) = told s l ++ told_all told after (after s l) ls
 
@@ -12,8 +13,10 @@ after_all after s [] = s
 after_all after s (l ∷ ls) = after_all after (after s l) ls
 
 -- what is told on a text: on each of its lines, and at its end
-abbrev pub answer : {S : Type 0} → (S → List ℕ → List ℕ) → (S → List ℕ → S) → (S → List ℕ) → S → List ℕ → List ℕ
-answer told after ending s text = told_all told after s (all_lines text) ++ ending (after_all after s (all_lines text))
+abbrev pub answer : {S : Type 0} → (S → List ℕ → List ℕ) → (S → List ℕ → S) → (S → List ℕ) → S
+    → List ℕ → List ℕ
+answer told after ending s text =
+    told_all told after s (all_lines text) ++ ending (after_all after s (all_lines text))
 
 pub never : {A : Type 0} → true ≡ false → A
 never e = cc

@@ -36,7 +36,8 @@ kept line = take (longest + 1) line
 
 -- the lines of the text that have ended are kept so, and so is the one that has not
 abbrev pub Reads : List ℕ → List (List ℕ) → List ℕ → Type 0
-Reads text lines rest = (lines ≡ map kept (lines_of text).ended) × (rest ≡ kept (lines_of text).rest)
+Reads text lines rest =
+    (lines ≡ map kept (lines_of text).ended) × (rest ≡ kept (lines_of text).rest)
 
 abbrev pub bodies : List (Vec ℕ Global) → List (List ℕ)
 bodies vs = map (λ v. v.items) vs

@@ -26,7 +26,8 @@ pub enum Stop {
 
 fn write_all<W: Write>(text: &[u8], writer: &mut W) -> Result<(), Stop>
     ensures ok { OnOk result (Appends (W.contents writer.old) (W.contents writer.new) text.now) }
-    ensures err { OnErr result (AppendsFront (W.contents writer.old) (W.contents writer.new) text.now) }
+    ensures err { OnErr result
+        (AppendsFront (W.contents writer.old) (W.contents writer.new) text.now) }
 {
     match put(writer, text) {
         Ok(()) => Ok(()),
@@ -41,9 +42,12 @@ fn answer_one<T: Teller, W: Write>(
     line: &[u8],
     writer: &mut W,
 ) -> Result<(), Stop>
-    ensures ok { OnOk result (Appends (W.contents writer.old) (W.contents writer.new) (T.told teller.old line.now)) }
+    ensures ok { OnOk result (Appends (W.contents writer.old) (W.contents writer.new)
+        (T.told teller.old line.now)) }
     ensures after { OnOk result (teller.new ≡ T.after teller.old line.now) }
-    ensures err { OnErr result (AppendsFront (W.contents writer.old) (W.contents writer.new) (T.told teller.old line.now)) }
+    ensures err { OnErr result
+        (AppendsFront (W.contents writer.old) (W.contents writer.new)
+        (T.told teller.old line.now)) }
 {
     let text = match teller.tell(alloc, line) {
         Ok(text) => text,
@@ -59,9 +63,12 @@ fn answer_all<T: Teller, W: Write>(
     lines: &[Vec<u8>],
     writer: &mut W,
 ) -> Result<(), Stop>
-    ensures ok { OnOk result (Appends (W.contents writer.old) (W.contents writer.new) (told_all T.told T.after teller.old (bodies lines.now))) }
+    ensures ok { OnOk result (Appends (W.contents writer.old) (W.contents writer.new)
+        (told_all T.told T.after teller.old (bodies lines.now))) }
     ensures after { OnOk result (teller.new ≡ after_all T.after teller.old (bodies lines.now)) }
-    ensures err { OnErr result (AppendsFront (W.contents writer.old) (W.contents writer.new) (told_all T.told T.after teller.old (bodies lines.now))) }
+    ensures err { OnErr result
+        (AppendsFront (W.contents writer.old) (W.contents writer.new)
+        (told_all T.told T.after teller.old (bodies lines.now))) }
 {
     for line in lines {
         if let Err(stop) = answer_one(alloc, teller, line, writer) {
@@ -78,9 +85,12 @@ fn answer_last<T: Teller, W: Write>(
     rest: &[u8],
     writer: &mut W,
 ) -> Result<(), Stop>
-    ensures ok { OnOk result (Appends (W.contents writer.old) (W.contents writer.new) (told_all T.told T.after teller.old (last_line rest.now))) }
+    ensures ok { OnOk result (Appends (W.contents writer.old) (W.contents writer.new)
+        (told_all T.told T.after teller.old (last_line rest.now))) }
     ensures after { OnOk result (teller.new ≡ after_all T.after teller.old (last_line rest.now)) }
-    ensures err { OnErr result (AppendsFront (W.contents writer.old) (W.contents writer.new) (told_all T.told T.after teller.old (last_line rest.now))) }
+    ensures err { OnErr result
+        (AppendsFront (W.contents writer.old) (W.contents writer.new)
+        (told_all T.told T.after teller.old (last_line rest.now))) }
 {
     if rest.is_empty() {
         return Ok(());
@@ -89,8 +99,10 @@ fn answer_last<T: Teller, W: Write>(
 }
 
 fn write_end<T: Teller, W: Write>(alloc: Global, teller: &T, writer: &mut W) -> Result<(), Stop>
-    ensures ok { OnOk result (Appends (W.contents writer.old) (W.contents writer.new) (T.ending teller.now)) }
-    ensures err { OnErr result (AppendsFront (W.contents writer.old) (W.contents writer.new) (T.ending teller.now)) }
+    ensures ok { OnOk result (Appends (W.contents writer.old) (W.contents writer.new)
+        (T.ending teller.now)) }
+    ensures err { OnErr result
+        (AppendsFront (W.contents writer.old) (W.contents writer.new) (T.ending teller.now)) }
 {
     let text = match teller.end(alloc) {
         Ok(text) => text,
@@ -127,9 +139,16 @@ fn answer_pieces<R: Read, T: Teller, W: Write>(
     writer: &mut W,
 ) -> Result<(), Stop>
     requires { 0 < length buffer.old }
-    ensures ok { OnOk result (IfSome (R.remaining reader.old) (λ input. Appends (W.contents writer.old) (W.contents writer.new) (answer T.told T.after T.ending teller.old input))) }
-    ensures after { OnOk result (IfSome (R.remaining reader.old) (λ input. teller.new ≡ after_all T.after teller.old (all_lines input))) }
-    ensures err { OnErr result (IfSome (R.remaining reader.old) (λ input. AppendsFront (W.contents writer.old) (W.contents writer.new) (answer T.told T.after T.ending teller.old input))) }
+    ensures ok { OnOk result (IfSome (R.remaining reader.old)
+        (λ input. Appends (W.contents writer.old) (W.contents writer.new)
+        (answer T.told T.after T.ending teller.old input))) }
+    ensures after { OnOk result
+        (IfSome (R.remaining reader.old)
+        (λ input. teller.new ≡ after_all T.after teller.old (all_lines input))) }
+    ensures err { OnErr result
+        (IfSome (R.remaining reader.old)
+        (λ input. AppendsFront (W.contents writer.old) (W.contents writer.new)
+        (answer T.told T.after T.ending teller.old input))) }
 {
     first_lines_stay();
     let mut lines = Reader::new(alloc);
@@ -161,8 +180,9 @@ fn new_buffer(alloc: Global) -> Result<Vec<u8>, AllocError>
     vec![in alloc; 0u8; PIECE]
 }
 
-/// Answers the text that a reader gives, line by line: what is told on a line is written as soon as the line has ended. A line feed ends a line; the last may lack
-/// it. Where the teller takes no further line, nothing further is read.
+/// Answers the text that a reader gives, line by line: what is told on a line is written as soon as
+/// the line has ended. A line feed ends a line; the last may lack it. Where the teller takes no
+/// further line, nothing further is read.
 pub fn answer_lines<R: Read, T: Teller, W: Write>(
     alloc: Global,
     reader: &mut R,
@@ -170,10 +190,17 @@ pub fn answer_lines<R: Read, T: Teller, W: Write>(
     writer: &mut W,
 ) -> Result<(), Stop>
     // What is written is the answer to the text,
-    ensures ok { OnOk result (IfSome (R.remaining reader.old) (λ input. Appends (W.contents writer.old) (W.contents writer.new) (answer T.told T.after T.ending teller.old input))) }
-    ensures after { OnOk result (IfSome (R.remaining reader.old) (λ input. teller.new ≡ after_all T.after teller.old (all_lines input))) }
+    ensures ok { OnOk result (IfSome (R.remaining reader.old)
+        (λ input. Appends (W.contents writer.old) (W.contents writer.new)
+        (answer T.told T.after T.ending teller.old input))) }
+    ensures after { OnOk result
+        (IfSome (R.remaining reader.old)
+        (λ input. teller.new ≡ after_all T.after teller.old (all_lines input))) }
     // or a beginning of it, where memory, the reader or the writer fail.
-    ensures err { OnErr result (IfSome (R.remaining reader.old) (λ input. AppendsFront (W.contents writer.old) (W.contents writer.new) (answer T.told T.after T.ending teller.old input))) }
+    ensures err { OnErr result
+        (IfSome (R.remaining reader.old)
+        (λ input. AppendsFront (W.contents writer.old) (W.contents writer.new)
+        (answer T.told T.after T.ending teller.old input))) }
 {
     let mut buffer = match new_buffer(alloc) {
         Ok(buffer) => buffer,

@@ -1,4 +1,5 @@
-//! Reading and writing that interruptions don't disturb, the lines of a text that comes in pieces, and a text that is answered line by line, as it comes.
+//! Reading and writing that interruptions don't disturb, the lines of a text that comes in pieces,
+//! and a text that is answered line by line, as it comes.
 #![tactic(auto)]
 
 mod answers;

@@ -7,7 +7,8 @@ use std::alloc::{AllocError, Global};
 use std::marker::Model;
 use std::mem;
 
-/// As many bytes as a line may have, without its line feed. Of a longer one the reader keeps one byte more, and no further ones.
+/// As many bytes as a line may have, without its line feed.
+/// Of a longer one the reader keeps one byte more, and no further ones.
 pub const LONGEST_LINE: usize = 1_048_576;
 
 /// Where a reader stands on its text: what it keeps of the line that hasn't ended yet.
@@ -61,5 +62,6 @@ impl Reader {
 
 /// The lines of the beginning of a text are the first lines of the whole text.
 pub fn first_lines_stay()
-    ensures { (text more : List ℕ) → (others : List (List ℕ)) × ((lines_of (text ++ more)).ended ≡ (lines_of text).ended ++ others) }
+    ensures { (text more : List ℕ) → (others : List (List ℕ))
+        × ((lines_of (text ++ more)).ended ≡ (lines_of text).ended ++ others) }
 {}

@@ -5,8 +5,9 @@ ghost use Rattle.device_io.specs.Texts.{kept};
 
 use std::alloc::{AllocError, Global};
 
-/// Something that tells a text on each line that it is given, until it takes no further ones, and a text at the end. Lines stand without their line feeds. Of a line
-/// of more than 1,048,576 bytes only the first 1,048,577 are given.
+/// Something that tells a text on each line that it is given, until it takes no further ones, and a
+/// text at the end. Lines stand without their line feeds. Of a line of more than 1,048,576 bytes
+/// only the first 1,048,577 are given.
 pub trait Teller {
     /// What it tells on a line.
     ghost told: { Self → List ℕ → List ℕ };

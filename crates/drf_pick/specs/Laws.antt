@@ -23,14 +23,18 @@ pub record Amounts : Type 0 where
 abbrev pub amounts_of : Share → Amounts
 amounts_of s = record { of = λ name. amount name s.held; weight = s.weight }
 
--- Stands at most at, of amounts as functions of a name: t are the totals, a what the first holds, b what the second holds
+-- Stands at most at, of amounts as functions of a name: t are the totals,
+-- a what the first holds, b what the second holds
 abbrev pub StandsAtMost : (List ℕ → ℕ) → Amounts → Amounts → Type 0
-StandsAtMost t a b = (i : List ℕ) → 0 < t i → (j : List ℕ) × (0 < t j) × (a.of i * (t j * b.weight) ≤ b.of j * (t i * a.weight))
+StandsAtMost t a b =
+    (i : List ℕ) → 0 < t i → (j : List ℕ) × (0 < t j)
+    × (a.of i * (t j * b.weight) ≤ b.of j * (t i * a.weight))
 
 -- the test over rows is the relation over all names
 abbrev pub TestIsRelation : Type 0
 TestIsRelation = (totals : List Row) (a b : Share) → ArePositive totals
-    → (stands_at_most_at totals a b ≡ true) ↔ StandsAtMost (λ name. amount name totals) (amounts_of a) (amounts_of b)
+    → (stands_at_most_at totals a b ≡ true)
+    ↔ StandsAtMost (λ name. amount name totals) (amounts_of a) (amounts_of b)
 
 -- the same amounts of every name, with the same weight
 abbrev pub SameShare : Share → Share → Type 0
@@ -38,8 +42,11 @@ SameShare a b = SameAmounts a.held b.held × (a.weight ≡ b.weight)
 
 -- shares of the same amounts stand alike
 abbrev pub AmountsDecide : Type 0
-AmountsDecide = (totals : List Row) (a b : Share) (totals' : List Row) (a' b' : Share) → ArePositive totals → ArePositive totals'
-    → SameAmounts totals totals' → SameShare a a' → SameShare b b' → stands_at_most_at totals a b ≡ stands_at_most_at totals' a' b'
+AmountsDecide =
+    (totals : List Row) (a b : Share) (totals' : List Row) (a' b' : Share) → ArePositive totals
+    → ArePositive totals'
+    → SameAmounts totals totals' → SameShare a a' → SameShare b b'
+    → stands_at_most_at totals a b ≡ stands_at_most_at totals' a' b'
 
 -- a share of some weight
 pub record Weighed : Type 0 where
@@ -48,7 +55,9 @@ pub record Weighed : Type 0 where
 
 -- any two of some weight stand in the order, and it goes on from one to the next
 abbrev pub StandingIsOrder : Type 0
-StandingIsOrder = (totals : List Row) → ArePositive totals → IsPreorder (λ (a b : Weighed). stands_at_most_at totals a.share b.share)
+StandingIsOrder =
+    (totals : List Row) → ArePositive totals
+    → IsPreorder (λ (a b : Weighed). stands_at_most_at totals a.share b.share)
 
 -- one of the frameworks, and none comes before it
 pub record IsLeast (t : Tally) (hs : List Holder) (h : Holder) : Type 0 where
@@ -56,4 +65,6 @@ pub record IsLeast (t : Tally) (hs : List Holder) (h : Holder) : Type 0 where
   pub least : (g : Holder) → Among g hs → comes_before t g h ≡ false
 
 abbrev pub PicksLeast : Type 0
-PicksLeast = (t : Tally) (hs : List Holder) → ArePositive t.totals → AreWeighed t.roles → MatchOption (fold (better t) None hs) (hs ≡ []) (IsLeast t hs)
+PicksLeast =
+    (t : Tally) (hs : List Holder) → ArePositive t.totals → AreWeighed t.roles
+    → MatchOption (fold (better t) None hs) (hs ≡ []) (IsLeast t hs)

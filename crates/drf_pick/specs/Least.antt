@@ -27,24 +27,28 @@ held_by t framework = held_of (find (is_holder framework) t.holders)
 
 -- a framework of a role, with what it holds
 abbrev pub holder_for : Tally → Numbered → List ℕ → Holder
-holder_for t framework role = record { framework = framework; role = role; held = held_by t framework }
+holder_for t framework role =
+    record { framework = framework; role = role; held = held_by t framework }
 
 abbrev pub client_holder : Tally → Client → Holder
 client_holder t c = holder_for t c.framework c.role
 
 -- the one that stands least
 
--- the first stands at most at the second (Stands at most at), and where the second stands at most at the first the tie is the first's
+-- the first stands at most at the second (Stands at most at),
+-- and where the second stands at most at the first the tie is the first's
 pub record StandsBy (totals : List Row) (a b : Share) (tie : Bool) : Type 0 where
   pub at_most : stands_at_most_at totals a b ≡ true
   pub tied : stands_at_most_at totals b a ≡ true → tie ≡ true
 
--- the first is served no later than the second: by their roles, ties by the roles' names, and within a role by themselves, ties by their ids
+-- the first is served no later than the second: by their roles, ties by the roles' names,
+-- and within a role by themselves, ties by their ids
 abbrev pub StandsLeast : Tally → Holder → Holder → Type 0
 StandsLeast t c d =
     MatchBool (bytes_eq d.role c.role)
     (StandsBy t.totals (share c.held 1) (share d.held 1) (not (before d.framework c.framework)))
-    (StandsBy t.totals (role_share t.roles c.role) (role_share t.roles d.role) (not (bytes_before d.role c.role)))
+    (StandsBy t.totals (role_share t.roles c.role) (role_share t.roles d.role)
+    (not (bytes_before d.role c.role)))
 
 -- the framework of a client that stands least of all clients
 pub record IsPicked (t : Tally) (cs : List Client) (framework : Numbered) : Type 0 where
@@ -56,17 +60,21 @@ pub record IsPicked (t : Tally) (cs : List Client) (framework : Numbered) : Type
 -- the same, one after another
 
 abbrev pub comes_within_role : Tally → Numbered → Numbered → Bool
-comes_within_role t f g = stands_first t.totals (share (held_by t f) 1) (share (held_by t g) 1) (before f g)
+comes_within_role t f g =
+    stands_first t.totals (share (held_by t f) 1) (share (held_by t g) 1) (before f g)
 
 abbrev pub comes_by_role : Tally → List ℕ → List ℕ → Bool
-comes_by_role t r q = stands_first t.totals (role_share t.roles r) (role_share t.roles q) (bytes_before r q)
+comes_by_role t r q =
+    stands_first t.totals (role_share t.roles r) (role_share t.roles q) (bytes_before r q)
 
--- the first is served rather than the second: by their roles, and within a role by themselves, where each counts alike
+-- the first is served rather than the second: by their roles,
+-- and within a role by themselves, where each counts alike
 abbrev pub comes_before : Tally → Holder → Holder → Bool
 comes_before t c d =
     if bytes_eq c.role d.role
     then stands_first t.totals (share c.held 1) (share d.held 1) (before c.framework d.framework)
-    else stands_first t.totals (role_share t.roles c.role) (role_share t.roles d.role) (bytes_before c.role d.role)
+    else stands_first t.totals (role_share t.roles c.role) (role_share t.roles d.role)
+    (bytes_before c.role d.role)
 
 abbrev pub better : Tally → Option Holder → Holder → Option Holder
 better t None c = Some c
@@ -74,4 +82,5 @@ better t (Some d) c = if comes_before t c d then Some c else Some d
 
 abbrev pub better_client : Tally → Option Client → Client → Option Client
 better_client t None c = Some c
-better_client t (Some d) c = if comes_before t (client_holder t c) (client_holder t d) then Some c else Some d
+better_client t (Some d) c =
+    if comes_before t (client_holder t c) (client_holder t d) then Some c else Some d

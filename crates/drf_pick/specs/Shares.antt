@@ -65,7 +65,8 @@ with_holder framework role t None = record t {
   roles = roles_with role t.roles (find (is_role role) t.roles);
 }
 
--- a framework of this role is known, and holds nothing yet; the first role that is told of a framework counts
+-- a framework of this role is known, and holds nothing yet;
+-- the first role that is told of a framework counts
 abbrev pub with_role : Numbered → List ℕ → Tally → Tally
 with_role framework role t = with_holder framework role t (find (is_holder framework) t.holders)
 
@@ -74,7 +75,8 @@ abbrev pub weighing : ℕ → RoleSum → RoleSum
 weighing weight r = record r { weight = weight }
 
 abbrev pub weighed_roles : List ℕ → ℕ → List RoleSum → List RoleSum
-weighed_roles role weight rs = at_first (is_role role) (weighing weight) (roles_with role rs (find (is_role role) rs))
+weighed_roles role weight rs =
+    at_first (is_role role) (weighing weight) (roles_with role rs (find (is_role role) rs))
 
 -- a role is known, and has this weight
 abbrev pub weighed : List ℕ → ℕ → Tally → Tally

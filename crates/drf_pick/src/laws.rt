@@ -1,9 +1,10 @@
-//! What holds of shares: each function's contract is a law, and its call brings the law into a proof.
+//! What holds of shares: each function's contract is a law,
+//! and its call brings the law into a proof.
 
 ghost use Rattle.drf_pick.specs.Laws.{TestIsRelation, AmountsDecide, StandingIsOrder, SumsAdd, PicksLeast};
 
-/// The test over rows is the order of shares over all names: at each name that agents own, the first's share is at most the
-/// second's share of some name.
+/// The test over rows is the order of shares over all names: at each name that agents own,
+/// the first's share is at most the second's share of some name.
 pub fn test_is_relation()
     ensures { TestIsRelation }
 {}

@@ -40,7 +40,8 @@ fn weight_of_role(roles: &[RoleSum], guess: usize, role: &RoleName) -> u16
     }
 }
 
-/// What a framework holds; nothing where no role was told of it. It is likely to stand at this place.
+/// What a framework holds; nothing where no role was told of it.
+/// It is likely to stand at this place.
 fn held_by(shares: &Shares, guess: usize, framework: FrameworkId) -> &Sum
     ensures { result.now ≡ held_by shares.entry.now framework }
 {
@@ -66,7 +67,8 @@ fn comes_within_role(
     stands_first(&shares.totals, first_held, 1, second_held, 1, tie)
 }
 
-/// Whether the frameworks of the first role are served rather than those of the second, which is another. The roles are likely to stand at these places.
+/// Whether the frameworks of the first role are served rather than those of the second,
+/// which is another. The roles are likely to stand at these places.
 fn comes_by_role(
     shares: &Shares,
     first: &RoleName,
@@ -91,9 +93,10 @@ fn comes_by_role(
     )
 }
 
-/// Whether the first framework is served rather than the second, each of its role: by their roles, and within a role by themselves. `first_place` and
-/// `second_place` say where they are likely to stand among those that a role was told of, in that order, from 0; it goes faster where they do, and no
-/// answer hangs on it. It takes no memory.
+/// Whether the first framework is served rather than the second, each of its role: by their roles,
+/// and within a role by themselves. `first_place` and `second_place` say where they are likely to
+/// stand among those that a role was told of, in that order, from 0; it goes faster where they do,
+/// and no answer hangs on it. It takes no memory.
 pub fn comes_before(
     shares: &Shares,
     first: FrameworkId,
@@ -114,7 +117,8 @@ pub fn comes_before(
     comes_by_role(shares, first_role, first_guess, second_role, second_guess)
 }
 
-/// The better one of the best so far and a client. `best_place` and `place` say where the two are likely to stand.
+/// The better one of the best so far and a client.
+/// `best_place` and `place` say where the two are likely to stand.
 fn better_client<'a>(
     shares: &Shares,
     best: Option<&'a Client>,
@@ -122,7 +126,8 @@ fn better_client<'a>(
     client: &'a Client,
     place: usize,
 ) -> Option<&'a Client>
-    ensures { option_copied result ≡ better_client shares.now (option_copied best.entry) client.entry.now }
+    ensures { option_copied result ≡ better_client shares.now (option_copied best.entry)
+        client.entry.now }
 {
     let Some(other) = best else {
         *best_place = place;
@@ -163,9 +168,10 @@ fn are_sound(shares: &Shares)
     let _totals = shares.totals.rows();
 }
 
-/// The client that stands least: its role stands at most at each other's, ties by the roles' names, and within its role it stands at most at each other,
-/// ties by the frameworks' ids. What a role or a framework holds that the shares were told nothing of is nothing. None only where there is no client. It takes
-/// no memory.
+/// The client that stands least: its role stands at most at each other's, ties by the roles' names,
+/// and within its role it stands at most at each other, ties by the frameworks' ids. What a role or
+/// a framework holds that the shares were told nothing of is nothing. None only where there is no
+/// client. It takes no memory.
 pub fn pick(shares: &Shares, clients: &[Client]) -> Option<FrameworkId>
     ensures some { IfSome result (IsPicked shares.now clients.now) }
     ensures none { IfNone result (clients.now ≡ []) }

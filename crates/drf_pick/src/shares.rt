@@ -39,7 +39,8 @@ impl Model for Shares {
         × RolesOnce s.roles.items) × HoldersOnce s.holders.items };
 }
 
-/// The place of a framework's holder. It is found at once where the holders stand in the order of their frameworks' ids.
+/// The place of a framework's holder.
+/// It is found at once where the holders stand in the order of their frameworks' ids.
 pub(crate) fn holder_place(holders: &[Holder], framework: FrameworkId) -> Option<usize>
     requires { HoldersOnce holders.now }
     ensures { result ≡ position (is_holder framework) holders.now }
@@ -147,7 +148,8 @@ fn give_role(
     resources: &Resources,
 ) -> Result<(), AllocError>
     requires { RolesOnce roles.old.items }
-    ensures ok { OnOk result (roles.new.items ≡ at_first (is_role role.now) (role_holding resources.now) roles.old.items) }
+    ensures ok { OnOk result (roles.new.items
+        ≡ at_first (is_role role.now) (role_holding resources.now) roles.old.items) }
     ensures err { OnErr result (roles.new.items ≡ roles.old.items) }
 {
     let Some(place) = role_place(roles, guess, role) else {
@@ -168,9 +170,13 @@ fn give_in(
 ) -> Result<(), AllocError>
     requires holders { HoldersOnce holders.old.items }
     requires roles { RolesOnce roles.old.items }
-    ensures holders { OnOk result (holders.new.items ≡ given_holders framework resources.now holders.old.items) }
-    ensures roles { OnOk result (roles.new.items ≡ given_roles resources.now (find (is_holder framework) holders.old.items) roles.old.items) }
-    ensures err { OnErr result ((holders.new.items ≡ holders.old.items) × (roles.new.items ≡ roles.old.items)) }
+    ensures holders { OnOk result (holders.new.items
+        ≡ given_holders framework resources.now holders.old.items) }
+    ensures roles { OnOk result (roles.new.items
+        ≡ given_roles resources.now (find (is_holder framework) holders.old.items)
+        roles.old.items) }
+    ensures err { OnErr result ((holders.new.items ≡ holders.old.items)
+        × (roles.new.items ≡ roles.old.items)) }
 {
     let Some(place) = holder_place(holders, framework) else {
         return Ok(());
@@ -190,9 +196,12 @@ fn back_role(
     resources: &Resources,
 ) -> Result<(), SharesFault>
     requires { RolesOnce roles.old.items }
-    ensures ok { OnOk result (roles.new.items ≡ at_first (is_role role.now) (role_returning resources.now) roles.old.items) }
-    ensures covered { OnOk result (role_has resources.now (find (is_role role.now) roles.old.items) ≡ true) }
-    ensures refused { result ≡ Err SharesFault.NotHeld → role_has resources.now (find (is_role role.now) roles.old.items) ≡ false }
+    ensures ok { OnOk result (roles.new.items
+        ≡ at_first (is_role role.now) (role_returning resources.now) roles.old.items) }
+    ensures covered { OnOk result (role_has resources.now (find (is_role role.now) roles.old.items)
+        ≡ true) }
+    ensures refused { result ≡ Err SharesFault.NotHeld
+        → role_has resources.now (find (is_role role.now) roles.old.items) ≡ false }
     ensures err { OnErr result (roles.new.items ≡ roles.old.items) }
 {
     let Some(place) = role_place(roles, guess, role) else {
@@ -217,11 +226,19 @@ fn back_in(
 ) -> Result<(), SharesFault>
     requires holders { HoldersOnce holders.old.items }
     requires roles { RolesOnce roles.old.items }
-    ensures holders { OnOk result (holders.new.items ≡ returned_holders framework resources.now holders.old.items) }
-    ensures roles { OnOk result (roles.new.items ≡ returned_roles resources.now (find (is_holder framework) holders.old.items) roles.old.items) }
-    ensures covered { OnOk result (holder_has resources.now roles.old.items (find (is_holder framework) holders.old.items) ≡ true) }
-    ensures refused { result ≡ Err SharesFault.NotHeld → holder_has resources.now roles.old.items (find (is_holder framework) holders.old.items) ≡ false }
-    ensures err { OnErr result ((holders.new.items ≡ holders.old.items) × (roles.new.items ≡ roles.old.items)) }
+    ensures holders { OnOk result (holders.new.items
+        ≡ returned_holders framework resources.now holders.old.items) }
+    ensures roles { OnOk result (roles.new.items
+        ≡ returned_roles resources.now (find (is_holder framework) holders.old.items)
+        roles.old.items) }
+    ensures covered { OnOk result
+        (holder_has resources.now roles.old.items (find (is_holder framework) holders.old.items)
+        ≡ true) }
+    ensures refused { result ≡ Err SharesFault.NotHeld
+        → holder_has resources.now roles.old.items (find (is_holder framework) holders.old.items)
+        ≡ false }
+    ensures err { OnErr result ((holders.new.items ≡ holders.old.items)
+        × (roles.new.items ≡ roles.old.items)) }
 {
     let Some(place) = holder_place(holders, framework) else {
         return Err(SharesFault::NotHeld);
@@ -258,7 +275,8 @@ fn weigh_in(roles: &mut Vec<RoleSum>, guess: usize, role: &RoleName, weight: u16
     roles[place].weight = weight;
 }
 
-/// The place of a role's sum, which is added where there is none. It is found at once where the guess is right.
+/// The place of a role's sum, which is added where there is none.
+/// It is found at once where the guess is right.
 fn add_role(
     roles: &mut Vec<RoleSum>,
     alloc: Global,
@@ -266,7 +284,8 @@ fn add_role(
     role: &RoleName,
 ) -> Result<usize, AllocError>
     requires { RolesOnce roles.old.items }
-    ensures ok { OnOk result (roles.new.items ≡ roles_with role.now roles.old.items (find (is_role role.now) roles.old.items)) }
+    ensures ok { OnOk result (roles.new.items
+        ≡ roles_with role.now roles.old.items (find (is_role role.now) roles.old.items)) }
     ensures err { OnErr result (roles.new.items ≡ roles.old.items) }
 {
     if let Some(place) = role_place(roles, guess, role) {
@@ -305,9 +324,12 @@ fn add_holder(
     role: &RoleName,
 ) -> Result<(), AllocError>
     requires { RolesOnce roles.old.items }
-    ensures holders { OnOk result (holders.new.items ≡ holders.old.items ++ holder_of framework role.now ∷ []) }
-    ensures roles { OnOk result (roles.new.items ≡ roles_with role.now roles.old.items (find (is_role role.now) roles.old.items)) }
-    ensures err { OnErr result ((holders.new.items ≡ holders.old.items) × (roles.new.items ≡ roles.old.items)) }
+    ensures holders { OnOk result (holders.new.items ≡ holders.old.items
+        ++ holder_of framework role.now ∷ []) }
+    ensures roles { OnOk result (roles.new.items
+        ≡ roles_with role.now roles.old.items (find (is_role role.now) roles.old.items)) }
+    ensures err { OnErr result ((holders.new.items ≡ holders.old.items)
+        × (roles.new.items ≡ roles.old.items)) }
 {
     let count = holders.len();
     let guess = last_place(role_places);
@@ -350,8 +372,8 @@ impl Shares {
         Ok(())
     }
 
-    /// A framework has this role; it holds nothing yet. Of several roles that are told of a framework the first counts.
-    /// `P2 OutOfMemory` changes nothing.
+    /// A framework has this role; it holds nothing yet. Of several roles that are told of a
+    /// framework the first counts. `P2 OutOfMemory` changes nothing.
     pub fn role(
         &mut self,
         alloc: Global,
@@ -377,7 +399,8 @@ impl Shares {
         Ok(())
     }
 
-    /// A role has this weight from now on, 1 to 1,000; one that was given none has 1. `P2 OutOfMemory` changes nothing.
+    /// A role has this weight from now on, 1 to 1,000; one that was given none has 1.
+    /// `P2 OutOfMemory` changes nothing.
     pub fn weigh(&mut self, alloc: Global, role: &RoleName, weight: u16) -> Result<(), SharesFault>
         requires { IsWeight weight }
         ensures ok { OnOk result (self.new ≡ weighed role.now weight self.old) }
@@ -390,8 +413,8 @@ impl Shares {
         Ok(())
     }
 
-    /// A framework holds more, and so does its role; what a framework holds that no role was told of counts for nobody.
-    /// `P2 OutOfMemory` changes nothing.
+    /// A framework holds more, and so does its role; what a framework holds that no role was told
+    /// of counts for nobody. `P2 OutOfMemory` changes nothing.
     pub fn give(
         &mut self,
         alloc: Global,
@@ -413,7 +436,8 @@ impl Shares {
         Ok(())
     }
 
-    /// An agent no longer owns this. `P1 NotHeld` where all agents own less of some name; a refusal changes nothing.
+    /// An agent no longer owns this. `P1 NotHeld` where all agents own less of some name;
+    /// a refusal changes nothing.
     pub fn leave(&mut self, alloc: Global, total: &Resources) -> Result<(), SharesFault>
         ensures ok { OnOk result (self.new ≡ departed total.now self.old) }
         ensures covered { OnOk result (can_leave total.now self.old ≡ true) }
@@ -429,8 +453,8 @@ impl Shares {
         }
     }
 
-    /// A framework and its role hold less. `P1 NotHeld` where no role was told of the framework, or where it or its role holds
-    /// less of some name; a refusal changes nothing.
+    /// A framework and its role hold less. `P1 NotHeld` where no role was told of the framework,
+    /// or where it or its role holds less of some name; a refusal changes nothing.
     pub fn back(
         &mut self,
         alloc: Global,
@@ -439,7 +463,8 @@ impl Shares {
     ) -> Result<(), SharesFault>
         ensures ok { OnOk result (self.new ≡ returned framework resources.now self.old) }
         ensures covered { OnOk result (can_back framework resources.now self.old ≡ true) }
-        ensures refused { result ≡ Err SharesFault.NotHeld → can_back framework resources.now self.old ≡ false }
+        ensures refused { result ≡ Err SharesFault.NotHeld
+            → can_back framework resources.now self.old ≡ false }
         ensures err { OnErr result (self.new ≡ self.old) }
     {
         back_in(

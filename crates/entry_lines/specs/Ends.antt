@@ -25,10 +25,15 @@ abbrev pub last_state : List TaskState → TaskState
 last_state states = slice_index_or states (length states - 1) Staging
 
 unfoldable pub task_front : Job → List ℕ
-task_front job = codes "task " ++ (id_text 76 job.key ++ (32 ∷ (id_text 70 job.framework ++ (32 ∷ (job.name ++ 32 ∷ [])))))
+task_front job =
+    codes "task "
+    ++ (id_text 76 job.key ++ (32 ∷ (id_text 70 job.framework ++ (32 ∷ (job.name ++ 32 ∷ [])))))
 
 unfoldable pub updates_text : Updates → List ℕ
-updates_text u = state_text (last_state u.states) ++ (codes " acked " ++ (decimal u.acknowledged ++ (codes " of " ++ (decimal (length u.states) ++ 10 ∷ []))))
+updates_text u =
+    state_text (last_state u.states)
+    ++ (codes " acked " ++ (decimal u.acknowledged
+    ++ (codes " of " ++ (decimal (length u.states) ++ 10 ∷ []))))
 
 abbrev pub task_line : RecordedTask → List ℕ
 task_line t = task_front t.job ++ updates_text t.updates
@@ -36,10 +41,12 @@ task_line t = task_front t.job ++ updates_text t.updates
 unfoldable pub agent_front : List ℕ → List ℕ
 agent_front name = codes "agent " ++ (name ++ codes " owns")
 
--- what an agent owns, what of it is offered and what its live tasks hold, and the tasks of its record
+-- what an agent owns, what of it is offered and what its live tasks hold,
+-- and the tasks of its record
 abbrev pub agent_text : Durable → List Row → List Row → List ℕ
 agent_text kept offered live =
-    agent_front kept.name ++ amounts_text kept.total ++ codes " offered" ++ amounts_text offered ++ codes " live" ++ amounts_text live ++ codes "\n"
+    agent_front kept.name ++ amounts_text kept.total ++ codes " offered" ++ amounts_text offered
+    ++ codes " live" ++ amounts_text live ++ codes "\n"
     ++ flat_map task_line kept.tasks
 
 -- how many entries a history has

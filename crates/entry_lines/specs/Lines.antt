@@ -50,7 +50,8 @@ abbrev pub taken_lines : Option StreamEvent → List ℕ
 taken_lines None = []
 taken_lines (Some e) = event_line (codes "<") e
 
--- the events in the order made, the closed streams, the calls and mails, and the event that was taken
+-- the events in the order made, the closed streams, the calls and mails,
+-- and the event that was taken
 abbrev pub outputs_text : Step → ℕ → Outputs → List ℕ
 outputs_text step first o =
     flat_map (event_line (codes ">")) o.events
@@ -59,7 +60,9 @@ outputs_text step first o =
 
 -- an entry whose part ran out of memory has no lines
 abbrev pub entry_text : ℕ → ℕ → Entry → Option (List ℕ)
-entry_text number first e = option_map (λ verdict. line (number_front number) verdict ++ outputs_text e.step first e.outputs) (verdict_text e.verdict)
+entry_text number first e =
+    option_map (λ verdict. line (number_front number) verdict
+    ++ outputs_text e.step first e.outputs) (verdict_text e.verdict)
 
 -- the opening has the number 0; mails are numbered from 1
 abbrev pub opening_text : List Sent → List ℕ

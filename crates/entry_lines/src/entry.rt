@@ -11,6 +11,7 @@ use event_json::write_event;
 use mail_text::{to_agent_text, to_master_text};
 use master_state::StreamEvent;
 use names_core::StreamId;
+use shared_value::Shared;
 use std::alloc::{AllocError, Global};
 
 fn push_event(
@@ -68,13 +69,13 @@ fn push_one_sent(
             push_line(text, front.as_str(), word.as_bytes())
         }
         Sent::ToAgent(to) => {
-            let front = mail_front(alloc, number, to.agent.as_text())?;
-            let body = to_agent_text(alloc, to)?;
+            let front = mail_front(alloc, number, to.get().agent.as_text())?;
+            let body = to_agent_text(alloc, to.get())?;
             push_line(text, front.as_str(), body.as_bytes())
         }
         Sent::ToMaster(to) => {
             let front = mail_front(alloc, number, "master")?;
-            let body = to_master_text(alloc, to)?;
+            let body = to_master_text(alloc, to.get())?;
             push_line(text, front.as_str(), body.as_bytes())
         }
     }
@@ -101,13 +102,13 @@ fn push_sent(
 fn push_taken(
     alloc: Global,
     text: &mut Vec<u8>,
-    taken: &Option<StreamEvent>,
+    taken: &Option<Shared<StreamEvent>>,
 ) -> Result<(), AllocError>
     ensures { OnOk result (text.new.items ≡ text.old.items ++ taken_lines taken.now) }
 {
     match taken {
         None => Ok(()),
-        Some(event) => push_event(alloc, text, "<", event),
+        Some(event) => push_event(alloc, text, "<", event.get()),
     }
 }
 
@@ -119,7 +120,8 @@ fn push_outputs(
     outputs: &Outputs,
 ) -> Result<(), AllocError>
     requires { first + length outputs.now.sent < 2 ^ 64 }
-    ensures { OnOk result (text.new.items ≡ text.old.items ++ outputs_text step.now first outputs.now) }
+    ensures { OnOk result (text.new.items ≡ text.old.items
+        ++ outputs_text step.now first outputs.now) }
 {
     push_events(alloc, text, outputs.events.as_slice())?;
     push_closed(alloc, text, outputs.closed.as_slice())?;
@@ -137,9 +139,10 @@ fn numbered_line(alloc: Global, number: u64, told: &str) -> Result<Vec<u8>, Allo
     Ok(text)
 }
 
-/// The lines of the entry of the step with this number: its verdict; then the events, the closed streams, and the calls and mails, which
-/// are numbered from `first` on; then the event that it took. Of a call that was sent the type alone is told. `AllocError` too for an entry
-/// whose part ran out of memory, which has no lines.
+/// The lines of the entry of the step with this number: its verdict; then the events, the closed
+/// streams, and the calls and mails, which are numbered from `first` on; then the event that it
+/// took. Of a call that was sent the type alone is told. `AllocError` too for an entry whose part
+/// ran out of memory, which has no lines.
 pub fn entry_text(
     alloc: Global,
     number: u64,

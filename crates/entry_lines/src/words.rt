@@ -30,7 +30,7 @@ pub(crate) fn step_word(step: &Step) -> &'static str
     ensures { result.now ≡ step_word step.now }
 {
     match step {
-        Step::Send { call, .. } => call_word(call),
+        Step::Send { call, .. } => call_word(call.get()),
         _ => "",
     }
 }

@@ -15,10 +15,12 @@ type_data kind = only (codes "type") (string kind)
 
 -- a member before the type, and one behind it
 abbrev pub before_type : List ℕ → Data → List ℕ → Data
-before_type name body kind = object (member name body (member (codes "type") (string kind) no_members))
+before_type name body kind =
+    object (member name body (member (codes "type") (string kind) no_members))
 
 abbrev pub behind_type : List ℕ → List ℕ → Data → Data
-behind_type kind name body = object (member (codes "type") (string kind) (member name body no_members))
+behind_type kind name body =
+    object (member (codes "type") (string kind) (member name body no_members))
 
 unfoldable pub event_data : Event → Data
 event_data (Subscribed framework) =
@@ -26,11 +28,17 @@ event_data (Subscribed framework) =
     (member (codes "framework_id") (framework_data framework)
     (member (codes "heartbeat_interval_seconds") (number (unsigned 15)) no_members)))
     (codes "SUBSCRIBED")
-event_data (Offers offers) = before_type (codes "offers") (only (codes "offers") (array (items_of (map offer_data offers)))) (codes "OFFERS")
-event_data (Rescind offer) = before_type (codes "rescind") (only (codes "offer_id") (offer_id_data offer)) (codes "RESCIND")
-event_data (Update status) = behind_type (codes "UPDATE") (codes "update") (only (codes "status") (status_data status))
-event_data (Failure agent) = before_type (codes "failure") (only (codes "agent_id") (id_data agent)) (codes "FAILURE")
-event_data (Error message) = before_type (codes "error") (only (codes "message") (string message)) (codes "ERROR")
+event_data (Offers offers) =
+    before_type (codes "offers") (only (codes "offers") (array (items_of (map offer_data offers))))
+    (codes "OFFERS")
+event_data (Rescind offer) =
+    before_type (codes "rescind") (only (codes "offer_id") (offer_id_data offer)) (codes "RESCIND")
+event_data (Update status) =
+    behind_type (codes "UPDATE") (codes "update") (only (codes "status") (status_data status))
+event_data (Failure agent) =
+    before_type (codes "failure") (only (codes "agent_id") (id_data agent)) (codes "FAILURE")
+event_data (Error message) =
+    before_type (codes "error") (only (codes "message") (string message)) (codes "ERROR")
 event_data Heartbeat = type_data (codes "HEARTBEAT")
 
 abbrev pub event_text : Event → List ℕ

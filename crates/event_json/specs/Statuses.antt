@@ -29,4 +29,6 @@ status_object agent state task uuid = object
     (uuid_alone uuid))))
 
 abbrev pub status_data : TaskStatus → Data
-status_data status = status_object status.agent (state_text status.state) status.task (option_map update_text status.update)
+status_data status =
+    status_object status.agent (state_text status.state) status.task
+    (option_map update_text status.update)

@@ -70,7 +70,8 @@ fn put_offer(
     offer: &Offer,
 ) -> Result<(), AllocError>
     requires { members.old.entries ≡ [] }
-    ensures value { OnOk result (hosted offer.now.agent (members_view members.new.entries) ≡ offer_data offer.now) }
+    ensures value { OnOk result (hosted offer.now.agent (members_view members.new.entries)
+        ≡ offer_data offer.now) }
     ensures bounds { OnOk result (IsOffer offer.now) }
 {
     let agent = id_value(alloc, offer.agent.as_text())?;

@@ -42,7 +42,8 @@ fn put_agent(
     agent: &Option<AgentName>,
 ) -> Result<(), AllocError>
     requires { members.old.entries ≡ [] }
-    ensures value { OnOk result (members_view members.new.entries ≡ with_agent agent.now no_members) }
+    ensures value { OnOk result (members_view members.new.entries
+        ≡ with_agent agent.now no_members) }
     ensures name { OnOk result (IfSome agent.now IsName) }
 {
     let Some(agent) = agent else {
@@ -77,7 +78,8 @@ fn put_status(
     status: &TaskStatus,
 ) -> Result<(), AllocError>
     requires { members.old.entries ≡ [] }
-    ensures value { OnOk result (object (members_view members.new.entries) ≡ status_data status.now) }
+    ensures value { OnOk result (object (members_view members.new.entries)
+        ≡ status_data status.now) }
     ensures bounds { OnOk result (IsStatus status.now) }
 {
     put_agent(members, alloc, &status.agent)?;

@@ -8,7 +8,8 @@ use thiserror::Error;
 
 #[derive(Clone, Copy, Debug, Drop, PartialEq, Eq, Error)]
 pub enum FrameFault {
-    /// A size line is empty, has a byte that is no digit, has more than 20 digits, or names a number over 2^64 - 1.
+    /// A size line is empty, has a byte that is no digit, has more than 20 digits,
+    /// or names a number over 2^64 - 1.
     #[error("F1 BadSize")]
     BadSize,
     /// A size is over the limit.

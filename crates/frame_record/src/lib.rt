@@ -1,5 +1,5 @@
-//! RecordIO: records on a byte stream, each behind its size in decimal digits and a line feed, as the event streams and the
-//! calls of the Mesos scheduler HTTP API are framed.
+//! RecordIO: records on a byte stream, each behind its size in decimal digits and a line feed,
+//! as the event streams and the calls of the Mesos scheduler HTTP API are framed.
 #![tactic(auto)]
 
 mod fault;

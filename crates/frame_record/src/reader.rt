@@ -29,7 +29,8 @@ impl Model for Reader {
     ghost invariant = { λ r. IsGoing r.fault r.part };
 }
 
-/// What a piece brought: the records that it completed, in order, and the fault behind them, if one was met (`F1` or `F2`).
+/// What a piece brought: the records that it completed, in order, and the fault behind them,
+/// if one was met (`F1` or `F2`).
 #[derive(Drop)]
 pub struct Fed {
     pub records: Vec<Vec<u8>>,
@@ -67,10 +68,10 @@ impl Reader {
 
     /// Takes from the front of the next piece up to the end of the first record or fault, or all of
     /// it, and gives that record or fault (`F1` or `F2`). What it didn't take, the caller gives
-    /// again. A fault is told at the byte that makes it one. `Err` is want of memory (`F4`). After a
-    /// fault each later call takes nothing and gives the same one. The time is linear in the bytes
-    /// taken, however small the pieces are; data are copied into the record that is given, and room
-    /// for them is made as they come.
+    /// again. A fault is told at the byte that makes it one. `Err` is want of memory (`F4`). After
+    /// a fault each later call takes nothing and gives the same one. The time is linear in the
+    /// bytes taken, however small the pieces are; data are copied into the record that is given,
+    /// and room for them is made as they come.
     pub fn pull(&mut self, alloc: Global, piece: &[u8]) -> Result<Pulled, FrameFault>
         ensures taken { IfOk result (λ pulled. pulled.taken ≤ length piece.now) }
         // Over any pieces, the records are those of the whole text, and so is the fault.
@@ -89,8 +90,10 @@ impl Reader {
         ensures stays { IfSome self.old.fault (λ f. self.new.fault ≡ Some f) }
         ensures none { IfOk result (λ pulled.
             IfSome self.old.fault (λ f. (pulled.taken ≡ 0) × (pulled.item ≡ None))) }
-        ensures memory { IfErr result (λ e. (e ≡ FrameFault.OutOfMemory) × (self.new.fault ≡ Some FrameFault.OutOfMemory)) }
-        ensures again { self.old.fault ≡ Some FrameFault.OutOfMemory → result ≡ Err FrameFault.OutOfMemory }
+        ensures memory { IfErr result (λ e. (e ≡ FrameFault.OutOfMemory)
+            × (self.new.fault ≡ Some FrameFault.OutOfMemory)) }
+        ensures again { self.old.fault ≡ Some FrameFault.OutOfMemory
+            → result ≡ Err FrameFault.OutOfMemory }
     {
         if let Some(fault) = self.fault {
             return pulled_after(fault);
@@ -107,18 +110,22 @@ impl Reader {
         }
     }
 
-    /// Takes the next piece of the stream, of any length, and gives the records that are whole now. A fault is told at the byte that
-    /// makes it one. After `F1`, `F2` or `F4` each later call gives no record and the same fault. The time is linear in the bytes
-    /// fed, however small the pieces are.
+    /// Takes the next piece of the stream, of any length, and gives the records that are whole now.
+    /// A fault is told at the byte that makes it one. After `F1`, `F2` or `F4` each later call
+    /// gives no record and the same fault. The time is linear in the bytes fed, however small the
+    /// pieces are.
     pub fn feed(&mut self, alloc: Global, piece: &[u8]) -> Result<Fed, FrameFault>
         // Over any pieces, the records are those of the whole text, and so is the fault.
         ensures reads { IfOk result (λ fed. (text : List ℕ) (before : List (List ℕ)) → Reads text before self.old
             → Reads (text ++ piece.now) (before ++ bodies fed.records.items) self.new) }
         ensures fault { IfOk result (λ fed. fed.fault ≡ self.new.fault) }
         ensures stays { IfSome self.old.fault (λ f. self.new.fault ≡ Some f) }
-        ensures none { IfOk result (λ fed. IfSome self.old.fault (λ f. bodies fed.records.items ≡ [])) }
-        ensures memory { IfErr result (λ e. (e ≡ FrameFault.OutOfMemory) × (self.new.fault ≡ Some FrameFault.OutOfMemory)) }
-        ensures again { self.old.fault ≡ Some FrameFault.OutOfMemory → result ≡ Err FrameFault.OutOfMemory }
+        ensures none { IfOk result
+            (λ fed. IfSome self.old.fault (λ f. bodies fed.records.items ≡ [])) }
+        ensures memory { IfErr result (λ e. (e ≡ FrameFault.OutOfMemory)
+            × (self.new.fault ≡ Some FrameFault.OutOfMemory)) }
+        ensures again { self.old.fault ≡ Some FrameFault.OutOfMemory
+            → result ≡ Err FrameFault.OutOfMemory }
     {
         match self.fault {
             Some(FrameFault::OutOfMemory) => return Err(FrameFault::OutOfMemory),
@@ -160,7 +167,8 @@ impl Reader {
         }
     }
 
-    /// What the end of the stream says: `F3` inside a record or a size line, the fault that was met before, or nothing.
+    /// What the end of the stream says: `F3` inside a record or a size line,
+    /// the fault that was met before, or nothing.
     pub fn end(&self) -> Result<(), FrameFault>
         ensures { result ≡ end_of self.now }
     {
@@ -172,8 +180,8 @@ impl Reader {
     }
 }
 
-/// What waits for the rest of its record is never longer than a size line and the data of one record, so a reader without a fault
-/// keeps no more than that.
+/// What waits for the rest of its record is never longer than a size line and the data of one
+/// record, so a reader without a fault keeps no more than that.
 pub fn what_waits_is_short()
     ensures { (rest : List ℕ) → first rest ≡ partial → length rest ≤ 20 + limit }
 {}
@@ -186,5 +194,6 @@ pub fn first_records_stay()
 
 /// Behind a fault nothing more is read.
 pub fn fault_stays()
-    ensures { (text more : List ℕ) (records : List (List ℕ)) (s : State) (f : FrameFault) → s.fault ≡ Some f → Reads text records s → Reads (text ++ more) records s }
+    ensures { (text more : List ℕ) (records : List (List ℕ)) (s : State) (f : FrameFault)
+        → s.fault ≡ Some f → Reads text records s → Reads (text ++ more) records s }
 {}

@@ -32,7 +32,15 @@ abbrev pub changed : (Framework → Framework) → Numbered → Framework → Fr
 changed change id f = if same f.id id then change f else f
 
 abbrev pub subscriber : Numbered → List ℕ → Numbered → ℕ → Framework
-subscriber id role stream now = record { id = id; role = role; stream = Some stream; suppressed = false; last_beat = now; filters = [] }
+subscriber id role stream now =
+    record {
+      id = id;
+      role = role;
+      stream = Some stream;
+      suppressed = false;
+      last_beat = now;
+      filters = [];
+    }
 
 abbrev pub without_stream : Framework → Framework
 without_stream f = record f { stream = None }
@@ -44,11 +52,14 @@ abbrev pub suppressed : Framework → Framework
 suppressed f = record f { suppressed = true }
 
 abbrev pub with_filter : ℕ → ℕ → List ℕ → List Row → Framework → Framework
-with_filter now seconds agent refused f = record f { filters = add_filter now seconds f.filters agent refused }
+with_filter now seconds agent refused f =
+    record f { filters = add_filter now seconds f.filters agent refused }
 
 abbrev pub KeepsId : (Framework → Framework) → Type 0
 KeepsId change = (f : Framework) → (change f).id ≡ f.id
 
 abbrev pub PutsAreChanges : Type 0
-PutsAreChanges = (change : Framework → Framework) (fs : List Framework) (id : Numbered) (f : Framework) →
-    KeepsId change → are_ordered fs ≡ true → with_id id fs ≡ Some f → put_framework (change f) fs ≡ map (changed change id) fs
+PutsAreChanges =
+    (change : Framework → Framework) (fs : List Framework) (id : Numbered) (f : Framework) →
+    KeepsId change → are_ordered fs ≡ true → with_id id fs ≡ Some f
+    → put_framework (change f) fs ≡ map (changed change id) fs

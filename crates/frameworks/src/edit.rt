@@ -90,7 +90,8 @@ fn refuse_one(
     agent: &AgentName,
     refused: &Resources,
 ) -> Result<(), AllocError>
-    ensures ok { OnOk result (framework.new ≡ changed (with_filter now seconds agent.now refused.now) id framework.old) }
+    ensures ok { OnOk result (framework.new
+        ≡ changed (with_filter now seconds agent.now refused.now) id framework.old) }
     ensures id { framework.new.id ≡ framework.old.id }
 {
     if framework.id == id {
@@ -109,7 +110,8 @@ pub fn refuse_in(
     agent: &AgentName,
     refused: &Resources,
 ) -> Result<(), AllocError>
-    ensures ok { OnOk result (frameworks.new.items ≡ map (changed (with_filter now seconds agent.now refused.now) id) frameworks.old.items) }
+    ensures ok { OnOk result (frameworks.new.items
+        ≡ map (changed (with_filter now seconds agent.now refused.now) id) frameworks.old.items) }
     ensures ids { ids_of frameworks.new.items ≡ ids_of frameworks.old.items }
 {
     for i in 0..frameworks.len() {
@@ -126,7 +128,8 @@ pub fn clear_in(frameworks: &mut Vec<Framework>, agent: &AgentName)
     }
 }
 
-/// Whether the last heartbeat on the framework's stream, or its SUBSCRIBED, is 15 seconds ago or more.
+/// Whether the last heartbeat on the framework's stream, or its SUBSCRIBED,
+/// is 15 seconds ago or more.
 pub fn is_due(framework: &Framework, now: u32) -> bool
     ensures { result ≡ is_due now framework.now }
 {

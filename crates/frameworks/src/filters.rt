@@ -38,8 +38,8 @@ fn drop_oldest(filters: &mut Listed<Filter>, agent: &AgentName)
     }
 }
 
-/// A filter of what was refused, where there is something and the seconds aren't 0. The 65th on an agent takes the place
-/// of the oldest.
+/// A filter of what was refused, where there is something and the seconds aren't 0.
+/// The 65th on an agent takes the place of the oldest.
 pub fn add_filter(
     filters: &mut Listed<Filter>,
     alloc: Global,
@@ -104,8 +104,8 @@ fn any_refuses(filters: &[Filter], now: u32, agent: &AgentName, free: &Resources
     false
 }
 
-/// Whether what is free on an agent may be offered to the framework: it is subscribed, hasn't suppressed offers, and no
-/// filter of it that runs at this moment refuses it. It takes no memory.
+/// Whether what is free on an agent may be offered to the framework: it is subscribed, hasn't
+/// suppressed offers, and no filter of it that runs at this moment refuses it. It takes no memory.
 pub fn is_eligible(framework: &Framework, now: u32, agent: &AgentName, free: &Resources) -> bool
     ensures { result ≡ may_be_offered now agent.now free.now framework.now }
 {

@@ -1,5 +1,6 @@
-//! What the master knows of frameworks in its run: their streams and roles, what they suppressed, and which resources they
-//! refused for some seconds (Mesos scheduler HTTP API: SUBSCRIBE, SUPPRESS, REVIVE, DECLINE).
+//! What the master knows of frameworks in its run: their streams and roles, what they suppressed,
+//! and which resources they refused for some seconds (Mesos scheduler HTTP API: SUBSCRIBE,
+//! SUPPRESS, REVIVE, DECLINE).
 #![tactic(auto)]
 
 mod edit;

@@ -40,7 +40,8 @@ pub fn stream_in(frameworks: &[Framework], id: FrameworkId) -> Option<Option<Str
 
 /// The framework whose open stream this is.
 pub fn subscriber_in(frameworks: &[Framework], stream: StreamId) -> Option<FrameworkId>
-    ensures { result ≡ option_map (λ f. f.id) (find (λ f. is_stream stream f.stream) frameworks.now) }
+    ensures { result ≡ option_map (λ f. f.id)
+        (find (λ f. is_stream stream f.stream) frameworks.now) }
 {
     for framework in frameworks {
         if is_subscriber(framework, stream) {

@@ -69,7 +69,8 @@ impl Frameworks {
         look::subscriber_in(&self.items, stream)
     }
 
-    /// The framework is subscribed on a stream, with a role, and without filters. It is known from now on.
+    /// The framework is subscribed on a stream, with a role, and without filters.
+    /// It is known from now on.
     pub fn subscribe(
         &mut self,
         alloc: Global,
@@ -112,8 +113,8 @@ impl Frameworks {
         edit::suppress_in(&mut self.items, id);
     }
 
-    /// The framework refused resources of an agent for some seconds, from this moment on. It has at most 64 such filters
-    /// on an agent: another one takes the place of the oldest.
+    /// The framework refused resources of an agent for some seconds, from this moment on.
+    /// It has at most 64 such filters on an agent: another one takes the place of the oldest.
     pub fn refuse(
         &mut self,
         alloc: Global,
@@ -123,7 +124,8 @@ impl Frameworks {
         agent: &AgentName,
         refused: &Resources,
     ) -> Result<(), AllocError>
-        ensures { OnOk result (self.new ≡ map (changed (with_filter now seconds agent.now refused.now) id) self.old) }
+        ensures { OnOk result
+            (self.new ≡ map (changed (with_filter now seconds agent.now refused.now) id) self.old) }
     {
         edit::refuse_in(&mut self.items, alloc, id, now, seconds, agent, refused)
     }

@@ -25,4 +25,5 @@ taken stream events = map (λ event. nexts stream (Ok (Some event))) events
 
 -- the bench was asked 2^64 - 1 times
 abbrev pub TurnsSpent : {B : Type 0} → (B → Deed → B → Type 0) → B → B → Type 0
-TurnsSpent does old new = (deeds : List Deed) × Chain does old deeds new × (18446744073709551615 ≤ length deeds)
+TurnsSpent does old new =
+    (deeds : List Deed) × Chain does old deeds new × (18446744073709551615 ≤ length deeds)

@@ -24,11 +24,14 @@ sink_faults s = s.faults
 pub source_reads_nothing : (s : Source) → SourceReads s [] s
 source_reads_nothing s = refl
 
-pub source_reads_more : (a b c : Source) (x y : List ℕ) → SourceReads a x b → SourceReads b y c → SourceReads a (x ++ y) c
-source_reads_more a b c x y p q = p ∙ ap (λ (t : List ℕ). x ++ t) q ∙ sym (append_assoc x y c.bytes.items)
+pub source_reads_more : (a b c : Source) (x y : List ℕ) → SourceReads a x b → SourceReads b y c
+    → SourceReads a (x ++ y) c
+source_reads_more a b c x y p q =
+    p ∙ ap (λ (t : List ℕ). x ++ t) q ∙ sym (append_assoc x y c.bytes.items)
 
 pub sink_writes_nothing : (s : Sink) → SinkWrites s [] s
 sink_writes_nothing s = sym (append-nil s.bytes.items)
 
-pub sink_writes_more : (a b c : Sink) (x y : List ℕ) → SinkWrites a x b → SinkWrites b y c → SinkWrites a (x ++ y) c
+pub sink_writes_more : (a b c : Sink) (x y : List ℕ) → SinkWrites a x b → SinkWrites b y c
+    → SinkWrites a (x ++ y) c
 sink_writes_more a b c x y p q = q ∙ ap (λ (t : List ℕ). t ++ y) p ∙ append_assoc a.bytes.items x y

@@ -24,30 +24,42 @@ Sends (Err f) text sent = (k : ℕ) × (sent ≡ take k text)
 
 -- an event was taken and a beginning of it sent, or none could be taken
 pub data MissesEvent (stream : Numbered) (deeds : List Deed) (sent : List ℕ) : Type 0 where
-  unsent : (event : Event) (k : ℕ) → deeds ≡ nexts stream (Ok (Some event)) ∷ [] → sent ≡ take k (event_chunk (event_text event)) → MissesEvent stream deeds sent
-  untaken : (e : AllocError) → deeds ≡ nexts stream (Err e) ∷ [] → sent ≡ [] → MissesEvent stream deeds sent
+  unsent : (event : Event) (k : ℕ) → deeds ≡ nexts stream (Ok (Some event)) ∷ []
+      → sent ≡ take k (event_chunk (event_text event)) → MissesEvent stream deeds sent
+  untaken : (e : AllocError) → deeds ≡ nexts stream (Err e) ∷ [] → sent ≡ []
+      → MissesEvent stream deeds sent
 
 -- an event was taken and sent, or the stream is closed
 abbrev pub TakesEvent : Result Bool LinkFault → Numbered → List Deed → List ℕ → Type 0
-TakesEvent (Ok true) stream deeds sent = (event : Event) × (deeds ≡ nexts stream (Ok (Some event)) ∷ []) × (sent ≡ event_chunk (event_text event))
+TakesEvent (Ok true) stream deeds sent =
+    (event : Event) × (deeds ≡ nexts stream (Ok (Some event)) ∷ [])
+    × (sent ≡ event_chunk (event_text event))
 TakesEvent (Ok false) stream deeds sent = (deeds ≡ nexts stream (Ok None) ∷ []) × (sent ≡ [])
 TakesEvent (Err f) stream deeds sent = MissesEvent stream deeds sent
 
 -- a stream's events were taken and sent to its end, or it broke off and is to be hung up
 abbrev pub Streams : Result Unit LinkFault → Numbered → List Deed → List ℕ → Type 0
-Streams (Ok u) stream deeds sent = (events : List Event) × (deeds ≡ taken stream events ++ nexts stream (Ok None) ∷ []) × (sent ≡ stream_text stream events)
-Streams (Err f) stream deeds sent = (events : List Event) × (last : List Deed) × (k : ℕ) × IsLastAsked stream last
+Streams (Ok u) stream deeds sent =
+    (events : List Event) × (deeds ≡ taken stream events ++ nexts stream (Ok None) ∷ [])
+    × (sent ≡ stream_text stream events)
+Streams (Err f) stream deeds sent =
+    (events : List Event) × (last : List Deed) × (k : ℕ) × IsLastAsked stream last
     × (deeds ≡ taken stream events ++ last) × (sent ≡ take k (stream_text stream events))
 
 -- the same of the part behind the response's head
 abbrev pub SendsEvents : Result Unit LinkFault → Numbered → List Deed → List ℕ → Type 0
-SendsEvents (Ok u) stream deeds sent = (events : List Event) × (deeds ≡ taken stream events ++ nexts stream (Ok None) ∷ []) × (sent ≡ chunks events ++ last_chunk)
-SendsEvents (Err f) stream deeds sent = (events : List Event) × (last : List Deed) × (k : ℕ) × IsLastAsked stream last
+SendsEvents (Ok u) stream deeds sent =
+    (events : List Event) × (deeds ≡ taken stream events ++ nexts stream (Ok None) ∷ [])
+    × (sent ≡ chunks events ++ last_chunk)
+SendsEvents (Err f) stream deeds sent =
+    (events : List Event) × (last : List Deed) × (k : ℕ) × IsLastAsked stream last
     × (deeds ≡ taken stream events ++ last) × (sent ≡ take k (chunks events ++ last_chunk))
 
 -- a stream was sent to its end, or hung up
 abbrev pub ServesStream : Result Unit LinkFault → Numbered → List Deed → List ℕ → Type 0
-ServesStream (Ok u) stream deeds sent = (events : List Event) × (deeds ≡ taken stream events ++ nexts stream (Ok None) ∷ []) × (sent ≡ stream_text stream events)
+ServesStream (Ok u) stream deeds sent =
+    (events : List Event) × (deeds ≡ taken stream events ++ nexts stream (Ok None) ∷ [])
+    × (sent ≡ stream_text stream events)
 ServesStream (Err f) stream deeds sent = BreaksStream stream deeds sent
 
 -- a refusal was sent that ends the connection, or a beginning of it
@@ -57,8 +69,10 @@ RefusesLast (Err f) refusal sent = (k : ℕ) × (sent ≡ take k (refused refusa
 
 -- a call was answered, or its response broke off
 abbrev pub RespondsToCall : Result Bool LinkFault → Plan → Call → List Deed → List ℕ → Type 0
-RespondsToCall (Ok on) plan call deeds sent = (body : List ℕ) → read_call body ≡ Ok call → Responds plan body on deeds sent
-RespondsToCall (Err f) plan call deeds sent = (body : List ℕ) → read_call body ≡ Ok call → Stalls plan body deeds sent
+RespondsToCall (Ok on) plan call deeds sent =
+    (body : List ℕ) → read_call body ≡ Ok call → Responds plan body on deeds sent
+RespondsToCall (Err f) plan call deeds sent =
+    (body : List ℕ) → read_call body ≡ Ok call → Stalls plan body deeds sent
 
 -- a body was answered, or its response broke off
 abbrev pub RespondsTo : Result Bool LinkFault → Plan → List ℕ → List Deed → List ℕ → Type 0
@@ -66,30 +80,41 @@ RespondsTo (Ok on) plan body deeds sent = Responds plan body on deeds sent
 RespondsTo (Err f) plan body deeds sent = Stalls plan body deeds sent
 
 -- a request whose head was taken broke off
-pub data StallsPlan (plan : Plan) (input : List ℕ) (ended : Type 0) (deeds : List Deed) (sent : List ℕ) : Type 0 where
-  waits_body : (k : ℕ) → deeds ≡ [] → sent ≡ take k (interim plan) → StallsPlan plan input ended deeds sent
-  refuses_partly : (fault : RequestFault) (k : ℕ) → RefusesBody plan.body input ended fault → deeds ≡ [] → sent ≡ interim plan ++ take k (refused (refusals.Request fault))
+pub data StallsPlan (plan : Plan) (input : List ℕ) (ended : Type 0) (deeds : List Deed)
+    (sent : List ℕ) : Type 0 where
+  waits_body : (k : ℕ) → deeds ≡ [] → sent ≡ take k (interim plan)
       → StallsPlan plan input ended deeds sent
-  stalls_response : (body rest later : List ℕ) → HasBody plan.body input body rest → Stalls plan body deeds later → sent ≡ interim plan ++ later
+  refuses_partly : (fault : RequestFault) (k : ℕ) → RefusesBody plan.body input ended fault
+      → deeds ≡ [] → sent ≡ interim plan ++ take k (refused (refusals.Request fault))
+      → StallsPlan plan input ended deeds sent
+  stalls_response : (body rest later : List ℕ) → HasBody plan.body input body rest
+      → Stalls plan body deeds later → sent ≡ interim plan ++ later
       → StallsPlan plan input ended deeds sent
 
 -- a request whose head was taken ends the connection
-pub data EndsPlan (plan : Plan) (input : List ℕ) (ended : Type 0) (deeds : List Deed) (sent : List ℕ) : Type 0 where
-  refuses_body : (fault : RequestFault) → RefusesBody plan.body input ended fault → deeds ≡ [] → sent ≡ interim plan ++ refused (refusals.Request fault)
+pub data EndsPlan (plan : Plan) (input : List ℕ) (ended : Type 0) (deeds : List Deed)
+    (sent : List ℕ) : Type 0 where
+  refuses_body : (fault : RequestFault) → RefusesBody plan.body input ended fault → deeds ≡ []
+      → sent ≡ interim plan ++ refused (refusals.Request fault)
       → EndsPlan plan input ended deeds sent
-  responds_last : (body rest text : List ℕ) → HasBody plan.body input body rest → Responds plan body false deeds text → sent ≡ interim plan ++ text
+  responds_last : (body rest text : List ℕ) → HasBody plan.body input body rest
+      → Responds plan body false deeds text → sent ≡ interim plan ++ text
       → EndsPlan plan input ended deeds sent
 
 -- a request whose head was taken was answered
-abbrev pub RespondsToPlan : Result Bool LinkFault → Plan → List ℕ → Type 0 → List Deed → List ℕ → List ℕ → Type 0
-RespondsToPlan (Ok true) plan input ended deeds sent rest = (body : List ℕ) × (text : List ℕ) × HasBody plan.body input body rest × Responds plan body true deeds text
+abbrev pub RespondsToPlan : Result Bool LinkFault → Plan → List ℕ → Type 0 → List Deed → List ℕ
+    → List ℕ → Type 0
+RespondsToPlan (Ok true) plan input ended deeds sent rest =
+    (body : List ℕ) × (text : List ℕ) × HasBody plan.body input body rest
+    × Responds plan body true deeds text
     × (sent ≡ interim plan ++ text)
 RespondsToPlan (Ok false) plan input ended deeds sent rest = EndsPlan plan input ended deeds sent
 RespondsToPlan (Err f) plan input ended deeds sent rest = StallsPlan plan input ended deeds sent
 
 -- one turn: it goes on behind an answer, ends the connection, or breaks off
 abbrev pub Turns : Result Bool LinkFault → List ℕ → Type 0 → List Deed → List ℕ → List ℕ → Type 0
-Turns (Ok true) input ended deeds sent rest = (deed : Deed) × (deeds ≡ deed ∷ []) × Answers input deed sent rest
+Turns (Ok true) input ended deeds sent rest =
+    (deed : Deed) × (deeds ≡ deed ∷ []) × Answers input deed sent rest
 Turns (Ok false) input ended deeds sent rest = Ends input ended deeds sent
 Turns (Err f) input ended deeds sent rest = Begun input ended deeds sent
 

@@ -27,8 +27,8 @@ pub trait Bench {
     fn call(&mut self, stream: Option<StreamId>, call: Call) -> Answer
         ensures { does self.old (calls stream call result) self.new };
 
-    /// Waits for the next event of a stream that this bench opened, and takes it. `None` once the stream is closed and all its
-    /// events were taken.
+    /// Waits for the next event of a stream that this bench opened, and takes it.
+    /// `None` once the stream is closed and all its events were taken.
     fn next_events(&mut self, stream: StreamId) -> Result<Option<Event>, AllocError>
         ensures { does self.old (nexts stream result) self.new };
 

@@ -27,7 +27,8 @@ fn refuse_last<O: Outlet>(
     refusal: Refusal,
 ) -> Result<bool, LinkFault>
     requires { O.faults outlet.old < u64.MAX }
-    ensures sent { (sent : List ℕ) × O.writes outlet.old sent outlet.new × RefusesLast result refusal sent }
+    ensures sent { (sent : List ℕ) × O.writes outlet.old sent outlet.new
+        × RefusesLast result refusal sent }
     ensures sound { OnOk result (O.faults outlet.new ≡ O.faults outlet.old) }
     ensures link { IsErrOf result Failed → O.faults outlet.old < O.faults outlet.new }
 {
@@ -50,7 +51,8 @@ fn answer_call<O: Outlet, B: Bench, G: Gate>(
     ensures answered { (deeds : List Deed) × (sent : List ℕ) × Chain B.does bench.old deeds bench.new × O.writes outlet.old sent outlet.new
         × RespondsToCall result plan call deeds sent }
     ensures sound { OnOk result (O.faults outlet.new ≡ O.faults outlet.old) }
-    ensures link { IsErrOf result Failed → (O.faults outlet.old < O.faults outlet.new) ⊎ TurnsSpent B.does bench.old bench.new }
+    ensures link { IsErrOf result Failed → (O.faults outlet.old < O.faults outlet.new)
+        ⊎ TurnsSpent B.does bench.old bench.new }
 {
     let n = gate.before();
     let answer = bench.call(plan.stream, call);
@@ -81,7 +83,8 @@ fn answer_body<O: Outlet, B: Bench, G: Gate>(
     ensures answered { (deeds : List Deed) × (sent : List ℕ) × Chain B.does bench.old deeds bench.new × O.writes outlet.old sent outlet.new
         × RespondsTo result plan body.now deeds sent }
     ensures sound { OnOk result (O.faults outlet.new ≡ O.faults outlet.old) }
-    ensures link { IsErrOf result Failed → (O.faults outlet.old < O.faults outlet.new) ⊎ TurnsSpent B.does bench.old bench.new }
+    ensures link { IsErrOf result Failed → (O.faults outlet.old < O.faults outlet.new)
+        ⊎ TurnsSpent B.does bench.old bench.new }
 {
     match read_call(alloc, body) {
         Ok(call) => answer_call(alloc, outlet, bench, gate, plan, call),
@@ -92,7 +95,8 @@ fn answer_body<O: Outlet, B: Bench, G: Gate>(
 /// Sends the interim response, where the client waits for it.
 fn send_interim<O: Outlet>(outlet: &mut O, expects: bool) -> Result<(), LinkFault>
     requires { O.faults outlet.old < u64.MAX }
-    ensures sent { (sent : List ℕ) × O.writes outlet.old sent outlet.new × Sends result (if expects then continue_response else []) sent }
+    ensures sent { (sent : List ℕ) × O.writes outlet.old sent outlet.new
+        × Sends result (if expects then continue_response else []) sent }
     ensures sound { OnOk result (O.faults outlet.new ≡ O.faults outlet.old) }
     ensures link { IsErrOf result Failed → O.faults outlet.old < O.faults outlet.new }
 {
@@ -118,7 +122,8 @@ fn answer_plan<I: Inlet, O: Outlet, B: Bench, G: Gate>(
     ensures answered { (more : List ℕ) × (deeds : List Deed) × (sent : List ℕ) × I.reads inlet.old more inlet.new
         × Chain B.does bench.old deeds bench.new × O.writes outlet.old sent outlet.new
         × RespondsToPlan result plan (unread.old ++ more) (I.ended inlet.new) deeds sent unread.new }
-    ensures sound { OnOk result ((I.faults inlet.new ≡ I.faults inlet.old) × (O.faults outlet.new ≡ O.faults outlet.old)) }
+    ensures sound { OnOk result ((I.faults inlet.new ≡ I.faults inlet.old)
+        × (O.faults outlet.new ≡ O.faults outlet.old)) }
     ensures link { IsErrOf result Failed → (I.faults inlet.old < I.faults inlet.new) ⊎ (O.faults outlet.old < O.faults outlet.new)
         ⊎ TurnsSpent B.does bench.old bench.new }
 {
@@ -147,7 +152,8 @@ fn turn<I: Inlet, O: Outlet, B: Bench, G: Gate>(
     ensures turned { (more : List ℕ) × (deeds : List Deed) × (sent : List ℕ) × I.reads inlet.old more inlet.new
         × Chain B.does bench.old deeds bench.new × O.writes outlet.old sent outlet.new
         × Turns result (unread.old ++ more) (I.ended inlet.new) deeds sent unread.new }
-    ensures sound { OnOk result ((I.faults inlet.new ≡ I.faults inlet.old) × (O.faults outlet.new ≡ O.faults outlet.old)) }
+    ensures sound { OnOk result ((I.faults inlet.new ≡ I.faults inlet.old)
+        × (O.faults outlet.new ≡ O.faults outlet.old)) }
     ensures link { IsErrOf result Failed → (I.faults inlet.old < I.faults inlet.new) ⊎ (O.faults outlet.old < O.faults outlet.new)
         ⊎ TurnsSpent B.does bench.old bench.new }
 {
@@ -159,9 +165,9 @@ fn turn<I: Inlet, O: Outlet, B: Bench, G: Gate>(
     }
 }
 
-/// Serves one connection until it ends. Requests may follow one another without waiting (RFC 9112, section 9.3.2). What was
-/// read behind the last one that was answered is lost. An `Err` ends the connection too; a stream that it had opened is hung
-/// up by then.
+/// Serves one connection until it ends. Requests may follow one another without waiting (RFC 9112,
+/// section 9.3.2). What was read behind the last one that was answered is lost. An `Err` ends the
+/// connection too; a stream that it had opened is hung up by then.
 pub fn serve_conn<I: Inlet, O: Outlet, B: Bench, G: Gate>(
     alloc: Global,
     inlet: &mut I,

@@ -49,7 +49,8 @@ impl Inlet for Source {
     ghost reads_more = { source_reads_more };
 }
 
-/// Takes bytes at most `most` at a time, and fails once `turns` writes were made, or where memory is refused.
+/// Takes bytes at most `most` at a time, and fails once `turns` writes were made,
+/// or where memory is refused.
 #[derive(Drop)]
 pub struct Sink {
     pub bytes: Vec<u8>,

@@ -10,7 +10,8 @@ pub trait Outlet {
     /// How many writes failed.
     ghost faults: { Self → ℕ };
 
-    /// Writes once, at least one byte from the front of the piece, and says how many. `None` is a write that failed.
+    /// Writes once, at least one byte from the front of the piece, and says how many.
+    /// `None` is a write that failed.
     fn write(&mut self, piece: &[u8]) -> Option<usize>
         requires some { 0 < length piece.now }
         requires countable { faults self.old < u64.MAX }

@@ -17,7 +17,8 @@ use std::alloc::Global;
 /// Writes a text whole.
 pub fn send<O: Outlet>(outlet: &mut O, text: &[u8]) -> Result<(), LinkFault>
     requires { O.faults outlet.old < u64.MAX }
-    ensures sent { (sent : List ℕ) × O.writes outlet.old sent outlet.new × Sends result text.now sent }
+    ensures sent { (sent : List ℕ) × O.writes outlet.old sent outlet.new
+        × Sends result text.now sent }
     ensures sound { OnOk result (O.faults outlet.new ≡ O.faults outlet.old) }
     ensures link { IsErrOf result Failed → O.faults outlet.old < O.faults outlet.new }
 {
@@ -34,7 +35,8 @@ pub fn send<O: Outlet>(outlet: &mut O, text: &[u8]) -> Result<(), LinkFault>
 /// Writes the response to a request that is refused.
 pub fn refuse<O: Outlet>(alloc: Global, outlet: &mut O, refusal: Refusal) -> Result<(), LinkFault>
     requires { O.faults outlet.old < u64.MAX }
-    ensures sent { (sent : List ℕ) × O.writes outlet.old sent outlet.new × Sends result (refused refusal) sent }
+    ensures sent { (sent : List ℕ) × O.writes outlet.old sent outlet.new
+        × Sends result (refused refusal) sent }
     ensures sound { OnOk result (O.faults outlet.new ≡ O.faults outlet.old) }
     ensures link { IsErrOf result Failed → O.faults outlet.old < O.faults outlet.new }
 {
@@ -47,7 +49,8 @@ pub fn refuse<O: Outlet>(alloc: Global, outlet: &mut O, refusal: Refusal) -> Res
 /// Writes a text and a line end.
 fn send_line<O: Outlet>(outlet: &mut O, text: &[u8]) -> Result<(), LinkFault>
     requires { O.faults outlet.old < u64.MAX }
-    ensures sent { (sent : List ℕ) × O.writes outlet.old sent outlet.new × Sends result (text.now ++ 13 ∷ 10 ∷ []) sent }
+    ensures sent { (sent : List ℕ) × O.writes outlet.old sent outlet.new
+        × Sends result (text.now ++ 13 ∷ 10 ∷ []) sent }
     ensures sound { OnOk result (O.faults outlet.new ≡ O.faults outlet.old) }
     ensures link { IsErrOf result Failed → O.faults outlet.old < O.faults outlet.new }
 {
@@ -84,7 +87,8 @@ fn send_parts<O: Outlet>(
 /// Writes the chunk of an event with this text, which isn't copied.
 fn send_chunk<O: Outlet>(alloc: Global, outlet: &mut O, text: &[u8]) -> Result<(), LinkFault>
     requires { O.faults outlet.old < u64.MAX }
-    ensures sent { (sent : List ℕ) × O.writes outlet.old sent outlet.new × Sends result (event_chunk text.now) sent }
+    ensures sent { (sent : List ℕ) × O.writes outlet.old sent outlet.new
+        × Sends result (event_chunk text.now) sent }
     ensures sound { OnOk result (O.faults outlet.new ≡ O.faults outlet.old) }
     ensures link { IsErrOf result Failed → O.faults outlet.old < O.faults outlet.new }
 {
@@ -102,7 +106,8 @@ fn send_chunk<O: Outlet>(alloc: Global, outlet: &mut O, text: &[u8]) -> Result<(
 /// Writes the chunk of an event.
 pub fn send_event<O: Outlet>(alloc: Global, outlet: &mut O, event: &Event) -> Result<(), LinkFault>
     requires { O.faults outlet.old < u64.MAX }
-    ensures sent { (sent : List ℕ) × O.writes outlet.old sent outlet.new × Sends result (event_chunk (event_text event.now)) sent }
+    ensures sent { (sent : List ℕ) × O.writes outlet.old sent outlet.new
+        × Sends result (event_chunk (event_text event.now)) sent }
     ensures sound { OnOk result (O.faults outlet.new ≡ O.faults outlet.old) }
     ensures link { IsErrOf result Failed → O.faults outlet.old < O.faults outlet.new }
 {

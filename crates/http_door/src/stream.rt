@@ -47,7 +47,8 @@ fn send_events<O: Outlet, B: Bench>(
     ensures sent { (deeds : List Deed) × (sent : List ℕ) × Chain B.does bench.old deeds bench.new × O.writes outlet.old sent outlet.new
         × SendsEvents result stream deeds sent }
     ensures sound { OnOk result (O.faults outlet.new ≡ O.faults outlet.old) }
-    ensures link { IsErrOf result Failed → (O.faults outlet.old < O.faults outlet.new) ⊎ TurnsSpent B.does bench.old bench.new }
+    ensures link { IsErrOf result Failed → (O.faults outlet.old < O.faults outlet.new)
+        ⊎ TurnsSpent B.does bench.old bench.new }
 {
     for _turn in 0..u64::MAX {
         match send_next(alloc, outlet, bench, stream) {
@@ -70,7 +71,8 @@ fn send_stream<O: Outlet, B: Bench>(
     ensures sent { (deeds : List Deed) × (sent : List ℕ) × Chain B.does bench.old deeds bench.new × O.writes outlet.old sent outlet.new
         × Streams result stream deeds sent }
     ensures sound { OnOk result (O.faults outlet.new ≡ O.faults outlet.old) }
-    ensures link { IsErrOf result Failed → (O.faults outlet.old < O.faults outlet.new) ⊎ TurnsSpent B.does bench.old bench.new }
+    ensures link { IsErrOf result Failed → (O.faults outlet.old < O.faults outlet.new)
+        ⊎ TurnsSpent B.does bench.old bench.new }
 {
     let head = match subscribed_response(alloc, stream) {
         Ok(head) => head,
@@ -93,7 +95,8 @@ pub fn serve_stream<O: Outlet, B: Bench>(
     ensures sent { (deeds : List Deed) × (sent : List ℕ) × Chain B.does bench.old deeds bench.new × O.writes outlet.old sent outlet.new
         × ServesStream result stream deeds sent }
     ensures sound { OnOk result (O.faults outlet.new ≡ O.faults outlet.old) }
-    ensures link { IsErrOf result Failed → (O.faults outlet.old < O.faults outlet.new) ⊎ TurnsSpent B.does bench.old bench.new }
+    ensures link { IsErrOf result Failed → (O.faults outlet.old < O.faults outlet.new)
+        ⊎ TurnsSpent B.does bench.old bench.new }
 {
     match send_stream(alloc, outlet, bench, stream) {
         Ok(()) => Ok(()),

@@ -1,10 +1,12 @@
--- Where a part of a request ends: a head, a chunk's line, trailers. A line ends with a line feed, with or without a CR before it.
+-- Where a part of a request ends: a head, a chunk's line, trailers. A line ends with a line feed,
+-- with or without a CR before it.
 use Rattle.std.specs.Prelude.{◌≡◌, ℕ, ◌+◌, ◌≤◌, Bool, false, List, [], ◌∷◌, length, take, Option, Some, None, if◌then◌else◌, ◌==◌}
 use Rattle.http_head.specs.declared.cut.Place.{Place}
 use Rattle.http_head.specs.declared.cut.Place.TheVariants.{Front, FrontCr, Inside, Start, StartCr, Line}
 use Rattle.http_head.specs.declared.cut.Scan.{Scan}
 
--- a head, a chunk's line and trailers have at most so many bytes each, line ends and empty lines counted
+-- a head, a chunk's line and trailers have at most so many bytes each,
+-- line ends and empty lines counted
 abbrev pub max_part : ℕ
 max_part = 16384
 
@@ -34,10 +36,12 @@ place_behind place (b ∷ bs) = place_behind (place_after place b) bs
 -- after n bytes, at this place: how many bytes lead to the part's end
 unfoldable pub cut_after : ℕ → Place → List ℕ → Option ℕ
 cut_after n place [] = None
-cut_after n place (b ∷ bs) = if is_last place b then Some (n + 1) else cut_after (n + 1) (place_after place b) bs
+cut_after n place (b ∷ bs) =
+    if is_last place b then Some (n + 1) else cut_after (n + 1) (place_after place b) bs
 
--- how many bytes the part has that begins at this place: from `Front` a head, which is empty lines, lines and an empty line; from
--- `Start` trailers, which are lines and an empty line; from `Line` one line
+-- how many bytes the part has that begins at this place: from `Front` a head, which is empty lines,
+-- lines and an empty line; from `Start` trailers, which are lines and an empty line; from `Line`
+-- one line
 abbrev pub cut_len : Place → List ℕ → Option ℕ
 cut_len place bytes = cut_after 0 place bytes
 

@@ -32,7 +32,8 @@ IsNoHead text = (h : RequestHead) → ¬ (IsHead text h)
 -- the values of the fields with this name, in order
 abbrev pub values_of : List ℕ → List (List ℕ × List ℕ) → List (List ℕ)
 values_of name [] = []
-values_of name (f ∷ fields) = if eq_ignore_case f.0 name then f.1 ∷ values_of name fields else values_of name fields
+values_of name (f ∷ fields) =
+    if eq_ignore_case f.0 name then f.1 ∷ values_of name fields else values_of name fields
 
 -- ---- the length fields
 
@@ -43,7 +44,8 @@ is_number text = nat_lt 0 (length text) && list_all is_ascii_digit text
 -- the body that a Content-Length gives
 abbrev pub sized_by : List ℕ → Result Body RequestFault
 sized_by text =
-    if is_number text then (if nat_le (digits_value 10 text) max_body then Ok (Sized (digits_value 10 text)) else Err TooLong) else Err BadBody
+    if is_number text then (if nat_le (digits_value 10 text) max_body
+    then Ok (Sized (digits_value 10 text)) else Err TooLong) else Err BadBody
 
 -- the body that a Transfer-Encoding gives
 abbrev pub coded_by : List ℕ → Result Body RequestFault
@@ -112,7 +114,8 @@ planned (Ok body) fields = Ok (record {
 abbrev pub fields_check : List (List ℕ × List ℕ) → Result Plan RequestFault
 fields_check fields =
     if not (has_json (values_of (codes "content-type") fields)) then Err WrongMedia
-    else planned (body_by (values_of (codes "content-length") fields) (values_of (codes "transfer-encoding") fields)) fields
+    else planned (body_by (values_of (codes "content-length") fields)
+    (values_of (codes "transfer-encoding") fields)) fields
 
 abbrev pub check_of : ℕ → List ℕ → List ℕ → List (List ℕ × List ℕ) → Result Plan RequestFault
 check_of minor target method fields =

@@ -3,7 +3,8 @@
 ghost use Rattle.std.specs.Prelude.{◌≡◌, None, length};
 ghost use Rattle.http_head.specs.Cuts.{is_last, place_after, cut_len, HasSeen};
 
-/// The most bytes of a head, of a chunk's line and of trailers, with their line ends and empty lines.
+/// The most bytes of a head, of a chunk's line and of trailers,
+/// with their line ends and empty lines.
 pub const MAX_PART: usize = 16_384;
 
 /// Where in a part of a request the next byte stands.
@@ -45,7 +46,8 @@ impl Place {
     }
 }
 
-/// How far a text was looked through for the end of the part that it begins with, so that no byte is looked at twice.
+/// How far a text was looked through for the end of the part that it begins with,
+/// so that no byte is looked at twice.
 #[derive(Clone, Copy, Drop)]
 pub struct Scan {
     /// What begins the part.
@@ -70,7 +72,8 @@ impl Scan {
         }
     }
 
-    /// How many bytes the part has, once its end is there. Only bytes that weren't looked at before are looked at.
+    /// How many bytes the part has, once its end is there.
+    /// Only bytes that weren't looked at before are looked at.
     pub fn look(&mut self, bytes: &[u8]) -> Option<usize>
         requires { HasSeen self.old bytes.now }
         ensures cut { result ≡ cut_len self.old.start bytes.now }

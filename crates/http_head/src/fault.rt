@@ -10,7 +10,8 @@ use std::fmt;
 /// Why a request is refused before its call is read.
 #[derive(Clone, Copy, Debug, Drop, PartialEq, Eq)]
 pub enum RequestFault {
-    /// The head doesn't parse, is cut short, is over its limits, or is of another version than HTTP/1.1.
+    /// The head doesn't parse, is cut short, is over its limits,
+    /// or is of another version than HTTP/1.1.
     BadHead,
     /// The target isn't `/api/v1/scheduler`.
     NoSuchPath,

@@ -41,7 +41,8 @@ fn check(
     headers: &[HeaderSpan],
 ) -> Result<Plan, RequestFault>
     requires { All (IsHeaderWithin (length buf.now)) headers.now }
-    ensures value { result ≡ check_of minor target.now method.now (map (header_bytes buf.now) headers.now) }
+    ensures value { result ≡ check_of minor target.now method.now
+        (map (header_bytes buf.now) headers.now) }
     ensures limit { IfOk result (λ p. IsWithinLimit p.body) }
 {
     if minor != 1 {
@@ -56,11 +57,13 @@ fn check(
     plan_of(buf, headers)
 }
 
-/// Judges a head that was cut, by `httparse`'s grammar and then by the checks, of which the first that fails answers.
+/// Judges a head that was cut, by `httparse`'s grammar and then by the checks,
+/// of which the first that fails answers.
 pub fn judge_head(text: &[u8]) -> Result<Plan, RequestFault>
     ensures limit { IfOk result (λ p. IsWithinLimit p.body) }
     ensures ok { IfOk result (λ p. (h : RequestHead) × IsHead text.now h × (head_check h ≡ Ok p)) }
-    ensures err { IfErr result (λ r. ((r ≡ BadHead) × IsNoHead text.now) ⊎ ((h : RequestHead) × IsHead text.now h × (head_check h ≡ Err r))) }
+    ensures err { IfErr result (λ r. ((r ≡ BadHead) × IsNoHead text.now)
+        ⊎ ((h : RequestHead) × IsHead text.now h × (head_check h ≡ Err r))) }
 {
     let mut headers = [EMPTY_HEADER_SPAN; 64];
     let Ok(Status::Complete(head)) = parse_request(text, &mut headers) else {

@@ -1,4 +1,5 @@
-//! The parts of a request that are judged whole: its head, the lines of its chunks, and its trailers (RFC 9112).
+//! The parts of a request that are judged whole: its head, the lines of its chunks,
+//! and its trailers (RFC 9112).
 #![tactic(auto)]
 
 mod cut;

@@ -30,7 +30,8 @@ pub record HasChunk (input bytes rest : List ℕ) : Type 0 where
 -- the input is chunks with these data, one after another, and then the rest
 abbrev pub HasChunks : List (List ℕ) → List ℕ → List ℕ → Type 0
 HasChunks [] input rest = input ≡ rest
-HasChunks (bytes ∷ chunks) input rest = (after : List ℕ) × HasChunk input bytes after × HasChunks chunks after rest
+HasChunks (bytes ∷ chunks) input rest =
+    (after : List ℕ) × HasChunk input bytes after × HasChunks chunks after rest
 
 abbrev pub joined : List (List ℕ) → List ℕ
 joined [] = []
@@ -64,26 +65,33 @@ HasBody Chunked input body rest = HasChunked input body rest
 pub data LacksTrailers (input : List ℕ) (ended : Type 0) : Type 0 where
   overlong_trailers : IsOverlong Start input → LacksTrailers input ended
   unended_trailers : IsUnended Start input ended → LacksTrailers input ended
-  unparsed_trailers : (text rest : List ℕ) → HasPart Start input text rest → ¬ (IsTrailers text) → LacksTrailers input ended
+  unparsed_trailers : (text rest : List ℕ) → HasPart Start input text rest → ¬ (IsTrailers text)
+      → LacksTrailers input ended
 
 -- the input isn't a chunk's line
 pub data LacksLine (input : List ℕ) (ended : Type 0) : Type 0 where
   overlong_line : IsOverlong Line input → LacksLine input ended
   unended_line : IsUnended Line input ended → LacksLine input ended
-  unparsed_line : (text rest : List ℕ) → HasPart Line input text rest → ((l : ChunkLine) → ¬ (IsLine text l)) → LacksLine input ended
+  unparsed_line : (text rest : List ℕ) → HasPart Line input text rest
+      → ((l : ChunkLine) → ¬ (IsLine text l)) → LacksLine input ended
 
 -- the input isn't so many bytes and a line end
 pub data LacksData (input : List ℕ) (ended : Type 0) (size : ℕ) : Type 0 where
   short : ended → length input < size + 2 → LacksData input ended size
-  other : (bytes two rest : List ℕ) → input ≡ bytes ++ (two ++ rest) → length bytes ≡ size → length two ≡ 2 → two ≢ line_end → LacksData input ended size
+  other : (bytes two rest : List ℕ) → input ≡ bytes ++ (two ++ rest) → length bytes ≡ size
+      → length two ≡ 2 → two ≢ line_end → LacksData input ended size
 
 -- behind so many bytes of a body, the front of the input is neither a chunk nor the end
-pub data RefusesChunk (input : List ℕ) (ended : Type 0) (before : ℕ) (fault : RequestFault) : Type 0 where
+pub data RefusesChunk (input : List ℕ) (ended : Type 0) (before : ℕ)
+    (fault : RequestFault) : Type 0 where
   line : fault ≡ BadBody → LacksLine input ended → RefusesChunk input ended before fault
-  over : fault ≡ TooLong → (l : ChunkLine) (rest : List ℕ) → HasLine input l rest → max_body < before + chunk_size l → RefusesChunk input ended before fault
-  data_of : fault ≡ BadBody → (l : ChunkLine) (rest : List ℕ) → HasLine input l rest → 0 < chunk_size l → before + chunk_size l ≤ max_body
+  over : fault ≡ TooLong → (l : ChunkLine) (rest : List ℕ) → HasLine input l rest
+      → max_body < before + chunk_size l → RefusesChunk input ended before fault
+  data_of : fault ≡ BadBody → (l : ChunkLine) (rest : List ℕ) → HasLine input l rest
+      → 0 < chunk_size l → before + chunk_size l ≤ max_body
       → LacksData rest ended (chunk_size l) → RefusesChunk input ended before fault
-  trailers : fault ≡ BadBody → (l : ChunkLine) (rest : List ℕ) → HasLine input l rest → chunk_size l ≡ 0 → LacksTrailers rest ended → RefusesChunk input ended before fault
+  trailers : fault ≡ BadBody → (l : ChunkLine) (rest : List ℕ) → HasLine input l rest
+      → chunk_size l ≡ 0 → LacksTrailers rest ended → RefusesChunk input ended before fault
 
 -- a body in chunks is refused at its first fault
 pub record RefusesChunked (input : List ℕ) (ended : Type 0) (fault : RequestFault) : Type 0 where

@@ -20,25 +20,31 @@ use Rattle.http_request.specs.Requests.{HasPart, IsOverlong, IsUnended, HasHead,
 use Rattle.http_request.specs.Bodies.{line_end, HasLine, HasChunk, HasEnd, LacksLine, LacksData, LacksTrailers, RefusesChunk, HasBody, RefusesBody}
 
 abbrev pub FindsPart : Result Part LinkFault → Place → List ℕ → Type 0 → Type 0
-FindsPart (Ok (parts.Cut n)) place input ended = HasPart place input (take n input) (drop n input) × (n ≤ length input)
+FindsPart (Ok (parts.Cut n)) place input ended =
+    HasPart place input (take n input) (drop n input) × (n ≤ length input)
 FindsPart (Ok parts.Overlong) place input ended = IsOverlong place input
-FindsPart (Ok (parts.Unended p)) place input ended = IsUnended place input ended × (p ≡ place_behind place input)
+FindsPart (Ok (parts.Unended p)) place input ended =
+    IsUnended place input ended × (p ≡ place_behind place input)
 FindsPart (Err f) place input ended = ⊤
 
 abbrev pub FindsHead : Result Head LinkFault → List ℕ → Type 0 → List ℕ → Type 0
-FindsHead (Ok (heads.Planned plan)) input ended rest = (text : List ℕ) × (h : RequestHead) × HasHead input text h rest × (head_check h ≡ Ok plan)
+FindsHead (Ok (heads.Planned plan)) input ended rest =
+    (text : List ℕ) × (h : RequestHead) × HasHead input text h rest × (head_check h ≡ Ok plan)
 FindsHead (Ok (heads.Refused fault)) input ended rest = RefusesHead input ended fault
 FindsHead (Ok heads.Over) input ended rest = IsOver input ended
 FindsHead (Err f) input ended rest = ⊤
 
 abbrev pub FindsLine : Result (Option ℕ) LinkFault → List ℕ → Type 0 → List ℕ → Type 0
-FindsLine (Ok (Some size)) input ended rest = (l : ChunkLine) × HasLine input l rest × (size ≡ chunk_size l)
+FindsLine (Ok (Some size)) input ended rest =
+    (l : ChunkLine) × HasLine input l rest × (size ≡ chunk_size l)
 FindsLine (Ok None) input ended rest = LacksLine input ended
 FindsLine (Err f) input ended rest = ⊤
 
 -- so many bytes are there, and then the rest, or they can't come
-abbrev pub FindsData : Result Bool LinkFault → ℕ → List ℕ → Type 0 → List ℕ → List ℕ → List ℕ → Type 0
-FindsData (Ok true) count input ended before after rest = (bytes : List ℕ) × (input ≡ bytes ++ rest) × (after ≡ before ++ bytes) × (length bytes ≡ count)
+abbrev pub FindsData : Result Bool LinkFault → ℕ → List ℕ → Type 0 → List ℕ → List ℕ → List ℕ
+    → Type 0
+FindsData (Ok true) count input ended before after rest =
+    (bytes : List ℕ) × (input ≡ bytes ++ rest) × (after ≡ before ++ bytes) × (length bytes ≡ count)
 FindsData (Ok false) count input ended before after rest = ended × (length input < count)
 FindsData (Err f) count input ended before after rest = ⊤
 
@@ -50,14 +56,18 @@ FindsLineEnd (Err f) input ended rest = ⊤
 
 -- trailers are there, and then the rest, or they can't come
 abbrev pub FindsTrailers : Result Bool LinkFault → List ℕ → Type 0 → List ℕ → Type 0
-FindsTrailers (Ok true) input ended rest = (text : List ℕ) × HasPart Start input text rest × IsTrailers text
+FindsTrailers (Ok true) input ended rest =
+    (text : List ℕ) × HasPart Start input text rest × IsTrailers text
 FindsTrailers (Ok false) input ended rest = LacksTrailers input ended
 FindsTrailers (Err f) input ended rest = ⊤
 
 abbrev pub FindsChunk : Result Step LinkFault → List ℕ → Type 0 → List ℕ → List ℕ → List ℕ → Type 0
-FindsChunk (Ok steps.More) input ended before after rest = (bytes : List ℕ) × HasChunk input bytes rest × (after ≡ before ++ bytes) × (length after ≤ max_body)
+FindsChunk (Ok steps.More) input ended before after rest =
+    (bytes : List ℕ) × HasChunk input bytes rest × (after ≡ before ++ bytes)
+    × (length after ≤ max_body)
 FindsChunk (Ok steps.Last) input ended before after rest = HasEnd input rest × (after ≡ before)
-FindsChunk (Ok (steps.Refused fault)) input ended before after rest = RefusesChunk input ended (length before) fault
+FindsChunk (Ok (steps.Refused fault)) input ended before after rest =
+    RefusesChunk input ended (length before) fault
 FindsChunk (Err f) input ended before after rest = ⊤
 
 abbrev pub FindsBody : Result Received LinkFault → Body → List ℕ → Type 0 → List ℕ → Type 0

@@ -1,4 +1,5 @@
--- What stands at the front of the bytes that a client sends: a head that parses, or what is refused, or nothing more.
+-- What stands at the front of the bytes that a client sends: a head that parses,
+-- or what is refused, or nothing more.
 use Rattle.std.specs.Prelude.{◌≡◌, ℕ, ◌<◌, ◌≤◌, List, ◌++◌, length, take, None, Err}
 use Rattle.httparse.specs.Grammar.{RequestHead}
 use Rattle.http_head.specs.declared.cut.Place.{Place}
@@ -32,9 +33,12 @@ pub record HasHead (input text : List ℕ) (h : RequestHead) (rest : List ℕ) :
 -- what is at the front of the input is refused
 pub data RefusesHead (input : List ℕ) (ended : Type 0) (fault : RequestFault) : Type 0 where
   overlong : fault ≡ BadHead → IsOverlong Front input → RefusesHead input ended fault
-  unended : fault ≡ BadHead → IsUnended Front input ended → ¬ (IsBlank input) → RefusesHead input ended fault
-  unparsed : fault ≡ BadHead → (text rest : List ℕ) → HasPart Front input text rest → IsNoHead text → RefusesHead input ended fault
-  unfit : (text : List ℕ) (h : RequestHead) (rest : List ℕ) → HasHead input text h rest → head_check h ≡ Err fault → RefusesHead input ended fault
+  unended : fault ≡ BadHead → IsUnended Front input ended → ¬ (IsBlank input)
+      → RefusesHead input ended fault
+  unparsed : fault ≡ BadHead → (text rest : List ℕ) → HasPart Front input text rest → IsNoHead text
+      → RefusesHead input ended fault
+  unfit : (text : List ℕ) (h : RequestHead) (rest : List ℕ) → HasHead input text h rest
+      → head_check h ≡ Err fault → RefusesHead input ended fault
 
 -- nothing follows but whole empty lines
 pub record IsOver (input : List ℕ) (ended : Type 0) : Type 0 where

@@ -20,7 +20,8 @@ pub enum Received {
     Refused(RequestFault),
 }
 
-/// Takes so many bytes of the input and adds them to the others, for which it asks room at once, and says whether they came.
+/// Takes so many bytes of the input and adds them to the others, for which it asks room at once,
+/// and says whether they came.
 pub fn take_exact<I: Inlet>(
     inlet: &mut I,
     unread: &mut Unread,
@@ -100,7 +101,8 @@ fn read_sized<I: Inlet>(
     }
 }
 
-/// Reads a body that comes so until it is there whole, and takes it, or until it is refused. Nothing behind it is taken.
+/// Reads a body that comes so until it is there whole, and takes it, or until it is refused.
+/// Nothing behind it is taken.
 pub fn read_body<I: Inlet>(
     alloc: Global,
     inlet: &mut I,

@@ -13,7 +13,8 @@ pub trait Inlet {
     /// How many reads failed.
     ghost faults: { Self → ℕ };
 
-    /// Reads once, into the front of the piece, and says how many bytes. No byte is the end of the input, and `None` is a read that failed.
+    /// Reads once, into the front of the piece, and says how many bytes.
+    /// No byte is the end of the input, and `None` is a read that failed.
     fn read(&mut self, piece: &mut [u8]) -> Option<usize>
         requires room { 0 < length piece.old }
         requires countable { faults self.old < u64.MAX }

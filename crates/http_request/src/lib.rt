@@ -1,4 +1,5 @@
-//! The requests of a connection, read from any inlet: heads, and bodies of a length or in chunks (RFC 9112).
+//! The requests of a connection, read from any inlet: heads,
+//! and bodies of a length or in chunks (RFC 9112).
 #![tactic(auto)]
 
 mod body;

@@ -20,14 +20,16 @@ pub enum Part {
     Unended(Place),
 }
 
-/// Reads until a part that begins at this place is there whole, is too long, or can't come. Each byte is looked at once.
+/// Reads until a part that begins at this place is there whole, is too long, or can't come.
+/// Each byte is looked at once.
 pub fn next_part<I: Inlet>(
     inlet: &mut I,
     unread: &mut Unread,
     place: Place,
 ) -> Result<Part, LinkFault>
     requires { I.faults inlet.old < u64.MAX }
-    ensures came { (more : List ℕ) × I.reads inlet.old more inlet.new × OnOk result (unread.new ≡ unread.old ++ more) }
+    ensures came { (more : List ℕ) × I.reads inlet.old more inlet.new
+        × OnOk result (unread.new ≡ unread.old ++ more) }
     ensures found { FindsPart result place unread.new (I.ended inlet.new) }
     ensures sound { OnOk result (I.faults inlet.new ≡ I.faults inlet.old) }
     ensures link { IsErrOf result Failed → I.faults inlet.old < I.faults inlet.new }

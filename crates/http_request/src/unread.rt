@@ -50,7 +50,8 @@ fn read_behind<I: Inlet>(inlet: &mut I, bytes: &mut [u8], front: usize) -> Optio
         × (take (front + n) bytes.new ≡ take front bytes.old ++ more)) }
     ensures end { result ≡ Some 0 → I.ended inlet.new }
     ensures sound { OnSome result (I.faults inlet.new ≡ I.faults inlet.old) }
-    ensures failed { IfNone result (I.reads inlet.old [] inlet.new × (I.faults inlet.old < I.faults inlet.new)) }
+    ensures failed { IfNone result (I.reads inlet.old [] inlet.new
+        × (I.faults inlet.old < I.faults inlet.new)) }
 {
     inlet.read(&mut bytes[front..])
 }
@@ -120,7 +121,8 @@ impl Unread {
     /// Reads once, and says whether the input has ended.
     pub fn fill<I: Inlet>(&mut self, inlet: &mut I) -> Result<bool, LinkFault>
         requires { I.faults inlet.old < u64.MAX }
-        ensures came { (more : List ℕ) × I.reads inlet.old more inlet.new × OnOk result (self.new ≡ self.old ++ more) }
+        ensures came { (more : List ℕ) × I.reads inlet.old more inlet.new
+            × OnOk result (self.new ≡ self.old ++ more) }
         ensures end { result ≡ Ok true → I.ended inlet.new × (self.new ≡ self.old) }
         ensures grows { result ≡ Ok false → length self.old < length self.new }
         ensures sound { OnOk result (I.faults inlet.new ≡ I.faults inlet.old) }

@@ -1,4 +1,5 @@
--- The responses of the scheduler's endpoint (Mesos scheduler HTTP API; RFC 9112). Lines end with CR LF.
+-- The responses of the scheduler's endpoint (Mesos scheduler HTTP API;
+-- RFC 9112). Lines end with CR LF.
 use Rattle.std.specs.Prelude.{ℕ, List, [], ◌∷◌, ◌++◌, ◌+◌, false, length, codes, decimal}
 use Rattle.std.specs.Fmt.{digits}
 use Rattle.frame_record.specs.Records.{record_text}
@@ -37,7 +38,8 @@ subscribed_response stream =
     codes "HTTP/1.1 200 OK\r\nContent-Type: application/json\r\nTransfer-Encoding: chunked\r\nMesos-Stream-Id: "
     ++ (id_text 83 stream ++ codes "\r\n\r\n")
 
--- a chunk: the size of its data in hexadecimal, a line end, the data, a line end (RFC 9112, section 7.1)
+-- a chunk: the size of its data in hexadecimal, a line end, the data,
+-- a line end (RFC 9112, section 7.1)
 abbrev pub chunk : List ℕ → List ℕ
 chunk body = digits 16 false (length body) ++ (13 ∷ 10 ∷ (body ++ 13 ∷ 10 ∷ []))
 

@@ -36,5 +36,6 @@ pub fn last_chunk() -> &'static [u8]
 
 /// The chunk of an event is its size lines, its text and a line end.
 pub fn one_chunk()
-    ensures { (text : List ℕ) → event_chunk text ≡ chunk_line (length text) ++ (record_line (length text) ++ (text ++ 13 ∷ 10 ∷ [])) }
+    ensures { (text : List ℕ) → event_chunk text ≡ chunk_line (length text)
+        ++ (record_line (length text) ++ (text ++ 13 ∷ 10 ∷ [])) }
 {}

@@ -1,4 +1,5 @@
-//! What the scheduler's HTTP endpoint writes: responses, and the chunks of an event stream (RFC 9112).
+//! What the scheduler's HTTP endpoint writes: responses,
+//! and the chunks of an event stream (RFC 9112).
 #![tactic(auto)]
 
 mod chunk;

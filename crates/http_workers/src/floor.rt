@@ -38,9 +38,11 @@ impl<J: Drop, B: Drop> Floor<J, B> {
     /// Admits one more worker, with room for its bench, unless 64 run.
     pub fn admit(&mut self) -> Result<bool, AllocError>
         ensures full { IfOk result (λ admitted. admitted ≡ not (self.old.running == 64)) }
-        ensures counted { IfOk result (λ admitted. self.new.running ≡ (if admitted then self.old.running + 1 else self.old.running)) }
+        ensures counted { IfOk result (λ admitted. self.new.running
+            ≡ (if admitted then self.old.running + 1 else self.old.running)) }
         ensures spent { OnErr result (self.new.running ≡ self.old.running) }
-        ensures kept { (self.new.jobs.items ≡ self.old.jobs.items) × (self.new.benches.items ≡ self.old.benches.items) }
+        ensures kept { (self.new.jobs.items ≡ self.old.jobs.items)
+            × (self.new.benches.items ≡ self.old.benches.items) }
     {
         if self.running >= WORKERS {
             return Ok(false);
@@ -52,24 +54,29 @@ impl<J: Drop, B: Drop> Floor<J, B> {
 
     /// Leaves a job for the worker that starts next. Without memory the job comes back.
     pub fn put(&mut self, job: J) -> Result<(), AllocFailed<J>>
-        ensures put { self.new.jobs.items ≡ (if is_ok result then self.old.jobs.items ++ job ∷ [] else self.old.jobs.items) }
+        ensures put { self.new.jobs.items ≡ (if is_ok result then self.old.jobs.items ++ job ∷ []
+            else self.old.jobs.items) }
         ensures returned { IfErr result (λ e. e.value ≡ job) }
-        ensures kept { (self.new.benches.items ≡ self.old.benches.items) × (self.new.running ≡ self.old.running) }
+        ensures kept { (self.new.benches.items ≡ self.old.benches.items)
+            × (self.new.running ≡ self.old.running) }
     {
         self.jobs.push(job)
     }
 
     /// Takes the job that was left last.
     pub fn take(&mut self) -> Option<J>
-        ensures taken { (job : J) → result ≡ Some job → self.old.jobs.items ≡ self.new.jobs.items ++ job ∷ [] }
-        ensures kept { (self.new.benches.items ≡ self.old.benches.items) × (self.new.running ≡ self.old.running) }
+        ensures taken { (job : J) → result ≡ Some job
+            → self.old.jobs.items ≡ self.new.jobs.items ++ job ∷ [] }
+        ensures kept { (self.new.benches.items ≡ self.old.benches.items)
+            × (self.new.running ≡ self.old.running) }
     {
         self.jobs.pop()
     }
 
     /// A worker ends, and gives its bench back.
     pub fn leave(&mut self, bench: B)
-        ensures given { 0 < self.old.running → self.new.benches.items ≡ self.old.benches.items ++ bench ∷ [] }
+        ensures given { 0 < self.old.running → self.new.benches.items ≡ self.old.benches.items
+            ++ bench ∷ [] }
         ensures counted { self.new.running ≡ self.old.running - 1 }
         ensures kept { self.new.jobs.items ≡ self.old.jobs.items }
     {

@@ -63,7 +63,8 @@ fn give_back<I: Inlet + Drop, O: Outlet + Drop, B: Bench + Drop, R: Wait>(
     shop.floor.lock(rt).leave(bench);
 }
 
-/// Has a worker of its own serve a connection, once one was admitted. Where none starts, one bench is given back unserved.
+/// Has a worker of its own serve a connection, once one was admitted. Where none starts,
+/// one bench is given back unserved.
 fn employ<
     's,
     E,
@@ -203,12 +204,14 @@ fn serve_shop<
     fault
 }
 
-/// Serves each connection by a worker of its own, at most 64 at once, and waits for the next until one comes. It returns once
-/// every worker has ended, with the benches of all connections that it took from the arrivals, in no order. Room for a bench is
-/// reserved before its connection is taken, so none is lost for want of memory. A fault, `H8 OutOfMemory` or `H9 NoThread`, ends
-/// the accepting alone: workers that run go on to the end of their connections; the connection that no worker was found for is
-/// closed unanswered, and its bench is given back too. A connection that breaks off (`H7 LinkFault`, `H8 OutOfMemory`) ends alone.
-/// No contract can say which benches come back or that a worker gets on, since nothing but its type is known of what workers share.
+/// Serves each connection by a worker of its own, at most 64 at once, and waits for the next until
+/// one comes. It returns once every worker has ended, with the benches of all connections that it
+/// took from the arrivals, in no order. Room for a bench is reserved before its connection is
+/// taken, so none is lost for want of memory. A fault, `H8 OutOfMemory` or `H9 NoThread`, ends the
+/// accepting alone: workers that run go on to the end of their connections; the connection that no
+/// worker was found for is closed unanswered, and its bench is given back too. A connection that
+/// breaks off (`H7 LinkFault`, `H8 OutOfMemory`) ends alone. No contract can say which benches come
+/// back or that a worker gets on, since nothing but its type is known of what workers share.
 pub fn serve_all<A: Arrivals, G: Gate + Sync, R: Threads + Wait + Sync>(
     rt: &R,
     alloc: Global,

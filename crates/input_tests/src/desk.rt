@@ -103,7 +103,8 @@ pub struct Reply {
     pub ended: Result<(), LinkFault>,
 }
 
-/// Serves a connection whose client sends this, so many bytes at a time, and whose outlet fails after so many writes.
+/// Serves a connection whose client sends this, so many bytes at a time,
+/// and whose outlet fails after so many writes.
 pub fn answer<B: Bench>(
     alloc: Global,
     bench: &mut B,
@@ -131,7 +132,8 @@ pub fn answer<B: Bench>(
     }
 }
 
-/// A connection's bench, beside which another connection makes its call once the first stream waits, and then time passes.
+/// A connection's bench, beside which another connection makes its call once
+/// the first stream waits, and then time passes.
 #[derive(Drop)]
 pub struct Beside {
     alloc: Global,

@@ -1,5 +1,6 @@
-//! Tests of what comes in, each a function that says whether it passed: of requests and connections, to a bench and to one master, of `calls` where a read or a
-//! write fails or a limit is met, of lines that come in pieces, and of the program's words.
+//! Tests of what comes in, each a function that says whether it passed: of requests and
+//! connections, to a bench and to one master, of `calls` where a read or a write fails or a limit
+//! is met, of lines that come in pieces, and of the program's words.
 #![tactic(auto)]
 
 mod desk;

@@ -52,7 +52,8 @@ fn is_opened(alloc: Global, request: &str) -> bool {
     }
 }
 
-/// Whether an input that ends behind so many bytes is answered so: first the head is refused, then the body.
+/// Whether an input that ends behind so many bytes is answered so:
+/// first the head is refused, then the body.
 fn ends_at(alloc: Global, length: usize) -> bool {
     let want = if length < HEAD.len() {
         BAD_HEAD

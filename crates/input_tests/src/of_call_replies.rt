@@ -14,7 +14,8 @@ const SUBSCRIBE_AGAIN: &[u8] =
 const SUBSCRIBE_TWICE: &[u8] =
     b"75\n{\"type\":\"SUBSCRIBE\",\"subscribe\":{\"framework_info\":{\"user\":\"u\",\"name\":\"n\"}}}75\n{\"type\":\"SUBSCRIBE\",\"subscribe\":{\"framework_info\":{\"user\":\"u\",\"name\":\"n\"}}}";
 
-/// What is written last: a framework more is refused, one that subscribes again is told so on its stream and has another.
+/// What is written last: a framework more is refused,
+/// one that subscribes again is told so on its stream and has another.
 const LIMITED: &[u8] =
     b"55\n{\"error\":{\"message\":\"M4 LimitExceeded\"},\"type\":\"ERROR\"}60\n{\"error\":{\"message\":\"Framework failed over\"},\"type\":\"ERROR\"}100\n{\"subscribed\":{\"framework_id\":{\"value\":\"F1-1\"},\"heartbeat_interval_seconds\":15},\"type\":\"SUBSCRIBED\"}";
 

@@ -194,7 +194,8 @@ pub fn a_stream(alloc: Global) -> bool {
     is_sent(alloc, SUBSCRIBE, STREAM, true)
 }
 
-/// How a connection ends whose outlet fails behind the head and the four parts of the first chunk, whether its stream is hung up, and how much was sent.
+/// How a connection ends whose outlet fails behind the head and the four parts of the first chunk,
+/// whether its stream is hung up, and how much was sent.
 fn broken_off(alloc: Global, bytes: Vec<u8>) -> (Result<(), LinkFault>, bool, usize) {
     let mut source = Source {
         bytes,

@@ -94,7 +94,8 @@ pub fn length_fields_are_judged(alloc: Global) -> bool {
     true
 }
 
-/// Whether the body is waited for, whether the connection is closed then, and whether a stream is named.
+/// Whether the body is waited for, whether the connection is closed then,
+/// and whether a stream is named.
 fn others_of(alloc: Global, fields: &str) -> Option<(bool, bool, bool)> {
     let text = head(alloc, fields)?;
     match judge_head(text.as_bytes()) {

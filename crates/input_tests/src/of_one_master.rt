@@ -1,4 +1,5 @@
-//! Two connections over one master: the first one's stream is open while the second one makes its call.
+//! Two connections over one master:
+//! the first one's stream is open while the second one makes its call.
 
 use crate::desk::{Beside, Desk, Reply, answer};
 use http_door::LinkFault;
@@ -31,7 +32,8 @@ const WRONG_STREAM: &str =
 const NOT_SUBSCRIBED: &str =
     "HTTP/1.1 403 Forbidden\r\nContent-Type: text/plain\r\nContent-Length: 17\r\nConnection: close\r\n\r\nM1 NotSubscribed\n";
 
-/// A connection whose client sends this, and whose outlet fails after so many writes; beside it another request, and a later moment.
+/// A connection whose client sends this, and whose outlet fails after so many writes;
+/// beside it another request, and a later moment.
 fn beside(alloc: Global, other: &str, later: u32) -> Option<Beside> {
     let other = Vec::from_slice(alloc, other.as_bytes()).ok()?;
     Beside::new(alloc, other, later)
@@ -67,7 +69,8 @@ pub fn a_framework_fails_over(alloc: Global) -> bool {
     }
 }
 
-/// Whether the first connection breaks off at the heartbeat, behind the head and the four parts of the first chunk, and the other one was refused beside it.
+/// Whether the first connection breaks off at the heartbeat,
+/// behind the head and the four parts of the first chunk, and the other one was refused beside it.
 fn breaks_off(alloc: Global, bench: &mut Beside) -> bool {
     match subscribes(alloc, bench, 5) {
         Some(reply) => {

@@ -110,7 +110,9 @@ task_row key body = Int (pos (place_of key)) ∷ Int (pos key.run) ∷ Int (pos 
 
 -- the row of the head: its total stands in rows of agent_total
 abbrev pub head_row : List ℕ → ℕ → ℕ → Row
-head_row name run session = Int (pos 1) ∷ Null ∷ Text name ∷ Int (pos run) ∷ Int (pos session) ∷ Text (codes "{}") ∷ Int (pos 2) ∷ []
+head_row name run session =
+    Int (pos 1) ∷ Null ∷ Text name ∷ Int (pos run) ∷ Int (pos session) ∷ Text (codes "{}")
+    ∷ Int (pos 2) ∷ []
 
 -- the row of an amount of a total, at this rowid
 abbrev pub amount_row : ℕ → List ℕ → ℕ → Row
@@ -140,7 +142,8 @@ pub record Empties (at : ℕ) (old new : Trees) : Type 0 where
 -- the row at this place is gone, and no other that has a number above 0 for its rowid
 pub record Cuts (place : ℕ) (old new : Trees) : Type 0 where
   pub had : (r : Row) → Has (new 3) r → Has (old 3) r × (rowid r ≢ Int (pos place))
-  pub kept : (r : Row) (other : ℕ) → Has (old 3) r → rowid r ≡ Int (pos other) → 0 < other → other ≢ place → Has (new 3) r
+  pub kept : (r : Row) (other : ℕ) → Has (old 3) r → rowid r ≡ Int (pos other) → 0 < other
+      → other ≢ place → Has (new 3) r
   pub others : SparesOthers 3 old new
 
 -- one table has one row more, at its rowid
@@ -178,7 +181,8 @@ pub record AddsTotals (old new : Trees) : Type 0 where
   pub totals : new 5 ≡ []
 
 -- a transaction was committed, which left these tables and changed this of the trees
-pub record IsCommitted (schema : Schema) (Changes : Trees → Trees → Type 0) (old new : State) : Type 0 where
+pub record IsCommitted (schema : Schema) (Changes : Trees → Trees → Type 0)
+    (old new : State) : Type 0 where
   pub is_open : IsTrue new.is_open
   pub tables : new.now.schema ≡ schema
   pub committed : new.committed ≡ new.now

@@ -20,7 +20,8 @@ pub fn place_of(key: LaunchKey) -> i64
 /// Takes the row of a task out.
 pub fn cut_task<S: Alter>(tx: &mut Transaction<'_, S>, key: LaunchKey) -> Result<usize, Error>
     ensures same_reference { tx.new.conn.ghost_name ≡ tx.old.conn.ghost_name }
-    ensures quiet { Survives (state S.Store tx.old.conn.now) (state S.Store tx.new.conn.now) (λ _. ⊥) }
+    ensures quiet { Survives (state S.Store tx.old.conn.now) (state S.Store tx.new.conn.now)
+        (λ _. ⊥) }
     ensures went { IsWriting (state S.Store tx.old.conn.now) → HasCleanDisk (state S.Store tx.new.conn.now)
         → MatchResult result (λ _. WritesOn (Cuts (place_of key)) (state S.Store tx.old.conn.now) (state S.Store tx.new.conn.now))
         (λ _. KeepsCommit (state S.Store tx.old.conn.now) (state S.Store tx.new.conn.now)) }
@@ -36,7 +37,8 @@ pub fn put_task<S: Alter>(
     body: &str,
 ) -> Result<usize, Error>
     ensures same_reference { tx.new.conn.ghost_name ≡ tx.old.conn.ghost_name }
-    ensures quiet { Survives (state S.Store tx.old.conn.now) (state S.Store tx.new.conn.now) (λ _. ⊥) }
+    ensures quiet { Survives (state S.Store tx.old.conn.now) (state S.Store tx.new.conn.now)
+        (λ _. ⊥) }
     ensures went { IsWriting (state S.Store tx.old.conn.now) → HasCleanDisk (state S.Store tx.new.conn.now)
         → MatchResult result (λ _. WritesOn (Puts 3 (task_row key body.now)) (state S.Store tx.old.conn.now) (state S.Store tx.new.conn.now))
         (λ _. KeepsCommit (state S.Store tx.old.conn.now) (state S.Store tx.new.conn.now)) }
@@ -56,7 +58,8 @@ pub fn put_head<S: Alter>(
     session: u32,
 ) -> Result<usize, Error>
     ensures same_reference { tx.new.conn.ghost_name ≡ tx.old.conn.ghost_name }
-    ensures quiet { Survives (state S.Store tx.old.conn.now) (state S.Store tx.new.conn.now) (λ _. ⊥) }
+    ensures quiet { Survives (state S.Store tx.old.conn.now) (state S.Store tx.new.conn.now)
+        (λ _. ⊥) }
     ensures went { IsWriting (state S.Store tx.old.conn.now) → HasCleanDisk (state S.Store tx.new.conn.now)
         → MatchResult result (λ _. WritesOn (Puts 2 (head_row name.now run session)) (state S.Store tx.old.conn.now) (state S.Store tx.new.conn.now))
         (λ _. KeepsCommit (state S.Store tx.old.conn.now) (state S.Store tx.new.conn.now)) }
@@ -70,7 +73,8 @@ pub fn put_head<S: Alter>(
 /// Takes the head's row out.
 pub fn clear_heads<S: Alter>(tx: &mut Transaction<'_, S>) -> Result<usize, Error>
     ensures same_reference { tx.new.conn.ghost_name ≡ tx.old.conn.ghost_name }
-    ensures quiet { Survives (state S.Store tx.old.conn.now) (state S.Store tx.new.conn.now) (λ _. ⊥) }
+    ensures quiet { Survives (state S.Store tx.old.conn.now) (state S.Store tx.new.conn.now)
+        (λ _. ⊥) }
     ensures went { IsWriting (state S.Store tx.old.conn.now) → HasCleanDisk (state S.Store tx.new.conn.now)
         → MatchResult result (λ _. WritesOn (Empties 2) (state S.Store tx.old.conn.now) (state S.Store tx.new.conn.now))
         (λ _. KeepsCommit (state S.Store tx.old.conn.now) (state S.Store tx.new.conn.now)) }
@@ -81,7 +85,8 @@ pub fn clear_heads<S: Alter>(tx: &mut Transaction<'_, S>) -> Result<usize, Error
 /// Takes the row of a record's text out.
 pub fn clear_records<S: Alter>(tx: &mut Transaction<'_, S>) -> Result<usize, Error>
     ensures same_reference { tx.new.conn.ghost_name ≡ tx.old.conn.ghost_name }
-    ensures quiet { Survives (state S.Store tx.old.conn.now) (state S.Store tx.new.conn.now) (λ _. ⊥) }
+    ensures quiet { Survives (state S.Store tx.old.conn.now) (state S.Store tx.new.conn.now)
+        (λ _. ⊥) }
     ensures went { IsWriting (state S.Store tx.old.conn.now) → HasCleanDisk (state S.Store tx.new.conn.now)
         → MatchResult result (λ _. WritesOn (Empties 0) (state S.Store tx.old.conn.now) (state S.Store tx.new.conn.now))
         (λ _. KeepsCommit (state S.Store tx.old.conn.now) (state S.Store tx.new.conn.now)) }
@@ -92,7 +97,8 @@ pub fn clear_records<S: Alter>(tx: &mut Transaction<'_, S>) -> Result<usize, Err
 /// Takes the rows of all tasks out.
 pub fn clear_tasks<S: Alter>(tx: &mut Transaction<'_, S>) -> Result<usize, Error>
     ensures same_reference { tx.new.conn.ghost_name ≡ tx.old.conn.ghost_name }
-    ensures quiet { Survives (state S.Store tx.old.conn.now) (state S.Store tx.new.conn.now) (λ _. ⊥) }
+    ensures quiet { Survives (state S.Store tx.old.conn.now) (state S.Store tx.new.conn.now)
+        (λ _. ⊥) }
     ensures went { IsWriting (state S.Store tx.old.conn.now) → HasCleanDisk (state S.Store tx.new.conn.now)
         → MatchResult result (λ _. WritesOn (SparesOthers 3) (state S.Store tx.old.conn.now) (state S.Store tx.new.conn.now))
         (λ _. KeepsCommit (state S.Store tx.old.conn.now) (state S.Store tx.new.conn.now)) }
@@ -103,8 +109,11 @@ pub fn clear_tasks<S: Alter>(tx: &mut Transaction<'_, S>) -> Result<usize, Error
 /// The rowids of the rows of tasks.
 pub fn read_places<S: Alter>(tx: &mut Transaction<'_, S>) -> Result<Vec<Row>, Error>
     ensures same_reference { tx.new.conn.ghost_name ≡ tx.old.conn.ghost_name }
-    ensures quiet { Survives (state S.Store tx.old.conn.now) (state S.Store tx.new.conn.now) (λ _. ⊥) }
-    ensures rows { IsWriting (state S.Store tx.old.conn.now) → HasCleanDisk (state S.Store tx.new.conn.now) → IfOk result (λ rows. AreIds rows.items ((state S.Store tx.old.conn.now).now.trees 3)) }
+    ensures quiet { Survives (state S.Store tx.old.conn.now) (state S.Store tx.new.conn.now)
+        (λ _. ⊥) }
+    ensures rows { IsWriting (state S.Store tx.old.conn.now)
+        → HasCleanDisk (state S.Store tx.new.conn.now)
+        → IfOk result (λ rows. AreIds rows.items ((state S.Store tx.old.conn.now).now.trees 3)) }
     ensures went { IsWriting (state S.Store tx.old.conn.now) → HasCleanDisk (state S.Store tx.new.conn.now)
         → MatchResult result (λ _. WritesOn IsSame (state S.Store tx.old.conn.now) (state S.Store tx.new.conn.now))
         (λ _. KeepsCommit (state S.Store tx.old.conn.now) (state S.Store tx.new.conn.now)) }

@@ -64,33 +64,49 @@ pub fn make_total_table<S: Alter>(conn: &mut Connection<S>) -> Result<(), Error>
 
 pub fn read_record_ids<S: Alter>(conn: &mut Connection<S>) -> Result<Vec<Row>, Error>
     ensures clean { HasCleanDisk (state S.Store conn.new) → HasCleanDisk (state S.Store conn.old) }
-    ensures rows { (state S.Store conn.old).now.schema ≡ keeper_schema → HasCleanDisk (state S.Store conn.new) → IfOk result (λ rows. AreIds rows.items ((state S.Store conn.old).now.trees 0)) }
-    ensures same { (state S.Store conn.old).now.schema ≡ keeper_schema → HasCleanDisk (state S.Store conn.new) → OnOk result (IsUnchanged (state S.Store conn.old) (state S.Store conn.new)) }
+    ensures rows { (state S.Store conn.old).now.schema ≡ keeper_schema
+        → HasCleanDisk (state S.Store conn.new)
+        → IfOk result (λ rows. AreIds rows.items ((state S.Store conn.old).now.trees 0)) }
+    ensures same { (state S.Store conn.old).now.schema ≡ keeper_schema
+        → HasCleanDisk (state S.Store conn.new)
+        → OnOk result (IsUnchanged (state S.Store conn.old) (state S.Store conn.new)) }
 {
     conn.query_all("SELECT id FROM agent_record", &[])
 }
 
 pub fn read_head_ids<S: Alter>(conn: &mut Connection<S>) -> Result<Vec<Row>, Error>
     ensures clean { HasCleanDisk (state S.Store conn.new) → HasCleanDisk (state S.Store conn.old) }
-    ensures rows { (state S.Store conn.old).now.schema ≡ keeper_schema → HasCleanDisk (state S.Store conn.new) → IfOk result (λ rows. AreIds rows.items ((state S.Store conn.old).now.trees 2)) }
-    ensures same { (state S.Store conn.old).now.schema ≡ keeper_schema → HasCleanDisk (state S.Store conn.new) → OnOk result (IsUnchanged (state S.Store conn.old) (state S.Store conn.new)) }
+    ensures rows { (state S.Store conn.old).now.schema ≡ keeper_schema
+        → HasCleanDisk (state S.Store conn.new)
+        → IfOk result (λ rows. AreIds rows.items ((state S.Store conn.old).now.trees 2)) }
+    ensures same { (state S.Store conn.old).now.schema ≡ keeper_schema
+        → HasCleanDisk (state S.Store conn.new)
+        → OnOk result (IsUnchanged (state S.Store conn.old) (state S.Store conn.new)) }
 {
     conn.query_all("SELECT id FROM agent_head", &[])
 }
 
 pub fn read_run_ids<S: Alter>(conn: &mut Connection<S>) -> Result<Vec<Row>, Error>
     ensures clean { HasCleanDisk (state S.Store conn.new) → HasCleanDisk (state S.Store conn.old) }
-    ensures rows { (state S.Store conn.old).now.schema ≡ keeper_schema → HasCleanDisk (state S.Store conn.new) → IfOk result (λ rows. AreIds rows.items ((state S.Store conn.old).now.trees 1)) }
-    ensures same { (state S.Store conn.old).now.schema ≡ keeper_schema → HasCleanDisk (state S.Store conn.new) → OnOk result (IsUnchanged (state S.Store conn.old) (state S.Store conn.new)) }
+    ensures rows { (state S.Store conn.old).now.schema ≡ keeper_schema
+        → HasCleanDisk (state S.Store conn.new)
+        → IfOk result (λ rows. AreIds rows.items ((state S.Store conn.old).now.trees 1)) }
+    ensures same { (state S.Store conn.old).now.schema ≡ keeper_schema
+        → HasCleanDisk (state S.Store conn.new)
+        → OnOk result (IsUnchanged (state S.Store conn.old) (state S.Store conn.new)) }
 {
     conn.query_all("SELECT id FROM run_number", &[])
 }
 
 pub fn write_last<S: Alter>(conn: &mut Connection<S>, last: u32) -> Result<usize, Error>
     ensures clean { HasCleanDisk (state S.Store conn.new) → HasCleanDisk (state S.Store conn.old) }
-    ensures wrote { IsReady (state S.Store conn.old) → HasCleanDisk (state S.Store conn.new) → OnOk result (Wrote 1 (Int (pos last)) (state S.Store conn.old) (state S.Store conn.new)) }
-    ensures failed { IsReady (state S.Store conn.old) → HasCleanDisk (state S.Store conn.new) → OnErr result (Stays (state S.Store conn.old) (state S.Store conn.new)) }
-    ensures crash { IsReady (state S.Store conn.old) → Survives (state S.Store conn.old) (state S.Store conn.new) (Replaced 1 (Int (pos last)) (state S.Store conn.old).now.trees) }
+    ensures wrote { IsReady (state S.Store conn.old) → HasCleanDisk (state S.Store conn.new)
+        → OnOk result (Wrote 1 (Int (pos last)) (state S.Store conn.old) (state S.Store conn.new)) }
+    ensures failed { IsReady (state S.Store conn.old) → HasCleanDisk (state S.Store conn.new)
+        → OnErr result (Stays (state S.Store conn.old) (state S.Store conn.new)) }
+    ensures crash { IsReady (state S.Store conn.old)
+        → Survives (state S.Store conn.old) (state S.Store conn.new)
+        (Replaced 1 (Int (pos last)) (state S.Store conn.old).now.trees) }
 {
     conn.execute(
         "INSERT OR REPLACE INTO run_number (id, last) VALUES (1, ?1)",
@@ -100,33 +116,48 @@ pub fn write_last<S: Alter>(conn: &mut Connection<S>, last: u32) -> Result<usize
 
 pub fn read_bodies<S: Alter>(conn: &mut Connection<S>) -> Result<Vec<Row>, Error>
     ensures clean { HasCleanDisk (state S.Store conn.new) → HasCleanDisk (state S.Store conn.old) }
-    ensures rows { IsReady (state S.Store conn.old) → HasCleanDisk (state S.Store conn.new) → IfOk result (λ rows. rows.items ≡ values_of ((state S.Store conn.old).now.trees 0)) }
-    ensures stays { IsReady (state S.Store conn.old) → HasCleanDisk (state S.Store conn.new) → Stays (state S.Store conn.old) (state S.Store conn.new) }
-    ensures up { IsReady (state S.Store conn.old) → HasCleanDisk (state S.Store conn.new) → OnOk result (IsTrue (state S.Store conn.new).is_open) }
-    ensures crash { IsReady (state S.Store conn.old) → Survives (state S.Store conn.old) (state S.Store conn.new) (λ _. ⊥) }
-    ensures quiet { Survives (state S.Store conn.old) (state S.Store conn.new) (λ _. IsReady (state S.Store conn.old) → ⊥) }
+    ensures rows { IsReady (state S.Store conn.old) → HasCleanDisk (state S.Store conn.new)
+        → IfOk result (λ rows. rows.items ≡ values_of ((state S.Store conn.old).now.trees 0)) }
+    ensures stays { IsReady (state S.Store conn.old) → HasCleanDisk (state S.Store conn.new)
+        → Stays (state S.Store conn.old) (state S.Store conn.new) }
+    ensures up { IsReady (state S.Store conn.old) → HasCleanDisk (state S.Store conn.new)
+        → OnOk result (IsTrue (state S.Store conn.new).is_open) }
+    ensures crash { IsReady (state S.Store conn.old)
+        → Survives (state S.Store conn.old) (state S.Store conn.new) (λ _. ⊥) }
+    ensures quiet { Survives (state S.Store conn.old) (state S.Store conn.new)
+        (λ _. IsReady (state S.Store conn.old) → ⊥) }
 {
     conn.query_all("SELECT body FROM agent_record", &[])
 }
 
 pub fn read_lasts<S: Alter>(conn: &mut Connection<S>) -> Result<Vec<Row>, Error>
     ensures clean { HasCleanDisk (state S.Store conn.new) → HasCleanDisk (state S.Store conn.old) }
-    ensures rows { IsReady (state S.Store conn.old) → HasCleanDisk (state S.Store conn.new) → IfOk result (λ rows. rows.items ≡ values_of ((state S.Store conn.old).now.trees 1)) }
-    ensures stays { IsReady (state S.Store conn.old) → HasCleanDisk (state S.Store conn.new) → Stays (state S.Store conn.old) (state S.Store conn.new) }
-    ensures up { IsReady (state S.Store conn.old) → HasCleanDisk (state S.Store conn.new) → OnOk result (IsTrue (state S.Store conn.new).is_open) }
-    ensures crash { IsReady (state S.Store conn.old) → Survives (state S.Store conn.old) (state S.Store conn.new) (λ _. ⊥) }
-    ensures quiet { Survives (state S.Store conn.old) (state S.Store conn.new) (λ _. IsReady (state S.Store conn.old) → ⊥) }
+    ensures rows { IsReady (state S.Store conn.old) → HasCleanDisk (state S.Store conn.new)
+        → IfOk result (λ rows. rows.items ≡ values_of ((state S.Store conn.old).now.trees 1)) }
+    ensures stays { IsReady (state S.Store conn.old) → HasCleanDisk (state S.Store conn.new)
+        → Stays (state S.Store conn.old) (state S.Store conn.new) }
+    ensures up { IsReady (state S.Store conn.old) → HasCleanDisk (state S.Store conn.new)
+        → OnOk result (IsTrue (state S.Store conn.new).is_open) }
+    ensures crash { IsReady (state S.Store conn.old)
+        → Survives (state S.Store conn.old) (state S.Store conn.new) (λ _. ⊥) }
+    ensures quiet { Survives (state S.Store conn.old) (state S.Store conn.new)
+        (λ _. IsReady (state S.Store conn.old) → ⊥) }
 {
     conn.query_all("SELECT last FROM run_number", &[])
 }
 
 pub fn read_heads<S: Alter>(conn: &mut Connection<S>) -> Result<Vec<Row>, Error>
     ensures clean { HasCleanDisk (state S.Store conn.new) → HasCleanDisk (state S.Store conn.old) }
-    ensures rows { IsReady (state S.Store conn.old) → HasCleanDisk (state S.Store conn.new) → IfOk result (λ rows. rows.items ≡ map head_of ((state S.Store conn.old).now.trees 2)) }
-    ensures stays { IsReady (state S.Store conn.old) → HasCleanDisk (state S.Store conn.new) → Stays (state S.Store conn.old) (state S.Store conn.new) }
-    ensures up { IsReady (state S.Store conn.old) → HasCleanDisk (state S.Store conn.new) → OnOk result (IsTrue (state S.Store conn.new).is_open) }
-    ensures crash { IsReady (state S.Store conn.old) → Survives (state S.Store conn.old) (state S.Store conn.new) (λ _. ⊥) }
-    ensures quiet { Survives (state S.Store conn.old) (state S.Store conn.new) (λ _. IsReady (state S.Store conn.old) → ⊥) }
+    ensures rows { IsReady (state S.Store conn.old) → HasCleanDisk (state S.Store conn.new)
+        → IfOk result (λ rows. rows.items ≡ map head_of ((state S.Store conn.old).now.trees 2)) }
+    ensures stays { IsReady (state S.Store conn.old) → HasCleanDisk (state S.Store conn.new)
+        → Stays (state S.Store conn.old) (state S.Store conn.new) }
+    ensures up { IsReady (state S.Store conn.old) → HasCleanDisk (state S.Store conn.new)
+        → OnOk result (IsTrue (state S.Store conn.new).is_open) }
+    ensures crash { IsReady (state S.Store conn.old)
+        → Survives (state S.Store conn.old) (state S.Store conn.new) (λ _. ⊥) }
+    ensures quiet { Survives (state S.Store conn.old) (state S.Store conn.new)
+        (λ _. IsReady (state S.Store conn.old) → ⊥) }
 {
     conn.query_all(
         "SELECT name, run, session, total, version FROM agent_head",
@@ -136,11 +167,17 @@ pub fn read_heads<S: Alter>(conn: &mut Connection<S>) -> Result<Vec<Row>, Error>
 
 pub fn read_tasks<S: Alter>(conn: &mut Connection<S>) -> Result<Vec<Row>, Error>
     ensures clean { HasCleanDisk (state S.Store conn.new) → HasCleanDisk (state S.Store conn.old) }
-    ensures rows { IsReady (state S.Store conn.old) → HasCleanDisk (state S.Store conn.new) → IfOk result (λ rows. IsPermutation (map task_shown ((state S.Store conn.old).now.trees 3)) rows.items) }
-    ensures stays { IsReady (state S.Store conn.old) → HasCleanDisk (state S.Store conn.new) → Stays (state S.Store conn.old) (state S.Store conn.new) }
-    ensures up { IsReady (state S.Store conn.old) → HasCleanDisk (state S.Store conn.new) → OnOk result (IsTrue (state S.Store conn.new).is_open) }
-    ensures crash { IsReady (state S.Store conn.old) → Survives (state S.Store conn.old) (state S.Store conn.new) (λ _. ⊥) }
-    ensures quiet { Survives (state S.Store conn.old) (state S.Store conn.new) (λ _. IsReady (state S.Store conn.old) → ⊥) }
+    ensures rows { IsReady (state S.Store conn.old) → HasCleanDisk (state S.Store conn.new)
+        → IfOk result (λ rows. IsPermutation (map task_shown ((state S.Store conn.old).now.trees 3))
+        rows.items) }
+    ensures stays { IsReady (state S.Store conn.old) → HasCleanDisk (state S.Store conn.new)
+        → Stays (state S.Store conn.old) (state S.Store conn.new) }
+    ensures up { IsReady (state S.Store conn.old) → HasCleanDisk (state S.Store conn.new)
+        → OnOk result (IsTrue (state S.Store conn.new).is_open) }
+    ensures crash { IsReady (state S.Store conn.old)
+        → Survives (state S.Store conn.old) (state S.Store conn.new) (λ _. ⊥) }
+    ensures quiet { Survives (state S.Store conn.old) (state S.Store conn.new)
+        (λ _. IsReady (state S.Store conn.old) → ⊥) }
 {
     conn.query_all(
         "SELECT rowid, run, n, body FROM agent_task ORDER BY run, n",

@@ -24,10 +24,15 @@ pub struct Rows {
 /// The rows that keep a record. They are read only.
 pub fn read_rows<S: Alter>(conn: &mut Connection<S>) -> Result<Rows, Error>
     ensures clean { HasCleanDisk (state S.Store conn.new) → HasCleanDisk (state S.Store conn.old) }
-    ensures rows { IsReady (state S.Store conn.old) → HasCleanDisk (state S.Store conn.new) → IfOk result (λ rows. Shows (state S.Store conn.old).now.trees rows.records.items rows.heads.items rows.tasks.items rows.amounts.items) }
-    ensures stays { IsReady (state S.Store conn.old) → HasCleanDisk (state S.Store conn.new) → Stays (state S.Store conn.old) (state S.Store conn.new) }
-    ensures up { IsReady (state S.Store conn.old) → HasCleanDisk (state S.Store conn.new) → OnOk result (IsReady (state S.Store conn.new)) }
-    ensures stop { IsReady (state S.Store conn.old) → Survives (state S.Store conn.old) (state S.Store conn.new) (λ _. ⊥) }
+    ensures rows { IsReady (state S.Store conn.old) → HasCleanDisk (state S.Store conn.new)
+        → IfOk result (λ rows. Shows (state S.Store conn.old).now.trees rows.records.items
+        rows.heads.items rows.tasks.items rows.amounts.items) }
+    ensures stays { IsReady (state S.Store conn.old) → HasCleanDisk (state S.Store conn.new)
+        → Stays (state S.Store conn.old) (state S.Store conn.new) }
+    ensures up { IsReady (state S.Store conn.old) → HasCleanDisk (state S.Store conn.new)
+        → OnOk result (IsReady (state S.Store conn.new)) }
+    ensures stop { IsReady (state S.Store conn.old)
+        → Survives (state S.Store conn.old) (state S.Store conn.new) (λ _. ⊥) }
 {
     let records = read_bodies(conn)?;
     let heads = read_heads(conn)?;

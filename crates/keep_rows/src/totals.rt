@@ -21,7 +21,8 @@ use std::alloc::Global;
 /// A total has no more names.
 const NAMES_LIMIT: usize = 8;
 
-/// Adds the amount that a row of name and amount tells to a total. K1 where its name was there before and the sum is too much for a total.
+/// Adds the amount that a row of name and amount tells to a total.
+/// K1 where its name was there before and the sum is too much for a total.
 #[tactic(auto, unfolding(crate::specs::Totals::amount_told))]
 fn add_amount(alloc: Global, total: &mut Resources, row: &Row) -> Result<(), KeepFault>
     ensures added { OnOk result ((r : Amount) × (amount_told row.now ≡ Some r)
@@ -39,8 +40,9 @@ fn add_amount(alloc: Global, total: &mut Resources, row: &Row) -> Result<(), Kee
     }
 }
 
-/// The total that rows of name and amount tell, whatever their order. K1 where a name comes twice and the sum is too much for a total, K2
-/// where a row tells no amount of a resource or there are more than eight, K4 for want of memory.
+/// The total that rows of name and amount tell, whatever their order. K1 where a name comes twice
+/// and the sum is too much for a total, K2 where a row tells no amount of a resource or there are
+/// more than eight, K4 for want of memory.
 pub fn total_of(alloc: Global, rows: &[Row]) -> Result<Resources, KeepFault>
     ensures told { (held : List Shown) → IsPermutation held rows.now
         → IfOk result (λ total. total_told held ≡ Some total) }
@@ -131,7 +133,8 @@ fn add_rows<S: Alter>(tx: &mut Transaction<'_, S>, rows: &[quantity::Row]) -> Re
     Ok(())
 }
 
-/// Writes the rows of a total in place of those of another. K1 for an error of the store, K4 for want of memory.
+/// Writes the rows of a total in place of those of another.
+/// K1 for an error of the store, K4 for want of memory.
 pub fn write_total<S: Alter>(
     tx: &mut Transaction<'_, S>,
     total: &Resources,

@@ -60,7 +60,8 @@ abbrev pub where_none : {A B : Type 0} → List A → Option B → Option B
 where_none [] found = found
 where_none (x ∷ xs) found = None
 
--- the total of a head of a version: 1, its own, beside no row of agent_total; 2, that which these rows tell, where its own is empty
+-- the total of a head of a version: 1, its own, beside no row of agent_total; 2,
+-- that which these rows tell, where its own is empty
 abbrev pub total_by : ℕ → List Amount → List Row → Option (List Amount)
 total_by version own amounts =
     if version == 1 then where_none amounts (Some own)
@@ -68,36 +69,43 @@ total_by version own amounts =
 
 -- a record with this total
 abbrev pub with_total : List Amount → Durable → Durable
-with_total total d = record { name = d.name; total = total; session = d.session; run = d.run; tasks = d.tasks }
+with_total total d =
+    record { name = d.name; total = total; session = d.session; run = d.run; tasks = d.tasks }
 
 -- the record of a head and of rows of agent_total, with no tasks yet
 unfoldable pub head_told : Row → List Row → Option Durable
 head_told head amounts =
-    own_told head >>= λ d. number_at (column head 4) >>= λ version. total_by version d.total amounts >>= λ total. Some (with_total total d)
+    own_told head >>= λ d. number_at (column head 4) >>= λ version.
+    total_by version d.total amounts >>= λ total. Some (with_total total d)
 
 -- a record with these tasks
 abbrev pub with_tasks : List RecordedTask → Durable → Durable
-with_tasks tasks d = record { name = d.name; total = d.total; session = d.session; run = d.run; tasks = tasks }
+with_tasks tasks d =
+    record { name = d.name; total = d.total; session = d.session; run = d.run; tasks = tasks }
 
 -- the text of a record, and no text where there is none
 abbrev pub text_of : Option Durable → Value
 text_of None = Null
 text_of (Some d) = Text (record_form d)
 
--- what is kept of an agent's record: the text in agent_record, or that of the record which the head, the tasks and the amounts tell; no text
--- where there are rows of both forms, or tasks or amounts without a head
+-- what is kept of an agent's record: the text in agent_record, or that of the record which the
+-- head, the tasks and the amounts tell; no text where there are rows of both forms, or tasks or
+-- amounts without a head
 abbrev pub body_in : List Row → List Row → List Row → List Row → Option Value
 body_in [] [] [] [] = None
 body_in [] [] [] (amount ∷ amounts) = Some Null
 body_in [] [] (task ∷ tasks) amounts = Some Null
 body_in [] (head ∷ more) tasks amounts =
-    Some (text_of (tasks_in tasks >>= λ told. head_told (head_of head) (map amount_shown amounts) >>= λ d. Some (with_tasks told d)))
+    Some
+    (text_of (tasks_in tasks >>= λ told. head_told (head_of head) (map amount_shown amounts) >>=
+    λ d. Some (with_tasks told d)))
 body_in (row ∷ more) [] [] [] = Some (column row 2)
 body_in (row ∷ more) [] [] (amount ∷ amounts) = Some Null
 body_in (row ∷ more) [] (task ∷ tasks) amounts = Some Null
 body_in (row ∷ more) (head ∷ heads) tasks amounts = Some Null
 
--- what a database keeps: an agent's record as a text, if there is one, and the last run that was given out, 0 where none was
+-- what a database keeps: an agent's record as a text, if there is one,
+-- and the last run that was given out, 0 where none was
 pub record Kept : Type 0 where
   pub body : Option Value
   pub last : ℕ
@@ -115,7 +123,8 @@ abbrev pub last_in : List Row → ℕ
 last_in [] = 0
 last_in (row ∷ more) = whole (column row 2)
 
--- tree 0 is the table agent_record, tree 1 run_number, tree 2 agent_head, tree 3 agent_task, tree 5 agent_total
+-- tree 0 is the table agent_record, tree 1 run_number, tree 2 agent_head,
+-- tree 3 agent_task, tree 5 agent_total
 abbrev pub kept_in : Trees → Kept
 kept_in db = record { body = body_in (db 0) (db 2) (db 3) (db 5); last = last_in (db 1) }
 
@@ -153,11 +162,15 @@ IsRecordText d text = IsWritten d text × (is_record d ≡ true)
 
 -- no record where nothing is kept, and else the record whose written form is
 abbrev pub IsLoaded : Option Value → Option Durable → Type 0
-IsLoaded body found = MatchOption found (body ≡ None) (λ d. (text : List ℕ) × HoldsText body text × IsRecordText d text)
+IsLoaded body found =
+    MatchOption found (body ≡ None) (λ d. (text : List ℕ) × HoldsText body text
+    × IsRecordText d text)
 
 -- something is kept, and no UTF-8 text (RFC 3629) that is a record's
 abbrev pub IsDamaged : Option Value → Type 0
-IsDamaged body = (body ≢ None) × ((d : Durable) (text : List ℕ) → HoldsText body text → IsUtf8 text → IsRecordText d text → ⊥)
+IsDamaged body =
+    (body ≢ None) × ((d : Durable) (text : List ℕ) → HoldsText body text → IsUtf8 text
+    → IsRecordText d text → ⊥)
 
 -- what stands in the row of the table run_number, if there is one
 abbrev pub run_in : Trees → Option Value
@@ -208,9 +221,11 @@ pub record Tells (rows : List Row) (Is : RecordedTask → Type 0) : Type 0 where
 
 -- there are the rows that were, and rows of these tasks
 pub record Adds (tasks : List RecordedTask) (old new : Trees) : Type 0 where
-  pub had : (row : Row) → Has (new 3) row → Has (old 3) row ⊎ ((task : RecordedTask) × Has tasks task × TellsTask row task)
+  pub had : (row : Row) → Has (new 3) row → Has (old 3) row
+      ⊎ ((task : RecordedTask) × Has tasks task × TellsTask row task)
   pub kept : (row : Row) → Has (old 3) row → Has (new 3) row
-  pub there : (task : RecordedTask) → Has tasks task → (row : Row) × Has (new 3) row × (told row ≡ Some task)
+  pub there : (task : RecordedTask) → Has tasks task → (row : Row) × Has (new 3) row
+      × (told row ≡ Some task)
   pub others : SparesOthers 3 old new
 
 -- the rows of tasks are those of the tasks that were seen last, if any were
@@ -219,7 +234,8 @@ Knows None db = ⊤
 Knows (Some seen) db = Tells (db 3) (Has seen)
 
 -- where the rows of tasks were those of the tasks that were seen last, they are those of these
-pub record HasTasks (seen : Option (List RecordedTask)) (tasks : List RecordedTask) (old new : Trees) : Type 0 where
+pub record HasTasks (seen : Option (List RecordedTask)) (tasks : List RecordedTask)
+    (old new : Trees) : Type 0 where
   pub tells : Knows seen old → Tells (new 3) (Has tasks)
   pub others : SparesOthers 3 old new
 
@@ -256,7 +272,8 @@ abbrev pub IsHeadSeen : Option Durable → Type 0
 IsHeadSeen None = ⊤
 IsHeadSeen (Some seen) = IsHead seen
 
--- the head and the rows of its total are those that were seen last, if any were, and no record stands as one text
+-- the head and the rows of its total are those that were seen last, if any were,
+-- and no record stands as one text
 abbrev pub KnowsHead : Option Durable → Trees → Type 0
 KnowsHead None db = ⊤
 KnowsHead (Some d) db =
@@ -277,17 +294,21 @@ pub record HasNoTask (old new : Trees) : Type 0 where
   pub none : new 3 ≡ []
   pub others : SparesOthers 3 old new
 
--- where the head was the one that was seen last, it and the rows of its total are those of this record, and no record stands as one text
+-- where the head was the one that was seen last,
+-- it and the rows of its total are those of this record, and no record stands as one text
 pub record HasHead (seen : Option Durable) (d : Durable) (old new : Trees) : Type 0 where
   pub records : KnowsHead seen old → IsLone (old 0) → new 0 ≡ []
   pub heads : KnowsHead seen old → IsLone (old 2) → new 2 ≡ head_row d.name d.run d.session ∷ []
   pub amounts : KnowsHead seen old → new 5 ≡ amount_rows 1 d.total
   pub others : (t : ℕ) → t ≢ 0 → t ≢ 2 → t ≢ 5 → IsTable t → new t ≡ old t
 
--- the rows are those of this record, where those of the head and tasks that were seen last were there
-pub record HasRecord (seen : Option (List RecordedTask)) (head_seen : Option Durable) (d : Durable) (old new : Trees) : Type 0 where
+-- the rows are those of this record,
+-- where those of the head and tasks that were seen last were there
+pub record HasRecord (seen : Option (List RecordedTask)) (head_seen : Option Durable) (d : Durable)
+    (old new : Trees) : Type 0 where
   pub records : KnowsHead head_seen old → IsLone (old 0) → new 0 ≡ []
-  pub heads : KnowsHead head_seen old → IsLone (old 2) → new 2 ≡ head_row d.name d.run d.session ∷ []
+  pub heads : KnowsHead head_seen old → IsLone (old 2)
+      → new 2 ≡ head_row d.name d.run d.session ∷ []
   pub amounts : KnowsHead head_seen old → new 5 ≡ amount_rows 1 d.total
   pub tasks : Knows seen old → Tells (new 3) (Has d.tasks)
   pub is_head : IsHead d

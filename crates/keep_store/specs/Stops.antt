@@ -6,7 +6,9 @@ use Rattle.keep_store.specs.Kept.{Kept, kept_in}
 
 -- a stop at any moment of a call leaves what was kept before it, or what the call makes of that
 abbrev pub LeavesEither : State → State → (Kept → Kept) → Type 0
-LeavesEither old new change = HasCleanDisk new → (db : Trees) → new.may_leave db → (kept_in db ≡ kept_in old.now.trees) ⊎ (kept_in db ≡ change (kept_in old.now.trees))
+LeavesEither old new change =
+    HasCleanDisk new → (db : Trees) → new.may_leave db → (kept_in db ≡ kept_in old.now.trees)
+    ⊎ (kept_in db ≡ change (kept_in old.now.trees))
 
 -- a stop behind a call leaves what is kept then, and nothing else
 abbrev pub Stands : State → Type 0

@@ -28,7 +28,8 @@ fn is_lone(rows: &[Row]) -> bool
 
 /// None of the three has a row.
 fn are_empty(records: &[Row], runs: &[Row], heads: &[Row]) -> bool
-    ensures { IsTrue result → (length records.now ≡ 0) × (length runs.now ≡ 0) × (length heads.now ≡ 0) }
+    ensures { IsTrue result → (length records.now ≡ 0) × (length runs.now ≡ 0)
+        × (length heads.now ≡ 0) }
 {
     records.is_empty() && runs.is_empty() && heads.is_empty()
 }
@@ -40,12 +41,16 @@ fn are_lone(records: &[Row], runs: &[Row], heads: &[Row]) -> bool
     is_lone(records) && is_lone(runs) && is_lone(heads)
 }
 
-/// The five tables are there and no other, with at most one row each but those of tasks and of amounts; and whether those are empty.
+/// The five tables are there and no other,
+/// with at most one row each but those of tasks and of amounts; and whether those are empty.
 fn check_tables<S: Alter>(conn: &mut Connection<S>) -> Result<bool, KeepFault>
     ensures clean { HasCleanDisk (state S.Store conn.new) → HasCleanDisk (state S.Store conn.old) }
-    ensures ready { HasCleanDisk (state S.Store conn.new) → OnOk result (IsReady (state S.Store conn.new)) }
-    ensures found { HasCleanDisk (state S.Store conn.new) → OnOk result ((state S.Store conn.new).now ≡ (state S.Store conn.old).now) }
-    ensures empty { HasCleanDisk (state S.Store conn.new) → IfOk result (λ empty. IsTrue empty → HasNoRow (state S.Store conn.new).now.trees) }
+    ensures ready { HasCleanDisk (state S.Store conn.new)
+        → OnOk result (IsReady (state S.Store conn.new)) }
+    ensures found { HasCleanDisk (state S.Store conn.new)
+        → OnOk result ((state S.Store conn.new).now ≡ (state S.Store conn.old).now) }
+    ensures empty { HasCleanDisk (state S.Store conn.new)
+        → IfOk result (λ empty. IsTrue empty → HasNoRow (state S.Store conn.new).now.trees) }
     ensures unspent { IfErr result (λ e. e ≢ KeepFault.RunsSpent) }
 {
     if !conn.is_autocommit() || !is_ours(conn.schema()) {
@@ -64,8 +69,10 @@ fn check_tables<S: Alter>(conn: &mut Connection<S>) -> Result<bool, KeepFault>
 #[tactic(auto, using(crate::proofs::MoveLemmas::no_task_shown, crate::proofs::MoveLemmas::no_amount_shown, crate::proofs::MoveLemmas::nothing_kept))]
 fn check_new<S: Alter>(conn: &mut Connection<S>) -> Result<(), KeepFault>
     ensures clean { HasCleanDisk (state S.Store conn.new) → HasCleanDisk (state S.Store conn.old) }
-    ensures ready { HasCleanDisk (state S.Store conn.new) → OnOk result (IsReady (state S.Store conn.new)) }
-    ensures fresh { HasCleanDisk (state S.Store conn.new) → OnOk result (kept_in (state S.Store conn.new).now.trees ≡ nothing) }
+    ensures ready { HasCleanDisk (state S.Store conn.new)
+        → OnOk result (IsReady (state S.Store conn.new)) }
+    ensures fresh { HasCleanDisk (state S.Store conn.new)
+        → OnOk result (kept_in (state S.Store conn.new).now.trees ≡ nothing) }
     ensures unspent { IfErr result (λ e. e ≢ KeepFault.RunsSpent) }
 {
     let is_empty = check_tables(conn)?;
@@ -78,17 +85,21 @@ fn check_new<S: Alter>(conn: &mut Connection<S>) -> Result<(), KeepFault>
     }
 }
 
-/// Makes the tables that a new store lacks, one that kept a record as one text, or one that kept a total in its head, and tests them.
+/// Makes the tables that a new store lacks, one that kept a record as one text,
+/// or one that kept a total in its head, and tests them.
 #[tactic(auto, using(crate::proofs::MoveLemmas::first_moved, crate::proofs::MoveLemmas::second_moved))]
 pub fn prepare<S: Alter>(conn: &mut Connection<S>) -> Result<(), KeepFault>
     ensures clean { HasCleanDisk (state S.Store conn.new) → HasCleanDisk (state S.Store conn.old) }
-    ensures ready { HasCleanDisk (state S.Store conn.new) → OnOk result (IsReady (state S.Store conn.new)) }
+    ensures ready { HasCleanDisk (state S.Store conn.new)
+        → OnOk result (IsReady (state S.Store conn.new)) }
     ensures found { HasCleanDisk (state S.Store conn.new)
         → (state S.Store conn.old).now.schema ≢ no_schema
         → (state S.Store conn.old).now.schema ≢ first_schema
         → (state S.Store conn.old).now.schema ≢ second_schema
         → OnOk result ((state S.Store conn.new).now ≡ (state S.Store conn.old).now) }
-    ensures fresh { HasCleanDisk (state S.Store conn.new) → (state S.Store conn.old).now.schema ≡ no_schema → OnOk result (kept_in (state S.Store conn.new).now.trees ≡ nothing) }
+    ensures fresh { HasCleanDisk (state S.Store conn.new)
+        → (state S.Store conn.old).now.schema ≡ no_schema
+        → OnOk result (kept_in (state S.Store conn.new).now.trees ≡ nothing) }
     ensures moved { HasCleanDisk (state S.Store conn.new)
         → (state S.Store conn.old).now.schema ≡ first_schema
         → OnOk result (kept_in (state S.Store conn.new).now.trees

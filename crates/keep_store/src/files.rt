@@ -12,7 +12,8 @@ use sqlite_std_file::OpenError;
 use std::hash::{BuildHasher, RandomState};
 use std::io::ErrorKind;
 
-/// How many pages of 4,096 bytes a store has room for in memory: all of an agent's record of a thousand tasks.
+/// How many pages of 4,096 bytes a store has room for in memory:
+/// all of an agent's record of a thousand tasks.
 const CACHE_PAGES: usize = 64;
 
 const NO_MEMORY: Error = Error::SqliteFailure(ErrorCode::OutOfMemory);
@@ -45,8 +46,8 @@ fn options(rt: &HostRuntime) -> Result<Options, Error> {
     })
 }
 
-/// A connection to the files at a path. `S` stands for what they hold, and `start` is its value. What is left of files that no connection is opened to is
-/// dropped.
+/// A connection to the files at a path. `S` stands for what they hold, and `start` is its value.
+/// What is left of files that no connection is opened to is dropped.
 pub fn connect<S: Start>(
     rt: &HostRuntime,
     path: &str,

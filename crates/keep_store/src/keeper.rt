@@ -33,8 +33,8 @@ use std::mem;
 /// The last run that is given out.
 const LAST_RUN: u32 = 65_535;
 
-/// A store of an agent's record and of the master's last run, over any store of SQLite. After a refusal by K1 or K4 of a save or of a
-/// next run it is opened again.
+/// A store of an agent's record and of the master's last run, over any store of SQLite.
+/// After a refusal by K1 or K4 of a save or of a next run it is opened again.
 pub struct Keeper<S: Alter> {
     conn: Connection<S>,
     /// Whether no save failed, and no run was given out, since it was opened.
@@ -96,12 +96,19 @@ fn first_number(rows: &[Row]) -> Result<u32, KeepFault>
 fn last_run<S: Alter>(conn: &mut Connection<S>) -> Result<u32, KeepFault>
     ensures clean { HasCleanDisk (state S.Store conn.new) → HasCleanDisk (state S.Store conn.old) }
     ensures unspent { IfErr result (λ e. e ≢ KeepFault.RunsSpent) }
-    ensures value { IsReady (state S.Store conn.old) → HasCleanDisk (state S.Store conn.new) → IfOk result (λ n. n ≡ (kept_in (state S.Store conn.old).now.trees).last) }
-    ensures told { IsReady (state S.Store conn.old) → HasCleanDisk (state S.Store conn.new) → IfOk result (TellsRun (run_in (state S.Store conn.old).now.trees)) }
-    ensures damaged { IsReady (state S.Store conn.old) → HasCleanDisk (state S.Store conn.new) → IsErrOf result KeepFault.Damaged → TellsNoRun (run_in (state S.Store conn.old).now.trees) }
-    ensures stays { IsReady (state S.Store conn.old) → HasCleanDisk (state S.Store conn.new) → Stays (state S.Store conn.old) (state S.Store conn.new) }
-    ensures up { IsReady (state S.Store conn.old) → HasCleanDisk (state S.Store conn.new) → OnOk result (IsReady (state S.Store conn.new)) }
-    ensures stop { IsReady (state S.Store conn.old) → Survives (state S.Store conn.old) (state S.Store conn.new) (λ _. ⊥) }
+    ensures value { IsReady (state S.Store conn.old) → HasCleanDisk (state S.Store conn.new)
+        → IfOk result (λ n. n ≡ (kept_in (state S.Store conn.old).now.trees).last) }
+    ensures told { IsReady (state S.Store conn.old) → HasCleanDisk (state S.Store conn.new)
+        → IfOk result (TellsRun (run_in (state S.Store conn.old).now.trees)) }
+    ensures damaged { IsReady (state S.Store conn.old) → HasCleanDisk (state S.Store conn.new)
+        → IsErrOf result KeepFault.Damaged
+        → TellsNoRun (run_in (state S.Store conn.old).now.trees) }
+    ensures stays { IsReady (state S.Store conn.old) → HasCleanDisk (state S.Store conn.new)
+        → Stays (state S.Store conn.old) (state S.Store conn.new) }
+    ensures up { IsReady (state S.Store conn.old) → HasCleanDisk (state S.Store conn.new)
+        → OnOk result (IsReady (state S.Store conn.new)) }
+    ensures stop { IsReady (state S.Store conn.old)
+        → Survives (state S.Store conn.old) (state S.Store conn.new) (λ _. ⊥) }
 {
     let rows = read_lasts(conn).map_err(fault_of)?;
     first_number(rows.as_slice())
@@ -110,10 +117,15 @@ fn last_run<S: Alter>(conn: &mut Connection<S>) -> Result<u32, KeepFault>
 /// Gives out the run behind this one, which was the last; it is committed before it is answered.
 fn run_behind<S: Alter>(conn: &mut Connection<S>, last: u32) -> Result<u32, KeepFault>
     ensures clean { HasCleanDisk (state S.Store conn.new) → HasCleanDisk (state S.Store conn.old) }
-    ensures given { IsReady (state S.Store conn.old) → HasCleanDisk (state S.Store conn.new) → IfOk result (λ n. IsReady (state S.Store conn.new) × (n ≡ last + 1) × (kept_in (state S.Store conn.new).now.trees ≡ with_last (last + 1) (kept_in (state S.Store conn.old).now.trees))) }
+    ensures given { IsReady (state S.Store conn.old) → HasCleanDisk (state S.Store conn.new)
+        → IfOk result (λ n. IsReady (state S.Store conn.new) × (n ≡ last + 1)
+        × (kept_in (state S.Store conn.new).now.trees
+        ≡ with_last (last + 1) (kept_in (state S.Store conn.old).now.trees))) }
     ensures few { IfOk result (λ n. n ≤ 65535) }
-    ensures failed { IsReady (state S.Store conn.old) → HasCleanDisk (state S.Store conn.new) → OnErr result (Stays (state S.Store conn.old) (state S.Store conn.new)) }
-    ensures stop { IsReady (state S.Store conn.old) → LeavesEither (state S.Store conn.old) (state S.Store conn.new) (with_last (last + 1)) }
+    ensures failed { IsReady (state S.Store conn.old) → HasCleanDisk (state S.Store conn.new)
+        → OnErr result (Stays (state S.Store conn.old) (state S.Store conn.new)) }
+    ensures stop { IsReady (state S.Store conn.old)
+        → LeavesEither (state S.Store conn.old) (state S.Store conn.new) (with_last (last + 1)) }
     ensures stands { Stands (state S.Store conn.new) }
     ensures undamaged { IfErr result (λ e. e ≢ KeepFault.Damaged) }
     ensures spent { IsErrOf result KeepFault.RunsSpent → 65535 ≤ last }
@@ -126,18 +138,24 @@ fn run_behind<S: Alter>(conn: &mut Connection<S>, last: u32) -> Result<u32, Keep
 }
 
 impl<S: Alter + Drop> Keeper<S> {
-    /// The keeper over a connection. Its tables are made where there is none yet, and those that are lacking beside the two of a store that
-    /// kept a record as one text, and beside the four of one that kept a total in its head. A refusal hands the connection back:
-    /// K1 for an error of the store, K2 where the tables aren't those of a keeper or the connection is in a transaction, K4 for want of memory.
+    /// The keeper over a connection. Its tables are made where there is none yet, and those that
+    /// are lacking beside the two of a store that kept a record as one text, and beside the four of
+    /// one that kept a total in its head. A refusal hands the connection back: K1 for an error of
+    /// the store, K2 where the tables aren't those of a keeper or the connection is in a
+    /// transaction, K4 for want of memory.
     pub fn adopt(mut conn: Connection<S>) -> Result<Keeper<S>, (KeepFault, Connection<S>)>
-        ensures clean { IfOk result (λ keeper. HasCleanDisk (state S.Store keeper) → HasCleanDisk (state S.Store conn)) }
-        ensures ready { IfOk result (λ keeper. HasCleanDisk (state S.Store keeper) → IsReady (state S.Store keeper)) }
+        ensures clean { IfOk result (λ keeper. HasCleanDisk (state S.Store keeper)
+            → HasCleanDisk (state S.Store conn)) }
+        ensures ready { IfOk result (λ keeper. HasCleanDisk (state S.Store keeper)
+            → IsReady (state S.Store keeper)) }
         ensures found { IfOk result (λ keeper. HasCleanDisk (state S.Store keeper)
             → (state S.Store conn).now.schema ≢ no_schema
             → (state S.Store conn).now.schema ≢ first_schema
             → (state S.Store conn).now.schema ≢ second_schema
             → (state S.Store keeper).now ≡ (state S.Store conn).now) }
-        ensures fresh { IfOk result (λ keeper. HasCleanDisk (state S.Store keeper) → (state S.Store conn).now.schema ≡ no_schema → kept_in (state S.Store keeper).now.trees ≡ nothing) }
+        ensures fresh { IfOk result (λ keeper. HasCleanDisk (state S.Store keeper)
+            → (state S.Store conn).now.schema ≡ no_schema
+            → kept_in (state S.Store keeper).now.trees ≡ nothing) }
         ensures moved { IfOk result (λ keeper. HasCleanDisk (state S.Store keeper)
             → (state S.Store conn).now.schema ≡ first_schema
             → kept_in (state S.Store keeper).now.trees
@@ -174,18 +192,32 @@ impl<S: Alter + Drop> Keeper<S> {
 }
 
 impl<S: Alter> Keeper<S> {
-    /// The record that is kept, None where none was ever saved. K1 for an error of the store, K2 where what is kept is the written form
-    /// of no record that an agent can have, K4 for want of memory.
+    /// The record that is kept, None where none was ever saved. K1 for an error of the store, K2
+    /// where what is kept is the written form of no record that an agent can have, K4 for want of
+    /// memory.
     pub fn load(&mut self, alloc: Global) -> Result<Option<Record>, KeepFault>
-        ensures clean { HasCleanDisk (state S.Store self.new) → HasCleanDisk (state S.Store self.old) }
-        ensures loaded { IsReady (state S.Store self.old) → HasCleanDisk (state S.Store self.new) → IfOk result (IsLoaded (kept_in (state S.Store self.old).now.trees).body) }
-        ensures saved { (d : Durable) → IsReady (state S.Store self.old) → HasCleanDisk (state S.Store self.new) → IsDurable d → HoldsText (kept_in (state S.Store self.old).now.trees).body (record_form d) → IfOk result (λ found. found ≡ Some d) }
-        ensures damaged { IsReady (state S.Store self.old) → HasCleanDisk (state S.Store self.new) → IsErrOf result KeepFault.Damaged → IsDamaged (kept_in (state S.Store self.old).now.trees).body }
-        ensures readable { (d : Durable) → IsReady (state S.Store self.old) → HasCleanDisk (state S.Store self.new) → IsDurable d → is_record d ≡ true → IsUtf8 (record_form d) → HoldsText (kept_in (state S.Store self.old).now.trees).body (record_form d) → IsErrOf result KeepFault.Damaged → ⊥ }
+        ensures clean { HasCleanDisk (state S.Store self.new)
+            → HasCleanDisk (state S.Store self.old) }
+        ensures loaded { IsReady (state S.Store self.old) → HasCleanDisk (state S.Store self.new)
+            → IfOk result (IsLoaded (kept_in (state S.Store self.old).now.trees).body) }
+        ensures saved { (d : Durable) → IsReady (state S.Store self.old)
+            → HasCleanDisk (state S.Store self.new) → IsDurable d
+            → HoldsText (kept_in (state S.Store self.old).now.trees).body (record_form d)
+            → IfOk result (λ found. found ≡ Some d) }
+        ensures damaged { IsReady (state S.Store self.old) → HasCleanDisk (state S.Store self.new)
+            → IsErrOf result KeepFault.Damaged
+            → IsDamaged (kept_in (state S.Store self.old).now.trees).body }
+        ensures readable { (d : Durable) → IsReady (state S.Store self.old)
+            → HasCleanDisk (state S.Store self.new) → IsDurable d → is_record d ≡ true
+            → IsUtf8 (record_form d) → HoldsText (kept_in (state S.Store self.old).now.trees).body
+            (record_form d) → IsErrOf result KeepFault.Damaged → ⊥ }
         ensures unspent { IfErr result (λ e. e ≢ KeepFault.RunsSpent) }
-        ensures stays { IsReady (state S.Store self.old) → HasCleanDisk (state S.Store self.new) → Stays (state S.Store self.old) (state S.Store self.new) }
-        ensures up { IsReady (state S.Store self.old) → HasCleanDisk (state S.Store self.new) → OnOk result (IsReady (state S.Store self.new)) }
-        ensures stop { IsReady (state S.Store self.old) → Survives (state S.Store self.old) (state S.Store self.new) (λ _. ⊥) }
+        ensures stays { IsReady (state S.Store self.old) → HasCleanDisk (state S.Store self.new)
+            → Stays (state S.Store self.old) (state S.Store self.new) }
+        ensures up { IsReady (state S.Store self.old) → HasCleanDisk (state S.Store self.new)
+            → OnOk result (IsReady (state S.Store self.new)) }
+        ensures stop { IsReady (state S.Store self.old)
+            → Survives (state S.Store self.old) (state S.Store self.new) (λ _. ⊥) }
     {
         let is_ready = mem::replace(&mut self.is_ready, false);
         self.seen = None;
@@ -208,16 +240,24 @@ impl<S: Alter> Keeper<S> {
         Ok(found)
     }
 
-    /// Keeps a record in place of the one before, in one transaction. K1 for an error of the store, K4 for want of memory; then the keeper is
-    /// opened again, and `load` tells which of the two stands.
+    /// Keeps a record in place of the one before, in one transaction. K1 for an error of the store,
+    /// K4 for want of memory; then the keeper is opened again, and `load` tells which of the two
+    /// stands.
     pub fn save(&mut self, alloc: Global, durable: &Record) -> Result<(), KeepFault>
-        ensures clean { HasCleanDisk (state S.Store self.new) → HasCleanDisk (state S.Store self.old) }
-        ensures saved { IsReady (state S.Store self.old) → HasCleanDisk (state S.Store self.new) → OnOk result (IsReady (state S.Store self.new) × (kept_in (state S.Store self.new).now.trees ≡ with_record durable.now (kept_in (state S.Store self.old).now.trees))) }
+        ensures clean { HasCleanDisk (state S.Store self.new)
+            → HasCleanDisk (state S.Store self.old) }
+        ensures saved { IsReady (state S.Store self.old) → HasCleanDisk (state S.Store self.new)
+            → OnOk result (IsReady (state S.Store self.new)
+            × (kept_in (state S.Store self.new).now.trees
+            ≡ with_record durable.now (kept_in (state S.Store self.old).now.trees))) }
         ensures durable { OnOk result (IsDurable durable.now) }
         ensures recorded { is_record durable.now ≡ true }
         ensures text { OnOk result (IsUtf8 (record_form durable.now)) }
-        ensures failed { IsReady (state S.Store self.old) → HasCleanDisk (state S.Store self.new) → OnErr result (Stays (state S.Store self.old) (state S.Store self.new)) }
-        ensures stop { IsReady (state S.Store self.old) → LeavesEither (state S.Store self.old) (state S.Store self.new) (with_record durable.now) }
+        ensures failed { IsReady (state S.Store self.old) → HasCleanDisk (state S.Store self.new)
+            → OnErr result (Stays (state S.Store self.old) (state S.Store self.new)) }
+        ensures stop { IsReady (state S.Store self.old)
+            → LeavesEither (state S.Store self.old) (state S.Store self.new)
+            (with_record durable.now) }
         ensures stands { Stands (state S.Store self.new) }
         ensures undamaged { IfErr result (λ e. e ≢ KeepFault.Damaged) }
         ensures unspent { IfErr result (λ e. e ≢ KeepFault.RunsSpent) }
@@ -234,18 +274,32 @@ impl<S: Alter> Keeper<S> {
         Ok(())
     }
 
-    /// The next run of the master, one more than the last, from 1; it is committed before it is answered. K1 for an error of the store, K2
-    /// where what is kept is no number, K3 where run 65,535 was given out, K4 for want of memory. After K1 and K4 the keeper is opened again.
+    /// The next run of the master, one more than the last, from 1; it is committed before it is
+    /// answered. K1 for an error of the store, K2 where what is kept is no number, K3 where run
+    /// 65,535 was given out, K4 for want of memory. After K1 and K4 the keeper is opened again.
     pub fn next_run(&mut self) -> Result<u32, KeepFault>
-        ensures clean { HasCleanDisk (state S.Store self.new) → HasCleanDisk (state S.Store self.old) }
-        ensures given { IsReady (state S.Store self.old) → HasCleanDisk (state S.Store self.new) → IfOk result (λ n. IsReady (state S.Store self.new) × (n ≡ (kept_in (state S.Store self.old).now.trees).last + 1) × (kept_in (state S.Store self.new).now.trees ≡ with_run (kept_in (state S.Store self.old).now.trees))) }
+        ensures clean { HasCleanDisk (state S.Store self.new)
+            → HasCleanDisk (state S.Store self.old) }
+        ensures given { IsReady (state S.Store self.old) → HasCleanDisk (state S.Store self.new)
+            → IfOk result (λ n. IsReady (state S.Store self.new)
+            × (n ≡ (kept_in (state S.Store self.old).now.trees).last + 1)
+            × (kept_in (state S.Store self.new).now.trees
+            ≡ with_run (kept_in (state S.Store self.old).now.trees))) }
         ensures few { IfOk result (λ n. n ≤ 65535) }
-        ensures failed { IsReady (state S.Store self.old) → HasCleanDisk (state S.Store self.new) → OnErr result (Stays (state S.Store self.old) (state S.Store self.new)) }
-        ensures stop { IsReady (state S.Store self.old) → LeavesEither (state S.Store self.old) (state S.Store self.new) with_run }
+        ensures failed { IsReady (state S.Store self.old) → HasCleanDisk (state S.Store self.new)
+            → OnErr result (Stays (state S.Store self.old) (state S.Store self.new)) }
+        ensures stop { IsReady (state S.Store self.old)
+            → LeavesEither (state S.Store self.old) (state S.Store self.new) with_run }
         ensures stands { Stands (state S.Store self.new) }
-        ensures told { IsReady (state S.Store self.old) → HasCleanDisk (state S.Store self.new) → OnOk result (TellsRun (run_in (state S.Store self.old).now.trees) (kept_in (state S.Store self.old).now.trees).last) }
-        ensures damaged { IsReady (state S.Store self.old) → HasCleanDisk (state S.Store self.new) → IsErrOf result KeepFault.Damaged → TellsNoRun (run_in (state S.Store self.old).now.trees) }
-        ensures spent { IsReady (state S.Store self.old) → HasCleanDisk (state S.Store self.new) → IsErrOf result KeepFault.RunsSpent → 65535 ≤ (kept_in (state S.Store self.old).now.trees).last }
+        ensures told { IsReady (state S.Store self.old) → HasCleanDisk (state S.Store self.new)
+            → OnOk result (TellsRun (run_in (state S.Store self.old).now.trees)
+            (kept_in (state S.Store self.old).now.trees).last) }
+        ensures damaged { IsReady (state S.Store self.old) → HasCleanDisk (state S.Store self.new)
+            → IsErrOf result KeepFault.Damaged
+            → TellsNoRun (run_in (state S.Store self.old).now.trees) }
+        ensures spent { IsReady (state S.Store self.old) → HasCleanDisk (state S.Store self.new)
+            → IsErrOf result KeepFault.RunsSpent
+            → 65535 ≤ (kept_in (state S.Store self.old).now.trees).last }
     {
         self.is_ready = false;
         self.seen = None;

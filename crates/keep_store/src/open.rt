@@ -15,11 +15,13 @@ use crate::keeper::Keeper;
 use keep_rows::KeepFault;
 use sqlite::{Alter, Connection, Error, FileFrom, FileStore, Start, Unknown};
 
-/// The keeper over a connection, where it was opened. Of one that isn't adopted only the reason is left.
+/// The keeper over a connection, where it was opened.
+/// Of one that isn't adopted only the reason is left.
 fn keeper_over<S: Alter + Drop>(
     opened: Result<Connection<S>, Error>,
 ) -> Result<Keeper<S>, KeepFault>
-    ensures ready { IfOk result (λ keeper. HasCleanDisk (state S.Store keeper) → IsReady (state S.Store keeper)) }
+    ensures ready { IfOk result (λ keeper. HasCleanDisk (state S.Store keeper)
+        → IsReady (state S.Store keeper)) }
     ensures found { IfOk result (λ keeper. HasCleanDisk (state S.Store keeper)
         → (conn : Held S) × (opened ≡ Ok conn) × HasCleanDisk (state S.Store conn)
         × ((state S.Store conn).now.schema ≢ no_schema
@@ -47,14 +49,18 @@ fn keeper_over<S: Alter + Drop>(
 }
 
 impl<S: Start> Keeper<FileStore<FileFrom<S>>> {
-    /// Opens the files at a path, or makes them. `S` stands for what they hold, and `start` is its value. Refusals are those of `adopt`.
+    /// Opens the files at a path, or makes them. `S` stands for what they hold,
+    /// and `start` is its value. Refusals are those of `adopt`.
     pub fn open_from(
         rt: &HostRuntime,
         path: &str,
         start: S,
     ) -> Result<Keeper<FileStore<FileFrom<S>>>, KeepFault>
-        ensures ready { IfOk result (λ keeper. HasCleanDisk (file_state keeper) → IsReady (file_state keeper)) }
-        ensures found { IfOk result (λ keeper. HasCleanDisk (file_state keeper) → (db : _) → HoldsDatabase (image_at S.Start) db → IsSound keeper_schema db → (file_state keeper).now.trees ≡ db) }
+        ensures ready { IfOk result (λ keeper. HasCleanDisk (file_state keeper)
+            → IsReady (file_state keeper)) }
+        ensures found { IfOk result (λ keeper. HasCleanDisk (file_state keeper) → (db : _)
+            → HoldsDatabase (image_at S.Start) db → IsSound keeper_schema db
+            → (file_state keeper).now.trees ≡ db) }
         ensures unspent { IfErr result (λ e. e ≢ KeepFault.RunsSpent) }
     {
         keeper_over(connect(rt, path, start))
@@ -67,7 +73,8 @@ impl Keeper<FileStore<FileFrom<Unknown>>> {
         rt: &HostRuntime,
         path: &str,
     ) -> Result<Keeper<FileStore<FileFrom<Unknown>>>, KeepFault>
-        ensures ready { IfOk result (λ keeper. HasCleanDisk (file_state keeper) → IsReady (file_state keeper)) }
+        ensures ready { IfOk result (λ keeper. HasCleanDisk (file_state keeper)
+            → IsReady (file_state keeper)) }
         ensures unspent { IfErr result (λ e. e ≢ KeepFault.RunsSpent) }
     {
         Keeper::open_from(rt, path, Unknown)

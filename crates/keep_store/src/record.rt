@@ -32,7 +32,8 @@ pub fn of_an_agent(alloc: Global, durable: Durable) -> Result<Record, KeepFault>
 fn record_at(alloc: Global, text: &str) -> Result<Record, KeepFault>
     ensures ok { IfOk result (λ found. IsRecordText found text.now) }
     ensures only { (d : Durable) → IsWritten d text.now → IfOk result (λ found. found ≡ d) }
-    ensures damaged { IsErrOf result KeepFault.Damaged → (d : Durable) → IsRecordText d text.now → ⊥ }
+    ensures damaged { IsErrOf result KeepFault.Damaged → (d : Durable) → IsRecordText d text.now
+        → ⊥ }
     ensures unspent { IfErr result (λ e. e ≢ KeepFault.RunsSpent) }
 {
     match record_of(alloc, text) {
@@ -45,8 +46,11 @@ fn record_at(alloc: Global, text: &str) -> Result<Record, KeepFault>
 /// The record of the text of a row, if there is one.
 pub fn record_in(alloc: Global, text: Option<String>) -> Result<Option<Record>, KeepFault>
     ensures loaded { IfOk result (IsLoaded (option_map (λ text. Text (string_bytes text)) text)) }
-    ensures saved { (d : Durable) → IsDurable d → option_map (λ text. Text (string_bytes text)) text ≡ Some (Text (record_form d)) → IfOk result (λ found. found ≡ Some d) }
-    ensures damaged { IsErrOf result KeepFault.Damaged → IsDamaged (option_map (λ text. Text (string_bytes text)) text) }
+    ensures saved { (d : Durable) → IsDurable d
+        → option_map (λ text. Text (string_bytes text)) text ≡ Some (Text (record_form d))
+        → IfOk result (λ found. found ≡ Some d) }
+    ensures damaged { IsErrOf result KeepFault.Damaged
+        → IsDamaged (option_map (λ text. Text (string_bytes text)) text) }
     ensures unspent { IfErr result (λ e. e ≢ KeepFault.RunsSpent) }
 {
     let Some(text) = text else {
@@ -58,7 +62,8 @@ pub fn record_in(alloc: Global, text: Option<String>) -> Result<Option<Record>, 
 
 /// The text in the first row, if there is a row.
 pub fn first_body(rows: &[Row]) -> Result<Option<String>, KeepFault>
-    ensures text { IfOk result (λ found. option_map (λ text. Text (string_bytes text)) found ≡ shown_body rows.now) }
+    ensures text { IfOk result (λ found. option_map (λ text. Text (string_bytes text)) found
+        ≡ shown_body rows.now) }
     ensures damaged { IsErrOf result KeepFault.Damaged → IsDamaged (shown_body rows.now) }
     ensures unspent { IfErr result (λ e. e ≢ KeepFault.RunsSpent) }
 {

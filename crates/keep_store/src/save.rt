@@ -77,8 +77,8 @@ fn write_amounts<S: Alter>(
     write_total(tx, total)
 }
 
-/// Writes the head and the rows of its total, and takes out the row of a record that is kept as one text, unless `head`
-/// is known to be there and has the same parts.
+/// Writes the head and the rows of its total, and takes out the row of a record that is kept as one
+/// text, unless `head` is known to be there and has the same parts.
 fn write_head<S: Alter>(
     tx: &mut Transaction<'_, S>,
     head: &Option<Durable>,
@@ -108,7 +108,8 @@ fn write_head<S: Alter>(
     write_amounts(tx, head, &durable.total)
 }
 
-/// Writes the rows of a record, and gives the tasks back that it has. The rows of `seen` are known to be there.
+/// Writes the rows of a record, and gives the tasks back that it has.
+/// The rows of `seen` are known to be there.
 fn write_rows<S: Alter>(
     tx: &mut Transaction<'_, S>,
     alloc: Global,
@@ -193,8 +194,9 @@ pub fn head_seen(alloc: Global, head: Option<Durable>, durable: &Durable) -> Opt
     })
 }
 
-/// Keeps a record in place of the one before, in one transaction, and gives the tasks back that it has. The rows of `seen` and of `head`
-/// are known to be there, and where there is none all are written anew.
+/// Keeps a record in place of the one before, in one transaction, and gives the tasks back that it
+/// has. The rows of `seen` and of `head` are known to be there, and where there is none all are
+/// written anew.
 #[tactic(auto, using(crate::proofs::SaveLemmas::record_kept, crate::proofs::SaveLemmas::record_ready))]
 pub fn save_record<S: Alter>(
     conn: &mut Connection<S>,

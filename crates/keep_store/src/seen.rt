@@ -46,7 +46,8 @@ fn forget_tasks<S: Alter>(tx: &mut Transaction<'_, S>) -> Result<(), KeepFault>
     }
 }
 
-/// The tasks whose rows are there: those that were seen last, or none where these aren't known and all rows were taken out.
+/// The tasks whose rows are there: those that were seen last,
+/// or none where these aren't known and all rows were taken out.
 fn begin_tasks<S: Alter>(
     tx: &mut Transaction<'_, S>,
     alloc: Global,
@@ -82,8 +83,8 @@ fn stands_at(tasks: &[Shared<RecordedTask>], at: usize, task: &Shared<RecordedTa
     at < tasks.len() && tasks[at].is_same(task)
 }
 
-/// Whether a task is one of these, which come by their keys. It is searched for only if it stands at neither of two guessed indexes.
-/// False may be wrong where they don't come so.
+/// Whether a task is one of these, which come by their keys. It is searched for only if it stands
+/// at neither of two guessed indexes. False may be wrong where they don't come so.
 fn is_among(
     tasks: &[Shared<RecordedTask>],
     task: &Shared<RecordedTask>,
@@ -102,7 +103,8 @@ fn is_among(
     }
 }
 
-/// Whether a row of rowid, run, number and body stands at the place of its task. False also where memory runs out.
+/// Whether a row of rowid, run, number and body stands at the place of its task.
+/// False also where memory runs out.
 fn is_placed(row: &Row) -> bool
     ensures { IsTrue result → IsPlaced row.now }
 {
@@ -332,7 +334,8 @@ fn add_others<S: Alter>(
     Ok(())
 }
 
-/// Writes the rows of those tasks that weren't seen as they are, takes those of other ones out, and gives the tasks back.
+/// Writes the rows of those tasks that weren't seen as they are, takes those of other ones out,
+/// and gives the tasks back.
 pub fn write_tasks<S: Alter>(
     tx: &mut Transaction<'_, S>,
     alloc: Global,

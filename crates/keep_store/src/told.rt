@@ -79,7 +79,8 @@ fn name_of(alloc: Global, text: &str) -> Result<AgentName, KeepFault>
     }
 }
 
-/// The record of a head's row of name, run, session, total and version, with its own total and no tasks yet.
+/// The record of a head's row of name, run, session, total and version,
+/// with its own total and no tasks yet.
 #[tactic(auto, unfolding(crate::specs::Kept::own_told))]
 fn own_told(alloc: Global, head: &Row) -> Result<Durable, KeepFault>
     ensures told { Gives (λ d. d) result (own_told head.now) }
@@ -194,7 +195,8 @@ fn tasks_in(alloc: Global, rows: &[Row]) -> Result<Vec<Shared<RecordedTask>>, Ke
     Ok(tasks)
 }
 
-/// The record of a head with these tasks. `K1` where the tasks don't come by their keys, as they were asked for.
+/// The record of a head with these tasks.
+/// `K1` where the tasks don't come by their keys, as they were asked for.
 fn record_with(
     alloc: Global,
     head: &Row,

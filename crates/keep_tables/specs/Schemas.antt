@@ -15,7 +15,15 @@ use Rattle.sqlite_sql.specs.declared.ops.BinaryOp.TheVariants.{Compare}
 use Rattle.sqlite_sql.specs.declared.ops.CompareOp.TheVariants.{Eq}
 
 abbrev pub column_of : List ℕ → Kind → Bool → Column
-column_of name kind not_null = record { name = name; kind = kind; is_strict = false; not_null = not_null; default = Null; collation = Binary }
+column_of name kind not_null =
+    record {
+      name = name;
+      kind = kind;
+      is_strict = false;
+      not_null = not_null;
+      default = Null;
+      collation = Binary;
+    }
 
 -- the id is 1
 abbrev pub id_check : List Term
@@ -49,11 +57,14 @@ run_columns = column_of (codes "last") Integer true ∷ []
 
 abbrev pub head_columns : List Column
 head_columns =
-    column_of (codes "name") Words true ∷ column_of (codes "run") Integer true ∷ column_of (codes "session") Integer true
+    column_of (codes "name") Words true ∷ column_of (codes "run") Integer true
+    ∷ column_of (codes "session") Integer true
     ∷ column_of (codes "total") Words true ∷ column_of (codes "version") Integer true ∷ []
 
 abbrev pub task_columns : List Column
-task_columns = column_of (codes "run") Integer true ∷ column_of (codes "n") Integer true ∷ column_of (codes "body") Words true ∷ []
+task_columns =
+    column_of (codes "run") Integer true ∷ column_of (codes "n") Integer true
+    ∷ column_of (codes "body") Words true ∷ []
 
 abbrev pub total_columns : List Column
 total_columns = column_of (codes "name") Words false ∷ column_of (codes "amount") Integer true ∷ []
@@ -86,7 +97,15 @@ task_table = record {
 
 -- a unique index of a table's columns
 abbrev pub index_of : List ℕ → ℕ → ℕ → List ℕ → Index
-index_of name tree table columns = record { name = name; tree = tree; table = table; columns = columns; order = plain; is_unique = true }
+index_of name tree table columns =
+    record {
+      name = name;
+      tree = tree;
+      table = table;
+      columns = columns;
+      order = plain;
+      is_unique = true;
+    }
 
 abbrev pub task_index : Index
 task_index = index_of (codes "sqlite_autoindex_agent_task_1") 4 3 (1 ∷ 2 ∷ [])
@@ -112,11 +131,21 @@ abbrev pub total_index : Index
 total_index = index_of (codes "sqlite_autoindex_agent_total_1") 6 5 (1 ∷ [])
 
 abbrev pub keeper_schema : Schema
-keeper_schema = record { tables = record_table ∷ run_table ∷ head_table ∷ task_table ∷ total_table ∷ []; indexes = task_index ∷ total_index ∷ []; views = [] }
+keeper_schema =
+    record {
+      tables = record_table ∷ run_table ∷ head_table ∷ task_table ∷ total_table ∷ [];
+      indexes = task_index ∷ total_index ∷ [];
+      views = [];
+    }
 
 -- the four tables of a store that has a total in its head
 abbrev pub second_schema : Schema
-second_schema = record { tables = record_table ∷ run_table ∷ head_table ∷ task_table ∷ []; indexes = task_index ∷ []; views = [] }
+second_schema =
+    record {
+      tables = record_table ∷ run_table ∷ head_table ∷ task_table ∷ [];
+      indexes = task_index ∷ [];
+      views = [];
+    }
 
 -- the two tables of a store that has a record as one text
 abbrev pub first_schema : Schema

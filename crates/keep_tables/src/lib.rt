@@ -1,4 +1,5 @@
-//! The tables of a store of an agent's record and of the master's last run: whether a schema is that of these.
+//! The tables of a store of an agent's record and of the master's last run:
+//! whether a schema is that of these.
 #![tactic(auto)]
 
 ghost use Rattle.std.specs.Prelude.{◌≡◌, ◌↔◌, ◌∷◌, [], IsTrue, List, None, codes, false, true, length, pos};
@@ -113,7 +114,8 @@ fn are_task_columns(columns: &[Column]) -> bool
 
 /// What the tables have none of.
 fn is_simple(table: &Table) -> bool
-    ensures { IsTrue result → (table.now.references ≡ []) × (table.now.computed ≡ []) × (table.now.stamps ≡ no_stamps) × (table.now.is_counted ≡ false) }
+    ensures { IsTrue result → (table.now.references ≡ []) × (table.now.computed ≡ [])
+        × (table.now.stamps ≡ no_stamps) × (table.now.is_counted ≡ false) }
 {
     table.references.is_empty()
         && table.computed.is_empty()
@@ -136,7 +138,8 @@ fn is_lone(table: &Table, name: &[u8], tree: u32) -> bool
 }
 
 fn is_table(table: &Table, name: &[u8], tree: u32, column: &[u8], kind: Kind) -> bool
-    ensures { IsTrue result → table.now ≡ lone_table name.now tree (column_of column.now kind true ∷ []) }
+    ensures { IsTrue result → table.now ≡ lone_table name.now tree
+        (column_of column.now kind true ∷ []) }
 {
     is_lone(table, name, tree) && are_columns(table.columns.as_slice(), column, kind)
 }
@@ -232,7 +235,8 @@ fn is_total_index(index: &Index) -> bool
 }
 
 fn are_first(tables: &[Table]) -> bool
-    ensures { IsTrue result → (length tables.now ≡ 2) × (tables.now ≡ record_table ∷ run_table ∷ []) }
+    ensures { IsTrue result → (length tables.now ≡ 2)
+        × (tables.now ≡ record_table ∷ run_table ∷ []) }
 {
     tables.len() == 2
         && is_table(&tables[0], b"agent_record", 0, b"body", Kind::Text)
@@ -256,7 +260,8 @@ fn are_second(tables: &[Table]) -> bool
 }
 
 fn are_all(tables: &[Table]) -> bool
-    ensures { IsTrue result → tables.now ≡ record_table ∷ run_table ∷ head_table ∷ task_table ∷ total_table ∷ [] }
+    ensures { IsTrue result → tables.now ≡ record_table ∷ run_table ∷ head_table ∷ task_table
+        ∷ total_table ∷ [] }
 {
     let [record, run, head, task, total] = tables else {
         return false;

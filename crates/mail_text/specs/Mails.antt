@@ -28,7 +28,8 @@ pair a x b y = object (put b y (member a x no_members))
 
 -- an agent and its session put to members
 abbrev pub of_agent : List ℕ → ℕ → Members → Members
-of_agent agent session ms = put (codes "session") (whole session) (put (codes "agent") (string agent) ms)
+of_agent agent session ms =
+    put (codes "session") (whole session) (put (codes "agent") (string agent) ms)
 
 abbrev pub framework_data : Numbered → Data
 framework_data framework = string (id_text 70 framework)
@@ -50,7 +51,9 @@ launch_data job offers = only (codes "launch") (object
     (member (codes "resources") (amounts job.resources) no_members))))))
 
 unfoldable pub ack_data : Numbered → ℕ → Data
-ack_data key k = only (codes "ack") (object (member (codes "k") (whole k) (member (codes "key") (key_data key) no_members)))
+ack_data key k =
+    only (codes "ack")
+    (object (member (codes "k") (whole k) (member (codes "key") (key_data key) no_members)))
 
 unfoldable pub command_data : Command → Data
 command_data (Launch job offers) = launch_data job offers
@@ -59,7 +62,9 @@ command_data (Ack key k) = ack_data key k
 command_data (EndFramework framework) = only (codes "end_framework") (framework_data framework)
 
 unfoldable pub hello_data : ℕ → ℕ → Data
-hello_data run dead = only (codes "hello") (object (member (codes "dead") (whole dead) (member (codes "run") (whole run) no_members)))
+hello_data run dead =
+    only (codes "hello")
+    (object (member (codes "dead") (whole dead) (member (codes "run") (whole run) no_members)))
 
 unfoldable pub issued_data : List ℕ → ℕ → ℕ → Command → Data
 issued_data agent session number command = only (codes "cmd") (object
@@ -123,7 +128,8 @@ told_members key k state ended =
 abbrev pub agent_mail_data : List ℕ → AgentMail → Data
 agent_mail_data agent (Report session run tasks total) = report_data agent session run tasks total
 agent_mail_data agent (Applied session count) = applied_data agent session count
-agent_mail_data agent (Update session key k state ended) = update_data agent session key k state ended
+agent_mail_data agent (Update session key k state ended) =
+    update_data agent session key k state ended
 
 -- texts
 

@@ -129,8 +129,8 @@ fn value_of(alloc: Global, to: &ToAgent) -> Result<Value, AllocError>
     }
 }
 
-/// The text of a mail to an agent: compact JSON (RFC 8259), in which an object's members stand in byte order of their names.
-/// A Hello doesn't name its agent.
+/// The text of a mail to an agent: compact JSON (RFC 8259),
+/// in which an object's members stand in byte order of their names. A Hello doesn't name its agent.
 pub fn to_agent_text(alloc: Global, to: &ToAgent) -> Result<String, AllocError>
     ensures { IfOk result (λ text. string_bytes text ≡ to_agent_form to.now) }
 {

@@ -22,7 +22,8 @@ fn put_booked(
     task: &Booked,
 ) -> Result<(), AllocError>
     requires { members.old.entries ≡ [] }
-    ensures { OnOk result (ending task.now.ended (members_view members.new.entries) ≡ booked_data task.now) }
+    ensures { OnOk result (ending task.now.ended (members_view members.new.entries)
+        ≡ booked_data task.now) }
 {
     put_job(members, alloc, &task.job)?;
     put(members, alloc, "sent", Value::from(task.heard))?;
@@ -156,8 +157,8 @@ fn value_of(alloc: Global, to: &ToMaster) -> Result<Value, AllocError>
     }
 }
 
-/// The text of a mail from an agent: compact JSON (RFC 8259), in which an object's members stand in byte order of their names, and a
-/// report's tasks as it has them, with the total behind them.
+/// The text of a mail from an agent: compact JSON (RFC 8259), in which an object's members stand in
+/// byte order of their names, and a report's tasks as it has them, with the total behind them.
 pub fn to_master_text(alloc: Global, to: &ToMaster) -> Result<String, AllocError>
     ensures { IfOk result (λ text. string_bytes text ≡ to_master_form to.now) }
 {

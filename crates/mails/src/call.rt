@@ -48,7 +48,8 @@ pub enum Call {
     Teardown {
         framework: FrameworkId,
     },
-    /// Launches tasks on offers, at most 256 of each. What they don't use is refused for so many seconds.
+    /// Launches tasks on offers, at most 256 of each.
+    /// What they don't use is refused for so many seconds.
     Accept {
         framework: FrameworkId,
         offers: Listed<OfferId>,

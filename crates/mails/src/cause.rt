@@ -10,11 +10,13 @@ use quantity::Resources;
 /// What an agent acts on.
 #[derive(Clone, Drop, PartialEq)]
 pub enum Cause {
-    /// It starts, and opens a new session with the master of its last run. With a total it owns that from then on.
+    /// It starts, and opens a new session with the master of its last run.
+    /// With a total it owns that from then on.
     Start(Option<Resources>),
     /// A mail from the master, which may be for another agent.
     Mail(ToAgent),
-    /// The executor of the task of this key tells a state: TASK_RUNNING, TASK_FINISHED or TASK_FAILED.
+    /// The executor of the task of this key tells a state: TASK_RUNNING,
+    /// TASK_FINISHED or TASK_FAILED.
     Executor(LaunchKey, TaskState),
     /// It sends again what isn't acknowledged.
     Again,

@@ -4,8 +4,8 @@ use listed::Listed;
 use names_core::{AgentName, FrameworkId, RoleName, StreamId};
 use quantity::Resources;
 
-/// Resources of an agent that a framework refused, for some seconds (Mesos scheduler HTTP API, ACCEPT and DECLINE:
-/// `refuse_seconds`).
+/// Resources of an agent that a framework refused, for some seconds (Mesos scheduler HTTP API,
+/// ACCEPT and DECLINE: `refuse_seconds`).
 #[derive(Drop)]
 pub struct Filter {
     pub agent: AgentName,

@@ -41,7 +41,8 @@ impl Plain for Command {
 /// A mail from the master to an agent.
 #[derive(Clone, Drop, PartialEq)]
 pub enum MasterMail {
-    /// The master's run, and the greatest session of the agent that this run has closed (0 if none).
+    /// The master's run, and the greatest session of the agent
+    /// that this run has closed (0 if none).
     Hello {
         run: u32,
         dead: u32,
@@ -71,7 +72,8 @@ impl Plain for MasterMail {
 /// A mail from an agent to the master.
 #[derive(Clone, Drop, PartialEq)]
 pub enum AgentMail {
-    /// The agent has opened this session with the master of this run, has these tasks, by launch key, and owns this total.
+    /// The agent has opened this session with the master of this run, has these tasks,
+    /// by launch key, and owns this total.
     Report {
         session: u32,
         run: u32,
@@ -83,7 +85,8 @@ pub enum AgentMail {
         session: u32,
         count: u32,
     },
-    /// Update number `k` of the task of this key, and whether the task has ended, whichever update this is.
+    /// Update number `k` of the task of this key, and whether the task has ended,
+    /// whichever update this is.
     Update {
         session: u32,
         key: LaunchKey,

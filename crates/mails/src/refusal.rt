@@ -11,7 +11,8 @@ pub enum AgentRefusal {
     /// The mail is for another agent.
     #[error("A1 NotForMe")]
     NotForMe,
-    /// The mail is of an older run or of another session; or the agent never opened a session and is to start one.
+    /// The mail is of an older run or of another session;
+    /// or the agent never opened a session and is to start one.
     #[error("A2 OldSession")]
     OldSession,
     /// The command isn't the next one.

@@ -22,7 +22,8 @@ fn tell_mark(number: u64, mark: Mark, marks: &mut String) -> Result<(), AllocErr
     writeln!(marks, "marked {number} {how}")
 }
 
-/// Takes the step of a line, and tells how it was refused memory, if it was, on a line of the marks. A line of white space is passed over.
+/// Takes the step of a line, and tells how it was refused memory, if it was,
+/// on a line of the marks. A line of white space is passed over.
 fn take_line(
     cluster: &mut Cluster<EverSent>,
     alloc: Global,
@@ -40,7 +41,8 @@ fn take_line(
     Ok(())
 }
 
-/// Takes the steps of the lines behind the first, and gives a line for each that was refused memory.
+/// Takes the steps of the lines behind the first,
+/// and gives a line for each that was refused memory.
 fn take_lines(
     cluster: &mut Cluster<EverSent>,
     alloc: Global,

@@ -1,8 +1,10 @@
-//! Runs the history that standard input tells, in the lines of the replayer, to its end, though memory be refused. A step that
-//! is refused memory is marked. The part that it made fall, if it did, comes up again: an agent over its record, a master in the
-//! next run. Then the history goes on. At its end the program prints the replayer's table, and a line for each marked step: its
-//! line's number, from 1, with `refused` where it is no entry and nothing changed, or `fell`. The status is 0; 2 where a line is
-//! refused (X1, X2, X3); 3 where memory is refused to anything but a step, or the input or the output fails.
+//! Runs the history that standard input tells, in the lines of the replayer, to its end, though
+//! memory be refused. A step that is refused memory is marked. The part that it made fall, if it
+//! did, comes up again: an agent over its record, a master in the next run. Then the history goes
+//! on. At its end the program prints the replayer's table, and a line for each marked step: its
+//! line's number, from 1, with `refused` where it is no entry and nothing changed, or `fell`. The
+//! status is 0; 2 where a line is refused (X1, X2, X3); 3 where memory is refused to anything but a
+//! step, or the input or the output fails.
 #![tactic(auto)]
 
 mod history;

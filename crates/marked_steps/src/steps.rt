@@ -23,7 +23,8 @@ impl Mark {
     }
 }
 
-/// The step that brings the part up again that a step made fall: a Prepare its agent, over its record, and any other the master.
+/// The step that brings the part up again that a step made fall: a Prepare its agent,
+/// over its record, and any other the master.
 fn recovery_of(step: &Step) -> Result<Step, AllocError> {
     match step {
         Step::Prepare { agent, .. } => Ok(Step::StopAgent {
@@ -37,7 +38,7 @@ fn recovery_of(step: &Step) -> Result<Step, AllocError> {
 /// Whether a part came up by a step.
 fn is_up(taken: &Result<Taken, ClusterFault>) -> bool {
     match taken {
-        Ok(taken) => taken.entry.verdict == Verdict::Ok,
+        Ok(taken) => taken.entry.get().verdict == Verdict::Ok,
         Err(_) => false,
     }
 }
@@ -69,14 +70,15 @@ fn recover(
     }
 }
 
-/// Takes a step, and tells how it was refused memory, if it was. It fails where the part that fell doesn't come up again.
+/// Takes a step, and tells how it was refused memory, if it was.
+/// It fails where the part that fell doesn't come up again.
 pub(crate) fn take_step(
     cluster: &mut Cluster<EverSent>,
     alloc: Global,
     step: Step,
 ) -> Result<Option<Mark>, AllocError> {
     match cluster.step(alloc, step) {
-        Ok(taken) => recover(cluster, alloc, &taken.entry),
+        Ok(taken) => recover(cluster, alloc, taken.entry.get()),
         Err(ClusterFault::OutOfMemory) => Ok(Some(Mark::Refused)),
         Err(_) => Ok(None),
     }

@@ -33,7 +33,9 @@ tells_held stream held s = told_of_task stream held.name held.state (Some held.a
 
 -- the booked task of a framework with this name, or the one that was launched on an agent before
 abbrev pub held_so : Numbered → List ℕ → List ℕ → List Booked → State → Option HeldTask
-held_so framework name agent launched s = option_map held_task (fold (first_at framework name agent) (held_among (all_placed s.sides) framework name) launched)
+held_so framework name agent launched s =
+    option_map held_task (fold (first_at framework name agent)
+    (held_among (all_placed s.sides) framework name) launched)
 
 -- offers that aren't good
 
@@ -42,10 +44,12 @@ loses_as caller s task (Some held) = tells_held caller.stream held s
 loses_as caller s task None = told_of_task caller.stream task.name Lost (Some task.agent) s
 
 abbrev pub loses_one : Caller → State → TaskInfo → State
-loses_one caller s task = loses_as caller s task (held_so caller.framework task.name task.agent [] s)
+loses_one caller s task =
+    loses_as caller s task (held_so caller.framework task.name task.agent [] s)
 
 abbrev pub accepted_none : Caller → List Numbered → List TaskInfo → State → State
-accepted_none caller ids tasks s = without_offers (is_named caller.framework ids) (fold (loses_one caller) s tasks)
+accepted_none caller ids tasks s =
+    without_offers (is_named caller.framework ids) (fold (loses_one caller) s tasks)
 
 -- good offers
 
@@ -58,10 +62,12 @@ abbrev pub bench : State → Progress → Bench
 bench state progress = record { state = state; progress = progress }
 
 abbrev pub is_covered : List ℕ → List Row → TaskInfo → Bool
-is_covered agent rest task = bytes_eq task.agent agent && not (is_empty task.resources) && covers rest task.resources
+is_covered agent rest task =
+    bytes_eq task.agent agent && not (is_empty task.resources) && covers rest task.resources
 
 abbrev pub new_job : Numbered → Numbered → TaskInfo → Job
-new_job framework key task = record { key = key; framework = framework; name = task.name; resources = task.resources }
+new_job framework key task =
+    record { key = key; framework = framework; name = task.name; resources = task.resources }
 
 abbrev pub new_task : Numbered → Numbered → TaskInfo → Booked
 new_task framework key task = just_booked (new_job framework key task)
@@ -77,33 +83,47 @@ launches run framework task p = record {
 abbrev pub takes_as : Caller → List ℕ → Bench → TaskInfo → Option HeldTask → Bench
 takes_as caller agent b task (Some held) = bench (tells_held caller.stream held b.state) b.progress
 takes_as caller agent b task None =
-    if is_covered agent b.progress.rest task then bench b.state (launches b.state.run caller.framework task b.progress)
+    if is_covered agent b.progress.rest task
+    then bench b.state (launches b.state.run caller.framework task b.progress)
     else bench (told_of_task caller.stream task.name Error (Some task.agent) b.state) b.progress
 
 abbrev pub takes_one : Caller → List ℕ → Bench → TaskInfo → Bench
-takes_one caller agent b task = takes_as caller agent b task (held_so caller.framework task.name agent b.progress.launched b.state)
+takes_one caller agent b task =
+    takes_as caller agent b task
+    (held_so caller.framework task.name agent b.progress.launched b.state)
 
 abbrev pub no_progress : List Row → ℕ → Progress
 no_progress sum last_key = record { launched = []; rest = sum; last_key = last_key }
 
 -- all tasks, from good offers
 abbrev pub takes_all : Caller → GoodOffers → List TaskInfo → State → Bench
-takes_all caller good tasks s = fold (takes_one caller good.agent) (bench s (no_progress good.sum s.last_key)) tasks
+takes_all caller good tasks s =
+    fold (takes_one caller good.agent) (bench s (no_progress good.sum s.last_key)) tasks
 
 abbrev pub without_used_on : List ℕ → Numbered → List Numbered → State → State
-without_used_on agent framework ids s = record s { sides = at_name agent (λ t. without_used t framework ids) s.sides }
+without_used_on agent framework ids s =
+    record s { sides = at_name agent (λ t. without_used t framework ids) s.sides }
 
 abbrev pub refusing_on : Numbered → ℕ → List ℕ → List Row → State → State
-refusing_on framework seconds agent rest s = record s { frameworks = map (changed (with_filter s.moment seconds agent rest) framework) s.frameworks }
+refusing_on framework seconds agent rest s =
+    record s {
+      frameworks = map (changed (with_filter s.moment seconds agent rest) framework)
+          s.frameworks;
+    }
 
 -- what was taken is launched, and the rest is refused
 abbrev pub accepted_so : Caller → List ℕ → List Numbered → ℕ → Bench → State
-accepted_so caller agent ids seconds b = refusing_on caller.framework seconds agent b.progress.rest (launched_all agent ids b.progress.launched (without_used_on agent caller.framework ids b.state))
+accepted_so caller agent ids seconds b =
+    refusing_on caller.framework seconds agent b.progress.rest
+    (launched_all agent ids b.progress.launched
+    (without_used_on agent caller.framework ids b.state))
 
 abbrev pub accepted_good : Caller → GoodOffers → List Numbered → List TaskInfo → ℕ → State → State
-accepted_good caller good ids tasks seconds s = accepted_so caller good.agent ids seconds (takes_all caller good tasks s)
+accepted_good caller good ids tasks seconds s =
+    accepted_so caller good.agent ids seconds (takes_all caller good tasks s)
 
-abbrev pub accepted_as : Caller → List Numbered → List TaskInfo → ℕ → State → Option GoodOffers → State
+abbrev pub accepted_as : Caller → List Numbered → List TaskInfo → ℕ → State → Option GoodOffers
+    → State
 accepted_as caller ids tasks seconds s None = accepted_none caller ids tasks s
 accepted_as caller ids tasks seconds s (Some good) = accepted_good caller good ids tasks seconds s
 
@@ -114,4 +134,6 @@ may_number count None ss = true
 may_number count (Some good) ss = may_have_numbers count (find (λ s. bytes_eq s.name good.agent) ss)
 
 abbrev pub passes_limits : ℕ → Option GoodOffers → State → Bool
-passes_limits count good s = (nat_lt 0 count && nat_lt tasks_limit (length (all_placed s.sides) + count)) || nat_lt last_number (s.last_key + count) || not (may_number count good s.sides)
+passes_limits count good s =
+    (nat_lt 0 count && nat_lt tasks_limit (length (all_placed s.sides) + count))
+    || nat_lt last_number (s.last_key + count) || not (may_number count good s.sides)

@@ -10,7 +10,8 @@ use Rattle.master_state.specs.States.{ordered}
 
 -- a task is booked on an agent, and its key is the last one
 abbrev pub booked_on : List ℕ → Booked → State → State
-booked_on agent b s = record s { last_key = b.job.key.n; sides = at_name agent (with_task b) s.sides }
+booked_on agent b s =
+    record s { last_key = b.job.key.n; sides = at_name agent (with_task b) s.sides }
 
 abbrev pub launched_one : List ℕ → List Numbered → State → Booked → State
 launched_one agent ids s b = ordered agent (Launch b.job ids) (booked_on agent b s)

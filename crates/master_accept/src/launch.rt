@@ -19,6 +19,8 @@ fn launch_of(alloc: Global, job: &Job, ids: &[OfferId]) -> Result<Command, Alloc
     Ok(Command::Launch(job, offers))
 }
 
+/// Books a task on its agent. Its key is new,
+/// and the offers that it takes the place of had room for it: a refusal is taken as want of memory.
 fn book(
     state: &mut State,
     alloc: Global,
@@ -29,7 +31,10 @@ fn book(
 {
     let task = task.copy()?;
     state.last_key = task.job.key.number();
-    state.sides.book_on(agent, task)
+    match state.sides.book_on(alloc, agent, task) {
+        Ok(()) => Ok(()),
+        Err(_) => Err(AllocError),
+    }
 }
 
 fn launch_one(

@@ -1,4 +1,5 @@
-//! The master's answers to ACCEPT and DECLINE (Mesos scheduler HTTP API, Calls; Mesos paper, section 3.1).
+//! The master's answers to ACCEPT and DECLINE (Mesos scheduler HTTP API, Calls;
+//! Mesos paper, section 3.1).
 #![tactic(auto)]
 
 mod launch;

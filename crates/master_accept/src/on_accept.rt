@@ -38,7 +38,8 @@ fn passes(limit: u128, count: u128, more: u128) -> bool
     more > limit || count > limit - more
 }
 
-/// Whether booked tasks, launch keys or the command numbers of the offers' agent would pass their limits.
+/// Whether booked tasks, launch keys or the command numbers of the
+/// offers' agent would pass their limits.
 fn passes_limits(state: &State, good: &Option<GoodOffers>, count: usize) -> bool
     ensures { result ≡ passes_limits count good.now state.now }
 {
@@ -51,7 +52,8 @@ fn passes_limits(state: &State, good: &Option<GoodOffers>, count: usize) -> bool
     !may_number(state, good, count)
 }
 
-/// The offers aren't good: those of them that are current and the framework's own are withdrawn, and each task is answered.
+/// The offers aren't good: those of them that are current and the framework's own are withdrawn,
+/// and each task is answered.
 fn accept_none(
     state: &mut State,
     alloc: Global,
@@ -66,7 +68,8 @@ fn accept_none(
     Ok(())
 }
 
-/// Offers on an agent are used, from whose sum `progress` begins: they are withdrawn, tasks are launched from it, and what is left is refused for some seconds.
+/// Offers on an agent are used, from whose sum `progress` begins: they are withdrawn,
+/// tasks are launched from it, and what is left is refused for some seconds.
 fn use_offers(
     state: &mut State,
     alloc: Global,
@@ -78,7 +81,8 @@ fn use_offers(
     seconds: u32,
 ) -> Result<(), AllocError>
     requires { progress.old.last_key + length tasks.now ≤ last_number }
-    ensures { OnOk result (state.new ≡ accepted_so caller.now agent.now offers.now seconds (fold (takes_one caller.now agent.now) (bench state.old progress.old) tasks.now)) }
+    ensures { OnOk result (state.new ≡ accepted_so caller.now agent.now offers.now seconds
+        (fold (takes_one caller.now agent.now) (bench state.old progress.old) tasks.now)) }
 {
     let framework = caller.framework;
     take_all(state, alloc, caller, agent, progress, tasks)?;
@@ -90,7 +94,8 @@ fn use_offers(
         .refuse(alloc, framework, moment, seconds, agent, &progress.rest)
 }
 
-/// The offers are good: they are withdrawn, tasks are launched from their sum, and what is left is refused for some seconds.
+/// The offers are good: they are withdrawn, tasks are launched from their sum,
+/// and what is left is refused for some seconds.
 fn accept_good(
     state: &mut State,
     alloc: Global,
@@ -101,7 +106,8 @@ fn accept_good(
     seconds: u32,
 ) -> Result<(), AllocError>
     requires { state.old.last_key + length tasks.now ≤ last_number }
-    ensures { OnOk result (state.new ≡ accepted_good caller.now good offers.now tasks.now seconds state.old) }
+    ensures { OnOk result (state.new ≡ accepted_good caller.now good offers.now tasks.now seconds
+        state.old) }
 {
     let GoodOffers { agent, sum } = good;
     let mut progress = Progress {
@@ -131,7 +137,8 @@ fn accept_as(
     seconds: u32,
 ) -> Result<(), AllocError>
     requires { state.old.last_key + length tasks.now ≤ last_number }
-    ensures { OnOk result (state.new ≡ accepted_as caller.now offers.now tasks.now seconds state.old good) }
+    ensures { OnOk result (state.new ≡ accepted_as caller.now offers.now tasks.now seconds state.old
+        good) }
 {
     match good {
         None => accept_none(state, alloc, caller, offers, tasks),
@@ -139,13 +146,16 @@ fn accept_as(
     }
 }
 
-/// Launches tasks on offers (Mesos scheduler HTTP API, ACCEPT). The offers are good where there are some, none is named twice, and
-/// all are current, the framework's own, and of one agent with an open session. Then they are withdrawn, and each task in order
-/// that isn't held already is launched from what is left of their sum; a task of another agent, one that asks for nothing, and
-/// one that isn't covered are told to be in error; what is left in the end isn't offered to the framework again for so many
-/// seconds. Where the offers aren't good, those that are current and its own are withdrawn, and tasks that aren't held are told to
-/// be lost. A held task is answered its state. Refused as `State::admit` tells, and `M4 LimitExceeded` where more than 65,536 tasks
-/// would be booked, or launch keys or the command numbers of the agent would be spent, if all tasks were launched.
+/// Launches tasks on offers (Mesos scheduler HTTP API, ACCEPT). The offers are good where there are
+/// some, none is named twice, and all are current, the framework's own, and of one agent with an
+/// open session. Then they are withdrawn, and each task in order that isn't held already is
+/// launched from what is left of their sum; a task of another agent, one that asks for nothing, and
+/// one that isn't covered are told to be in error; what is left in the end isn't offered to the
+/// framework again for so many seconds. Where the offers aren't good, those that are current and
+/// its own are withdrawn, and tasks that aren't held are told to be lost. A held task is answered
+/// its state. Refused as `State::admit` tells, and `M4 LimitExceeded` where more than 65,536 tasks
+/// would be booked, or launch keys or the command numbers of the agent would be spent, if all tasks
+/// were launched.
 pub fn accept(
     state: &mut State,
     alloc: Global,
@@ -155,7 +165,8 @@ pub fn accept(
     tasks: &[TaskInfo],
     seconds: u32,
 ) -> Result<(), MasterFault>
-    ensures { Gave result state.old state.new (called (master_of state.old) given (calls.Accept framework offers.now tasks.now seconds)) }
+    ensures { Gave result state.old state.new
+        (called (master_of state.old) given (calls.Accept framework offers.now tasks.now seconds)) }
 {
     let stream = match state.admit(given, framework) {
         Ok(stream) => stream,

@@ -57,7 +57,8 @@ fn refuse_if_own(
     agent: &AgentName,
     offer: &Offer,
 ) -> Result<(), AllocError>
-    ensures { OnOk result (frameworks.new ≡ refuses_if_own by.now id agent.now frameworks.old offer.now) }
+    ensures { OnOk result (frameworks.new ≡ refuses_if_own by.now id agent.now frameworks.old
+        offer.now) }
 {
     if is_own(offer, by.framework, id) {
         let refused = &offer.resources;
@@ -73,7 +74,8 @@ fn refuse_on(
     id: OfferId,
     account: &Account,
 ) -> Result<(), AllocError>
-    ensures { OnOk result (frameworks.new ≡ refuses_on by.now id frameworks.old (holding_of account.now)) }
+    ensures { OnOk result (frameworks.new ≡ refuses_on by.now id frameworks.old
+        (holding_of account.now)) }
 {
     for offer in account.offers.as_slice() {
         refuse_if_own(frameworks, alloc, by, id, &account.name, offer)?;
@@ -88,7 +90,8 @@ fn refuse_id(
     accounts: &[Account],
     id: OfferId,
 ) -> Result<(), AllocError>
-    ensures { OnOk result (frameworks.new ≡ refuses_id by.now (map holding_of accounts.now) frameworks.old id) }
+    ensures { OnOk result (frameworks.new ≡ refuses_id by.now (map holding_of accounts.now)
+        frameworks.old id) }
 {
     for account in accounts {
         refuse_on(frameworks, alloc, by, id, account)?;
@@ -104,7 +107,8 @@ fn refuse_each(
     accounts: &[Account],
     ids: &[OfferId],
 ) -> Result<(), AllocError>
-    ensures { OnOk result (frameworks.new ≡ refuses_each by.now (map holding_of accounts.now) frameworks.old [] ids.now) }
+    ensures { OnOk result (frameworks.new ≡ refuses_each by.now (map holding_of accounts.now)
+        frameworks.old [] ids.now) }
 {
     for i in 0..ids.len() {
         if !is_among(&ids[..i], ids[i]) {
@@ -114,9 +118,9 @@ fn refuse_each(
     Ok(())
 }
 
-/// Offers aren't wanted (Mesos scheduler HTTP API, DECLINE): those of these ids that are current and the framework's own are
-/// withdrawn, and what each has isn't offered to it again on its agent for so many seconds. Others are passed over. Refused as
-/// `State::admit` tells.
+/// Offers aren't wanted (Mesos scheduler HTTP API, DECLINE): those of these ids that are current
+/// and the framework's own are withdrawn, and what each has isn't offered to it again on its agent
+/// for so many seconds. Others are passed over. Refused as `State::admit` tells.
 pub fn decline(
     state: &mut State,
     alloc: Global,
@@ -125,7 +129,8 @@ pub fn decline(
     offers: &[OfferId],
     seconds: u32,
 ) -> Result<(), MasterFault>
-    ensures { Gave result state.old state.new (called (master_of state.old) given (calls.Decline framework offers.now seconds)) }
+    ensures { Gave result state.old state.new
+        (called (master_of state.old) given (calls.Decline framework offers.now seconds)) }
 {
     let _stream = match state.admit(given, framework) {
         Ok(stream) => stream,

@@ -1,4 +1,5 @@
-//! An ACCEPT's tasks, one after the other: each is launched from what is left of the offers, or answered.
+//! An ACCEPT's tasks, one after the other:
+//! each is launched from what is left of the offers, or answered.
 
 ghost use Rattle.std.specs.Prelude.{◌≡◌, ◌<◌, ◌≤◌, ◌+◌, Some, fold, length, option_map, OnOk, IfOk};
 ghost use Rattle.cluster_model.specs.Ids.{last_number};
@@ -54,7 +55,8 @@ fn copy_held(agent: &AgentName, task: &Booked) -> Result<HeldTask, AllocError>
     })
 }
 
-/// The held task of a framework with this name, if any: a booked one, or one of those that are launched on an agent.
+/// The held task of a framework with this name, if any: a booked one,
+/// or one of those that are launched on an agent.
 fn held_of(
     sides: &Sides,
     alloc: Global,
@@ -63,7 +65,9 @@ fn held_of(
     launched: &[Booked],
     name: &TaskName,
 ) -> Result<Option<HeldTask>, AllocError>
-    ensures { IfOk result (λ held. held ≡ option_map held_task (fold (first_at framework name.now agent.now) (held_among (all_placed sides.now) framework name.now) launched.now)) }
+    ensures { IfOk result (λ held. held ≡ option_map held_task
+        (fold (first_at framework name.now agent.now)
+        (held_among (all_placed sides.now) framework name.now) launched.now)) }
 {
     let booked = sides.held(framework, name);
     match first_among(booked, agent, launched, framework, name) {
@@ -85,14 +89,16 @@ fn tell_asked(
     task: &TaskInfo,
     what: TaskState,
 ) -> Result<(), AllocError>
-    ensures { OnOk result (state.new ≡ told_of_task stream task.now.name what (Some task.now.agent) state.old) }
+    ensures { OnOk result (state.new ≡ told_of_task stream task.now.name what (Some task.now.agent)
+        state.old) }
 {
     let name = task.name.copy()?;
     let agent = task.agent.copy()?;
     state.tell_task(stream, name, what, Some(agent))
 }
 
-/// A task whose offers aren't good is answered its state where it is held, and else that it is lost.
+/// A task whose offers aren't good is answered its state where it is held,
+/// and else that it is lost.
 fn lose_one(
     state: &mut State,
     alloc: Global,
@@ -174,7 +180,8 @@ fn take_as(
     held: Option<HeldTask>,
 ) -> Result<(), AllocError>
     requires { progress.old.last_key < last_number }
-    ensures { OnOk result (bench state.new progress.new ≡ takes_as caller.now agent.now (bench state.old progress.old) task.now held) }
+    ensures { OnOk result (bench state.new progress.new
+        ≡ takes_as caller.now agent.now (bench state.old progress.old) task.now held) }
 {
     if let Some(held) = held {
         return tell_held(state, caller.stream, held);
@@ -194,7 +201,8 @@ fn take_one(
     task: &TaskInfo,
 ) -> Result<(), AllocError>
     requires { progress.old.last_key < last_number }
-    ensures { OnOk result (bench state.new progress.new ≡ takes_one caller.now agent.now (bench state.old progress.old) task.now) }
+    ensures { OnOk result (bench state.new progress.new
+        ≡ takes_one caller.now agent.now (bench state.old progress.old) task.now) }
 {
     let launched = progress.launched.as_slice();
     let framework = caller.framework;
@@ -211,7 +219,8 @@ pub fn take_all(
     tasks: &[TaskInfo],
 ) -> Result<(), AllocError>
     requires { progress.old.last_key + length tasks.now ≤ last_number }
-    ensures { OnOk result (bench state.new progress.new ≡ fold (takes_one caller.now agent.now) (bench state.old progress.old) tasks.now) }
+    ensures { OnOk result (bench state.new progress.new
+        ≡ fold (takes_one caller.now agent.now) (bench state.old progress.old) tasks.now) }
 {
     for task in tasks {
         take_one(state, alloc, caller, agent, progress, task)?;

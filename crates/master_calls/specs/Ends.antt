@@ -16,7 +16,12 @@ abbrev pub torn : Numbered → State → State
 torn framework s = record (without_offers (is_of framework) s) { torn = s.torn ++ framework ∷ [] }
 
 abbrev pub streamless : Numbered → State → State
-streamless framework s = record s { frameworks = map (changed without_stream framework) s.frameworks }
+streamless framework s =
+    record s { frameworks = map (changed without_stream framework) s.frameworks }
 
 abbrev pub ended : Numbered → Numbered → State → State
-ended framework stream s = closed stream (streamless framework (fold (ends_on framework) (torn framework s) (map (λ t. t.name) (sides_with_tasks framework s.sides))))
+ended framework stream s =
+    closed stream
+    (streamless framework
+    (fold (ends_on framework) (torn framework s)
+    (map (λ t. t.name) (sides_with_tasks framework s.sides))))

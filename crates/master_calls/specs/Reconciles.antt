@@ -23,23 +23,30 @@ tells_held stream s h = told_of_task stream h.name h.state (Some h.agent) s
 
 abbrev pub reconciled_as : Numbered → ReconciledTask → State → Option HeldTask → State
 reconciled_as stream asked s (Some h) = tells_held stream s h
-reconciled_as stream asked s None = if is_awaited (master_of s) asked.agent then s else told_of_task stream asked.name Lost asked.agent s
+reconciled_as stream asked s None =
+    if is_awaited (master_of s) asked.agent then s
+    else told_of_task stream asked.name Lost asked.agent s
 
 abbrev pub reconciled_one : Numbered → Numbered → State → ReconciledTask → State
-reconciled_one framework stream s asked = reconciled_as stream asked s (option_map held_task (held (master_of s) framework asked.name))
+reconciled_one framework stream s asked =
+    reconciled_as stream asked s (option_map held_task (held (master_of s) framework asked.name))
 
 -- launch keys by run, then by number
 abbrev pub key_cmp : Numbered → Numbered → Ordering
 key_cmp a b = ordering_then (nat_cmp a.run b.run) (nat_cmp a.n b.n)
 
 -- the framework's live tasks by their keys, with one more of an agent
-abbrev pub gathers : Numbered → List ℕ → List (Numbered × HeldTask) → Booked → List (Numbered × HeldTask)
-gathers framework agent es b = if is_live_of framework (place agent b) then insert_entry key_cmp es b.job.key (held_task (place agent b)) else es
+abbrev pub gathers : Numbered → List ℕ → List (Numbered × HeldTask) → Booked
+    → List (Numbered × HeldTask)
+gathers framework agent es b =
+    if is_live_of framework (place agent b)
+    then insert_entry key_cmp es b.job.key (held_task (place agent b)) else es
 
 abbrev pub gathers_on : Numbered → List (Numbered × HeldTask) → Holding → List (Numbered × HeldTask)
 gathers_on framework es h = fold (gathers framework h.agent) es h.booked
 
-abbrev pub gathers_all : Numbered → List (Numbered × HeldTask) → List Holding → List (Numbered × HeldTask)
+abbrev pub gathers_all : Numbered → List (Numbered × HeldTask) → List Holding
+    → List (Numbered × HeldTask)
 gathers_all framework es hs = fold (gathers_on framework) es hs
 
 abbrev pub live_of : Numbered → State → List HeldTask
@@ -48,4 +55,5 @@ live_of framework s = values_of (gathers_all framework [] (map holding s.sides))
 -- the tasks asked for, or all
 abbrev pub reconciled : Numbered → Numbered → List ReconciledTask → State → State
 reconciled framework stream [] s = fold (tells_held stream) s (live_of framework s)
-reconciled framework stream (asked ∷ more) s = fold (reconciled_one framework stream) s (asked ∷ more)
+reconciled framework stream (asked ∷ more) s =
+    fold (reconciled_one framework stream) s (asked ∷ more)

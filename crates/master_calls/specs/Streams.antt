@@ -23,20 +23,30 @@ subscribed_on m r id role known = record {
 
 -- a framework comes with its id: its open stream, if it is known
 abbrev pub resubscribed_as : Master → Numbered → List ℕ → Option (Option Numbered) → Doing
-resubscribed_as m id role None = if nat_le frameworks_limit (length m.registers.frameworks) then refused m LimitExceeded else subscribed_on m m.registers id role None
+resubscribed_as m id role None =
+    if nat_le frameworks_limit (length m.registers.frameworks) then refused m LimitExceeded
+    else subscribed_on m m.registers id role None
 resubscribed_as m id role (Some stream) = subscribed_on m m.registers id role stream
 
 -- the small steps of it
 
 abbrev pub failed_over : Numbered → State → State
-failed_over stream s = states.closed stream (states.told stream (events.Error (codes "Framework failed over")) s)
+failed_over stream s =
+    states.closed stream (states.told stream (events.Error (codes "Framework failed over")) s)
 
 abbrev pub left : Option Numbered → State → State
 left None s = s
 left (Some stream) s = failed_over stream s
 
 abbrev pub with_subscriber : Numbered → List ℕ → Numbered → State → State
-with_subscriber id role stream s = record s { frameworks = put_framework (frameworks.subscriber id role stream s.moment) s.frameworks }
+with_subscriber id role stream s =
+    record s {
+      frameworks = put_framework (frameworks.subscriber id role stream s.moment)
+          s.frameworks;
+    }
 
 abbrev pub entered : Numbered → List ℕ → State → State
-entered id role s = states.told (states.new_stream s) (events.Subscribed id) (with_subscriber id role (states.new_stream s) (states.without_offers (is_of id) (states.opened s)))
+entered id role s =
+    states.told (states.new_stream s) (events.Subscribed id)
+    (with_subscriber id role (states.new_stream s)
+    (states.without_offers (is_of id) (states.opened s)))

@@ -10,7 +10,14 @@ use Rattle.cluster_model.specs.Calls.{commanding}
 pub use Rattle.master_calls.specs.declared.on_kill.HeldTask.{HeldTask}
 
 abbrev pub held_task : Placed → HeldTask
-held_task p = record { name = p.booked.job.name; agent = p.agent; key = p.booked.job.key; ended = p.booked.ended; state = p.booked.state }
+held_task p =
+    record {
+      name = p.booked.job.name;
+      agent = p.agent;
+      key = p.booked.job.key;
+      ended = p.booked.ended;
+      state = p.booked.state;
+    }
 
 -- the state of a task on a stream, without an id that has to be acknowledged
 abbrev pub tells_task : Numbered → List ℕ → TaskState → Option (List ℕ) → List Told
@@ -25,4 +32,5 @@ kills m stream task agent (Some held) =
 
 -- ACKNOWLEDGE of an update that is the one last heard, or isn't
 abbrev pub acks : Master → List ℕ → Numbered → ℕ → Bool → Doing
-acks m agent key k is_last = if is_last then commanding m (side_of m agent) (AtSide agent (SendAck key k)) else nothing m
+acks m agent key k is_last =
+    if is_last then commanding m (side_of m agent) (AtSide agent (SendAck key k)) else nothing m

@@ -48,7 +48,8 @@ pub(crate) fn held_of(
     framework: FrameworkId,
     name: &TaskName,
 ) -> Result<Option<HeldTask>, AllocError>
-    ensures { IfOk result (λ task. task ≡ option_map held_task (held (master_of state.now) framework name.now)) }
+    ensures { IfOk result (λ task. task ≡ option_map held_task
+        (held (master_of state.now) framework name.now)) }
 {
     match state.sides.held(framework, name) {
         None => Ok(None),
@@ -62,7 +63,9 @@ fn order_kill(
     agent: &AgentName,
     key: LaunchKey,
 ) -> Result<(), MasterFault>
-    ensures { Gave result state.old state.new (commanding (master_of state.old) (side_of (master_of state.old) agent.now) (AtSide agent.now (SendKill key))) }
+    ensures { Gave result state.old state.new
+        (commanding (master_of state.old) (side_of (master_of state.old) agent.now)
+        (AtSide agent.now (SendKill key))) }
 {
     if !state.sides.may_have_numbers(agent, 1) {
         return Err(MasterFault::Refused(MasterRefusal::LimitExceeded));
@@ -80,7 +83,9 @@ fn order_ack(
     key: LaunchKey,
     k: u32,
 ) -> Result<(), MasterFault>
-    ensures { Gave result state.old state.new (commanding (master_of state.old) (side_of (master_of state.old) agent.now) (AtSide agent.now (SendAck key k))) }
+    ensures { Gave result state.old state.new
+        (commanding (master_of state.old) (side_of (master_of state.old) agent.now)
+        (AtSide agent.now (SendAck key k))) }
 {
     if !state.sides.may_have_numbers(agent, 1) {
         return Err(MasterFault::Refused(MasterRefusal::LimitExceeded));
@@ -117,9 +122,10 @@ fn kill_held(
     }
 }
 
-/// Ends a task (Mesos scheduler HTTP API, KILL): a command goes to the agent of a booked task that hasn't ended; of one that has
-/// ended its state is told, and of one that isn't booked that it is lost. Refused as `State::admit` tells, and `M4
-/// LimitExceeded` where the agent's session has no command number left.
+/// Ends a task (Mesos scheduler HTTP API, KILL): a command goes to the agent of a booked task that
+/// hasn't ended; of one that has ended its state is told, and of one that isn't booked that it is
+/// lost. Refused as `State::admit` tells, and `M4 LimitExceeded` where the agent's session has no
+/// command number left.
 pub fn kill(
     state: &mut State,
     alloc: Global,
@@ -128,7 +134,8 @@ pub fn kill(
     task: TaskName,
     agent: Option<AgentName>,
 ) -> Result<(), MasterFault>
-    ensures { Gave result state.old state.new (called (master_of state.old) given (calls.Kill framework task agent)) }
+    ensures { Gave result state.old state.new
+        (called (master_of state.old) given (calls.Kill framework task agent)) }
 {
     let stream = match state.admit(given, framework) {
         Ok(stream) => stream,
@@ -141,9 +148,10 @@ pub fn kill(
     kill_held(state, alloc, stream, task, agent, held)
 }
 
-/// A status update was received (Mesos scheduler HTTP API, ACKNOWLEDGE): where it is the last one that was heard of the
-/// framework's task of this name and key on this agent, a command goes there; else nothing happens. Refused as `State::admit`
-/// tells, and `M4 LimitExceeded` where the agent's session has no command number left.
+/// A status update was received (Mesos scheduler HTTP API, ACKNOWLEDGE): where it is the last one
+/// that was heard of the framework's task of this name and key on this agent, a command goes there;
+/// else nothing happens. Refused as `State::admit` tells, and `M4 LimitExceeded` where the agent's
+/// session has no command number left.
 pub fn acknowledge(
     state: &mut State,
     alloc: Global,
@@ -153,7 +161,9 @@ pub fn acknowledge(
     task: &TaskName,
     update: UpdateId,
 ) -> Result<(), MasterFault>
-    ensures { Gave result state.old state.new (called (master_of state.old) given (calls.Acknowledge framework agent.now task.now update)) }
+    ensures { Gave result state.old state.new
+        (called (master_of state.old) given
+        (calls.Acknowledge framework agent.now task.now update)) }
 {
     let _stream = match state.admit(given, framework) {
         Ok(stream) => stream,

@@ -103,7 +103,8 @@ fn gather_task(
     agent: &AgentName,
     task: &Booked,
 ) -> Result<(), AllocError>
-    ensures { OnOk result (live.new.entries ≡ gathers framework agent.now live.old.entries task.now) }
+    ensures { OnOk result (live.new.entries
+        ≡ gathers framework agent.now live.old.entries task.now) }
 {
     if is_live(task, framework) {
         let held = copy_held(alloc, agent, task)?;
@@ -118,7 +119,8 @@ fn gather_on(
     framework: FrameworkId,
     account: &Account,
 ) -> Result<(), AllocError>
-    ensures { OnOk result (live.new.entries ≡ gathers_on framework live.old.entries (holding_of account.now)) }
+    ensures { OnOk result (live.new.entries
+        ≡ gathers_on framework live.old.entries (holding_of account.now)) }
 {
     for task in account.booked.as_slice() {
         gather_task(live, alloc, framework, &account.name, task)?;
@@ -132,7 +134,8 @@ fn gather_each(
     framework: FrameworkId,
     accounts: &[Account],
 ) -> Result<(), AllocError>
-    ensures { OnOk result (live.new.entries ≡ gathers_all framework live.old.entries (map holding_of accounts.now)) }
+    ensures { OnOk result (live.new.entries
+        ≡ gathers_all framework live.old.entries (map holding_of accounts.now)) }
 {
     for account in accounts {
         gather_on(live, alloc, framework, account)?;
@@ -146,7 +149,8 @@ fn gather_all(
     alloc: Global,
     framework: FrameworkId,
 ) -> Result<BTreeMap<LaunchKey, HeldTask>, AllocError>
-    ensures { IfOk result (λ live. live.entries ≡ gathers_all framework [] (map holding sides.now)) }
+    ensures { IfOk result (λ live. live.entries
+        ≡ gathers_all framework [] (map holding sides.now)) }
 {
     let mut live = BTreeMap::new(alloc);
     gather_each(&mut live, alloc, framework, sides.accounts())?;
@@ -182,10 +186,11 @@ fn reconcile_asked(
     tell_all(state, stream, live)
 }
 
-/// Tells the states of tasks (Mesos scheduler HTTP API, RECONCILE), in the order asked: of one that is booked its state; of one
-/// that isn't that it is lost, where the agent that it is thought to be on, or where none is named every agent, has opened a
-/// session in this run or isn't configured; else nothing. Where no task is named, the states of all the framework's tasks that
-/// haven't ended are told, by their launch keys. Refused as `State::admit` tells.
+/// Tells the states of tasks (Mesos scheduler HTTP API, RECONCILE), in the order asked: of one that
+/// is booked its state; of one that isn't that it is lost, where the agent that it is thought to be
+/// on, or where none is named every agent, has opened a session in this run or isn't configured;
+/// else nothing. Where no task is named, the states of all the framework's tasks that haven't ended
+/// are told, by their launch keys. Refused as `State::admit` tells.
 pub fn reconcile(
     state: &mut State,
     alloc: Global,
@@ -193,7 +198,8 @@ pub fn reconcile(
     framework: FrameworkId,
     tasks: &[ReconciledTask],
 ) -> Result<(), MasterFault>
-    ensures { Gave result state.old state.new (called (master_of state.old) given (calls.Reconcile framework tasks.now)) }
+    ensures { Gave result state.old state.new
+        (called (master_of state.old) given (calls.Reconcile framework tasks.now)) }
 {
     let stream = match state.admit(given, framework) {
         Ok(stream) => stream,

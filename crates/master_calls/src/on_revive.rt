@@ -9,15 +9,16 @@ use master_state::{MasterFault, State};
 use names_core::{FrameworkId, StreamId};
 use std::alloc::Global;
 
-/// The framework is offered resources again, and what it refused too (Mesos scheduler HTTP API, REVIVE). Refused as
-/// `State::admit` tells.
+/// The framework is offered resources again, and what it refused too (Mesos scheduler HTTP API,
+/// REVIVE). Refused as `State::admit` tells.
 pub fn revive(
     state: &mut State,
     alloc: Global,
     given: Option<StreamId>,
     framework: FrameworkId,
 ) -> Result<(), MasterFault>
-    ensures { Gave result state.old state.new (called (master_of state.old) given (calls.Revive framework)) }
+    ensures { Gave result state.old state.new
+        (called (master_of state.old) given (calls.Revive framework)) }
 {
     let _stream = match state.admit(given, framework) {
         Ok(stream) => stream,
@@ -28,13 +29,15 @@ pub fn revive(
     Ok(())
 }
 
-/// The framework asks for no more offers (Mesos scheduler HTTP API, SUPPRESS). Refused as `State::admit` tells.
+/// The framework asks for no more offers (Mesos scheduler HTTP API, SUPPRESS).
+/// Refused as `State::admit` tells.
 pub fn suppress(
     state: &mut State,
     given: Option<StreamId>,
     framework: FrameworkId,
 ) -> Result<(), MasterFault>
-    ensures { Gave result state.old state.new (called (master_of state.old) given (calls.Suppress framework)) }
+    ensures { Gave result state.old state.new
+        (called (master_of state.old) given (calls.Suppress framework)) }
 {
     let _stream = match state.admit(given, framework) {
         Ok(stream) => stream,

@@ -62,7 +62,9 @@ fn subscribe_on(
     known: Option<StreamId>,
 ) -> Result<(), AllocError>
     requires { state.old.last_stream < last_number }
-    ensures { OnOk result (work_of state.new ≡ done (subscribed_on (master_of state.old) (registers_of state.old) id role known) (work_of state.old)) }
+    ensures { OnOk result (work_of state.new
+        ≡ done (subscribed_on (master_of state.old) (registers_of state.old) id role known)
+        (work_of state.old)) }
 {
     state.sides.stand_in_order();
     leave(state, alloc, known)?;
@@ -93,7 +95,8 @@ fn subscribe_new(state: &mut State, alloc: Global, role: RoleName) -> Result<(),
 /// A framework that was torn down gets a stream with an error alone.
 fn turn_away(state: &mut State, alloc: Global) -> Result<(), AllocError>
     requires { state.old.last_stream < last_number }
-    ensures { OnOk result (work_of state.new ≡ done (removed (master_of state.old)) (work_of state.old)) }
+    ensures { OnOk result (work_of state.new
+        ≡ done (removed (master_of state.old)) (work_of state.old)) }
 {
     let message = Message::from_text(alloc, "Framework has been removed")?;
     let stream = state.open_stream()?;
@@ -116,7 +119,8 @@ fn resubscribe_as(
     known: Option<Option<StreamId>>,
 ) -> Result<(), MasterFault>
     requires { state.old.last_stream < last_number }
-    ensures { Gave result state.old state.new (resubscribed_as (master_of state.old) id role known) }
+    ensures { Gave result state.old state.new
+        (resubscribed_as (master_of state.old) id role known) }
 {
     let stream = match known {
         Some(stream) => stream,
@@ -158,9 +162,10 @@ fn resubscribe(
     resubscribe_as(state, alloc, id, role, known)
 }
 
-/// Opens an event stream for a new framework, or for the one with this id (Mesos scheduler HTTP API, SUBSCRIBE). `M3
-/// NoSuchFramework` where this run can't have given the id out; `M4 LimitExceeded` where 4,096 frameworks are known, or the
-/// numbers of frameworks or of streams are spent.
+/// Opens an event stream for a new framework, or for the one with this id (Mesos scheduler HTTP
+/// API, SUBSCRIBE). `M3 NoSuchFramework` where this run can't have given the id out; `M4
+/// LimitExceeded` where 4,096 frameworks are known, or the numbers of frameworks or of streams are
+/// spent.
 pub fn subscribe(
     state: &mut State,
     alloc: Global,
@@ -168,7 +173,8 @@ pub fn subscribe(
     framework: Option<FrameworkId>,
     role: RoleName,
 ) -> Result<(), MasterFault>
-    ensures { Gave result state.old state.new (called (master_of state.old) given (calls.Subscribe framework role)) }
+    ensures { Gave result state.old state.new
+        (called (master_of state.old) given (calls.Subscribe framework role)) }
 {
     match framework {
         None => subscribe_new(state, alloc, role),

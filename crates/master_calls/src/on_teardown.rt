@@ -44,16 +44,18 @@ fn end(
     state.close(stream)
 }
 
-/// Ends a framework (Mesos scheduler HTTP API, TEARDOWN): its offers are withdrawn, its stream closes, and it may not call again in
-/// this run. A command goes to each agent with booked tasks of it, which stay booked until the agent has applied it. Refused as
-/// `State::admit` tells, and `M4 LimitExceeded` where the session of one of these agents has no command number left.
+/// Ends a framework (Mesos scheduler HTTP API, TEARDOWN): its offers are withdrawn, its stream
+/// closes, and it may not call again in this run. A command goes to each agent with booked tasks of
+/// it, which stay booked until the agent has applied it. Refused as `State::admit` tells, and `M4
+/// LimitExceeded` where the session of one of these agents has no command number left.
 pub fn teardown(
     state: &mut State,
     alloc: Global,
     given: Option<StreamId>,
     framework: FrameworkId,
 ) -> Result<(), MasterFault>
-    ensures { Gave result state.old state.new (called (master_of state.old) given (calls.Teardown framework)) }
+    ensures { Gave result state.old state.new
+        (called (master_of state.old) given (calls.Teardown framework)) }
 {
     let stream = match state.admit(given, framework) {
         Ok(stream) => stream,

@@ -24,19 +24,30 @@ pub use Rattle.master_core.specs.declared.master.HeardMail.{HeardMail}
 
 -- what a step brings out
 abbrev pub outs_of : Master → Doing → Outs
-outs_of m d = record { events = map written d.events; opened = d.opens; closed = d.closes; mails = (moved m d.moves).sent }
+outs_of m d =
+    record {
+      events = map written d.events;
+      opened = d.opens;
+      closed = d.closes;
+      mails = (moved m d.moves).sent;
+    }
 
--- A step of a master that is up was done, or it was refused and nothing changed. Where memory was refused the master is down: it
--- answers so for ever.
-abbrev pub Answers : Result Outs MasterFault → Option Master → Option Master → (Master → Doing) → Type 0
+-- A step of a master that is up was done, or it was refused and nothing changed.
+-- Where memory was refused the master is down: it answers so for ever.
+abbrev pub Answers : Result Outs MasterFault → Option Master → Option Master → (Master → Doing)
+    → Type 0
 Answers (Ok outs) None after doing = ⊥
-Answers (Ok outs) (Some m) after doing = ((doing m).refusal ≡ None) × (outs ≡ outs_of m (doing m)) × (after ≡ Some (after_doing m (doing m)))
+Answers (Ok outs) (Some m) after doing =
+    ((doing m).refusal ≡ None) × (outs ≡ outs_of m (doing m))
+    × (after ≡ Some (after_doing m (doing m)))
 Answers (Err OutOfMemory) before after doing = after ≡ None
 Answers (Err (Refused refusal)) None after doing = ⊥
-Answers (Err (Refused refusal)) (Some m) after doing = ((doing m).refusal ≡ Some refusal) × (after ≡ Some m)
+Answers (Err (Refused refusal)) (Some m) after doing =
+    ((doing m).refusal ≡ Some refusal) × (after ≡ Some m)
 
 -- A mail was heard, and what goes with it was done; why it was refused is told.
-abbrev pub Hears : Result HeardMail MasterFault → Option Master → Option Master → List ℕ → AgentMail → Type 0
+abbrev pub Hears : Result HeardMail MasterFault → Option Master → Option Master → List ℕ → AgentMail
+    → Type 0
 Hears (Ok heard) None after agent mail = ⊥
 Hears (Ok heard) (Some m) after agent mail =
     (heard.refusal ≡ (mailed_by m agent mail).refusal)
@@ -74,7 +85,8 @@ of_memory (Ok x) = Ok x
 of_memory (Err e) = Err OutOfMemory
 
 -- what a step that was done brought out is handed out; where it wanted memory there is no state
-abbrev pub Settled : Result Unit MasterFault → Option State → Option State → Result Outs MasterFault → Type 0
+abbrev pub Settled : Result Unit MasterFault → Option State → Option State → Result Outs MasterFault
+    → Type 0
 Settled (Ok x) None new result = (new ≡ None) × (result ≡ Err OutOfMemory)
 Settled (Ok x) (Some s) new result = (new ≡ Some (cleared s)) × (result ≡ Ok s.outs)
 Settled (Err OutOfMemory) old new result = (new ≡ None) × (result ≡ Err OutOfMemory)

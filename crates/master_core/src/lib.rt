@@ -1,5 +1,5 @@
-//! The master: its answers to calls, and what it does at agents' mails, rounds of offers, ticks, lost agents and hang-ups
-//! (Mesos scheduler HTTP API, Calls; Mesos paper, section 3.1).
+//! The master: its answers to calls, and what it does at agents' mails, rounds of offers, ticks,
+//! lost agents and hang-ups (Mesos scheduler HTTP API, Calls; Mesos paper, section 3.1).
 #![tactic(auto)]
 
 mod answer;

@@ -29,7 +29,8 @@ use side_fits::{hearing_keeps_fits, moves_keep_fits};
 use std::alloc::{AllocError, Global};
 use std::marker::Model;
 
-/// A master in its run. Where a step wanted memory it is down: every later step answers `M5 OutOfMemory`, and does nothing.
+/// A master in its run. Where a step wanted memory it is down:
+/// every later step answers `M5 OutOfMemory`, and does nothing.
 #[derive(Drop)]
 pub struct Master {
     state: Option<State>,
@@ -86,8 +87,11 @@ fn is_open_in(frameworks: &[Framework], stream: StreamId) -> bool
 impl Master {
     /// A master that begins a run over these agents, and a Hello to each.
     pub fn start(alloc: Global, run: Run, config: &Config) -> Result<(Master, Outs), MasterFault>
-        ensures master { IfOk result (λ started. started.0 ≡ Some (master_of (fresh run config.now))) }
-        ensures outs { IfOk result (λ started. started.1 ≡ outs_of (master_of (fresh run config.now)) (greeting (master_of (fresh run config.now)))) }
+        ensures master { IfOk result (λ started. started.0
+            ≡ Some (master_of (fresh run config.now))) }
+        ensures outs { IfOk result (λ started. started.1
+            ≡ outs_of (master_of (fresh run config.now))
+            (greeting (master_of (fresh run config.now)))) }
         ensures refused { IfErr result (λ fault. fault ≡ MasterFault.OutOfMemory) }
     {
         let _agents = config.agents();
@@ -144,8 +148,9 @@ impl Master {
         settle(&mut self.state, alloc, done)
     }
 
-    /// A round of offers: what is free on each agent with an open session goes whole to the eligible framework that stands least by
-    /// dominant shares and the weights of roles (DRF paper, sections 4 and 4.3).
+    /// A round of offers: what is free on each agent with an open session goes whole to the
+    /// eligible framework that stands least by dominant shares and the weights of roles (DRF paper,
+    /// sections 4 and 4.3).
     pub fn allocate(&mut self, alloc: Global, weights: &Weights) -> Result<Outs, MasterFault>
         ensures { Answers result self.old self.new (allocated weights.now) }
     {
@@ -193,12 +198,14 @@ impl Master {
         settle(&mut self.state, alloc, done)
     }
 
-    /// A mail of an agent (Mesos paper, section 3.5). Why it is refused stands beside what it brings out: `G1 OtherRun` for a Report to
-    /// a master of another run, and with a Hello to the agent `G2 OldSession` below the open session, `G3 Closed` where none is open
-    /// and this one is closed, `G4 NotOpen` where no Report has opened it. Nothing happens where the agent isn't configured.
+    /// A mail of an agent (Mesos paper, section 3.5). Why it is refused stands beside what it
+    /// brings out: `G1 OtherRun` for a Report to a master of another run, and with a Hello to the
+    /// agent `G2 OldSession` below the open session, `G3 Closed` where none is open and this one is
+    /// closed, `G4 NotOpen` where no Report has opened it. Nothing happens where the agent isn't
+    /// configured.
     ///
-    /// The caller owes that an update has a number that an agent's record has room for, and that what a Report tells hasn't ended
-    /// fits the total that it tells.
+    /// The caller owes that an update has a number that an agent's record has room for,
+    /// and that what a Report tells hasn't ended fits the total that it tells.
     pub fn mail(
         &mut self,
         alloc: Global,
@@ -226,9 +233,11 @@ impl Master {
         }
     }
 
-    /// The sum of an agent's current offers; nothing where it isn't configured. Want of memory leaves the master as it is.
+    /// The sum of an agent's current offers; nothing where it isn't configured.
+    /// Want of memory leaves the master as it is.
     pub fn offered_on(&self, alloc: Global, agent: &AgentName) -> Result<Resources, MasterFault>
-        ensures sum { IfOk result (λ sum. option_map (λ m. offered_on m agent.now) self.now ≡ Some sum) }
+        ensures sum { IfOk result (λ sum. option_map (λ m. offered_on m agent.now) self.now
+            ≡ Some sum) }
         ensures refused { IfErr result (λ fault. fault ≡ MasterFault.OutOfMemory) }
     {
         let Some(state) = &self.state else {

@@ -20,8 +20,8 @@ fn add(sum: &mut Resources, alloc: Global, more: &Resources) -> Result<(), Alloc
     }
 }
 
-/// What offers have together. A sum past the limits of resources, which offers that fit what an agent owns don't have, is refused as if memory
-/// were.
+/// What offers have together. A sum past the limits of resources,
+/// which offers that fit what an agent owns don't have, is refused as if memory were.
 pub fn sum_of(alloc: Global, offers: &[Offer]) -> Result<Resources, AllocError>
     ensures { IfOk result (λ sum. sum ≡ plus_rows [] (offer_rows offers.now)) }
 {

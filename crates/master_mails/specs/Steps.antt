@@ -24,12 +24,17 @@ use Rattle.master_mails.specs.Tells.{loss_of, rescind_of}
 
 -- what a master holds, once the side of an agent has heard a mail
 abbrev pub having_heard : List ℕ → AgentMail → Work → Work
-having_heard agent mail w = record w { moved = record w.moved { sides = hear_at agent w.moved.run mail w.moved.sides } }
+having_heard agent mail w =
+    record w { moved = record w.moved { sides = hear_at agent w.moved.run mail w.moved.sides } }
 
--- an agent's mail was heard, with what goes with it, and why it is refused is told; where memory was refused nothing is told
-abbrev pub Answered : Result (Option MasterRefusal) AllocError → State → State → List ℕ → AgentMail → Type 0
+-- an agent's mail was heard, with what goes with it, and why it is refused is told;
+-- where memory was refused nothing is told
+abbrev pub Answered : Result (Option MasterRefusal) AllocError → State → State → List ℕ → AgentMail
+    → Type 0
 Answered (Ok refusal) before after agent mail =
-    (refusal ≡ (mailed_by (master_of before) agent mail).refusal) × (work_of after ≡ done (mailed_by (master_of before) agent mail) (having_heard agent mail (work_of before)))
+    (refusal ≡ (mailed_by (master_of before) agent mail).refusal)
+    × (work_of after ≡ done (mailed_by (master_of before) agent mail)
+    (having_heard agent mail (work_of before)))
 Answered (Err e) before after agent mail = ⊤
 
 -- small steps
@@ -45,16 +50,22 @@ with_lost agent s = record s { sides = at_name agent lost s.sides }
 
 -- what is told of an agent's offers and of its booked tasks that aren't reported
 abbrev pub rescinded : List ℕ → State → State
-rescinded agent s = with_told (flat_map (rescind_of s.frameworks) (told_of agent (λ t. t.offers) [] s.sides)) s
+rescinded agent s =
+    with_told (flat_map (rescind_of s.frameworks) (told_of agent (λ t. t.offers) [] s.sides)) s
 
 abbrev pub with_losses : List ℕ → List Booked → State → State
-with_losses agent reported s = with_told (flat_map (loss_of s.frameworks agent reported) (told_of agent (λ t. t.booked) [] s.sides)) s
+with_losses agent reported s =
+    with_told (flat_map (loss_of s.frameworks agent reported)
+    (told_of agent (λ t. t.booked) [] s.sides)) s
 
 abbrev pub with_failures : List ℕ → State → State
 with_failures agent s = with_told (tells_all s.frameworks (FAILURE agent)) s
 
 abbrev pub left : List ℕ → State → State
-left agent s = greeted agent (with_lost agent (without_filters agent (with_failures agent (with_losses agent [] (rescinded agent s)))))
+left agent s =
+    greeted agent
+    (with_lost agent
+    (without_filters agent (with_failures agent (with_losses agent [] (rescinded agent s)))))
 
 -- a Hello goes with every refusal but that of another run
 abbrev pub turned_away : List ℕ → MasterRefusal → State → State
@@ -62,7 +73,8 @@ turned_away agent OtherRun s = s
 turned_away agent refusal s = greeted agent s
 
 abbrev pub with_report : List ℕ → ℕ → ℕ → List Booked → List Row → State → State
-with_report agent session number tasks total s = record s { sides = at_name agent (reporting s.run session number tasks total) s.sides }
+with_report agent session number tasks total s =
+    record s { sides = at_name agent (reporting s.run session number tasks total) s.sides }
 
 -- the frameworks that were torn down and have reported tasks
 abbrev pub ends_of : List Booked → State → List Numbered
@@ -73,4 +85,5 @@ ending agent s framework = ordered agent (EndFramework framework) s
 
 abbrev pub session_opened : List ℕ → ℕ → ℕ → List Booked → List Row → State → State
 session_opened agent session number tasks total s =
-    fold (ending agent) (with_report agent session number tasks total (without_filters agent (with_losses agent tasks (rescinded agent s)))) (ends_of tasks s)
+    fold (ending agent) (with_report agent session number tasks total
+    (without_filters agent (with_losses agent tasks (rescinded agent s)))) (ends_of tasks s)

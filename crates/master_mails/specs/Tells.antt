@@ -30,14 +30,19 @@ lost_event agent b = event_of (lost_task agent b)
 
 -- TASK_LOST of a booked task that hasn't ended and isn't reported
 abbrev pub loss_of : List Framework → List ℕ → List Booked → Booked → List Told
-loss_of fs agent reported b = if b.ended then [] else (if is_reported reported b then [] else tells_in fs b.job.framework (lost_task agent b))
+loss_of fs agent reported b =
+    if b.ended then [] else (if is_reported reported b then []
+    else tells_in fs b.job.framework (lost_task agent b))
 
 abbrev pub update_of : List ℕ → Heard → Booked → Event
-update_of agent u b = UPDATE b.job.name u.state (Some agent) (Some (record { key = u.key; k = u.k }))
+update_of agent u b =
+    UPDATE b.job.name u.state (Some agent) (Some (record { key = u.key; k = u.k }))
 
 abbrev pub updated_event : List ℕ → Heard → Booked → json.Event
 updated_event agent u b = event_of (update_of agent u b)
 
 -- an update of a booked task that isn't older than what was heard
 abbrev pub news : List Framework → List ℕ → Heard → Booked → List Told
-news fs agent u b = if same b.job.key u.key && nat_le b.heard (suc u.k) then tells_in fs b.job.framework (update_of agent u b) else []
+news fs agent u b =
+    if same b.job.key u.key && nat_le b.heard (suc u.k)
+    then tells_in fs b.job.framework (update_of agent u b) else []

@@ -1,5 +1,5 @@
-//! What the master does beside answering calls: at an agent's mail, at a tick, when it loses an agent, and when a framework's
-//! stream hangs up (Mesos paper, sections 3.1 and 3.5).
+//! What the master does beside answering calls: at an agent's mail, at a tick, when it loses an
+//! agent, and when a framework's stream hangs up (Mesos paper, sections 3.1 and 3.5).
 #![tactic(auto)]
 
 mod on_hang_up;

@@ -8,10 +8,11 @@ use master_state::State;
 use names_core::StreamId;
 use std::alloc::AllocError;
 
-/// The framework whose open stream this is loses its offers and has no open stream; the stream is closed. Nothing happens where
-/// it is no framework's open stream.
+/// The framework whose open stream this is loses its offers and has no open stream;
+/// the stream is closed. Nothing happens where it is no framework's open stream.
 pub fn hang_up(state: &mut State, stream: StreamId) -> Result<(), AllocError>
-    ensures { OnOk result (work_of state.new ≡ done (hung_up (master_of state.old) stream) (work_of state.old)) }
+    ensures { OnOk result (work_of state.new
+        ≡ done (hung_up (master_of state.old) stream) (work_of state.old)) }
 {
     let Some(framework) = state.frameworks.subscriber_on(stream) else {
         return Ok(());

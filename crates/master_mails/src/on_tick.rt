@@ -8,10 +8,12 @@ use crate::tell;
 use master_state::State;
 use std::alloc::{AllocError, Global};
 
-/// The moment is now, in seconds. HEARTBEAT goes on each open stream whose last one, or SUBSCRIBED, is 15 seconds ago or more, by
-/// framework; then, by agent, a Hello where no session is open, else the oldest command that isn't known to be applied, again.
+/// The moment is now, in seconds. HEARTBEAT goes on each open stream whose last one, or SUBSCRIBED,
+/// is 15 seconds ago or more, by framework; then, by agent, a Hello where no session is open, else
+/// the oldest command that isn't known to be applied, again.
 pub fn tick(state: &mut State, alloc: Global, now: u32) -> Result<(), AllocError>
-    ensures { OnOk result (work_of state.new ≡ done (ticked (master_of state.old) now) (work_of state.old)) }
+    ensures { OnOk result (work_of state.new
+        ≡ done (ticked (master_of state.old) now) (work_of state.old)) }
 {
     state.sides.stand_in_order();
     tell::tell_beats(now, state.frameworks.as_slice(), &mut state.outs.events)?;

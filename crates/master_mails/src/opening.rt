@@ -26,7 +26,8 @@ fn push_ends(
     frameworks: &[Framework],
     ends: &mut Vec<FrameworkId>,
 ) -> Result<(), AllocError>
-    ensures { OnOk result (ends.new.items ≡ ends.old.items ++ map (λ f. f.id) (filter (is_to_end (master_of state.now) tasks.now) frameworks.now)) }
+    ensures { OnOk result (ends.new.items ≡ ends.old.items
+        ++ map (λ f. f.id) (filter (is_to_end (master_of state.now) tasks.now) frameworks.now)) }
 {
     for framework in frameworks {
         if is_to_end(state, tasks, framework) {
@@ -64,8 +65,9 @@ fn order_ends(
     Ok(())
 }
 
-/// A Report opens a session: the agent's offers are rescinded, its booked tasks that aren't reported and haven't ended are lost,
-/// filters on it end, its books are the reported tasks and the reported total, and tasks of frameworks that were torn down are to end.
+/// A Report opens a session: the agent's offers are rescinded, its booked tasks that aren't
+/// reported and haven't ended are lost, filters on it end, its books are the reported tasks and the
+/// reported total, and tasks of frameworks that were torn down are to end.
 pub fn open_session(
     state: &mut State,
     alloc: Global,
@@ -75,7 +77,8 @@ pub fn open_session(
     tasks: Listed<Booked>,
     total: Resources,
 ) -> Result<(), AllocError>
-    ensures { OnOk result (state.new ≡ session_opened agent.now session number tasks total state.old) }
+    ensures { OnOk result (state.new ≡ session_opened agent.now session number tasks total
+        state.old) }
 {
     let reported = Reported::of(alloc, tasks)?;
     let events = &mut state.outs.events;

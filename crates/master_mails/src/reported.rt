@@ -48,7 +48,8 @@ fn insert_frameworks(
     frameworks: &mut BTreeSet<FrameworkId>,
     tasks: &[Booked],
 ) -> Result<(), AllocError>
-    ensures { OnOk result (frameworks.new.keys ≡ fold with_framework frameworks.old.keys tasks.now) }
+    ensures { OnOk result (frameworks.new.keys
+        ≡ fold with_framework frameworks.old.keys tasks.now) }
 {
     for task in tasks {
         frameworks.insert(task.job.framework)?;
@@ -58,8 +59,11 @@ fn insert_frameworks(
 
 /// A set of the ids of tasks has those that tasks have.
 fn ids_are_found()
-    ensures keys { (key : Numbered) (tasks : List Booked) → list_any (is_at (id_cmp key)) (keys_of tasks) ≡ list_any (λ t. same t.job.key key) tasks }
-    ensures frameworks { (framework : Numbered) (tasks : List Booked) → list_any (is_at (id_cmp framework)) (frameworks_of tasks) ≡ list_any (λ t. same t.job.framework framework) tasks }
+    ensures keys { (key : Numbered) (tasks : List Booked)
+        → list_any (is_at (id_cmp key)) (keys_of tasks) ≡ list_any (λ t. same t.job.key key) tasks }
+    ensures frameworks { (framework : Numbered) (tasks : List Booked)
+        → list_any (is_at (id_cmp framework)) (frameworks_of tasks)
+        ≡ list_any (λ t. same t.job.framework framework) tasks }
 {}
 
 impl Reported {

@@ -35,7 +35,8 @@ fn tell_rescind(
     offer: &Offer,
     events: &mut Listed<StreamEvent>,
 ) -> Result<(), AllocError>
-    ensures { OnOk result (events.new ≡ events.old ++ map written (rescind_of frameworks.now offer.now)) }
+    ensures { OnOk result (events.new ≡ events.old
+        ++ map written (rescind_of frameworks.now offer.now)) }
 {
     match open_stream_of(frameworks, offer.framework) {
         None => Ok(()),
@@ -52,7 +53,8 @@ pub fn tell_rescinds(
     offers: &[Offer],
     events: &mut Listed<StreamEvent>,
 ) -> Result<(), AllocError>
-    ensures { OnOk result (events.new ≡ events.old ++ map written (flat_map (rescind_of frameworks.now) offers.now)) }
+    ensures { OnOk result (events.new ≡ events.old
+        ++ map written (flat_map (rescind_of frameworks.now) offers.now)) }
 {
     for offer in offers {
         tell_rescind(frameworks, offer, events)?;
@@ -93,7 +95,8 @@ fn tell_loss(
     task: &Booked,
     events: &mut Listed<StreamEvent>,
 ) -> Result<(), AllocError>
-    ensures { OnOk result (events.new ≡ events.old ++ map written (loss_of frameworks.now agent.now reported.now task.now)) }
+    ensures { OnOk result (events.new ≡ events.old
+        ++ map written (loss_of frameworks.now agent.now reported.now task.now)) }
 {
     if task.ended || is_reported(reported, task) {
         return Ok(());
@@ -107,7 +110,8 @@ fn tell_loss(
     }
 }
 
-/// TASK_LOST of booked tasks of an agent that haven't ended and aren't reported goes to their frameworks.
+/// TASK_LOST of booked tasks of an agent that haven't ended and
+/// aren't reported goes to their frameworks.
 pub fn tell_losses(
     alloc: Global,
     frameworks: &Frameworks,
@@ -116,7 +120,8 @@ pub fn tell_losses(
     tasks: &[Booked],
     events: &mut Listed<StreamEvent>,
 ) -> Result<(), AllocError>
-    ensures { OnOk result (events.new ≡ events.old ++ map written (flat_map (loss_of frameworks.now agent.now reported.now) tasks.now)) }
+    ensures { OnOk result (events.new ≡ events.old
+        ++ map written (flat_map (loss_of frameworks.now agent.now reported.now) tasks.now)) }
 {
     for task in tasks {
         tell_loss(alloc, frameworks, agent, reported, task, events)?;
@@ -130,7 +135,8 @@ fn tell_failure(
     framework: &Framework,
     events: &mut Listed<StreamEvent>,
 ) -> Result<(), AllocError>
-    ensures { OnOk result (events.new ≡ events.old ++ map written (on_stream framework.now.stream (FAILURE agent.now))) }
+    ensures { OnOk result (events.new ≡ events.old
+        ++ map written (on_stream framework.now.stream (FAILURE agent.now))) }
 {
     match framework.stream {
         None => Ok(()),
@@ -151,7 +157,8 @@ pub fn tell_failures(
     frameworks: &[Framework],
     events: &mut Listed<StreamEvent>,
 ) -> Result<(), AllocError>
-    ensures { OnOk result (events.new ≡ events.old ++ map written (tells_all frameworks.now (FAILURE agent.now))) }
+    ensures { OnOk result (events.new ≡ events.old
+        ++ map written (tells_all frameworks.now (FAILURE agent.now))) }
 {
     for framework in frameworks {
         tell_failure(alloc, agent, framework, events)?;
@@ -184,7 +191,8 @@ pub fn tell_beats(
     frameworks: &[Framework],
     events: &mut Listed<StreamEvent>,
 ) -> Result<(), AllocError>
-    ensures { OnOk result (events.new ≡ events.old ++ map written (flat_map (beats now) frameworks.now)) }
+    ensures { OnOk result (events.new ≡ events.old
+        ++ map written (flat_map (beats now) frameworks.now)) }
 {
     for framework in frameworks {
         tell_beat(now, framework, events)?;
@@ -194,7 +202,8 @@ pub fn tell_beats(
 
 /// An update is news of a booked task: it has the task's key, and is not older than what was heard.
 fn is_news(task: &Booked, update: &Heard) -> bool
-    ensures { result ≡ (same task.now.job.key update.now.key && nat_le task.now.heard (suc update.now.k)) }
+    ensures { result ≡ (same task.now.job.key update.now.key
+        && nat_le task.now.heard (suc update.now.k)) }
 {
     is_same_key(task.job.key, update.key) && u64::from(task.heard) <= u64::from(update.k) + 1
 }
@@ -227,7 +236,8 @@ fn tell_news_of(
     events: &mut Listed<StreamEvent>,
 ) -> Result<(), AllocError>
     requires { update.now.k < most_updates }
-    ensures { OnOk result (events.new ≡ events.old ++ map written (news frameworks.now agent.now update.now task.now)) }
+    ensures { OnOk result (events.new ≡ events.old
+        ++ map written (news frameworks.now agent.now update.now task.now)) }
 {
     if !is_news(task, update) {
         return Ok(());
@@ -251,7 +261,8 @@ pub fn tell_news(
     events: &mut Listed<StreamEvent>,
 ) -> Result<(), AllocError>
     requires { update.now.k < most_updates }
-    ensures { OnOk result (events.new ≡ events.old ++ map written (flat_map (news frameworks.now agent.now update.now) tasks.now)) }
+    ensures { OnOk result (events.new ≡ events.old
+        ++ map written (flat_map (news frameworks.now agent.now update.now) tasks.now)) }
 {
     for task in tasks {
         tell_news_of(alloc, frameworks, agent, update, task, events)?;

@@ -16,16 +16,30 @@ pub use Rattle.master_rounds.specs.declared.visit.Progress.{Progress}
 
 -- the offer of what is free on an agent
 abbrev pub next_offer : ℕ → List ℕ → List Row → ℕ → Numbered → json_offer.Offer
-next_offer run agent free number framework = record { id = record { run = run; n = number }; framework = framework; agent = agent; resources = free }
+next_offer run agent free number framework =
+    record {
+      id = record { run = run; n = number };
+      framework = framework;
+      agent = agent;
+      resources = free;
+    }
 
 -- it goes to a framework, or to none
 abbrev pub goes_to : ℕ → List ℕ → List Row → Progress → Option Numbered → Progress
 goes_to run agent free p None = p
-goes_to run agent free p (Some framework) = record { made = p.made ++ next_offer run agent free p.next framework ∷ []; next = suc p.next; shares = given framework free p.shares }
+goes_to run agent free p (Some framework) =
+    record {
+      made = p.made ++ next_offer run agent free p.next framework ∷ [];
+      next = suc p.next;
+      shares = given framework free p.shares;
+    }
 
--- a free part that isn't empty goes whole to the eligible framework that stands least, while numbers are left
+-- a free part that isn't empty goes whole to the eligible framework
+-- that stands least, while numbers are left
 abbrev pub offers_free : ℕ → ℕ → List Framework → Progress → List ℕ → List Row → Progress
-offers_free run now fs p agent free = if is_empty free || nat_lt last_number p.next then p else goes_to run agent free p (picked now agent free p.shares fs)
+offers_free run now fs p agent free =
+    if is_empty free || nat_lt last_number p.next then p
+    else goes_to run agent free p (picked now agent free p.shares fs)
 
 abbrev pub visits_part : ℕ → ℕ → List Framework → Progress → Option (List ℕ × List Row) → Progress
 visits_part run now fs p None = p
@@ -35,7 +49,8 @@ abbrev pub visits : ℕ → ℕ → List Framework → Progress → Side → Pro
 visits run now fs p s = visits_part run now fs p (open_part s)
 
 abbrev pub starts : List RoleWeight → State → Progress
-starts weights s = record { made = []; next = s.next_offer; shares = shares_of weights s.sides s.frameworks }
+starts weights s =
+    record { made = []; next = s.next_offer; shares = shares_of weights s.sides s.frameworks }
 
 abbrev pub round_of : List RoleWeight → State → Progress
 round_of weights s = fold (visits s.run s.moment s.frameworks) (starts weights s) s.sides

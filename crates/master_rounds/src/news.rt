@@ -2,7 +2,7 @@
 
 ghost use Rattle.std.specs.Prelude.{◌≡◌, ◌++◌, ◌≤◌, filter, flat_map, length, IfOk, OnOk};
 ghost use Rattle.cluster_model.specs.Ids.{same};
-ghost use Rattle.master_rounds.specs.News.{news_of, offers_all, offers_event, plain};
+ghost use Rattle.master_rounds.specs.News.{news_of, offers_all, offers_at, offers_event, plain};
 
 use agent_sides::Sides;
 use event_json::{Event, Offer, Offers};
@@ -23,13 +23,24 @@ fn plain(offer: &Offer) -> Result<mails::Offer, AllocError>
     })
 }
 
+/// Makes an offer at its agent. Its id is new, and it is of what is free there:
+/// a refusal is taken as want of memory.
+fn offer_one(sides: &mut Sides, alloc: Global, offer: &Offer) -> Result<(), AllocError>
+    ensures { OnOk result (sides.new ≡ offers_at sides.old offer.now) }
+{
+    let made = plain(offer)?;
+    match sides.offer_to(alloc, &offer.agent, made) {
+        Ok(()) => Ok(()),
+        Err(_) => Err(AllocError),
+    }
+}
+
 /// Makes the offers at their agents.
 pub fn offer_all(sides: &mut Sides, alloc: Global, offers: &[Offer]) -> Result<(), AllocError>
     ensures { OnOk result (sides.new ≡ offers_all offers.now sides.old) }
 {
     for offer in offers {
-        let made = plain(offer)?;
-        sides.offer_to(alloc, &offer.agent, made)?;
+        offer_one(sides, alloc, offer)?;
     }
     Ok(())
 }
@@ -58,7 +69,8 @@ fn offers_for(
     framework: FrameworkId,
 ) -> Result<Vec<Offer>, AllocError>
     requires { length offers.now ≤ 256 }
-    ensures copies { IfOk result (λ copies. copies.items ≡ filter (λ o. same o.framework framework) offers.now) }
+    ensures copies { IfOk result (λ copies. copies.items
+        ≡ filter (λ o. same o.framework framework) offers.now) }
     ensures few { IfOk result (λ copies. length copies.items ≤ 256) }
 {
     let mut copies = Vec::new(alloc);
@@ -106,7 +118,8 @@ fn tell(
     }
 }
 
-/// Tells each framework with offers and an open stream of these, in one event, in the order of the frameworks.
+/// Tells each framework with offers and an open stream of these, in one event,
+/// in the order of the frameworks.
 pub fn tell_all(
     events: &mut Listed<StreamEvent>,
     alloc: Global,
@@ -114,7 +127,8 @@ pub fn tell_all(
     frameworks: &[Framework],
 ) -> Result<(), AllocError>
     requires { length offers.now ≤ 256 }
-    ensures { OnOk result (events.new ≡ events.old ++ flat_map (news_of offers.now) frameworks.now) }
+    ensures { OnOk result (events.new ≡ events.old
+        ++ flat_map (news_of offers.now) frameworks.now) }
 {
     for framework in frameworks {
         tell(events, alloc, offers, framework)?;

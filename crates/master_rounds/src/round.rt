@@ -11,8 +11,9 @@ use master_state::State;
 use role_weights::Weights;
 use std::alloc::{AllocError, Global};
 
-/// A round of offers: the agents with an open session are visited in order of their names, and what is free on each goes whole
-/// to the eligible framework that stands least by the weights of roles. Each framework with new offers is told of them in one event.
+/// A round of offers: the agents with an open session are visited in order of their names, and what
+/// is free on each goes whole to the eligible framework that stands least by the weights of roles.
+/// Each framework with new offers is told of them in one event.
 pub fn allocate(state: &mut State, alloc: Global, weights: &Weights) -> Result<(), AllocError>
     requires { SidesFit (run_of state.old) state.old.sides }
     ensures { OnOk result (work_of state.new

@@ -59,7 +59,8 @@ fn go_to(
     requires numbered { 0 < progress.old.next }
     requires left { progress.old.next ≤ last_number }
     ensures numbered { 0 < progress.new.next }
-    ensures ok { OnOk result (progress.new ≡ goes_to run agent.now free progress.old (Some framework)) }
+    ensures ok { OnOk result (progress.new ≡ goes_to run agent.now free progress.old
+        (Some framework)) }
 {
     give(&mut progress.shares, alloc, framework, &free)?;
     let agent = agent.copy()?;
@@ -91,7 +92,8 @@ fn offer_free(
 ) -> Result<(), AllocError>
     requires { 0 < progress.old.next }
     ensures numbered { 0 < progress.new.next }
-    ensures ok { OnOk result (progress.new ≡ offers_free run now frameworks.now progress.old agent.now free) }
+    ensures ok { OnOk result (progress.new ≡ offers_free run now frameworks.now progress.old
+        agent.now free) }
 {
     if is_empty(&free) || LAST_NUMBER < progress.next {
         return Ok(());
@@ -113,7 +115,8 @@ fn visit(
 ) -> Result<(), AllocError>
     requires { 0 < progress.old.next }
     ensures numbered { 0 < progress.new.next }
-    ensures ok { OnOk result (progress.new ≡ visits_part run now frameworks.now progress.old (told_at place open_part None sides.now)) }
+    ensures ok { OnOk result (progress.new ≡ visits_part run now frameworks.now progress.old
+        (told_at place open_part None sides.now)) }
 {
     match sides.open_part(alloc, place)? {
         None => Ok(()),
@@ -130,7 +133,8 @@ fn visit_all(
     sides: &Sides,
 ) -> Result<(), AllocError>
     requires { 0 < progress.old.next }
-    ensures { OnOk result (progress.new ≡ fold (visits run now frameworks.now) progress.old sides.now) }
+    ensures { OnOk result (progress.new ≡ fold (visits run now frameworks.now) progress.old
+        sides.now) }
 {
     for place in 0..sides.len() {
         visit(progress, alloc, run, now, frameworks, sides, place)?;
@@ -138,8 +142,8 @@ fn visit_all(
     Ok(())
 }
 
-/// The offers of a round: each agent's whole free part goes to the eligible framework that stands least, counted before the
-/// next agent is visited.
+/// The offers of a round: each agent's whole free part goes to the eligible framework that
+/// stands least, counted before the next agent is visited.
 pub fn round_of(state: &State, alloc: Global, weights: &Weights) -> Result<Progress, AllocError>
     requires { 0 < state.now.next_offer }
     ensures { IfOk result (λ progress. progress ≡ round_of weights.now state.now) }

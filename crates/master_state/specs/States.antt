@@ -22,7 +22,19 @@ no_outs = record { events = []; opened = []; closed = []; mails = [] }
 
 -- a master that begins a run, with these agents
 abbrev pub fresh : ℕ → List ConfiguredAgent → State
-fresh run agents = record { run = run; torn = []; last_key = 0; next_offer = 1; sides = map side_of agents; moment = 0; frameworks = []; last_framework = 0; last_stream = 0; outs = no_outs }
+fresh run agents =
+    record {
+      run = run;
+      torn = [];
+      last_key = 0;
+      next_offer = 1;
+      sides = map side_of agents;
+      moment = 0;
+      frameworks = [];
+      last_framework = 0;
+      last_stream = 0;
+      outs = no_outs;
+    }
 
 abbrev pub cleared : State → State
 cleared s = record s { outs = no_outs }
@@ -30,7 +42,13 @@ cleared s = record s { outs = no_outs }
 -- events, streams and mails
 
 abbrev pub told : Numbered → Event → State → State
-told stream event s = record s { outs = record s.outs { events = s.outs.events ++ record { stream = stream; event = event } ∷ [] } }
+told stream event s =
+    record s {
+      outs = record s.outs {
+        events = s.outs.events ++ record { stream = stream; event = event }
+            ∷ [];
+      };
+    }
 
 abbrev pub status : List ℕ → TaskState → Option (List ℕ) → TaskStatus
 status task state agent = record { task = task; state = state; agent = agent; update = None }
@@ -45,7 +63,11 @@ abbrev pub new_stream : State → Numbered
 new_stream s = record { run = s.run; n = suc s.last_stream }
 
 abbrev pub opened : State → State
-opened s = record s { last_stream = suc s.last_stream; outs = record s.outs { opened = s.outs.opened ++ new_stream s ∷ [] } }
+opened s =
+    record s {
+      last_stream = suc s.last_stream;
+      outs = record s.outs { opened = s.outs.opened ++ new_stream s ∷ [] };
+    }
 
 abbrev pub sent : ToAgent → State → State
 sent mail s = record s { outs = record s.outs { mails = s.outs.mails ++ mail ∷ [] } }
@@ -61,7 +83,8 @@ with_order agent command s = record s { sides = at_name agent (with_command comm
 
 abbrev pub ordered_as : List ℕ → Command → Option (ℕ × ℕ) → State → State
 ordered_as agent command None s = with_order agent command s
-ordered_as agent command (Some next) s = sent (mail_of agent command next) (with_order agent command s)
+ordered_as agent command (Some next) s =
+    sent (mail_of agent command next) (with_order agent command s)
 
 -- a command goes to an agent, where it has an open session
 abbrev pub ordered : List ℕ → Command → State → State

@@ -20,10 +20,17 @@ use Rattle.master_state.specs.States.{State, StreamEvent}
 -- events, as they are written
 
 abbrev pub offer_of : MadeOffer → json_offer.Offer
-offer_of made = record { id = made.offer.id; framework = made.offer.framework; agent = made.agent; resources = made.offer.resources }
+offer_of made =
+    record {
+      id = made.offer.id;
+      framework = made.offer.framework;
+      agent = made.agent;
+      resources = made.offer.resources;
+    }
 
 abbrev pub status_of : List ℕ → TaskState → Option (List ℕ) → Option updates.Update → TaskStatus
-status_of task state agent uuid = record { task = task; state = state; agent = agent; update = uuid }
+status_of task state agent uuid =
+    record { task = task; state = state; agent = agent; update = uuid }
 
 abbrev pub event_of : Event → json.Event
 event_of (SUBSCRIBED framework) = events.Subscribed framework
@@ -41,15 +48,29 @@ written t = record { stream = t.stream; event = event_of t.event }
 -- the master of the model
 
 abbrev pub run_of : State → Run
-run_of s = record { number = s.run; serves = true; torn = s.torn; next_key = record { run = s.run; n = suc s.last_key }; next_offer = record { run = s.run; n = s.next_offer } }
+run_of s =
+    record {
+      number = s.run;
+      serves = true;
+      torn = s.torn;
+      next_key = record { run = s.run; n = suc s.last_key };
+      next_offer = record { run = s.run; n = s.next_offer };
+    }
 
 abbrev pub registers_of : State → Registers
-registers_of s = record { now = s.moment; frameworks = s.frameworks; last_framework = s.last_framework; last_stream = s.last_stream }
+registers_of s =
+    record {
+      now = s.moment;
+      frameworks = s.frameworks;
+      last_framework = s.last_framework;
+      last_stream = s.last_stream;
+    }
 
 abbrev pub master_of : State → Master
 master_of s = record { run = run_of s; sides = s.sides; registers = registers_of s }
 
--- all that a master holds: the run, its sides and the mails that it sent; its registers; its events; the streams opened and closed
+-- all that a master holds: the run, its sides and the mails that it sent; its registers;
+-- its events; the streams opened and closed
 pub record Work : Type 0 where
   pub moved : Moved
   pub registers : Registers
@@ -87,10 +108,13 @@ Gave (Err (Refused refusal)) before after d = (d.refusal ≡ Some refusal) × (a
 abbrev pub admission_on : Option Numbered → Numbered → Result Numbered MasterRefusal
 admission_on given open_one = if is_stream open_one given then Ok open_one else Err WrongStream
 
-abbrev pub admission_of : Option Numbered → Bool → Option (Option Numbered) → Result Numbered MasterRefusal
+abbrev pub admission_of : Option Numbered → Bool → Option (Option Numbered)
+    → Result Numbered MasterRefusal
 admission_of given torn None = Err NoSuchFramework
 admission_of given torn (Some None) = if torn then Err NoSuchFramework else Err NotSubscribed
-admission_of given torn (Some (Some open_one)) = if torn then Err NoSuchFramework else admission_on given open_one
+admission_of given torn (Some (Some open_one)) =
+    if torn then Err NoSuchFramework else admission_on given open_one
 
 abbrev pub admission : Master → Option Numbered → Numbered → Result Numbered MasterRefusal
-admission m given framework = admission_of given (is_torn m framework) (option_map (λ f. f.stream) (framework_of m framework))
+admission m given framework =
+    admission_of given (is_torn m framework) (option_map (λ f. f.stream) (framework_of m framework))

@@ -67,9 +67,9 @@ impl State {
         is_among(self.torn.as_slice(), framework)
     }
 
-    /// The open stream of a framework that calls on it. `M3 NoSuchFramework` where the framework isn't known in this run or was
-    /// torn down, `M1 NotSubscribed` where it has no open stream, `M2 WrongStream` where the call came with another stream or
-    /// with none.
+    /// The open stream of a framework that calls on it. `M3 NoSuchFramework` where the framework
+    /// isn't known in this run or was torn down, `M1 NotSubscribed` where it has no open stream,
+    /// `M2 WrongStream` where the call came with another stream or with none.
     pub fn admit(
         &self,
         given: Option<StreamId>,

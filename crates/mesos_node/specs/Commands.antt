@@ -11,4 +11,6 @@ Answers input fault old new = (text : List ℕ) × IsAnswer input text fault × 
 
 -- a beginning of the answer to the input was written
 abbrev pub AnswersFront : List ℕ → Option (List ℕ) → Option (List ℕ) → Type 0
-AnswersFront input old new = (text : List ℕ) (fault : Option FrameFault) → IsAnswer input text fault → AppendsFront old new text
+AnswersFront input old new =
+    (text : List ℕ) (fault : Option FrameFault) → IsAnswer input text fault
+    → AppendsFront old new text

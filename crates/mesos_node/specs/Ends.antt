@@ -4,7 +4,8 @@ use Rattle.std.specs.Io.KnownBytes.{Appends}
 use Rattle.cluster_core.specs.Recording.{Recorded, IsSound}
 use Rattle.replayed_clusters.specs.Tables.{table}
 
--- the text is the table at the end of a cluster's history, each entry of which is a legal step, and the cluster is safe
+-- the text is the table at the end of a cluster's history,
+-- each entry of which is a legal step, and the cluster is safe
 abbrev pub IsEndTable : List ℕ → Type 0
 IsEndTable text = (c : Recorded) × IsSound c × (text ≡ table c.story)
 

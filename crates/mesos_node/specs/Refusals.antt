@@ -5,7 +5,8 @@ use Rattle.serving.specs.declared.folder_fault.FolderFault.TheVariants.{TotalDif
 use Rattle.mesos_node.specs.declared.fault.ServeFault.{ServeFault}
 use Rattle.mesos_node.specs.declared.fault.ServeFault.TheVariants.{Agents, Folder}
 
--- whether a cluster isn't served for what the files say: of the agents, which are no configuration, or of the records, one of which has more than is configured
+-- whether a cluster isn't served for what the files say: of the agents, which are no configuration,
+-- or of the records, one of which has more than is configured
 abbrev pub is_refusal : ServeFault → Bool
 is_refusal (Agents Lines) = true
 is_refusal (Agents Config) = true

@@ -1,4 +1,5 @@
-//! The command `serve`: a cluster that runs over a folder of records, with what is said on standard error, and the exit status.
+//! The command `serve`: a cluster that runs over a folder of records,
+//! with what is said on standard error, and the exit status.
 
 ghost use Rattle.std.specs.Prelude.{◌≡◌, IfOk};
 ghost use Rattle.std.specs.Io.KnownBytes.{Keeps};
@@ -12,12 +13,12 @@ ghost use Rattle.mesos_node.specs.Refusals.{is_refusal};
 use crate::ends::tell;
 use crate::fault::ServeFault;
 use agents_file::{Configuration, read_agents};
-use cluster_core::Cluster;
+use cluster_core::{Cluster, RecordedCluster};
 use command_line::ServeOptions;
 use device_io::put;
 use post_rules::Queues;
 use replayed_clusters::end_table;
-use serving::{Folder, Pace, open_folder, serve_cluster};
+use serving::{Folder, Pace, open_folder, serve_cluster, told_of};
 use std::io::Write;
 use std::marker::Brand;
 use std::net::{Net, TcpListener, TcpStream};
@@ -60,13 +61,17 @@ fn serve_folder<R: Threads + Wait + Clock + Sync>(
     };
     let blank = Blank::new(PARTS);
     match serve_cluster::<Brand, _>(threads, rt.alloc(), blank, cluster, files, listener, pace) {
-        Ok(history) => Ok(end_table(rt.alloc(), history.recorded().cluster())?),
+        Ok(history) => {
+            let alloc = rt.alloc();
+            let look = |recorded: &RecordedCluster| end_table(alloc, recorded.cluster());
+            Ok(told_of(history, look)?)
+        }
         Err(fault) => Err(ServeFault::Serving(fault)),
     }
 }
 
-/// Serves the cluster of the folder and the agents that the options name, and gives the table at its end. It says on standard error where it serves, once it
-/// does.
+/// Serves the cluster of the folder and the agents that the options name,
+/// and gives the table at its end. It says on standard error where it serves, once it does.
 fn serve<R: Net<Listener = TcpListener, Stream = TcpStream> + Threads + Wait + Clock + Sync>(
     rt: &HostRuntime,
     threads: &R,
@@ -93,18 +98,22 @@ fn tell_fault(rt: &HostRuntime, fault: &ServeFault) -> ExitCode
     tell(rt, fault, fault.is_refusal())
 }
 
-/// Serves a cluster until its connections have ended, and writes the table at its end: each agent with its tasks, and the number of entries of the history.
-/// `threads` is the runtime too, by what only `main` may do. The status is 0 at that end, 2 where the files of the agents or of the records are refused (`X3
-/// BadConfig`, `Z1 TotalDiffers`), and 3 where a store, the port, a thread, the output or memory fails.
+/// Serves a cluster until its connections have ended, and writes the table at its end: each agent
+/// with its tasks, and the number of entries of the history. `threads` is the runtime too, by what
+/// only `main` may do. The status is 0 at that end, 2 where the files of the agents or of the
+/// records are refused (`X3 BadConfig`, `Z1 TotalDiffers`), and 3 where a store, the port, a
+/// thread, the output or memory fails.
 pub(crate) fn run_serve<
     R: Net<Listener = TcpListener, Stream = TcpStream> + Threads + Wait + Clock + Sync,
     W: Write,
 >(rt: &HostRuntime, threads: &R, options: &ServeOptions, writer: &mut W) -> ExitCode
     ensures status { IsStatus (exit_status result) }
     // At 0 the table at the end of a cluster is written, which is safe, and whose history is legal.
-    ensures ended { exit_status result ≡ 0 → AppendsTable (W.contents writer.old) (W.contents writer.new) }
+    ensures ended { exit_status result ≡ 0
+        → AppendsTable (W.contents writer.old) (W.contents writer.new) }
     // At 2 nothing is written.
-    ensures refused { exit_status result ≡ 2 → Keeps (W.contents writer.old) (W.contents writer.new) }
+    ensures refused { exit_status result ≡ 2
+        → Keeps (W.contents writer.old) (W.contents writer.new) }
 {
     match serve(rt, threads, options) {
         Ok(table) => match put(writer, table.as_slice()) {

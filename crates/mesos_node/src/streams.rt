@@ -1,4 +1,5 @@
-//! The commands that read one stream to its end and write another: `calls` and `replay`, with what each says on standard error, and its exit status.
+//! The commands that read one stream to its end and write another: `calls` and `replay`,
+//! with what each says on standard error, and its exit status.
 
 ghost use Rattle.std.specs.Prelude.{◌≡◌, None, Some, IfSome, is_some, true};
 ghost use Rattle.std.specs.Io.KnownBytes.{Appends};
@@ -15,8 +16,9 @@ use replays::replay;
 use std::io::{Read, Write};
 use std::process::ExitCode;
 
-/// Answers the calls that a reader gives, and tells on standard error why it ended before the input did, if so. The status is 0, or 2 where a frame is none
-/// (`F1 BadSize`, `F2 TooLong`, `F3 Cut`), and 3 where memory, the reader or the writer failed (`F4`, `J10`, `M5`, `Z2`).
+/// Answers the calls that a reader gives, and tells on standard error why it ended before the input
+/// did, if so. The status is 0, or 2 where a frame is none (`F1 BadSize`, `F2 TooLong`, `F3 Cut`),
+/// and 3 where memory, the reader or the writer failed (`F4`, `J10`, `M5`, `Z2`).
 pub(crate) fn run_calls<R: Read, W: Write>(
     rt: &HostRuntime,
     reader: &mut R,
@@ -24,11 +26,17 @@ pub(crate) fn run_calls<R: Read, W: Write>(
 ) -> ExitCode
     ensures status { IsStatus (exit_status result) }
     // At 0 the answer to the whole input is written,
-    ensures ended { exit_status result ≡ 0 → IfSome (R.remaining reader.old) (λ input. Answers input None (W.contents writer.old) (W.contents writer.new)) }
+    ensures ended { exit_status result ≡ 0
+        → IfSome (R.remaining reader.old)
+        (λ input. Answers input None (W.contents writer.old) (W.contents writer.new)) }
     // at 2 that to the records before a frame that is none,
-    ensures refused { exit_status result ≡ 2 → IfSome (R.remaining reader.old) (λ input. (fault : FrameFault) × Answers input (Some fault) (W.contents writer.old) (W.contents writer.new)) }
+    ensures refused { exit_status result ≡ 2
+        → IfSome (R.remaining reader.old) (λ input. (fault : FrameFault)
+        × Answers input (Some fault) (W.contents writer.old) (W.contents writer.new)) }
     // and at 3 a beginning of it.
-    ensures failed { exit_status result ≡ 3 → IfSome (R.remaining reader.old) (λ input. AnswersFront input (W.contents writer.old) (W.contents writer.new)) }
+    ensures failed { exit_status result ≡ 3
+        → IfSome (R.remaining reader.old)
+        (λ input. AnswersFront input (W.contents writer.old) (W.contents writer.new)) }
 {
     match calls(rt.alloc(), reader, writer) {
         Ok(None) => ExitCode::SUCCESS,
@@ -37,9 +45,10 @@ pub(crate) fn run_calls<R: Read, W: Write>(
     }
 }
 
-/// Replays the steps that a reader gives, one in each line behind the first, and tells on standard error why it ended before the input did, if so. The status is
-/// 0, or 2 where a line is no step or the first is no configuration (`X1 NotAStep`, `X2 BadCall`, `X3 BadConfig`), and 3 where memory, the reader or the writer
-/// failed (`C9 OutOfMemory`, `Z2 DeviceFault`).
+/// Replays the steps that a reader gives, one in each line behind the first, and tells on standard
+/// error why it ended before the input did, if so. The status is 0, or 2 where a line is no step or
+/// the first is no configuration (`X1 NotAStep`, `X2 BadCall`, `X3 BadConfig`), and 3 where memory,
+/// the reader or the writer failed (`C9 OutOfMemory`, `Z2 DeviceFault`).
 pub(crate) fn run_replay<R: Read, W: Write>(
     rt: &HostRuntime,
     reader: &mut R,
@@ -47,11 +56,18 @@ pub(crate) fn run_replay<R: Read, W: Write>(
 ) -> ExitCode
     ensures status { IsStatus (exit_status result) }
     // At 0 all lines are replayed, and what comes of them is written,
-    ensures ended { exit_status result ≡ 0 → IfSome (R.remaining reader.old) (λ input. (replay_fault input ≡ None) × Appends (W.contents writer.old) (W.contents writer.new) (replay_text input)) }
+    ensures ended { exit_status result ≡ 0
+        → IfSome (R.remaining reader.old) (λ input. (replay_fault input ≡ None)
+        × Appends (W.contents writer.old) (W.contents writer.new) (replay_text input)) }
     // at 2 what comes of the lines before the one that is refused,
-    ensures refused { exit_status result ≡ 2 → IfSome (R.remaining reader.old) (λ input. (is_some (replay_fault input) ≡ true) × Appends (W.contents writer.old) (W.contents writer.new) (replay_text input)) }
+    ensures refused { exit_status result ≡ 2
+        → IfSome (R.remaining reader.old) (λ input. (is_some (replay_fault input) ≡ true)
+        × Appends (W.contents writer.old) (W.contents writer.new) (replay_text input)) }
     // and at 3 a beginning of it.
-    ensures failed { exit_status result ≡ 3 → IfSome (R.remaining reader.old) (λ input. AppendsFront (W.contents writer.old) (W.contents writer.new) (replay_text input)) }
+    ensures failed { exit_status result ≡ 3
+        → IfSome (R.remaining reader.old)
+        (λ input. AppendsFront (W.contents writer.old) (W.contents writer.new)
+        (replay_text input)) }
 {
     match replay(rt.alloc(), reader, writer) {
         Ok(None) => ExitCode::SUCCESS,

@@ -28,7 +28,9 @@ id_text letter i = letter ∷ (decimal i.run ++ 45 ∷ decimal i.n)
 
 -- a number from 1 to below the bound, in digits of which the first isn't 0
 unfoldable pub number_of : ℕ → List ℕ → Option ℕ
-number_of bound ds = if nat_le 49 (slice_index ds 0) && all_ascii_digits ds && nat_lt (digits_value 10 ds) bound then Some (digits_value 10 ds) else None
+number_of bound ds =
+    if nat_le 49 (slice_index ds 0) && all_ascii_digits ds && nat_lt (digits_value 10 ds) bound
+    then Some (digits_value 10 ds) else None
 
 abbrev pub is_dash : ℕ → Bool
 is_dash b = b == 45
@@ -37,5 +39,7 @@ is_dash b = b == 45
 unfoldable pub id_of : ℕ → List ℕ → Option Numbered
 id_of letter text =
     if slice_index text 0 == letter
-    then option_and_then (λ r. option_map (λ n. record { run = r; n = n }) (number_of (2 ^ 32) (after_first is_dash (drop 1 text)))) (number_of (2 ^ 16) (before_first is_dash (drop 1 text)))
+    then option_and_then (λ r. option_map (λ n. record { run = r; n = n })
+    (number_of (2 ^ 32) (after_first is_dash (drop 1 text))))
+    (number_of (2 ^ 16) (before_first is_dash (drop 1 text)))
     else None

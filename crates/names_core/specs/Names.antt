@@ -17,7 +17,8 @@ is_configured_byte b = is_ascii_alphanumeric b || b == 45 || b == 95 || b == 46
 
 -- so many such bytes, and at least one
 abbrev pub is_named_by : (ℕ → Bool) → ℕ → List ℕ → Bool
-is_named_by is_byte most text = nat_lt 0 (length text) && nat_le (length text) most && list_all is_byte text
+is_named_by is_byte most text =
+    nat_lt 0 (length text) && nat_le (length text) most && list_all is_byte text
 
 -- the name of a role
 unfoldable pub is_role : List ℕ → Bool

@@ -9,7 +9,8 @@ use plain_data::Plain;
 use std::alloc::{AllocError, Global};
 use std::marker::Model;
 
-/// The name of an agent, its `agent_id`: 1 to 255 bytes of UTF-8 without control characters, space, slash and backslash.
+/// The name of an agent, its `agent_id`: 1 to 255 bytes of UTF-8 without control characters,
+/// space, slash and backslash.
 #[derive(Debug, Drop)]
 pub struct AgentName {
     text: String,
@@ -54,7 +55,8 @@ impl AgentName {
         self.as_text() == other.as_text()
     }
 
-    /// Whether a configuration may have an agent of this name: 1 to 64 ASCII letters, digits, `-`, `_` and `.`.
+    /// Whether a configuration may have an agent of this name: 1 to 64 ASCII letters,
+    /// digits, `-`, `_` and `.`.
     pub fn can_be_configured(&self) -> bool
         ensures { result ≡ is_configured self.now }
     {

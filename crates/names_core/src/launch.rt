@@ -10,7 +10,8 @@ use plain_data::Plain;
 use std::alloc::Global;
 use std::marker::Model;
 
-/// The launch of a task, counted from 1 in each run of the master. Task names may be used again; a launch key never is.
+/// The launch of a task, counted from 1 in each run of the master.
+/// Task names may be used again; a launch key never is.
 #[derive(Clone, Copy, Debug, Drop, PartialEq, Eq, PartialOrd, Ord)]
 pub struct LaunchKey {
     run: u16,

@@ -43,7 +43,8 @@ pub fn numbers_of(letter: char, text: &str) -> Option<(u16, u32)>
 
 pub fn text_of(alloc: Global, letter: char, run: u16, n: u32) -> Result<String, NameFault>
     requires { letter < 128 }
-    ensures text { IfOk result (λ t. string_bytes t ≡ id_text letter (record { run = run; n = n })) }
+    ensures text { IfOk result (λ t. string_bytes t
+        ≡ id_text letter (record { run = run; n = n })) }
     ensures err { IfErr result (λ e. e ≡ NameFault.OutOfMemory) }
 {
     Ok(format!(in alloc; "{letter}{run}-{n}")?)
@@ -51,5 +52,6 @@ pub fn text_of(alloc: Global, letter: char, run: u16, n: u32) -> Result<String, 
 
 /// A text has one id, and an id one text.
 pub fn one_text()
-    ensures { (letter : ℕ) (i : Numbered) (text : List ℕ) → letter < 128 → (id_of letter text ≡ Some i) ↔ (InRange i × (text ≡ id_text letter i)) }
+    ensures { (letter : ℕ) (i : Numbered) (text : List ℕ) → letter < 128
+        → (id_of letter text ≡ Some i) ↔ (InRange i × (text ≡ id_text letter i)) }
 {}

@@ -9,8 +9,8 @@ use plain_data::Plain;
 use std::alloc::{AllocError, Global};
 use std::marker::Model;
 
-/// The name of a role: 1 to 255 bytes of UTF-8 without control characters, space and backslash. A slash is a plain
-/// character, and `*` is the default role.
+/// The name of a role: 1 to 255 bytes of UTF-8 without control characters, space and backslash.
+/// A slash is a plain character, and `*` is the default role.
 #[derive(Debug, Drop)]
 pub struct RoleName {
     text: String,

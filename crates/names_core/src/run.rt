@@ -4,7 +4,8 @@ ghost use Rattle.std.specs.Prelude.{◌≡◌, ◌<◌};
 
 use std::marker::Model;
 
-/// A run of the master, from 1 to 65,535: each start of the master has the next number, which its ids carry.
+/// A run of the master, from 1 to 65,535:
+/// each start of the master has the next number, which its ids carry.
 #[derive(Clone, Copy, Debug, Drop, PartialEq, Eq, PartialOrd, Ord)]
 pub struct Run {
     number: u16,

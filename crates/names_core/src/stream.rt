@@ -10,8 +10,8 @@ use plain_data::Plain;
 use std::alloc::Global;
 use std::marker::Model;
 
-/// A stream of events to a framework, counted from 1 in each run of the master. It is what the header
-/// `Mesos-Stream-Id` of the scheduler HTTP API carries.
+/// A stream of events to a framework, counted from 1 in each run of the master.
+/// It is what the header `Mesos-Stream-Id` of the scheduler HTTP API carries.
 #[derive(Clone, Copy, Debug, Drop, PartialEq, Eq, PartialOrd, Ord)]
 pub struct StreamId {
     run: u16,

@@ -9,8 +9,8 @@ use plain_data::Plain;
 use std::alloc::{AllocError, Global};
 use std::marker::Model;
 
-/// The name that a framework gives a task, its `task_id`: 1 to 255 bytes of UTF-8 without control characters, space, slash
-/// and backslash.
+/// The name that a framework gives a task, its `task_id`:
+/// 1 to 255 bytes of UTF-8 without control characters, space, slash and backslash.
 #[derive(Debug, Drop)]
 pub struct TaskName {
     text: String,

@@ -15,8 +15,9 @@ use uuid::Uuid;
 
 /// Update number `k` of a launch, counted from 0; at most 4,095.
 ///
-/// Its text is the base64 (RFC 4648, section 4) of a UUID of version 8 (RFC 9562, section 5.8): octets 0 and 1 are the
-/// run, 2 to 5 the launch's number, 12 to 15 are `k`, all big-endian; octets 6 and 8 are 0x80, the others are 0.
+/// Its text is the base64 (RFC 4648, section 4) of a UUID of version 8 (RFC 9562, section 5.8):
+/// octets 0 and 1 are the run, 2 to 5 the launch's number, 12 to 15 are `k`, all big-endian; octets
+/// 6 and 8 are 0x80, the others are 0.
 #[derive(Clone, Copy, Debug, Drop, PartialEq, Eq)]
 pub struct UpdateId {
     key: LaunchKey,
@@ -99,8 +100,8 @@ impl UpdateId {
         }
     }
 
-    /// The update that a text is the id of: strict base64 with padding, of sixteen bytes in the layout above, with a run and a
-    /// number above 0 and a `k` of at most 4,095.
+    /// The update that a text is the id of: strict base64 with padding, of sixteen bytes in the
+    /// layout above, with a run and a number above 0 and a `k` of at most 4,095.
     pub fn from_text(alloc: Global, text: &str) -> Result<UpdateId, NameFault>
         ensures ok { IfOk result (λ u. update_of text.now ≡ Some u) }
         ensures bad { (result ≡ Err NameFault.BadId) → update_of text.now ≡ None }
@@ -131,5 +132,6 @@ impl UpdateId {
 
 /// A text is the id of one update, and an update has one text.
 pub fn one_update_text()
-    ensures { (u : Update) (text : List ℕ) → IsBytes text → (update_of text ≡ Some u) ↔ (IsUpdate u × (text ≡ update_text u)) }
+    ensures { (u : Update) (text : List ℕ) → IsBytes text → (update_of text ≡ Some u)
+        ↔ (IsUpdate u × (text ≡ update_text u)) }
 {}

@@ -15,18 +15,22 @@ without_minus number = if slice_index number 0 == 45 then drop 1 number else num
 
 -- digits, behind an optional minus
 abbrev pub is_whole : List ℕ → Bool
-is_whole number = nat_lt 0 (length (without_minus number)) && list_all is_ascii_digit (without_minus number)
+is_whole number =
+    nat_lt 0 (length (without_minus number)) && list_all is_ascii_digit (without_minus number)
 
 abbrev pub is_zeros : List ℕ → Bool
 is_zeros bs = nat_lt 0 (length bs) && list_all (λ b. b == 48) bs
 
 -- a whole number, a point and zeros become the whole number, and any other piece stays
 unfoldable pub trimmed : List ℕ → List ℕ
-trimmed piece = if is_whole (before_first is_point piece) && is_zeros (after_first is_point piece) then before_first is_point piece else piece
+trimmed piece =
+    if is_whole (before_first is_point piece) && is_zeros (after_first is_point piece)
+    then before_first is_point piece else piece
 
 -- ---- the pieces of a text, computed
 
--- how many bytes a string takes behind its first quote; the first says whether a backslash takes the next one along
+-- how many bytes a string takes behind its first quote;
+-- the first says whether a backslash takes the next one along
 unfoldable pub string_len : Bool → List ℕ → ℕ
 string_len taken [] = 0
 string_len true (b ∷ bs) = 1 + string_len false bs
@@ -34,13 +38,16 @@ string_len false (b ∷ bs) = if b == 34 then 1 else 1 + string_len (b == 92) bs
 
 abbrev pub piece_len : List ℕ → ℕ
 piece_len [] = 0
-piece_len (b ∷ bs) = if b == 34 then 1 + string_len false bs else (if is_token_byte b then 1 + length (take_while is_token_byte bs) else 1)
+piece_len (b ∷ bs) =
+    if b == 34 then 1 + string_len false bs
+    else (if is_token_byte b then 1 + length (take_while is_token_byte bs) else 1)
 
 -- at most so many pieces from the front on
 unfoldable pub first_pieces : ℕ → List ℕ → List (List ℕ)
 first_pieces zero text = []
 first_pieces (suc n) [] = []
-first_pieces (suc n) (b ∷ bs) = take (piece_len (b ∷ bs)) (b ∷ bs) ∷ first_pieces n (drop (piece_len (b ∷ bs)) (b ∷ bs))
+first_pieces (suc n) (b ∷ bs) =
+    take (piece_len (b ∷ bs)) (b ∷ bs) ∷ first_pieces n (drop (piece_len (b ∷ bs)) (b ∷ bs))
 
 -- a text has no more pieces than bytes
 abbrev pub pieces_of : List ℕ → List (List ℕ)

@@ -48,9 +48,10 @@ fn push_trimmed(out: &mut Vec<u8>, text: &[u8]) -> Result<(), AllocError>
     Ok(())
 }
 
-/// The text with its whole numbers as such. Outside strings each longest run of digits, `+`, `-`, `.`, `e` and `E` that is an
-/// optional minus, digits, a point and zeros becomes what stands before the point; everything else stays. The text needn't be
-/// JSON. Where nothing is trimmed the text itself is lent, and no memory is asked for.
+/// The text with its whole numbers as such. Outside strings each longest run of digits, `+`, `-`,
+/// `.`, `e` and `E` that is an optional minus, digits, a point and zeros becomes what stands before
+/// the point; everything else stays. The text needn't be JSON. Where nothing is trimmed the text
+/// itself is lent, and no memory is asked for.
 pub fn trim(alloc: Global, text: &[u8]) -> Result<CowSlice<'_, u8>, AllocError>
     ensures value { IfOk result (λ out. cow_slice_items out ≡ trim text.now) }
     ensures lent { trim text.now ≡ text.now → IsOkAnd result IsBorrowedSlice }
@@ -65,7 +66,8 @@ pub fn trim(alloc: Global, text: &[u8]) -> Result<CowSlice<'_, u8>, AllocError>
     Ok(CowSlice::Owned(out))
 }
 
-/// A text is cut into strings, number tokens and single other bytes in one way: the one that `trim` goes by.
+/// A text is cut into strings, number tokens and single other bytes in one way:
+/// the one that `trim` goes by.
 pub fn one_cut()
     ensures one { OneCut }
     ensures cut { AreCut }

@@ -13,14 +13,13 @@ use Rattle.std.proofs.lemmas.List.{take_more}
 use Rattle.std.proofs.lemmas.Bool.{true≢false}
 use Rattle.names_core.specs.Ids.{Numbered}
 use Rattle.names_core.specs.declared.state.TaskState.{TaskState}
-use Rattle.mails.specs.declared.task.Offer.{Offer}
 use Rattle.mails.specs.declared.task.Booked.{Booked}
 use Rattle.mails.specs.declared.mail.Command.{Command}
 use Rattle.mails.specs.declared.mail.Command.TheVariants.{Launch, Kill, Ack, EndFramework}
 use Rattle.cluster_model.specs.Ids.{same}
 use Rattle.cluster_model.specs.Sides.{heard_update, forget, forget_all}
-use Rattle.offer_book.specs.Accounts.{Account, offering, with_offer, with_task, with_ended, without_key, hearing, after_commands, ended, has_key}
-use Rattle.offer_book.specs.Books.{at_first, at_place}
+use Rattle.offer_book.specs.Accounts.{Account, with_task, with_ended, without_key, hearing, after_commands, ended, has_key}
+use Rattle.offer_book.specs.Books.{at_first}
 use Rattle.offer_book.specs.Held.{is_of_name, first_at, first_of}
 use Rattle.offer_book.specs.Named.{Names, may_have, IsNamed, AreNamed, AreAllNamed, HasAllGiven, Keeps, given_cmp}
 
@@ -102,14 +101,6 @@ module _ (names : Names) where
   abbrev pub KeepsNamed : (Account → Account) → Type 0
   KeepsNamed change = (a : Account) → AreNamed names a.booked → AreNamed names (change a).booked
 
-  pub offering_keeps : (o : Offer) → KeepsNamed (offering o)
-  offering_keeps o a are = by_case _ _
-    where
-      by_case : (v w : Bool) → AreNamed names (cond v a (cond w (with_offer o a) a)).booked
-      by_case true w = are
-      by_case false true = are
-      by_case false false = are
-
   pub task_keeps : (b : Booked) → IsNamed names b → KeepsNamed (with_task b)
   task_keeps b is a are = tasks_more a.booked b are is
 
@@ -130,11 +121,6 @@ module _ (names : Names) where
   pub all_map : (change : Account → Account) → KeepsNamed change → (as_ : List Account) → AreAllNamed names as_ → AreAllNamed names (map change as_)
   all_map change keeps [] are = tt
   all_map change keeps (a ∷ as_) are = (keeps a are.0, all_map change keeps as_ are.1)
-
-  pub all_at_place : (i : ℕ) (change : Account → Account) → KeepsNamed change → (as_ : List Account) → AreAllNamed names as_ → AreAllNamed names (at_place i change as_)
-  all_at_place i change keeps [] are = tt
-  all_at_place zero change keeps (a ∷ as_) are = (keeps a are.0, are.1)
-  all_at_place (suc i) change keeps (a ∷ as_) are = (are.0, all_at_place i change keeps as_ are.1)
 
   pub all_at_first : (test : Account → Bool) (change : Account → Account) → KeepsNamed change → (as_ : List Account) → AreAllNamed names as_ → AreAllNamed names (at_first test change as_)
   all_at_first test change keeps [] are = tt

@@ -1,5 +1,5 @@
 -- Accounts at their places.
-use Rattle.std.proofs.Common.{◌≡◌, ℕ, zero, suc, ◌<◌, ◌≤◌, Bool, true, false, cond, nat_lt, List, [], ◌∷◌, length, set, get_or, Some, None, refl, sym, ap, ◌∙◌, arith}
+use Rattle.std.proofs.Common.{◌≡◌, ℕ, zero, suc, ◌<◌, Bool, true, false, cond, nat_lt, List, [], ◌∷◌, length, set, get_or, Some, None, refl, sym, ap, ◌∙◌, arith}
 use Rattle.std.specs.List.{position, position_or_len, find}
 use Rattle.std.proofs.lemmas.Option.{slice_get_past}
 use Rattle.std.proofs.lemmas.List.Folds.{find_at}
@@ -7,17 +7,7 @@ use Rattle.std.proofs.lemmas.List.Quantifiers.{position-Some}
 use Rattle.std.proofs.lemmas.Bool.{ltb-false}
 use Rattle.std.proofs.lemmas.List.{get_or_default}
 use Rattle.offer_book.specs.Accounts.{Account}
-use Rattle.offer_book.specs.Books.{at_first, at_place}
-
-pub at_place_set : (i : ℕ) (change : Account → Account) (xs : List Account) (x : Account) → i < length xs → x ≡ get_or xs i x → set xs i (change x) ≡ at_place i change xs
-at_place_set i change [] x within is = absurd (omega arith)
-at_place_set zero change (y ∷ ys) x within is = ap (λ (z : Account). change z ∷ ys) is
-at_place_set (suc i) change (y ∷ ys) x within is = ap (λ zs. y ∷ zs) (at_place_set i change ys x (omega arith) is)
-
-pub at_place_past : (i : ℕ) (change : Account → Account) (xs : List Account) → length xs ≤ i → xs ≡ at_place i change xs
-at_place_past i change [] past = refl
-at_place_past zero change (y ∷ ys) past = absurd (omega arith)
-at_place_past (suc i) change (y ∷ ys) past = ap (λ zs. y ∷ zs) (at_place_past i change ys (omega arith))
+use Rattle.offer_book.specs.Books.{at_first}
 
 -- the first place at which a test passes
 pub record IsFirst (test : Account → Bool) (xs : List Account) (i : ℕ) (x : Account) : Type 0 where

@@ -2,14 +2,13 @@
 use Rattle.std.proofs.Common.{◌≡◌, ℕ, Bool, true, false, cond, List, Option, None, Some, Result, Ok, Err, subst}
 use Rattle.std.specs.List.{find}
 use Rattle.quantity.specs.declared.rows.Row.{Row}
-use Rattle.quantity.specs.Rows.{covers}
 use Rattle.mails.specs.declared.task.Offer.{Offer}
 use Rattle.mails.specs.declared.task.Booked.{Booked}
-use Rattle.offer_book.specs.Accounts.{Account, new_account, dropped, free, with_offer, with_task}
-use Rattle.offer_book.specs.Books.{is_named_so, is_agent, agent_of, entered_at, entered, dropped_at, dropped_from, offered_at, offered, booked_at, booked, is_offered, is_booked}
+use Rattle.offer_book.specs.Accounts.{Account, new_account, fits, with_offer, with_task}
+use Rattle.offer_book.specs.Books.{is_named_so, is_agent, agent_of, entered_at, entered, changed_at, changed, offered_at, offered, booked_at, booked, is_offered, is_booked}
 use Rattle.offer_book.specs.declared.fault.BookFault.{BookFault}
 use Rattle.offer_book.specs.Named.{Names, IsNamed, AreAllNamed}
-use Rattle.offer_book.proofs.Named.{all_more, all_at_first, task_keeps}
+use Rattle.offer_book.proofs.Named.{KeepsNamed, all_more, all_at_first, task_keeps}
 
 module _ (names : Names) (as_ new : List Account) where
   -- what a test lets through
@@ -34,23 +33,23 @@ module _ (names : Names) (as_ new : List Account) where
       by_case None e = made_so _ (all_more names as_ (new_account name total) are tt) e
       by_case (Some a) e = unless a.is_in _ _ (made_so _ (all_at_first names (is_named_so name) (λ b. new_account name total) (λ b was. tt) as_ are)) e
 
-  pub dropped_named : (name : List ℕ) → AreAllNamed names as_ → dropped_from name as_ ≡ Ok new → AreAllNamed names new
-  dropped_named name are e = by_case (agent_of name as_) e
+  pub changed_named : (name : List ℕ) (change : Account → Account) → KeepsNamed names change → AreAllNamed names as_ → changed name change as_ ≡ Ok new → AreAllNamed names new
+  changed_named name change keeps are e = by_case (agent_of name as_) e
     where
-      by_case : (found : Option Account) → dropped_at name as_ found ≡ Ok new → AreAllNamed names new
+      by_case : (found : Option Account) → changed_at name change as_ found ≡ Ok new → AreAllNamed names new
       by_case None e = absurd (cc)
-      by_case (Some a) e = made_so _ (all_at_first names (is_agent name) dropped (λ b was. tt) as_ are) e
+      by_case (Some a) e = made_so _ (all_at_first names (is_agent name) change keeps as_ are) e
 
   pub offered_named : (name : List ℕ) (o : Offer) → AreAllNamed names as_ → offered name o as_ ≡ Ok new → AreAllNamed names new
   offered_named name o are e = by_case (agent_of name as_) e
     where
       by_case : (found : Option Account) → offered_at name o as_ found ≡ Ok new → AreAllNamed names new
       by_case None e = absurd (cc)
-      by_case (Some a) e = unless (is_offered o.id as_) _ _ (only (covers (free a) o.resources) _ _ (made_so _ (all_at_first names (is_agent name) (with_offer o) (λ b was. was) as_ are))) e
+      by_case (Some a) e = unless (is_offered o.id as_) _ _ (only (fits a o.resources) _ _ (made_so _ (all_at_first names (is_agent name) (with_offer o) (λ b was. was) as_ are))) e
 
   pub booked_named : (name : List ℕ) (b : Booked) → IsNamed names b → AreAllNamed names as_ → booked name b as_ ≡ Ok new → AreAllNamed names new
   booked_named name b is are e = by_case (agent_of name as_) e
     where
       by_case : (found : Option Account) → booked_at name b as_ found ≡ Ok new → AreAllNamed names new
       by_case None e = absurd (cc)
-      by_case (Some a) e = unless (is_booked b.job.key as_) _ _ (only (covers (free a) b.job.resources) _ _ (made_so _ (all_at_first names (is_agent name) (with_task b) (task_keeps names b is) as_ are))) e
+      by_case (Some a) e = unless (is_booked b.job.key as_) _ _ (only (fits a b.job.resources) _ _ (made_so _ (all_at_first names (is_agent name) (with_task b) (task_keeps names b is) as_ are))) e

@@ -1,16 +1,18 @@
 -- What is left where parts are taken one after another.
-use Rattle.std.proofs.Common.{◌≡◌, ℕ, ◌+◌, ◌≤◌, Bool, true, false, ◌&&◌, ◌<◌, cond, List, [], ◌∷◌, ◌++◌, length, get_or, drop, filter, flat_map, refl, sym, ap, subst, ◌∙◌, arith}
+use Rattle.std.proofs.Common.{◌≡◌, ℕ, ◌+◌, ◌≤◌, Bool, true, false, ◌&&◌, ◌<◌, cond, List, [], ◌∷◌, ◌++◌, length, get_or, drop, map, filter, flat_map, refl, sym, ap, subst, ◌∙◌, arith}
 use Rattle.std.proofs.lemmas.Bool.{and_from, and_parts}
 use Rattle.std.proofs.lemmas.List.{drop_more, drop_all}
 use Rattle.quantity.specs.declared.rows.Row.{Row}
-use Rattle.quantity.specs.Rows.{covers, AreRows, rest_of}
+use Rattle.std.specs.Prelude.{nat_lt}
+use Rattle.quantity.specs.Rows.{amount, covers, AreRows, left_of, rest_of}
 use Rattle.quantity.proofs.Amounts.{covers_is_at_least, amount-append}
 use Rattle.quantity.proofs.Rests.{amount-rest, rests_join, rests_are_rows, rest_whole}
 use Rattle.names_core.specs.Ids.{Numbered}
 use Rattle.mails.specs.declared.task.Offer.{Offer}
 use Rattle.mails.specs.declared.task.Booked.{Booked}
 use Rattle.cluster_model.specs.Sides.{offer_rows, job_rows, unended, is_named}
-use Rattle.offer_book.specs.Accounts.{named_rows, unended_rows}
+use Rattle.offer_book.specs.Accounts.{free, named_rows, taken, unended_rows}
+use Rattle.offer_book.specs.Laws.{RoomIsFree}
 
 -- two tests that each follow from the other are one
 same_tests : (a b : Bool) → (a ≡ true → b ≡ true) → (b ≡ true → a ≡ true) → a ≡ b
@@ -117,3 +119,24 @@ unended_none rest b are e = sym (rest_none rest are) ∙ ap (λ v. rest_of rest 
 
 pub named_none : (framework : Numbered) (ids : List Numbered) (rest : List Row) (o : Offer) → AreRows rest → is_named framework ids o ≡ false → rest ≡ rest_of rest (named_rows framework ids o)
 named_none framework ids rest o are e = sym (rest_none rest are) ∙ ap (λ v. rest_of rest (cond v o.resources [])) (sym e)
+
+-- rows that have as much of each name
+
+pub covers_alike : (total rows others : List Row) → ((name : List ℕ) → amount name rows ≡ amount name others) → covers total rows ≡ covers total others
+covers_alike total rows others same = same_tests _ _
+    (λ h. (covers_is_at_least total others).1 (λ name. omega (arith, (covers_is_at_least total rows).0 h name, same name)))
+    (λ h. (covers_is_at_least total rows).1 (λ name. omega (arith, (covers_is_at_least total others).0 h name, same name)))
+
+left_alike : (total rows others : List Row) → ((name : List ℕ) → amount name rows ≡ amount name others) → map (left_of rows) total ≡ map (left_of others) total
+left_alike [] rows others same = refl
+left_alike (r ∷ total) rows others same = rw (same r.name, left_alike total rows others same) refl
+
+pub rest_alike : (total rows others : List Row) → ((name : List ℕ) → amount name rows ≡ amount name others) → rest_of total rows ≡ rest_of total others
+rest_alike total rows others same = ap (filter (λ (r : Row). nat_lt 0 r.amount)) (left_alike total rows others same)
+
+-- what is free covers rows just where the total has room for them
+pub room_is_free : RoomIsFree
+room_is_free a rows are covered =
+    covers_alike a.total (rows ++ taken a) (taken a ++ rows) (λ name. omega (arith, amount-append name rows (taken a), amount-append name (taken a) rows))
+    ∙ covers-append a.total (taken a) rows are
+    ∙ ap (λ b. b && covers (free a) rows) covered

@@ -8,15 +8,17 @@ use Rattle.quantity.specs.Rows.{covers, rest_of}
 use Rattle.mails.specs.declared.task.Offer.{Offer}
 use Rattle.mails.specs.declared.task.Booked.{Booked}
 use Rattle.mails.specs.declared.mail.Command.{Command}
-use Rattle.cluster_model.specs.Ids.{same, is_among, is_repeated, is_empty}
+use Rattle.cluster_model.specs.Ids.{same, is_repeated, is_empty}
 use Rattle.cluster_model.specs.Sides.{unended, job_rows, offer_rows, heard_update, forget_all, is_named}
 use Rattle.cluster_model.specs.Masters.{is_of}
 pub use Rattle.offer_book.specs.declared.account.Account.{Account}
 pub use Rattle.booked_tasks.specs.Tasks.{ended, has_key, has_tasks_of}
+pub use Rattle.booked_tasks.specs.Used.{unended_rows}
 
 -- an agent that has entered
 abbrev pub new_account : List ℕ → List Row → Account
-new_account name total = record { name = name; is_in = true; total = total; offers = []; booked = [] }
+new_account name total =
+    record { name = name; is_in = true; total = total; offers = []; booked = [] }
 
 -- an agent that was dropped
 abbrev pub dropped : Account → Account
@@ -41,15 +43,12 @@ has_offer os framework id = list_any (λ o. same o.framework framework && same o
 
 -- the ids are some, none twice, and each is that of a current offer of the framework
 abbrev pub are_good : List Offer → Numbered → List Numbered → Bool
-are_good os framework ids = not (is_empty ids) && not (is_repeated ids) && list_all (has_offer os framework) ids
+are_good os framework ids =
+    not (is_empty ids) && not (is_repeated ids) && list_all (has_offer os framework) ids
 
 -- what an offer has, if it is one of the framework's of these ids
 abbrev pub named_rows : Numbered → List Numbered → Offer → List Row
 named_rows framework ids o = if is_named framework ids o then o.resources else []
-
--- what a booked task uses, if it hasn't ended
-abbrev pub unended_rows : Booked → List Row
-unended_rows b = if b.ended then [] else b.job.resources
 
 abbrev pub named_offers : Account → Numbered → List Numbered → List Offer
 named_offers a framework ids = filter (is_named framework ids) a.offers
@@ -60,21 +59,15 @@ with_offer o a = record a { offers = a.offers ++ o ∷ [] }
 abbrev pub is_offered_as : Numbered → Offer → Bool
 is_offered_as id o = same o.id id
 
--- with one more offer, where no current one has its id and it fits
-abbrev pub offering : Offer → Account → Account
-offering o a = if list_any (is_offered_as o.id) a.offers then a else (if fits a o.resources then with_offer o a else a)
-
 abbrev pub without_offer : Numbered → Account → Account
 without_offer id a = record a { offers = filter (λ o. not (is_offered_as id o)) a.offers }
-
-abbrev pub without_ids : List Numbered → Account → Account
-without_ids ids a = record a { offers = filter (λ o. not (is_among ids o.id)) a.offers }
 
 abbrev pub without_offers_of : Numbered → Account → Account
 without_offers_of framework a = record a { offers = filter (λ o. not (is_of framework o)) a.offers }
 
 abbrev pub without_named : Numbered → List Numbered → Account → Account
-without_named framework ids a = record a { offers = filter (λ o. not (is_named framework ids o)) a.offers }
+without_named framework ids a =
+    record a { offers = filter (λ o. not (is_named framework ids o)) a.offers }
 
 -- booked tasks
 
@@ -92,7 +85,8 @@ abbrev pub reopened : List Booked → List Row → Account → Account
 reopened tasks total a = record a { total = total; offers = []; booked = tasks }
 
 abbrev pub hearing : Numbered → ℕ → TaskState → Bool → Account → Account
-hearing key k state has_ended a = record a { booked = map (heard_update key k state has_ended) a.booked }
+hearing key k state has_ended a =
+    record a { booked = map (heard_update key k state has_ended) a.booked }
 
 -- the agent has applied these commands
 abbrev pub after_commands : List Command → Account → Account

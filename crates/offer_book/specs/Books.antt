@@ -1,12 +1,13 @@
 -- What a book has of all agents, and what its calls do.
-use Rattle.std.specs.Prelude.{ℕ, zero, suc, Bool, ◌&&◌, if◌then◌else◌, List, [], ◌∷◌, ◌++◌, map, flat_map, length, Option, Some, None, Result, Ok, Err, bytes_eq}
+use Rattle.std.specs.Prelude.{ℕ, Bool, ◌&&◌, if◌then◌else◌, List, [], ◌∷◌, ◌++◌, map, flat_map, length, Option, Some, None, Result, Ok, Err, bytes_eq}
 use Rattle.std.specs.List.{list_any, find}
 use Rattle.names_core.specs.Ids.{Numbered}
 use Rattle.quantity.specs.declared.rows.Row.{Row}
-use Rattle.quantity.specs.Rows.{covers}
 use Rattle.mails.specs.declared.task.Offer.{Offer}
 use Rattle.mails.specs.declared.task.Booked.{Booked}
-use Rattle.offer_book.specs.Accounts.{Account, new_account, dropped, free, with_offer, without_offer, with_task, is_offered_as, has_key, with_ended, without_key}
+use Rattle.mails.specs.declared.mail.Command.{Command}
+use Rattle.booked_tasks.specs.declared.tasks.Heard.{Heard}
+use Rattle.offer_book.specs.Accounts.{Account, new_account, dropped, free, fits, with_offer, without_offer, with_task, is_offered_as, has_key, with_ended, without_key, reopened, hearing, after_commands, without_named}
 use Rattle.offer_book.specs.declared.fault.BookFault.{BookFault}
 use Rattle.offer_book.specs.declared.fault.BookFault.TheVariants.{Unknown, NoRoom, Twice}
 
@@ -30,12 +31,6 @@ abbrev pub at_first : (Account → Bool) → (Account → Account) → List Acco
 at_first test change [] = []
 at_first test change (a ∷ as_) = if test a then change a ∷ as_ else a ∷ at_first test change as_
 
--- the account at a place is changed; there is none past the end
-abbrev pub at_place : ℕ → (Account → Account) → List Account → List Account
-at_place i change [] = []
-at_place zero change (a ∷ as_) = change a ∷ as_
-at_place (suc i) change (a ∷ as_) = a ∷ at_place i change as_
-
 -- all booked tasks
 abbrev pub booked_count : List Account → ℕ
 booked_count as_ = length (flat_map (λ a. a.booked) as_)
@@ -43,9 +38,12 @@ booked_count as_ = length (flat_map (λ a. a.booked) as_)
 -- calls that may be refused
 
 -- an agent enters: at its place, where it was in before
-abbrev pub entered_at : List ℕ → List Row → List Account → Option Account → Result (List Account) BookFault
+abbrev pub entered_at : List ℕ → List Row → List Account → Option Account
+    → Result (List Account) BookFault
 entered_at name total as_ None = Ok (as_ ++ new_account name total ∷ [])
-entered_at name total as_ (Some a) = if a.is_in then Err Twice else Ok (at_first (is_named_so name) (λ b. new_account name total) as_)
+entered_at name total as_ (Some a) =
+    if a.is_in then Err Twice
+    else Ok (at_first (is_named_so name) (λ b. new_account name total) as_)
 
 abbrev pub entered : List ℕ → List Row → List Account → Result (List Account) BookFault
 entered name total as_ = entered_at name total as_ (find (is_named_so name) as_)
@@ -53,12 +51,35 @@ entered name total as_ = entered_at name total as_ (find (is_named_so name) as_)
 abbrev pub agent_of : List ℕ → List Account → Option Account
 agent_of name as_ = find (is_agent name) as_
 
-abbrev pub dropped_at : List ℕ → List Account → Option Account → Result (List Account) BookFault
-dropped_at name as_ None = Err Unknown
-dropped_at name as_ (Some a) = Ok (at_first (is_agent name) dropped as_)
+-- a change of the account of the agent of this name
+abbrev pub changed_at : List ℕ → (Account → Account) → List Account → Option Account
+    → Result (List Account) BookFault
+changed_at name change as_ None = Err Unknown
+changed_at name change as_ (Some a) = Ok (at_first (is_agent name) change as_)
+
+abbrev pub changed : List ℕ → (Account → Account) → List Account → Result (List Account) BookFault
+changed name change as_ = changed_at name change as_ (agent_of name as_)
 
 abbrev pub dropped_from : List ℕ → List Account → Result (List Account) BookFault
-dropped_from name as_ = dropped_at name as_ (agent_of name as_)
+dropped_from name as_ = changed name dropped as_
+
+-- its session opens or ends
+abbrev pub reopened_on : List ℕ → List Booked → List Row → List Account
+    → Result (List Account) BookFault
+reopened_on name tasks total as_ = changed name (reopened tasks total) as_
+
+-- an update of a task on it is heard of
+abbrev pub heard_on : List ℕ → Heard → List Account → Result (List Account) BookFault
+heard_on name update as_ = changed name (hearing update.key update.k update.state update.ended) as_
+
+-- it has applied these commands
+abbrev pub applied_on : List ℕ → List Command → List Account → Result (List Account) BookFault
+applied_on name commands as_ = changed name (after_commands commands) as_
+
+-- the offers on it to a framework that have one of these ids are withdrawn
+abbrev pub withdrawn_on : List ℕ → Numbered → List Numbered → List Account
+    → Result (List Account) BookFault
+withdrawn_on name framework ids as_ = changed name (without_named framework ids) as_
 
 abbrev pub free_at : Option Account → Result (List Row) BookFault
 free_at None = Err Unknown
@@ -68,23 +89,27 @@ free_at (Some a) = Ok (free a)
 abbrev pub free_of : List ℕ → List Account → Result (List Row) BookFault
 free_of name as_ = free_at (agent_of name as_)
 
-abbrev pub offered_at : List ℕ → Offer → List Account → Option Account → Result (List Account) BookFault
+abbrev pub offered_at : List ℕ → Offer → List Account → Option Account
+    → Result (List Account) BookFault
 offered_at name o as_ None = Err Unknown
 offered_at name o as_ (Some a) =
     if is_offered o.id as_ then Err Twice
-    else (if covers (free a) o.resources then Ok (at_first (is_agent name) (with_offer o) as_) else Err NoRoom)
+    else (if fits a o.resources then Ok (at_first (is_agent name) (with_offer o) as_)
+    else Err NoRoom)
 
--- an offer is made out of what is free
+-- an offer is made where the total has room for it
 abbrev pub offered : List ℕ → Offer → List Account → Result (List Account) BookFault
 offered name o as_ = offered_at name o as_ (agent_of name as_)
 
-abbrev pub booked_at : List ℕ → Booked → List Account → Option Account → Result (List Account) BookFault
+abbrev pub booked_at : List ℕ → Booked → List Account → Option Account
+    → Result (List Account) BookFault
 booked_at name b as_ None = Err Unknown
 booked_at name b as_ (Some a) =
     if is_booked b.job.key as_ then Err Twice
-    else (if covers (free a) b.job.resources then Ok (at_first (is_agent name) (with_task b) as_) else Err NoRoom)
+    else (if fits a b.job.resources then Ok (at_first (is_agent name) (with_task b) as_)
+    else Err NoRoom)
 
--- a task is booked out of what is free
+-- a task is booked where the total has room for it
 abbrev pub booked : List ℕ → Booked → List Account → Result (List Account) BookFault
 booked name b as_ = booked_at name b as_ (agent_of name as_)
 

@@ -9,3 +9,7 @@ IsRefusal Unknown due = due ≡ Err Unknown
 IsRefusal NoRoom due = due ≡ Err NoRoom
 IsRefusal Twice due = due ≡ Err Twice
 IsRefusal OutOfMemory due = Unit {0}
+
+-- the refusal is the one of the answer that was due
+abbrev pub IsDue : {T : Type 0} → Result T BookFault → BookFault → Type 0
+IsDue due fault = due ≡ Err fault

@@ -16,7 +16,8 @@ placed_on a = map (place a.name) a.booked
 abbrev pub all_placed : List Account → List Placed
 all_placed as_ = flat_map placed_on as_
 
--- the booked task of a framework with this name, if any: first one that hasn't ended, then the one with the least key
+-- the booked task of a framework with this name, if any: first one that hasn't ended,
+-- then the one with the least key
 abbrev pub held : Numbered → List ℕ → List Account → Option Placed
 held framework name as_ = held_among (all_placed as_) framework name
 
@@ -26,7 +27,8 @@ abbrev pub is_of_name : Numbered → List ℕ → Booked → Bool
 is_of_name framework name b = same b.job.framework framework && bytes_eq b.job.name name
 
 abbrev pub first_at : Numbered → List ℕ → List ℕ → Option Placed → Booked → Option Placed
-first_at framework name agent best b = if is_of_name framework name b then first_placed best (place agent b) else best
+first_at framework name agent best b =
+    if is_of_name framework name b then first_placed best (place agent b) else best
 
 abbrev pub first_in : Numbered → List ℕ → Option Placed → Account → Option Placed
 first_in framework name best a = fold (first_at framework name a.name) best a.booked

@@ -4,4 +4,5 @@ pub mod Held
 pub mod Found
 pub mod Faults
 pub mod Laws
+pub mod Within
 pub mod Named

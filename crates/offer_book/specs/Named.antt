@@ -17,7 +17,8 @@ id_cmp a b = ordering_then (nat_cmp a.run b.run) (nat_cmp a.n b.n)
 
 -- by framework, then by text
 abbrev pub given_cmp : Numbered → List ℕ → Given → Ordering
-given_cmp framework name g = ordering_then (id_cmp framework g.framework) (slice_cmp nat_cmp name (string_bytes g.text))
+given_cmp framework name g =
+    ordering_then (id_cmp framework g.framework) (slice_cmp nat_cmp name (string_bytes g.text))
 
 -- among these is this name of a framework
 abbrev pub has_given : BTreeSet Given → Numbered → List ℕ → Bool
@@ -25,7 +26,9 @@ has_given given framework name = contains_by (given_cmp framework name) given
 
 -- those of the one are among those of the other
 abbrev pub HasAllGiven : BTreeSet Given → BTreeSet Given → Type 0
-HasAllGiven one other = (framework : Numbered) (name : List ℕ) → has_given one framework name ≡ true → has_given other framework name ≡ true
+HasAllGiven one other =
+    (framework : Numbered) (name : List ℕ) → has_given one framework name ≡ true
+    → has_given other framework name ≡ true
 
 -- a booked task of a framework may have this name
 abbrev pub may_have : Names → Numbered → List ℕ → Bool
@@ -43,4 +46,6 @@ AreAllNamed names as_ = AllByRecursion (λ a. AreNamed names a.booked) as_
 
 -- the names of the one are among those of the other
 abbrev pub Keeps : Names → Names → Type 0
-Keeps one other = (framework : Numbered) (name : List ℕ) → may_have one framework name ≡ true → may_have other framework name ≡ true
+Keeps one other =
+    (framework : Numbered) (name : List ℕ) → may_have one framework name ≡ true
+    → may_have other framework name ≡ true

@@ -1,21 +1,22 @@
 //! What a book has of one agent.
 
-ghost use Rattle.std.specs.Prelude.{◌≡◌, ◌-◌, List, ℕ, IfOk, OnOk, OnErr};
+ghost use Rattle.std.specs.Prelude.{◌≡◌, ◌-◌, List, ℕ, IfOk};
 ghost use Rattle.quantity.specs.Rows.{amount};
-ghost use Rattle.offer_book.specs.Accounts.{new_account, dropped, taken, free, fits, offering, reopened};
+ghost use Rattle.offer_book.specs.Accounts.{new_account, dropped, taken, free, fits, reopened};
 ghost use Rattle.offer_book.specs.Books.{is_agent};
 
 use crate::offers::Offers;
 use crate::rest;
 use booked_tasks::Tasks;
 use listed::Listed;
-use mails::{Booked, Offer};
+use mails::Booked;
 use names_core::AgentName;
 use plain_data::Plain;
 use quantity::Resources;
 use std::alloc::{AllocError, Global};
 
-/// An agent, what it owns, and what of it is offered and booked. One that was dropped has nothing until it enters again.
+/// An agent, what it owns, and what of it is offered and booked.
+/// One that was dropped has nothing until it enters again.
 #[derive(Drop)]
 pub struct Account {
     pub name: AgentName,
@@ -55,18 +56,21 @@ impl Account {
     }
 
     /// The total less current offers and booked tasks that haven't ended.
+    /// Where the sum of the booked tasks is known it doesn't go over them.
     pub fn free(&self, alloc: Global) -> Result<Resources, AllocError>
         ensures rest { IfOk result (λ rest. rest ≡ free self.now) }
-        ensures less { IfOk result (λ rest. (name : List ℕ) → amount name rest ≡ amount name self.now.total - amount name (taken self.now)) }
+        ensures less { IfOk result (λ rest. (name : List ℕ)
+            → amount name rest ≡ amount name self.now.total - amount name (taken self.now)) }
     {
         let _ordered = self.total.rows();
         let mut rest = self.total.copy()?;
         rest::take_offers(&mut rest, self.offers.as_slice());
-        rest::take_tasks(&mut rest, self.booked.as_slice());
+        rest::take_booked(&mut rest, &self.booked);
         Ok(rest)
     }
 
     /// Whether the total has room for more resources beside what is taken of it.
+    /// Where the sum of the booked tasks is known it doesn't go over them.
     pub fn fits(&self, alloc: Global, more: &Resources) -> Result<bool, AllocError>
         ensures { IfOk result (λ is_within. is_within ≡ fits self.now more.now) }
     {
@@ -78,21 +82,7 @@ impl Account {
         if !rest::cover_offers(&mut rest, self.offers.as_slice()) {
             return Ok(false);
         }
-        Ok(rest::cover_tasks(&mut rest, self.booked.as_slice()))
-    }
-
-    /// Makes an offer, if no current one has its id and with it all that is taken still fits the total.
-    pub(crate) fn offer(&mut self, alloc: Global, offer: Offer) -> Result<(), AllocError>
-        ensures ok { OnOk result (self.new ≡ offering offer self.old) }
-        ensures err { OnErr result (self.new ≡ self.old) }
-    {
-        if self.offers.is_offered(offer.id) {
-            return Ok(());
-        }
-        if self.fits(alloc, &offer.resources)? {
-            self.offers.push(offer)?;
-        }
-        Ok(())
+        Ok(rest::cover_booked(&mut rest, &self.booked))
     }
 
     pub(crate) fn reopen(&mut self, alloc: Global, tasks: Listed<Booked>, total: Resources)
@@ -100,6 +90,6 @@ impl Account {
     {
         self.total = total;
         self.offers = Offers::new(alloc);
-        self.booked = Tasks::from_list(tasks);
+        self.booked = Tasks::from_list(alloc, tasks);
     }
 }

@@ -8,13 +8,15 @@ use thiserror::Error;
 
 #[derive(Clone, Copy, Debug, Drop, PartialEq, Eq, Error)]
 pub enum BookFault {
-    /// No agent of this name is in, no offer of this id is current, or no task of this key is booked.
+    /// No agent of this name is in, no offer of this id is current,
+    /// or no task of this key is booked.
     #[error("B1 Unknown")]
     Unknown,
-    /// More is asked for than is free.
+    /// An agent's total has no room for what is asked for.
     #[error("B2 NoRoom")]
     NoRoom,
-    /// The agent is in already, the offer's id is that of a current one, or the task's key that of a booked one.
+    /// The agent is in already, the offer's id is that of a current one,
+    /// or the task's key that of a booked one.
     #[error("B3 Twice")]
     Twice,
     /// Memory was refused.

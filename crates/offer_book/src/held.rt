@@ -39,7 +39,9 @@ fn better<'a>(
     agent: &'a AgentName,
     task: &'a Booked,
 ) -> Option<(&'a AgentName, &'a Booked)>
-    ensures { option_map (λ h. place h.0.now h.1.now) result ≡ first_placed (option_map (λ h. place h.0.now h.1.now) best.entry) (place agent.entry.now task.entry.now) }
+    ensures { option_map (λ h. place h.0.now h.1.now) result
+        ≡ first_placed (option_map (λ h. place h.0.now h.1.now) best.entry)
+        (place agent.entry.now task.entry.now) }
 {
     match best {
         None => Some((agent, task)),
@@ -53,8 +55,8 @@ fn better<'a>(
     }
 }
 
-/// Of a task that was found before, if any, and the tasks of an agent that a framework gave this name: the one that hasn't
-/// ended, then the one with the least launch key.
+/// Of a task that was found before, if any, and the tasks of an agent that a framework gave this
+/// name: the one that hasn't ended, then the one with the least launch key.
 pub fn first_among<'a>(
     before: Option<(&'a AgentName, &'a Booked)>,
     agent: &'a AgentName,
@@ -62,7 +64,9 @@ pub fn first_among<'a>(
     framework: FrameworkId,
     name: &TaskName,
 ) -> Option<(&'a AgentName, &'a Booked)>
-    ensures { option_map (λ h. place h.0.now h.1.now) result ≡ fold (first_at framework name.now agent.entry.now) (option_map (λ h. place h.0.now h.1.now) before.entry) tasks.entry.now }
+    ensures { option_map (λ h. place h.0.now h.1.now) result
+        ≡ fold (first_at framework name.now agent.entry.now)
+        (option_map (λ h. place h.0.now h.1.now) before.entry) tasks.entry.now }
 {
     let mut best = before;
     for task in tasks {
@@ -79,7 +83,9 @@ fn first_in<'a>(
     framework: FrameworkId,
     name: &TaskName,
 ) -> Option<(&'a AgentName, &'a Booked)>
-    ensures { option_map (λ h. place h.0.now h.1.now) result ≡ first_in framework name.now (option_map (λ h. place h.0.now h.1.now) before.entry) account.entry.now }
+    ensures { option_map (λ h. place h.0.now h.1.now) result
+        ≡ first_in framework name.now (option_map (λ h. place h.0.now h.1.now) before.entry)
+        account.entry.now }
 {
     let tasks = account.booked.as_slice();
     first_among(before, &account.name, tasks, framework, name)
@@ -91,7 +97,8 @@ pub(crate) fn first_of<'a>(
     framework: FrameworkId,
     name: &TaskName,
 ) -> Option<(&'a AgentName, &'a Booked)>
-    ensures { option_map (λ h. place h.0.now h.1.now) result ≡ first_of framework name.now accounts.entry.now }
+    ensures { option_map (λ h. place h.0.now h.1.now) result
+        ≡ first_of framework name.now accounts.entry.now }
 {
     let mut best = None;
     for account in accounts {

@@ -1,7 +1,7 @@
 //! Ids, compared and looked for in lists.
 
 ghost use Rattle.std.specs.Prelude.{◌≡◌};
-ghost use Rattle.cluster_model.specs.Ids.{same, is_among, is_repeated};
+ghost use Rattle.cluster_model.specs.Ids.{same, before, is_among, is_repeated};
 
 use names_core::OfferId;
 
@@ -9,6 +9,12 @@ pub(crate) fn is_same_offer(id: OfferId, other: OfferId) -> bool
     ensures { result ≡ same id other }
 {
     id.number() == other.number() && id.run() == other.run()
+}
+
+pub(crate) fn is_before(id: OfferId, other: OfferId) -> bool
+    ensures { result ≡ before id other }
+{
+    id.run() < other.run() || (id.run() == other.run() && id.number() < other.number())
 }
 
 pub(crate) fn is_among(ids: &[OfferId], id: OfferId) -> bool

@@ -3,6 +3,7 @@
 
 mod account;
 mod book;
+mod bound;
 mod fault;
 mod held;
 mod ids;
@@ -17,5 +18,5 @@ pub use book::OfferBook;
 pub use booked_tasks::{Heard, Tasks};
 pub use fault::BookFault;
 pub use held::first_among;
-pub use laws::{ids_name_offers, rest_of_rest_is_sum};
+pub use laws::{ids_name_offers, rest_of_rest_is_sum, room_is_what_is_free};
 pub use offers::Offers;

@@ -76,7 +76,8 @@ impl Names {
         self.is_whole = false;
     }
 
-    /// The name of a task that is about to be booked. Where memory is refused for it, nothing is known of names from now on.
+    /// The name of a task that is about to be booked. Where memory is refused for it,
+    /// nothing is known of names from now on.
     pub(crate) fn note(&mut self, task: &Booked)
         ensures noted { IsNamed self.new task.now }
         ensures kept { Keeps self.old self.new }
@@ -112,8 +113,8 @@ impl Names {
         !self.is_whole || self.given.len() as u128 > self.limit
     }
 
-    /// Takes the names from the booked tasks anew where nothing is known of them, or where they are more than twice as many
-    /// as there are tasks.
+    /// Takes the names from the booked tasks anew where nothing is known of them,
+    /// or where they are more than twice as many as there are tasks.
     pub(crate) fn review(&mut self, accounts: &[Account], booked: u128)
         ensures { AreAllNamed self.old accounts.now → AreAllNamed self.new accounts.now }
     {

@@ -3,11 +3,11 @@
 ghost use Rattle.std.specs.Prelude.{◌≡◌, ◌++◌, ◌∷◌, [], not, filter, OnOk, OnErr};
 ghost use Rattle.std.specs.List.{find, list_all, list_any};
 ghost use Rattle.std.specs.Option.{option_copied};
-ghost use Rattle.cluster_model.specs.Ids.{is_among};
 ghost use Rattle.cluster_model.specs.Sides.{is_named};
 ghost use Rattle.cluster_model.specs.Masters.{is_of};
 ghost use Rattle.offer_book.specs.Accounts.{has_offer, are_good, is_offered_as};
 
+use crate::bound;
 use crate::ids::{is_among, is_repeated, is_same_offer};
 use booked_tasks::is_same_framework;
 use mails::Offer;
@@ -19,15 +19,20 @@ use std::marker::Model;
 #[derive(Drop)]
 pub struct Offers {
     items: Vec<Offer>,
+    /// No offer has an id above this one.
+    bound: Option<OfferId>,
 }
 
 impl Model for Offers {
     ghost use Rattle.std.specs.Prelude.{List};
     ghost use Rattle.mails.specs.declared.task.Offer.{Offer};
+    ghost use Rattle.offer_book.specs.Within.{AreWithin};
 
     ghost Value = { List Offer };
 
     ghost view = { λ offers. offers.items.items };
+
+    ghost invariant = { λ offers. AreWithin offers.bound offers.items.items };
 }
 
 fn is_of(offer: &Offer, framework: FrameworkId) -> bool
@@ -52,12 +57,6 @@ fn has_all(offers: &[Offer], framework: FrameworkId, ids: &[OfferId]) -> bool
     ensures { result ≡ list_all (has_offer offers.now framework) ids.now }
 {
     ids.iter().all(|id| has_offer(offers, framework, *id))
-}
-
-fn keep_other_ids(offers: &mut Vec<Offer>, ids: &[OfferId])
-    ensures { offers.new.items ≡ filter (λ o. not (is_among ids.now o.id)) offers.old.items }
-{
-    offers.retain(|offer| !is_among(ids, offer.id));
 }
 
 fn keep_others_of(offers: &mut Vec<Offer>, framework: FrameworkId)
@@ -97,6 +96,7 @@ impl Offers {
     {
         Offers {
             items: Vec::new(alloc),
+            bound: None,
         }
     }
 
@@ -114,14 +114,15 @@ impl Offers {
     }
 
     /// Whether an offer of this id is current here.
+    /// For an id above all that were offered it doesn't go over the offers.
     pub fn is_offered(&self, id: OfferId) -> bool
         ensures { result ≡ list_any (is_offered_as id) self.now }
     {
-        is_offered(&self.items, id)
+        bound::is_within(self.bound, id) && is_offered(&self.items, id)
     }
 
-    /// Whether a framework may use the offers of these ids together: there are some, none is named twice,
-    /// and each is a current offer of it here.
+    /// Whether a framework may use the offers of these ids together: there are some,
+    /// none is named twice, and each is a current offer of it here.
     pub fn are_good(&self, framework: FrameworkId, ids: &[OfferId]) -> bool
         ensures { result ≡ are_good self.now framework ids.now }
     {
@@ -135,7 +136,9 @@ impl Offers {
         ensures ok { OnOk result (self.new ≡ self.old ++ offer ∷ []) }
         ensures err { OnErr result (self.new ≡ self.old) }
     {
+        let bound = bound::raised(self.bound, offer.id);
         self.items.push(offer)?;
+        self.bound = bound;
         Ok(())
     }
 
@@ -143,12 +146,6 @@ impl Offers {
         ensures { self.new ≡ filter (λ o. not (is_offered_as id o)) self.old }
     {
         keep_others(&mut self.items, id);
-    }
-
-    pub(crate) fn withdraw_ids(&mut self, ids: &[OfferId])
-        ensures { self.new ≡ filter (λ o. not (is_among ids.now o.id)) self.old }
-    {
-        keep_other_ids(&mut self.items, ids);
     }
 
     pub(crate) fn withdraw_of(&mut self, framework: FrameworkId)

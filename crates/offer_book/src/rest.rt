@@ -6,6 +6,7 @@ ghost use Rattle.quantity.specs.Rows.{covers, rest_of, AreRows};
 ghost use Rattle.cluster_model.specs.Sides.{offer_rows, job_rows, unended};
 ghost use Rattle.offer_book.specs.Accounts.{unended_rows};
 
+use booked_tasks::Tasks;
 use mails::{Booked, Offer};
 use quantity::Resources;
 
@@ -31,13 +32,24 @@ fn take_task(rest: &mut Resources, task: &Booked)
 }
 
 /// Takes away what tasks use that haven't ended.
-pub(crate) fn take_tasks(rest: &mut Resources, tasks: &[Booked])
+fn take_tasks(rest: &mut Resources, tasks: &[Booked])
     requires { AreRows rest.old }
     ensures rest { rest.new ≡ rest_of rest.old (job_rows (unended tasks.now)) }
     ensures rows { AreRows rest.new }
 {
     for task in tasks {
         take_task(rest, task);
+    }
+}
+
+/// The same, by their sum where it is known.
+pub(crate) fn take_booked(rest: &mut Resources, tasks: &Tasks)
+    requires { AreRows rest.old }
+    ensures { rest.new ≡ rest_of rest.old (job_rows (unended tasks.now)) }
+{
+    match tasks.sum() {
+        Some(sum) => rest.reduce_by(sum),
+        None => take_tasks(rest, tasks.as_slice()),
     }
 }
 
@@ -83,7 +95,7 @@ fn cover_task(rest: &mut Resources, task: &Booked) -> bool
 }
 
 /// Takes away what tasks use that haven't ended, or tells that there is less.
-pub(crate) fn cover_tasks(rest: &mut Resources, tasks: &[Booked]) -> bool
+fn cover_tasks(rest: &mut Resources, tasks: &[Booked]) -> bool
     requires { AreRows rest.old }
     ensures { result ≡ covers rest.old (job_rows (unended tasks.now)) }
 {
@@ -93,4 +105,16 @@ pub(crate) fn cover_tasks(rest: &mut Resources, tasks: &[Booked]) -> bool
         }
     }
     true
+}
+
+/// Whether there is as much as the tasks use that haven't ended.
+/// Where their sum is known it doesn't go over them.
+pub(crate) fn cover_booked(rest: &mut Resources, tasks: &Tasks) -> bool
+    requires { AreRows rest.old }
+    ensures { result ≡ covers rest.old (job_rows (unended tasks.now)) }
+{
+    match tasks.sum() {
+        Some(sum) => rest.covers(sum),
+        None => cover_tasks(rest, tasks.as_slice()),
+    }
 }

@@ -45,7 +45,8 @@ fn sum_named(
     framework: FrameworkId,
     ids: &[OfferId],
 ) -> Result<Resources, AllocError>
-    ensures { IfOk result (λ sum. sum ≡ plus_rows [] (offer_rows (filter (is_named framework ids.now) offers.now))) }
+    ensures { IfOk result (λ sum. sum ≡ plus_rows []
+        (offer_rows (filter (is_named framework ids.now) offers.now))) }
 {
     let mut sum = Resources::new(alloc);
     for offer in offers {
@@ -55,15 +56,16 @@ fn sum_named(
 }
 
 impl Account {
-    /// The sum of a framework's offers of these ids. A sum past the limits of resources, which offers that fit the total don't
-    /// have, is refused as if memory were.
+    /// The sum of a framework's offers of these ids. A sum past the limits of resources,
+    /// which offers that fit the total don't have, is refused as if memory were.
     pub fn named_sum(
         &self,
         alloc: Global,
         framework: FrameworkId,
         ids: &[OfferId],
     ) -> Result<Resources, AllocError>
-        ensures { IfOk result (λ sum. sum ≡ plus_rows [] (offer_rows (named_offers self.now framework ids.now))) }
+        ensures { IfOk result (λ sum. sum ≡ plus_rows []
+            (offer_rows (named_offers self.now framework ids.now))) }
     {
         sum_named(alloc, self.offers.as_slice(), framework, ids)
     }

@@ -77,7 +77,8 @@ accepted subscribes events = if subscribes then opened_by (last_of events) else 
 
 abbrev pub answered : Bool → List StreamEvent → Verdict → Answer
 answered subscribes events verdicts.Ok = accepted subscribes events
-answered subscribes events (verdicts.MasterRefused refusal) = answers.Refused (faults.Master refusal)
+answered subscribes events (verdicts.MasterRefused refusal) =
+    answers.Refused (faults.Master refusal)
 answered subscribes events (verdicts.AgentRefused refusal) = answers.Refused faults.NoSuchMail
 answered subscribes events verdicts.OutOfMemory = answers.Refused faults.MasterOutOfMemory
 
@@ -85,11 +86,12 @@ answered subscribes events verdicts.OutOfMemory = answers.Refused faults.MasterO
 abbrev pub answer_of : Bool → Entry → Answer
 answer_of subscribes e = answered subscribes e.outputs.events e.verdict
 
--- of a stream that was opened one event is taken where one waits, and who takes it waits while the stream is open. The Take of a stream that was never
--- opened is refused at once
+-- of a stream that was opened one event is taken where one waits, and who takes it waits while the
+-- stream is open. The Take of a stream that was never opened is refused at once
 abbrev pub turn_of : Option ℕ → Bool → Turn
 turn_of None is_open = turns.Answer
-turn_of (Some waiting) is_open = if nat_lt 0 waiting then turns.Answer else (if is_open then turns.Wait else turns.End)
+turn_of (Some waiting) is_open =
+    if nat_lt 0 waiting then turns.Answer else (if is_open then turns.Wait else turns.End)
 
 abbrev pub turn_on : Numbered → Cluster → Turn
 turn_on stream c = turn_of (waiting_in stream c) (is_open_in stream c)

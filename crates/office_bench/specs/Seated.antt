@@ -1,7 +1,7 @@
 -- What the bench of a connection did.
 use Rattle.std.specs.Prelude.{◌≡◌, Option, Some, None}
 use Rattle.desk_seats.specs.Receipts.{PassState}
-use Rattle.cluster_core.specs.declared.given.Given.{Given}
+use Rattle.cluster_steps.specs.declared.entry.Entry.{Entry}
 use Rattle.http_door.specs.Deeds.{Deed}
 use Rattle.office_bench.specs.Deeds.{Does, RefusesAll}
 use Rattle.office_bench.specs.declared.seating.Seating.{Seating}
@@ -15,6 +15,6 @@ SeatingDoes (Refusing fault) deed (Seat new) = ⊥
 SeatingDoes (Refusing fault) deed (Refusing later) = (later ≡ fault) × RefusesAll fault deed
 
 -- the pass of a seat
-abbrev pub pass_of : {L R : Type 0} → Seating L R → Option (PassState Given)
+abbrev pub pass_of : {L R : Type 0} → Seating L R → Option (PassState Entry)
 pass_of (Seat pass) = Some pass
 pass_of (Refusing fault) = None

@@ -8,7 +8,7 @@ use crate::fault::bench_fault;
 use crate::inlet::TcpInlet;
 use crate::outlet::TcpOutlet;
 use crate::seating::Seating;
-use cluster_core::{ClusterFault, Given, RecordedCluster};
+use cluster_core::{Awaited, ClusterFault, KeptEntry, RecordedCluster};
 use desk_lock::{Office, Pass, Waited};
 use http_workers::Arrivals;
 use std::alloc::Global;
@@ -27,7 +27,8 @@ const PAUSE: u64 = 50;
 /// How long a write may wait for a client that doesn't read, in seconds.
 const WRITE_SECONDS: u64 = 30;
 
-/// Waits for the next connection. What is written goes out at once, and a write that waits for longer than 30 seconds fails.
+/// Waits for the next connection. What is written goes out at once,
+/// and a write that waits for longer than 30 seconds fails.
 fn accept(listener: &TcpListener) -> io::Result<(TcpInlet, TcpOutlet)>
     ensures { IfOk result (λ ends. (ends.0.faults ≡ 0) × (ends.1.faults ≡ 0)) }
 {
@@ -38,15 +39,15 @@ fn accept(listener: &TcpListener) -> io::Result<(TcpInlet, TcpOutlet)>
     Ok((TcpInlet::new(stream), TcpOutlet::new(other)))
 }
 
-/// The connections of a listener, each with a seat of an office over a cluster, which is opened for it. Where the office refuses a seat (O3, O5), the
-/// connection's calls are refused so.
+/// The connections of a listener, each with a seat of an office over a cluster, which is opened for
+/// it. Where the office refuses a seat (O3, O5), the connection's calls are refused so.
 #[derive(Drop)]
 pub struct TcpArrivals<'a, L: ledger::Ledger, R: Wait + Clock> {
     rt: &'a R,
     alloc: Global,
     office: &'a Office<RecordedCluster, L>,
     /// The seat by which the office is asked whether it is finished.
-    pass: Pass<Given, L>,
+    pass: Pass<KeptEntry, L>,
     listener: &'a TcpListener,
     /// How many connections are taken at most; 0 is no limit.
     limit: u64,
@@ -65,16 +66,23 @@ impl<'a, L: ledger::Ledger, R: Wait + Clock> Model for TcpArrivals<'a, L, R> {
 }
 
 impl<'a, L: ledger::Ledger, R: Wait + Clock> TcpArrivals<'a, L, R> {
-    /// The connections of a listener, at most so many; with the limit 0 any number. The pass is of a seat of the office that is not used otherwise.
+    /// The connections of a listener, at most so many; with the limit 0 any number.
+    /// The pass is of a seat of the office that is not used otherwise.
     pub fn new(
         rt: &'a R,
         alloc: Global,
         office: &'a Office<RecordedCluster, L>,
-        pass: Pass<Given, L>,
+        pass: Pass<KeptEntry, L>,
         listener: &'a TcpListener,
         limit: u64,
     ) -> TcpArrivals<'a, L, R>
-        ensures { result ≡ record { pass = pass; limit = limit; taken = 0; failures = 0; finished = false } }
+        ensures { result ≡ record {
+          pass = pass;
+          limit = limit;
+          taken = 0;
+          failures = 0;
+          finished = false;
+        } }
     {
         TcpArrivals {
             rt,
@@ -90,7 +98,7 @@ impl<'a, L: ledger::Ledger, R: Wait + Clock> TcpArrivals<'a, L, R> {
     }
 
     /// The pass of its seat, to be handed in at the office's close.
-    pub fn into_pass(self) -> Pass<Given, L>
+    pub fn into_pass(self) -> Pass<KeptEntry, L>
         ensures { result ≡ self.entry.pass }
     {
         self.pass
@@ -108,7 +116,7 @@ impl<'a, L: ledger::Ledger, R: Wait + Clock> TcpArrivals<'a, L, R> {
         let found = self.office.wait_for(
             self.rt,
             &self.pass,
-            0,
+            Awaited::time(),
             0,
             |_recorded: &RecordedCluster| -> Result<Option<()>, ClusterFault> { Ok(Some(())) },
         );
@@ -135,8 +143,8 @@ impl<'a, L: ledger::Ledger, R: Wait + Clock> TcpArrivals<'a, L, R> {
         false
     }
 
-    /// Waits for the next connection. Where it fails there is none; since the next would fail at once where the system lacks descriptors or memory, a
-    /// while goes by.
+    /// Waits for the next connection. Where it fails there is none; since the next would fail at
+    /// once where the system lacks descriptors or memory, a while goes by.
     fn take(&mut self) -> Option<(TcpInlet, TcpOutlet)>
         ensures { IfSome result (λ ends. (ends.0.faults ≡ 0) × (ends.1.faults ≡ 0)) }
     {

@@ -1,38 +1,42 @@
 //! A seat of an office, as the bench of a connection.
 
-ghost use Rattle.std.specs.Prelude.{◌≡◌, ◌⊎◌, ◌++◌, ◌∷◌, [], List, OnOk, OnErr, IfOk, IfErr, MatchBool};
+ghost use Rattle.std.specs.Prelude.{◌≡◌, ◌⊎◌, OnErr, IfOk, IfErr, MatchOption};
 ghost use Rattle.cluster_steps.specs.declared.step.Step.TheVariants.{Send, Deliver, Take};
-ghost use Rattle.desk_seats.specs.declared.desk.pass.Receipt.{Receipt};
+ghost use Rattle.cluster_core.specs.Answering.{Answers};
+ghost use Rattle.desk_seats.specs.declared.desk.pass.Answered.{Answered as Got};
+ghost use Rattle.cluster_steps.specs.declared.entry.Entry.{Entry};
 ghost use Rattle.office_bench.specs.Answers.{IsOfOffice, answer_of};
-ghost use Rattle.office_bench.specs.Deeds.{Delivers, Does, Gets, Steps, call_number};
-ghost use Rattle.cluster_core.specs.declared.given.Given.{Given};
+ghost use Rattle.office_bench.specs.Deeds.{Delivers, Does, Steps, call_number};
+ghost use Rattle.cluster_core.specs.declared.given.Given.{Given as GivenSo};
 
 use crate::fault::bench_fault;
 use crate::reading::{answer_of, is_subscribe, taken_event, turn_on};
-use cluster_core::{Given, RecordedCluster, Step, stream_group};
-use desk_lock::{Office, Pass, Receipt};
+use cluster_core::{Awaited, Given, KeptEntry, RecordedCluster, Step};
+use desk_lock::{Answered, Office, Pass};
 use event_json::Event;
 use http_door::{Answer, Bench, BenchFault};
 use mails::Call;
 use names_core::StreamId;
+use shared_value::Shared;
 use std::alloc::{AllocError, Global};
 use std::marker::Model;
 use std::sync::{Wait, ledger};
 
-/// A seat of an office over a cluster, as the bench of one connection. Contracts see it as its pass.
+/// A seat of an office over a cluster, as the bench of one connection.
+/// Contracts see it as its pass.
 #[derive(Drop)]
 pub struct SeatBench<'a, L: ledger::Ledger, R: Wait> {
     rt: &'a R,
     alloc: Global,
     office: &'a Office<RecordedCluster, L>,
-    pass: Pass<Given, L>,
+    pass: Pass<KeptEntry, L>,
 }
 
 impl<'a, L: ledger::Ledger, R: Wait> Model for SeatBench<'a, L, R> {
     ghost use Rattle.desk_seats.specs.Receipts.{PassState};
-    ghost use Rattle.cluster_core.specs.declared.given.Given.{Given};
+    ghost use Rattle.cluster_steps.specs.declared.entry.Entry.{Entry};
 
-    ghost Value = { PassState Given };
+    ghost Value = { PassState Entry };
 
     ghost view = { λ b. b.pass };
 }
@@ -43,7 +47,7 @@ impl<'a, L: ledger::Ledger, R: Wait> SeatBench<'a, L, R> {
         rt: &'a R,
         alloc: Global,
         office: &'a Office<RecordedCluster, L>,
-        pass: Pass<Given, L>,
+        pass: Pass<KeptEntry, L>,
     ) -> SeatBench<'a, L, R>
         ensures { result ≡ pass }
     {
@@ -56,41 +60,45 @@ impl<'a, L: ledger::Ledger, R: Wait> SeatBench<'a, L, R> {
     }
 
     /// The pass of its seat, to be handed in at the office's close.
-    pub fn into_pass(self) -> Pass<Given, L>
+    pub fn into_pass(self) -> Pass<KeptEntry, L>
         ensures { result ≡ self.entry }
     {
         self.pass
     }
 
     /// Has the office take a step.
-    fn take(&mut self, step: Step) -> Result<(), BenchFault>
-        ensures stepped { OnOk result (Steps self.old step self.new) }
+    fn take(&mut self, step: Step) -> Result<Answered<KeptEntry, Given>, BenchFault>
+        ensures stepped { IfOk result (λ a. Answers self.old step a self.new) }
         ensures refused { IfErr result (λ fault. (self.new ≡ self.old) × IsOfOffice fault) }
     {
         match self.office.call(self.rt, self.alloc, &mut self.pass, step) {
-            Ok(()) => Ok(()),
+            Ok(answered) => Ok(answered),
             Err(fault) => Err(bench_fault(fault)),
         }
     }
 
-    /// The receipt of its last step.
-    fn last(&self) -> &Receipt<Given>
-        requires { (before : List (Receipt Given)) × (r : Receipt Given) × (self.now.receipts ≡ before ++ r ∷ []) }
-        ensures { (before : List (Receipt Given)) (r : Receipt Given) → self.now.receipts ≡ before ++ r ∷ [] → result.now ≡ r }
+    /// The step that sends a call. The call stands once from then on.
+    fn sending(&self, stream: Option<StreamId>, call: Call) -> Result<Step, BenchFault>
+        ensures step { IfOk result (λ step. step ≡ Send stream call) }
+        ensures refused { IfErr result IsOfOffice }
     {
-        match self.pass.last() {
-            Some(receipt) => receipt,
-            None => unreachable!(),
+        match Shared::new(self.alloc, call) {
+            Ok(call) => Ok(Step::Send { stream, call }),
+            Err(_) => Err(BenchFault::OutOfMemory),
         }
     }
 
     /// Sends a call, and gives its number.
     fn send(&mut self, stream: Option<StreamId>, call: Call) -> Result<u64, BenchFault>
-        ensures sent { IfOk result (λ number. (r : Receipt Given) × Gets self.old (Send stream call) r self.new × (number ≡ call_number r)) }
-        ensures refused { IfErr result (λ fault. ((self.new ≡ self.old) ⊎ Steps self.old (Send stream call) self.new) × IsOfOffice fault) }
+        ensures sent { IfOk result (λ number. (a : Got Entry GivenSo)
+            × Answers self.old (Send stream call) a self.new × (number ≡ call_number a)) }
+        ensures refused { IfErr result
+            (λ fault. ((self.new ≡ self.old) ⊎ Steps self.old (Send stream call) self.new)
+            × IsOfOffice fault) }
     {
-        self.take(Step::Send { stream, call })?;
-        match (self.last().given.sent_before as u64).checked_add(1) {
+        let step = self.sending(stream, call)?;
+        let answered = self.take(step)?;
+        match (answered.given.sent_before as u64).checked_add(1) {
             Some(number) => Ok(number),
             None => Err(BenchFault::NoSuchMail),
         }
@@ -98,30 +106,35 @@ impl<'a, L: ledger::Ledger, R: Wait> SeatBench<'a, L, R> {
 
     /// Delivers the call of a number, and answers as the master does.
     fn deliver(&mut self, number: u64, subscribes: bool) -> Result<Answer, BenchFault>
-        ensures delivered { IfOk result (λ answer. (r : Receipt Given) × Gets self.old (Deliver number) r self.new × (answer ≡ answer_of subscribes r.given.taken.entry)) }
+        ensures delivered { IfOk result (λ answer. (a : Got Entry GivenSo)
+            × Answers self.old (Deliver number) a self.new
+            × (answer ≡ answer_of subscribes a.receipt.entry)) }
         ensures refused { IfErr result (λ fault. (self.new ≡ self.old) × IsOfOffice fault) }
     {
-        self.take(Step::Deliver(number))?;
-        Ok(answer_of(subscribes, &self.last().given.taken.entry))
+        let answered = self.take(Step::Deliver(number))?;
+        Ok(answer_of(subscribes, answered.receipt.entry.get()))
     }
 
-    /// Waits until an event of a stream can be taken, and takes it. It says whether it did; otherwise no event comes, since the stream is closed and
-    /// all its events were taken, or the office is finished. A bench has one word for an event that it can't give, want of memory, at which the
-    /// connection breaks off: each refusal is told so, that none passes for the end of a stream.
-    fn wait(&mut self, stream: StreamId) -> Result<bool, AllocError>
-        ensures taken { IfOk result (λ taken. MatchBool taken (Steps self.old (Take stream) self.new) (self.new ≡ self.old)) }
+    /// Waits until an event of a stream can be taken, and takes it. None where no event comes,
+    /// since the stream is closed and all its events were taken, or the office is finished. A bench
+    /// has one word for an event that it can't give, want of memory, at which the connection breaks
+    /// off: each refusal is told so, that none passes for the end of a stream.
+    fn wait(&mut self, stream: StreamId) -> Result<Option<Answered<KeptEntry, Given>>, AllocError>
+        ensures taken { IfOk result
+            (λ answered. MatchOption answered (self.new ≡ self.old)
+            (λ a. Answers self.old (Take stream) a self.new)) }
         ensures unchanged { OnErr result (self.new ≡ self.old) }
     {
         let answered = self.office.wait_call(
             self.rt,
             self.alloc,
             &mut self.pass,
-            stream_group(stream),
+            Awaited::events_of(stream),
             |recorded: &RecordedCluster| turn_on(recorded, stream),
             Step::Take(stream),
         );
         match answered {
-            Ok(taken) => Ok(taken),
+            Ok(answered) => Ok(answered),
             Err(_) => Err(AllocError),
         }
     }
@@ -129,7 +142,9 @@ impl<'a, L: ledger::Ledger, R: Wait> SeatBench<'a, L, R> {
     /// Sends a call and delivers it.
     fn ask(&mut self, stream: Option<StreamId>, call: Call) -> Result<Answer, BenchFault>
         ensures asked { IfOk result (λ answer. Delivers self.old stream call answer self.new) }
-        ensures refused { IfErr result (λ fault. ((self.new ≡ self.old) ⊎ Steps self.old (Send stream call) self.new) × IsOfOffice fault) }
+        ensures refused { IfErr result
+            (λ fault. ((self.new ≡ self.old) ⊎ Steps self.old (Send stream call) self.new)
+            × IsOfOffice fault) }
     {
         let subscribes = is_subscribe(&call);
         let number = self.send(stream, call)?;
@@ -149,12 +164,11 @@ impl<'a, L: ledger::Ledger, R: Wait> Bench for SeatBench<'a, L, R> {
 
     fn next_events(&mut self, stream: StreamId) -> Result<Option<Event>, AllocError> {
         match self.wait(stream) {
-            Ok(true) => {}
-            Ok(false) => return Ok(None),
-            Err(fault) => return Err(fault),
-        }
-        match taken_event(self.alloc, &self.last().given.taken.entry) {
-            Ok(event) => Ok(Some(event)),
+            Ok(Some(answered)) => match taken_event(answered.receipt.entry.get()) {
+                Ok(event) => Ok(Some(event)),
+                Err(fault) => Err(fault),
+            },
+            Ok(None) => Ok(None),
             Err(fault) => Err(fault),
         }
     }

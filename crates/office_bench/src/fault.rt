@@ -19,7 +19,8 @@ fn step_fault(fault: ClusterFault) -> BenchFault
     }
 }
 
-/// What an office's refusal of a call means to a client. The refusals of agents and of moments, which no call meets, are C1 too.
+/// What an office's refusal of a call means to a client. The refusals of agents and of moments,
+/// which no call meets, are C1 too.
 pub fn bench_fault(fault: OfficeFault<ClusterFault>) -> BenchFault
     ensures same { result ≡ bench_fault fault }
     ensures of_office { IsOfOffice result }

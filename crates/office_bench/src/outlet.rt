@@ -6,7 +6,8 @@ use http_door::Outlet;
 use std::io::{ErrorKind, Write};
 use std::net::TcpStream;
 
-/// Writes once, at least one byte; an interrupted write is tried again. None is a write that failed.
+/// Writes once, at least one byte; an interrupted write is tried again.
+/// None is a write that failed.
 fn write_some(stream: &mut TcpStream, piece: &[u8]) -> Option<usize>
     ensures { IfSome result (λ n. (0 < n) × (n ≤ length piece.now)) }
 {
@@ -21,8 +22,8 @@ fn write_some(stream: &mut TcpStream, piece: &[u8]) -> Option<usize>
     None
 }
 
-/// What a client is sent over TCP. No contract can say which bytes a socket takes: only the writes that failed are counted. A write that took no byte
-/// has failed.
+/// What a client is sent over TCP. No contract can say which bytes a socket takes:
+/// only the writes that failed are counted. A write that took no byte has failed.
 #[derive(Drop)]
 pub struct TcpOutlet {
     stream: TcpStream,

@@ -16,7 +16,7 @@ use mails::Call;
 use master_state::StreamEvent;
 use names_core::StreamId;
 use plain_data::Plain;
-use std::alloc::{AllocError, Global};
+use std::alloc::AllocError;
 
 pub(crate) fn is_subscribe(call: &Call) -> bool
     ensures { result ≡ is_subscribe call.now }
@@ -50,19 +50,18 @@ pub(crate) fn answer_of(subscribes: bool, entry: &Entry) -> Answer
 }
 
 /// The event that a Take's entry hands out.
-pub(crate) fn taken_event(alloc: Global, entry: &Entry) -> Result<Event, AllocError>
-    ensures { IfOk result (λ event. option_map (λ told. told.event) entry.now.outputs.taken ≡ Some event) }
+pub(crate) fn taken_event(entry: &Entry) -> Result<Event, AllocError>
+    ensures { IfOk result (λ event. option_map (λ told. told.event) entry.now.outputs.taken
+        ≡ Some event) }
 {
     match &entry.outputs.taken {
-        Some(told) => {
-            let copy = told.copy()?;
-            Ok(copy.event)
-        }
+        Some(told) => Ok(told.get().event.copy()?),
         None => Err(AllocError),
     }
 }
 
-/// What who waits for a stream's events does. A stream that was never opened isn't waited for: its Take is refused.
+/// What who waits for a stream's events does.
+/// A stream that was never opened isn't waited for: its Take is refused.
 pub(crate) fn turn_on(recorded: &RecordedCluster, stream: StreamId) -> Turn
     ensures { result ≡ turn_on stream (state_of recorded.now.story) }
 {
@@ -74,8 +73,10 @@ pub(crate) fn turn_on(recorded: &RecordedCluster, stream: StreamId) -> Turn
     }
 }
 
-/// The last event of an accepted SUBSCRIBE stands on the one stream that the call opened: it is SUBSCRIBED, or ERROR for a framework that was
-/// torn down.
+/// The last event of an accepted SUBSCRIBE stands on the one stream that the call opened:
+/// it is SUBSCRIBED, or ERROR for a framework that was torn down.
 pub fn subscriptions_end_on_their_stream()
-    ensures { (m : Master) (given : Option Numbered) (framework : Option Numbered) (role : List ℕ) → (called m given (Subscribe framework role)).refusal ≡ None → EndsOnOpened (called m given (Subscribe framework role)) }
+    ensures { (m : Master) (given : Option Numbered) (framework : Option Numbered) (role : List ℕ)
+        → (called m given (Subscribe framework role)).refusal ≡ None
+        → EndsOnOpened (called m given (Subscribe framework role)) }
 {}

@@ -4,7 +4,7 @@ ghost use Rattle.std.specs.Prelude.{◌≡◌};
 ghost use Rattle.office_bench.specs.Seated.{SeatingDoes, pass_of};
 
 use crate::bench::SeatBench;
-use cluster_core::Given;
+use cluster_core::KeptEntry;
 use desk_lock::Pass;
 use event_json::Event;
 use http_door::{Answer, Bench, BenchFault};
@@ -22,7 +22,7 @@ pub enum Seating<'a, L: ledger::Ledger, R: Wait> {
 
 impl<'a, L: ledger::Ledger, R: Wait> Seating<'a, L, R> {
     /// The pass of the seat.
-    pub fn into_pass(self) -> Option<Pass<Given, L>>
+    pub fn into_pass(self) -> Option<Pass<KeptEntry, L>>
         ensures { result ≡ pass_of self.entry }
     {
         match self {

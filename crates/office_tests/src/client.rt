@@ -2,7 +2,7 @@
 
 use crate::gate::Overlap;
 use crate::scripts::Move;
-use cluster_core::{Given, RecordedCluster, Step, StepCause};
+use cluster_core::{KeptEntry, RecordedCluster, Step, StepCause};
 use desk_lock::{Office, Pass};
 use names_core::{AgentName, StreamId};
 use std::alloc::Global;
@@ -44,7 +44,7 @@ pub struct Client<'a, L: ledger::Ledger, R: Wait + Clock> {
     rt: &'a R,
     alloc: Global,
     office: &'a Office<RecordedCluster, L>,
-    pass: Pass<Given, L>,
+    pass: Pass<KeptEntry, L>,
     gate: &'a Overlap<'a, R>,
     to: SocketAddr,
     connections: Vec<TcpStream>,
@@ -55,7 +55,7 @@ impl<'a, L: ledger::Ledger, R: Wait + Clock> Client<'a, L, R> {
         rt: &'a R,
         alloc: Global,
         office: &'a Office<RecordedCluster, L>,
-        pass: Pass<Given, L>,
+        pass: Pass<KeptEntry, L>,
         gate: &'a Overlap<'a, R>,
         to: SocketAddr,
     ) -> Client<'a, L, R> {
@@ -77,7 +77,8 @@ impl<'a, L: ledger::Ledger, R: Wait + Clock> Client<'a, L, R> {
             .is_ok()
     }
 
-    /// Has the agent prepare its answer to the master's Hello, which has the number 1, and commit it.
+    /// Has the agent prepare its answer to the master's Hello,
+    /// which has the number 1, and commit it.
     fn answers(&mut self) -> bool {
         let (Ok(agent), Ok(same)) = (
             AgentName::from_text(self.alloc, "a1"),
@@ -140,7 +141,8 @@ impl<
         }
     }
 
-    /// Plays a script, once the agent has reported, and says how many moves of it went as they are to go before one didn't.
+    /// Plays a script, once the agent has reported,
+    /// and says how many moves of it went as they are to go before one didn't.
     fn plays(&mut self, script: &[Move]) -> usize {
         if !self.reports() {
             return 0;
@@ -156,7 +158,7 @@ impl<
     }
 
     /// Plays a script. Then it finishes the office, and is the one that is accepted after that.
-    pub fn play(mut self, script: &[Move]) -> (Pass<Given, L>, usize) {
+    pub fn play(mut self, script: &[Move]) -> (Pass<KeptEntry, L>, usize) {
         let count = self.plays(script);
         self.finish();
         let _last = TcpStream::connect(self.rt, self.to);

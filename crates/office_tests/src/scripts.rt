@@ -2,7 +2,8 @@
 
 use crate::requests::*;
 
-/// What a client does next. Its connections have numbers, from 0 in the order in which they were opened.
+/// What a client does next. Its connections have numbers,
+/// from 0 in the order in which they were opened.
 #[derive(Clone, Copy, Drop)]
 pub enum Move {
     /// Connects, and sends this.
@@ -42,7 +43,8 @@ pub const LOSES_MASTER: &[Move] = &[
     Move::ExpectLast(0, LAST_CHUNK),
 ];
 
-/// Launches a task on one connection while it makes another call on a second; then its stream is hung up.
+/// Launches a task on one connection while it makes another call on a second;
+/// then its stream is hung up.
 pub const OVERLAPS: &[Move] = &[
     Move::Ask(SUBSCRIBE),
     Move::Expect(0, STREAM_HEAD),

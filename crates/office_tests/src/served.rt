@@ -6,9 +6,9 @@ use crate::client::Client;
 use crate::gate::Overlap;
 use crate::scripts::Move;
 use cluster_core::{
-    Cluster, Entry, Given, RecordedCluster, Step, Verdict, fresh_agents_open, fresh_records,
+    Cluster, Entry, KeptEntry, RecordedCluster, Step, Verdict, fresh_agents_open, fresh_records,
 };
-use desk_lock::{Desk, Office, Pass, Passes};
+use desk_lock::{Desk, Office, Pass, Passes, Recorded};
 use http_door::Bench;
 use http_workers::serve_all;
 use master_core::Config;
@@ -67,10 +67,10 @@ fn hangs_up(entry: &Entry) -> bool {
     matches!(entry.step, Step::HangUp(_)) && matches!(entry.verdict, Verdict::Ok)
 }
 
-fn count_hang_ups(entries: &[Entry]) -> usize {
+fn count_hang_ups(entries: &[KeptEntry]) -> usize {
     let mut count = 0usize;
     for entry in entries {
-        if hangs_up(entry) {
+        if hangs_up(entry.get()) {
             count = count.saturating_add(1);
         }
     }
@@ -80,7 +80,7 @@ fn count_hang_ups(entries: &[Entry]) -> usize {
 /// What is left of a client and of the connections.
 #[derive(Drop)]
 struct Left<L: ledger::Ledger> {
-    passes: Passes<Given, L>,
+    passes: Passes<KeptEntry, L>,
     receipts: u64,
     moves: usize,
     /// Whether something failed: a thread, the listener, or memory for a pass.
@@ -98,7 +98,7 @@ impl<L: ledger::Ledger> Left<L> {
     }
 
     /// Hands a pass in, and counts its receipts.
-    fn hand_in(&mut self, pass: Pass<Given, L>) {
+    fn hand_in(&mut self, pass: Pass<KeptEntry, L>) {
         let count = pass.receipts().len() as u64;
         self.receipts = self.receipts.saturating_add(count);
         if self.passes.push(pass).is_err() {
@@ -189,6 +189,20 @@ fn where_accounted(accounted: bool, closed: Closed) -> Option<Closed> {
     if accounted { Some(closed) } else { None }
 }
 
+/// How many entries an office has at its close, and what a look tells of them.
+fn closed_of<C: Recorded, L: ledger::Ledger, T, F: Fn(&C) -> T>(
+    office: Office<C, L>,
+    passes: Passes<C::Entry, L>,
+    look: F,
+) -> Option<(u32, T)>
+    requires { F.IsAlwaysCallable look }
+{
+    match office.close(passes) {
+        Ok(history) => Some((history.len(), look(history.recorded()))),
+        Err(_) => None,
+    }
+}
+
 /// What is seen where each entry but the opening has its receipt.
 fn close_office<L: ledger::Ledger>(
     office: Office<RecordedCluster, L>,
@@ -201,20 +215,22 @@ fn close_office<L: ledger::Ledger>(
         moves,
         failed,
     } = left;
-    match office.close(passes) {
-        Ok(history) => where_accounted(
-            !failed && history.len() as u64 == receipts.saturating_add(1),
+    let look = |recorded: &RecordedCluster| count_hang_ups(recorded.cluster().history());
+    match closed_of(office, passes, look) {
+        Some((count, hang_ups)) => where_accounted(
+            !failed && count as u64 == receipts.saturating_add(1),
             Closed {
                 moves,
                 overlapped,
-                hang_ups: count_hang_ups(history.recorded().cluster().history()),
+                hang_ups,
             },
         ),
-        Err(_) => None,
+        None => None,
     }
 }
 
-/// Serves a client that plays a script, while the call of this number is held until the next is answered.
+/// Serves a client that plays a script,
+/// while the call of this number is held until the next is answered.
 pub fn served<
     L: ledger::Ledger + Send + Sync,
     R: Net<Listener = TcpListener, Stream = TcpStream> + Threads + Wait + Clock + Sync,
@@ -230,7 +246,8 @@ pub fn served<
     close_office(office, left, gate.has_overlapped())
 }
 
-/// Whether who waits on a stream that was never opened is refused: no step is taken, and the stream isn't told to have ended.
+/// Whether who waits on a stream that was never opened is refused: no step is taken,
+/// and the stream isn't told to have ended.
 fn is_refused<L: ledger::Ledger, R: Wait>(
     rt: &R,
     alloc: Global,

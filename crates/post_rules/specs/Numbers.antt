@@ -17,14 +17,21 @@ numbers_are_from_one count n e =
     let last : n ≤ count = grind (arith, nat_tests) in
     (first, last)
 
-next_is_there : (items before : List Item) (i : ℕ) → is_next before (slice_get items i) ≡ true → i < length items
-next_is_there items before i e = elim (slice_get_cases items i).1 [ inl h ↦ h.1 | inr h ↦ let no : is_next before (slice_get items i) ≡ false = rw h.1 refl in absurd (let bad : ⊥ = cc in bad) ]
+next_is_there : (items before : List Item) (i : ℕ) → is_next before (slice_get items i) ≡ true
+    → i < length items
+next_is_there items before i e =
+    elim (slice_get_cases items i).1 [
+      | inl h ↦ h.1
+      | inr h ↦ let no : is_next before (slice_get items i)
+          ≡ false = rw h.1 refl in absurd (let bad : ⊥ = cc in bad)
+    ]
 
 and_parts : (a b : Bool) → (a && b) ≡ true → (a ≡ true) × (b ≡ true)
 and_parts true b e = (refl, e)
 and_parts false b e = cc
 
-pub handed_out_was_put : (items : List Item) (n : ℕ) → hands_out items n ≡ true → (0 < n) × (n ≤ length items)
+pub handed_out_was_put : (items : List Item) (n : ℕ) → hands_out items n ≡ true → (0 < n)
+    × (n ≤ length items)
 handed_out_was_put items n e =
     let parts = and_parts (nat_lt 0 n) (is_next (take (n - 1) items) (slice_get items (n - 1))) e in
     let some : nat_lt 0 n ≡ true = parts.0 in

@@ -35,7 +35,9 @@ direction_in items (suc place) = option_map (λ i. i.direction) (slice_get items
 
 -- this number is that of the first that waits in the queue of a direction
 abbrev pub IsFirstWaiting : Direction → List Item → ℕ → Type 0
-IsFirstWaiting d items n = (hands_out items n ≡ true) × IfSome (slice_get items (n - 1)) (λ i. same_queue d i.direction ≡ true)
+IsFirstWaiting d items n =
+    (hands_out items n ≡ true)
+    × IfSome (slice_get items (n - 1)) (λ i. same_queue d i.direction ≡ true)
 
 abbrev pub handed_over : Item → Item
 handed_over i = record { direction = i.direction; given = true }
@@ -46,7 +48,10 @@ WasGiven items n = (0 < n) × (i : Item) × (slice_get items (n - 1) ≡ Some i)
 
 -- all mails that were put before it in its queue were handed out
 abbrev pub AreBeforeGiven : List Item → ℕ → Type 0
-AreBeforeGiven items n = (m : ℕ) (i j : Item) → 0 < m → m < n → slice_get items (m - 1) ≡ Some i → slice_get items (n - 1) ≡ Some j → same_queue j.direction i.direction ≡ true → WasGiven items m
+AreBeforeGiven items n =
+    (m : ℕ) (i j : Item) → 0 < m → m < n → slice_get items (m - 1) ≡ Some i
+    → slice_get items (n - 1) ≡ Some j → same_queue j.direction i.direction ≡ true
+    → WasGiven items m
 
 -- one more was put
 abbrev pub with_put : List Item → Direction → List Item
@@ -54,7 +59,8 @@ with_put items d = items ++ record { direction = d; given = false } ∷ []
 
 -- the item of this number was handed out
 abbrev pub with_given : List Item → ℕ → List Item
-with_given items n = unwrap_or (option_map (λ i. set items (n - 1) (handed_over i)) (slice_get items (n - 1))) items
+with_given items n =
+    unwrap_or (option_map (λ i. set items (n - 1) (handed_over i)) (slice_get items (n - 1))) items
 
 -- what was put, in order, and how many more can be put without memory
 pub record Post : Type 0 where

@@ -1,5 +1,6 @@
--- How queues are kept: with each item the numbers of the one before it and of the one behind it in its queue, of each queue the number of its last, and with that one the
--- number of the first that waits there.
+-- How queues are kept: with each item the numbers of the one before it and of the one behind it in
+-- its queue, of each queue the number of its last, and with that one the number of the first that
+-- waits there.
 use Rattle.std.specs.Prelude.{◌≡◌, ◌<◌, ◌≤◌, ℕ, suc, zero, ◌-◌, List, true, false, take, length, map, nat_eq, set, unwrap_or, option_map, Some}
 use Rattle.std.specs.List.{slice_get}
 use Rattle.std.specs.declared.hash.FoldHasher.{FoldHasher}
@@ -33,22 +34,29 @@ given_sent s = record { direction = s.direction; previous = s.previous; given = 
 abbrev pub items_of : List Sent → List Item
 items_of sent = map item_of sent
 
--- of these, the last in the queue of a direction has this number, or there is none and the number is 0
+-- of these, the last in the queue of a direction has this number,
+-- or there is none and the number is 0
 pub record IsLast (d : Direction) (sent : List Sent) (last : ℕ) : Type 0 where
   pub within : last ≤ length sent
-  pub found : (s : Sent) → 0 < last → slice_get sent (last - 1) ≡ Some s → same_queue d s.direction ≡ true
-  pub above : (i : ℕ) (s : Sent) → last ≤ i → slice_get sent i ≡ Some s → same_queue d s.direction ≡ false
+  pub found : (s : Sent) → 0 < last → slice_get sent (last - 1) ≡ Some s
+      → same_queue d s.direction ≡ true
+  pub above : (i : ℕ) (s : Sent) → last ≤ i → slice_get sent i ≡ Some s
+      → same_queue d s.direction ≡ false
 
 -- each queue is handed out in order, and with each item the number of the one before it is kept
 pub record AreInOrder (sent : List Sent) : Type 0 where
-  pub chained : (i : ℕ) (s : Sent) → slice_get sent i ≡ Some s → IsLast s.direction (take i sent) s.previous
-  pub in_order : (i j : ℕ) (s t : Sent) → i < j → slice_get sent i ≡ Some s → slice_get sent j ≡ Some t → same_queue t.direction s.direction ≡ true → t.given ≡ true → s.given ≡ true
+  pub chained : (i : ℕ) (s : Sent) → slice_get sent i ≡ Some s
+      → IsLast s.direction (take i sent) s.previous
+  pub in_order : (i j : ℕ) (s t : Sent) → i < j → slice_get sent i ≡ Some s
+      → slice_get sent j ≡ Some t → same_queue t.direction s.direction ≡ true → t.given ≡ true
+      → s.given ≡ true
 
 -- of each queue the number of its last is kept
 abbrev pub AreLasts : List Sent → LastsByAgent → Type 0
 AreLasts sent m = (d : Direction) → IsLast d sent (last_in m d)
 
--- this number is that of the first that waits in the queue of a direction, or nothing waits there and the number is 0
+-- this number is that of the first that waits in the queue of a direction,
+-- or nothing waits there and the number is 0
 abbrev pub IsFirstOrNone : Direction → List Item → ℕ → Type 0
 IsFirstOrNone d items zero = nothing_waits d items ≡ true
 IsFirstOrNone d items (suc n) = IsFirstWaiting d items (suc n)
@@ -58,16 +66,20 @@ abbrev pub before : ℕ → List Sent → List Sent
 before zero sent = sent
 before (suc n) sent = take n sent
 
--- of the queue of a direction, the one behind this number has the number `next`, or there is none and `next` is 0
+-- of the queue of a direction, the one behind this number has the number `next`,
+-- or there is none and `next` is 0
 pub record IsFollowed (d : Direction) (sent : List Sent) (number next : ℕ) : Type 0 where
   pub last : IsLast d (before next sent) number
   pub within : next ≤ length sent
-  pub found : (s : Sent) → 0 < next → slice_get sent (next - 1) ≡ Some s → same_queue d s.direction ≡ true
+  pub found : (s : Sent) → 0 < next → slice_get sent (next - 1) ≡ Some s
+      → same_queue d s.direction ≡ true
 
--- the number that the link of the last in a queue tells as the first that waits there, 0 where there is no last
+-- the number that the link of the last in a queue tells as the first that waits there,
+-- 0 where there is no last
 abbrev pub first_in : List Link → ℕ → ℕ
 first_in links zero = 0
-first_in links (suc place) = unwrap_or (option_map (λ (k : Link). k.first) (slice_get links place)) 0
+first_in links (suc place) =
+    unwrap_or (option_map (λ (k : Link). k.first) (slice_get links place)) 0
 
 -- the first that waits once one more is put
 abbrev pub first_with : ℕ → ℕ → ℕ
@@ -76,14 +88,22 @@ first_with (suc waiting) number = suc waiting
 
 abbrev pub with_next : ℕ → ℕ → List Link → List Link
 with_next zero number links = links
-with_next (suc place) number links = unwrap_or (option_map (λ (k : Link). set links place (record { next = number; first = k.first })) (slice_get links place)) links
+with_next (suc place) number links =
+    unwrap_or
+    (option_map (λ (k : Link). set links place (record { next = number; first = k.first }))
+    (slice_get links place)) links
 
 abbrev pub with_first : ℕ → ℕ → List Link → List Link
 with_first zero number links = links
-with_first (suc place) number links = unwrap_or (option_map (λ (k : Link). set links place (record { next = k.next; first = number })) (slice_get links place)) links
+with_first (suc place) number links =
+    unwrap_or (option_map (λ (k : Link). set links place (record { next = k.next; first = number }))
+    (slice_get links place)) links
 
--- with each mail the number of the one behind it in its queue is kept, and with the last of each queue that of the first that waits there
+-- with each mail the number of the one behind it in its queue is kept,
+-- and with the last of each queue that of the first that waits there
 pub record AreLinked (sent : List Sent) (m : LastsByAgent) (links : List Link) : Type 0 where
   pub as_many : length links ≡ length sent
-  pub followed : (i : ℕ) (s : Sent) (k : Link) → slice_get sent i ≡ Some s → slice_get links i ≡ Some k → same_queue s.direction s.direction ≡ true → IsFollowed s.direction sent (suc i) k.next
+  pub followed : (i : ℕ) (s : Sent) (k : Link) → slice_get sent i ≡ Some s
+      → slice_get links i ≡ Some k → same_queue s.direction s.direction ≡ true
+      → IsFollowed s.direction sent (suc i) k.next
   pub firsts : (d : Direction) → IsFirstOrNone d (items_of sent) (first_in links (last_in m d))

@@ -4,12 +4,16 @@ ghost use Rattle.std.specs.Prelude.{◌≡◌, true, false, List, ℕ};
 ghost use Rattle.post_rules.specs.Queueing.{AreBeforeGiven, Item, WasGiven, hands_out, with_given, with_put};
 ghost use Rattle.post_rules.specs.declared.direction.Direction.{Direction};
 
-/// A number that queues handed out isn't handed out again, whatever is put and handed out since; and when a mail is handed out, all mails that were put before it
-/// in its queue were.
+/// A number that queues handed out isn't handed out again, whatever is put and handed out since;
+/// and when a mail is handed out, all mails that were put before it in its queue were.
 pub fn queues_hand_out_once()
-    ensures given { (items : List Item) (n : ℕ) → hands_out items n ≡ true → WasGiven (with_given items n) n }
-    ensures for_ever { (items : List Item) (n m : ℕ) → WasGiven items n → WasGiven (with_given items m) n }
-    ensures behind { (items : List Item) (n : ℕ) (d : Direction) → WasGiven items n → WasGiven (with_put items d) n }
+    ensures given { (items : List Item) (n : ℕ) → hands_out items n ≡ true
+        → WasGiven (with_given items n) n }
+    ensures for_ever { (items : List Item) (n m : ℕ) → WasGiven items n
+        → WasGiven (with_given items m) n }
+    ensures behind { (items : List Item) (n : ℕ) (d : Direction) → WasGiven items n
+        → WasGiven (with_put items d) n }
     ensures once { (items : List Item) (n : ℕ) → WasGiven items n → hands_out items n ≡ false }
-    ensures in_order { (items : List Item) (n : ℕ) → hands_out items n ≡ true → AreBeforeGiven items n }
+    ensures in_order { (items : List Item) (n : ℕ) → hands_out items n ≡ true
+        → AreBeforeGiven items n }
 {}

@@ -50,8 +50,10 @@ pub trait Post {
         ensures known { known self.new ≡ with_put (known self.old) direction }
         ensures count { count (known self.new) ≡ suc (count (known self.old)) }
         ensures room { room self.old ≤ suc (room self.new) }
-        ensures gives { (n : ℕ) → n ≤ count (known self.old) → gives (known self.new) n ≡ gives (known self.old) n }
-        ensures newest { IfSome (direction_at (known self.new) (suc (count (known self.old)))) (λ kept. kept ≡ direction) }
+        ensures gives { (n : ℕ) → n ≤ count (known self.old)
+            → gives (known self.new) n ≡ gives (known self.old) n }
+        ensures newest { IfSome (direction_at (known self.new) (suc (count (known self.old))))
+            (λ kept. kept ≡ direction) }
         ensures directions { (n : ℕ) → n ≤ count (known self.old) → direction_at (known self.new) n ≡ direction_at (known self.old) n };
 
     /// Whether this number can be handed out.

@@ -9,7 +9,8 @@ use crate::stores::Stores;
 use std::alloc::{AllocError, Global};
 use std::marker::Model;
 
-/// Each call is handed out once, and the mails to an agent, and those from it, once and in their order.
+/// Each call is handed out once, and the mails to an agent, and those from it,
+/// once and in their order.
 #[derive(Drop)]
 pub struct Queues {
     /// None before the first room is made.
@@ -70,12 +71,16 @@ impl Post for Queues {
         ensures items { self.new.items ≡ with_put self.old.items direction }
         ensures room { self.old.room ≤ suc self.new.room }
         // leaves what can be handed out of that as it was,
-        ensures older { (n : ℕ) → n ≤ length self.old.items → hands_out self.new.items n ≡ hands_out self.old.items n }
+        ensures older { (n : ℕ) → n ≤ length self.old.items
+            → hands_out self.new.items n ≡ hands_out self.old.items n }
         // and can be handed out at once if nothing in its queue waits.
-        ensures newest { hands_out self.new.items (suc (length self.old.items)) ≡ nothing_waits direction self.old.items }
+        ensures newest { hands_out self.new.items (suc (length self.old.items))
+            ≡ nothing_waits direction self.old.items }
         // Its direction is kept, and so are those before.
-        ensures direction { direction_in self.new.items (suc (length self.old.items)) ≡ Some direction }
-        ensures directions { (n : ℕ) → n ≤ length self.old.items → direction_in self.new.items n ≡ direction_in self.old.items n }
+        ensures direction { direction_in self.new.items (suc (length self.old.items))
+            ≡ Some direction }
+        ensures directions { (n : ℕ) → n ≤ length self.old.items
+            → direction_in self.new.items n ≡ direction_in self.old.items n }
     {
         if let Some(stores) = &mut self.stores {
             stores.put(direction);
@@ -96,7 +101,8 @@ impl Post for Queues {
         ensures items { self.new.items ≡ with_given self.old.items n }
         ensures room { self.new.room ≡ self.old.room }
         ensures once { hands_out self.new.items n ≡ false }
-        ensures directions { (m : ℕ) → direction_in self.new.items m ≡ direction_in self.old.items m }
+        ensures directions { (m : ℕ) → direction_in self.new.items m
+            ≡ direction_in self.old.items m }
     {
         if let Some(stores) = &mut self.stores {
             stores.given(n);
@@ -105,7 +111,8 @@ impl Post for Queues {
 }
 
 impl Queues {
-    /// The number of the first that waits in the queue of a direction, None where nothing waits there; calls wait in none.
+    /// The number of the first that waits in the queue of a direction,
+    /// None where nothing waits there; calls wait in none.
     pub fn first_waiting(&self, direction: Direction) -> Option<u64>
         ensures first { IfSome result (IsFirstWaiting direction self.now.items) }
         ensures none { IfNone result (nothing_waits direction self.now.items ≡ true) }

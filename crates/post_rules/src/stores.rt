@@ -31,7 +31,8 @@ struct Lasts {
 struct Link {
     /// The number of the one behind it in its queue; 0 where there is none.
     next: usize,
-    /// Of the last in a queue, the number of the first that waits there; 0 where nothing does. Of others it says nothing.
+    /// Of the last in a queue, the number of the first that waits there; 0 where nothing does.
+    /// Of others it says nothing.
     first: usize,
 }
 
@@ -82,7 +83,8 @@ fn last_in(lasts: &HashMap<usize, Lasts>, direction: Direction) -> usize
 /// This number is the last in the direction's queue now.
 fn set_last(lasts: &mut HashMap<usize, Lasts>, direction: Direction, number: usize)
     requires { 0 < spare lasts.old }
-    ensures lasts { (d : Direction) → last_in lasts.new d ≡ (if same_queue direction d then number else last_in lasts.old d) }
+    ensures lasts { (d : Direction) → last_in lasts.new d
+        ≡ (if same_queue direction d then number else last_in lasts.old d) }
     ensures room { spare lasts.old ≤ spare lasts.new + 1 }
 {
     let (agent, now) = match direction {
@@ -108,7 +110,8 @@ fn set_last(lasts: &mut HashMap<usize, Lasts>, direction: Direction, number: usi
 /// Whether the one at this place waits, and nothing before it in its queue does.
 fn is_next(sent: &[Sent], index: usize) -> bool
     requires { AreInOrder sent.now }
-    ensures { result ≡ is_next (take index (items_of sent.now)) (slice_get (items_of sent.now) index) }
+    ensures { result ≡ is_next (take index (items_of sent.now))
+        (slice_get (items_of sent.now) index) }
 {
     match sent.get(index) {
         None => false,
@@ -121,7 +124,8 @@ fn is_next(sent: &[Sent], index: usize) -> bool
     }
 }
 
-/// The number of the first that waits in the queue whose last has this number; 0 where nothing waits there.
+/// The number of the first that waits in the queue whose last has this number;
+/// 0 where nothing waits there.
 fn first_in(links: &[Link], last: usize) -> usize
     requires { last ≤ length links.now }
     ensures { result ≡ first_in links.now last }
@@ -129,7 +133,8 @@ fn first_in(links: &[Link], last: usize) -> usize
     if last == 0 { 0 } else { links[last - 1].first }
 }
 
-/// Which is the first that waits once this number is put, where the first that waited before has that one, or none did and it is 0.
+/// Which is the first that waits once this number is put,
+/// where the first that waited before has that one, or none did and it is 0.
 fn first_with(waiting: usize, number: usize) -> usize
     ensures { result ≡ first_with waiting number }
 {
@@ -162,7 +167,8 @@ fn set_next(links: &mut Vec<Link>, before: usize, number: usize)
 
 fn hand_out(sent: &mut Vec<Sent>, index: usize)
     requires { index < length sent.old.items }
-    ensures items { (s : Sent) → slice_get sent.old.items index ≡ Some s → sent.new.items ≡ set sent.old.items index (given_sent s) }
+    ensures items { (s : Sent) → slice_get sent.old.items index ≡ Some s
+        → sent.new.items ≡ set sent.old.items index (given_sent s) }
     ensures room { vec_capacity sent.new ≡ vec_capacity sent.old }
 {
     let item = &mut sent[index];
@@ -195,10 +201,14 @@ impl Stores {
         requires { 0 < self.old.room }
         ensures items { self.new.items ≡ with_put self.old.items direction }
         ensures room { self.old.room ≤ suc self.new.room }
-        ensures older { (n : ℕ) → n ≤ length self.old.items → hands_out self.new.items n ≡ hands_out self.old.items n }
-        ensures newest { hands_out self.new.items (suc (length self.old.items)) ≡ nothing_waits direction self.old.items }
-        ensures direction { direction_in self.new.items (suc (length self.old.items)) ≡ Some direction }
-        ensures directions { (n : ℕ) → n ≤ length self.old.items → direction_in self.new.items n ≡ direction_in self.old.items n }
+        ensures older { (n : ℕ) → n ≤ length self.old.items
+            → hands_out self.new.items n ≡ hands_out self.old.items n }
+        ensures newest { hands_out self.new.items (suc (length self.old.items))
+            ≡ nothing_waits direction self.old.items }
+        ensures direction { direction_in self.new.items (suc (length self.old.items))
+            ≡ Some direction }
+        ensures directions { (n : ℕ) → n ≤ length self.old.items
+            → direction_in self.new.items n ≡ direction_in self.old.items n }
     {
         let previous = last_in(&self.lasts, direction);
         let waiting = first_in(&self.links, previous);
@@ -222,7 +232,8 @@ impl Stores {
         0 < n && is_next(&self.sent, (n - 1) as usize)
     }
 
-    /// The number of the first that waits in the queue of a direction, None where nothing waits there.
+    /// The number of the first that waits in the queue of a direction,
+    /// None where nothing waits there.
     pub(crate) fn first_waiting(&self, direction: Direction) -> Option<u64>
         ensures first { IfSome result (IsFirstWaiting direction self.now.items) }
         ensures none { IfNone result (nothing_waits direction self.now.items ≡ true) }
@@ -241,7 +252,8 @@ impl Stores {
         ensures items { self.new.items ≡ with_given self.old.items n }
         ensures room { self.new.room ≡ self.old.room }
         ensures once { hands_out self.new.items n ≡ false }
-        ensures directions { (m : ℕ) → direction_in self.new.items m ≡ direction_in self.old.items m }
+        ensures directions { (m : ℕ) → direction_in self.new.items m
+            ≡ direction_in self.old.items m }
     {
         let index = (n - 1) as usize;
         let last = last_in(&self.lasts, self.sent[index].direction);

@@ -27,6 +27,9 @@ abbrev pub rows_past : List ℕ → List Row → List Row
 rows_past name [] = []
 rows_past name (r ∷ rows) = if pointwise nat_eq r.name name then rows else r ∷ rows
 
--- what a sum has from the rows before another row, and from that row with what the rows have of its name
+-- what a sum has from the rows before another row,
+-- and from that row with what the rows have of its name
 abbrev pub sum_upto : List Row → Row → List Row
-sum_upto rows o = take (count_below o.name rows) rows ++ row o.name (front_amount o.name (rows_from o.name rows) + o.amount) ∷ []
+sum_upto rows o =
+    take (count_below o.name rows) rows
+    ++ row o.name (front_amount o.name (rows_from o.name rows) + o.amount) ∷ []

@@ -10,7 +10,8 @@ is_name_byte b = nat_lt 32 b && not (b == 127) && not (b == 47) && not (b == 92)
 
 -- a name is 1 to 64 such bytes
 abbrev pub is_resource_name : List ℕ → Bool
-is_resource_name text = nat_lt 0 (length text) && nat_le (length text) 64 && list_all is_name_byte text
+is_resource_name text =
+    nat_lt 0 (length text) && nat_le (length text) 64 && list_all is_name_byte text
 
 -- the name that a text is
 abbrev pub name_of : List ℕ → Result (List ℕ) QuantityFault

@@ -69,8 +69,8 @@ impl Resources {
         rows::covers(&self.rows, &other.rows)
     }
 
-    /// Adds an amount of one name; an amount of 0 adds nothing. What is wrong is told in this order:
-    /// `Q5 BadName` for a text that names no resource, `Q2 TooLarge` for a sum over 2^40,
+    /// Adds an amount of one name; an amount of 0 adds nothing. What is wrong is told in this
+    /// order: `Q5 BadName` for a text that names no resource, `Q2 TooLarge` for a sum over 2^40,
     /// `Q4 TooManyNames` for a ninth name. A refusal changes nothing.
     pub fn add(&mut self, alloc: Global, name: &str, amount: u64) -> Result<(), QuantityFault>
         ensures ok { OnOk result (added name.now amount self.old ≡ Ok self.new) }
@@ -91,7 +91,8 @@ impl Resources {
     pub fn plus(&self, alloc: Global, other: &Resources) -> Result<Resources, QuantityFault>
         ensures ok { IfOk result (λ sum. sum_of self.now other.now ≡ Ok sum) }
         ensures refused { IfErr result (λ fault. IsRefusal fault (sum_of self.now other.now)) }
-        ensures sum { IfOk result (λ sum. (name : List ℕ) → amount name sum ≡ amount name self.now + amount name other.now) }
+        ensures sum { IfOk result (λ sum. (name : List ℕ)
+            → amount name sum ≡ amount name self.now + amount name other.now) }
     {
         let rows = rows::merged(alloc, &self.rows, &other.rows)?;
         rows::check_limits(&rows)?;
@@ -101,8 +102,10 @@ impl Resources {
     /// The difference, name by name; `Q3 NotCovered` where `other` has more of some name.
     pub fn minus(&self, alloc: Global, other: &Resources) -> Result<Resources, QuantityFault>
         ensures ok { IfOk result (λ rest. difference_of self.now other.now ≡ Ok rest) }
-        ensures refused { IfErr result (λ fault. IsRefusal fault (difference_of self.now other.now)) }
-        ensures difference { IfOk result (λ rest. (name : List ℕ) → amount name rest + amount name other.now ≡ amount name self.now) }
+        ensures refused { IfErr result
+            (λ fault. IsRefusal fault (difference_of self.now other.now)) }
+        ensures difference { IfOk result (λ rest. (name : List ℕ)
+            → amount name rest + amount name other.now ≡ amount name self.now) }
     {
         if !self.covers(other) {
             return Err(QuantityFault::NotCovered);
@@ -112,10 +115,12 @@ impl Resources {
         Ok(rest)
     }
 
-    /// Takes away what `other` has of each name, or all there is where `other` has more. It takes no memory.
+    /// Takes away what `other` has of each name,
+    /// or all there is where `other` has more. It takes no memory.
     pub fn reduce_by(&mut self, other: &Resources)
         ensures rest { self.new ≡ rest_of self.old other.now }
-        ensures less { (name : List ℕ) → amount name self.new ≡ amount name self.old - amount name other.now }
+        ensures less { (name : List ℕ) → amount name self.new
+            ≡ amount name self.old - amount name other.now }
     {
         rows::reduce(&mut self.rows, &other.rows);
     }

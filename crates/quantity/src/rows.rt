@@ -125,8 +125,8 @@ fn take_away(rows: &mut [Row], others: &[Row])
     }
 }
 
-/// Adds to a sum the rows that stand before another row, and that row with what there is of its name.
-/// It gives the rows that stand behind.
+/// Adds to a sum the rows that stand before another row,
+/// and that row with what there is of its name. It gives the rows that stand behind.
 fn push_sum<'a>(
     alloc: Global,
     sum: &mut Vec<Row>,
@@ -137,7 +137,8 @@ fn push_sum<'a>(
     requires rest_are { AllByRecursion IsRow rest.now }
     requires other_is { IsRow other.now }
     ensures sum { OnOk result (sum.new.items ≡ sum.old.items ++ sum_upto rest.now other.now) }
-    ensures behind { IfOk result (λ behind. behind.now ≡ rows_past other.now.name (rows_from other.now.name rest.now)) }
+    ensures behind { IfOk result (λ behind. behind.now
+        ≡ rows_past other.now.name (rows_from other.now.name rest.now)) }
 {
     let name = other.name.as_str();
     let below = count_below(rest, name);
@@ -211,8 +212,10 @@ pub(crate) fn raise(
 ) -> Result<(), QuantityFault>
     requires are { AreRows rows.old.items }
     requires named { IsTrue (is_resource_name name.now) }
-    ensures ok { OnOk result (within_limits (raised name.now amount rows.old.items) ≡ Ok rows.new.items) }
-    ensures refused { IfErr result (λ fault. IsRefusal fault (within_limits (raised name.now amount rows.old.items))) }
+    ensures ok { OnOk result (within_limits (raised name.now amount rows.old.items)
+        ≡ Ok rows.new.items) }
+    ensures refused { IfErr result
+        (λ fault. IsRefusal fault (within_limits (raised name.now amount rows.old.items))) }
     ensures err { OnErr result (rows.new.items ≡ rows.old.items) }
 {
     let place = count_below(rows, name);

@@ -94,7 +94,8 @@ resources_in name d = get name d >>= as_object >>= rows_in []
 -- ---- tasks and records
 
 abbrev pub updates_from : List TaskState → ℕ → Option Updates
-updates_from states count = where_true (are_updates states count) (record { states = states; acknowledged = count })
+updates_from states count =
+    where_true (are_updates states count) (record { states = states; acknowledged = count })
 
 unfoldable pub updates_in : Data → Option Updates
 updates_in d = do
@@ -114,7 +115,17 @@ task_of d = do
   offers ← offers_in d
   resources ← resources_in (codes "resources") d
   updates ← updates_in d
-  Some (record { job = record { key = key; framework = framework; name = name; resources = resources }; offers = offers; updates = updates })
+  Some
+      (record {
+        job = record {
+          key = key;
+          framework = framework;
+          name = name;
+          resources = resources;
+        };
+        offers = offers;
+        updates = updates;
+      })
 
 unfoldable pub tasks_in : Data → Option (List RecordedTask)
 tasks_in d = list_in (codes "tasks") d >>= each_in (adds task_of) []

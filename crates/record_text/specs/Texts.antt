@@ -33,7 +33,8 @@ task_data t = object
     (member (codes "name") (string t.job.name)
     (member (codes "offers") (list_data (λ offer. string (id_text 79 offer)) t.offers)
     (member (codes "resources") (amounts t.job.resources)
-    (member (codes "updates") (list_data (λ state. string (state_text state)) t.updates.states) no_members)))))))
+    (member (codes "updates") (list_data (λ state. string (state_text state)) t.updates.states)
+    no_members)))))))
 
 -- a record, and the version of its written form
 unfoldable pub record_data : ℕ → Durable → Data

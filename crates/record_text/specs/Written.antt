@@ -12,9 +12,11 @@ use Rattle.record_text.specs.Texts.{record_form, first_form}
 
 -- what the types of a job's parts keep: ids, a name and amounts
 abbrev pub IsJob : Job → Type 0
-IsJob job = InRange job.key × InRange job.framework × (is_name job.name ≡ true) × AreRows job.resources
+IsJob job =
+    InRange job.key × InRange job.framework × (is_name job.name ≡ true) × AreRows job.resources
 
--- what the types of a task's parts keep: ids, a name, amounts, and updates of which so many are acknowledged
+-- what the types of a task's parts keep: ids, a name, amounts,
+-- and updates of which so many are acknowledged
 pub record IsTask (t : RecordedTask) : Type 0 where
   pub key : InRange t.job.key
   pub framework : InRange t.job.framework

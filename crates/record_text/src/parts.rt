@@ -27,7 +27,8 @@ pub fn task_text(alloc: Global, task: &RecordedTask) -> Result<String, AllocErro
     value.to_string(alloc)
 }
 
-/// The task that a text is the written form of, and nothing else. `K2 Damaged` where it is none's; `K4 OutOfMemory` may come before it.
+/// The task that a text is the written form of, and nothing else. `K2 Damaged` where it is none's;
+/// `K4 OutOfMemory` may come before it.
 #[tactic(auto, unfolding(crate::specs::Reading::task_in))]
 pub fn task_of_text(alloc: Global, text: &str) -> Result<Shared<RecordedTask>, RecordFault>
     ensures form { IfOk result (λ t. text.now ≡ task_form t) }
@@ -61,7 +62,8 @@ fn total_of(alloc: Global, value: &Value) -> Result<Resources, RecordFault>
     all_of(alloc, members)
 }
 
-/// The total that a text is the written form of, and nothing else. `K2 Damaged` where it is none's; `K4 OutOfMemory` may come before it.
+/// The total that a text is the written form of, and nothing else. `K2 Damaged` where it is none's;
+/// `K4 OutOfMemory` may come before it.
 #[tactic(auto, unfolding(crate::specs::Reading::total_in))]
 pub fn total_of_text(alloc: Global, text: &str) -> Result<Resources, RecordFault>
     ensures form { IfOk result (λ rows. text.now ≡ total_form rows) }

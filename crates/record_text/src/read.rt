@@ -80,8 +80,9 @@ fn read_form(alloc: Global, text: &str) -> Result<Durable, RecordFault>
     Ok(record)
 }
 
-/// The record that a text is the written form of, of version 2 or 1, and nothing else: other spaces, members, or another order of members are refused.
-/// Whether an agent can have it isn't looked at.
+/// The record that a text is the written form of, of version 2 or 1, and nothing else: other
+/// spaces, members, or another order of members are refused. Whether an agent can have it isn't
+/// looked at.
 ///
 /// `K2 Damaged` where the text is no record's written form; `K4 OutOfMemory` may come before it.
 pub fn record_of(alloc: Global, text: &str) -> Result<Durable, RecordFault>

@@ -39,7 +39,8 @@ pub fn amounts_value(alloc: Global, resources: &Resources) -> Result<Value, Allo
 
 /// The ids of offers, as an array of texts.
 pub fn offers_value(alloc: Global, offers: &[OfferId]) -> Result<Value, AllocError>
-    ensures value { IfOk result (λ v. view v ≡ list_data (λ offer. string (id_text 79 offer)) offers.now) }
+    ensures value { IfOk result
+        (λ v. view v ≡ list_data (λ offer. string (id_text 79 offer)) offers.now) }
     ensures in_range { IfOk result (λ _. AllByRecursion InRange offers.now) }
 {
     let mut values = Vec::with_capacity(alloc, offers.len())?;
@@ -53,7 +54,8 @@ pub fn offers_value(alloc: Global, offers: &[OfferId]) -> Result<Value, AllocErr
 }
 
 fn states_value(alloc: Global, states: &[TaskState]) -> Result<Value, AllocError>
-    ensures { IfOk result (λ v. view v ≡ list_data (λ state. string (state_text state)) states.now) }
+    ensures { IfOk result (λ v. view v ≡ list_data (λ state. string (state_text state))
+        states.now) }
 {
     let mut values = Vec::with_capacity(alloc, states.len())?;
     for state in states {
@@ -147,7 +149,9 @@ fn put_record(
     durable: &Durable,
 ) -> Result<(), AllocError>
     requires { members.old.entries ≡ [] }
-    ensures value { (version : ℕ) → OnOk result (versioned version (members_view members.new.entries) ≡ record_data version durable.now) }
+    ensures value { (version : ℕ)
+        → OnOk result (versioned version (members_view members.new.entries)
+        ≡ record_data version durable.now) }
     ensures durable { OnOk result (IsDurable durable.now) }
 {
     let run = durable.run;
@@ -172,8 +176,8 @@ fn record_value(alloc: Global, durable: &Durable, version: u64) -> Result<Value,
     Ok(Value::Object(members))
 }
 
-/// The written form of a record: compact JSON (RFC 8259), in which an object's members stand in byte order of their names, and
-/// tasks by launch key; its version is 2.
+/// The written form of a record: compact JSON (RFC 8259), in which an object's members stand in
+/// byte order of their names, and tasks by launch key; its version is 2.
 pub fn record_text(alloc: Global, durable: &Durable) -> Result<String, AllocError>
     ensures text { IfOk result (λ text. string_bytes text ≡ record_form durable.now) }
     ensures durable { IfOk result (λ _. IsDurable durable.now) }

@@ -38,7 +38,8 @@ fn stated_one(
     }
 }
 
-/// The tasks once a state came to the task of a key, unless it has ended. There has to be a place for the state.
+/// The tasks once a state came to the task of a key, unless it has ended.
+/// There has to be a place for the state.
 pub fn stated_all(
     alloc: Global,
     key: LaunchKey,
@@ -76,14 +77,16 @@ fn drop_done(tasks: &mut Vec<Shared<RecordedTask>>)
     tasks.retain(|task| !task.updates.done());
 }
 
-/// The tasks once update `k` of the task of a key is acknowledged, if it is its front; those that are done then are left out.
+/// The tasks once update `k` of the task of a key is acknowledged, if it is its front;
+/// those that are done then are left out.
 pub fn acknowledged_all(
     alloc: Global,
     key: LaunchKey,
     k: u32,
     tasks: &[Shared<RecordedTask>],
 ) -> Result<Vec<Shared<RecordedTask>>, AllocError>
-    ensures { IfOk result (λ v. v.items ≡ filter (λ t. not (is_done t.updates)) (map (acknowledged key k) tasks.now)) }
+    ensures { IfOk result (λ v. v.items ≡ filter (λ t. not (is_done t.updates))
+        (map (acknowledged key k) tasks.now)) }
 {
     let mut changed = Vec::with_capacity(alloc, tasks.len())?;
     for task in tasks {
@@ -99,7 +102,8 @@ pub fn without_framework(
     framework: FrameworkId,
     tasks: &[Shared<RecordedTask>],
 ) -> Result<Vec<Shared<RecordedTask>>, AllocError>
-    ensures { IfOk result (λ v. v.items ≡ filter (λ t. not (same t.job.framework framework)) tasks.now) }
+    ensures { IfOk result (λ v. v.items ≡ filter (λ t. not (same t.job.framework framework))
+        tasks.now) }
 {
     let mut kept = Vec::new(alloc);
     for task in tasks {
@@ -119,7 +123,8 @@ pub fn is_front_at(key: LaunchKey, k: u32, tasks: &[Shared<RecordedTask>]) -> bo
         .any(|task| is_of_key(key, task) && task.updates.is_front(k))
 }
 
-/// The key of the task whose front is sent after an Ack of its update `k`: none where that update isn't its front.
+/// The key of the task whose front is sent after an Ack of its update `k`:
+/// none where that update isn't its front.
 pub fn front_sent_after(key: LaunchKey, k: u32, tasks: &[Shared<RecordedTask>]) -> Option<LaunchKey>
     ensures { result ≡ (if is_front_at key k tasks.now then Some key else None) }
 {
@@ -154,7 +159,8 @@ fn has_full_task(key: LaunchKey, tasks: &[Shared<RecordedTask>]) -> bool
 
 /// Whether a state finds no place at the task of this key.
 pub fn lacks_place(key: LaunchKey, state: TaskState, tasks: &[Shared<RecordedTask>]) -> bool
-    ensures { result ≡ (needs_place state && list_any (λ t. is_task key t && is_full t.updates) tasks.now) }
+    ensures { result
+        ≡ (needs_place state && list_any (λ t. is_task key t && is_full t.updates) tasks.now) }
 {
     !state.is_terminal() && has_full_task(key, tasks)
 }

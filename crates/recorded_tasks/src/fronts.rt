@@ -1,4 +1,5 @@
-//! What of a record's tasks is sent: all of them in a Report, and the updates that aren't acknowledged.
+//! What of a record's tasks is sent: all of them in a Report,
+//! and the updates that aren't acknowledged.
 
 ghost use Rattle.std.specs.Prelude.{◌≡◌, ◌++◌, IfOk, OnOk, map, filter, flat_map};
 ghost use Rattle.cluster_model.specs.Agents.{state_at, sent_count, reported, front_of, is_task};
@@ -89,7 +90,8 @@ pub fn push_fronts(
     session: u32,
     tasks: &[Shared<RecordedTask>],
 ) -> Result<(), AllocError>
-    ensures { OnOk result (mails.new.items ≡ mails.old.items ++ flat_map (front_of session) tasks.now) }
+    ensures { OnOk result (mails.new.items ≡ mails.old.items
+        ++ flat_map (front_of session) tasks.now) }
 {
     for task in tasks {
         push_front(mails, session, task)?;
@@ -104,7 +106,8 @@ pub fn push_fronts_at(
     key: LaunchKey,
     tasks: &[Shared<RecordedTask>],
 ) -> Result<(), AllocError>
-    ensures { OnOk result (mails.new.items ≡ mails.old.items ++ flat_map (front_of session) (filter (is_task key) tasks.now)) }
+    ensures { OnOk result (mails.new.items ≡ mails.old.items
+        ++ flat_map (front_of session) (filter (is_task key) tasks.now)) }
 {
     for task in tasks {
         if is_of_key(key, task) {

@@ -1,4 +1,5 @@
-//! The tasks of an agent's record: what becomes of all of them at a change of one, and what of them is sent.
+//! The tasks of an agent's record: what becomes of all of them at a change of one,
+//! and what of them is sent.
 #![tactic(auto)]
 
 mod edits;

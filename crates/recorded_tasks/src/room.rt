@@ -13,7 +13,8 @@ use std::alloc::{AllocError, Global};
 
 /// Takes resources away where they are covered, and tells whether they were.
 fn take(rest: &mut Resources, resources: &Resources) -> bool
-    ensures { (more : List Row) → covers rest.old (resources.now ++ more) ≡ (result && covers rest.new more) }
+    ensures { (more : List Row) → covers rest.old (resources.now ++ more)
+        ≡ (result && covers rest.new more) }
 {
     quantity::amounts_add_up();
     quantity::covers_is_at_least();
@@ -37,14 +38,16 @@ fn take_live(rest: &mut Resources, tasks: &[Shared<RecordedTask>]) -> bool
     true
 }
 
-/// Whether a total has at least as much of each name as some resources and the tasks that haven't ended have together.
+/// Whether a total has at least as much of each name as some resources and
+/// the tasks that haven't ended have together.
 pub fn has_room(
     alloc: Global,
     total: &Resources,
     resources: &Resources,
     tasks: &[Shared<RecordedTask>],
 ) -> Result<bool, AllocError>
-    ensures { IfOk result (λ has. has ≡ covers total.now (resources.now ++ task_rows (live_tasks tasks.now))) }
+    ensures { IfOk result (λ has. has ≡ covers total.now
+        (resources.now ++ task_rows (live_tasks tasks.now))) }
 {
     let mut rest = total.copy()?;
     Ok(take(&mut rest, resources) && take_live(&mut rest, tasks))

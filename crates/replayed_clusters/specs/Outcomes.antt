@@ -11,7 +11,14 @@ pub record Outcome : Type 0 where
   pub story : Story
   pub sent : ℕ
 
--- of the step of this number, whose first call or mail has the number `first`: its entry, or why it is refused
+-- of the step of this number, whose first call or mail has the number `first`:
+-- its entry, or why it is refused
 abbrev pub outcome : ℕ → ℕ → Story → Result Entry ClusterFault → Outcome
-outcome number first s (Err fault) = record { text = refused_text number fault; story = s; sent = 0 }
-outcome number first s (Ok entry) = record { text = unwrap_or (entry_text number first entry) []; story = with_entry s entry; sent = length entry.outputs.sent }
+outcome number first s (Err fault) =
+    record { text = refused_text number fault; story = s; sent = 0 }
+outcome number first s (Ok entry) =
+    record {
+      text = unwrap_or (entry_text number first entry) [];
+      story = with_entry s entry;
+      sent = length entry.outputs.sent;
+    }

@@ -18,7 +18,12 @@ use Rattle.cluster_core.specs.Stories.{Story, state_of}
 
 -- a cluster of agents that never ran, in run 1, with these weights of roles
 abbrev pub fresh_story : List ConfiguredAgent → List RoleWeight → Story
-fresh_story agents weights = record { setup = record { run = 1; weights = weights }; records = fresh_records agents; entries = [] }
+fresh_story agents weights =
+    record {
+      setup = record { run = 1; weights = weights };
+      records = fresh_records agents;
+      entries = [];
+    }
 
 -- the mails that the opening sends
 unfoldable pub greetings : Story → List Sent
@@ -41,7 +46,8 @@ records_now s = map (λ x. x.agent.durable) (state_of s).world.channels
 
 -- the sum of the current offers on an agent, of which there are none where no master serves
 unfoldable pub offered_now : Story → List ℕ → List Row
-offered_now s agent = if (state_of s).world.run.serves then offered_on (master_of (state_of s)) agent else []
+offered_now s agent =
+    if (state_of s).world.run.serves then offered_on (master_of (state_of s)) agent else []
 
 -- the entries, the opening counted
 abbrev pub count : Story → ℕ

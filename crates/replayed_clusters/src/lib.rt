@@ -1,4 +1,5 @@
-//! A cluster that is replayed: what is told of its opening and of each step, and the table at the end of a history.
+//! A cluster that is replayed: what is told of its opening and of each step,
+//! and the table at the end of a history.
 #![tactic(auto)]
 
 mod live;

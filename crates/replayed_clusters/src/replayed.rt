@@ -12,8 +12,8 @@ ghost use Rattle.post_rules.specs.Numbers.{is_number};
 ghost use Rattle.replayed_clusters.specs.Stories.{due, entry_in, fresh_story, greetings};
 
 use agent_sides::Config;
-use cluster_core::{Cluster, Taken, open_fresh};
-use cluster_steps::{ClusterFault, Entry, Sent, Step, Verdict};
+use cluster_core::{Cluster, KeptEntry, Taken, open_fresh};
+use cluster_steps::{ClusterFault, Sent, Step, Verdict};
 use post_rules::EverSent;
 use role_weights::Weights;
 use std::alloc::{AllocError, Global};
@@ -42,12 +42,12 @@ fn refuses_as_due(cluster: &Cluster<EverSent>)
 }
 
 /// The entry of a step, unless its part ran out of memory.
-fn unless_fell(step: Taken) -> Result<Entry, ClusterFault>
+fn unless_fell(step: Taken) -> Result<KeptEntry, ClusterFault>
     ensures ok { IfOk result (λ told. (told ≡ entry_in step) × (fell told.verdict ≡ false)) }
     ensures memory { IfErr result (λ fault. fault ≡ OutOfMemory) }
 {
     let Taken { entry, durable: _ } = step;
-    match entry.verdict {
+    match entry.get().verdict {
         Verdict::OutOfMemory => Err(ClusterFault::OutOfMemory),
         _ => Ok(entry),
     }
@@ -71,10 +71,13 @@ impl Replayed {
         self.cluster.opened().sent.as_slice()
     }
 
-    /// Takes a step. It is `C9 OutOfMemory` too where a part of the cluster ran out of memory, and then nothing is said of how the cluster stands.
-    pub fn step(&mut self, alloc: Global, step: Step) -> Result<Entry, ClusterFault>
-        ensures taken { IfOk result (λ entry. (due self.old step ≡ Ok entry) × (self.new ≡ with_entry self.old entry)) }
-        ensures refused { IfErr result (λ fault. (fault ≡ OutOfMemory) ⊎ ((due self.old step ≡ Err fault) × (self.new ≡ self.old))) }
+    /// Takes a step. It is `C9 OutOfMemory` too where a part of the cluster ran out of memory,
+    /// and then nothing is said of how the cluster stands.
+    pub fn step(&mut self, alloc: Global, step: Step) -> Result<KeptEntry, ClusterFault>
+        ensures taken { IfOk result (λ entry. (due self.old step ≡ Ok entry)
+            × (self.new ≡ with_entry self.old entry)) }
+        ensures refused { IfErr result (λ fault. (fault ≡ OutOfMemory)
+            ⊎ ((due self.old step ≡ Err fault) × (self.new ≡ self.old))) }
     {
         refuses_as_due(&self.cluster);
         let taken = match self.cluster.step(alloc, step) {

@@ -41,7 +41,8 @@ fn tell_entry(alloc: Global, number: u64, first: u64, entry: &Entry) -> Result<T
     Ok(Telling { text, sent })
 }
 
-/// Takes the step of this number, and tells what comes of it; the first call or mail that it sends has the number `first`.
+/// Takes the step of this number, and tells what comes of it;
+/// the first call or mail that it sends has the number `first`.
 pub fn take_step(
     cluster: &mut Replayed,
     alloc: Global,
@@ -49,10 +50,11 @@ pub fn take_step(
     first: u64,
     step: Step,
 ) -> Result<Telling, AllocError>
-    ensures { IfOk result (λ told. outcome number first cluster.old (due cluster.old step) ≡ record { text = told.text.items; story = cluster.new; sent = told.sent }) }
+    ensures { IfOk result (λ told. outcome number first cluster.old (due cluster.old step)
+        ≡ record { text = told.text.items; story = cluster.new; sent = told.sent }) }
 {
     match cluster.step(alloc, step) {
-        Ok(entry) => tell_entry(alloc, number, first, &entry),
+        Ok(entry) => tell_entry(alloc, number, first, entry.get()),
         Err(ClusterFault::OutOfMemory) => Err(AllocError),
         Err(fault) => {
             let text = refused_text(alloc, number, fault)?;

@@ -68,7 +68,8 @@ fn lines_at<P: Post + Drop>(
     cluster: &Cluster<P>,
     place: usize,
 ) -> Result<Vec<u8>, AllocError>
-    ensures { IfOk result (λ text. IfSome (slice_get (records_now cluster.now.story) place) (λ d. text.items ≡ agent_lines cluster.now.story d)) }
+    ensures { IfOk result (λ text. IfSome (slice_get (records_now cluster.now.story) place)
+        (λ d. text.items ≡ agent_lines cluster.now.story d)) }
 {
     match record_at(cluster, place) {
         Some(record) => agent_lines(alloc, cluster, record.parts()),
@@ -76,7 +77,8 @@ fn lines_at<P: Post + Drop>(
     }
 }
 
-/// The table at the end of a cluster's history: each agent with its tasks, in the order of their names, and the number of entries.
+/// The table at the end of a cluster's history: each agent with its tasks,
+/// in the order of their names, and the number of entries.
 pub fn end_table<P: Post + Drop>(alloc: Global, cluster: &Cluster<P>) -> Result<Vec<u8>, AllocError>
     ensures { IfOk result (λ text. text.items ≡ table cluster.now.story) }
 {

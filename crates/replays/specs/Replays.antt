@@ -15,8 +15,9 @@ use Rattle.replayed_clusters.specs.Outcomes.{Outcome, outcome}
 use Rattle.replayed_clusters.specs.Tables.{table}
 use Rattle.cluster_core.specs.Stories.{Story}
 
--- how a replay stands behind some lines: its cluster's story, of which there is none before the first line; how many lines and steps there were, and how many calls and
--- mails were sent; and the line that ended it, if one did, with its refusal
+-- how a replay stands behind some lines: its cluster's story, of which there is none before the
+-- first line; how many lines and steps there were, and how many calls and mails were sent; and the
+-- line that ended it, if one did, with its refusal
 pub record Replay : Type 0 where
   pub story : Option Story
   pub lines : ℕ
@@ -34,12 +35,23 @@ pub record Told : Type 0 where
 
 -- a line that is refused ends the replay
 abbrev pub stops : Replay → LineRefusal → Told
-stops r refusal = record { text = []; after = record r { lines = r.lines + 1; fault = Some (record { line = r.lines + 1; refusal = refusal }) } }
+stops r refusal =
+    record {
+      text = [];
+      after = record r {
+        lines = r.lines + 1;
+        fault = Some (record { line = r.lines + 1; refusal = refusal });
+      };
+    }
 
 -- the first line opens a cluster of agents that never ran
 
 abbrev pub opened : Replay → Story → Told
-opened r s = record { text = opening_text (greetings s); after = record r { story = Some s; lines = r.lines + 1; sent = length (greetings s) } }
+opened r s =
+    record {
+      text = opening_text (greetings s);
+      after = record r { story = Some s; lines = r.lines + 1; sent = length (greetings s) };
+    }
 
 abbrev pub opens : Replay → Result Configured LineRefusal → Told
 opens r (Err refusal) = stops r refusal
@@ -48,7 +60,12 @@ opens r (Ok config) = opened r (fresh_story config.agents config.weights)
 -- each other line is a step
 
 abbrev pub answered : Replay → Outcome → Told
-answered r o = record { text = o.text; after = record r { story = Some o.story; lines = r.lines + 1; steps = r.steps + 1; sent = r.sent + o.sent } }
+answered r o =
+    record {
+      text = o.text;
+      after = record r
+          { story = Some o.story; lines = r.lines + 1; steps = r.steps + 1; sent = r.sent + o.sent };
+    }
 
 abbrev pub takes : Replay → Story → Result Step LineRefusal → Told
 takes r s (Err refusal) = stops r refusal

@@ -15,7 +15,8 @@ use std::alloc::{AllocError, Global};
 use std::marker::Model;
 use step_lines::{Configuration, LineFault, LineRefusal, read_config, read_step};
 
-/// Tells what comes of the lines of a replay: the first says which agents there are, and each other one is a step.
+/// Tells what comes of the lines of a replay: the first says which agents there are,
+/// and each other one is a step.
 #[derive(Drop)]
 pub struct Replayer {
     /// None before the first line.
@@ -133,7 +134,8 @@ impl Replayer {
     /// The first line, which is this one of the text.
     fn open(&mut self, alloc: Global, number: u64, line: &[u8]) -> Result<Vec<u8>, AllocError>
         requires { number ≡ self.old.lines + 1 }
-        ensures { IfOk result (λ text. replays.opens self.old (read_config line.now) ≡ record { text = text.items; after = self.new }) }
+        ensures { IfOk result (λ text. replays.opens self.old (read_config line.now)
+            ≡ record { text = text.items; after = self.new }) }
     {
         match read_config(alloc, line) {
             Ok(config) => self.begin(alloc, number, config),
@@ -148,7 +150,9 @@ impl Replayer {
     /// A step, on the line of this number.
     fn take(&mut self, alloc: Global, number: u64, line: &[u8]) -> Result<Vec<u8>, AllocError>
         requires { number ≡ self.old.lines + 1 }
-        ensures { IfOk result (λ text. IfSome self.old.story (λ s. replays.takes self.old s (read_step line.now) ≡ record { text = text.items; after = self.new })) }
+        ensures { IfOk result (λ text. IfSome self.old.story
+            (λ s. replays.takes self.old s (read_step line.now)
+            ≡ record { text = text.items; after = self.new })) }
     {
         let step = match read_step(alloc, line) {
             Ok(step) => step,
@@ -172,7 +176,8 @@ impl Replayer {
 
     #[tactic(auto, unfolding(crate::specs::Replays::tells))]
     fn tell_line(&mut self, alloc: Global, line: &[u8]) -> Result<Vec<u8>, AllocError>
-        ensures { IfOk result (λ text. replays.tells self.old line.now ≡ record { text = text.items; after = self.new }) }
+        ensures { IfOk result (λ text. replays.tells self.old line.now
+            ≡ record { text = text.items; after = self.new }) }
     {
         if self.fault.is_some() {
             return Ok(Vec::new(alloc));

@@ -20,10 +20,17 @@ fn replay_with<R: Read, W: Write>(
     writer: &mut W,
 ) -> Result<Option<LineStop>, ReplayStop>
     requires { replayer.old ≡ beginning }
-    ensures text { OnOk result (IfSome (R.remaining reader.old) (λ input. Appends (W.contents writer.old) (W.contents writer.new) (replay_text input))) }
-    ensures fault { IfOk result (λ fault. IfSome (R.remaining reader.old) (λ input. fault ≡ replay_fault input)) }
-    ensures safe { IfOk result (λ _. IfSome (R.remaining reader.old) (λ input. IfSome (replay_story input) Safe)) }
-    ensures err { OnErr result (IfSome (R.remaining reader.old) (λ input. AppendsFront (W.contents writer.old) (W.contents writer.new) (replay_text input))) }
+    ensures text { OnOk result
+        (IfSome (R.remaining reader.old)
+        (λ input. Appends (W.contents writer.old) (W.contents writer.new) (replay_text input))) }
+    ensures fault { IfOk result
+        (λ fault. IfSome (R.remaining reader.old) (λ input. fault ≡ replay_fault input)) }
+    ensures safe { IfOk result
+        (λ _. IfSome (R.remaining reader.old) (λ input. IfSome (replay_story input) Safe)) }
+    ensures err { OnErr result
+        (IfSome (R.remaining reader.old)
+        (λ input. AppendsFront (W.contents writer.old) (W.contents writer.new)
+        (replay_text input))) }
 {
     match answer_lines(alloc, reader, replayer, writer) {
         Ok(()) => {
@@ -37,21 +44,30 @@ fn replay_with<R: Read, W: Write>(
     }
 }
 
-/// Replays the text that a reader gives: its first line says which agents there are, and each other one is a step of their cluster, all of whose calls and mails
-/// can be handed out for ever. Behind each line it writes what comes of it, and at the end the agents, their tasks, and the number of entries. It tells the line that
-/// ended it, if one did: `X1 NotAStep`, `X2 BadCall`, or `X3 BadConfig`.
+/// Replays the text that a reader gives: its first line says which agents there are, and each other
+/// one is a step of their cluster, all of whose calls and mails can be handed out for ever. Behind
+/// each line it writes what comes of it, and at the end the agents, their tasks, and the number of
+/// entries. It tells the line that ended it, if one did: `X1 NotAStep`, `X2 BadCall`, or `X3
+/// BadConfig`.
 pub fn replay<R: Read, W: Write>(
     alloc: Global,
     reader: &mut R,
     writer: &mut W,
 ) -> Result<Option<LineStop>, ReplayStop>
     // What is written is a function of what is read, and so is the line that ended it,
-    ensures text { OnOk result (IfSome (R.remaining reader.old) (λ input. Appends (W.contents writer.old) (W.contents writer.new) (replay_text input))) }
-    ensures fault { IfOk result (λ fault. IfSome (R.remaining reader.old) (λ input. fault ≡ replay_fault input)) }
+    ensures text { OnOk result
+        (IfSome (R.remaining reader.old)
+        (λ input. Appends (W.contents writer.old) (W.contents writer.new) (replay_text input))) }
+    ensures fault { IfOk result
+        (λ fault. IfSome (R.remaining reader.old) (λ input. fault ≡ replay_fault input)) }
     // and the cluster is safe at the end;
-    ensures safe { IfOk result (λ _. IfSome (R.remaining reader.old) (λ input. IfSome (replay_story input) Safe)) }
+    ensures safe { IfOk result
+        (λ _. IfSome (R.remaining reader.old) (λ input. IfSome (replay_story input) Safe)) }
     // or a beginning of it is written, where memory, the reader or the writer fail.
-    ensures err { OnErr result (IfSome (R.remaining reader.old) (λ input. AppendsFront (W.contents writer.old) (W.contents writer.new) (replay_text input))) }
+    ensures err { OnErr result
+        (IfSome (R.remaining reader.old)
+        (λ input. AppendsFront (W.contents writer.old) (W.contents writer.new)
+        (replay_text input))) }
 {
     let mut replayer = Replayer::new();
     replay_with(alloc, reader, &mut replayer, writer)

@@ -1,4 +1,5 @@
-//! The weights of roles: how much of the whole each role's frameworks are to get, beside the others (DRF paper, section 4.3).
+//! The weights of roles: how much of the whole each role's frameworks are to get,
+//! beside the others (DRF paper, section 4.3).
 #![tactic(auto)]
 
 mod weights;

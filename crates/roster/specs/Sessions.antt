@@ -9,7 +9,8 @@ use Rattle.cluster_model.specs.Mails.{judged_session}
 
 -- why a Report with the master of some run is refused, if it is
 abbrev pub judged_report : ℕ → Side → ℕ → ℕ → Option MasterRefusal
-judged_report run s session number = if number == run then judged_session s session None else Some OtherRun
+judged_report run s session number =
+    if number == run then judged_session s session None else Some OtherRun
 
 -- a Report opens a session: it is of this run, and above the open session or above every closed one
 abbrev pub report_opens : ℕ → Side → ℕ → ℕ → Bool
@@ -21,11 +22,13 @@ answered None opens = Ok opens
 answered (Some refusal) opens = Err refusal
 
 abbrev pub reported : ℕ → Side → ℕ → ℕ → Result Bool MasterRefusal
-reported run s session number = answered (judged_report run s session number) (report_opens run s session number)
+reported run s session number =
+    answered (judged_report run s session number) (report_opens run s session number)
 
 -- (what the agent owns, and its tasks, stand elsewhere)
 abbrev pub after_report : ℕ → ℕ → ℕ → Side → Side
-after_report run session number s = if report_opens run s session number then opened s session [] [] else s
+after_report run session number s =
+    if report_opens run s session number then opened s session [] [] else s
 
 -- the number that the next command gets, where a session is open
 abbrev pub issued_number : Side → Option ℕ
@@ -43,7 +46,9 @@ abbrev pub newly : ℕ → ℕ → Side → List Command
 newly session count s = if counts s session count then take (count - s.known) s.waiting else []
 
 abbrev pub after_applied : ℕ → ℕ → Side → Side
-after_applied session count s = if counts s session count then record s { waiting = drop (count - s.known) s.waiting; known = count } else s
+after_applied session count s =
+    if counts s session count then record s
+    { waiting = drop (count - s.known) s.waiting; known = count } else s
 
 -- the oldest command that isn't known to be applied, with its number
 abbrev pub oldest : ℕ → List Command → Option (ℕ × Command)

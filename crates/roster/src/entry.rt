@@ -14,8 +14,9 @@ use std::alloc::Global;
 use std::marker::Model;
 use stream_core::{LinkOut, StreamFault};
 
-/// A configured agent: its open session in this run, if any, the commands issued in it, and the greatest session that this
-/// run has closed. (What the agent owns stands with its offers and booked tasks.)
+/// A configured agent: its open session in this run, if any, the commands issued in it, and the
+/// greatest session that this run has closed. (What the agent owns stands with its offers and
+/// booked tasks.)
 #[derive(Drop)]
 pub struct RosterEntry {
     name: AgentName,
@@ -112,8 +113,9 @@ impl RosterEntry {
         otherwise
     }
 
-    /// Why a mail of a session is refused, if it is: `G2 OldSession` below the open session, `G3 Closed` where none is open and
-    /// this one is closed, `G4 NotOpen` where no Report has opened it.
+    /// Why a mail of a session is refused, if it is: `G2 OldSession` below the open session, `G3
+    /// Closed` where none is open and this one is closed, `G4 NotOpen` where no Report has opened
+    /// it.
     pub fn judge(&self, session: u32) -> Option<MasterRefusal>
         ensures { result ≡ in_session self.now session }
     {

@@ -14,8 +14,8 @@ use names_core::{AgentName, Run};
 use std::alloc::{AllocError, Global};
 use std::marker::Model;
 
-/// The configured agents, each at its place. An agent is named by its place; of a place past the end nothing is known,
-/// and nothing happens there.
+/// The configured agents, each at its place. An agent is named by its place;
+/// of a place past the end nothing is known, and nothing happens there.
 #[derive(Drop)]
 pub struct Roster {
     entries: Vec<RosterEntry>,
@@ -44,8 +44,10 @@ fn report_in(
     session: u32,
     number: u32,
 ) -> Result<bool, MasterRefusal>
-    ensures answer { result ≡ told_at place (λ s. reported run s session number) (Ok false) entries.old.items }
-    ensures sides { entries.new.items ≡ at_place place (after_report run session number) entries.old.items }
+    ensures answer { result ≡ told_at place (λ s. reported run s session number) (Ok false)
+        entries.old.items }
+    ensures sides { entries.new.items ≡ at_place place (after_report run session number)
+        entries.old.items }
 {
     if place >= entries.len() {
         return Ok(false);
@@ -67,9 +69,11 @@ fn issue_in(
     command: Command,
 ) -> Result<Option<u32>, RosterFault>
     ensures number { IfOk result (λ n. n ≡ told_at place issued_number None entries.old.items) }
-    ensures ok { OnOk result (entries.new.items ≡ at_place place (with_command command) entries.old.items) }
+    ensures ok { OnOk result (entries.new.items
+        ≡ at_place place (with_command command) entries.old.items) }
     ensures numbers { OnOk result (told_at place is_spent false entries.old.items ≡ false) }
-    ensures refused { IfErr result (IsIssueRefusal (told_at place is_spent false entries.old.items)) }
+    ensures refused { IfErr result
+        (IsIssueRefusal (told_at place is_spent false entries.old.items)) }
     ensures err { OnErr result (entries.new.items ≡ entries.old.items) }
 {
     if place >= entries.len() {
@@ -85,10 +89,14 @@ fn applied_in(
     session: u32,
     count: u32,
 ) -> Result<Vec<Command>, RosterFault>
-    ensures newly { IfOk result (λ commands. commands.items ≡ told_at place (newly session count) [] entries.old.items) }
-    ensures ok { OnOk result (entries.new.items ≡ at_place place (after_applied session count) entries.old.items) }
-    ensures judged { OnOk result (told_at place (λ s. in_session s session) None entries.old.items ≡ None) }
-    ensures refused { IfErr result (IsAppliedRefusal (told_at place (λ s. in_session s session) None entries.old.items)) }
+    ensures newly { IfOk result (λ commands. commands.items
+        ≡ told_at place (newly session count) [] entries.old.items) }
+    ensures ok { OnOk result (entries.new.items
+        ≡ at_place place (after_applied session count) entries.old.items) }
+    ensures judged { OnOk result (told_at place (λ s. in_session s session) None entries.old.items
+        ≡ None) }
+    ensures refused { IfErr result
+        (IsAppliedRefusal (told_at place (λ s. in_session s session) None entries.old.items)) }
     ensures err { OnErr result (entries.new.items ≡ entries.old.items) }
 {
     if place >= entries.len() {
@@ -138,9 +146,10 @@ impl Roster {
         place_in(&self.entries, name)
     }
 
-    /// An agent reports that it has opened a session with the master of a run. The answer tells whether the session is opened
-    /// here; a Report of the open session is no news. `G1 OtherRun` where it isn't this run, `G2 OldSession` below the open
-    /// session, `G3 Closed` where none is open and the session isn't above every closed one. It takes no memory.
+    /// An agent reports that it has opened a session with the master of a run. The answer tells
+    /// whether the session is opened here; a Report of the open session is no news. `G1 OtherRun`
+    /// where it isn't this run, `G2 OldSession` below the open session, `G3 Closed` where none is
+    /// open and the session isn't above every closed one. It takes no memory.
     pub fn report(
         &mut self,
         alloc: Global,
@@ -149,7 +158,8 @@ impl Roster {
         session: u32,
         number: u32,
     ) -> Result<bool, MasterRefusal>
-        ensures answer { result ≡ told_at place (λ s. reported run s session number) (Ok false) self.old }
+        ensures answer { result ≡ told_at place (λ s. reported run s session number) (Ok false)
+            self.old }
         ensures sides { self.new ≡ at_place place (after_report run session number) self.old }
     {
         report_in(&mut self.entries, alloc, place, run, session, number)
@@ -162,8 +172,9 @@ impl Roster {
         close_in(&mut self.entries, alloc, place);
     }
 
-    /// Issues a command in the open session and gives its number; where no session is open there is no command and no number.
-    /// `L2 Spent` where the session's last command has the last number, `G5 OutOfMemory` where memory was refused.
+    /// Issues a command in the open session and gives its number; where no session is open there is
+    /// no command and no number. `L2 Spent` where the session's last command has the last number,
+    /// `G5 OutOfMemory` where memory was refused.
     pub fn issue(&mut self, place: usize, command: Command) -> Result<Option<u32>, RosterFault>
         ensures number { IfOk result (λ n. n ≡ told_at place issued_number None self.old) }
         ensures ok { OnOk result (self.new ≡ at_place place (with_command command) self.old) }
@@ -174,8 +185,8 @@ impl Roster {
         issue_in(&mut self.entries, place, command)
     }
 
-    /// The first `count` commands of a session are applied: gives those that weren't known to be, in order. Refused as `judge`
-    /// tells; `G5 OutOfMemory` where memory was refused.
+    /// The first `count` commands of a session are applied: gives those that weren't known to be,
+    /// in order. Refused as `judge` tells; `G5 OutOfMemory` where memory was refused.
     pub fn applied(
         &mut self,
         alloc: Global,
@@ -183,17 +194,22 @@ impl Roster {
         session: u32,
         count: u32,
     ) -> Result<Vec<Command>, RosterFault>
-        ensures newly { IfOk result (λ commands. commands.items ≡ told_at place (newly session count) [] self.old) }
-        ensures ok { OnOk result (self.new ≡ at_place place (after_applied session count) self.old) }
-        ensures judged { OnOk result (told_at place (λ s. in_session s session) None self.old ≡ None) }
-        ensures refused { IfErr result (IsAppliedRefusal (told_at place (λ s. in_session s session) None self.old)) }
+        ensures newly { IfOk result (λ commands. commands.items
+            ≡ told_at place (newly session count) [] self.old) }
+        ensures ok { OnOk result (self.new ≡ at_place place (after_applied session count)
+            self.old) }
+        ensures judged { OnOk result (told_at place (λ s. in_session s session) None self.old
+            ≡ None) }
+        ensures refused { IfErr result
+            (IsAppliedRefusal (told_at place (λ s. in_session s session) None self.old)) }
         ensures err { OnErr result (self.new ≡ self.old) }
     {
         applied_in(&mut self.entries, alloc, place, session, count)
     }
 
-    /// Why a mail of a session is refused, if it is: `G2 OldSession` below the open session, `G3 Closed` where none is open and
-    /// this one is closed, `G4 NotOpen` where no Report has opened it.
+    /// Why a mail of a session is refused, if it is: `G2 OldSession` below the open session, `G3
+    /// Closed` where none is open and this one is closed, `G4 NotOpen` where no Report has opened
+    /// it.
     pub fn judge(&self, place: usize, session: u32) -> Option<MasterRefusal>
         ensures { result ≡ told_at place (λ s. in_session s session) None self.now }
     {

@@ -69,7 +69,9 @@ holds t g = given g.framework g.resources t
 
 -- what the agents with an open session own, the frameworks with their roles, and what they hold
 abbrev pub shares_of : List RoleWeight → List Side → List Framework → Tally
-shares_of weights ss fs = fold holds (fold (knows weights) (fold enters no_shares ss) fs) (gifts_of ss)
+shares_of weights ss fs =
+    fold holds (fold (knows weights) (fold enters no_shares ss) fs) (gifts_of ss)
 
 abbrev pub shares_with : List RoleWeight → Master → List MadeOffer → Tally
-shares_with weights m made = fold holds (shares_of weights m.sides m.registers.frameworks) (map made_gift made)
+shares_with weights m made =
+    fold holds (shares_of weights m.sides m.registers.frameworks) (map made_gift made)

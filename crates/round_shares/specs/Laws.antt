@@ -25,5 +25,9 @@ pub record CanBeSummed (m : Master) (made : List MadeOffer) : Type 0 where
 
 -- the framework that stands least by the shares is the one that the model picks
 abbrev pub PicksAlike : Type 0
-PicksAlike = (weights : List RoleWeight) (m : Master) (made : List MadeOffer) (agent : List ℕ) (free : List Row) → CanBeSummed m made
-    → picked m.registers.now agent free (shares_with weights m made) m.registers.frameworks ≡ option_map (λ c. c.framework.id) (pick weights m.registers.now (totals_of m) (clients_of m) made agent free)
+PicksAlike =
+    (weights : List RoleWeight) (m : Master) (made : List MadeOffer) (agent : List ℕ)
+    (free : List Row) → CanBeSummed m made
+    → picked m.registers.now agent free (shares_with weights m made) m.registers.frameworks
+    ≡ option_map (λ c. c.framework.id)
+    (pick weights m.registers.now (totals_of m) (clients_of m) made agent free)

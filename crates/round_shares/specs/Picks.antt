@@ -14,11 +14,15 @@ framework_holder t f = holder_for t f.id f.role
 
 abbrev pub better : Tally → Option Framework → Framework → Option Framework
 better t None f = Some f
-better t (Some g) f = if comes_before t (framework_holder t f) (framework_holder t g) then Some f else Some g
+better t (Some g) f =
+    if comes_before t (framework_holder t f) (framework_holder t g) then Some f else Some g
 
 -- the better one of the best so far and a framework, if that is eligible
-abbrev pub better_eligible : ℕ → List ℕ → List Row → Tally → Option Framework → Framework → Option Framework
-better_eligible now agent free t best f = if may_be_offered now agent free f then better t best f else best
+abbrev pub better_eligible : ℕ → List ℕ → List Row → Tally → Option Framework → Framework
+    → Option Framework
+better_eligible now agent free t best f =
+    if may_be_offered now agent free f then better t best f else best
 
 abbrev pub picked : ℕ → List ℕ → List Row → Tally → List Framework → Option Numbered
-picked now agent free t fs = option_map (λ f. f.id) (fold (better_eligible now agent free t) None fs)
+picked now agent free t fs =
+    option_map (λ f. f.id) (fold (better_eligible now agent free t) None fs)

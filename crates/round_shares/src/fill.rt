@@ -108,7 +108,8 @@ fn give(
     framework: FrameworkId,
     resources: &Resources,
 ) -> Result<(), AllocError>
-    ensures { OnOk result (shares.new ≡ holds shares.old (record { framework = framework; resources = resources.now })) }
+    ensures { OnOk result (shares.new ≡ holds shares.old
+        (record { framework = framework; resources = resources.now })) }
 {
     match shares.give(alloc, framework, resources) {
         Ok(()) => Ok(()),
@@ -137,14 +138,16 @@ fn give_tasks(shares: &mut Shares, alloc: Global, tasks: &[Booked]) -> Result<()
 }
 
 fn give_account(shares: &mut Shares, alloc: Global, account: &Account) -> Result<(), AllocError>
-    ensures { OnOk result (shares.new ≡ fold holds shares.old (gifts_on account.now.offers account.now.booked)) }
+    ensures { OnOk result (shares.new ≡ fold holds shares.old
+        (gifts_on account.now.offers account.now.booked)) }
 {
     give_offers(shares, alloc, account.offers.as_slice())?;
     give_tasks(shares, alloc, account.booked.as_slice())
 }
 
 fn give_all(shares: &mut Shares, alloc: Global, accounts: &[Account]) -> Result<(), AllocError>
-    ensures { OnOk result (shares.new ≡ fold holds shares.old (flat_map (λ a. gifts_on a.offers a.booked) accounts.now)) }
+    ensures { OnOk result (shares.new ≡ fold holds shares.old
+        (flat_map (λ a. gifts_on a.offers a.booked) accounts.now)) }
 {
     for account in accounts {
         give_account(shares, alloc, account)?;
@@ -170,8 +173,9 @@ fn count_in(
     Ok(())
 }
 
-/// The shares of a round: what the agents with an open session own, the frameworks with their roles and the weights of these, and their current
-/// offers and booked tasks that haven't ended, on every agent.
+/// The shares of a round: what the agents with an open session own, the frameworks with their roles
+/// and the weights of these, and their current offers and booked tasks that haven't ended, on every
+/// agent.
 pub fn shares_of(
     alloc: Global,
     weights: &Weights,

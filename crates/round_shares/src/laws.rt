@@ -2,7 +2,8 @@
 
 ghost use Rattle.round_shares.specs.Laws.{PicksAlike};
 
-/// By the shares of a round the same framework stands least as by the amounts in the master's books.
+/// By the shares of a round the same framework stands least as
+/// by the amounts in the master's books.
 pub fn picks_alike()
     ensures { PicksAlike }
 {}

@@ -1,4 +1,5 @@
-//! The shares of a round of offers, and which framework stands least by them (DRF paper, section 4).
+//! The shares of a round of offers,
+//! and which framework stands least by them (DRF paper, section 4).
 #![tactic(auto)]
 
 mod fill;

@@ -10,7 +10,8 @@ use mails::Framework;
 use names_core::{AgentName, FrameworkId};
 use quantity::Resources;
 
-/// The better one of the best so far and a framework. `best_place` and `place` say where the two stand among all frameworks.
+/// The better one of the best so far and a framework.
+/// `best_place` and `place` say where the two stand among all frameworks.
 fn better<'a>(
     shares: &Shares,
     best: Option<&'a Framework>,
@@ -18,7 +19,8 @@ fn better<'a>(
     framework: &'a Framework,
     place: usize,
 ) -> Option<&'a Framework>
-    ensures { option_copied result ≡ better shares.now (option_copied best.entry) framework.entry.now }
+    ensures { option_copied result ≡ better shares.now (option_copied best.entry)
+        framework.entry.now }
 {
     let Some(other) = best else {
         *best_place = place;
@@ -47,7 +49,8 @@ fn best_of<'a>(
     agent: &AgentName,
     free: &Resources,
 ) -> Option<&'a Framework>
-    ensures { option_copied result ≡ fold (better_eligible now agent.now free.now shares.now) None frameworks.entry.now }
+    ensures { option_copied result ≡ fold (better_eligible now agent.now free.now shares.now) None
+        frameworks.entry.now }
 {
     let mut best = None;
     let mut best_place = 0;
@@ -60,7 +63,8 @@ fn best_of<'a>(
     best
 }
 
-/// The framework that stands least of those to which what is free on an agent may be offered at this moment. It takes no memory.
+/// The framework that stands least of those to which what is free on an agent may
+/// be offered at this moment. It takes no memory.
 pub fn picked(
     shares: &Shares,
     frameworks: &[Framework],

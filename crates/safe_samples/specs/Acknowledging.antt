@@ -19,7 +19,8 @@ sends a = fronts a
 
 -- the call by which the task's framework acknowledges an update
 abbrev pub acknowledges : AgentMail → List Post
-acknowledges (Update session key k state ended) = Called (Some (id 2 1)) (Acknowledge (id 1 1) n_a1 n_t1 (uuid key k)) ∷ []
+acknowledges (Update session key k state ended) =
+    Called (Some (id 2 1)) (Acknowledge (id 1 1) n_a1 n_t1 (uuid key k)) ∷ []
 acknowledges (Report session run tasks total) = []
 acknowledges (Applied session count) = []
 
@@ -32,7 +33,15 @@ acknowledgements = acknowledged_in updated
 
 -- a framework that isn't the task's
 abbrev pub foreign : Framework
-foreign = record { id = id 2 1; role = 42 ∷ []; stream = Some (id 2 1); suppressed = false; last_beat = 0; filters = [] }
+foreign =
+    record {
+      id = id 2 1;
+      role = 42 ∷ [];
+      stream = Some (id 2 1);
+      suppressed = false;
+      last_beat = 0;
+      filters = [];
+    }
 
 -- it acknowledges the update that the master last heard
 abbrev pub foreign_calls : List Post

@@ -1,4 +1,5 @@
--- An agent of 4 CPUs that reports to a master, in a world of its own; and a step of the master there that is given.
+-- An agent of 4 CPUs that reports to a master, in a world of its own;
+-- and a step of the master there that is given.
 use Rattle.std.specs.Prelude.{ℕ, List, [], ◌∷◌, ◌++◌}
 use Rattle.names_core.specs.Ids.{Numbered}
 use Rattle.quantity.specs.declared.rows.Row.{Row}
@@ -22,7 +23,9 @@ job_of_two key = job key (id 1 1) n_t1 (cpus 2)
 
 -- the agent hears a Hello, and the master its Report
 abbrev pub reporting : List Happening
-reporting = At n_a1 (ByMaster SendHello) ∷ At n_a1 (ByAgent (DrawMail 0)) ∷ At n_a1 (ByAgent Adopt) ∷ At n_a1 (Hear 0) ∷ []
+reporting =
+    At n_a1 (ByMaster SendHello) ∷ At n_a1 (ByAgent (DrawMail 0)) ∷ At n_a1 (ByAgent Adopt)
+    ∷ At n_a1 (Hear 0) ∷ []
 
 -- the agent applies the mail at a place, if it was sent
 abbrev pub applying : ℕ → List Happening
@@ -30,11 +33,14 @@ applying place = At n_a1 (ByAgent (DrawMail place)) ∷ At n_a1 (ByAgent Adopt) 
 
 -- the master offers all that the agent owns, if that is free
 abbrev pub offering : Numbered → Numbered → Happening
-offering offer framework = At n_a1 (ByMaster (MakeOffer (record { id = offer; framework = framework; resources = cpus 4 })))
+offering offer framework =
+    At n_a1
+    (ByMaster (MakeOffer (record { id = offer; framework = framework; resources = cpus 4 })))
 
 -- a channel with what the master makes of its side
 abbrev pub with_sending : Channel → Sending → InRun
-with_sending c x = record { run = x.run; channel = record c { side = x.side; to_agent = c.to_agent ++ x.sent } }
+with_sending c x =
+    record { run = x.run; channel = record c { side = x.side; to_agent = c.to_agent ++ x.sent } }
 
 abbrev pub at_first : (Run → Side → Sending) → Run → List Channel → World
 at_first step run [] = record { run = run; channels = [] }

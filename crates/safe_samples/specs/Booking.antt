@@ -1,4 +1,5 @@
--- What the master keeps of an agent. Each run ends with an offer of all that the agent owns, which is made only where the master takes all of it for free.
+-- What the master keeps of an agent. Each run ends with an offer of all that the agent owns,
+-- which is made only where the master takes all of it for free.
 use Rattle.std.specs.Prelude.{true, [], ◌∷◌}
 use Rattle.names_core.specs.declared.state.TaskState.TheVariants.{Finished}
 use Rattle.mails.specs.declared.mail.AgentMail.TheVariants.{Report, Update}
@@ -21,7 +22,8 @@ abbrev pub sends_end : Run → Side → Sending
 sends_end run s = side_step run s (SendEnd (id 1 1))
 
 abbrev pub after_teardown : World
-after_teardown = after (after_step sends_end (after running (TearDown (id 1 1)))) (offering (id 2 1) (id 2 1))
+after_teardown =
+    after (after_step sends_end (after running (TearDown (id 1 1)))) (offering (id 2 1) (id 2 1))
 
 -- what it makes of the update of the launch that has ended
 abbrev pub hears_update : Run → Side → Sending
@@ -59,4 +61,6 @@ abbrev pub hears_closed : Run → Side → Sending
 hears_closed run s = sends_nothing run (heard run s (Report 1 1 [] (cpus 4)))
 
 abbrev pub after_closed : World
-after_closed = after (after_step hears_closed (after launched (At n_a1 (ByMaster Lose)))) (offering (id 1 2) (id 1 1))
+after_closed =
+    after (after_step hears_closed (after launched (At n_a1 (ByMaster Lose))))
+    (offering (id 1 2) (id 1 1))

@@ -1,4 +1,5 @@
--- An agent that returns with another total. It owns what its record has, and the master's books have what it last reported.
+-- An agent that returns with another total. It owns what its record has,
+-- and the master's books have what it last reported.
 use Rattle.std.specs.Prelude.{List, [], ◌∷◌, Some, Result}
 use Rattle.quantity.specs.declared.rows.Row.{Row}
 use Rattle.mails.specs.declared.cause.Cause.TheVariants.{Start}
@@ -19,7 +20,8 @@ abbrev pub at_draft : List Row → Side → Side
 at_draft total s = s
 
 abbrev pub prepared : List Row → Channel → Channel
-prepared total c = drawn (record c { side = at_draft total c.side }) c.draft (starts_with total c.agent)
+prepared total c =
+    drawn (record c { side = at_draft total c.side }) c.draft (starts_with total c.agent)
 
 abbrev pub prepared_first : List Row → List Channel → List Channel
 prepared_first total [] = []
@@ -34,7 +36,8 @@ abbrev pub after_fall : World
 after_fall = after (after_prepare (cpus 2) offered) (At n_a1 (ByAgent Adopt))
 
 abbrev pub offers_more : Happening
-offers_more = At n_a1 (ByMaster (MakeOffer (record { id = id 1 1; framework = id 1 1; resources = cpus 8 })))
+offers_more =
+    At n_a1 (ByMaster (MakeOffer (record { id = id 1 1; framework = id 1 1; resources = cpus 8 })))
 
 -- an agent that has reported prepares a start with more, all of which the master would offer
 abbrev pub growing : World

@@ -19,7 +19,8 @@ is_offered = Send None (Subscribe None (42 ∷ [])) ∷ Deliver 3 ∷ Allocate �
 -- it launches a task, which the agent applies
 abbrev pub launches : List Step
 launches =
-    Send (Some (id 1 1)) (Accept (id 1 1) (id 1 1 ∷ []) (wanted n_t1 n_a1 (cpus 2) ∷ []) 5) ∷ Deliver 4 ∷ Prepare n_a1 (ByMail 5) ∷ Commit n_a1 ∷ []
+    Send (Some (id 1 1)) (Accept (id 1 1) (id 1 1 ∷ []) (wanted n_t1 n_a1 (cpus 2) ∷ []) 5)
+    ∷ Deliver 4 ∷ Prepare n_a1 (ByMail 5) ∷ Commit n_a1 ∷ []
 
 -- the master hears the first update of the task that the agent reported
 abbrev pub updates : List Step

@@ -17,7 +17,8 @@ running = after_all reporting (open_world 2 with_task)
 -- a task that has ended, and one of a later launch with the same name that hasn't
 abbrev pub with_two_launches : List Durable
 with_two_launches =
-    durable n_a1 (cpus 4) 0 1 (task (job_of_two (id 1 1)) (id 1 1 ∷ []) (Finished ∷ []) 0 ∷ task (job_of_two (id 1 2)) (id 1 2 ∷ []) [] 0 ∷ []) ∷ []
+    durable n_a1 (cpus 4) 0 1 (task (job_of_two (id 1 1)) (id 1 1 ∷ []) (Finished ∷ []) 0
+    ∷ task (job_of_two (id 1 2)) (id 1 2 ∷ []) [] 0 ∷ []) ∷ []
 
 abbrev pub launched_twice : World
 launched_twice = after_all reporting (open_world 2 with_two_launches)
@@ -29,13 +30,18 @@ no_task = durable n_a1 (cpus 4) 0 0 [] ∷ []
 abbrev pub offered : World
 offered = after_all (reporting ++ offering (id 1 1) (id 1 1) ∷ []) (open_world 1 no_task)
 
--- a task was launched out of that, and stands in the agent's record, in the session that the first Report opened
+-- a task was launched out of that, and stands in the agent's record,
+-- in the session that the first Report opened
 abbrev pub launched : World
-launched = after_all (At n_a1 (ByMaster (LaunchFrom (id 1 1) (id 1 1 ∷ []) (job_of_two (id 1 1) ∷ []))) ∷ applying 1) offered
+launched =
+    after_all (At n_a1 (ByMaster (LaunchFrom (id 1 1) (id 1 1 ∷ []) (job_of_two (id 1 1) ∷ [])))
+    ∷ applying 1) offered
 
 -- a task of two updates, none of them acknowledged, of which the master has heard the first
 abbrev pub with_updates : List Durable
-with_updates = durable n_a1 (cpus 4) 0 1 (task (job_of_two (id 1 1)) (id 1 1 ∷ []) (Running ∷ Finished ∷ []) 0 ∷ []) ∷ []
+with_updates =
+    durable n_a1 (cpus 4) 0 1 (task (job_of_two (id 1 1)) (id 1 1 ∷ []) (Running ∷ Finished ∷ []) 0
+    ∷ []) ∷ []
 
 abbrev pub updated : World
 updated = after_all (reporting ++ At n_a1 (Hear 1) ∷ []) (open_world 2 with_updates)

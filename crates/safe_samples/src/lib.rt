@@ -1,6 +1,7 @@
-//! Samples of the safety law: short runs of the model at one agent, of which the checker computes that the law holds. The step at
-//! issue goes through a word of its own, which is the model's; each wrong body of `must-fail` stands in the place of such a word,
-//! and then the law is false at the end of the run.
+//! Samples of the safety law: short runs of the model at one agent, of which the checker computes
+//! that the law holds. The step at issue goes through a word of its own, which is the model's; each
+//! wrong body of `must-fail` stands in the place of such a word, and then the law is false at the
+//! end of the run.
 #![tactic(auto)]
 
 ghost use Rattle.cluster_model.specs.Channels.{AllFit, open_world};
@@ -24,7 +25,8 @@ pub fn worlds_are_of_histories()
     ensures offered { world_after 1 no_task (reports ++ is_offered) ≡ offered }
     ensures launched { world_after 1 no_task (reports ++ is_offered ++ launches) ≡ launched }
     ensures updated { world_after 2 with_updates (reports ++ updates) ≡ updated }
-    ensures of_tasks { GoodOpening 2 with_task × GoodOpening 2 with_two_launches × GoodOpening 2 with_updates }
+    ensures of_tasks { GoodOpening 2 with_task × GoodOpening 2 with_two_launches
+        × GoodOpening 2 with_updates }
     ensures of_none { GoodOpening 1 no_task }
 {}
 
@@ -33,7 +35,8 @@ pub fn kills_free_nothing()
     ensures { AllFit after_kill }
 {}
 
-/// The tasks of a framework that is torn down keep their resources until their agent has ended them.
+/// The tasks of a framework that is torn down keep their resources
+/// until their agent has ended them.
 pub fn teardowns_free_nothing()
     ensures { AllFit after_teardown }
 {}
@@ -68,7 +71,8 @@ pub fn totals_do_not_fall()
     ensures { AllFit after_fall }
 {}
 
-/// The books have what the agent last reported, and no more: as a start with more is prepared and saved, nothing of that is offered yet.
+/// The books have what the agent last reported, and no more:
+/// as a start with more is prepared and saved, nothing of that is offered yet.
 pub fn books_have_what_is_reported()
     ensures draft { AllFit after_draft }
     ensures save { AllFit after_save }
@@ -78,7 +82,8 @@ pub fn books_have_what_is_reported()
         × map offers_in after_report.channels ≡ cpus 8 ∷ [] }
 {}
 
-/// A framework that acknowledges each update that is sent has acknowledged a beginning of its task's updates.
+/// A framework that acknowledges each update that is sent has acknowledged
+/// a beginning of its task's updates.
 #[tactic(auto, using(crate::proofs::Gapless::beginning))]
 pub fn updates_are_sent_in_turn()
     ensures { IsBeginningOf (updates_of (id 1 1) reporting (open_world 2 with_updates))

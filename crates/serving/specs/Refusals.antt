@@ -7,9 +7,11 @@ use Rattle.quantity.specs.Rows.{covers}
 use Rattle.serving.specs.declared.folder_fault.FolderFault.{FolderFault}
 use Rattle.serving.specs.declared.folder_fault.FolderFault.TheVariants.{TotalDiffers, NoCluster, OutOfMemory}
 
--- there is no record of an agent: one was found that the agent's total doesn't cover, or memory was refused
+-- there is no record of an agent:
+-- one was found that the agent's total doesn't cover, or memory was refused
 abbrev pub IsRecordRefusal : ConfiguredAgent → Option Durable → FolderFault → Type 0
-IsRecordRefusal a (Some d) (TotalDiffers name) = (covers a.total d.total ≡ false) × (string_bytes name ≡ a.name)
+IsRecordRefusal a (Some d) (TotalDiffers name) =
+    (covers a.total d.total ≡ false) × (string_bytes name ≡ a.name)
 IsRecordRefusal a found OutOfMemory = ⊤
 IsRecordRefusal a found fault = ⊥
 
@@ -27,5 +29,6 @@ IsFileRefusal a fault = ⊤
 
 -- a folder isn't opened: where a total isn't covered, it is one of a configured agent
 abbrev pub IsFolderRefusal : List ConfiguredAgent → FolderFault → Type 0
-IsFolderRefusal agents (TotalDiffers name) = (a : ConfiguredAgent) × Contains agents a × (string_bytes name ≡ a.name)
+IsFolderRefusal agents (TotalDiffers name) =
+    (a : ConfiguredAgent) × Contains agents a × (string_bytes name ≡ a.name)
 IsFolderRefusal agents fault = ⊤

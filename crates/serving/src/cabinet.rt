@@ -8,7 +8,8 @@ use quantity::Resources;
 use sqlite::Alter;
 use std::alloc::Global;
 
-/// The file of an agent's record, and what is configured that the agent owns. It can go to another thread, and becomes a cabinet there.
+/// The file of an agent's record, and what is configured that the agent owns.
+/// It can go to another thread, and becomes a cabinet there.
 #[derive(Drop)]
 pub struct RecordFile<'a> {
     agent: AgentName,
@@ -40,7 +41,8 @@ impl<'a> RecordFile<'a> {
 /// The store of an agent's record, over the file at a path.
 pub type FileCabinet<'a> = PlaceCabinet<FilePlace<'a>>;
 
-/// The store of an agent's record at a place. It is opened when it is first needed, and again after it failed.
+/// The store of an agent's record at a place. It is opened when it is first needed,
+/// and again after it failed.
 #[derive(Drop)]
 pub struct PlaceCabinet<P: Place> {
     place: P,

@@ -8,7 +8,8 @@ use keep_store::KeepFault;
 use names_core::AgentName;
 use std::fmt;
 
-/// Why a cluster stops running before its last connection was taken. What was answered by then stands.
+/// Why a cluster stops running before its last connection was taken.
+/// What was answered by then stands.
 #[derive(Drop)]
 pub enum ServingFault {
     /// An agent's record couldn't be kept.

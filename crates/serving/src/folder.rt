@@ -44,16 +44,18 @@ fn next_run(rt: &HostRuntime, folder: &str) -> Result<Run, FolderFault>
     }
 }
 
-/// The record of an agent: the one that was found, which its total covers, or else a fresh one. Z1 where the one that was found has more than its total, K4
-/// for want of memory.
+/// The record of an agent: the one that was found, which its total covers, or else a fresh one.
+/// Z1 where the one that was found has more than its total, K4 for want of memory.
 fn record_of(
     alloc: Global,
     agent: &ConfiguredAgent,
     found: Option<Record>,
 ) -> Result<Record, FolderFault>
     ensures found { IfOk result (λ kept. IfSome found (λ d. kept ≡ d)) }
-    ensures fresh { IfOk result (λ kept. IfNone found (kept ≡ agents.fresh agent.now.name agent.now.total)) }
-    ensures total { IfOk result (λ kept. IfSome found (λ d. covers agent.now.total d.total ≡ true)) }
+    ensures fresh { IfOk result
+        (λ kept. IfNone found (kept ≡ agents.fresh agent.now.name agent.now.total)) }
+    ensures total { IfOk result
+        (λ kept. IfSome found (λ d. covers agent.now.total d.total ≡ true)) }
     ensures refused { IfErr result (IsRecordRefusal agent.now found) }
 {
     let Some(record) = found else {
@@ -94,7 +96,8 @@ fn open_agent<'a>(
 fn check_opening(config: &Config, records: &mut [Record], run: Run) -> Result<(), FolderFault>
     ensures good { OnOk result (GoodOpening run records.new) }
     ensures records { OnOk result (AreRecordsOf config.now records.new) }
-    ensures refused { IfErr result (λ fault. (fault ≡ NoCluster) × ((GoodOpening run records.old × AreRecordsOf config.now records.old) → ⊥)) }
+    ensures refused { IfErr result (λ fault. (fault ≡ NoCluster)
+        × ((GoodOpening run records.old × AreRecordsOf config.now records.old) → ⊥)) }
 {
     if good_opening(config, records, run) {
         Ok(())
@@ -103,9 +106,10 @@ fn check_opening(config: &Config, records: &mut [Record], run: Run) -> Result<()
     }
 }
 
-/// Opens the stores of a folder, or makes those that lack: takes the master's next run, and reads the agents' records, a fresh one where there is none.
-/// The folder itself is to be there. Refusals come in the order: the store of runs, each agent's store and its total (Z1) in the order of their names, and
-/// then K2 where the records are those of no cluster.
+/// Opens the stores of a folder, or makes those that lack: takes the master's next run, and reads
+/// the agents' records, a fresh one where there is none. The folder itself is to be there. Refusals
+/// come in the order: the store of runs, each agent's store and its total (Z1) in the order of
+/// their names, and then K2 where the records are those of no cluster.
 pub fn open_folder<'a>(
     rt: &'a HostRuntime,
     folder: &str,

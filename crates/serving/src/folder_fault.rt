@@ -10,12 +10,13 @@ use std::fmt;
 /// Why a folder gives no cluster.
 #[derive(Debug, Drop)]
 pub enum FolderFault {
-    /// The store at this path failed, or keeps what it shouldn't: `K1 Store`, `K2 Damaged`, `K3 RunsSpent` or `K4 OutOfMemory`.
+    /// The store at this path failed, or keeps what it shouldn't: `K1 Store`, `K2 Damaged`,
+    /// `K3 RunsSpent` or `K4 OutOfMemory`.
     Store { path: String, fault: KeepFault },
     /// `Z1 TotalDiffers`: this agent's record has more than the total that is configured.
     TotalDiffers { agent: String },
-    /// `K2 Damaged`: each record is one that an agent can have, but together they are none of a cluster's: one is of another agent or of a later run, or
-    /// two have the same task.
+    /// `K2 Damaged`: each record is one that an agent can have, but together they are none of a
+    /// cluster's: one is of another agent or of a later run, or two have the same task.
     NoCluster,
     /// `K4 OutOfMemory`.
     OutOfMemory,

@@ -1,5 +1,6 @@
-//! A cluster that runs over a folder: its agents, its master's time and its connections, each in a thread of its own; and what the folder keeps, the record of
-//! each agent and the number of the master's last run, each in a SQLite store of its own.
+//! A cluster that runs over a folder: its agents, its master's time and its connections, each in a
+//! thread of its own; and what the folder keeps, the record of each agent and the number of the
+//! master's last run, each in a SQLite store of its own.
 #![tactic(auto)]
 
 mod cabinet;
@@ -14,5 +15,5 @@ pub use cabinet::{FileCabinet, RecordFile};
 pub use fault::ServingFault;
 pub use folder::{Folder, open_folder};
 pub use folder_fault::FolderFault;
-pub use serve::serve_cluster;
+pub use serve::{serve_cluster, told_of};
 pub use staff::Pace;

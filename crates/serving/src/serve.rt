@@ -1,13 +1,14 @@
 //! A cluster that runs until its connections have ended.
 
-ghost use Rattle.std.specs.Prelude.{◌≡◌, [], IfOk};
+ghost use Rattle.std.specs.Fn.{FnReturnsAt};
+ghost use Rattle.std.specs.Prelude.{◌≡◌, [], IfOk, Ok};
 ghost use Rattle.cluster_core.specs.Recording.{IsSound};
 
 use crate::cabinet::RecordFile;
 use crate::fault::ServingFault;
 use crate::staff::{Leaver, Pace, start_all};
-use cluster_core::{Cluster, Given, RecordedCluster};
-use desk_lock::{Desk, Office, OfficeFault, Pass, Passes, SeatedHistory};
+use cluster_core::{Cluster, KeptEntry, RecordedCluster};
+use desk_lock::{Desk, Office, OfficeFault, Pass, Passes, Recorded, SeatedHistory};
 use http_door::NoGate;
 use http_workers::{HttpFault, serve_all};
 use office_bench::TcpArrivals;
@@ -22,8 +23,8 @@ use std::time::Clock;
 
 /// Hands a pass in. Where memory is refused for it, the entries of its seat aren't accounted for.
 fn hand_in<L: ledger::Ledger>(
-    passes: &mut Passes<Given, L>,
-    pass: Pass<Given, L>,
+    passes: &mut Passes<KeptEntry, L>,
+    pass: Pass<KeptEntry, L>,
 ) -> Result<(), ServingFault> {
     match passes.push(pass) {
         Ok(()) => Ok(()),
@@ -42,14 +43,15 @@ fn first_fault(
     }
 }
 
-/// Serves the connections of a listener, each with a seat of its own, until no more come and all have ended. The passes of their seats are handed in.
+/// Serves the connections of a listener, each with a seat of its own,
+/// until no more come and all have ended. The passes of their seats are handed in.
 fn serve_connections<L: ledger::Ledger + Send + Sync, R: Threads + Wait + Clock + Sync>(
     rt: &R,
     alloc: Global,
     office: &Office<RecordedCluster, L>,
     listener: &TcpListener,
     connections: u64,
-    passes: &mut Passes<Given, L>,
+    passes: &mut Passes<KeptEntry, L>,
 ) -> Result<(), ServingFault> {
     let pass = match office.open_seat(rt, alloc) {
         Ok(pass) => pass,
@@ -75,7 +77,7 @@ fn serve_connections<L: ledger::Ledger + Send + Sync, R: Threads + Wait + Clock 
 fn join_all<L: ledger::Ledger, R: Threads>(
     rt: &R,
     threads: Vec<JoinHandle<Leaver<L>>>,
-    passes: &mut Passes<Given, L>,
+    passes: &mut Passes<KeptEntry, L>,
 ) -> Result<(), ServingFault> {
     let mut ended = Ok(());
     for thread in threads {
@@ -89,7 +91,8 @@ fn join_all<L: ledger::Ledger, R: Threads>(
     ended
 }
 
-/// Runs a cluster in a scope of threads: serves its connections while its agents and its master's time go on, and ends all of them then.
+/// Runs a cluster in a scope of threads:
+/// serves its connections while its agents and its master's time go on, and ends all of them then.
 fn run<'s, E, L: ledger::Ledger + Send + Sync + 's, R: Threads + Wait + Clock + Sync + 's>(
     scope: &Scope<'s, E>,
     rt: &'s R,
@@ -98,7 +101,7 @@ fn run<'s, E, L: ledger::Ledger + Send + Sync + 's, R: Threads + Wait + Clock + 
     files: Vec<RecordFile<'s>>,
     listener: &TcpListener,
     pace: Pace,
-) -> (Passes<Given, L>, Result<(), ServingFault>) {
+) -> (Passes<KeptEntry, L>, Result<(), ServingFault>) {
     let mut passes = Passes::new(alloc);
     let mut threads = Vec::new(alloc);
     let started = start_all(scope, rt, alloc, office, files, pace, &mut threads);
@@ -119,23 +122,43 @@ fn run_office<L: ledger::Ledger + Send + Sync, R: Threads + Wait + Clock + Sync>
     files: Vec<RecordFile<'_>>,
     listener: &TcpListener,
     pace: Pace,
-) -> (Passes<Given, L>, Result<(), ServingFault>) {
+) -> (Passes<KeptEntry, L>, Result<(), ServingFault>) {
     thread::scope(thread::scope_env(), rt, |scope| {
         run(scope, rt, alloc, office, files, listener, pace)
     })
 }
 
+/// Lets a desk go. (Of a desk over a cluster, whose entries are references, the borrow checker can't
+/// follow that in place.)
+fn let_desk_go<C: Recorded, L: ledger::Ledger>(desk: Desk<C, L>) {
+    drop(desk);
+}
+
+/// What was closed, unless something else failed.
+fn unless_failed<C: Recorded>(
+    closed: Result<SeatedHistory<C>, ServingFault>,
+    ended: Result<(), ServingFault>,
+) -> Result<SeatedHistory<C>, ServingFault>
+    ensures { IfOk result (λ history. closed ≡ Ok history) }
+{
+    match ended {
+        Ok(()) => closed,
+        Err(fault) => Err(fault),
+    }
+}
+
 /// What an office recorded, where the passes of its seats account for them.
 fn close<L: ledger::Ledger>(
     office: Office<RecordedCluster, L>,
-    passes: Passes<Given, L>,
+    passes: Passes<KeptEntry, L>,
 ) -> Result<SeatedHistory<RecordedCluster>, ServingFault>
     ensures { IfOk result (λ history. IsSound history.recorded) }
 {
     match office.close(passes) {
         Ok(history) => Ok(history),
         Err(refused) => {
-            let (_desk, _passes, fault) = refused;
+            let (desk, _passes, fault) = refused;
+            let_desk_go(desk);
             Err(ServingFault::Office(fault))
         }
     }
@@ -155,9 +178,20 @@ fn opened<L: ledger::Ledger>(
     Office::new(desk)
 }
 
-/// Runs a cluster of agents whose records are kept in files, until so many connections as its pace says have come and ended, and gives its whole history, with the
-/// seat of each entry. Each connection has a seat, as has each agent and the master's time. Where an agent's record can't be kept any more, where memory
-/// or a thread is refused, or where connection after connection fails, it ends too, once the connections that there are have ended; the fault tells why.
+/// What a look tells of what a desk recorded, which is let go then. (Of a desk over a cluster, whose
+/// entries are references, the borrow checker can't follow that in place.)
+pub fn told_of<C: Recorded, T, F: Fn(&C) -> T>(history: SeatedHistory<C>, look: F) -> T
+    requires { F.IsAlwaysCallable look }
+    ensures { FnReturnsAt F.Fn look history.recorded result }
+{
+    look(history.recorded())
+}
+
+/// Runs a cluster of agents whose records are kept in files, until so many connections as its pace
+/// says have come and ended, and gives its whole history, with the seat of each entry. Each
+/// connection has a seat, as has each agent and the master's time. Where an agent's record can't be
+/// kept any more, where memory or a thread is refused, or where connection after connection fails,
+/// it ends too, once the connections that there are have ended; the fault tells why.
 pub fn serve_cluster<L: ledger::Ledger + Send + Sync, R: Threads + Wait + Clock + Sync>(
     rt: &R,
     alloc: Global,
@@ -174,9 +208,5 @@ pub fn serve_cluster<L: ledger::Ledger + Send + Sync, R: Threads + Wait + Clock 
 {
     let office: Office<RecordedCluster, L> = opened(alloc, cluster, blank);
     let (passes, ended) = run_office(rt, alloc, &office, files, listener, pace);
-    let closed = close(office, passes);
-    match ended {
-        Ok(()) => closed,
-        Err(fault) => Err(fault),
-    }
+    unless_failed(close(office, passes), ended)
 }

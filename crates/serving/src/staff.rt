@@ -5,7 +5,7 @@ ghost use Rattle.std.specs.Prelude.{◌≡◌, []};
 use crate::cabinet::RecordFile;
 use crate::fault::ServingFault;
 use activities::{ActivityFault, activity, ticker};
-use cluster_core::{Given, RecordedCluster};
+use cluster_core::{KeptEntry, RecordedCluster};
 use desk_lock::{Office, Pass};
 use http_workers::HttpFault;
 use keep_store::KeepFault;
@@ -18,7 +18,8 @@ use std::time::Clock;
 /// How fast a cluster runs.
 #[derive(Clone, Copy, Drop)]
 pub struct Pace {
-    /// So many seconds lie between two rounds of offers: 1 or more, since at 0 rounds follow without a pause.
+    /// So many seconds lie between two rounds of offers: 1 or more,
+    /// since at 0 rounds follow without a pause.
     pub interval: u64,
     /// So many seconds a task runs, any number; with 0 until it is killed.
     pub task_seconds: u64,
@@ -29,7 +30,7 @@ pub struct Pace {
 /// What a thread leaves: its pass, and why an agent's activity ended.
 #[derive(Drop)]
 pub(crate) struct Leaver<L: ledger::Ledger> {
-    pub pass: Pass<Given, L>,
+    pub pass: Pass<KeptEntry, L>,
     pub fault: Option<(AgentName, ActivityFault<KeepFault>)>,
 }
 
@@ -38,7 +39,7 @@ fn keep_going<L: ledger::Ledger, R: Wait + Clock>(
     rt: &R,
     alloc: Global,
     office: &Office<RecordedCluster, L>,
-    pass: Pass<Given, L>,
+    pass: Pass<KeptEntry, L>,
     file: RecordFile<'_>,
     task_seconds: u64,
 ) -> Leaver<L>
@@ -69,7 +70,7 @@ fn keep_time<L: ledger::Ledger, R: Wait + Clock>(
     rt: &R,
     alloc: Global,
     office: &Office<RecordedCluster, L>,
-    pass: Pass<Given, L>,
+    pass: Pass<KeptEntry, L>,
     interval: u64,
 ) -> Leaver<L> {
     Leaver {
@@ -117,7 +118,8 @@ fn start_ticker<'s, E, L: ledger::Ledger + Send + Sync + 's, R: Threads + Wait +
     }
 }
 
-/// Starts the threads of all agents, and of the master's time. Those that run when one is refused are among the threads too.
+/// Starts the threads of all agents, and of the master's time.
+/// Those that run when one is refused are among the threads too.
 pub(crate) fn start_all<
     's,
     E,

@@ -5,11 +5,13 @@ use Rattle.quantity.specs.Rows.{amount}
 use Rattle.share_sums.specs.Lists.{Among}
 use Rattle.share_sums.specs.declared.share.Fraction.{Fraction}
 
--- what is held of one name of the totals by its total, and of no other name is held more by its total; nothing, where there is no name
+-- what is held of one name of the totals by its total,
+-- and of no other name is held more by its total; nothing, where there is no name
 pub record IsDominant (totals held : List Row) (f : Fraction) : Type 0 where
   pub some : 0 < f.total
   pub most : (r : Row) → Among r totals → amount r.name held * f.total ≤ f.amount * r.amount
-  pub one_of : ((totals ≡ []) × (f.amount ≡ 0)) ⊎ ((r : Row) × Among r totals × (amount r.name held ≡ f.amount) × (r.amount ≡ f.total))
+  pub one_of : ((totals ≡ []) × (f.amount ≡ 0))
+      ⊎ ((r : Row) × Among r totals × (amount r.name held ≡ f.amount) × (r.amount ≡ f.total))
 
 -- a fraction by its weight is at most another by the other's
 abbrev pub is_at_most : Fraction → ℕ → Fraction → ℕ → Bool

@@ -31,7 +31,8 @@ summed rows more = fold (λ sum r. with_more r.name r.amount sum) rows more
 -- what the first row of a name has
 abbrev pub first_amount : List ℕ → List Row → ℕ
 first_amount name [] = 0
-first_amount name (r ∷ rows) = if pointwise nat_eq r.name name then r.amount else first_amount name rows
+first_amount name (r ∷ rows) =
+    if pointwise nat_eq r.name name then r.amount else first_amount name rows
 
 -- rows of different names, in byte order of these, each of some amount, and none above the cap
 pub record IsSum (rows : List Row) : Type 0 where
@@ -41,5 +42,6 @@ pub record IsSum (rows : List Row) : Type 0 where
 
 -- sums that stay within the cap have the sums of the amounts
 abbrev pub SumsAdd : Type 0
-SumsAdd = (rows more : List Row) → ((name : List ℕ) → amount name rows + amount name more ≤ greatest_sum)
+SumsAdd =
+    (rows more : List Row) → ((name : List ℕ) → amount name rows + amount name more ≤ greatest_sum)
     → (name : List ℕ) → amount name (summed rows more) ≡ amount name rows + amount name more

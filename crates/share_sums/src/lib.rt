@@ -1,4 +1,5 @@
-//! Sums of what frameworks and agents have by name, and how two compare by dominant shares of a total (DRF paper, section 4).
+//! Sums of what frameworks and agents have by name,
+//! and how two compare by dominant shares of a total (DRF paper, section 4).
 #![tactic(auto)]
 
 mod fault;

@@ -59,8 +59,9 @@ fn is_at_most(first: Fraction, first_weight: u16, second: Fraction, second_weigh
         <= scaled(second.amount, first.total, first_weight)
 }
 
-/// Whether the first stands at most at the second: at each name of the totals its share, by its weight, is at most the second's share of some name
-/// by that one's weight. A weight says how much of all is due, beside the other's.
+/// Whether the first stands at most at the second: at each name of the totals its share, by its
+/// weight, is at most the second's share of some name by that one's weight. A weight says how much
+/// of all is due, beside the other's.
 pub fn stands_at_most_at(
     totals: &Sum,
     first: &Sum,
@@ -77,7 +78,8 @@ pub fn stands_at_most_at(
     is_at_most(one, first_weight, other, second_weight)
 }
 
-/// Whether the first is served rather than the second, of which one is by the tie where they stand alike.
+/// Whether the first is served rather than the second,
+/// of which one is by the tie where they stand alike.
 pub fn stands_first(
     totals: &Sum,
     first: &Sum,

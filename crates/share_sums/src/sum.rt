@@ -14,7 +14,8 @@ use std::marker::Model;
 /// No amount is kept above this: what 256 agents own of a name, of at most 2^40 each.
 const GREATEST_SUM: u64 = 281_474_976_710_656;
 
-/// Amounts of any number of names, in byte order of these; an amount stays at 2^48 once it is reached.
+/// Amounts of any number of names, in byte order of these;
+/// an amount stays at 2^48 once it is reached.
 #[derive(Drop)]
 pub struct Sum {
     rows: Vec<Row>,
@@ -44,7 +45,8 @@ fn capped(amount: u64, more: u64) -> u64
 }
 
 fn raise(rows: &mut Vec<Row>, more: &Row) -> Result<(), AllocError>
-    ensures { OnOk result (rows.new.items ≡ with_more more.now.name more.now.amount rows.old.items) }
+    ensures { OnOk result (rows.new.items ≡ with_more more.now.name more.now.amount
+        rows.old.items) }
 {
     for i in 0..rows.len() {
         match more.name.as_str().cmp(rows[i].name.as_str()) {

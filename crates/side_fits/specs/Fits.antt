@@ -36,21 +36,29 @@ ReportsNothing (Update session key k state ended) = ⊤
 
 -- it fits, whatever total it tells
 abbrev pub NothingFits : Type 0
-NothingFits = (agent : List ℕ) (mail : AgentMail) (ss : List Side) → ReportsNothing mail → MailFitsAt agent mail ss
+NothingFits =
+    (agent : List ℕ) (mail : AgentMail) (ss : List Side) → ReportsNothing mail
+    → MailFitsAt agent mail ss
 
 -- whatever the master does at an agent, what is taken still fits
 abbrev pub StepsKeepFits : Type 0
-StepsKeepFits = (run : Run) (s : Side) (step : SideStep) → FitsTotal s → FitsTotal (side_step run s step).side
+StepsKeepFits =
+    (run : Run) (s : Side) (step : SideStep) → FitsTotal s → FitsTotal (side_step run s step).side
 
 abbrev pub MovesKeepFits : Type 0
-MovesKeepFits = (moves : List Move) (x : Moved) → AllFitTotals x.sides → AllFitTotals (move_all moves x).sides
+MovesKeepFits =
+    (moves : List Move) (x : Moved) → AllFitTotals x.sides → AllFitTotals (move_all moves x).sides
 
 -- and whatever it hears, where what is reported fits
 abbrev pub HearingKeepsFits : Type 0
-HearingKeepsFits = (run : Run) (s : Side) (mail : AgentMail) → MailFits mail → FitsTotal s → FitsTotal (heard run s mail)
+HearingKeepsFits =
+    (run : Run) (s : Side) (mail : AgentMail) → MailFits mail → FitsTotal s
+    → FitsTotal (heard run s mail)
 
 abbrev pub HearingAtKeepsFits : Type 0
-HearingAtKeepsFits = (agent : List ℕ) (run : Run) (mail : AgentMail) (ss : List Side) → MailFitsAt agent mail ss → AllFitTotals ss → AllFitTotals (hear_at agent run mail ss)
+HearingAtKeepsFits =
+    (agent : List ℕ) (run : Run) (mail : AgentMail) (ss : List Side) → MailFitsAt agent mail ss
+    → AllFitTotals ss → AllFitTotals (hear_at agent run mail ss)
 
 -- the ids of current offers stand before the next one
 abbrev pub OffersBefore : Numbered → Side → Type 0
@@ -60,7 +68,8 @@ OffersBefore next s = AllByRecursion (λ o. before o.id next ≡ true) s.offers
 abbrev pub most_sides : ℕ
 most_sides = 256
 
--- what holds of a master's sides in its run: what is taken fits, offers have ids that were given out, these are numbered from 1, and the agents are few
+-- what holds of a master's sides in its run: what is taken fits,
+-- offers have ids that were given out, these are numbered from 1, and the agents are few
 pub record SidesFit (run : Run) (ss : List Side) : Type 0 where
   pub totals : AllFitTotals ss
   pub ids : AllByRecursion (OffersBefore run.next_offer) ss
@@ -69,8 +78,12 @@ pub record SidesFit (run : Run) (ss : List Side) : Type 0 where
 
 -- all moves of the master keep it
 abbrev pub MovesKeepSides : Type 0
-MovesKeepSides = (moves : List Move) (x : Moved) → SidesFit x.run x.sides → SidesFit (move_all moves x).run (move_all moves x).sides
+MovesKeepSides =
+    (moves : List Move) (x : Moved) → SidesFit x.run x.sides
+    → SidesFit (move_all moves x).run (move_all moves x).sides
 
 -- and so does what it hears, where what is reported fits
 abbrev pub HearingKeepsSides : Type 0
-HearingKeepsSides = (agent : List ℕ) (run : Run) (mail : AgentMail) (ss : List Side) → MailFitsAt agent mail ss → SidesFit run ss → SidesFit run (hear_at agent run mail ss)
+HearingKeepsSides =
+    (agent : List ℕ) (run : Run) (mail : AgentMail) (ss : List Side) → MailFitsAt agent mail ss
+    → SidesFit run ss → SidesFit run (hear_at agent run mail ss)

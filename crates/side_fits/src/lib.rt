@@ -1,4 +1,5 @@
-//! What is taken of each agent, current offers and booked tasks that haven't ended, stays within what the agent owns.
+//! What is taken of each agent, current offers and booked tasks that haven't ended,
+//! stays within what the agent owns.
 #![tactic(auto)]
 
 ghost use Rattle.cluster_model.specs.Sides.{Side, new_side};
@@ -10,7 +11,8 @@ pub fn steps_keep_fits()
     ensures { StepsKeepFits }
 {}
 
-/// So do all moves of the master, one after another; and current offers keep ids that stand before the next one.
+/// So do all moves of the master, one after another;
+/// and current offers keep ids that stand before the next one.
 pub fn moves_keep_fits()
     ensures fits { MovesKeepFits }
     ensures sides { MovesKeepSides }

@@ -21,9 +21,12 @@ use Rattle.step_lines.specs.Lines.{longest_line}
 abbrev pub configured : {A : Type 0} → Option A → Result A LineRefusal
 configured o = or_refused BadConfig o
 
--- an agent that no other of this name stands before, and of whom there are not 256 yet, stands in its place
+-- an agent that no other of this name stands before,
+-- and of whom there are not 256 yet, stands in its place
 abbrev pub joined : ConfiguredAgent → List ConfiguredAgent → Option (List ConfiguredAgent)
-joined a agents = where_true (not (has_name a.name agents)) agents >>= λ others. where_true (nat_lt (length others) most_agents) others >>= λ few. Some (with_agent a few)
+joined a agents =
+    where_true (not (has_name a.name agents)) agents >>= λ others.
+    where_true (nat_lt (length others) most_agents) others >>= λ few. Some (with_agent a few)
 
 -- a name that an agent can be configured under
 abbrev pub name_of : List ℕ → Option (List ℕ)
@@ -96,4 +99,5 @@ unfoldable pub config_json : List ℕ → Result Configured LineRefusal
 config_json bytes = config_in (if is_utf8 bytes then read bytes else None)
 
 abbrev pub read_config : List ℕ → Result Configured LineRefusal
-read_config bytes = if nat_lt longest_line (length bytes) then Err BadConfig else config_json (trim bytes)
+read_config bytes =
+    if nat_lt longest_line (length bytes) then Err BadConfig else config_json (trim bytes)

@@ -62,7 +62,8 @@ told_in d = key_in d >>= λ key. state_in d >>= λ state. Some (Executor key sta
 abbrev pub cause_in : Data → Option StepCause
 cause_in d =
     if is_some (get (codes "mail") d) then (number_in (codes "mail") d >>= λ n. Some (Mail n))
-    else (if is_some (get (codes "cause") d) then (text_in (codes "cause") d >>= λ text. named_cause text (get (codes "total") d))
+    else (if is_some (get (codes "cause") d)
+    then (text_in (codes "cause") d >>= λ text. named_cause text (get (codes "total") d))
     else told_in d)
 
 abbrev pub named_members : Data → ℕ
@@ -70,16 +71,21 @@ named_members d = if is_some (get (codes "total") d) then 4 else 3
 
 -- how many members a step has with its cause
 abbrev pub cause_members : Data → ℕ
-cause_members d = if is_some (get (codes "mail") d) then 3 else (if is_some (get (codes "cause") d) then named_members d else 4)
+cause_members d =
+    if is_some (get (codes "mail") d) then 3
+    else (if is_some (get (codes "cause") d) then named_members d else 4)
 
 unfoldable pub prepare_of : Data → Result Step LineRefusal
-prepare_of d = formed (cause_members d) d (agent_in d >>= λ agent. cause_in d >>= λ cause. Some (Prepare agent cause))
+prepare_of d =
+    formed (cause_members d) d
+    (agent_in d >>= λ agent. cause_in d >>= λ cause. Some (Prepare agent cause))
 
 unfoldable pub commit_of : Data → Result Step LineRefusal
 commit_of d = formed 2 d (agent_in d >>= λ agent. Some (Commit agent))
 
 unfoldable pub stop_agent_of : Data → Result Step LineRefusal
-stop_agent_of d = formed 3 d (agent_in d >>= λ agent. keep_in d >>= λ keep. Some (StopAgent agent keep))
+stop_agent_of d =
+    formed 3 d (agent_in d >>= λ agent. keep_in d >>= λ keep. Some (StopAgent agent keep))
 
 -- steps of a framework
 
@@ -107,7 +113,9 @@ sent (Some stream) (Some call) = called stream (call_of call)
 
 -- the whole form first, then the call
 unfoldable pub send_of : Data → Result Step LineRefusal
-send_of d = if has_members (send_members d) d then sent (maybe_stream d) (get (codes "call") d) else Err NotAStep
+send_of d =
+    if has_members (send_members d) d then sent (maybe_stream d) (get (codes "call") d)
+    else Err NotAStep
 
 -- any step
 
@@ -163,4 +171,5 @@ longest_line = 1048576
 
 -- the step that a line is: each whole number that is written with a point and zeros counts as such
 abbrev pub read_step : List ℕ → Result Step LineRefusal
-read_step bytes = if nat_lt longest_line (length bytes) then Err NotAStep else read_json (trim bytes)
+read_step bytes =
+    if nat_lt longest_line (length bytes) then Err NotAStep else read_json (trim bytes)

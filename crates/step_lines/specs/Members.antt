@@ -53,7 +53,9 @@ abbrev pub state_in : Data → Option TaskState
 state_in d = text_in (codes "state") d >>= told_state
 
 unfoldable pub kept : List ℕ → Option Keep
-kept text = if bytes_eq text (codes "before") then Some Before else (if bytes_eq text (codes "after") then Some After else None)
+kept text =
+    if bytes_eq text (codes "before") then Some Before
+    else (if bytes_eq text (codes "after") then Some After else None)
 
 abbrev pub keep_in : Data → Option Keep
 keep_in d = text_in (codes "keep") d >>= kept

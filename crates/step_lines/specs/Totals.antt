@@ -10,7 +10,9 @@ use Rattle.step_lines.specs.Members.{where_true}
 
 -- an amount of a name more; none is 0
 abbrev pub more_of : List ℕ → Data → List Row → Option (List Row)
-more_of name d rows = as_number d >>= as_u64 >>= λ n. where_true (not (n == 0)) n >>= λ some. result_ok (added name some rows)
+more_of name d rows =
+    as_number d >>= as_u64 >>= λ n. where_true (not (n == 0)) n >>= λ some.
+    result_ok (added name some rows)
 
 abbrev pub rows_in : List Row → Members → Option (List Row)
 rows_in rows no_members = Some rows

@@ -15,7 +15,8 @@ use std::alloc::Global;
 
 /// What an agent owns from its start on, where that is named.
 fn total_named(alloc: Global, value: Option<&Value>) -> Result<Option<Resources>, LineFault>
-    ensures { Gives (λ t. t) result (wanted (lines.total_named (option_map (λ v. view v.now) value.entry))) }
+    ensures { Gives (λ t. t) result
+        (wanted (lines.total_named (option_map (λ v. view v.now) value.entry))) }
 {
     match value {
         Some(value) => Ok(Some(total_of(alloc, LineRefusal::NotAStep, value)?)),
@@ -25,7 +26,8 @@ fn total_named(alloc: Global, value: Option<&Value>) -> Result<Option<Resources>
 
 #[tactic(auto, unfolding(crate::specs::Lines::named_cause))]
 fn named_cause(alloc: Global, text: &str, total: Option<&Value>) -> Result<StepCause, LineFault>
-    ensures { Gives (λ c. c) result (wanted (lines.named_cause text.now (option_map (λ v. view v.now) total.entry))) }
+    ensures { Gives (λ c. c) result
+        (wanted (lines.named_cause text.now (option_map (λ v. view v.now) total.entry))) }
 {
     match text {
         "start" => Ok(StepCause::Start(total_named(alloc, total)?)),

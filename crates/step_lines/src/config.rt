@@ -51,7 +51,8 @@ fn name_of(alloc: Global, name: &str) -> Result<AgentName, LineFault>
 }
 
 fn join(config: &mut Config, name: AgentName, total: Resources) -> Result<(), LineFault>
-    ensures { Gives (λ _. config.new) result (configs.configured (configs.joined (record { name = name; total = total }) config.old)) }
+    ensures { Gives (λ _. config.new) result
+        (configs.configured (configs.joined (record { name = name; total = total }) config.old)) }
 {
     match config.add(name, total) {
         Ok(()) => Ok(()),
@@ -62,7 +63,8 @@ fn join(config: &mut Config, name: AgentName, total: Resources) -> Result<(), Li
 
 #[tactic(auto, unfolding(crate::specs::Configs::agent_more))]
 fn add_agent(alloc: Global, config: &mut Config, name: &str, value: &Value) -> Result<(), LineFault>
-    ensures { Gives (λ _. config.new) result (configs.configured (configs.agent_more name.now (view value.now) config.old)) }
+    ensures { Gives (λ _. config.new) result
+        (configs.configured (configs.agent_more name.now (view value.now) config.old)) }
 {
     let name = name_of(alloc, name)?;
     let total = total_of(alloc, LineRefusal::BadConfig, value)?;
@@ -70,7 +72,8 @@ fn add_agent(alloc: Global, config: &mut Config, name: &str, value: &Value) -> R
 }
 
 fn agents_of(alloc: Global, members: &Map<String, Value>) -> Result<Config, LineFault>
-    ensures { Gives (λ c. c) result (configs.configured (configs.agents_in [] (members_view members.now.entries))) }
+    ensures { Gives (λ c. c) result
+        (configs.configured (configs.agents_in [] (members_view members.now.entries))) }
 {
     let mut config = Config::new(alloc);
     for (name, value) in members.iter() {
@@ -199,9 +202,11 @@ fn config_json(alloc: Global, bytes: &[u8]) -> Result<Configuration, LineFault>
     }
 }
 
-/// What a line configures: `{"agents":{"a1":{"cpus":4,"mem":4096}},"weights":{"prod":2}}`, with 1 to 256 agents, whose names have 1 to 64 ASCII letters,
-/// digits, `-`, `_` and `.`; an agent owns up to 8 amounts, each a whole number from 1 to 2^40. `weights` may lack; it names at most 4,096 roles, each with a whole
-/// number from 1 to 1,000, and a role that it doesn't name has 1. Every other line is `X3 BadConfig`; `X4 OutOfMemory` may come before it.
+/// What a line configures: `{"agents":{"a1":{"cpus":4,"mem":4096}},"weights":{"prod":2}}`, with 1
+/// to 256 agents, whose names have 1 to 64 ASCII letters, digits, `-`, `_` and `.`; an agent owns
+/// up to 8 amounts, each a whole number from 1 to 2^40. `weights` may lack; it names at most 4,096
+/// roles, each with a whole number from 1 to 1,000, and a role that it doesn't name has 1. Every
+/// other line is `X3 BadConfig`; `X4 OutOfMemory` may come before it.
 pub fn read_config(alloc: Global, line: &[u8]) -> Result<Configuration, LineFault>
     ensures { Gives (λ c. configured_by c) result (configs.read_config line.now) }
 {

@@ -1,5 +1,6 @@
-//! The lines of the replayer, each a JSON object (RFC 8259): the first says which agents there are, and each other one is a step, with the member
-//! `step` and those that its step asks, and no further ones.
+//! The lines of the replayer, each a JSON object (RFC 8259): the first says which agents there are,
+//! and each other one is a step, with the member `step` and those that its step asks, and no
+//! further ones.
 #![tactic(auto)]
 
 mod agents;

@@ -124,8 +124,9 @@ fn of_kind(alloc: Global, kind: Kind, value: &Value) -> Result<Step, LineFault>
     }
 }
 
-/// The step that a JSON value is. `X1 NotAStep` where it has no form of a step, of which a further member is none either; `X2 BadCall` where the
-/// form is right and the call that it sends doesn't read; `X4 OutOfMemory` may come before these.
+/// The step that a JSON value is. `X1 NotAStep` where it has no form of a step, of which a further
+/// member is none either; `X2 BadCall` where the form is right and the call that it sends doesn't
+/// read; `X4 OutOfMemory` may come before these.
 #[tactic(auto, unfolding(crate::specs::Lines::step_of))]
 pub fn step_of(alloc: Global, value: &Value) -> Result<Step, LineFault>
     ensures { Gives (λ s. s) result (lines.step_of (view value.now)) }
@@ -155,8 +156,8 @@ fn read_json(alloc: Global, bytes: &[u8]) -> Result<Step, LineFault>
     }
 }
 
-/// The step that a line is, without its line feed. A number that is whole but written with a point and zeros counts as the whole number. A line of more than
-/// 1,048,576 bytes is `X1 NotAStep`.
+/// The step that a line is, without its line feed. A number that is whole but written with a point
+/// and zeros counts as the whole number. A line of more than 1,048,576 bytes is `X1 NotAStep`.
 pub fn read_step(alloc: Global, line: &[u8]) -> Result<Step, LineFault>
     ensures { Gives (λ s. s) result (lines.read_step line.now) }
 {

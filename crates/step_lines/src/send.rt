@@ -1,6 +1,7 @@
 //! Steps of a framework.
 
-ghost use Rattle.std.specs.Prelude.{◌≡◌, option_map};
+ghost use Rattle.std.specs.Prelude.{◌≡◌, Ok, option_map};
+ghost use Rattle.cluster_steps.specs.declared.step.Step.TheVariants.{Send};
 ghost use Rattle.serde_json.specs.View.{view};
 ghost use Rattle.step_lines.specs.Answers.{Gives, wanted};
 ghost use Rattle.step_lines.specs.Lines as lines;
@@ -10,8 +11,10 @@ use crate::members::{has_members, stream_in};
 use call_json::call_of;
 use call_members::CallFault;
 use cluster_steps::Step;
+use mails::Call;
 use names_core::StreamId;
 use serde_json::Value;
+use shared_value::Shared;
 use std::alloc::Global;
 
 /// The stream, which may be absent, but not wrong.
@@ -33,6 +36,16 @@ fn send_members(value: &Value) -> usize
     if value.get("stream").is_some() { 3 } else { 2 }
 }
 
+/// A Send of a call, which stands once from then on.
+fn sent(alloc: Global, stream: Option<StreamId>, call: Call) -> Result<Step, LineFault>
+    ensures { Gives (λ s. s) result (Ok (Send stream call)) }
+{
+    match Shared::new(alloc, call) {
+        Ok(call) => Ok(Step::Send { stream, call }),
+        Err(_) => Err(LineFault::OutOfMemory),
+    }
+}
+
 #[tactic(auto, unfolding(crate::specs::Lines::send_of))]
 pub fn send(alloc: Global, value: &Value) -> Result<Step, LineFault>
     ensures { Gives (λ s. s) result (lines.send_of (view value.now)) }
@@ -45,7 +58,7 @@ pub fn send(alloc: Global, value: &Value) -> Result<Step, LineFault>
         return Err(NOT_A_STEP);
     };
     match call_of(alloc, call) {
-        Ok(call) => Ok(Step::Send { stream, call }),
+        Ok(call) => sent(alloc, stream, call),
         Err(CallFault::Refused(refusal)) => Err(LineFault::Refused(LineRefusal::BadCall(refusal))),
         Err(CallFault::OutOfMemory) => Err(LineFault::OutOfMemory),
     }

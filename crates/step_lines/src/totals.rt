@@ -18,7 +18,8 @@ fn add(
     name: &str,
     value: &Value,
 ) -> Result<(), LineFault>
-    ensures { Gives (λ _. resources.new) result (or_refused refusal (totals.more_of name.now (view value.now) resources.old)) }
+    ensures { Gives (λ _. resources.new) result
+        (or_refused refusal (totals.more_of name.now (view value.now) resources.old)) }
 {
     let Some(amount) = value.as_u64() else {
         return Err(LineFault::Refused(refusal));
@@ -38,7 +39,8 @@ fn rows_of(
     refusal: LineRefusal,
     members: &Map<String, Value>,
 ) -> Result<Resources, LineFault>
-    ensures { Gives (λ r. r) result (or_refused refusal (totals.rows_in [] (members_view members.now.entries))) }
+    ensures { Gives (λ r. r) result
+        (or_refused refusal (totals.rows_in [] (members_view members.now.entries))) }
 {
     let mut resources = Resources::new(alloc);
     for (name, value) in members.iter() {
@@ -47,7 +49,8 @@ fn rows_of(
     Ok(resources)
 }
 
-/// What an agent owns, which may be nothing: up to 8 amounts, each a whole number from 1 to 2^40. All else is refused as told.
+/// What an agent owns, which may be nothing: up to 8 amounts, each a whole number from 1 to 2^40.
+/// All else is refused as told.
 pub fn total_of(alloc: Global, refusal: LineRefusal, value: &Value) -> Result<Resources, LineFault>
     ensures { Gives (λ r. r) result (or_refused refusal (totals.total_of (view value.now))) }
 {

@@ -87,7 +87,8 @@ pub fn contents_of(alloc: Global, mut disks: Disks, is_lossy: bool) -> Option<Co
     contents_on(alloc, &disks)
 }
 
-/// The journal is copied into the database file at each write, so that a save takes calls of both. The stores have few pages, so each takes little memory.
+/// The journal is copied into the database file at each write, so that a save takes calls of both.
+/// The stores have few pages, so each takes little memory.
 fn options() -> Options {
     Options {
         cache_pages: 64,

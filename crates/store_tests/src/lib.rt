@@ -1,4 +1,5 @@
-//! Tests of records in stores, each a function that says whether it passed; and files in memory that stop, for stores that others test.
+//! Tests of records in stores, each a function that says whether it passed;
+//! and files in memory that stop, for stores that others test.
 #![tactic(auto)]
 
 mod disks;

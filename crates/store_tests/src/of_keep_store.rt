@@ -1,4 +1,5 @@
-//! A keeper over a store in memory: what is saved is loaded, and runs are counted. What is no record, and what is no run, stands in files of `tests/serve`.
+//! A keeper over a store in memory: what is saved is loaded, and runs are counted.
+//! What is no record, and what is no run, stands in files of `tests/serve`.
 
 use crate::records::{OTHER_TASKS, TASKS, load, save};
 use keep_store::{KeepFault, Keeper};

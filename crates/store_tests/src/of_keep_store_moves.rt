@@ -1,4 +1,5 @@
-//! A keeper over a store of version 1, which its first save moves to version 2; and rows of version 2 that tell no record.
+//! A keeper over a store of version 1, which its first save moves to version 2;
+//! and rows of version 2 that tell no record.
 
 use crate::older_forms::{write_rows, write_text};
 use crate::records::{OWNS_4, OWNS_8, load, save};
@@ -6,7 +7,8 @@ use keep_store::{KeepFault, Keeper};
 use sqlite::{Alter, Connection};
 use std::alloc::Global;
 
-/// What a keeper loads, of the two records of an agent that owns more and more; whether it saves the second; and what it loads then.
+/// What a keeper loads, of the two records of an agent that owns more and more;
+/// whether it saves the second; and what it loads then.
 fn answers<S: Alter>(
     keeper: &mut Keeper<S>,
     alloc: Global,
@@ -30,7 +32,8 @@ fn shows<S: Alter>(conn: &mut Connection<S>, query: &str, text: &str, number: u6
     row.get::<String>(0).is_ok_and(|it| it.as_str() == text) && row.get::<u64>(1) == Ok(number)
 }
 
-/// Whether a store has `OWNS_8` in version 2: its head, the two rows of its total, and no record as one text.
+/// Whether a store has `OWNS_8` in version 2: its head, the two rows of its total,
+/// and no record as one text.
 fn has_second_version<S: Alter>(conn: &mut Connection<S>) -> bool {
     shows(conn, "SELECT total, version FROM agent_head", "{}", 2)
         && shows(
@@ -59,7 +62,8 @@ fn has_second_version<S: Alter>(conn: &mut Connection<S>) -> bool {
         )
 }
 
-/// Whether a store of version 1 gives its record, and that of the next save behind it, which it then has in version 2.
+/// Whether a store of version 1 gives its record, and that of the next save behind it,
+/// which it then has in version 2.
 fn is_moved<S: Alter + Drop>(alloc: Global, conn: Connection<S>) -> bool {
     let Ok(mut keeper) = Keeper::adopt(conn) else {
         return false;
@@ -101,7 +105,8 @@ const DAMAGES: [&str; 12] = [
     "DELETE FROM agent_head; DELETE FROM agent_task",
 ];
 
-/// What a keeper loads over the rows of `OWNS_8` in version 2, once this was done to them. None where they weren't written.
+/// What a keeper loads over the rows of `OWNS_8` in version 2, once this was done to them.
+/// None where they weren't written.
 fn damaged<S: Alter + Drop>(
     alloc: Global,
     conn: Connection<S>,

@@ -1,5 +1,5 @@
-//! A keeper in memory whose database file or whose journal stops working after so many calls: what is found afterwards is the record
-//! before or the new one as a whole, and no run is given twice.
+//! A keeper in memory whose database file or whose journal stops working after so many calls: what
+//! is found afterwards is the record before or the new one as a whole, and no run is given twice.
 
 use crate::disks::{Calls, Contents, NO_STOP, calls_of, connected, contents_of, disks_of, nothing};
 use crate::older_forms::{write_rows, write_text};
@@ -71,7 +71,8 @@ fn save_others<S: Alter>(alloc: Global, keeper: &mut Keeper<S>, plan: Plan<'_>) 
     plan.texts.len()
 }
 
-/// What the keeper answers to a load, to saves of the other records, and to a call for the next run.
+/// What the keeper answers to a load, to saves of the other records,
+/// and to a call for the next run.
 fn answers_of<S: Alter>(alloc: Global, keeper: &mut Keeper<S>, plan: Plan<'_>) -> Answers {
     Answers {
         found: load(alloc, keeper, plan.texts).unwrap_or(None),
@@ -102,7 +103,8 @@ fn visited<S: OverDisks>(
     }
 }
 
-/// What a keeper over files of these contents answers that stop after so many calls, and what a stop leaves of them.
+/// What a keeper over files of these contents answers that stop after so many calls,
+/// and what a stop leaves of them.
 fn visited_at(
     alloc: Global,
     contents: &Contents,
@@ -175,7 +177,8 @@ fn run_before(plan: Plan<'_>) -> u32 {
     if plan.kept > 0 { 1 } else { 0 }
 }
 
-/// The last record that was said to be saved, or the one behind it; and a run above each that was given.
+/// The last record that was said to be saved, or the one behind it;
+/// and a run above each that was given.
 fn is_kept(plan: Plan<'_>, told: Answers, found: Answers) -> bool {
     let is_record = found.found == Some(told.saved)
         || found.found == Some(told.saved.saturating_add(1));
@@ -199,7 +202,8 @@ fn answers_around_a_stop(
     Some((told, found))
 }
 
-/// Whether all saves and a next run came to their end over files that stop; none where what is found afterwards isn't what is to be kept.
+/// Whether all saves and a next run came to their end over files that stop;
+/// none where what is found afterwards isn't what is to be kept.
 fn is_whole(
     alloc: Global,
     start: &Contents,
@@ -215,8 +219,9 @@ fn is_whole(
     }
 }
 
-/// At how many calls of the journal, or of the database file, a stop was tried, until none came. None where a stop left neither record or a run was given
-/// twice, or where there always was a stop.
+/// At how many calls of the journal, or of the database file, a stop was tried, until none came.
+/// None where a stop left neither record or a run was given twice, or where there always was a
+/// stop.
 fn stops_from(
     alloc: Global,
     start: &Contents,
@@ -270,7 +275,8 @@ fn stops_among_tasks(alloc: Global, is_journal: bool) -> bool {
     stops_well(alloc, rows(alloc, TASKS), plan, is_journal)
 }
 
-/// A save of tasks and one of other tasks by the same keeper, which writes the rows of those that changed.
+/// A save of tasks and one of other tasks by the same keeper,
+/// which writes the rows of those that changed.
 fn stops_in_two_saves(alloc: Global, is_journal: bool) -> bool {
     let plan = Plan {
         texts: &[SESSION_1, TASKS, OTHER_TASKS],
@@ -302,7 +308,8 @@ fn stops_behind_rows(alloc: Global, is_journal: bool) -> bool {
     stops_well(alloc, older_files(alloc, Older::Rows), plan, is_journal)
 }
 
-/// A save of a total and one of a larger total by the same keeper, which writes the head and the rows of the total alone.
+/// A save of a total and one of a larger total by the same keeper,
+/// which writes the head and the rows of the total alone.
 fn stops_in_a_rise(alloc: Global, is_journal: bool) -> bool {
     let plan = Plan {
         texts: &[SESSION_1, OWNS_4, OWNS_8],

@@ -1,4 +1,5 @@
-//! Stores as keepers of version 1 left them: with a record as one text, and with a total in its head.
+//! Stores as keepers of version 1 left them: with a record as one text,
+//! and with a total in its head.
 
 use sqlite::{Alter, Connection, params};
 use std::alloc::Global;
@@ -9,7 +10,8 @@ const TABLES_OF_TEXT: &str =
 CREATE TABLE run_number (id INTEGER PRIMARY KEY CHECK (id = 1), last INTEGER NOT NULL);
 INSERT INTO run_number (id, last) VALUES (1, 1)";
 
-/// The two tables that a store has beside them which keeps a record in rows, with its total in the head.
+/// The two tables that a store has beside them which keeps a record in rows,
+/// with its total in the head.
 const TABLES_OF_ROWS: &str =
     "CREATE TABLE agent_head (id INTEGER PRIMARY KEY CHECK (id = 1), name TEXT NOT NULL, run INTEGER NOT NULL, session INTEGER NOT NULL, total TEXT NOT NULL, version INTEGER NOT NULL);
 CREATE TABLE agent_task (run INTEGER NOT NULL, n INTEGER NOT NULL, body TEXT NOT NULL, PRIMARY KEY (run, n))";

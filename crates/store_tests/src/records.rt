@@ -57,7 +57,8 @@ fn place_of(alloc: Global, texts: &[&str], record: &Record) -> Option<usize> {
     }
 }
 
-/// The place among these texts, from 1, of that of the record that is kept as a whole; 0 where there is no record, None where it is another.
+/// The place among these texts, from 1, of that of the record that is kept as a whole;
+/// 0 where there is no record, None where it is another.
 pub fn load<S: Alter>(
     alloc: Global,
     keeper: &mut Keeper<S>,

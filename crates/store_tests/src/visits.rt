@@ -26,8 +26,8 @@ fn saved<S: OverDisks>(
     }
 }
 
-/// Whether a keeper over files of these contents, which stop after so many calls, saves a record, and what a stop leaves of them.
-/// None for want of memory.
+/// Whether a keeper over files of these contents, which stop after so many calls, saves a record,
+/// and what a stop leaves of them. None for want of memory.
 pub fn save_at(
     alloc: Global,
     contents: &Contents,
@@ -61,8 +61,9 @@ fn loaded<S: OverDisks>(
     }
 }
 
-/// The record that a keeper loads of files of these contents, which answer all calls; None where none is kept. It fails where the
-/// files can't be opened, what they keep is no record, or memory is refused.
+/// The record that a keeper loads of files of these contents, which answer all calls; None where
+/// none is kept. It fails where the files can't be opened, what they keep is no record, or memory
+/// is refused.
 pub fn load_at(alloc: Global, contents: &Contents) -> Result<Option<Record>, AllocError> {
     match disks_of(alloc, contents, NO_STOP) {
         Some(disks) => loaded(alloc, connected(alloc, disks)),

@@ -1,7 +1,8 @@
 -- Numbered commands on a link from one sender to one receiver.
 use Rattle.std.specs.Prelude.{◌≡◌, ◌≤◌, ℕ, suc, ◌+◌, ◌-◌, Bool, ◌&&◌, ◌==◌, nat_lt, nat_le, if◌then◌else◌, List, [], ◌∷◌, ◌++◌, length, take, drop, slice_get, Some}
 
--- what the sender knows: the commands issued and not known to be applied, in order, and how many are known to be applied
+-- what the sender knows: the commands issued and not known to be applied, in order,
+-- and how many are known to be applied
 pub record Link (C : Type 0) : Type 0 where
   pub waiting : List C
   pub known : ℕ
@@ -32,9 +33,12 @@ newly_applied count l = if is_news count l then take (count - l.known) l.waiting
 
 -- once the count is known
 abbrev pub applied : {C : Type 0} → ℕ → Link C → Link C
-applied count l = if is_news count l then record { waiting = drop (count - l.known) l.waiting; known = count } else l
+applied count l =
+    if is_news count l then record { waiting = drop (count - l.known) l.waiting; known = count }
+    else l
 
--- all commands that a sender has issued, of which it knows the first to be applied and the others wait
+-- all commands that a sender has issued,
+-- of which it knows the first to be applied and the others wait
 pub record AreIssued {C : Type 0} (all : List C) (l : Link C) : Type 0 where
   pub known : l.known ≤ length all
   pub waiting : l.waiting ≡ drop l.known all
@@ -43,7 +47,8 @@ pub record AreIssued {C : Type 0} (all : List C) (l : Link C) : Type 0 where
 abbrev pub IsSent : {C : Type 0} → List C → ℕ × C → Type 0
 IsSent all m = (place : ℕ) × (m.0 ≡ suc place) × (slice_get all place ≡ Some m.1)
 
--- the commands that a receiver takes which has taken so many: of all that comes, in any order and any number of times, each next one
+-- the commands that a receiver takes which has taken so many: of all that comes,
+-- in any order and any number of times, each next one
 abbrev pub taken : {C : Type 0} → ℕ → List (ℕ × C) → List C
 taken count [] = []
 taken count (m ∷ ms) = if m.0 == suc count then m.1 ∷ taken (suc count) ms else taken count ms

@@ -1,4 +1,5 @@
--- The status updates of one task, and how many of them are acknowledged (Mesos scheduler HTTP API, UPDATE and ACKNOWLEDGE).
+-- The status updates of one task, and how many of them are acknowledged (Mesos scheduler HTTP API,
+-- UPDATE and ACKNOWLEDGE).
 use Rattle.std.specs.Prelude.{ℕ, suc, ◌-◌, Bool, not, ◌&&◌, ◌==◌, nat_lt, nat_le, if◌then◌else◌, List, [], ◌∷◌, ◌++◌, length, take, Option, option_map, slice_get}
 use Rattle.std.specs.List.{list_any}
 use Rattle.names_core.specs.declared.state.TaskState.{TaskState}
@@ -47,4 +48,6 @@ ends_last states = not (list_any is_terminal (take (length states - 1) states))
 
 -- what states and a count may be
 abbrev pub are_updates : List TaskState → ℕ → Bool
-are_updates states count = ends_last states && nat_le count (length states) && nat_le (length states) (if list_any is_terminal states then 4096 else 4095)
+are_updates states count =
+    ends_last states && nat_le count (length states)
+    && nat_le (length states) (if list_any is_terminal states then 4096 else 4095)

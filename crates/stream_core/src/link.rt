@@ -62,13 +62,15 @@ impl<C> LinkOut<C> {
 }
 
 impl<C: Drop> LinkOut<C> {
-    /// Issues a command and gives its number. L2 where every number is used, U4 where memory ran out.
+    /// Issues a command and gives its number. L2 where every number is used,
+    /// U4 where memory ran out.
     pub fn issue(&mut self, command: C) -> Result<u32, StreamFault>
         ensures number { IfOk result (λ n. n ≡ suc (issued_count self.old)) }
         ensures ok { OnOk result (self.new ≡ issued command self.old) }
         ensures spent { result ≡ Err StreamFault.Spent → is_spent self.old ≡ true }
         ensures numbers { OnOk result (is_spent self.old ≡ false) }
-        ensures err { IfErr result (λ e. (self.new ≡ self.old) × ((e ≡ StreamFault.Spent) ⊎ (e ≡ StreamFault.OutOfMemory))) }
+        ensures err { IfErr result (λ e. (self.new ≡ self.old)
+            × ((e ≡ StreamFault.Spent) ⊎ (e ≡ StreamFault.OutOfMemory))) }
     {
         if self.is_spent() {
             return Err(StreamFault::Spent);
@@ -98,16 +100,23 @@ impl<C: Drop> LinkOut<C> {
 }
 
 impl<C> LinkOut<C> {
-    /// Of all that comes of this link, in whatever order and however often, a receiver takes a beginning of all that was issued: of a link on which so much was issued,
+    /// Of all that comes of this link, in whatever order and however often,
+    /// a receiver takes a beginning of all that was issued: of a link on which so much was issued,
     pub fn is_taken_in_order(&self)
         // a command that is issued joins it, under its number,
-        ensures issues { (all : List C) (command : C) → AreIssued all self.now → AreIssued (all ++ command ∷ []) (issued command self.now) × IsSent (all ++ command ∷ []) (suc (issued_count self.now), command) }
+        ensures issues { (all : List C) (command : C) → AreIssued all self.now
+            → AreIssued (all ++ command ∷ []) (issued command self.now)
+            × IsSent (all ++ command ∷ []) (suc (issued_count self.now), command) }
         // what is known to be applied changes nothing of it,
-        ensures applies { (all : List C) (count : ℕ) → AreIssued all self.now → AreIssued all (applied count self.now) }
+        ensures applies { (all : List C) (count : ℕ) → AreIssued all self.now
+            → AreIssued all (applied count self.now) }
         // each that waits is sent again under the number that it was issued under,
-        ensures waits { (all : List C) (place : ℕ) (command : C) → AreIssued all self.now → slice_get self.now.waiting place ≡ Some command → IsSent all (suc (self.now.known + place), command) }
+        ensures waits { (all : List C) (place : ℕ) (command : C) → AreIssued all self.now
+            → slice_get self.now.waiting place ≡ Some command
+            → IsSent all (suc (self.now.known + place), command) }
         // and what is taken of such mails, each that is the next, is its beginning.
-        ensures takes { (all : List C) (mails : List (ℕ × C)) → Each (IsSent all) mails → taken 0 mails ≡ take (length (taken 0 mails)) all }
+        ensures takes { (all : List C) (mails : List (ℕ × C)) → Each (IsSent all) mails
+            → taken 0 mails ≡ take (length (taken 0 mails)) all }
     {}
 }
 
@@ -145,7 +154,8 @@ impl LinkIn {
     /// Takes the command with this number if it is the next one, else L1.
     pub fn take(&mut self, number: u32) -> Result<(), StreamFault>
         ensures ok { OnOk result ((number ≡ suc self.old) × (self.new ≡ number)) }
-        ensures err { IfErr result (λ e. (e ≡ StreamFault.NotNext) × (number ≢ suc self.old) × (self.new ≡ self.old)) }
+        ensures err { IfErr result (λ e. (e ≡ StreamFault.NotNext) × (number ≢ suc self.old)
+            × (self.new ≡ self.old)) }
     {
         if number == 0 || number - 1 != self.count {
             return Err(StreamFault::NotNext);

@@ -11,8 +11,9 @@ use plain_data::Plain;
 use std::alloc::{AllocError, Global};
 use std::marker::Model;
 
-/// The states of a task in the order in which they came, and how many of the first are acknowledged.
-/// A terminal state stands last; there are at most 4,096 states, the last of these a terminal one.
+/// The states of a task in the order in which they came, and how many of the first are
+/// acknowledged. A terminal state stands last; there are at most 4,096 states, the last of these a
+/// terminal one.
 #[derive(Debug, Drop)]
 pub struct Updates {
     states: Vec<TaskState>,
@@ -103,14 +104,16 @@ impl Updates {
         self.has_ended() && self.states.len() <= self.acknowledged as usize
     }
 
-    /// Adds the next state. U2 where a terminal state stands, at any length; U3 where none stands, the state isn't terminal and 4,095 states stand; U4 where
-    /// memory ran out.
+    /// Adds the next state. U2 where a terminal state stands, at any length; U3 where none stands,
+    /// the state isn't terminal and 4,095 states stand; U4 where memory ran out.
     pub fn push(&mut self, state: TaskState) -> Result<(), StreamFault>
         ensures ok { OnOk result (self.new ≡ pushed state self.old) }
         ensures open { OnOk result (has_ended self.old ≡ false) }
         ensures closed { result ≡ Err StreamFault.Closed → has_ended self.old ≡ true }
-        ensures full { result ≡ Err StreamFault.Full → (has_ended self.old ≡ false) × (is_terminal state ≡ false) × (is_full self.old ≡ true) }
-        ensures err { IfErr result (λ e. (self.new ≡ self.old) × ((e ≡ StreamFault.Closed) ⊎ (e ≡ StreamFault.Full) ⊎ (e ≡ StreamFault.OutOfMemory))) }
+        ensures full { result ≡ Err StreamFault.Full → (has_ended self.old ≡ false)
+            × (is_terminal state ≡ false) × (is_full self.old ≡ true) }
+        ensures err { IfErr result (λ e. (self.new ≡ self.old)
+            × ((e ≡ StreamFault.Closed) ⊎ (e ≡ StreamFault.Full) ⊎ (e ≡ StreamFault.OutOfMemory))) }
     {
         if self.has_ended() {
             return Err(StreamFault::Closed);
@@ -124,8 +127,10 @@ impl Updates {
 
     /// Acknowledges the first update that isn't acknowledged, if it has this number, else U1.
     pub fn acknowledge(&mut self, k: u32) -> Result<(), StreamFault>
-        ensures ok { OnOk result ((is_front k self.old ≡ true) × (self.new ≡ acknowledged_one self.old)) }
-        ensures err { IfErr result (λ e. (e ≡ StreamFault.NotFront) × (is_front k self.old ≡ false) × (self.new ≡ self.old)) }
+        ensures ok { OnOk result ((is_front k self.old ≡ true)
+            × (self.new ≡ acknowledged_one self.old)) }
+        ensures err { IfErr result (λ e. (e ≡ StreamFault.NotFront) × (is_front k self.old ≡ false)
+            × (self.new ≡ self.old)) }
     {
         if !self.is_front(k) {
             return Err(StreamFault::NotFront);
@@ -136,7 +141,9 @@ impl Updates {
 
     /// The value with these states and this count, where there is one.
     pub fn from_parts(states: Vec<TaskState>, acknowledged: u32) -> Option<Updates>
-        ensures some { IfSome result (λ updates. (updates ≡ record { states = states.items; acknowledged = acknowledged }) × (are_updates states.items acknowledged ≡ true)) }
+        ensures some { IfSome result
+            (λ updates. (updates ≡ record { states = states.items; acknowledged = acknowledged })
+            × (are_updates states.items acknowledged ≡ true)) }
         ensures none { IfNone result (are_updates states.items acknowledged ≡ false) }
     {
         let limit = if has_terminal(states.as_slice()) {

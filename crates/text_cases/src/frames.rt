@@ -39,7 +39,8 @@ fn push_fed(
     Ok(fed.fault)
 }
 
-/// Gives a reader the text in pieces of this size, and tells the records; what the last piece is answered with.
+/// Gives a reader the text in pieces of this size, and tells the records;
+/// what the last piece is answered with.
 fn push_all(
     told: &mut String,
     alloc: Global,
@@ -54,7 +55,8 @@ fn push_all(
     Ok(last)
 }
 
-/// The records of the text behind the first word, read in pieces of as many bytes as that word says; then what the last piece and the end are answered with.
+/// The records of the text behind the first word, read in pieces of as many bytes as that word
+/// says; then what the last piece and the end are answered with.
 pub fn frames(alloc: Global, text: &str) -> Result<String, AllocError> {
     let (size, text) = text.split_once(' ').unwrap_or((text, ""));
     let size = size.parse().unwrap_or(1);
@@ -65,7 +67,8 @@ pub fn frames(alloc: Global, text: &str) -> Result<String, AllocError> {
     Ok(told)
 }
 
-/// Pulls from a piece until it gives no further record, and tells of each pull how many bytes it took, the record and the fault.
+/// Pulls from a piece until it gives no further record,
+/// and tells of each pull how many bytes it took, the record and the fault.
 fn push_pulls(
     told: &mut String,
     alloc: Global,
@@ -97,7 +100,8 @@ fn push_all_pulls(
     Ok(())
 }
 
-/// What is pulled from the text behind the first word, which comes in pieces of as many bytes as that word says; then what the end is answered with.
+/// What is pulled from the text behind the first word,
+/// which comes in pieces of as many bytes as that word says; then what the end is answered with.
 pub fn pulls(alloc: Global, text: &str) -> Result<String, AllocError> {
     let (size, text) = text.split_once(' ').unwrap_or((text, ""));
     let size = size.parse().unwrap_or(1);

@@ -1,7 +1,8 @@
 //! Says of a line, a kind and a text, what that text is read as.
 //!
-//! An empty line and a line that begins with `#` are answered by themselves. In a text `~LF~` stands for a line feed, and so do
-//! `NUL`, `CR`, `US`, `DEL` and `BOM` (the byte order mark) for theirs, and `~COUNT*PART~` for so many copies of a part. The kinds are
+//! An empty line and a line that begins with `#` are answered by themselves. In a text `~LF~`
+//! stands for a line feed, and so do `NUL`, `CR`, `US`, `DEL` and `BOM` (the byte order mark) for
+//! theirs, and `~COUNT*PART~` for so many copies of a part. The kinds are
 //!
 //! - `earlier`: whether the first of two launch keys stands before the other;
 //! - `add`, `plus`, `minus`, `reduce`, `compare`, `amount`: two lists of amounts, or a list and what is added to it or looked up in it; `compare` tells

@@ -19,8 +19,9 @@ fn change(updates: &mut Updates, word: &str) -> Result<(), StreamFault> {
     }
 }
 
-/// What the last of the words is answered with, each a state or the number of an update that is acknowledged; then the front, how many of how many states are
-/// acknowledged, and whether the task is done.
+/// What the last of the words is answered with, each a state or the number of an update that is
+/// acknowledged; then the front, how many of how many states are acknowledged, and whether the task
+/// is done.
 pub fn updates(alloc: Global, text: &str) -> Result<String, AllocError> {
     let mut updates = Updates::new(alloc);
     let mut last = Ok(());
@@ -39,8 +40,8 @@ fn send(alloc: Global, sender: &mut LinkOut<char>, word: &str) -> Result<String,
     }
 }
 
-/// What a sender answers to the last of the words, each a letter to issue or a count to apply; then how many commands are known to be applied, how many wait,
-/// and whether the numbers are spent.
+/// What a sender answers to the last of the words, each a letter to issue or a count to apply; then
+/// how many commands are known to be applied, how many wait, and whether the numbers are spent.
 pub fn issued(alloc: Global, text: &str) -> Result<String, AllocError> {
     let mut sender = LinkOut::new(alloc);
     let mut last = Ok(String::new(alloc));
@@ -51,7 +52,8 @@ pub fn issued(alloc: Global, text: &str) -> Result<String, AllocError> {
     format!(in alloc; "{:?}", (last, counts, sender.is_spent()))
 }
 
-/// What a receiver answers to the last of the commands with these numbers, and how many it has taken then.
+/// What a receiver answers to the last of the commands with these numbers,
+/// and how many it has taken then.
 pub fn taken(alloc: Global, text: &str) -> Result<String, AllocError> {
     let mut receiver = LinkIn::new();
     let mut last = Ok(());

@@ -1,4 +1,5 @@
-//! Tests over several threads, each a function that says whether it passed: callers of one desk, and connections that are served at once.
+//! Tests over several threads, each a function that says whether it passed: callers of one desk,
+//! and connections that are served at once.
 #![tactic(auto)]
 
 mod of_desk_lock;

@@ -1,6 +1,8 @@
 ghost use Rattle.std.specs.Prelude.{◌≡◌, ◌≤◌, [], ⊤, length, vec_len, refl};
 
-use desk_lock::{Desk, FaultKind, Office, OfficeFault, Pass, Passes, Recorded, Turn, Waited};
+use desk_lock::{
+    Desk, Entered, FaultKind, Office, OfficeFault, Pass, Passes, Recorded, Turn, Waited,
+};
 use std::alloc::Global;
 use std::marker::Brand;
 use std::sync::atomic::{AtomicBool, Ordering};
@@ -15,6 +17,10 @@ const PARTS: u64 = 1 << 32;
 
 /// The group of those who wait for a sum.
 const SUMS: u32 = 5;
+
+/// What they wait for.
+#[derive(Drop)]
+struct Sum;
 
 /// A number that was added, and the sum with it.
 #[derive(Clone, Copy, Drop)]
@@ -47,27 +53,28 @@ impl Recorded for Adder {
 
     type Entry = Added;
 
-    type Given = Added;
+    /// The sum behind the step.
+    type Given = u64;
 
     type Fault = FaultKind;
+
+    type Awaited = Sum;
 
     ghost history = { λ a. a.history.items };
 
     ghost step_of = { λ added. added.number };
 
-    ghost entry_of = { λ added. added };
-
     ghost kind_of = { λ kind. kind };
 
     ghost sound = { λ a. length a.history.items ≤ 4294967294 };
 
-    ghost takes = { λ _ _ _ _. ⊤ };
+    ghost takes = { λ _ _ added sum _. sum ≡ added.sum };
 
     ghost may_refuse = { λ _ _ _. ⊤ };
 
     ghost alike = { λ one other. one.history.items ≡ other.history.items };
 
-    fn step(&mut self, _alloc: Global, step: u32) -> Result<Added, FaultKind> {
+    fn step(&mut self, _alloc: Global, step: u32) -> Result<Entered<Added, u64>, FaultKind> {
         if self.history.len() >= 4_294_967_294 {
             return Err(FaultKind::HistoryFull);
         }
@@ -82,26 +89,37 @@ impl Recorded for Adder {
             return Err(FaultKind::OutOfMemory);
         }
         self.sum = added.sum;
-        Ok(added)
+        Ok(Entered {
+            entry: added,
+            given: added.sum,
+        })
     }
 
     fn len(&self) -> u32 {
         self.history.len() as u32
     }
 
-    fn is_entry(&self, index: usize, given: &Added) -> bool {
+    fn is_entry(&self, index: usize, entry: &Added) -> bool {
         if index >= self.history.len() {
             return false;
         }
-        let entry = self.history[index];
-        entry.number == given.number && entry.sum == given.sum
+        let kept = self.history[index];
+        kept.number == entry.number && kept.sum == entry.sum
+    }
+
+    fn share(entry: &Added) -> Added {
+        *entry
     }
 
     fn kind(fault: &FaultKind) -> FaultKind {
         *fault
     }
 
-    fn frees(_given: &Added) -> u64 {
+    fn group_of(_awaited: &Sum) -> u32 {
+        SUMS
+    }
+
+    fn frees(_entry: &Added) -> u64 {
         1 << SUMS
     }
 
@@ -129,7 +147,8 @@ fn close_two<L: ledger::Ledger>(
     }
 }
 
-/// Whether a step of a seat that was never opened is refused as a foreign pass's, and one that the adder refuses as its own.
+/// Whether a step of a seat that was never opened is refused as a foreign pass's,
+/// and one that the adder refuses as its own.
 fn refuses<L: ledger::Ledger>(alloc: Global, desk: &mut Desk<Adder, L>) -> bool {
     let unopened = desk.apply(alloc, 2, 1).err();
     let refused = desk.apply(alloc, 1, 0).err();
@@ -213,8 +232,8 @@ fn wait_and_add<L: ledger::Ledger, R: Wait>(
             Turn::Answer
         }
     };
-    let answered = office.wait_call(rt, alloc, &mut pass, SUMS, look, 1);
-    (pass, answered == Ok(true))
+    let answered = office.wait_call(rt, alloc, &mut pass, Sum, look, 1);
+    (pass, matches!(answered, Ok(Some(_))))
 }
 
 /// Whether somebody waits, within 30 seconds.
@@ -228,8 +247,8 @@ fn is_waited_for<R: Clock>(rt: &R, waits: &AtomicBool) -> bool {
     false
 }
 
-/// Adds 7 once the other waits: who is told to wait has the lock until it does. Where it doesn't wait in time the 7 is added all the same, so that
-/// both end.
+/// Adds 7 once the other waits: who is told to wait has the lock until it does.
+/// Where it doesn't wait in time the 7 is added all the same, so that both end.
 fn add<L: ledger::Ledger, R: Wait + Clock>(
     rt: &R,
     alloc: Global,
@@ -249,7 +268,7 @@ fn sum_above<L: ledger::Ledger, R: Wait + Clock>(
     pass: &Pass<Added, L>,
     least: u64,
 ) -> Result<Waited<u64>, OfficeFault<FaultKind>> {
-    office.wait_for(rt, pass, SUMS, 0, |adder: &Adder| {
+    office.wait_for(rt, pass, Sum, 0, |adder: &Adder| {
         if adder.sum > least {
             Ok(Some(adder.sum))
         } else {
@@ -258,7 +277,8 @@ fn sum_above<L: ledger::Ledger, R: Wait + Clock>(
     })
 }
 
-/// Whether the sum is found, isn't within no time where it lacks, and isn't looked for once the office is finished.
+/// Whether the sum is found, isn't within no time where it lacks,
+/// and isn't looked for once the office is finished.
 fn looks<L: ledger::Ledger, R: Wait + Clock>(
     rt: &R,
     office: &Office<Adder, L>,
@@ -336,27 +356,31 @@ impl Recorded for Refuser {
 
     type Entry = FaultKind;
 
-    type Given = FaultKind;
+    type Given = ();
 
     type Fault = FaultKind;
+
+    type Awaited = ();
 
     ghost history = { λ _. [] };
 
     ghost step_of = { λ kind. kind };
 
-    ghost entry_of = { λ kind. kind };
-
     ghost kind_of = { λ kind. kind };
 
     ghost sound = { λ _. ⊤ };
 
-    ghost takes = { λ _ _ _ _. ⊥ };
+    ghost takes = { λ _ _ _ _ _. ⊥ };
 
     ghost may_refuse = { λ _ step fault. fault ≡ step };
 
     ghost alike = { λ _ _. ⊤ };
 
-    fn step(&mut self, _alloc: Global, step: FaultKind) -> Result<FaultKind, FaultKind> {
+    fn step(
+        &mut self,
+        _alloc: Global,
+        step: FaultKind,
+    ) -> Result<Entered<FaultKind, ()>, FaultKind> {
         Err(step)
     }
 
@@ -364,15 +388,23 @@ impl Recorded for Refuser {
         0
     }
 
-    fn is_entry(&self, _index: usize, _given: &FaultKind) -> bool {
+    fn is_entry(&self, _index: usize, _entry: &FaultKind) -> bool {
         false
+    }
+
+    fn share(entry: &FaultKind) -> FaultKind {
+        *entry
     }
 
     fn kind(fault: &FaultKind) -> FaultKind {
         *fault
     }
 
-    fn frees(_given: &FaultKind) -> u64 {
+    fn group_of(_awaited: &()) -> u32 {
+        0
+    }
+
+    fn frees(_entry: &FaultKind) -> u64 {
         0
     }
 
@@ -394,9 +426,9 @@ fn refusals<L: ledger::Ledger, R: Wait + Clock>(
 ) -> Refusals {
     let called = office.call(rt, alloc, pass, kind).err();
     let answers = |_: &Refuser| Turn::Answer;
-    let waited = office.wait_call(rt, alloc, pass, 0, answers, kind).err();
+    let waited = office.wait_call(rt, alloc, pass, (), answers, kind).err();
     let look = |_: &Refuser| -> Result<Option<()>, FaultKind> { Err(kind) };
-    let looked = office.wait_for(rt, pass, 0, 0, look).err();
+    let looked = office.wait_for(rt, pass, (), 0, look).err();
     [called, waited, looked]
 }
 

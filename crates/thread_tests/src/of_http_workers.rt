@@ -290,7 +290,8 @@ fn read_two(alloc: Global, one: &mut TcpStream, two: &mut TcpStream) -> bool {
     reads(alloc, one, ACCEPTED) && reads(alloc, two, STREAM)
 }
 
-/// Two clients, whose requests are both sent before an answer is read; whether both are answered so.
+/// Two clients, whose requests are both sent before an answer is read;
+/// whether both are answered so.
 fn ask_two<R: Net<Listener = TcpListener, Stream = TcpStream>>(
     rt: &R,
     alloc: Global,

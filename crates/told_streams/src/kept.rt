@@ -63,7 +63,8 @@ impl Waiting {
     }
 
     pub(crate) fn drop_last(&mut self)
-        ensures { (before : List Event) (event : Event) → self.old ≡ before ++ event ∷ [] → self.new ≡ before }
+        ensures { (before : List Event) (event : Event) → self.old ≡ before ++ event ∷ []
+            → self.new ≡ before }
     {
         self.events.pop_back();
     }

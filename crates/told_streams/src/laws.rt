@@ -11,24 +11,36 @@ ghost use Rattle.names_core.specs.Ids.{Numbered};
 ghost use Rattle.told_streams.specs.Kept.{AreWithin, kept_stream, kept_streams, untaken};
 ghost use Rattle.told_streams.specs.Streams.{heard, kept_ids, next_on, stream_kept, taken};
 
-/// What a step of the model makes of its streams is what `hear` and `take` make of those that are kept of them.
+/// What a step of the model makes of its streams is what `hear` and
+/// `take` make of those that are kept of them.
 pub fn kept_streams_follow()
-    ensures hears { (streams : List Stream) (opens : List Numbered) (told : List Told) → AreWithin streams → kept_streams (streams_after streams opens told) ≡ heard opens (map written told) (kept_streams streams) }
-    ensures takes { (streams : List Stream) (id : Numbered) → kept_streams (map (takes_one id) streams) ≡ taken id (kept_streams streams) }
-    ensures ids { (streams : List Stream) (opens : List Numbered) (told : List Told) → ids_of (streams_after streams opens told) ≡ kept_ids (kept_streams streams) ++ opens }
+    ensures hears { (streams : List Stream) (opens : List Numbered) (told : List Told)
+        → AreWithin streams → kept_streams (streams_after streams opens told)
+        ≡ heard opens (map written told) (kept_streams streams) }
+    ensures takes { (streams : List Stream) (id : Numbered)
+        → kept_streams (map (takes_one id) streams) ≡ taken id (kept_streams streams) }
+    ensures ids { (streams : List Stream) (opens : List Numbered) (told : List Told)
+        → ids_of (streams_after streams opens told) ≡ kept_ids (kept_streams streams) ++ opens }
 {}
 
-/// A stream of the model is found among those that are kept, and what waits first on it is what a Take hands out.
+/// A stream of the model is found among those that are kept,
+/// and what waits first on it is what a Take hands out.
 pub fn kept_streams_are_found()
-    ensures streams { (c : Cluster) (id : Numbered) → stream_kept id (kept_streams c.streams) ≡ option_map kept_stream (stream_at c id) }
-    ensures next { (c : Cluster) (id : Numbered) → next_on id (kept_streams c.streams) ≡ option_map event_of (untaken c id) }
-    ensures answers { (c : Cluster) (id : Numbered) → answer c (Take id) ≡ takes_event c id (untaken c id) }
+    ensures streams { (c : Cluster) (id : Numbered)
+        → stream_kept id (kept_streams c.streams) ≡ option_map kept_stream (stream_at c id) }
+    ensures next { (c : Cluster) (id : Numbered)
+        → next_on id (kept_streams c.streams) ≡ option_map event_of (untaken c id) }
+    ensures answers { (c : Cluster) (id : Numbered)
+        → answer c (Take id) ≡ takes_event c id (untaken c id) }
 {}
 
 /// Never is more taken than there is.
 pub fn no_more_is_taken()
-    ensures hears { (streams : List Stream) (opens : List Numbered) (told : List Told) → AreWithin streams → AreWithin (streams_after streams opens told) }
-    ensures takes { (c : Cluster) (id : Numbered) (event : Event) → AreRising (ids_of c.streams) → AreWithin c.streams → untaken c id ≡ Some event → AreWithin (map (takes_one id) c.streams) }
+    ensures hears { (streams : List Stream) (opens : List Numbered) (told : List Told)
+        → AreWithin streams → AreWithin (streams_after streams opens told) }
+    ensures takes { (c : Cluster) (id : Numbered) (event : Event) → AreRising (ids_of c.streams)
+        → AreWithin c.streams → untaken c id ≡ Some event
+        → AreWithin (map (takes_one id) c.streams) }
     ensures histories { (setup : Setup) (records : List Durable) (steps : List Marked) →
         AreWithin (history setup records steps).state.streams }
 {}

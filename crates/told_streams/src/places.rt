@@ -43,7 +43,8 @@ pub(crate) fn stream_at(streams: &[KeptStream], id: StreamId) -> Option<&KeptStr
 
 fn push_one(streams: &mut Vec<KeptStream>, event: &StreamEvent) -> Result<(), AllocError>
     requires { AreRising (kept_ids streams.old.items) }
-    ensures ok { OnOk result (streams.new.items ≡ map (hearing (event.now ∷ [])) streams.old.items) }
+    ensures ok { OnOk result (streams.new.items
+        ≡ map (hearing (event.now ∷ [])) streams.old.items) }
     ensures err { OnErr result (streams.new.items ≡ streams.old.items) }
 {
     let Some(place) = place_of(streams, event.stream) else {
@@ -57,7 +58,8 @@ fn push_one(streams: &mut Vec<KeptStream>, event: &StreamEvent) -> Result<(), Al
 /// Takes the last event of a stream out again.
 fn drop_one(streams: &mut Vec<KeptStream>, event: &StreamEvent)
     requires { AreRising (kept_ids streams.old.items) }
-    ensures before { (before : List Kept) → streams.old.items ≡ map (hearing (event.now ∷ [])) before → streams.new.items ≡ before }
+    ensures before { (before : List Kept) → streams.old.items
+        ≡ map (hearing (event.now ∷ [])) before → streams.new.items ≡ before }
     ensures ids { kept_ids streams.new.items ≡ kept_ids streams.old.items }
 {
     if let Some(place) = place_of(streams, event.stream) {
@@ -82,7 +84,8 @@ fn push_some(streams: &mut Vec<KeptStream>, alloc: Global, events: &[StreamEvent
 /// Takes events that were the last to be pushed out again.
 fn drop_all(streams: &mut Vec<KeptStream>, events: &[StreamEvent])
     requires { AreRising (kept_ids streams.old.items) }
-    ensures { (before : List Kept) → streams.old.items ≡ map (hearing events.now) before → streams.new.items ≡ before }
+    ensures { (before : List Kept) → streams.old.items ≡ map (hearing events.now) before
+        → streams.new.items ≡ before }
 {
     let count = events.len();
     for k in 0..count {
@@ -112,8 +115,10 @@ fn open_all(
     alloc: Global,
     opened: &[StreamId],
 ) -> Result<(), AllocError>
-    ensures ok { OnOk result (streams.new.items ≡ streams.old.items ++ map opened_stream opened.now) }
-    ensures err { OnErr result (take (length streams.old.items) streams.new.items ≡ streams.old.items) }
+    ensures ok { OnOk result (streams.new.items ≡ streams.old.items
+        ++ map opened_stream opened.now) }
+    ensures err { OnErr result (take (length streams.old.items) streams.new.items
+        ≡ streams.old.items) }
 {
     for id in opened {
         streams.push(KeptStream::new(alloc, *id))?;

@@ -13,8 +13,8 @@ use names_core::StreamId;
 use std::alloc::{AllocError, Global};
 use std::marker::Model;
 
-/// Every stream that was ever opened, in that order, with the events on it that nobody took yet. Their ids rise, by run and then by
-/// number.
+/// Every stream that was ever opened, in that order, with the events on it that nobody took yet.
+/// Their ids rise, by run and then by number.
 #[derive(Drop)]
 pub struct Streams {
     streams: Vec<KeptStream>,
@@ -43,8 +43,8 @@ impl Streams {
         }
     }
 
-    /// Opens streams behind the others, and adds each event to those that wait on its stream; an event on a stream that was never
-    /// opened is heard by nobody. An `AllocError` changes nothing.
+    /// Opens streams behind the others, and adds each event to those that wait on its stream; an
+    /// event on a stream that was never opened is heard by nobody. An `AllocError` changes nothing.
     pub fn hear(
         &mut self,
         alloc: Global,
@@ -58,7 +58,8 @@ impl Streams {
         hear_in(&mut self.streams, alloc, opened, events)
     }
 
-    /// The first event that waits on a stream; none where the stream was never opened, or nothing waits.
+    /// The first event that waits on a stream;
+    /// none where the stream was never opened, or nothing waits.
     pub fn next(&self, id: StreamId) -> Option<&Event>
         ensures { option_copied result ≡ next_on id self.now }
     {
@@ -79,7 +80,8 @@ impl Streams {
         Some(stream_at(&self.streams, id)?.waiting.len())
     }
 
-    /// Takes the first event that waits on a stream out; none where the stream was never opened, or nothing waits. It takes no memory.
+    /// Takes the first event that waits on a stream out; none where the stream was never opened,
+    /// or nothing waits. It takes no memory.
     pub fn take(&mut self, id: StreamId) -> Option<Event>
         ensures event { result ≡ next_on id self.old }
         ensures streams { self.new ≡ taken id self.old }

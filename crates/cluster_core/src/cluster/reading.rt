@@ -47,8 +47,10 @@ impl<P: Post + Drop> Cluster<P> {
 impl Cluster<Queues> {
     /// The number of the first mail to an agent that wasn't handed out, None where there is none.
     pub fn first_mail(&self, agent: &AgentName) -> Option<u64>
-        ensures first { IfSome result (IsNextTo agent.now (state_of self.now.story) self.now.post.items) }
-        ensures none { IfNone result (NoneTo agent.now (state_of self.now.story) self.now.post.items) }
+        ensures first { IfSome result
+            (IsNextTo agent.now (state_of self.now.story) self.now.post.items) }
+        ensures none { IfNone result
+            (NoneTo agent.now (state_of self.now.story) self.now.post.items) }
     {
         agents_keep_their_names();
         items_are_posts();
@@ -56,10 +58,13 @@ impl Cluster<Queues> {
         self.post.first_waiting(Direction::ToAgent(place))
     }
 
-    /// The number of the first mail from an agent to the master that wasn't handed out, None where there is none.
+    /// The number of the first mail from an agent to the master that wasn't handed out,
+    /// None where there is none.
     pub fn first_mail_from(&self, agent: &AgentName) -> Option<u64>
-        ensures first { IfSome result (IsNextFrom agent.now (state_of self.now.story) self.now.post.items) }
-        ensures none { IfNone result (NoneFrom agent.now (state_of self.now.story) self.now.post.items) }
+        ensures first { IfSome result
+            (IsNextFrom agent.now (state_of self.now.story) self.now.post.items) }
+        ensures none { IfNone result
+            (NoneFrom agent.now (state_of self.now.story) self.now.post.items) }
     {
         agents_keep_their_names();
         items_are_posts();

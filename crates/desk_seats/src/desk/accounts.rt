@@ -14,20 +14,21 @@ fn is_of_seat<C: Recorded>(
     recorded: &C,
     seats: &[u32],
     seat: u32,
-    receipt: &Receipt<C::Given>,
+    receipt: &Receipt<C::Entry>,
 ) -> bool
-    ensures { IsTrue result ↔ ((0 < receipt.now.number) × IsOfSeat C.entry_of seat 0 seats.now (C.history recorded.now) receipt.now) }
+    ensures { IsTrue result ↔ ((0 < receipt.now.number)
+        × IsOfSeat seat 0 seats.now (C.history recorded.now) receipt.now) }
 {
     if receipt.number == 0 {
         return false;
     }
     let index = receipt.number as usize - 1;
-    index < seats.len() && seats[index] == seat && recorded.is_entry(index, &receipt.given)
+    index < seats.len() && seats[index] == seat && recorded.is_entry(index, &receipt.entry)
 }
 
 /// Whether the receipts are of entries of the seat, and their numbers rise.
-fn rise<C: Recorded>(recorded: &C, seats: &[u32], seat: u32, receipts: &[Receipt<C::Given>]) -> bool
-    ensures { IsTrue result ↔ Rises C.entry_of seat 0 seats.now (C.history recorded.now) 0 receipts.now }
+fn rise<C: Recorded>(recorded: &C, seats: &[u32], seat: u32, receipts: &[Receipt<C::Entry>]) -> bool
+    ensures { IsTrue result ↔ Rises seat 0 seats.now (C.history recorded.now) 0 receipts.now }
 {
     let mut last = 0;
     for i in 0..receipts.len() {
@@ -52,9 +53,10 @@ impl<C: Recorded, L: ledger::Ledger> Desk<C, L> {
         counts[seat as usize - 1] as usize
     }
 
-    /// Whether the receipts of a pass are the entries of its seat, each once and in order. It takes time in the number of the receipts alone.
-    pub(super) fn accounts(&self, slip: &Slip<C::Given>) -> bool
-        ensures { IsTrue result ↔ StandsIn C.entry_of (C.history self.now.recorded) self.now.seats slip.now }
+    /// Whether the receipts of a pass are the entries of its seat, each once and in order.
+    /// It takes time in the number of the receipts alone.
+    pub(super) fn accounts(&self, slip: &Slip<C::Entry>) -> bool
+        ensures { IsTrue result ↔ StandsIn (C.history self.now.recorded) self.now.seats slip.now }
     {
         self.is_counted();
         let receipts = slip.receipts();

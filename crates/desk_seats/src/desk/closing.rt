@@ -14,8 +14,9 @@ use std::sync::ledger;
 
 impl<C: Recorded, L: ledger::Ledger> Desk<C, L> {
     /// There are at least as many entries as the passes have receipts together.
-    fn audit(&mut self, passes: &mut Passes<C::Given, L>)
-        ensures bound { sum_by (λ p. length p.receipts) passes.old ≤ length (C.history self.old.recorded) }
+    fn audit(&mut self, passes: &mut Passes<C::Entry, L>)
+        ensures bound { sum_by (λ p. length p.receipts) passes.old
+            ≤ length (C.history self.old.recorded) }
         ensures same { (self.new ≡ self.old) × (passes.new ≡ passes.old) }
     {
         self.is_counted();
@@ -25,8 +26,9 @@ impl<C: Recorded, L: ledger::Ledger> Desk<C, L> {
     }
 
     /// Whether the receipts of each pass are the entries of its seat.
-    fn accounts_all(&self, slips: &[Slip<C::Given>]) -> bool
-        ensures { IsTrue result ↔ All (λ p. StandsIn C.entry_of (C.history self.now.recorded) self.now.seats p) slips.now }
+    fn accounts_all(&self, slips: &[Slip<C::Entry>]) -> bool
+        ensures { IsTrue result ↔ All (λ p. StandsIn (C.history self.now.recorded) self.now.seats p)
+            slips.now }
     {
         for slip in slips {
             if !self.accounts(slip) {
@@ -54,18 +56,24 @@ impl<C: Recorded, L: ledger::Ledger> Desk<C, L> {
         SeatedHistory { recorded, seats }
     }
 
-    /// Closes the desk over the passes that are handed in: for each the entries of its seat are its receipts, each once and in order. It takes time
-    /// in the number of the receipts. Refusal: O1, where the receipts of a pass aren't its seat's entries; the desk and the passes come back as they
-    /// were. Either way there are at least as many entries as the passes have receipts together.
+    /// Closes the desk over the passes that are handed in: for each the entries of its seat are its
+    /// receipts, each once and in order. It takes time in the number of the receipts. Refusal: O1,
+    /// where the receipts of a pass aren't its seat's entries; the desk and the passes come back as
+    /// they were. Either way there are at least as many entries as the passes have receipts
+    /// together.
     pub fn close(
         self,
-        passes: Passes<C::Given, L>,
-    ) -> Result<SeatedHistory<C>, (Desk<C, L>, Passes<C::Given, L>, OfficeFault<C::Fault>)>
+        passes: Passes<C::Entry, L>,
+    ) -> Result<SeatedHistory<C>, (Desk<C, L>, Passes<C::Entry, L>, OfficeFault<C::Fault>)>
         ensures sound { IfOk result (λ h. C.sound h.recorded) }
-        ensures same_history { IfOk result (λ h. (h.recorded ≡ self.recorded) × (h.seats ≡ self.seats)) }
-        ensures stands { IfOk result (λ h. All (λ p. StandsIn C.entry_of (C.history h.recorded) h.seats p) passes) }
+        ensures same_history { IfOk result (λ h. (h.recorded ≡ self.recorded)
+            × (h.seats ≡ self.seats)) }
+        ensures stands { IfOk result
+            (λ h. All (λ p. StandsIn (C.history h.recorded) h.seats p) passes) }
         ensures returned { IfErr result (λ e. (e.0 ≡ self) × (e.1 ≡ passes)) }
-        ensures foreign { IfErr result (λ e. (e.2 ≡ ForeignPass (length (C.history e.0.recorded) + 1)) × (All (λ p. StandsIn C.entry_of (C.history e.0.recorded) e.0.seats p) passes → ⊥)) }
+        ensures foreign { IfErr result
+            (λ e. (e.2 ≡ ForeignPass (length (C.history e.0.recorded) + 1))
+            × (All (λ p. StandsIn (C.history e.0.recorded) e.0.seats p) passes → ⊥)) }
         ensures count { sum_by (λ p. length p.receipts) passes ≤ length (C.history self.recorded) }
     {
         let mut desk = self;

@@ -9,18 +9,19 @@ use std::marker::Model;
 use std::sync::ledger;
 use std::sync::ledger::Share;
 
-/// Passes that are handed in. Their shares of the count are put together, so that they can be compared with its total.
+/// Passes that are handed in. Their shares of the count are put together,
+/// so that they can be compared with its total.
 #[derive(Drop)]
-pub struct Passes<G, L: ledger::Ledger> {
-    pub(super) slips: Vec<Slip<G>>,
+pub struct Passes<E, L: ledger::Ledger> {
+    pub(super) slips: Vec<Slip<E>>,
     pub(super) share: Option<Share<L>>,
 }
 
-impl<G, L: ledger::Ledger> Model for Passes<G, L> {
+impl<E, L: ledger::Ledger> Model for Passes<E, L> {
     ghost use Rattle.std.specs.Prelude.{◌≡◌, List, length, option_map, sum_by, unwrap_or};
     ghost use Rattle.desk_seats.specs.Receipts.{PassState};
 
-    ghost Value = { List (PassState G) };
+    ghost Value = { List (PassState E) };
 
     ghost view = { λ p. p.slips.items };
 
@@ -42,8 +43,8 @@ fn merged<L: ledger::Ledger>(one: Option<Share<L>>, other: Share<L>) -> Share<L>
     }
 }
 
-impl<G, L: ledger::Ledger> Passes<G, L> {
-    pub fn new(alloc: Global) -> Passes<G, L>
+impl<E, L: ledger::Ledger> Passes<E, L> {
+    pub fn new(alloc: Global) -> Passes<E, L>
         ensures { result ≡ [] }
     {
         Passes {
@@ -59,7 +60,7 @@ impl<G, L: ledger::Ledger> Passes<G, L> {
     }
 
     /// Hands in one more. Without memory it comes back.
-    pub fn push(&mut self, pass: Pass<G, L>) -> Result<(), AllocFailed<Pass<G, L>>>
+    pub fn push(&mut self, pass: Pass<E, L>) -> Result<(), AllocFailed<Pass<E, L>>>
         ensures pushed { OnOk result (self.new ≡ self.old ++ pass ∷ []) }
         ensures unchanged { OnErr result (self.new ≡ self.old) }
         ensures returned { IfErr result (λ e. e.value ≡ pass) }
@@ -74,7 +75,7 @@ impl<G, L: ledger::Ledger> Passes<G, L> {
     }
 
     /// Takes back the one that was handed in last.
-    pub fn pop(&mut self) -> Option<Pass<G, L>>
+    pub fn pop(&mut self) -> Option<Pass<E, L>>
         ensures { self.old ≡ self.new ++ option_to_list result }
     {
         let slip = self.slips.pop()?;
@@ -88,7 +89,7 @@ impl<G, L: ledger::Ledger> Passes<G, L> {
         }
     }
 
-    pub(super) fn slips(&self) -> &[Slip<G>]
+    pub(super) fn slips(&self) -> &[Slip<E>]
         ensures { result.now ≡ self.now }
     {
         self.slips.as_slice()

@@ -1,8 +1,8 @@
 use Rattle.std.proofs.Common.{List}
 use Rattle.desk_seats.specs.Receipts.{PassState}
-use Rattle.cluster_core.specs.declared.given.Given.{Given}
+use Rattle.cluster_steps.specs.declared.entry.Entry.{Entry}
 use Rattle.activities.specs.Rounds.{AreRounds}
 use Rattle.activities.proofs.ticks.ticker.Given as goal
 
 abbrev pub invariant-loop : goal.invariant-loop
-invariant-loop g l = (passes : List (PassState Given)) × AreRounds passes l.fn.pass l.pass
+invariant-loop g l = (passes : List (PassState Entry)) × AreRounds passes l.fn.pass l.pass

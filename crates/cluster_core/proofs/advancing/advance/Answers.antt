@@ -16,8 +16,8 @@ use Rattle.cluster_core.proofs.Posted.{all_posts}
 use Rattle.cluster_core.proofs.Telling.{are_parts, first_refused, keeps_on, parts_by, parts_of_story, stays, step_refused, takes_on}
 use Rattle.cluster_core.proofs.advancing.advance.Goals as goal
 
-pub returns-in_err-copy-clause-refused : goal.returns-in_err-copy-clause-refused
-returns-in_err-copy-clause-refused g c =
+pub returns-in_err-place-clause-refused : goal.returns-in_err-place-clause-refused
+returns-in_err-place-clause-refused g c =
     let s = story_of c.args.history.now in
     let gives = g.P.Post.gives (g.P.Post.known c.args.post.now) in
     let first : IfErr c.from_residual.result (IsRefusedFirst s) = search rules in
@@ -28,7 +28,7 @@ take_step-requires g c =
     let s = story_of c.args.history.now in
     let count = g.P.Post.count (g.P.Post.known c.args.post.now) in
     let ways = g.P.Post.direction_at (g.P.Post.known c.args.post.now) in
-    let h : length c.args.history.now.entries.items < 4294967294 = c.in_ok-copy.ensures.within in
+    let h : length c.args.history.now.entries.items < 4294967294 = c.in_ok-place.ensures.within in
     let kept : c.make_room.new.history.weights ≡ c.args.history.now.weights = ap (λ (x : Story). x.setup.weights) c.make_room.ensures.story in
     record {
       parts = are_parts c.states_count_entries.ensures s c.args.history.now.opened c.args.parts.now count ways c.requires h;
@@ -38,7 +38,7 @@ take_step-requires g c =
 pub returns-in-Ok-clause-kept : goal.returns-in-Ok-clause-kept
 returns-in-Ok-clause-kept g c =
     let s = story_of c.args.history.now in
-    let h : length c.args.history.now.entries.items < 4294967294 = c.in_ok-copy.ensures.within in
+    let h : length c.args.history.now.entries.items < 4294967294 = c.in_ok-place.ensures.within in
     let law = c.states_count_entries.ensures in
     let e = entry_made c.args.step c.in-Ok.made in
     let weighed : (state_of s).weights ≡ c.make_room.new.history.weights = c.weights_stay.ensures s.setup s.records (map marked_of s.entries) ∙ sym (ap (λ (x : Story). x.setup.weights) c.make_room.ensures.story) in
@@ -55,7 +55,7 @@ returns-in-Ok-clause-kept g c =
 pub returns-in-Ok-clause-taken : goal.returns-in-Ok-clause-taken
 returns-in-Ok-clause-taken g c =
     let s = story_of c.args.history.now in
-    let h : length c.args.history.now.entries.items < 4294967294 = c.in_ok-copy.ensures.within in
+    let h : length c.args.history.now.entries.items < 4294967294 = c.in_ok-place.ensures.within in
     let law = c.states_count_entries.ensures in
     let e = entry_made c.args.step c.in-Ok.made in
     let weighed : (state_of s).weights ≡ c.make_room.new.history.weights = c.weights_stay.ensures s.setup s.records (map marked_of s.entries) ∙ sym (ap (λ (x : Story). x.setup.weights) c.make_room.ensures.story) in
@@ -82,7 +82,7 @@ returns-in-Ok-clause-known g c =
 
 pub returns-in-Err-clause-refused : goal.returns-in-Err-clause-refused
 returns-in-Err-clause-refused g c =
-    let h : length c.args.history.now.entries.items < 4294967294 = c.in_ok-copy.ensures.within in
+    let h : length c.args.history.now.entries.items < 4294967294 = c.in_ok-place.ensures.within in
     step_refused c.states_count_entries.ensures (story_of c.args.history.now) c.args.history.now.opened c.args.parts.now (g.P.Post.count (g.P.Post.known c.args.post.now)) (g.P.Post.direction_at (g.P.Post.known c.args.post.now)) (g.P.Post.gives (g.P.Post.known c.args.post.now)) (step_of c.args.step) c.in-Err.fault c.requires h c.in-Err.ensures.refused
 
 pub returns-in-Err-clause-kept : goal.returns-in-Err-clause-kept

@@ -1,6 +1,5 @@
 use Rattle.std.proofs.Common.{◌≡◌, true, false, sym, ◌∙◌, refl}
-use Rattle.quantity.specs.Rows.{covers}
-use Rattle.offer_book.specs.Accounts.{free}
+use Rattle.offer_book.specs.Accounts.{fits}
 use Rattle.offer_book.specs.Books.{is_agent, is_booked}
 use Rattle.offer_book.proofs.Places.{first_at, none_at, some_at}
 use Rattle.offer_book.proofs.book.book_in.Goals as goal
@@ -19,7 +18,7 @@ pub returns-then-not-branch-clause-refused : goal.returns-then-not-branch-clause
 returns-then-not-branch-clause-refused c =
     let first = first_at (is_agent c.args.name.now) c.args.accounts.now.items c.in-Some.place c.index.result.now (sym (rw c.deref.ensures.value at c.place_of.ensures) ∙ c.in-Some.is) c.index.ensures in
     let once : is_booked c.args.task.job.key c.args.accounts.now.items ≡ false = sym (rw c.deref-2.ensures.value at c.is_booked.ensures) ∙ c.if-is_booked.false in
-    let room : covers (free c.index.result.now) c.args.task.job.resources ≡ false = sym c.in_ok-has_room.ensures ∙ c.if-not-branch.true in
+    let room : fits c.index.result.now c.args.task.job.resources ≡ false = sym c.in_ok-fits.ensures ∙ c.if-not-branch.true in
     rw (first.found, once, room) refl
 
 pub returns-clause-ok : goal.returns-clause-ok
@@ -27,5 +26,5 @@ returns-clause-ok c =
     let first = first_at (is_agent c.args.name.now) c.args.accounts.now.items c.in-Some.place c.index_mut.result.now (sym (rw c.deref.ensures.value at c.place_of.ensures) ∙ c.in-Some.is) c.index_mut.ensures.value in
     let before = first_at (is_agent c.args.name.now) c.args.accounts.now.items c.in-Some.place c.index.result.now (sym (rw c.deref.ensures.value at c.place_of.ensures) ∙ c.in-Some.is) c.index.ensures in
     let once : is_booked c.args.task.job.key c.args.accounts.now.items ≡ false = sym (rw c.deref-2.ensures.value at c.is_booked.ensures) ∙ c.if-is_booked.false in
-    let room : covers (free c.index.result.now) c.args.task.job.resources ≡ true = sym c.in_ok-has_room.ensures ∙ c.if-not-branch.false in
+    let room : fits c.index.result.now c.args.task.job.resources ≡ true = sym c.in_ok-fits.ensures ∙ c.if-not-branch.false in
     rw (before.found, once, room, first.changed, c.in_ok-push.ensures.ok) refl

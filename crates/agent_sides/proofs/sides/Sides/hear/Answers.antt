@@ -9,12 +9,12 @@ use Rattle.agent_sides.proofs.Changing.{hearing_joins, hearing_stays}
 use Rattle.agent_sides.proofs.sides.Sides.hear.Goals as goal
 
 pub invariant_of-self : goal.invariant_of-self
-invariant_of-self c = rw c.hear.ensures
-    (fit_book c.args.place (accounts.hearing c.args.update.now.key c.args.update.now.k c.args.update.now.state c.args.update.now.ended) (record { name = λ a. refl }) (λ a h. h) c.self.inside.roster c.self.inside.book c.self.invariant)
+invariant_of-self c = rw c.hear_at.ensures
+    (fit_book c.args.place (accounts.hearing c.args.update.now.key c.args.update.now.k c.args.update.now.state c.args.update.now.ended) (record { name = λ a. refl; present = λ a. refl }) (λ a h. h) c.self.inside.roster c.self.inside.book c.self.invariant)
 
 pub returns-then-is_session_in : goal.returns-then-is_session_in
 returns-then-is_session_in c run =
-    rw c.hear.ensures
+    rw c.hear_at.ensures
     (joined_where c.args.place (λ s. heard run s (Update c.args.session c.args.update.now.key c.args.update.now.k c.args.update.now.state c.args.update.now.ended)) (accounts.hearing c.args.update.now.key c.args.update.now.k c.args.update.now.state c.args.update.now.ended) (is_session c.args.session) false true
     (hearing_joins run c.args.session c.args.update.now.key c.args.update.now.k c.args.update.now.state c.args.update.now.ended) c.self.inside.roster c.self.inside.book c.self.invariant.one
     (sym (c.is_session_in.ensures ∙ ap (told_at c.args.place (is_session c.args.session) false) c.entries.ensures) ∙ c.if-is_session_in.true)

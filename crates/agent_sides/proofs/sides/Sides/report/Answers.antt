@@ -1,6 +1,6 @@
 use Rattle.std.proofs.Common.{refl, ap, ◌∙◌, sym, true, false, Ok, Err}
 use Rattle.offer_book.specs.Accounts as accounts
-use Rattle.offer_book.specs.Books as books
+use Rattle.agent_sides.specs.Joined as joins
 use Rattle.roster.specs.Places.{at_place, told_at}
 use Rattle.roster.specs.Sessions.{after_report, reported}
 use Rattle.agent_sides.specs.Changes.{reporting}
@@ -23,8 +23,8 @@ returns-in-Err-clause-sides c =
 
 pub invariant_of-self-then-opens : goal.invariant_of-self-then-opens
 invariant_of-self-then-opens c =
-    rw (c.report.ensures.sides, c.reopen.ensures)
-    (fit_roster c.args.place (after_report c.args.run c.args.session c.args.number) (report_keeps c.args.run c.args.session c.args.number) c.self.inside.roster (books.at_place c.args.place (accounts.reopened c.args.tasks c.args.total) c.self.inside.book) (fit_book c.args.place (accounts.reopened c.args.tasks c.args.total) (reopened_keeps c.args.tasks c.args.total) (λ a h. refl) c.self.inside.roster c.self.inside.book c.self.invariant))
+    rw (c.report.ensures.sides, c.reopen_at.ensures)
+    (fit_roster c.args.place (after_report c.args.run c.args.session c.args.number) (report_keeps c.args.run c.args.session c.args.number) c.self.inside.roster (joins.at_place c.args.place (accounts.reopened c.args.tasks c.args.total) c.self.inside.book) (fit_book c.args.place (accounts.reopened c.args.tasks c.args.total) (reopened_keeps c.args.tasks c.args.total) (λ a h. refl) c.self.inside.roster c.self.inside.book c.self.invariant))
 
 pub invariant_of-self-else-opens : goal.invariant_of-self-else-opens
 invariant_of-self-else-opens c = rw c.report.ensures.sides (fit_roster c.args.place (after_report c.args.run c.args.session c.args.number) (report_keeps c.args.run c.args.session c.args.number) c.self.inside.roster c.self.inside.book c.self.invariant)
@@ -35,7 +35,7 @@ returns-then-opens-clause-answer c =
 
 pub returns-then-opens-clause-sides : goal.returns-then-opens-clause-sides
 returns-then-opens-clause-sides c =
-    rw (c.report.ensures.sides, c.reopen.ensures)
+    rw (c.report.ensures.sides, c.reopen_at.ensures)
     (joined_when c.args.place (after_report c.args.run c.args.session c.args.number) (reporting c.args.run c.args.session c.args.number c.args.tasks c.args.total) (accounts.reopened c.args.tasks c.args.total) (λ s. reported c.args.run s c.args.session c.args.number) (Ok false) (Ok true) (report_opens_joins c.args.run c.args.session c.args.number c.args.tasks c.args.total) c.self.inside.roster c.self.inside.book c.self.invariant.one (sym c.report.ensures.answer ∙ c.in-Ok.is ∙ ap (λ b. Ok b) c.if-opens.true)
     ∙ ap (at_place c.args.place (reporting c.args.run c.args.session c.args.number c.args.tasks c.args.total)) c.self.view_is)
 
@@ -48,3 +48,8 @@ returns-else-opens-clause-sides c =
     rw c.report.ensures.sides
     (joined_if c.args.place (after_report c.args.run c.args.session c.args.number) (reporting c.args.run c.args.session c.args.number c.args.tasks c.args.total) (λ s. reported c.args.run s c.args.session c.args.number) (Ok false) (Ok false) (report_again_joins c.args.run c.args.session c.args.number c.args.tasks c.args.total) c.self.inside.roster c.self.inside.book c.self.invariant.one (sym c.report.ensures.answer ∙ c.in-Ok.is ∙ ap (λ b. Ok b) c.if-opens.false)
     ∙ ap (at_place c.args.place (reporting c.args.run c.args.session c.args.number c.args.tasks c.args.total)) c.self.view_is)
+
+pub reopen_at-requires : goal.reopen_at-requires
+reopen_at-requires c =
+    rw (c.entries-entries.ensures, c.report.ensures.sides)
+    (fit_roster c.args.place (after_report c.args.run c.args.session c.args.number) (report_keeps c.args.run c.args.session c.args.number) c.self.inside.roster c.self.inside.book c.self.invariant)

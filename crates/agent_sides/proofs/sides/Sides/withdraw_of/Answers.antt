@@ -7,7 +7,7 @@ use Rattle.agent_sides.proofs.Apart.{joined_apart, of_apart, of_withdrawn}
 use Rattle.agent_sides.proofs.sides.Sides.withdraw_of.Goals as goal
 
 pub invariant_of-self : goal.invariant_of-self
-invariant_of-self c = rw c.withdraw_of.ensures (fit_map (accounts.without_offers_of c.args.framework) (record { name = λ a. refl }) (of_apart c.args.framework) c.self.inside.roster c.self.inside.book c.self.invariant)
+invariant_of-self c = rw c.withdraw_of.ensures (fit_map (accounts.without_offers_of c.args.framework) (record { name = λ a. refl; present = λ a. refl }) (of_apart c.args.framework) c.self.inside.roster c.self.inside.book c.self.invariant)
 
 pub returns : goal.returns
 returns c =

@@ -7,7 +7,7 @@ use Rattle.agent_sides.proofs.Apart.{named_apart}
 use Rattle.agent_sides.proofs.sides.Sides.withdraw_used_at.Goals as goal
 
 pub invariant_of-self : goal.invariant_of-self
-invariant_of-self c = rw c.withdraw_named_at.ensures (fit_book c.args.place (accounts.without_named c.args.framework c.args.ids.now) (record { name = λ a. refl }) (named_apart c.args.framework c.args.ids.now) c.self.inside.roster c.self.inside.book c.self.invariant)
+invariant_of-self c = rw c.withdraw_named_at.ensures (fit_book c.args.place (accounts.without_named c.args.framework c.args.ids.now) (record { name = λ a. refl; present = λ a. refl }) (named_apart c.args.framework c.args.ids.now) c.self.inside.roster c.self.inside.book c.self.invariant)
 
 pub returns : goal.returns
 returns c =

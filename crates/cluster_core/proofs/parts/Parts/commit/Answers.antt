@@ -7,4 +7,4 @@ pub returns-clause-made : goal.returns-clause-made
 returns-clause-made g c =
     let same : length c.commit.new.agents ≡ c.args.self.now.agents.len = cc (c.commit.auto.agents, c.as_mut_slice.ensures.len, c.as_mut_slice.ensures.value, c.args.self.now.agents.ok.0) in
     by_commit c.args.name.now c.commit.result c.args.self.now _ c.as_mut_slice.result.now c.commit.new.agents c.as_mut_slice.ensures.value (with_items_is c.args.self.now.agents c.commit.new.agents same) refl refl refl refl
-    c.commit.ensures.made c.commit.ensures.given c.commit.ensures.durable
+    c.commit.ensures.made c.commit.ensures.durable

@@ -27,12 +27,10 @@ returns-clause-made g c = λ k of.
     let same : length agents ≡ c.args.self.now.agents.len = cc (c.prepare.auto.agents, c.as_mut_slice-agents.ensures.len, c.as_mut_slice-agents.ensures.value, c.args.self.now.agents.ok.0) in
     let kept = with_items_is c.args.self.now.agents agents same in
     let quiet : c.sending.result ≡ sending [] = c.sending.ensures ∙ ap sending c.new.ensures in
-    let alike : c.sending-2.result ≡ c.sending.result = c.sending-2.ensures ∙ ap sending c.new-2.ensures ∙ sym quiet in
-    subst (λ (cause : StepCause). Takes k (Prepare c.args.name.now (cause_of cause)) (record { verdict = verdict; outputs = c.sending.result; given = c.sending-2.result; durable = c.in_ok-prepared.prepared.durable }) (record (c.args.self.now) { agents = with_items c.args.self.now.agents agents })) c.in_ok-copy.ensures
-    (by_agent k due (record { verdict = verdict; outputs = c.sending.result; given = c.sending-2.result; durable = c.in_ok-prepared.prepared.durable }) c.args.self.now (record (c.args.self.now) { agents = with_items c.args.self.now.agents agents })
+    subst (λ (cause : StepCause). Takes k (Prepare c.args.name.now (cause_of cause)) (record { verdict = verdict; outputs = c.sending.result; durable = c.in_ok-prepared.prepared.durable }) (record (c.args.self.now) { agents = with_items c.args.self.now.agents agents })) c.in_ok-copy.ensures
+    (by_agent k due (record { verdict = verdict; outputs = c.sending.result; durable = c.in_ok-prepared.prepared.durable }) c.args.self.now (record (c.args.self.now) { agents = with_items c.args.self.now.agents agents })
     c.as_mut_slice-agents.result.now agents of c.as_mut_slice-agents.ensures.value kept refl refl refl refl
     (λ reached olds stand. subst (λ (outs : Outputs). Makes k due verdict outs agents c.args.self.now.items) (sym quiet)
     (subst (λ (xs : List Item). Makes k due verdict (sending []) agents xs) c.as_slice-items.ensures
     (c.in_ok-prepared.ensures.made k reached olds (subst (λ (xs : List Item). StandIn k xs) (sym c.as_slice-items.ensures) stand))))
-    alike
     (c.in_ok-prepared.ensures.durable ∙ ap (λ (xs : List KeptAgent). record_prepared verdict c.args.name.now xs) (sym kept)))

@@ -5,5 +5,5 @@ use Rattle.cluster_core.proofs.parts.Parts.send.Goals as goal
 use Rattle.cluster_model.specs.Clusters.{Send}
 
 pub returns-clause-made : goal.returns-clause-made
-returns-clause-made g c = subst (λ (call : Call). AllTake (Send c.args.stream call) c.send.result c.args.self.now (record (c.args.self.now) { items = c.send.new.items })) c.in_ok-copy.ensures
-    (by_send c.args.stream c.in_ok-copy.copy c.send.result c.args.self.now c.send.new.items c.send.ensures.made c.send.ensures.given c.send.ensures.durable)
+returns-clause-made g c = subst (λ (call : Call). AllTake (Send c.args.stream call) c.send.result c.args.self.now (record (c.args.self.now) { items = c.send.new.items })) c.in_ok-shared.ensures
+    (by_send c.args.stream c.in_ok-shared.shared c.send.result c.args.self.now c.send.new.items c.send.ensures.made c.send.ensures.durable)

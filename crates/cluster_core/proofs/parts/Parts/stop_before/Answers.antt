@@ -14,4 +14,4 @@ returns-clause-made c = λ s of.
     let same : length c.stop_before.new.agents ≡ c.args.self.now.agents.len = cc (c.stop_before.auto.agents, c.as_mut_slice.ensures.len, c.as_mut_slice.ensures.value, c.args.self.now.agents.ok.0) in
     subst (λ (made : Made). Takes s (StopBefore c.args.name.now) made (record (c.args.self.now) { agents = with_items c.args.self.now.agents c.stop_before.new.agents })) (sym c.ends_with.ensures)
     (by_agent s (StopBefore c.args.name.now) (ends_with verdicts.Ok) c.args.self.now (record (c.args.self.now) { agents = with_items c.args.self.now.agents c.stop_before.new.agents }) c.as_mut_slice.result.now c.stop_before.new.agents of c.as_mut_slice.ensures.value (with_items_is c.args.self.now.agents c.stop_before.new.agents same) refl refl refl refl
-    (c.in_ok-stop_before.ensures.made s c.args.self.now.items) refl refl)
+    (c.in_ok-stop_before.ensures.made s c.args.self.now.items) refl)

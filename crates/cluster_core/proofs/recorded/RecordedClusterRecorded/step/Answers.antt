@@ -4,7 +4,8 @@ use Rattle.cluster_core.proofs.recorded.RecordedClusterRecorded.step.Goals as go
 
 pub returns-clause-taken : goal.returns-clause-taken
 returns-clause-taken c =
-    subst (λ (old : recording.Recorded). recording.Takes old c.args.step (record { taken = c.in_ok-taken.taken; sent_before = c.sent_count-sent_before.result }) c.step.new.self) c.self.view_is
+    let t = c.in_ok-taken.taken in
+    subst (λ (old : recording.Recorded). recording.Takes old c.args.step t.entry (record { durable = t.durable; sent_before = c.sent_count-sent_before.result }) c.step.new.self) c.self.view_is
     (record {
       taken = c.in_ok-taken.ensures.taken;
       handed = c.in_ok-taken.ensures.given;

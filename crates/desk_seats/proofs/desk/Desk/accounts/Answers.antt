@@ -1,6 +1,6 @@
 use Rattle.std.proofs.Common.{◌∙◌, sym, ap, length}
 use Rattle.desk_seats.specs.Seats.{DeskState}
-use Rattle.desk_seats.proofs.Answered.{accounts_yes, accounts_rise, accounts_as_many, rises_as, rises_from}
+use Rattle.desk_seats.proofs.Answering.{accounts_yes, accounts_rise, accounts_as_many, rises_as, rises_from}
 use Rattle.desk_seats.proofs.Rows.{seat_count}
 use Rattle.desk_seats.proofs.desk.Desk.accounts.Goals as goal
 
@@ -11,7 +11,7 @@ returns-then-entries_of-receipts g c =
     let history = g.C.Recorded.history d.recorded in (
       (λ h. cc),
       (λ stands.
-          let as_many = accounts_as_many g.C.Recorded.entry_of history d.seats p c.is_counted.ensures.seated stands in
+          let as_many = accounts_as_many history d.seats p c.is_counted.ensures.seated stands in
           absurd (c.if-entries_of-receipts.true (c.entries_of.ensures ∙ ap (λ s. seat_count s d.seats) c.seat-seat.ensures ∙ sym as_many ∙ sym (ap length c.receipts-receipts.ensures)))),
     )
 
@@ -27,8 +27,8 @@ returns g c =
     let same = c.seat-seat.ensures in
     let level = c.is_counted.ensures.seated in
     let as_many = sym (ap length hr) ∙ sym c.if-entries_of-receipts.false ∙ c.entries_of.ensures ∙ ap (λ s. seat_count s d.seats) same in (
-      (λ t. accounts_yes g.C.Recorded.entry_of history d.seats p level as_many
-          (rises_as g.C.Recorded.entry_of history es d.seats c.as_slice.result.now p c.receipts-receipts.result.now c.seat-seat.result he hs hr same (c.rise.ensures.0 t))),
+      (λ t. accounts_yes history d.seats p level as_many
+          (rises_as history es d.seats c.as_slice.result.now p c.receipts-receipts.result.now c.seat-seat.result he hs hr same (c.rise.ensures.0 t))),
       (λ stands. c.rise.ensures.1
-          (rises_from g.C.Recorded.entry_of history es d.seats c.as_slice.result.now p c.receipts-receipts.result.now c.seat-seat.result he hs hr same (accounts_rise g.C.Recorded.entry_of history d.seats p level stands))),
+          (rises_from history es d.seats c.as_slice.result.now p c.receipts-receipts.result.now c.seat-seat.result he hs hr same (accounts_rise history d.seats p level stands))),
     )

@@ -18,7 +18,7 @@ invariant_of-self-in-Ok g c =
     let some : 0 < c.args.seat = let z = c.if-seat-eq0.false in omega arith in
     let seated : c.args.seat ≤ length counts = let n = c.len.ensures in let z = c.if-seat-len.false in omega arith in
     let grown = ap length c.in-Ok.ensures.entry in
-    let one = length-append (g.C.Recorded.history c.self.inside.recorded) (g.C.Recorded.entry_of c.in-Ok.given ∷ []) in
+    let one = length-append (g.C.Recorded.history c.self.inside.recorded) (c.in-Ok.entered.entry ∷ []) in
     entry_made _ _ c.self.inside.seats.items c.push_reserved.new.self.items counts _ _ _ c.args.seat c.self.invariant some seated
     (omega arith)
     (c.push_reserved.ensures.items ∙ ap (λ xs. xs ++ c.args.seat ∷ []) c.reserve.ensures.items)

@@ -11,5 +11,5 @@ invariant_of-self-2 g c =
 
 pub returns-clause-stands : goal.returns-clause-stands
 returns-clause-stands g c =
-    ap (λ rs. map (numbered g.C.Recorded.entry_of) rs) c.new.ensures.items
+    ap (λ rs. map numbered rs) c.new.ensures.items
     ∙ sym (entries_none (length c.self.inside.counts.items) (c.len-opened.result + 1) 1 c.self.inside.seats.items (g.C.Recorded.history c.self.inside.recorded) c.self.invariant.opened (let n = c.len-opened.ensures in omega arith))

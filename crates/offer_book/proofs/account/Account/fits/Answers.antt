@@ -30,7 +30,7 @@ returns c =
     let rest_is : rest ≡ rest_of a.total c.args.more.now = rw c.in_ok-rest.ensures at c.if-not-cover_part.ensures.rest in
     let covered_too : true ≡ covers rest (offer_rows a.offers) = rw c.as_slice.ensures at c.if-not-cover_offers.ensures.covered in
     let behind_is : behind ≡ rest_of rest (offer_rows a.offers) = rw c.as_slice.ensures at c.if-not-cover_offers.ensures.rest in
-    let last : c.cover_tasks.result ≡ covers behind (job_rows (unended a.booked)) = rw c.as_slice-2.ensures at c.cover_tasks.ensures in
+    let last : c.cover_booked.result ≡ covers behind (job_rows (unended a.booked)) = c.cover_booked.ensures in
     last
     ∙ (second_decides rest (offer_rows a.offers) (job_rows (unended a.booked)) behind c.if-not-cover_part.ensures.rows covered_too behind_is
     ∙ second_decides a.total c.args.more.now (taken a) rest c.rows-ordered.ensures.ordered covered rest_is)

@@ -8,7 +8,7 @@ use Rattle.offer_book.proofs.account.Account.free.Goals as goal
 pub returns : goal.returns
 returns c =
     let a = c.args.self.now in
-    let rest : c.take_tasks.new.rest ≡ free a =
-    c.take_tasks.ensures.rest
-    ∙ rw (c.take_offers.ensures.rest, c.as_slice.ensures, c.as_slice-2.ensures, c.in_ok-rest.ensures) (rests_join a.total (offer_rows a.offers) (job_rows (unended a.booked))) in
+    let rest : c.take_booked.new.rest ≡ free a =
+    c.take_booked.ensures
+    ∙ rw (c.take_offers.ensures.rest, c.as_slice.ensures, c.in_ok-rest.ensures) (rests_join a.total (offer_rows a.offers) (job_rows (unended a.booked))) in
     record { rest = rest; less = λ name. ap (amount name) rest ∙ amount-rest a.total (taken a) c.rows-ordered.ensures.ordered.ordered name }

@@ -1,5 +1,5 @@
 use Rattle.std.proofs.Common.{◌∙◌}
-use Rattle.desk_seats.proofs.Answered.{last_is}
+use Rattle.desk_seats.proofs.Answering.{last_is}
 use Rattle.desk_seats.proofs.desk.pass.Pass.last.Goals as goal
 
 pub returns-clause-pushed : goal.returns-clause-pushed

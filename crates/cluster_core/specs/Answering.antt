@@ -1,0 +1,20 @@
+-- How a desk over a cluster answers.
+use Rattle.cluster_steps.specs.declared.entry.Entry.{Entry}
+use Rattle.cluster_steps.specs.declared.step.Step.{Step}
+use Rattle.desk_seats.specs.Receipts.{IsAnswered, IsTaken, PassState}
+use Rattle.desk_seats.specs.declared.desk.pass.Answered.{Answered}
+use Rattle.cluster_core.specs.Recording.{IsSound, Recorded, Takes}
+use Rattle.cluster_core.specs.declared.given.Given.{Given}
+
+-- in a sound state the cluster took the step: its entry is the receipt's,
+-- under the receipt's number, and this was given with it
+abbrev pub IsTakenBy : Step → Answered Entry Given → Type 0
+IsTakenBy step a =
+    IsTaken (λ (c : Recorded). c.story.entries) (λ c. IsSound c)
+    (λ old step entry given new. Takes old step entry given new) step a
+
+-- a step was so taken, and the pass has got its receipt
+abbrev pub Answers : PassState Entry → Step → Answered Entry Given → PassState Entry → Type 0
+Answers old step a new =
+    IsAnswered (λ (c : Recorded). c.story.entries) (λ c. IsSound c) (λ (e : Entry). e.step)
+    (λ old step entry given new. Takes old step entry given new) old new step a
