@@ -5,13 +5,16 @@ It subscribes to the master at 127.0.0.1:PORT (5050), launches TASKS tasks (3) o
 update, prints how each task goes on, and tears itself down when all have finished, or when one ended otherwise. With an ID it goes on
 as the framework that had this id before, as behind a restart of the server: it launches nothing, and waits for its TASKS tasks to finish.
 """
+import argparse
 import http.client
 import json
-import sys
 
-PORT = int(sys.argv[1]) if len(sys.argv) > 1 else 5050
-TASKS = int(sys.argv[2]) if len(sys.argv) > 2 else 3
-ID = {"value": sys.argv[3]} if len(sys.argv) > 3 else None
+PARSER = argparse.ArgumentParser(description=__doc__, formatter_class=argparse.RawDescriptionHelpFormatter)
+PARSER.add_argument("port", metavar="PORT", nargs="?", type=int, default=5050)
+PARSER.add_argument("tasks", metavar="TASKS", nargs="?", type=int, default=3)
+PARSER.add_argument("id", metavar="ID", nargs="?")
+WORDS = PARSER.parse_args()
+PORT, TASKS, ID = WORDS.port, WORDS.tasks, {"value": WORDS.id} if WORDS.id else None
 
 
 def post(body, stream=None):

@@ -5,13 +5,15 @@ It is for a server of `--agents examples/weights.json --task-seconds 0`. The fil
 role launches one task of one cpu on each offer that it gets, until nothing is free. It prints who gets each offer and how many tasks each runs in the end, and
 tears both frameworks down.
 """
+import argparse
 import http.client
 import json
 import queue
-import sys
 import threading
 
-PORT = int(sys.argv[1]) if len(sys.argv) > 1 else 5050
+PARSER = argparse.ArgumentParser(description=__doc__, formatter_class=argparse.RawDescriptionHelpFormatter)
+PARSER.add_argument("port", metavar="PORT", nargs="?", type=int, default=5050)
+PORT = PARSER.parse_args().port
 CPUS = 9
 SECONDS = 60
 
