@@ -1,4 +1,3 @@
-pub mod Parting
 pub mod Puttings
 pub mod Mailing
 pub mod Telling

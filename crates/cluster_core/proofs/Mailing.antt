@@ -32,7 +32,7 @@ use Rattle.cluster_core.specs.Keeping.{IsKept}
 use Rattle.cluster_core.specs.Putting.{ArePut, direction_of, place_in, place_or_end}
 use Rattle.cluster_core.specs.Reading.{IsNextFrom, IsNextTo, NoneFrom, NoneTo}
 use Rattle.cluster_core.specs.Stories.{Story, state_of}
-use Rattle.cluster_core.specs.declared.parts.Parts.{Parts}
+use Rattle.cluster_parts.specs.declared.parts.Parts.{Parts}
 
 -- ---- names and places
 

@@ -16,11 +16,11 @@ use Rattle.cluster_steps.specs.declared.fault.ClusterFault.TheVariants.{NoSuchMa
 use Rattle.cluster_steps.specs.declared.step.Step.{Step}
 use Rattle.cluster_parts.specs.Handing.{handed}
 use Rattle.cluster_parts.specs.Moves.{kept_agents}
-use Rattle.cluster_core.specs.Parts.{Stands, record_of}
+use Rattle.cluster_parts.specs.Parts.{Stands, record_of}
 use Rattle.cluster_core.specs.Putting.{ArePut, way_of, with_handed}
 use Rattle.cluster_core.specs.Stories.{IsLegal, Story, state_of, with_entry}
 use Rattle.cluster_parts.specs.declared.masters.Made.{Made}
-use Rattle.cluster_core.specs.declared.parts.Parts.{Parts}
+use Rattle.cluster_parts.specs.declared.parts.Parts.{Parts}
 use Rattle.cluster_core.specs.declared.taken.History.{History}
 use Rattle.cluster_core.specs.declared.taken.Taken.{Taken}
 

@@ -1,5 +1,4 @@
 pub mod Stories
-pub mod Parts
 pub mod Putting
 pub mod Keeping
 pub mod Safety

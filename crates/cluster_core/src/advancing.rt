@@ -7,11 +7,10 @@ ghost use Rattle.cluster_core.specs.Stories.{state_of, with_entry};
 ghost use Rattle.cluster_parts.specs.Handing.{IsGiven, handed};
 ghost use Rattle.cluster_steps.specs.Steps.{step_of};
 
-use crate::parts::Parts;
 use crate::taken::{History, KeptEntry, Taken};
 use agent_sides::ConfiguredAgent;
 use cluster_laws::{Item, sent_items_stand, states_count_entries, weights_stay};
-use cluster_parts::Made;
+use cluster_parts::{Made, Parts};
 use cluster_steps::{ClusterFault, Entry, Step, StepCause};
 use names_core::AgentName;
 use permanent_value::Place;

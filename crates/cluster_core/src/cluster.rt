@@ -23,13 +23,12 @@ ghost use Rattle.mails.specs.declared.record.Durable.{Durable as Record};
 mod reading;
 
 use crate::advancing::{advance, put_all};
-use crate::parts::Parts;
 use crate::safety::stories_are_safe;
 use crate::stopping::stopped_stories_open_again;
 use crate::taken::{History, KeptEntry, Taken};
 use agent_core::Record;
 use cluster_openings::{put_in_order, records_are_recorded};
-use cluster_parts::{ClusterAgent, open_parts};
+use cluster_parts::{ClusterAgent, Parts, open_parts};
 use cluster_steps::{ClusterFault, Outputs, Step};
 use master_core::Config;
 use names_core::{AgentName, Run};

@@ -7,7 +7,6 @@ mod advancing;
 mod cluster;
 mod given;
 mod groups;
-mod parts;
 mod recorded;
 mod running;
 mod safety;

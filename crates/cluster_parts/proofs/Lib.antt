@@ -12,3 +12,4 @@ pub mod Hearing
 pub mod Greeting
 pub mod Openings
 pub mod Restarts
+pub mod Parting

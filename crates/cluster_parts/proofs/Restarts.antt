@@ -254,3 +254,10 @@ behind_so run next e = by (nat_lt run last_run) refl e
     by : (b : Bool) → nat_lt run last_run ≡ b → Some next ≡ (if b then Some (1 + run) else None) → (nat_lt run last_run ≡ true) × (next ≡ 1 + run)
     by true f g = (f, (let same : Some next ≡ Some (1 + run) = g in cc))
     by false f g = absurd (let clash : Some next ≡ None = g in cc)
+
+pub none_behind : (run : ℕ) → None ≡ run_behind run → nat_lt run last_run ≡ false
+none_behind run e = by (nat_lt run last_run) refl e
+  where
+    by : (b : Bool) → nat_lt run last_run ≡ b → None ≡ (if b then Some (1 + run) else None) → nat_lt run last_run ≡ false
+    by true f g = absurd (let clash : None ≡ Some (1 + run) = g in cc)
+    by false f g = f

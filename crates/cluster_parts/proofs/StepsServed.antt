@@ -1,17 +1,19 @@
 -- A step of a serving master, in the words of what stands for the state.
-use Rattle.std.proofs.Common.{◌≡◌, ◌<◌, ◌≤◌, ℕ, zero, suc, arith, nat_lt, slice_get, is_some, option_map, true, false, List, ◌++◌, Option, Some, None, Result, Err, refl, sym, ap, ◌∙◌, subst}
-use Rattle.std.specs.Prelude.{IfOk}
+use Rattle.std.proofs.Common.{◌≡◌, ◌<◌, ◌≤◌, ℕ, zero, suc, arith, nat_lt, slice_get, is_none, is_some, option_map, true, false, Bool, List, ◌++◌, Option, Some, None, Result, Ok, Err, inl, inr, refl, sym, ap, ◌∙◌, subst}
+use Rattle.std.specs.Prelude.{◌⊎◌, IfOk}
 use Rattle.std.proofs.lemmas.Bool.Decides.{nat_tests}
 use Rattle.mails.specs.declared.call.Call.{Call}
+use Rattle.mails.specs.declared.mail.AgentMail.{AgentMail}
 use Rattle.names_core.specs.Ids.{Numbered}
 use Rattle.cluster_model.specs.Mails.{ticked}
-use Rattle.cluster_model.specs.Clusters.{Called, Cluster, Step, StepRefusal, MasterDown, HangUp, LoseAgent, NoSuchAgent, NoSuchMail, Stream, Tick, TimeBack, master_of}
+use Rattle.cluster_model.specs.Clusters.{Called, Cluster, Deliver, Down, Post, Step, StepRefusal, MasterDown, HangUp, LoseAgent, NoSuchAgent, NoSuchMail, Stream, Tick, TimeBack, Up, master_of}
 use Rattle.cluster_model.specs.Channels.{Channel}
 use Rattle.cluster_model.specs.Masters.{Doing, Master}
-use Rattle.cluster_model.specs.Steps.{Done, answer, at_channel, channel_of, hangs_up, loses_agent, master_does, post_at, stream_at, ticks_at, with_master, with_tick}
+use Rattle.cluster_model.specs.Steps.{Done, answer, at_channel, channel_of, delivers, delivers_up, hangs_up, loses_agent, master_does, master_hears, post_at, stream_at, ticks_at, with_master, with_tick}
 use Rattle.cluster_laws.specs.declared.item.Item.{Item}
 use Rattle.cluster_laws.specs.declared.item.Item.TheVariants as sent_items
 use Rattle.cluster_laws.specs.Items.{StandIn}
+use Rattle.cluster_steps.specs.declared.fault.ClusterFault.TheVariants as faults
 use Rattle.cluster_laws.specs.Runs.{AreRising}
 use Rattle.master_core.specs.Steps.{Answers}
 use Rattle.master_state.specs.declared.fault.MasterFault.{MasterFault}
@@ -20,14 +22,18 @@ use Rattle.told_streams.specs.Kept.{AreWithin, kept_stream, kept_streams}
 use Rattle.told_streams.specs.declared.kept.KeptStream.{KeptStream}
 use Rattle.told_streams.specs.Streams.{kept_ids, stream_kept}
 use Rattle.cluster_parts.specs.Causes.{item_at}
-use Rattle.cluster_parts.specs.Masters.{Does, MasterMakes, Settles, StandsFor}
+use Rattle.cluster_parts.specs.Handing.{MayRefuse}
+use Rattle.cluster_parts.specs.Masters.{Does, MasterMakes, Settles, StandsFor, kept_master}
 use Rattle.cluster_parts.specs.Moves.{Reached, kept_agents}
 use Rattle.cluster_parts.specs.Agents.{KeptAgent, place_in}
 use Rattle.cluster_parts.proofs.Finding.{found, not_found}
+use Rattle.cluster_parts.specs.Parts.{PartsOf, Takes, record_of}
 use Rattle.cluster_parts.specs.declared.masters.Made.{Made}
+use Rattle.cluster_parts.specs.declared.parts.Parts.{Parts}
 use Rattle.cluster_parts.proofs.Committing.{if_it_is_down, if_it_is_up}
 use Rattle.cluster_parts.proofs.Preparing.{item_behind}
 use Rattle.cluster_parts.proofs.Mastering.{none_serves, serves_if}
+use Rattle.cluster_parts.proofs.Parting.{master_takes}
 
 abbrev pub MadeLaw : Type 0
 MadeLaw = (c : Cluster) (s : Step) (moment : ℕ) (doing : Master → Doing) (answered : Result Outs MasterFault) (after : Option Master) (made : Made) (n : Option (Option Master)) (items js : List Item) (ts : List KeptStream) →
@@ -37,20 +43,24 @@ abbrev pub RiseLaw : Type 0
 RiseLaw = (c : Cluster) (s : Step) (moment : ℕ) (doing : Master → Doing) (answered : Result Outs MasterFault) (after : Option Master) → Reached c → Does c s moment (doing (master_of c)) → Answers answered (Some (master_of c)) after doing →
     IfOk answered (λ outs. AreRising (kept_ids (kept_streams c.streams) ++ outs.opened))
 
-pub serve_made : MadeLaw → (c : Cluster) (s : Step) (moment : ℕ) (doing : Master → Doing) (before after : Option Master) (answered : Result Outs MasterFault) (made : Made) (n : Option (Option Master)) (items js : List Item) (ss ts : List KeptStream) →
-    Reached c → StandsFor c (Some before) items ss → (c.world.run.serves ≡ true → Does c s moment (doing (master_of c))) → Answers answered before after doing → Settles answered made (Some after) n items js ss ts → MasterMakes c s moment made n js ts
-serve_made law c s moment doing before after answered made n items js ss ts r stands how a settles =
-    let up = serves_if (master_of c) before stands.as_master in
-    law c s moment doing answered after made n items js ts r stands.within stands.as_items up.0 (how up.0)
+pub serve_takes : MadeLaw → (c : Cluster) (s : Step) (moment : ℕ) (doing : Master → Doing) (before after : Option Master) (answered : Result Outs MasterFault) (made : Made) (p q : Parts) →
+    PartsOf c p → p.master ≡ Some before → (c.world.run.serves ≡ true → Does c s moment (doing (master_of c))) → Answers answered before after doing → Settles answered made (Some after) q.master p.items q.items p.streams q.streams →
+    q.agents.items ≡ p.agents.items → q.run ≡ p.run → q.last_tick ≡ moment → None ≡ record_of s made.verdict q.agents.items → Takes c s made q
+serve_takes law c s moment doing before after answered made p q of is how a settles agents run tick none =
+    let stands = of.stands.as_others in
+    let up = serves_if (master_of c) before (sym is ∙ stands.as_master) in
+    master_takes c s moment made p q of
+    (law c s moment doing answered after made q.master p.items q.items q.streams of.reached stands.within stands.as_items up.0 (how up.0)
     (subst (λ (m : Option Master). Answers answered m after doing) up.1 a)
-    (subst (λ (xs : List KeptStream). Settles answered made (Some after) n items js xs ts) stands.as_streams settles)
+    (subst (λ (xs : List KeptStream). Settles answered made (Some after) q.master p.items q.items xs q.streams) stands.as_streams settles)) agents run tick none
 
-pub serve_rise : RiseLaw → (c : Cluster) (s : Step) (moment : ℕ) (doing : Master → Doing) (before after : Option Master) (answered : Result Outs MasterFault) (items : List Item) (ss : List KeptStream) →
-    Reached c → StandsFor c (Some before) items ss → (c.world.run.serves ≡ true → Does c s moment (doing (master_of c))) → Answers answered before after doing → IfOk answered (λ outs. AreRising (kept_ids ss ++ outs.opened))
-serve_rise law c s moment doing before after answered items ss r stands how a =
-    let up = serves_if (master_of c) before stands.as_master in
+pub serve_rise : RiseLaw → (c : Cluster) (s : Step) (moment : ℕ) (doing : Master → Doing) (before after : Option Master) (answered : Result Outs MasterFault) (p : Parts) →
+    PartsOf c p → p.master ≡ Some before → (c.world.run.serves ≡ true → Does c s moment (doing (master_of c))) → Answers answered before after doing → IfOk answered (λ outs. AreRising (kept_ids p.streams ++ outs.opened))
+serve_rise law c s moment doing before after answered p of is how a =
+    let stands = of.stands.as_others in
+    let up = serves_if (master_of c) before (sym is ∙ stands.as_master) in
     subst (λ (xs : List KeptStream). IfOk answered (λ (outs : Outs). AreRising (kept_ids xs ++ outs.opened))) (sym stands.as_streams)
-    (law c s moment doing answered after r (how up.0) (subst (λ (m : Option Master). Answers answered m after doing) up.1 a))
+    (law c s moment doing answered after of.reached (how up.0) (subst (λ (m : Option Master). Answers answered m after doing) up.1 a))
 
 pub no_master : (c : Cluster) (answered : Result Done StepRefusal) (items : List Item) (ss : List KeptStream) → StandsFor c None items ss → with_master c answered ≡ Err MasterDown
 no_master c answered items ss stands = if_it_is_up c.world.run.serves answered (Err MasterDown) (none_serves (master_of c) stands.as_master)
@@ -111,3 +121,40 @@ unknown_agent c as_ name same e = by (place_in name (kept_agents c)) refl (ap (�
 
 pub loses_without_master : (c : Cluster) (x : Channel) (name : List ℕ) (items : List Item) (ss : List KeptStream) → channel_of c name ≡ Some x → StandsFor c None items ss → answer c (LoseAgent name) ≡ Err MasterDown
 loses_without_master c x name items ss here stands = ap (λ (o : Option Channel). at_channel o (λ y. with_master c (loses_agent c y))) here ∙ no_master c (loses_agent c x) items ss stands
+
+-- ---- what is delivered may be withheld
+
+unsent_or_heard : (c : Cluster) (x : Channel) (place : ℕ) (o : Option AgentMail) → (master_hears c x place o ≡ Err NoSuchMail) ⊎ ((d : Done) × (master_hears c x place o ≡ Ok d))
+unsent_or_heard c x place None = inl refl
+unsent_or_heard c x place (Some mail) = inr (_, refl)
+
+unsent_or_up : (c : Cluster) (place : ℕ) (o : Option Channel) → (delivers_up c place o ≡ Err NoSuchMail) ⊎ ((d : Done) × (delivers_up c place o ≡ Ok d))
+unsent_or_up c place None = inl refl
+unsent_or_up c place (Some x) = unsent_or_heard c x place (slice_get x.to_master place)
+
+unsent_or_delivered : (c : Cluster) (o : Option Post) → (delivers c o ≡ Err NoSuchMail) ⊎ ((d : Done) × (delivers c o ≡ Ok d))
+unsent_or_delivered c None = inl refl
+unsent_or_delivered c (Some (Called stream call)) = inr (_, refl)
+unsent_or_delivered c (Some (Down agent place)) = inl refl
+unsent_or_delivered c (Some (Up agent place)) = unsent_or_up c place (channel_of c agent)
+
+serves_where : (m : Master) (o : Option (Option Master)) → o ≡ kept_master m → is_none o ≡ false → m.run.serves ≡ true
+serves_where m None e h = absurd (let clash : true ≡ false = h in cc)
+serves_where m (Some o) e h = (serves_if m o e).0
+
+pub deliver_withheld : (c : Cluster) (p : Parts) (gives : ℕ → Bool) (n : ℕ) → PartsOf c p → is_none p.master ≡ false → gives n ≡ false → MayRefuse c gives (Deliver n) faults.NoSuchMail
+deliver_withheld c p gives n of up none = by (unsent_or_delivered c (post_at c n))
+  where
+    asked : answer c (Deliver n) ≡ delivers c (post_at c n)
+    asked = if_it_is_down c.world.run.serves (delivers c (post_at c n)) (Err MasterDown) (serves_where (master_of c) p.master of.stands.as_others.as_master up)
+
+    by : (delivers c (post_at c n) ≡ Err NoSuchMail) ⊎ ((d : Done) × (delivers c (post_at c n) ≡ Ok d)) → MayRefuse c gives (Deliver n) faults.NoSuchMail
+    by (inl e) = inl (asked ∙ e)
+    by (inr (d, e)) = inr (refl, (n, d, refl, none, asked ∙ e))
+
+pub deliver_down : (c : Cluster) (p : Parts) (n : ℕ) → PartsOf c p → is_none p.master ≡ true → answer c (Deliver n) ≡ Err MasterDown
+deliver_down c p n of down = no_master c (delivers c (post_at c n)) p.items p.streams (at p.master of.stands.as_others down)
+  where
+    at : (o : Option (Option Master)) → StandsFor c o p.items p.streams → is_none o ≡ true → StandsFor c None p.items p.streams
+    at None s h = s
+    at (Some m) s h = absurd (let clash : false ≡ true = h in cc)

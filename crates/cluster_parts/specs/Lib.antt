@@ -8,3 +8,4 @@ pub mod Handing
 pub mod Hearing
 pub mod Restarting
 pub mod Opening
+pub mod Parts

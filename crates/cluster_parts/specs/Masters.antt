@@ -4,7 +4,6 @@ use Rattle.event_json.specs.declared.event.Event.{Event}
 use Rattle.names_core.specs.Ids.{Numbered}
 use Rattle.mails.specs.declared.mail.ToAgent.{ToAgent}
 use Rattle.mails.specs.declared.refusal.MasterRefusal.{MasterRefusal}
-use Rattle.role_weights.specs.Weights.{RoleWeight}
 use Rattle.cluster_model.specs.Clusters.{Cluster, Step, master_of}
 use Rattle.cluster_model.specs.Masters.{Doing, Master}
 use Rattle.cluster_model.specs.Steps.{Done, answer, fallen_answer, instead, master_does, master_falls, with_tick}
@@ -25,8 +24,7 @@ use Rattle.master_state.specs.declared.state.Outs.{Outs}
 use Rattle.told_streams.specs.Kept.{AreWithin, kept_streams}
 use Rattle.told_streams.specs.declared.kept.KeptStream.{KeptStream}
 use Rattle.told_streams.specs.Streams.{heard}
-use Rattle.cluster_parts.specs.Moves.{Reached, kept_agents, sending}
-use Rattle.cluster_parts.specs.Agents.{KeptAgent}
+use Rattle.cluster_parts.specs.Moves.{sending}
 use Rattle.cluster_parts.specs.declared.masters.Made.{Made}
 
 -- the master, where it serves
@@ -116,11 +114,6 @@ Settles (Ok outs) made m n is js ss ts = Tells outs made m n is js ss ts ⊎ Fal
 Settles (Err fault.OutOfMemory) made m n is js ss ts = Falls made n is js ss ts
 Settles (Err (fault.Refused refusal)) made m n is js ss ts = Refused refusal made m n is js ss ts
 
--- what a step of the master is taken on: it stands for a state that is reached
-abbrev pub Standing : Option (Option Master) → List Item → List KeptStream → Type 0
-Standing master items_sent streams =
-    (c : Cluster) × Reached c × StandsFor c master items_sent streams
-
 -- an event is taken
 
 abbrev pub taking_out : Numbered → Event → Outputs
@@ -134,20 +127,3 @@ taking_out id event =
 
 abbrev pub taking : Numbered → Event → Made
 taking id event = record { verdict = verdicts.Ok; outputs = taking_out id event; durable = None }
-
--- with the moment of its last tick
-abbrev pub StandingAt : ℕ → Option (Option Master) → List Item → List KeptStream → Type 0
-StandingAt moment master items_sent streams =
-    (c : Cluster) × Reached c × (c.last_tick ≡ moment) × StandsFor c master items_sent streams
-
--- with these weights of roles
-abbrev pub StandingBy : List RoleWeight → Option (Option Master) → List Item → List KeptStream
-    → Type 0
-StandingBy weights master items_sent streams =
-    (c : Cluster) × Reached c × (c.weights ≡ weights) × StandsFor c master items_sent streams
-
--- with its agents
-abbrev pub StandingWith : List KeptAgent → Option (Option Master) → List Item → List KeptStream
-    → Type 0
-StandingWith agents master items_sent streams =
-    (c : Cluster) × Reached c × (agents ≡ kept_agents c) × StandsFor c master items_sent streams

@@ -1,28 +1,19 @@
 -- The master stops, and a new one begins the next run.
 use Rattle.std.specs.Prelude.{◌≡◌, ◌+◌, ℕ, nat_lt, if◌then◌else◌, List, Option, Some, None, Ok}
-use Rattle.agent_sides.specs.declared.config.ConfiguredAgent.{ConfiguredAgent}
 use Rattle.cluster_model.specs.Clusters.{Cluster, StopMaster}
 use Rattle.cluster_model.specs.Ids.{last_run}
 use Rattle.cluster_model.specs.Masters.{Master}
 use Rattle.cluster_model.specs.Steps.{Done, answer, fallen_answer}
-use Rattle.cluster_laws.specs.Parts.{AreAgentsOf, parts_of}
+use Rattle.cluster_laws.specs.Parts.{parts_of}
 use Rattle.cluster_laws.specs.declared.item.Item.{Item}
 use Rattle.cluster_steps.specs.Steps.{fell, outputs_of, verdict_of}
 use Rattle.told_streams.specs.declared.kept.KeptStream.{KeptStream}
 use Rattle.cluster_parts.specs.Masters.{StandsFor}
-use Rattle.cluster_parts.specs.Moves.{Reached}
 use Rattle.cluster_parts.specs.declared.masters.Made.{Made}
 
 -- the run behind this one; none behind the last one
 abbrev pub run_behind : ℕ → Option ℕ
 run_behind run = if nat_lt run last_run then Some (1 + run) else None
-
--- what a stop of the master is taken on: with the agents of the opening's records, in this run
-abbrev pub StandingOver : List ConfiguredAgent → ℕ → Option (Option Master) → List Item
-    → List KeptStream → Type 0
-StandingOver agents run master sent streams =
-    (c : Cluster) × (r : Reached c) × AreAgentsOf agents r.records × (c.world.run.number ≡ run)
-    × StandsFor c master sent streams
 
 -- the master was stopped: how it ends, and what then stands for the master's part in this run;
 -- the agents are as they were

@@ -3,8 +3,9 @@
 ghost use Rattle.std.specs.Prelude.{◌≡◌, ◌+◌, ◌++◌, true, length, is_some, Some, Err, IfOk, IfErr, IfSome, OnErr, List, Option, Result, ℕ};
 ghost use Rattle.cluster_parts.specs.Causes.{item_at};
 ghost use Rattle.cluster_parts.specs.Hearing.{IsForMaster, SettlesHeard, with_refusal};
-ghost use Rattle.cluster_parts.specs.Masters.{MasterMakes, Standing, StandsFor};
+ghost use Rattle.cluster_parts.specs.Masters.{MasterMakes, StandsFor};
 ghost use Rattle.cluster_parts.specs.Moves.{Reached, Refuses};
+ghost use Rattle.cluster_parts.specs.Parts.{AllMayRefuse, AllRefuse, AllTake, AreParts, Same};
 ghost use Rattle.cluster_parts.specs.Posts.{Grows};
 ghost use Rattle.cluster_parts.specs.declared.masters.Made.{Made as MadeSo};
 ghost use Rattle.cluster_laws.specs.Runs.{AreRising};
@@ -25,7 +26,7 @@ ghost use Rattle.told_streams.specs.declared.kept.KeptStream.{KeptStream};
 use crate::causes::item_at;
 use crate::items::Items;
 use crate::masters::{Made, settle};
-use crate::serving::deliver_call;
+use crate::parts::Parts;
 use cluster_laws::{
     Item, fallen_masters_do_not_serve, items_are_posts, mails_of_agents_fit, masters_leave_agents,
     masters_stay_in_their_run, named_agents_are_found, sent_items_stand, streams_rise,
@@ -119,69 +120,73 @@ fn settle_heard<P: Post>(
     }
 }
 
-/// A mail of an agent that was sent under a number comes to the master.
-fn deliver_mail<P: Post>(
-    master: &mut Option<Master>,
-    items: &mut Items,
-    streams: &mut Streams,
-    post: &mut P,
-    alloc: Global,
-    number: u64,
-    to: ToMaster,
-) -> Result<Made, ClusterFault>
-    requires stands { Standing master.old items.old streams.old }
-    requires sent { item_at number items.old ≡ Some (sent.ToMaster to) }
-    ensures made { IfOk result (λ made. (c : Cluster) → Reached c
-        → StandsFor c master.old items.old streams.old
-        → MasterMakes c (Deliver number) c.last_tick made master.new items.new streams.new) }
-    ensures refused { IfErr result (λ fault. (c : Cluster)
-        → StandsFor c master.old items.old streams.old → Refuses c (Deliver number) fault) }
-    ensures unchanged { OnErr result ((master.new ≡ master.old) × (items.new ≡ items.old)
-        × (streams.new ≡ streams.old)) }
-    ensures post { P.known post.new ≡ P.known post.old }
-    ensures room { Grows (length items.old) (length items.new) (P.room post.new) }
-{
-    mails_are_heard();
-    let Some(serving) = master else {
-        return Err(ClusterFault::MasterDown);
-    };
-    let ToMaster { agent, mail } = to;
-    let heard = serving.mail(alloc, &agent, mail);
-    Ok(settle_heard(master, items, streams, post, alloc, heard))
-}
-
-/// A call or a mail that was sent under a number, from 1, comes to the master. It is refused with
-/// `C2 MasterDown` where no master serves, with `C1 NoSuchMail` where nothing was sent under the
-/// number or it is a mail to an agent, and with `C9 OutOfMemory`. A master that runs out of memory
-/// in the step is down.
-pub fn deliver<P: Post>(
-    master: &mut Option<Master>,
-    items: &mut Items,
-    streams: &mut Streams,
-    post: &mut P,
-    alloc: Global,
-    number: u64,
-) -> Result<Made, ClusterFault>
-    requires { Standing master.old items.old streams.old }
-    ensures made { IfOk result (λ made. (c : Cluster) → Reached c
-        → StandsFor c master.old items.old streams.old
-        → MasterMakes c (Deliver number) c.last_tick made master.new items.new streams.new) }
-    ensures refused { IfErr result (λ fault. (c : Cluster)
-        → StandsFor c master.old items.old streams.old → Refuses c (Deliver number) fault) }
-    ensures unchanged { OnErr result ((master.new ≡ master.old) × (items.new ≡ items.old)
-        × (streams.new ≡ streams.old)) }
-    ensures post { P.known post.new ≡ P.known post.old }
-    ensures room { Grows (length items.old) (length items.new) (P.room post.new) }
-{
-    mails_are_heard();
-    if master.is_none() {
-        return Err(ClusterFault::MasterDown);
+impl Parts {
+    /// A mail of an agent that was sent under a number comes to the master.
+    fn deliver_mail<P: Post>(
+        &mut self,
+        post: &mut P,
+        alloc: Global,
+        number: u64,
+        to: ToMaster,
+    ) -> Result<Made, ClusterFault>
+        requires parts { AreParts self.old }
+        requires sent { item_at number self.old.items ≡ Some (sent.ToMaster to) }
+        ensures made { IfOk result (AllTake self.old (Deliver number) self.new) }
+        ensures refused { IfErr result (AllRefuse self.old (Deliver number)) }
+        ensures unchanged { OnErr result (Same self.old self.new) }
+        ensures config { self.new.config ≡ self.old.config }
+        ensures post { P.known post.new ≡ P.known post.old }
+        ensures room { Grows (length self.old.items) (length self.new.items) (P.room post.new) }
+    {
+        mails_are_heard();
+        let Some(serving) = &mut self.master else {
+            return Err(ClusterFault::MasterDown);
+        };
+        let ToMaster { agent, mail } = to;
+        let heard = serving.mail(alloc, &agent, mail);
+        Ok(settle_heard(
+            &mut self.master,
+            &mut self.items,
+            &mut self.streams,
+            post,
+            alloc,
+            heard,
+        ))
     }
-    match for_master(items.as_slice(), number) {
-        Ok(ForMaster::Call(stream, call)) => {
-            deliver_call(master, items, streams, post, alloc, number, stream, call)
+
+    /// A call or a mail that was sent under a number, from 1, comes to the master. It is refused
+    /// with `C2 MasterDown` where no master serves, with `C1 NoSuchMail` where the post can't hand
+    /// the number out, nothing was sent under it or it is a mail to an agent, and with
+    /// `C9 OutOfMemory`. A master that runs out of memory in the step is down.
+    pub(crate) fn deliver<P: Post>(
+        &mut self,
+        post: &mut P,
+        alloc: Global,
+        number: u64,
+    ) -> Result<Made, ClusterFault>
+        requires { AreParts self.old }
+        ensures made { IfOk result (AllTake self.old (Deliver number) self.new) }
+        ensures refused { IfErr result
+            (AllMayRefuse (P.gives (P.known post.old)) self.old (Deliver number)) }
+        ensures unchanged { OnErr result (Same self.old self.new) }
+        ensures config { self.new.config ≡ self.old.config }
+        ensures post { P.known post.new ≡ P.known post.old }
+        ensures room { Grows (length self.old.items) (length self.new.items) (P.room post.new) }
+        ensures given { IfOk result (λ _. P.gives (P.known post.old) number ≡ true) }
+    {
+        mails_are_heard();
+        if self.master.is_none() {
+            return Err(ClusterFault::MasterDown);
         }
-        Ok(ForMaster::Mail(to)) => deliver_mail(master, items, streams, post, alloc, number, to),
-        Err(fault) => Err(fault),
+        if !post.can_give(number) {
+            return Err(ClusterFault::NoSuchMail);
+        }
+        match for_master(self.items.as_slice(), number) {
+            Ok(ForMaster::Call(stream, call)) => {
+                self.deliver_call(post, alloc, number, stream, call)
+            }
+            Ok(ForMaster::Mail(to)) => self.deliver_mail(post, alloc, number, to),
+            Err(fault) => Err(fault),
+        }
     }
 }

@@ -1,6 +1,6 @@
-//! The parts of a cluster, its agents, its master and all that was sent, and what a step makes of
-//! the part that it moves. Each step here is the model's, said of that part alone; what stands for
-//! the other parts stays as it was.
+//! The parts of a cluster: its agents, its master, all that was sent and the streams; and each step
+//! that moves them, a method of `Parts`. At each state that the parts stand for a step is the
+//! model's, or it is refused and they stay as they were.
 #![tactic(auto)]
 
 mod agents;
@@ -13,6 +13,7 @@ mod laws;
 mod master_laws;
 mod masters;
 mod opening;
+mod parts;
 mod prepares;
 mod restarting;
 mod sends;
@@ -20,13 +21,7 @@ mod serving;
 mod stops;
 
 pub use agents::{ClusterAgent, place_of};
-pub use commits::commit;
-pub use delivering::deliver;
 pub use items::Items;
-pub use masters::{Made, ends_with, sending};
+pub use masters::Made;
 pub use opening::{Opened, open_parts};
-pub use prepares::{Prepared, prepare};
-pub use restarting::stop_master;
-pub use sends::{send, take};
-pub use serving::{allocate, hang_up, lose_agent, tick};
-pub use stops::{stop_after, stop_before};
+pub use parts::Parts;

@@ -4,14 +4,15 @@ ghost use Rattle.std.specs.Prelude.{◌≡◌, ◌+◌, ◌++◌, length, true, 
 ghost use Rattle.cluster_parts.specs.Masters.{Settles, StandsFor, ends_with};
 ghost use Rattle.cluster_parts.specs.Moves.{Reached};
 ghost use Rattle.cluster_parts.specs.Opening.{Starts};
+ghost use Rattle.cluster_parts.specs.Parts.{AllTake, AreParts};
 ghost use Rattle.cluster_parts.specs.Posts.{Grows};
-ghost use Rattle.cluster_parts.specs.Restarting.{Restarts, StandingOver, run_behind};
+ghost use Rattle.cluster_parts.specs.Restarting.{Restarts, run_behind};
 ghost use Rattle.cluster_parts.specs.declared.masters.Made.{Made as MadeSo};
 ghost use Rattle.agent_sides.specs.declared.config.ConfiguredAgent.{ConfiguredAgent};
 ghost use Rattle.cluster_laws.specs.Parts.{AreAgentsOf};
 ghost use Rattle.cluster_laws.specs.Runs.{AreRising};
 ghost use Rattle.cluster_laws.specs.declared.item.Item.{Item};
-ghost use Rattle.cluster_model.specs.Clusters.{Cluster};
+ghost use Rattle.cluster_model.specs.Clusters.{Cluster, StopMaster};
 ghost use Rattle.cluster_model.specs.Ids.{last_run};
 ghost use Rattle.cluster_model.specs.Masters.{Master as ModelMaster};
 ghost use Rattle.cluster_steps.specs.declared.entry.Verdict.TheVariants as verdicts;
@@ -20,20 +21,19 @@ ghost use Rattle.master_state.specs.declared.state.Outs.{Outs};
 ghost use Rattle.told_streams.specs.Streams.{kept_ids};
 ghost use Rattle.told_streams.specs.declared.kept.KeptStream.{KeptStream};
 
-use crate::items::Items;
 use crate::masters::{Made, ends_with, settle};
 use crate::opening::start_in;
+use crate::parts::Parts;
 use cluster_laws::{
     fresh_masters_open, masters_begin_with_greetings, masters_leave_agents, sent_items_stand,
     streams_rise,
 };
 use cluster_safe::masters_step_alone;
 use cluster_steps::Verdict;
-use master_core::{Config, Master};
 use names_core::Run;
 use post_rules::Post;
 use std::alloc::Global;
-use told_streams::{Streams, kept_streams_follow};
+use told_streams::kept_streams_follow;
 
 /// The last run of a master.
 const LAST_RUN: u16 = 65_535;
@@ -68,35 +68,35 @@ fn run_behind(run: Run) -> Option<Run>
     }
 }
 
-/// The master stops: every stream closes untold, and what waits on it can still be taken. A new one
-/// begins the next run, with the agents of the configuration, and greets each. Behind the last run,
-/// 65,535, none comes, and none where memory is refused. It is never refused.
-pub fn stop_master<P: Post>(
-    master: &mut Option<Master>,
-    config: &Config,
-    items: &mut Items,
-    streams: &mut Streams,
-    post: &mut P,
-    alloc: Global,
-    run: &mut Run,
-) -> Made
-    requires { StandingOver config.now run.old master.old items.old streams.old }
-    ensures made { (c : Cluster) (r : Reached c) → AreAgentsOf config.now r.records
-        → c.world.run.number ≡ run.old → StandsFor c master.old items.old streams.old
-        → Restarts c result run.new master.new items.new streams.new }
-    ensures post { P.known post.new ≡ P.known post.old }
-    ensures room { Grows (length items.old) (length items.new) (P.room post.new) }
-{
-    restarts_are_made();
-    match run_behind(*run) {
-        Some(next) => {
-            *run = next;
-            let answer = start_in(master, alloc, config, next);
-            settle(master, items, streams, post, alloc, answer)
-        }
-        None => {
-            *master = None;
-            ends_with(alloc, Verdict::Ok)
+impl Parts {
+    /// The master stops: every stream closes untold, and what waits on it can still be taken. A new
+    /// one begins the next run, with the agents of the configuration, and greets each. Behind the
+    /// last run, 65,535, none comes, and none where memory is refused. It is never refused.
+    pub(crate) fn stop_master<P: Post>(&mut self, post: &mut P, alloc: Global) -> Made
+        requires { AreParts self.old }
+        ensures made { AllTake self.old StopMaster self.new result }
+        ensures config { self.new.config ≡ self.old.config }
+        ensures post { P.known post.new ≡ P.known post.old }
+        ensures room { Grows (length self.old.items) (length self.new.items) (P.room post.new) }
+    {
+        restarts_are_made();
+        match run_behind(self.run) {
+            Some(next) => {
+                self.run = next;
+                let answer = start_in(&mut self.master, alloc, &self.config, next);
+                settle(
+                    &mut self.master,
+                    &mut self.items,
+                    &mut self.streams,
+                    post,
+                    alloc,
+                    answer,
+                )
+            }
+            None => {
+                self.master = None;
+                ends_with(alloc, Verdict::Ok)
+            }
         }
     }
 }

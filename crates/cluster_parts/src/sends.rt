@@ -3,6 +3,7 @@
 ghost use Rattle.std.specs.Prelude.{◌≡◌, ◌+◌, ◌++◌, ◌∷◌, [], length, List, Option, Some, None, IfOk, IfErr, OnErr};
 ghost use Rattle.cluster_parts.specs.Masters.{MasterMakes, StandsFor, taking, taking_out};
 ghost use Rattle.cluster_parts.specs.Moves.{Makes, Reached, Refuses, kept_agents, sending};
+ghost use Rattle.cluster_parts.specs.Parts.{AllRefuse, AllTake, Same};
 ghost use Rattle.cluster_parts.specs.Posts.{Grows};
 ghost use Rattle.cluster_parts.specs.Sending.{MayLackEvent};
 ghost use Rattle.cluster_laws.specs.Items.{StandIn};
@@ -19,8 +20,8 @@ ghost use Rattle.names_core.specs.Ids.{Numbered};
 ghost use Rattle.told_streams.specs.Kept.{kept_streams};
 ghost use Rattle.told_streams.specs.Streams.{next_on, taken};
 
-use crate::items::Items;
 use crate::masters::{Made, made_sending};
+use crate::parts::Parts;
 use cluster_laws::{Item, sent_items_stand, streams_rise};
 use cluster_steps::{ClusterFault, Outputs, Sent, Verdict};
 use event_json::Event;
@@ -65,31 +66,6 @@ fn list_of_one<T: Drop>(alloc: Global, item: T) -> Result<Listed<T>, AllocError>
     Ok(Listed::from_vec(items))
 }
 
-/// A framework sends a call, on a stream or on none; the stream may be one that was never opened.
-/// The post has room for the call. It is refused with `C9 OutOfMemory` alone.
-pub fn send<P: Post>(
-    items: &mut Items,
-    post: &mut P,
-    alloc: Global,
-    stream: Option<StreamId>,
-    call: Shared<SentCall>,
-) -> Result<Made, ClusterFault>
-    ensures made { IfOk result (λ made. (c : Cluster) → Reached c → StandIn c items.old
-        → Makes c (Send stream call) made.verdict made.outputs (kept_agents c) items.new) }
-    ensures durable { IfOk result (λ made. made.durable ≡ None) }
-    ensures memory { IfErr result (λ fault. fault ≡ OutOfMemory) }
-    ensures unchanged { OnErr result (items.new ≡ items.old) }
-    ensures post { P.known post.new ≡ P.known post.old }
-    ensures room { Grows (length items.old) (length items.new) (P.room post.new) }
-{
-    sends_are_made();
-    let more = list_of_one(alloc, Item::Call(stream, call))?;
-    let sent = list_of_one(alloc, Sent::Call)?;
-    post.reserve(alloc, 1)?;
-    items.append(more)?;
-    Ok(made_sending(alloc, sent))
-}
-
 /// An event that was taken, and nothing else.
 fn taking(alloc: Global, stream: StreamId, event: Event) -> Result<Outputs, AllocError>
     ensures { IfOk result (λ outputs. outputs ≡ taking_out stream event) }
@@ -114,26 +90,50 @@ fn first_waiting(streams: &Streams, id: StreamId) -> Result<Event, ClusterFault>
     }
 }
 
-/// A framework takes the first event that waits on a stream, of any run.
-/// It is refused with `C1 NoSuchMail` where none waits, and with `C9 OutOfMemory`.
-pub fn take(streams: &mut Streams, alloc: Global, id: StreamId) -> Result<Made, ClusterFault>
-    ensures made { IfOk result
-        (λ made. (c : Cluster) (master : Option (Option Master)) (sent : List Item) → Reached c
-        → StandsFor c master sent streams.old
-        → MasterMakes c (Take id) c.last_tick made master sent streams.new) }
-    ensures refused { IfErr result (λ fault. (c : Cluster) → streams.old ≡ kept_streams c.streams
-        → Refuses c (Take id) fault) }
-    ensures unchanged { OnErr result (streams.new ≡ streams.old) }
-{
-    takes_are_made();
-    let event = first_waiting(streams, id)?;
-    let outputs = taking(alloc, id, event)?;
-    match streams.take(id) {
-        Some(_) => Ok(Made {
-            verdict: Verdict::Ok,
-            outputs,
-            durable: None,
-        }),
-        None => Err(ClusterFault::NoSuchMail),
+impl Parts {
+    /// A framework sends a call, on a stream or on none; the stream may be one that was never
+    /// opened. The post has room for the call. It is refused with `C9 OutOfMemory` alone.
+    pub(crate) fn send<P: Post>(
+        &mut self,
+        post: &mut P,
+        alloc: Global,
+        stream: Option<StreamId>,
+        call: &Shared<SentCall>,
+    ) -> Result<Made, ClusterFault>
+        ensures made { IfOk result (AllTake self.old (Send stream call.now) self.new) }
+        ensures memory { IfErr result (λ fault. fault ≡ OutOfMemory) }
+        ensures unchanged { OnErr result (Same self.old self.new) }
+        ensures config { self.new.config ≡ self.old.config }
+        ensures post { P.known post.new ≡ P.known post.old }
+        ensures room { Grows (length self.old.items) (length self.new.items) (P.room post.new) }
+    {
+        sends_are_made();
+        let more = list_of_one(alloc, Item::Call(stream, call.share()?))?;
+        let sent = list_of_one(alloc, Sent::Call)?;
+        post.reserve(alloc, 1)?;
+        self.items.append(more)?;
+        Ok(made_sending(alloc, sent))
+    }
+
+    /// A framework takes the first event that waits on a stream, of any run.
+    /// It is refused with `C1 NoSuchMail` where none waits, and with `C9 OutOfMemory`.
+    pub(crate) fn take(&mut self, alloc: Global, id: StreamId) -> Result<Made, ClusterFault>
+        ensures made { IfOk result (AllTake self.old (Take id) self.new) }
+        ensures refused { IfErr result (AllRefuse self.old (Take id)) }
+        ensures unchanged { OnErr result (Same self.old self.new) }
+        ensures config { self.new.config ≡ self.old.config }
+        ensures items { length self.new.items ≡ length self.old.items }
+    {
+        takes_are_made();
+        let event = first_waiting(&self.streams, id)?;
+        let outputs = taking(alloc, id, event)?;
+        match self.streams.take(id) {
+            Some(_) => Ok(Made {
+                verdict: Verdict::Ok,
+                outputs,
+                durable: None,
+            }),
+            None => Err(ClusterFault::NoSuchMail),
+        }
     }
 }

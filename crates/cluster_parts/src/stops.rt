@@ -1,18 +1,18 @@
 //! Agents stop, and are up again.
 
-ghost use Rattle.std.specs.Prelude.{◌≡◌, ◌<◌, [], length, Some, None, IfOk, IfErr, OnErr, List};
+ghost use Rattle.std.specs.Prelude.{◌≡◌, ◌<◌, length, Some, None, IfOk, IfErr, OnErr};
 ghost use Rattle.cluster_parts.specs.Agents.{place_in};
-ghost use Rattle.cluster_parts.specs.Moves.{Makes, Reached, Refuses, kept_agents, sending};
-ghost use Rattle.cluster_laws.specs.Items.{StandIn};
-ghost use Rattle.cluster_laws.specs.declared.item.Item.{Item};
-ghost use Rattle.cluster_model.specs.Clusters.{Cluster, StopAfter, StopBefore};
-ghost use Rattle.cluster_steps.specs.declared.entry.Verdict.TheVariants as verdicts;
+ghost use Rattle.cluster_parts.specs.Parts.{AllRefuse, AllTake, Same};
+ghost use Rattle.cluster_model.specs.Clusters.{StopAfter, StopBefore};
 ghost use Rattle.cluster_steps.specs.declared.fault.ClusterFault.TheVariants.{NoSuchAgent};
 
 use crate::agents::{ClusterAgent, place_of};
 use crate::laws::stops_are_made;
-use cluster_steps::ClusterFault;
+use crate::masters::{Made, ends_with};
+use crate::parts::Parts;
+use cluster_steps::{ClusterFault, Verdict};
 use names_core::AgentName;
+use std::alloc::Global;
 
 /// Where the agent of a name stands, or `C8 NoSuchAgent`.
 pub fn found(agents: &[ClusterAgent], name: &AgentName) -> Result<usize, ClusterFault>
@@ -27,39 +27,47 @@ pub fn found(agents: &[ClusterAgent], name: &AgentName) -> Result<usize, Cluster
     }
 }
 
-/// The agent stops, and is up again over its record; an open draft is gone.
-/// It is refused with `C8 NoSuchAgent` alone.
-pub fn stop_before(agents: &mut [ClusterAgent], name: &AgentName) -> Result<(), ClusterFault>
-    ensures made { IfOk result (λ _. (c : Cluster) (sent : List Item) → Reached c
-        → agents.old ≡ kept_agents c → StandIn c sent
-        → Makes c (StopBefore name.now) verdicts.Ok (sending []) agents.new sent) }
-    ensures refused { IfErr result (λ fault. (c : Cluster) → agents.old ≡ kept_agents c
-        → Refuses c (StopBefore name.now) fault) }
-    ensures unchanged { OnErr result (agents.new ≡ agents.old) }
-{
-    stops_are_made();
-    let place = found(agents, name)?;
-    let agent = &mut agents[place];
-    agent.stop_before();
-    Ok(())
-}
-
-/// The agent stops once its draft's record was saved, and is up again over that;
-/// the draft's mails aren't sent. It is refused with `C8 NoSuchAgent`, else with `C5 NoDraft`.
-pub fn stop_after(agents: &mut [ClusterAgent], name: &AgentName) -> Result<(), ClusterFault>
-    ensures made { IfOk result (λ _. (c : Cluster) (sent : List Item) → Reached c
-        → agents.old ≡ kept_agents c → StandIn c sent
-        → Makes c (StopAfter name.now) verdicts.Ok (sending []) agents.new sent) }
-    ensures refused { IfErr result (λ fault. (c : Cluster) → agents.old ≡ kept_agents c
-        → Refuses c (StopAfter name.now) fault) }
-    ensures unchanged { OnErr result (agents.new ≡ agents.old) }
-{
-    stops_are_made();
-    let place = found(agents, name)?;
-    let agent = &mut agents[place];
-    if !agent.has_draft() {
-        return Err(ClusterFault::NoDraft);
+impl Parts {
+    /// The agent stops, and is up again over its record; an open draft is gone.
+    /// It is refused with `C8 NoSuchAgent` alone.
+    pub(crate) fn stop_before(
+        &mut self,
+        alloc: Global,
+        name: &AgentName,
+    ) -> Result<Made, ClusterFault>
+        ensures made { IfOk result (AllTake self.old (StopBefore name.now) self.new) }
+        ensures refused { IfErr result (AllRefuse self.old (StopBefore name.now)) }
+        ensures unchanged { OnErr result (Same self.old self.new) }
+        ensures config { self.new.config ≡ self.old.config }
+        ensures items { length self.new.items ≡ length self.old.items }
+    {
+        stops_are_made();
+        let place = found(self.agents.as_slice(), name)?;
+        let agent = &mut self.agents[place];
+        agent.stop_before();
+        Ok(ends_with(alloc, Verdict::Ok))
     }
-    agent.stop_after();
-    Ok(())
+
+    /// The agent stops once its draft's record was saved, and is up again over that; the draft's
+    /// mails aren't sent. It is refused with `C8 NoSuchAgent`, else with `C5 NoDraft`.
+    pub(crate) fn stop_after(
+        &mut self,
+        alloc: Global,
+        name: &AgentName,
+    ) -> Result<Made, ClusterFault>
+        ensures made { IfOk result (AllTake self.old (StopAfter name.now) self.new) }
+        ensures refused { IfErr result (AllRefuse self.old (StopAfter name.now)) }
+        ensures unchanged { OnErr result (Same self.old self.new) }
+        ensures config { self.new.config ≡ self.old.config }
+        ensures items { length self.new.items ≡ length self.old.items }
+    {
+        stops_are_made();
+        let place = found(self.agents.as_slice(), name)?;
+        let agent = &mut self.agents[place];
+        if !agent.has_draft() {
+            return Err(ClusterFault::NoDraft);
+        }
+        agent.stop_after();
+        Ok(ends_with(alloc, Verdict::Ok))
+    }
 }

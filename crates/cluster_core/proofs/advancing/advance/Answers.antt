@@ -6,7 +6,7 @@ use Rattle.cluster_steps.specs.declared.entry.Outputs.{Outputs}
 use Rattle.agent_sides.specs.Configs.{names_of}
 use Rattle.cluster_laws.specs.Parts.{AreAgentsOf}
 use Rattle.cluster_parts.specs.Handing.{handed}
-use Rattle.cluster_core.specs.Parts.{ArePartsBy}
+use Rattle.cluster_parts.specs.Parts.{ArePartsBy}
 use Rattle.cluster_core.specs.Putting.{direction_of, with_handed}
 use Rattle.cluster_core.specs.Keeping.{IsKept, IsRefused, IsRefusedFirst, IsTaken, entry_made, story_of, taken_made}
 use Rattle.cluster_core.specs.Stories.{Story, state_of, with_entry}

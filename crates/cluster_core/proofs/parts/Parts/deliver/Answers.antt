@@ -1,7 +1,0 @@
-use Rattle.std.proofs.Common.{refl}
-use Rattle.cluster_model.specs.Clusters.{Deliver}
-use Rattle.cluster_core.proofs.Parting.{by_master}
-use Rattle.cluster_core.proofs.parts.Parts.deliver.Goals as goal
-
-pub returns-clause-made : goal.returns-clause-made
-returns-clause-made g c = by_master (Deliver c.args.number) c.deliver.result c.args.self.now _ (λ v. refl) refl refl refl c.deliver.ensures.made

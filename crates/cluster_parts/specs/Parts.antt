@@ -1,0 +1,78 @@
+-- The parts of a cluster, and what a step makes of them.
+use Rattle.std.specs.Prelude.{◌≡◌, ℕ, Bool, if◌then◌else◌, List, Option, None, Ok}
+use Rattle.mails.specs.declared.record.Durable.{Durable}
+use Rattle.role_weights.specs.Weights.{RoleWeight}
+use Rattle.cluster_model.specs.Clusters.{Cluster, Step, Prepare}
+use Rattle.cluster_model.specs.Steps.{Done, answer, fallen_answer}
+use Rattle.cluster_laws.specs.Parts.{AreAgentsOf}
+use Rattle.cluster_steps.specs.Steps.{fell, outputs_of, verdict_of}
+use Rattle.cluster_steps.specs.declared.entry.Verdict.{Verdict}
+use Rattle.cluster_steps.specs.declared.fault.ClusterFault.{ClusterFault}
+use Rattle.cluster_parts.specs.Agents.{KeptAgent}
+use Rattle.cluster_parts.specs.Causes.{record_prepared}
+use Rattle.cluster_parts.specs.Handing.{MayRefuse}
+use Rattle.cluster_parts.specs.Masters.{StandsFor}
+use Rattle.cluster_parts.specs.Moves.{Reached, Refuses, kept_agents}
+use Rattle.cluster_parts.specs.declared.masters.Made.{Made}
+use Rattle.cluster_parts.specs.declared.parts.Parts.{Parts}
+
+-- the parts stand for a state
+pub record Stands (c : Cluster) (p : Parts) : Type 0 where
+  pub as_agents : p.agents.items ≡ kept_agents c
+  pub as_others : StandsFor c p.master p.items p.streams
+  pub as_moment : c.last_tick ≡ p.last_tick
+  pub as_run : c.world.run.number ≡ p.run
+
+-- they stand for a state that is reached, with the agents of the opening's records
+pub record PartsOf (c : Cluster) (p : Parts) : Type 0 where
+  pub reached : Reached c
+  pub config : AreAgentsOf p.config reached.records
+  pub stands : Stands c p
+
+abbrev pub AreParts : Parts → Type 0
+AreParts p = (c : Cluster) × PartsOf c p
+
+-- with these weights of roles
+abbrev pub ArePartsBy : List RoleWeight → Parts → Type 0
+ArePartsBy weights p = (c : Cluster) × PartsOf c p × (c.weights ≡ weights)
+
+-- nothing changed
+pub record Same (old new : Parts) : Type 0 where
+  pub config : new.config ≡ old.config
+  pub master : new.master ≡ old.master
+  pub agents : new.agents.items ≡ old.agents.items
+  pub items_sent : new.items ≡ old.items
+  pub streams : new.streams ≡ old.streams
+  pub run : new.run ≡ old.run
+  pub moment : new.last_tick ≡ old.last_tick
+
+-- the record of the draft that a step opened
+abbrev pub record_of : Step → Verdict → List KeptAgent → Option Durable
+record_of (Prepare agent cause) verdict agents = record_prepared verdict agent agents
+record_of step verdict agents = None
+
+-- a step was made: what it answers, and the parts that then stand for the state
+pub record Takes (c : Cluster) (step : Step) (made : Made) (p : Parts) : Type 0 where
+  pub done : Done
+  pub answers : (if fell made.verdict then fallen_answer c step else answer c step) ≡ Ok done
+  pub ends : made.verdict ≡ verdict_of done.entry.verdict
+  pub brings : made.outputs ≡ outputs_of done.entry.outs
+  pub drafts : made.durable ≡ record_of step made.verdict p.agents.items
+  pub stands : Stands done.after p
+
+-- each state that parts stand for takes the step so
+abbrev pub AllTake : Parts → Step → Parts → Made → Type 0
+AllTake old step new made = (c : Cluster) → PartsOf c old → Takes c step made new
+
+-- each of them that has these weights of roles does
+abbrev pub AllTakeBy : List RoleWeight → Parts → Step → Parts → Made → Type 0
+AllTakeBy weights old step new made =
+    (c : Cluster) → PartsOf c old → c.weights ≡ weights → Takes c step made new
+
+-- each state that parts stand for refuses the step so, or memory was refused
+abbrev pub AllRefuse : Parts → Step → ClusterFault → Type 0
+AllRefuse p step fault = (c : Cluster) → PartsOf c p → Refuses c step fault
+
+-- or what the step hands out is withheld
+abbrev pub AllMayRefuse : (ℕ → Bool) → Parts → Step → ClusterFault → Type 0
+AllMayRefuse gives p step fault = (c : Cluster) → PartsOf c p → MayRefuse c gives step fault

@@ -1,0 +1,76 @@
+//! The parts of a cluster, and the step that each makes of them.
+
+ghost use Rattle.std.specs.Prelude.{◌≡◌, length, IfOk, IfErr, OnErr};
+ghost use Rattle.cluster_parts.specs.Handing.{IsGiven};
+ghost use Rattle.cluster_parts.specs.Parts.{AllMayRefuse, AllTakeBy, AreParts, ArePartsBy, Same};
+ghost use Rattle.cluster_parts.specs.Posts.{Grows};
+ghost use Rattle.cluster_steps.specs.Steps.{step_of};
+
+use crate::agents::ClusterAgent;
+use crate::items::Items;
+use crate::masters::Made;
+use cluster_steps::{ClusterFault, Keep, Step};
+use master_core::{Config, Master};
+use names_core::Run;
+use post_rules::Post;
+use role_weights::Weights;
+use std::alloc::Global;
+use told_streams::Streams;
+
+/// What a cluster is made of at a time.
+#[derive(Drop)]
+pub struct Parts {
+    /// The agents as the master is configured with them.
+    pub config: Config,
+    /// None where no master serves.
+    pub master: Option<Master>,
+    pub agents: Vec<ClusterAgent>,
+    pub items: Items,
+    pub streams: Streams,
+    /// The master's run, or the last one's where none serves.
+    pub run: Run,
+    /// The moment of the last Tick, in seconds; 0 before the first.
+    pub last_tick: u32,
+}
+
+impl Parts {
+    /// Takes a step; a round of offers goes by these weights of roles. The post has room for what
+    /// the step sends. Of several refusals the first is given in the order C8, C2, C3, C4, C5, C1,
+    /// C7; C9, for want of memory, may come before any.
+    pub fn take_step<P: Post>(
+        &mut self,
+        post: &mut P,
+        alloc: Global,
+        weights: &Weights,
+        step: &Step,
+    ) -> Result<Made, ClusterFault>
+        requires parts { AreParts self.old }
+        requires weights { ArePartsBy weights.now self.old }
+        ensures made { IfOk result
+            (AllTakeBy weights.now self.old (step_of step.now) self.new) }
+        ensures refused { IfErr result
+            (AllMayRefuse (P.gives (P.known post.old)) self.old (step_of step.now)) }
+        ensures unchanged { OnErr result (Same self.old self.new) }
+        ensures config { self.new.config ≡ self.old.config }
+        ensures post { P.known post.new ≡ P.known post.old }
+        ensures room { Grows (length self.old.items) (length self.new.items) (P.room post.new) }
+        ensures given { IfOk result (λ _. IsGiven (P.gives (P.known post.old)) (step_of step.now)) }
+    {
+        match step {
+            Step::Send { stream, call } => self.send(post, alloc, *stream, call),
+            Step::Deliver(number) => self.deliver(post, alloc, *number),
+            Step::Allocate => self.allocate(post, alloc, weights),
+            Step::Tick(now) => self.tick(post, alloc, *now),
+            Step::LoseAgent(agent) => self.lose_agent(post, alloc, agent),
+            Step::HangUp(stream) => self.hang_up(post, alloc, *stream),
+            Step::Prepare { agent, cause } => self.prepare(post, alloc, agent, cause),
+            Step::Commit(agent) => self.commit(post, alloc, agent),
+            Step::StopAgent { agent, keep } => match keep {
+                Keep::Before => self.stop_before(alloc, agent),
+                Keep::After => self.stop_after(alloc, agent),
+            },
+            Step::StopMaster => Ok(self.stop_master(post, alloc)),
+            Step::Take(stream) => self.take(alloc, *stream),
+        }
+    }
+}
