@@ -1,7 +1,7 @@
 -- What a ticker's rounds add.
 use Rattle.std.proofs.Common.{List, [], ◌∷◌, ◌++◌, refl, subst}
 use Rattle.desk_seats.specs.Receipts.{PassState}
-use Rattle.cluster_steps.specs.declared.entry.Entry.{Entry}
+use Rattle.cluster_entries.specs.declared.entry.Entry.{Entry}
 use Rattle.activities.specs.Rounds.{AreRounds, IsRound}
 
 -- one round more

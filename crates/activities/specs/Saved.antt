@@ -1,7 +1,7 @@
 -- What an activity has saved, and what it adds to its pass.
 use Rattle.std.specs.Prelude.{◌≡◌, ℕ, List, [], ◌∷◌, ◌++◌, Option, Some, None, Bool, true, ⊤}
 use Rattle.mails.specs.declared.record.Durable.{Durable}
-use Rattle.cluster_steps.specs.declared.entry.Entry.{Entry}
+use Rattle.cluster_entries.specs.declared.entry.Entry.{Entry}
 use Rattle.cluster_steps.specs.declared.step.Step.{Step}
 use Rattle.cluster_steps.specs.declared.step.Step.TheVariants.{Prepare, Commit, StopAgent}
 use Rattle.cluster_steps.specs.declared.step.StepCause.{StepCause}

@@ -8,7 +8,7 @@ use Rattle.agent_sides.specs.declared.config.ConfiguredAgent.{ConfiguredAgent}
 use Rattle.cluster_model.specs.Agents.{Draft, live_tasks}
 use Rattle.cluster_model.specs.Channels.{Channel, after, open_channel}
 use Rattle.cluster_model.specs.Openings.{GoodOpening}
-use Rattle.cluster_model.specs.Steps.{Setup, Marked, history}
+use Rattle.cluster_histories.specs.Steps.{Setup, Marked, history}
 use Rattle.cluster_safe.specs.Saved.{IsDraftOf, IsFound}
 use Rattle.cluster_laws.proofs.Agents.{ChannelOk, DraftOk}
 use Rattle.cluster_laws.proofs.Grown.{names_grown, world_grown}

@@ -3,9 +3,15 @@ use Rattle.std.proofs.Common.{◌≡◌, ◌<◌, ◌≤◌, ℕ, zero, suc, Boo
 use Rattle.std.specs.Prelude.{if◌then◌else◌}
 use Rattle.cluster_model.specs.Agents.{Draft}
 use Rattle.cluster_model.specs.Channels.{Channel}
-use Rattle.cluster_model.specs.Clusters.{Cluster, Post, Step, StepRefusal, Send, Deliver, Allocate, Tick, LoseAgent, HangUp, Prepare, Commit, StopBefore, StopAfter, StopMaster, Take, ByStart, ByAgain, ByExecutor, ByMail, AgentDown, DraftOpen, HistoryFull, MasterDown}
+use Rattle.cluster_histories.specs.Clusters.{Cluster, Post}
+use Rattle.cluster_steps.specs.declared.step.Step.{Step}
+use Rattle.cluster_steps.specs.declared.fault.ClusterFault.{ClusterFault}
+use Rattle.cluster_steps.specs.declared.step.Step.TheVariants.{Send, Deliver, Allocate, Tick, LoseAgent, HangUp, Prepare, Commit, StopAgent, StopMaster, Take}
+use Rattle.cluster_steps.specs.declared.step.Keep.TheVariants.{Before, After}
+use Rattle.cluster_steps.specs.declared.step.StepCause.TheVariants.{Start as ByStart, Again as ByAgain, Executor as ByExecutor, Mail as ByMail}
+use Rattle.cluster_steps.specs.declared.fault.ClusterFault.TheVariants.{AgentDown, DraftOpen, HistoryFull, MasterDown}
 use Rattle.cluster_model.specs.Ids.{last_number}
-use Rattle.cluster_model.specs.Steps.{Done, answer, at_channel, by_draft, channel_of, delivers, draws_mail, if_up, is_fallen, post_at, prepares, without_draft}
+use Rattle.cluster_histories.specs.Steps.{Done, answer, at_channel, by_draft, channel_of, delivers, draws_mail, if_up, is_fallen, post_at, prepares, without_draft}
 use Rattle.cluster_laws.specs.Items.{StandIn, item_of}
 use Rattle.cluster_laws.specs.declared.item.Item.{Item}
 use Rattle.cluster_parts.specs.Handing.{handed}
@@ -33,19 +39,19 @@ drawn : (c : Cluster) (x : Channel) (n : ℕ) (d : Done) (o : Option Post) → p
 drawn c x n d None f e = absurd (let clash : Err _ ≡ Ok d = e in cc)
 drawn c x n d (Some post) f e = was_sent c n post f
 
-with_a_master : (b : Bool) (r : Result Done StepRefusal) (d : Done) → (if b then r else Err MasterDown) ≡ Ok d → r ≡ Ok d
+with_a_master : (b : Bool) (r : Result Done ClusterFault) (d : Done) → (if b then r else Err MasterDown) ≡ Ok d → r ≡ Ok d
 with_a_master true r d e = e
 with_a_master false r d e = absurd (let clash : Err MasterDown ≡ Ok d = e in cc)
 
-where_up : (b : Bool) (r : Result Done StepRefusal) (d : Done) → (if b then Err AgentDown else r) ≡ Ok d → r ≡ Ok d
+where_up : (b : Bool) (r : Result Done ClusterFault) (d : Done) → (if b then Err AgentDown else r) ≡ Ok d → r ≡ Ok d
 where_up true r d e = absurd (let clash : Err AgentDown ≡ Ok d = e in cc)
 where_up false r d e = e
 
-where_free : (o : Option Draft) (r : Result Done StepRefusal) (d : Done) → by_draft o r (Err DraftOpen) ≡ Ok d → r ≡ Ok d
+where_free : (o : Option Draft) (r : Result Done ClusterFault) (d : Done) → by_draft o r (Err DraftOpen) ≡ Ok d → r ≡ Ok d
 where_free None r d e = e
 where_free (Some draft) r d e = absurd (let clash : Err DraftOpen ≡ Ok d = e in cc)
 
-where_room : (b : Bool) (r : Result Done StepRefusal) (d : Done) → (if b then Err HistoryFull else r) ≡ Ok d → r ≡ Ok d
+where_room : (b : Bool) (r : Result Done ClusterFault) (d : Done) → (if b then Err HistoryFull else r) ≡ Ok d → r ≡ Ok d
 where_room true r d e = absurd (let clash : Err HistoryFull ≡ Ok d = e in cc)
 where_room false r d e = e
 
@@ -65,8 +71,8 @@ hands_sent c (Tick now) n d h e = absurd (let clash : None ≡ Some n = h in cc)
 hands_sent c (LoseAgent agent) n d h e = absurd (let clash : None ≡ Some n = h in cc)
 hands_sent c (HangUp stream) n d h e = absurd (let clash : None ≡ Some n = h in cc)
 hands_sent c (Commit agent) n d h e = absurd (let clash : None ≡ Some n = h in cc)
-hands_sent c (StopBefore agent) n d h e = absurd (let clash : None ≡ Some n = h in cc)
-hands_sent c (StopAfter agent) n d h e = absurd (let clash : None ≡ Some n = h in cc)
+hands_sent c (StopAgent agent Before) n d h e = absurd (let clash : None ≡ Some n = h in cc)
+hands_sent c (StopAgent agent After) n d h e = absurd (let clash : None ≡ Some n = h in cc)
 hands_sent c StopMaster n d h e = absurd (let clash : None ≡ Some n = h in cc)
 hands_sent c (Take stream) n d h e = absurd (let clash : None ≡ Some n = h in cc)
 

@@ -10,9 +10,9 @@ use Rattle.agent_sides.specs.Configs.{names_of}
 use Rattle.agent_sides.specs.declared.config.ConfiguredAgent.{ConfiguredAgent}
 use Rattle.mails.specs.declared.record.Durable.{Durable}
 use Rattle.cluster_model.specs.Channels.{Channel}
-use Rattle.cluster_model.specs.Clusters.{Cluster, Post, Called, Down, Up}
+use Rattle.cluster_histories.specs.Clusters.{Cluster, Post, Called, Down, Up}
 use Rattle.cluster_model.specs.Openings.{GoodOpening}
-use Rattle.cluster_model.specs.Steps.{Setup, Done, Marked, history, step_marked}
+use Rattle.cluster_histories.specs.Steps.{Setup, Done, Marked, history, step_marked}
 use Rattle.cluster_laws.specs.Items.{Stand, StandIn, channel_at, down_item, item_of, new_items, to_agent, to_master, up_item}
 use Rattle.cluster_laws.specs.Parts.{AreAgentsOf, configured}
 use Rattle.cluster_laws.specs.declared.item.Item.{Item}

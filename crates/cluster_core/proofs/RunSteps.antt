@@ -3,13 +3,13 @@ use Rattle.std.proofs.Common.{◌≡◌, ◌<◌, ◌≤◌, ℕ, Bool, true, fa
 use Rattle.std.specs.Prelude.{◌≢◌, IfErr, IfOk, OnErr, OnOk}
 use Rattle.std.proofs.lemmas.Bool.Decides.{nat_tests}
 use Rattle.mails.specs.declared.record.Durable.{Durable}
-use Rattle.cluster_model.specs.Clusters.{Step, StepRefusal}
-use Rattle.cluster_model.specs.Steps.{Setup, History, Marked, extended, history, opening, step_marked, unmarked}
-use Rattle.cluster_steps.specs.declared.entry.Entry.{Entry}
+use Rattle.cluster_steps.specs.declared.step.Step.{Step}
 use Rattle.cluster_steps.specs.declared.fault.ClusterFault.{ClusterFault}
+use Rattle.cluster_histories.specs.Steps.{Setup, History, Marked, extended, history, opening, step_marked, unmarked}
+use Rattle.cluster_entries.specs.declared.entry.Entry.{Entry}
 use Rattle.cluster_steps.specs.declared.fault.ClusterFault.TheVariants as faults
-use Rattle.cluster_steps.specs.declared.step.Step as code
-use Rattle.cluster_steps.specs.Steps.{fell, marked_of, step_of}
+use Rattle.cluster_entries.specs.Entries.{marked_of}
+use Rattle.cluster_steps.specs.Verdicts.{fell}
 use Rattle.post_rules.specs.Numbers.{is_number}
 use Rattle.cluster_core.specs.Keeping.{IsRefused, IsTaken}
 use Rattle.cluster_core.specs.Running.{Passes, Ran, marked_as}
@@ -24,18 +24,18 @@ use Rattle.cluster_core.proofs.Posted.{never_withheld}
 history_more : (s : Story) (e : Entry) → history_of (with_entry s e) ≡ extended (history_of s) (step_marked (state_of s) (marked_of e))
 history_more s e = ap (history s.setup s.records) (map_more s.entries e) ∙ extended_more (opening s.setup s.records) (map marked_of s.entries) (marked_of e)
 
-taken_passes : (s new : Story) (step : code.Step) (taken : Taken) → IsTaken s step taken new → Passes s (step_of step) new
+taken_passes : (s new : Story) (step : Step) (taken : Taken) → IsTaken s step taken new → Passes s step new
 taken_passes s new step taken t =
     let e = taken.entry in
     let same : e.step ≡ step = ap (λ (x : Entry). x.step) t.makes in
     record {
       fell = fell e.verdict;
-      goes_on = ap history_of t.tells ∙ history_more s e ∙ ap (λ (x : code.Step). extended (history_of s) (step_marked (state_of s) (marked_as (fell e.verdict) (step_of x)))) same;
+      goes_on = ap history_of t.tells ∙ history_more s e ∙ ap (λ (x : Step). extended (history_of s) (step_marked (state_of s) (marked_as (fell e.verdict) x))) same;
       same_setup = ap (λ (x : Story). x.setup) t.tells;
       same_records = ap (λ (x : Story). x.records) t.tells;
     }
 
-passed_over : (s new : Story) (step : Step) (r : StepRefusal) → new ≡ s → step_marked (state_of s) (unmarked step) ≡ Err r → Passes s step new
+passed_over : (s new : Story) (step : Step) (r : ClusterFault) → new ≡ s → step_marked (state_of s) (unmarked step) ≡ Err r → Passes s step new
 passed_over s new step r same e = record {
   fell = false;
   goes_on = ap history_of same ∙ sym (ap (extended (history_of s)) e);
@@ -55,11 +55,11 @@ refused_passes s new gives step faults.TimeBack all same e other = passed_over s
 refused_passes s new gives step faults.NoSuchAgent all same e other = passed_over s new step _ same e
 refused_passes s new gives step faults.OutOfMemory all same e other = absurd (other refl)
 
-pub passes_so : (s new : Story) (gives : ℕ → Bool) (step : code.Step) (r : Result Taken ClusterFault) (ends : Result Unit ClusterFault) → ((n : ℕ) → 0 < n → n ≤ length (state_of s).posts → gives n ≡ true) →
-    IfOk r (λ taken. IsTaken s step taken new) → IfErr r (IsRefused (state_of s) gives (step_of step)) → OnErr r (new ≡ s) → OnOk ends (IfErr r (λ fault. fault ≢ faults.OutOfMemory)) → OnOk ends (Passes s (step_of step) new)
+pub passes_so : (s new : Story) (gives : ℕ → Bool) (step : Step) (r : Result Taken ClusterFault) (ends : Result Unit ClusterFault) → ((n : ℕ) → 0 < n → n ≤ length (state_of s).posts → gives n ≡ true) →
+    IfOk r (λ taken. IsTaken s step taken new) → IfErr r (IsRefused (state_of s) gives step) → OnErr r (new ≡ s) → OnOk ends (IfErr r (λ fault. fault ≢ faults.OutOfMemory)) → OnOk ends (Passes s step new)
 passes_so s new gives step r (Err e) all taken refused same other = tt
 passes_so s new gives step (Ok x) (Ok u) all taken refused same other = taken_passes s new step x taken
-passes_so s new gives step (Err fault) (Ok u) all taken refused same other = refused_passes s new gives (step_of step) fault all same refused other
+passes_so s new gives step (Err fault) (Ok u) all taken refused same other = refused_passes s new gives step fault all same refused other
 
 pub numbers_so : (count n : ℕ) → 0 < n → n ≤ count → is_number count n ≡ true
 numbers_so count n first last = grind (arith, nat_tests)
@@ -70,10 +70,6 @@ map_step_more : (ms : List Marked) (m : Marked) → map (λ x. x.step) (ms ++ m 
 map_step_more [] m = refl
 map_step_more (x ∷ ms) m = ap (λ (ss : List Step). x.step ∷ ss) (map_step_more ms m)
 
-map_of_more : (ss : List code.Step) (s : code.Step) → map step_of (ss ++ s ∷ []) ≡ map step_of ss ++ step_of s ∷ []
-map_of_more [] s = refl
-map_of_more (x ∷ ss) s = ap (λ (ys : List Step). step_of x ∷ ys) (map_of_more ss s)
-
 pub none_ran : (setup : Setup) (records : List Durable) (s : Story) → s ≡ record { setup = setup; records = records; entries = [] } → Ran setup records [] s
 none_ran setup records s e = record {
   marks = [];
@@ -83,12 +79,12 @@ none_ran setup records s e = record {
   tells = ap history_of e;
 }
 
-pub one_ran : (setup : Setup) (records : List Durable) (steps : List code.Step) (s new : Story) (step : code.Step) → Ran setup records steps s → Passes s (step_of step) new → Ran setup records (steps ++ step ∷ []) new
+pub one_ran : (setup : Setup) (records : List Durable) (steps : List Step) (s new : Story) (step : Step) → Ran setup records steps s → Passes s step new → Ran setup records (steps ++ step ∷ []) new
 one_ran setup records steps s new step r p =
-    let m = marked_as p.fell (step_of step) in
+    let m = marked_as p.fell step in
     record {
       marks = r.marks ++ m ∷ [];
-      of_steps = map_step_more r.marks m ∙ ap (λ (ss : List Step). ss ++ step_of step ∷ []) r.of_steps ∙ sym (map_of_more steps step);
+      of_steps = map_step_more r.marks m ∙ ap (λ (ss : List Step). ss ++ step ∷ []) r.of_steps;
       opened = p.same_setup ∙ r.opened;
       over = p.same_records ∙ r.over;
       tells = p.goes_on ∙ ap (λ (h : History). extended h (step_marked h.state m)) r.tells ∙ sym (extended_more (opening setup records) r.marks m);

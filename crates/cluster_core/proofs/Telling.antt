@@ -3,10 +3,10 @@ use Rattle.std.proofs.Common.{◌≡◌, ◌<◌, ◌≤◌, ◌+◌, ℕ, suc, 
 use Rattle.std.specs.Prelude.{if◌then◌else◌}
 use Rattle.std.proofs.lemmas.Bool.Decides.{nat_tests}
 use Rattle.mails.specs.declared.record.Durable.{Durable}
-use Rattle.cluster_model.specs.Clusters as model
-use Rattle.cluster_model.specs.Clusters.{Cluster, StepRefusal}
+use Rattle.cluster_histories.specs.Clusters.{Cluster}
+use Rattle.cluster_steps.specs.declared.fault.ClusterFault.{ClusterFault}
 use Rattle.cluster_model.specs.Ids.{last_number}
-use Rattle.cluster_model.specs.Steps.{Setup, Done, History, Marked, answer, extend_all, extended, fallen_answer, history, opening, step_marked, unmarked}
+use Rattle.cluster_histories.specs.Steps.{Setup, Done, History, Marked, answer, extend_all, extended, fallen_answer, history, opening, step_marked, unmarked}
 use Rattle.cluster_laws.specs.Items.{StandIn, new_items}
 use Rattle.agent_sides.specs.Configs.{names_of}
 use Rattle.cluster_laws.specs.Parts.{AreAgentsOf}
@@ -14,12 +14,11 @@ use Rattle.cluster_laws.specs.Premises.{AreRecorded}
 use Rattle.cluster_model.specs.Openings.{GoodOpening}
 use Rattle.cluster_parts.specs.Opening.{Opens}
 use Rattle.cluster_parts.specs.declared.opening.Opened.{Opened}
-use Rattle.cluster_steps.specs.declared.entry.Entry.{Entry}
-use Rattle.cluster_steps.specs.declared.entry.Outputs.{Outputs}
-use Rattle.cluster_steps.specs.declared.fault.ClusterFault.{ClusterFault}
+use Rattle.cluster_entries.specs.declared.entry.Entry.{Entry}
+use Rattle.cluster_entries.specs.declared.entry.Outputs.{Outputs}
 use Rattle.cluster_steps.specs.declared.fault.ClusterFault.TheVariants as faults
 use Rattle.cluster_steps.specs.declared.step.Step.{Step}
-use Rattle.cluster_steps.specs.Steps.{entry_of, marked_of, step_of}
+use Rattle.cluster_entries.specs.Entries.{entry_of, marked_of}
 use Rattle.cluster_parts.specs.Handing.{MayRefuse}
 use Rattle.cluster_core.specs.Keeping.{IsKept, IsRefused, IsRefusedFirst, IsTaken, entry_made, taken_made}
 use Rattle.post_rules.specs.declared.direction.Direction.{Direction}
@@ -90,16 +89,16 @@ parts_by law weights s opened p count ways k h = (state_of s, parts_of_story law
 -- ---- refusals
 
 marks : (c : Cluster) (m : Marked) → nat_le last_number c.entries ≡ false → step_marked c m ≡ (if m.fell then fallen_answer c m.step else answer c m.step)
-marks c m room = if_it_is_up (nat_le last_number c.entries) (Err model.HistoryFull) (if m.fell then fallen_answer c m.step else answer c m.step) room
+marks c m room = if_it_is_up (nat_le last_number c.entries) (Err faults.HistoryFull) (if m.fell then fallen_answer c m.step else answer c m.step) room
 
-full_refused : CountLaw → (s : Story) (gives : ℕ → Bool) (step : model.Step) → IsLegal s → 4294967294 ≤ length s.entries → IsRefused (state_of s) gives step faults.HistoryFull
-full_refused law s gives step l h = if_it_is_down (nat_le last_number (state_of s).entries) (Err model.HistoryFull) (answer (state_of s) step) (is_full law s l h)
+full_refused : CountLaw → (s : Story) (gives : ℕ → Bool) (step : Step) → IsLegal s → 4294967294 ≤ length s.entries → IsRefused (state_of s) gives step faults.HistoryFull
+full_refused law s gives step l h = if_it_is_down (nat_le last_number (state_of s).entries) (Err faults.HistoryFull) (answer (state_of s) step) (is_full law s l h)
 
-pub first_refused : CountLaw → (s : Story) (gives : ℕ → Bool) (step : model.Step) (fault : ClusterFault) → IsLegal s → IsRefusedFirst s fault → IsRefused (state_of s) gives step fault
+pub first_refused : CountLaw → (s : Story) (gives : ℕ → Bool) (step : Step) (fault : ClusterFault) → IsLegal s → IsRefusedFirst s fault → IsRefused (state_of s) gives step fault
 first_refused law s gives step fault l (inl e) = subst (IsRefused (state_of s) gives step) (sym e) tt
 first_refused law s gives step fault l (inr (e, h)) = subst (IsRefused (state_of s) gives step) (sym e) (full_refused law s gives step l h)
 
-refused_so : (c : Cluster) (gives : ℕ → Bool) (step : model.Step) (fault : ClusterFault) → nat_le last_number c.entries ≡ false → MayRefuse c gives step fault → IsRefused c gives step fault
+refused_so : (c : Cluster) (gives : ℕ → Bool) (step : Step) (fault : ClusterFault) → nat_le last_number c.entries ≡ false → MayRefuse c gives step fault → IsRefused c gives step fault
 refused_so c gives step faults.NoSuchMail room (inl e) = inl (marks c (unmarked step) room ∙ e)
 refused_so c gives step faults.NoSuchMail room (inr (is, (n, d, hands, none, e))) = inr (n, d, hands, none, marks c (unmarked step) room ∙ e)
 refused_so c gives step faults.MasterDown room (inl e) = marks c (unmarked step) room ∙ e
@@ -118,7 +117,7 @@ refused_so c gives step faults.NoSuchAgent room (inl e) = marks c (unmarked step
 refused_so c gives step faults.NoSuchAgent room (inr w) = absurd (let clash : faults.NoSuchAgent ≡ faults.NoSuchMail = w.0 in cc)
 refused_so c gives step faults.OutOfMemory room h = tt
 
-pub step_refused : CountLaw → (s : Story) (opened : Outputs) (p : Parts) (count : ℕ) (ways : ℕ → Option Direction) (gives : ℕ → Bool) (step : model.Step) (fault : ClusterFault) → IsKept s opened p count ways → length s.entries < 4294967294 →
+pub step_refused : CountLaw → (s : Story) (opened : Outputs) (p : Parts) (count : ℕ) (ways : ℕ → Option Direction) (gives : ℕ → Bool) (step : Step) (fault : ClusterFault) → IsKept s opened p count ways → length s.entries < 4294967294 →
     ((c : Cluster) → PartsOf c p → MayRefuse c gives step fault) → IsRefused (state_of s) gives step fault
 step_refused law s opened p count ways gives step fault k h why = refused_so (state_of s) gives step fault (has_room law s k.legal h) (why (state_of s) (parts_of_story law s opened p count ways k h))
 
@@ -132,7 +131,7 @@ state_more : (s : Story) (e : Entry) (d : Done) → step_marked (state_of s) (ma
 state_more s e d step =
     ap (λ (ms : List Marked). (history s.setup s.records ms).state) (map_more s.entries e)
     ∙ ap (λ (x : History). x.state) (extended_more (opening s.setup s.records) (map marked_of s.entries) (marked_of e))
-    ∙ ap (λ (x : Result Done StepRefusal). (extended (history_of s) x).state) step
+    ∙ ap (λ (x : Result Done ClusterFault). (extended (history_of s) x).state) step
 
 legal_more : (c : Cluster) (es : List Entry) (e : Entry) (m : Cluster) (d : Done) → Legal c es m → step_marked m (marked_of e) ≡ Ok d → e ≡ entry_of e.step d.entry → Legal c (es ++ e ∷ []) d.after
 legal_more c [] e m d l step is = (d, subst (λ (x : Cluster). step_marked x (marked_of e) ≡ Ok d) l step, is, refl)
@@ -145,11 +144,11 @@ story_more s e d l step is = record {
   legal = subst (Legal (opening s.setup s.records).state (s.entries ++ e ∷ [])) (sym (state_more s e d step)) (legal_more (opening s.setup s.records).state s.entries e (state_of s) d l.legal step is);
 }
 
-made_marks : CountLaw → (s : Story) (step : Step) (made : Made) (q : Parts) → IsLegal s → length s.entries < 4294967294 → (t : Takes (state_of s) (step_of step) made q) → step_marked (state_of s) (marked_of (entry_made step made)) ≡ Ok t.done
+made_marks : CountLaw → (s : Story) (step : Step) (made : Made) (q : Parts) → IsLegal s → length s.entries < 4294967294 → (t : Takes (state_of s) step made q) → step_marked (state_of s) (marked_of (entry_made step made)) ≡ Ok t.done
 made_marks law s step made q l h t = marks (state_of s) (marked_of (entry_made step made)) (has_room law s l h) ∙ t.answers
 
 pub keeps_on : CountLaw → ItemsLaw → (s : Story) (opened : Outputs) (p q : Parts) (count before more : ℕ) (ways between news : ℕ → Option Direction) (step : Step) (made : Made) → IsKept s opened p count ways → length s.entries < 4294967294 →
-    Takes (state_of s) (step_of step) made q → q.config ≡ p.config → more ≡ length q.items → before ≡ length p.items → ((n : ℕ) → between n ≡ ways n) → ((n : ℕ) → n ≤ before → news n ≡ between n) → ArePut before q.config q.items news →
+    Takes (state_of s) step made q → q.config ≡ p.config → more ≡ length q.items → before ≡ length p.items → ((n : ℕ) → between n ≡ ways n) → ((n : ℕ) → n ≤ before → news n ≡ between n) → ArePut before q.config q.items news →
     IsKept (with_entry s (entry_made step made)) opened q more news
 keeps_on law items_law s opened p q count before more ways between news step made k h t config counted there same older behind =
     let e = entry_made step made in
@@ -163,19 +162,19 @@ keeps_on law items_law s opened p q count before more ways between news step mad
       stands = subst (λ (c : Cluster). Stands c q) (sym (state_more s e t.done step_is)) t.stands;
       counted = counted;
       put = (
-          let behind_all : StandIn t.done.after (p.items ++ new_items (step_of step) t.done) = items_law s.setup s.records (map marked_of s.entries) (marked_of e) t.done p.items k.legal.good step_is k.stands.as_others.as_items in
-          let is : q.items ≡ p.items ++ new_items (step_of step) t.done = stand_alike t.done.after q.items (p.items ++ new_items (step_of step) t.done) t.stands.as_others.as_items behind_all in
-          puts_on p.config q.config p.items q.items (new_items (step_of step) t.done) before ways between news config is there k.put same older behind
+          let behind_all : StandIn t.done.after (p.items ++ new_items step t.done) = items_law s.setup s.records (map marked_of s.entries) (marked_of e) t.done p.items k.legal.good step_is k.stands.as_others.as_items in
+          let is : q.items ≡ p.items ++ new_items step t.done = stand_alike t.done.after q.items (p.items ++ new_items step t.done) t.stands.as_others.as_items behind_all in
+          puts_on p.config q.config p.items q.items (new_items step t.done) before ways between news config is there k.put same older behind
           );
     }
 
-pub takes_on : CountLaw → (s : Story) (q : Parts) (step : Step) (made : Made) → IsLegal s → length s.entries < 4294967294 → Takes (state_of s) (step_of step) made q → IsTaken s step (taken_made step made) (with_entry s (entry_made step made))
+pub takes_on : CountLaw → (s : Story) (q : Parts) (step : Step) (made : Made) → IsLegal s → length s.entries < 4294967294 → Takes (state_of s) step made q → IsTaken s step (taken_made step made) (with_entry s (entry_made step made))
 takes_on law s q step made l h t =
     record {
       done = t.done;
       answers = made_marks law s step made q l h t;
       makes = rw (t.ends, t.brings) refl;
-      drafts = t.drafts ∙ ap (record_of (step_of step) made.verdict) t.stands.as_agents;
+      drafts = t.drafts ∙ ap (record_of step made.verdict) t.stands.as_agents;
       tells = refl;
     }
 

@@ -1,5 +1,5 @@
 -- How a desk over a cluster answers.
-use Rattle.cluster_steps.specs.declared.entry.Entry.{Entry}
+use Rattle.cluster_entries.specs.declared.entry.Entry.{Entry}
 use Rattle.cluster_steps.specs.declared.step.Step.{Step}
 use Rattle.desk_seats.specs.Receipts.{IsAnswered, IsTaken, PassState}
 use Rattle.desk_seats.specs.declared.desk.pass.Answered.{Answered}

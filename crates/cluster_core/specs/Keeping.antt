@@ -1,18 +1,17 @@
 -- What a cluster keeps true of its parts, and what a step makes of its story.
 use Rattle.std.specs.Prelude.{◌≡◌, ◌⊎◌, ◌<◌, ◌≤◌, ℕ, Bool, false, if◌then◌else◌, List, map, length, Option, Some, None, Ok, Err, drop, fold, ⊤}
-use Rattle.cluster_model.specs.Clusters as model
-use Rattle.cluster_model.specs.Clusters.{Cluster, Post}
+use Rattle.cluster_histories.specs.Clusters.{Cluster, Post}
 use Rattle.cluster_model.specs.Masters.{Master}
 use Rattle.master_core.specs.Steps.{offered_on}
 use Rattle.post_rules.specs.declared.direction.Direction.{Direction}
 use Rattle.quantity.specs.declared.rows.Row.{Row}
-use Rattle.cluster_model.specs.Steps.{Done, open_cluster, step_marked, unmarked}
+use Rattle.cluster_histories.specs.Steps.{Done, open_cluster, step_marked, unmarked}
 use Rattle.cluster_laws.specs.Parts.{AreAgentsOf, configured}
-use Rattle.cluster_steps.specs.Steps.{entry_of, marked_of, outputs_of, step_of}
-use Rattle.cluster_steps.specs.declared.entry.Entry.{Entry}
-use Rattle.cluster_steps.specs.declared.entry.Outputs.{Outputs}
+use Rattle.cluster_entries.specs.Entries.{entry_of, marked_of, outputs_of}
+use Rattle.cluster_entries.specs.declared.entry.Entry.{Entry}
+use Rattle.cluster_entries.specs.declared.entry.Outputs.{Outputs}
 use Rattle.cluster_steps.specs.declared.fault.ClusterFault.{ClusterFault}
-use Rattle.cluster_steps.specs.declared.fault.ClusterFault.TheVariants.{NoSuchMail, MasterDown, AgentDown, DraftOpen, NoDraft, HistoryFull, TimeBack, NoSuchAgent, OutOfMemory}
+use Rattle.cluster_steps.specs.declared.fault.ClusterFault.TheVariants.{HistoryFull, NoSuchMail, OutOfMemory}
 use Rattle.cluster_steps.specs.declared.step.Step.{Step}
 use Rattle.cluster_parts.specs.Handing.{handed}
 use Rattle.cluster_parts.specs.Moves.{kept_agents}
@@ -59,28 +58,22 @@ pub record IsTaken (s : Story) (step : Step) (taken : Taken) (new : Story) : Typ
   pub done : Done
   pub answers : step_marked (state_of s) (marked_of taken.entry) ≡ Ok done
   pub makes : taken.entry ≡ entry_of step done.entry
-  pub drafts : taken.durable ≡ record_of (step_of step) taken.entry.verdict (kept_agents done.after)
+  pub drafts : taken.durable ≡ record_of step taken.entry.verdict (kept_agents done.after)
   pub tells : new ≡ with_entry s taken.entry
 
 -- the model takes the step, but what it hands out can't be
-abbrev pub WithheldFrom : Cluster → (ℕ → Bool) → model.Step → Type 0
+abbrev pub WithheldFrom : Cluster → (ℕ → Bool) → Step → Type 0
 WithheldFrom c gives step =
     (n : ℕ) × (d : Done) × (handed step ≡ Some n) × (gives n ≡ false)
     × (step_marked c (unmarked step) ≡ Ok d)
 
 -- why a step may be refused: memory was, or the model refuses the step so,
 -- or what the step hands out is withheld
-abbrev pub IsRefused : Cluster → (ℕ → Bool) → model.Step → ClusterFault → Type 0
-IsRefused c gives step NoSuchMail =
-    (step_marked c (unmarked step) ≡ Err model.NoSuchMail) ⊎ WithheldFrom c gives step
-IsRefused c gives step MasterDown = step_marked c (unmarked step) ≡ Err model.MasterDown
-IsRefused c gives step AgentDown = step_marked c (unmarked step) ≡ Err model.AgentDown
-IsRefused c gives step DraftOpen = step_marked c (unmarked step) ≡ Err model.DraftOpen
-IsRefused c gives step NoDraft = step_marked c (unmarked step) ≡ Err model.NoDraft
-IsRefused c gives step HistoryFull = step_marked c (unmarked step) ≡ Err model.HistoryFull
-IsRefused c gives step TimeBack = step_marked c (unmarked step) ≡ Err model.TimeBack
-IsRefused c gives step NoSuchAgent = step_marked c (unmarked step) ≡ Err model.NoSuchAgent
+abbrev pub IsRefused : Cluster → (ℕ → Bool) → Step → ClusterFault → Type 0
 IsRefused c gives step OutOfMemory = ⊤
+IsRefused c gives step NoSuchMail =
+    (step_marked c (unmarked step) ≡ Err NoSuchMail) ⊎ WithheldFrom c gives step
+IsRefused c gives step fault = step_marked c (unmarked step) ≡ Err fault
 
 -- before a step is looked at it is refused where the history is full, or for want of memory
 abbrev pub IsRefusedFirst : Story → ClusterFault → Type 0
@@ -98,7 +91,7 @@ sent_since old new = drop (length (state_of old).posts) (state_of new).posts
 
 -- what a post knows behind a step that made one story of another:
 -- what the step hands out was handed out, and all that it sent was put, each in its direction
-abbrev pub known_after : {K : Type 0} → (K → ℕ → K) → (K → Direction → K) → Story → model.Step
+abbrev pub known_after : {K : Type 0} → (K → ℕ → K) → (K → Direction → K) → Story → Step
     → Story → K → K
 known_after with_given with_put old step new k =
     fold with_put (with_handed with_given k (handed step))

@@ -1,8 +1,8 @@
 -- What is read of a cluster's streams and mails.
 use Rattle.std.specs.Prelude.{◌≡◌, ℕ, Bool, true, false, if◌then◌else◌, List, Option, Some}
 use Rattle.names_core.specs.Ids.{Numbered}
-use Rattle.cluster_model.specs.Clusters.{Cluster, Down, Up, master_of}
-use Rattle.cluster_model.specs.Steps.{post_at}
+use Rattle.cluster_histories.specs.Clusters.{Cluster, Down, Up, master_of}
+use Rattle.cluster_histories.specs.Steps.{post_at}
 use Rattle.master_core.specs.Steps.{is_open}
 use Rattle.post_rules.specs.Queueing.{Item, hands_out}
 use Rattle.told_streams.specs.Kept.{kept_streams}

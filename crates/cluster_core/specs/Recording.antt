@@ -1,11 +1,10 @@
 -- A cluster as what is recorded.
 use Rattle.std.specs.Prelude.{◌≡◌, length}
 use Rattle.std.proofs.Common.{refl}
-use Rattle.cluster_steps.specs.declared.entry.Entry.{Entry}
+use Rattle.cluster_entries.specs.declared.entry.Entry.{Entry}
 use Rattle.cluster_steps.specs.declared.fault.ClusterFault.{ClusterFault}
 use Rattle.cluster_steps.specs.declared.fault.ClusterFault.TheVariants as faults
 use Rattle.cluster_steps.specs.declared.step.Step.{Step}
-use Rattle.cluster_steps.specs.Steps.{step_of}
 use Rattle.cluster_core.specs.Keeping.{IsRefused, IsTaken, Known, known_after}
 use Rattle.cluster_core.specs.Safety.{Safe}
 use Rattle.cluster_core.specs.Stories.{IsLegal, state_of}
@@ -34,14 +33,14 @@ pub record IsSound (c : Recorded) : Type 0 where
 pub record Takes (old : Recorded) (step : Step) (entry : Entry) (given : Given)
     (new : Recorded) : Type 0 where
   pub taken : IsTaken old.story step (record { entry = entry; durable = given.durable }) new.story
-  pub handed : IsGiven (hands_out old.post.items) (step_of step)
-  pub posted : new.post.items ≡ known_after with_given with_put old.story (step_of step) new.story
+  pub handed : IsGiven (hands_out old.post.items) step
+  pub posted : new.post.items ≡ known_after with_given with_put old.story step new.story
       old.post.items
   pub numbered : given.sent_before ≡ length (state_of old.story).posts
 
 -- why it refuses a step
 abbrev pub MayRefuse : Recorded → Step → ClusterFault → Type 0
-MayRefuse c step fault = IsRefused (state_of c.story) (hands_out c.post.items) (step_of step) fault
+MayRefuse c step fault = IsRefused (state_of c.story) (hands_out c.post.items) step fault
 
 -- they tell the same story, and hand out the same
 pub record AreAlike (old new : Recorded) : Type 0 where

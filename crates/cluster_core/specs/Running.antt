@@ -1,17 +1,15 @@
 -- Steps that are run, where a refused one is passed over.
 use Rattle.std.specs.Prelude.{◌≡◌, Bool, List, map}
 use Rattle.mails.specs.declared.record.Durable.{Durable}
-use Rattle.cluster_model.specs.Clusters as model
-use Rattle.cluster_model.specs.Steps.{Setup, Marked, extended, history, step_marked}
-use Rattle.cluster_steps.specs.Steps.{step_of}
+use Rattle.cluster_histories.specs.Steps.{Setup, Marked, extended, history, step_marked}
 use Rattle.cluster_steps.specs.declared.step.Step.{Step}
 use Rattle.cluster_core.specs.Stories.{Story, history_of, state_of}
 
-abbrev pub marked_as : Bool → model.Step → Marked
+abbrev pub marked_as : Bool → Step → Marked
 marked_as fell step = record { fell = fell; step = step }
 
 -- a story went on by a step, or stayed where it is refused
-pub record Passes (s : Story) (step : model.Step) (new : Story) : Type 0 where
+pub record Passes (s : Story) (step : Step) (new : Story) : Type 0 where
   pub fell : Bool
   pub goes_on : history_of new ≡ extended (history_of s)
       (step_marked (state_of s) (marked_as fell step))
@@ -23,7 +21,7 @@ pub record Passes (s : Story) (step : model.Step) (new : Story) : Type 0 where
 pub record Ran (setup : Setup) (records : List Durable) (steps : List Step)
     (s : Story) : Type 0 where
   pub marks : List Marked
-  pub of_steps : map (λ m. m.step) marks ≡ map step_of steps
+  pub of_steps : map (λ m. m.step) marks ≡ steps
   pub opened : s.setup ≡ setup
   pub over : s.records ≡ records
   pub tells : history_of s ≡ history setup records marks

@@ -7,7 +7,7 @@ use Rattle.agent_sides.specs.declared.config.ConfiguredAgent.{ConfiguredAgent}
 use Rattle.mails.specs.declared.record.Durable.{Durable}
 use Rattle.mails.specs.declared.record.RecordedTask.{RecordedTask}
 use Rattle.cluster_model.specs.Agents.{live_tasks}
-use Rattle.cluster_model.specs.Clusters.{Cluster}
+use Rattle.cluster_histories.specs.Clusters.{Cluster}
 use Rattle.cluster_safe.specs.Saved.{IsFound}
 
 -- for each agent its record or that of its open draft, in any order

@@ -3,12 +3,12 @@
 use Rattle.std.specs.Prelude.{◌≡◌, List, [], ◌∷◌, ◌++◌, map, Ok}
 use Rattle.mails.specs.declared.record.Durable.{Durable}
 use Rattle.agent_sides.specs.declared.config.ConfiguredAgent.{ConfiguredAgent}
-use Rattle.cluster_model.specs.Clusters.{Cluster}
+use Rattle.cluster_histories.specs.Clusters.{Cluster}
 use Rattle.cluster_model.specs.Openings.{GoodOpening}
-use Rattle.cluster_model.specs.Steps.{Setup, Done, History, history, opening, step_marked}
+use Rattle.cluster_histories.specs.Steps.{Setup, Done, History, history, opening, step_marked}
 use Rattle.cluster_laws.specs.Premises.{AreRecorded}
-use Rattle.cluster_steps.specs.declared.entry.Entry.{Entry}
-use Rattle.cluster_steps.specs.Steps.{entry_of, marked_of}
+use Rattle.cluster_entries.specs.declared.entry.Entry.{Entry}
+use Rattle.cluster_entries.specs.Entries.{entry_of, marked_of}
 use Rattle.cluster_openings.specs.Records.{in_order}
 
 pub record Story : Type 0 where

@@ -5,13 +5,13 @@ ghost use Rattle.cluster_core.specs.Keeping.{IsKept, IsRefused, IsRefusedFirst, 
 ghost use Rattle.cluster_core.specs.Putting.{ArePut, direction_of, place_in, place_or_end, with_handed};
 ghost use Rattle.cluster_core.specs.Stories.{state_of, with_entry};
 ghost use Rattle.cluster_parts.specs.Handing.{IsGiven, handed};
-ghost use Rattle.cluster_steps.specs.Steps.{step_of};
 
 use crate::taken::{History, KeptEntry, Taken};
 use agent_sides::ConfiguredAgent;
+use cluster_entries::Entry;
 use cluster_laws::{Item, sent_items_stand, states_count_entries, weights_stay};
 use cluster_parts::{Made, Parts};
-use cluster_steps::{ClusterFault, Entry, Step, StepCause};
+use cluster_steps::{ClusterFault, Step, StepCause};
 use names_core::AgentName;
 use permanent_value::Place;
 use plain_data::Plain;
@@ -71,7 +71,7 @@ pub fn put_all<P: Post>(post: &mut P, agents: &[ConfiguredAgent], items: &[Item]
 
 /// The number of what a step hands out.
 fn handed(step: &Step) -> Option<u64>
-    ensures { result ≡ handed (step_of step.now) }
+    ensures { result ≡ handed step.now }
 {
     match step {
         Step::Deliver(number) => Some(*number),
@@ -88,14 +88,14 @@ fn hand_on<P: Post>(post: &mut P, parts: &Parts, before: usize, step: &Step)
     requires counted { P.count (P.known post.old) ≡ before }
     requires within { before ≤ length parts.now.items }
     requires room { length parts.now.items ≤ before + P.room post.old }
-    requires given { IsGiven (P.gives (P.known post.old)) (step_of step.now) }
+    requires given { IsGiven (P.gives (P.known post.old)) step.now }
     ensures count { P.count (P.known post.new) ≡ length parts.now.items }
     ensures directions { (n : ℕ) → n ≤ before
         → P.direction_at (P.known post.new) n ≡ P.direction_at (P.known post.old) n }
     ensures put { ArePut before parts.now.config parts.now.items
         (P.direction_at (P.known post.new)) }
     ensures known { P.known post.new ≡ fold P.with_put
-        (with_handed P.with_given (P.known post.old) (handed (step_of step.now)))
+        (with_handed P.with_given (P.known post.old) (handed step.now))
         (map (direction_of parts.now.config) (drop before parts.now.items)) }
 {
     if let Some(number) = handed(step) {
@@ -155,12 +155,12 @@ pub fn advance<P: Post>(
         (P.count (P.known post.new)) (P.direction_at (P.known post.new)) }
     ensures taken { IfOk result
         (λ taken. IsTaken (story_of history.old) step taken (story_of history.new)) }
-    ensures given { IfOk result (λ _. IsGiven (P.gives (P.known post.old)) (step_of step)) }
+    ensures given { IfOk result (λ _. IsGiven (P.gives (P.known post.old)) step) }
     ensures known { OnOk result (P.known post.new
-        ≡ known_after P.with_given P.with_put (story_of history.old) (step_of step)
+        ≡ known_after P.with_given P.with_put (story_of history.old) step
         (story_of history.new) (P.known post.old)) }
     ensures refused { IfErr result
-        (IsRefused (state_of (story_of history.old)) (P.gives (P.known post.old)) (step_of step)) }
+        (IsRefused (state_of (story_of history.old)) (P.gives (P.known post.old)) step) }
     ensures unchanged { OnErr result (story_of history.new ≡ story_of history.old) }
     ensures post { OnErr result (P.known post.new ≡ P.known post.old) }
 {

@@ -9,14 +9,14 @@ ghost use Rattle.cluster_core.specs.Stopping.{AreCovered, AreFound, live_in, liv
 ghost use Rattle.cluster_core.specs.Stories.{IsLegal, opened_over, state_of};
 ghost use Rattle.agent_sides.specs.declared.config.ConfiguredAgent.{ConfiguredAgent};
 ghost use Rattle.cluster_laws.specs.Parts.{AreAgentsOf};
-ghost use Rattle.cluster_model.specs.Clusters as model;
-ghost use Rattle.cluster_model.specs.Clusters.{master_of};
+ghost use Rattle.cluster_histories.specs.Clusters.{master_of};
 ghost use Rattle.cluster_model.specs.Openings.{GoodOpening};
-ghost use Rattle.cluster_model.specs.Steps.{Setup, open_cluster};
+ghost use Rattle.cluster_histories.specs.Steps.{Setup, open_cluster};
 ghost use Rattle.cluster_parts.specs.Agents.{agent_in, drafted_in, is_in_session_in, recorded, recorded_in};
 ghost use Rattle.cluster_parts.specs.Handing.{IsGiven};
 ghost use Rattle.cluster_parts.specs.Moves.{kept_agents};
-ghost use Rattle.cluster_steps.specs.Steps.{outputs_of, step_of};
+ghost use Rattle.cluster_entries.specs.Entries.{outputs_of};
+ghost use Rattle.cluster_steps.specs.declared.step.Step.{Step};
 ghost use Rattle.cluster_steps.specs.declared.fault.ClusterFault.TheVariants.{OutOfMemory};
 ghost use Rattle.mails.specs.declared.record.Durable.{Durable as Record};
 
@@ -27,9 +27,10 @@ use crate::safety::stories_are_safe;
 use crate::stopping::stopped_stories_open_again;
 use crate::taken::{History, KeptEntry, Taken};
 use agent_core::Record;
+use cluster_entries::Outputs;
 use cluster_openings::{put_in_order, records_are_recorded};
 use cluster_parts::{ClusterAgent, Parts, open_parts};
-use cluster_steps::{ClusterFault, Outputs, Step};
+use cluster_steps::{ClusterFault, Step};
 use master_core::Config;
 use names_core::{AgentName, Run};
 use post_rules::Post;
@@ -108,12 +109,12 @@ impl<P: Post + Drop> Cluster<P> {
     pub fn step(&mut self, alloc: Global, step: Step) -> Result<Taken, ClusterFault>
         ensures taken { IfOk result (λ taken. IsTaken self.old.story step taken self.new.story) }
         ensures given { IfOk result
-            (λ _. IsGiven (P.gives (P.known self.old.post)) (step_of step)) }
+            (λ _. IsGiven (P.gives (P.known self.old.post)) step) }
         ensures post { OnOk result (P.known self.new.post
-            ≡ known_after P.with_given P.with_put self.old.story (step_of step) self.new.story
+            ≡ known_after P.with_given P.with_put self.old.story step self.new.story
             (P.known self.old.post)) }
         ensures refused { IfErr result
-            (IsRefused (state_of self.old.story) (P.gives (P.known self.old.post)) (step_of step)) }
+            (IsRefused (state_of self.old.story) (P.gives (P.known self.old.post)) step) }
         ensures unchanged { OnErr result (self.new.story ≡ self.old.story) }
         ensures kept { OnErr result (P.known self.new.post ≡ P.known self.old.post) }
         ensures safe { Safe self.new.story }
@@ -172,7 +173,7 @@ impl<P: Post + Drop> Cluster<P> {
 
     /// A post that hands out all that was put withholds nothing that the model would hand out.
     pub fn withholds_nothing(&self)
-        ensures { (gives : ℕ → Bool) (step : model.Step)
+        ensures { (gives : ℕ → Bool) (step : Step)
             → ((n : ℕ) → 0 < n → n ≤ P.count (P.known self.now.post) → gives n ≡ true)
             → WithheldFrom (state_of self.now.story) gives step → ⊥ }
     {

@@ -1,6 +1,7 @@
 //! Who waits for what a step brings out, in 64 groups: those of streams, and those of agents.
 
-use cluster_steps::{Entry, Sent, Step, Verdict};
+use cluster_entries::Entry;
+use cluster_steps::{Sent, Step, Verdict};
 use master_state::StreamEvent;
 use names_core::{AgentName, StreamId};
 

@@ -15,8 +15,9 @@ mod taken;
 
 pub use agent_core::Record;
 pub use cluster::Cluster;
+pub use cluster_entries::{Entry, Outputs};
 pub use cluster_openings::{fresh_agents_open, fresh_records, good_opening};
-pub use cluster_steps::{ClusterFault, Entry, Keep, Outputs, Sent, Step, StepCause, Verdict};
+pub use cluster_steps::{ClusterFault, Keep, Sent, Step, StepCause, Verdict};
 pub use given::Given;
 pub use groups::Awaited;
 pub use recorded::RecordedCluster;

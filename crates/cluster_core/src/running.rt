@@ -4,7 +4,6 @@ ghost use Rattle.std.specs.Prelude.{◌≡◌, ◌≢◌, [], IfOk, IfErr, OnOk}
 ghost use Rattle.cluster_openings.specs.Fresh.{fresh_records};
 ghost use Rattle.cluster_core.specs.Safety.{Safe};
 ghost use Rattle.cluster_core.specs.Running.{Passes, Ran};
-ghost use Rattle.cluster_steps.specs.Steps.{step_of};
 ghost use Rattle.cluster_steps.specs.declared.fault.ClusterFault.TheVariants.{OutOfMemory};
 
 use crate::cluster::Cluster;
@@ -50,7 +49,7 @@ fn unless_memory(taken: &Result<Taken, ClusterFault>) -> Result<(), ClusterFault
 
 /// Takes a step, or passes it over where it is refused.
 fn pass(cluster: &mut Cluster<EverSent>, alloc: Global, step: &Step) -> Result<(), ClusterFault>
-    ensures passed { OnOk result (Passes cluster.old.story (step_of step.now) cluster.new.story) }
+    ensures passed { OnOk result (Passes cluster.old.story step.now cluster.new.story) }
     ensures memory { IfErr result (λ fault. fault ≡ OutOfMemory) }
 {
     cluster.has_all_sent();

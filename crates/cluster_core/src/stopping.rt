@@ -7,7 +7,7 @@ ghost use Rattle.cluster_core.specs.Stories.{IsLegal, Story, opened_over, state_
 ghost use Rattle.agent_sides.specs.declared.config.ConfiguredAgent.{ConfiguredAgent};
 ghost use Rattle.cluster_laws.specs.Parts.{AreAgentsOf};
 ghost use Rattle.cluster_model.specs.Openings.{GoodOpening};
-ghost use Rattle.cluster_model.specs.Steps.{Setup};
+ghost use Rattle.cluster_histories.specs.Steps.{Setup};
 ghost use Rattle.mails.specs.declared.record.Durable.{Durable as Record};
 
 use cluster_laws::masters_leave_agents;

@@ -3,7 +3,7 @@
 ghost use Rattle.std.specs.Prelude.{◌≡◌};
 
 use agent_core::Record;
-use cluster_steps::{Entry, Outputs};
+use cluster_entries::{Entry, Outputs};
 use names_core::Run;
 use permanent_value::{Permanent, Place};
 use role_weights::Weights;
@@ -18,7 +18,7 @@ pub struct KeptEntry {
 }
 
 impl Model for KeptEntry {
-    ghost use Rattle.cluster_steps.specs.declared.entry.Entry.{Entry};
+    ghost use Rattle.cluster_entries.specs.declared.entry.Entry.{Entry};
 
     ghost Value = { Entry };
 

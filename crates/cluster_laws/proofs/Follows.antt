@@ -15,9 +15,17 @@ use Rattle.cluster_model.specs.Masters.{Doing, new_registers}
 use Rattle.cluster_model.specs.Calls.{called}
 use Rattle.cluster_model.specs.Mails.{mailed, ticked, agent_lost, hung_up}
 use Rattle.cluster_model.specs.Rounds.{allocated}
-use Rattle.cluster_model.specs.Clusters.{Stream, Post, Called, Down, Up, Cluster, master_of, StepCause, ByStart, ByAgain, ByExecutor, ByMail, Step, Send, Deliver, Allocate, Tick, LoseAgent, HangUp, Prepare, Commit, StopBefore, StopAfter, StopMaster, Take, StepRefusal, MasterDown, AgentDown, DraftOpen, NoDraft, HistoryFull, TimeBack, Fine, AgentRefused, Fell}
+use Rattle.cluster_histories.specs.Clusters.{Stream, Post, Called, Down, Up, Cluster, master_of}
+use Rattle.cluster_steps.specs.declared.step.StepCause.{StepCause}
+use Rattle.cluster_steps.specs.declared.step.StepCause.TheVariants.{Start as ByStart, Again as ByAgain, Executor as ByExecutor, Mail as ByMail}
+use Rattle.cluster_steps.specs.declared.step.Step.{Step}
+use Rattle.cluster_steps.specs.declared.step.Step.TheVariants.{Send, Deliver, Allocate, Tick, LoseAgent, HangUp, Prepare, Commit, StopAgent, StopMaster, Take}
+use Rattle.cluster_steps.specs.declared.step.Keep.TheVariants.{Before, After}
+use Rattle.cluster_steps.specs.declared.fault.ClusterFault.{ClusterFault}
+use Rattle.cluster_steps.specs.declared.fault.ClusterFault.TheVariants.{MasterDown, AgentDown, DraftOpen, NoDraft, HistoryFull, TimeBack}
+use Rattle.cluster_steps.specs.declared.verdict.Verdict.TheVariants.{Ok as Fine, AgentRefused, OutOfMemory as Fell}
 use Rattle.cluster_model.specs.Openings.{NamesOnce}
-use Rattle.cluster_model.specs.Steps.{Effect, Done, done, does, happening, effect_of, master_does, master_hears, channel_of, delivers_up, delivers, post_at, with_tick, ticks_at, stream_at, hangs_up, loses_agent, hello_to, drafts, draws_mail_at, draws_mail, prepares, commits, up_again, stops, with_master, at_channel, is_fallen, if_up, by_draft, without_draft, with_draft, takes_event, takes, answer, master_falls, new_master_falls, fallen_too, agent_falls, instead, fallen_answer, Marked, step_marked}
+use Rattle.cluster_histories.specs.Steps.{Effect, Done, done, does, happening, effect_of, master_does, master_hears, channel_of, delivers_up, delivers, post_at, with_tick, ticks_at, stream_at, hangs_up, loses_agent, hello_to, drafts, draws_mail_at, draws_mail, prepares, commits, up_again, stops, with_master, at_channel, is_fallen, if_up, by_draft, without_draft, with_draft, takes_event, takes, answer, master_falls, new_master_falls, fallen_too, agent_falls, instead, fallen_answer, Marked, step_marked}
 use Rattle.cluster_laws.specs.Items.{names_of, Item, StandIn, items_sent, call_of}
 use Rattle.cluster_laws.proofs.Sent.{happened_stand, stand_append}
 
@@ -30,11 +38,11 @@ pub record Followed (calls : List Item) (c : Cluster) (d : Done) : Type 0 where
   pub weights : d.after.weights ≡ c.weights
   pub posted : Posted calls c d
 
-abbrev pub Follows : List Item → Cluster → Result Done StepRefusal → Type 0
+abbrev pub Follows : List Item → Cluster → Result Done ClusterFault → Type 0
 Follows calls c (Ok d) = Followed calls c d
 Follows calls c (Err refusal) = ⊤
 
-by_test : (calls : List Item) (c : Cluster) (b : Bool) (x y : Result Done StepRefusal) → Follows calls c x → Follows calls c y → Follows calls c (if b then x else y)
+by_test : (calls : List Item) (c : Cluster) (b : Bool) (x y : Result Done ClusterFault) → Follows calls c x → Follows calls c y → Follows calls c (if b then x else y)
 by_test calls c true x y p q = p
 by_test calls c false x y p q = q
 
@@ -71,7 +79,7 @@ hangs_up_follows : (calls : List Item) (c : Cluster) (id : Numbered) (s : Option
 hangs_up_follows calls c id None = tt
 hangs_up_follows calls c id (Some s) = master_follows calls c (hung_up (master_of c) id)
 
-with_master_follows : (calls : List Item) (c : Cluster) (r : Result Done StepRefusal) → Follows calls c r → Follows calls c (with_master c r)
+with_master_follows : (calls : List Item) (c : Cluster) (r : Result Done ClusterFault) → Follows calls c r → Follows calls c (with_master c r)
 with_master_follows calls c r p = by_test calls c c.world.run.serves r (Err MasterDown) p tt
 
 drafts_follows : (calls : List Item) (c : Cluster) (x : Channel) (step : AgentStep) (r : Result Draft AgentRefusal) → Follows calls c (drafts c x step r)
@@ -95,14 +103,14 @@ prepares_follows calls c ByAgain x = drafts_follows calls c x (Draw Again) (next
 prepares_follows calls c (ByExecutor key state) x = drafts_follows calls c x (Draw (Executor key state)) (next_of x.agent (Executor key state))
 prepares_follows calls c (ByMail number) x = draws_mail_follows calls c x (post_at c number)
 
-at_channel_follows : (calls : List Item) (c : Cluster) (x : Option Channel) (step : Channel → Result Done StepRefusal) → ((y : Channel) → Follows calls c (step y)) → Follows calls c (at_channel x step)
+at_channel_follows : (calls : List Item) (c : Cluster) (x : Option Channel) (step : Channel → Result Done ClusterFault) → ((y : Channel) → Follows calls c (step y)) → Follows calls c (at_channel x step)
 at_channel_follows calls c None step p = tt
 at_channel_follows calls c (Some x) step p = p x
 
-if_up_follows : (calls : List Item) (c : Cluster) (step : Channel → Result Done StepRefusal) (x : Channel) → Follows calls c (step x) → Follows calls c (if_up c step x)
+if_up_follows : (calls : List Item) (c : Cluster) (step : Channel → Result Done ClusterFault) (x : Channel) → Follows calls c (step x) → Follows calls c (if_up c step x)
 if_up_follows calls c step x p = by_test calls c (is_fallen c x) (Err AgentDown) (step x) tt p
 
-by_draft_follows : (calls : List Item) (c : Cluster) (d : Option Draft) (without with_one : Result Done StepRefusal) → Follows calls c without → Follows calls c with_one → Follows calls c (by_draft d without with_one)
+by_draft_follows : (calls : List Item) (c : Cluster) (d : Option Draft) (without with_one : Result Done ClusterFault) → Follows calls c without → Follows calls c with_one → Follows calls c (by_draft d without with_one)
 by_draft_follows calls c None without with_one p q = p
 by_draft_follows calls c (Some d) without with_one p q = q
 
@@ -136,8 +144,8 @@ answer_follows c (Prepare agent cause) = at_channel_follows [] c (channel_of c a
     (λ x. if_up_follows [] c (without_draft (prepares c cause)) x (by_draft_follows [] c x.draft (prepares c cause x) (Err DraftOpen) (prepares_follows [] c cause x) tt))
 answer_follows c (Commit agent) = at_channel_follows [] c (channel_of c agent) (if_up c (with_draft (commits c)))
     (λ x. if_up_follows [] c (with_draft (commits c)) x (by_draft_follows [] c x.draft (Err NoDraft) (commits c x) tt (effect_follows [] c (happening c Fine (At x.side.name (ByAgent Adopt) ∷ [])))))
-answer_follows c (StopBefore agent) = at_channel_follows [] c (channel_of c agent) (stops c StopWithout) (stops_follows [] c StopWithout)
-answer_follows c (StopAfter agent) = at_channel_follows [] c (channel_of c agent) (with_draft (stops c StopWith)) (λ x. by_draft_follows [] c x.draft (Err NoDraft) (stops c StopWith x) tt (stops_follows [] c StopWith x))
+answer_follows c (StopAgent agent Before) = at_channel_follows [] c (channel_of c agent) (stops c StopWithout) (stops_follows [] c StopWithout)
+answer_follows c (StopAgent agent After) = at_channel_follows [] c (channel_of c agent) (with_draft (stops c StopWith)) (λ x. by_draft_follows [] c x.draft (Err NoDraft) (stops c StopWith x) tt (stops_follows [] c StopWith x))
 answer_follows c StopMaster = by (nat_lt c.world.run.number last_run)
   where
     by : (b : Bool) → Follows [] c (does c (if b then record (happening c Fine (Restart ∷ map hello_to c.world.channels)) { registers = new_registers } else record (happening c Fine (Halt ∷ [])) { registers = new_registers }))
@@ -147,7 +155,7 @@ answer_follows c (Take stream) = takes_follows [] c stream (stream_at c stream)
 
 -- where a part runs out of memory
 
-instead_follows : (calls : List Item) (c : Cluster) (r : Result Done StepRefusal) (d : Done) → Followed calls c d → Follows calls c (instead r d)
+instead_follows : (calls : List Item) (c : Cluster) (r : Result Done ClusterFault) (d : Done) → Followed calls c d → Follows calls c (instead r d)
 instead_follows calls c (Ok x) d f = f
 instead_follows calls c (Err e) d f = tt
 
@@ -171,8 +179,8 @@ fallen_follows c (LoseAgent agent) = instead_follows [] c (answer c (LoseAgent a
 fallen_follows c (HangUp stream) = instead_follows [] c (answer c (HangUp stream)) (master_falls c) (falls_follow [] c)
 fallen_follows c (Prepare agent cause) = instead_follows [] c (answer c (Prepare agent cause)) (agent_falls c agent StopWithout) (agent_falls_follow c agent StopWithout)
 fallen_follows c (Commit agent) = answer_follows c (Commit agent)
-fallen_follows c (StopBefore agent) = instead_follows [] c (answer c (StopBefore agent)) (agent_falls c agent StopWithout) (agent_falls_follow c agent StopWithout)
-fallen_follows c (StopAfter agent) = instead_follows [] c (answer c (StopAfter agent)) (agent_falls c agent StopWith) (agent_falls_follow c agent StopWith)
+fallen_follows c (StopAgent agent Before) = instead_follows [] c (answer c (StopAgent agent Before)) (agent_falls c agent StopWithout) (agent_falls_follow c agent StopWithout)
+fallen_follows c (StopAgent agent After) = instead_follows [] c (answer c (StopAgent agent After)) (agent_falls c agent StopWith) (agent_falls_follow c agent StopWith)
 fallen_follows c StopMaster = by_test [] c (nat_lt c.world.run.number last_run) (Ok (new_master_falls c)) (answer c StopMaster)
     (effect_follows [] c (record (happening c Fell (Restart ∷ Halt ∷ [])) { registers = new_registers })) (answer_follows c StopMaster)
 fallen_follows c (Take stream) = answer_follows c (Take stream)

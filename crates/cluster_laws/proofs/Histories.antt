@@ -2,9 +2,9 @@
 use Rattle.std.proofs.Common.{◌≡◌, List, [], ◌∷◌, ◌++◌, length, length-append, map, Result, Ok, Err, refl, sym, ◌∙◌, subst, arith}
 use Rattle.mails.specs.declared.record.Durable.{Durable}
 use Rattle.cluster_model.specs.Channels.{World, Happening, open_channel, open_world, after, after_all}
-use Rattle.cluster_model.specs.Clusters.{StepRefusal}
+use Rattle.cluster_steps.specs.declared.fault.ClusterFault.{ClusterFault}
 use Rattle.cluster_model.specs.Openings.{NamesOnce, GoodOpening}
-use Rattle.cluster_model.specs.Steps.{Setup, Done, greets_all, open_cluster, opened_over, Marked, step_marked, History, opening, extended, extend_all, history}
+use Rattle.cluster_histories.specs.Steps.{Setup, Done, greets_all, open_cluster, opened_over, Marked, step_marked, History, opening, extended, extend_all, history}
 use Rattle.cluster_laws.specs.Items.{names_of, Item, StandIn, items_sent, call_of, new_items}
 use Rattle.cluster_laws.proofs.Lists.{cons_same}
 use Rattle.cluster_laws.proofs.Grown.{worlds_named}
@@ -15,7 +15,7 @@ happened : (Q : World → Type 0) → ((w : World) (h : Happening) → Q w → Q
 happened Q f [] w q = q
 happened Q f (h ∷ hs) w q = happened Q f hs (after w h) (f w h q)
 
-answered : (Q : World → Type 0) → ((w : World) (h : Happening) → Q w → Q (after w h)) → (h : History) (calls : List Item) (r : Result Done StepRefusal) → Follows calls h.state r → Q h.state.world → Q (extended h r).state.world
+answered : (Q : World → Type 0) → ((w : World) (h : Happening) → Q w → Q (after w h)) → (h : History) (calls : List Item) (r : Result Done ClusterFault) → Follows calls h.state r → Q h.state.world → Q (extended h r).state.world
 answered Q f h calls (Ok d) follows q = subst Q (sym follows.world) (happened Q f d.happenings h.state.world q)
 answered Q f h calls (Err refusal) follows q = q
 
@@ -43,7 +43,7 @@ history_once setup records steps good = subst NamesOnce (sym (history_names setu
 pub opening_stands : (setup : Setup) (records : List Durable) → GoodOpening setup.run records → StandIn (opening setup records).state (items_sent [] (open_cluster setup records).entry.outs.sent)
 opening_stands setup records good = (effect_follows [] (opened_over setup records) (greets_all (opened_over setup records))).posted [] (subst NamesOnce (sym (opened_names records)) good.names_once) refl
 
-step_stands : (h : History) (calls : List Item) (r : Result Done StepRefusal) (d : Done) (sent : List Item) → Follows calls h.state r → NamesOnce (names_of h.state.world.channels) → r ≡ Ok d → StandIn h.state sent → StandIn d.after (sent ++ items_sent calls d.entry.outs.sent)
+step_stands : (h : History) (calls : List Item) (r : Result Done ClusterFault) (d : Done) (sent : List Item) → Follows calls h.state r → NamesOnce (names_of h.state.world.channels) → r ≡ Ok d → StandIn h.state sent → StandIn d.after (sent ++ items_sent calls d.entry.outs.sent)
 step_stands h calls (Err refusal) d sent follows once e stand = absurd cc
 step_stands h calls (Ok x) d sent follows once e stand = let is : x ≡ d = cc in subst (λ (y : Done). StandIn y.after (sent ++ items_sent calls y.entry.outs.sent)) is (follows.posted sent once stand)
 
@@ -55,7 +55,7 @@ history_stands setup records steps s d sent good e stand =
 
 -- entries
 
-counted_one : (h : History) (calls : List Item) (r : Result Done StepRefusal) → Follows calls h.state r → h.state.entries ≡ length h.entries → (extended h r).state.entries ≡ length (extended h r).entries
+counted_one : (h : History) (calls : List Item) (r : Result Done ClusterFault) → Follows calls h.state r → h.state.entries ≡ length h.entries → (extended h r).state.entries ≡ length (extended h r).entries
 counted_one h calls (Ok d) follows e = let n = follows.entries in omega (arith, n, e, length-append h.entries (d.entry ∷ []))
 counted_one h calls (Err refusal) follows e = e
 
@@ -69,7 +69,7 @@ weighed_all : (h : History) (steps : List Marked) → (extend_all h steps).state
 weighed_all h [] = refl
 weighed_all h (s ∷ ss) = weighed_all (extended h (step_marked h.state s)) ss ∙ one (step_marked h.state s) (step_follows h.state s)
   where
-    one : (r : Result Done StepRefusal) → Follows (call_of s.step) h.state r → (extended h r).state.weights ≡ h.state.weights
+    one : (r : Result Done ClusterFault) → Follows (call_of s.step) h.state r → (extended h r).state.weights ≡ h.state.weights
     one (Ok d) follows = follows.weights
     one (Err refusal) follows = refl
 

@@ -16,7 +16,7 @@ use Rattle.mails.specs.declared.record.RecordedTask.{RecordedTask}
 use Rattle.mails.specs.declared.cause.Cause.TheVariants.{Mail}
 use Rattle.cluster_model.specs.Ids.{before}
 use Rattle.cluster_model.specs.Channels.{Channel}
-use Rattle.cluster_model.specs.Clusters.{sides_of}
+use Rattle.cluster_histories.specs.Clusters.{sides_of}
 use Rattle.cluster_model.specs.Openings.{NamesOnce}
 use Rattle.cluster_safe.specs.Facts.{Less}
 use Rattle.cluster_safe.specs.Premises.{MeetsPremises, NextLaunchIsLater, ReportFits}
@@ -29,7 +29,7 @@ use Rattle.cluster_laws.proofs.Found.{FoundIn, found_all}
 use Rattle.cluster_laws.proofs.Agents.{ChannelOk}
 use Rattle.cluster_laws.proofs.Named.{HasName, AnyMail}
 use Rattle.cluster_laws.proofs.Posts.{down_is, up_is}
-use Rattle.cluster_model.specs.Clusters.{Post}
+use Rattle.cluster_histories.specs.Clusters.{Post}
 
 -- a key behind those of all tasks
 all_behind : (key : Numbered) (ts : List RecordedTask) → Each (λ t. Less t.job.key key) ts → list_all (λ t. before t.job.key key) ts ≡ true

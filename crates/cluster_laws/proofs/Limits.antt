@@ -24,8 +24,8 @@ use Rattle.mails.specs.declared.refusal.AgentRefusal.TheVariants.{OldSession, No
 use Rattle.cluster_model.specs.Ids.{same, last_number}
 use Rattle.cluster_model.specs.Agents.{Agent, Draft, has_ended, is_task, state_at, front_of, fronts, front_at, owning, reopened, reports, opens_next, starts, stated, acknowledged, launched_task, tasks_after, is_front_at, fronts_after, with_tasks, after_command, applies, has_room, hears_mail, needs_place, executes, next_of}
 use Rattle.cluster_model.specs.Channels.{Channel, is_own}
-use Rattle.cluster_model.specs.Clusters.{Post}
-use Rattle.cluster_model.specs.Steps.{Setup, Marked, history}
+use Rattle.cluster_histories.specs.Clusters.{Post}
+use Rattle.cluster_histories.specs.Steps.{Setup, Marked, history}
 use Rattle.cluster_safe.specs.Acknowledged.{recorded_tasks}
 use Rattle.cluster_model.specs.Mails.{FitsRecord}
 use Rattle.cluster_laws.specs.Items.{item_of}

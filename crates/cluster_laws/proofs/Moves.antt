@@ -13,9 +13,12 @@ use Rattle.cluster_model.specs.Agents.{Draft, hears_mail, next_of, recovered}
 use Rattle.cluster_model.specs.Sides.{Run, Side, halted, restarted, side_step, SendHello, new_run}
 use Rattle.cluster_model.specs.Channels.{Channel, AgentStep, Draw, DrawMail, Adopt, StopWithout, StopWith, drawn, drawn_mail, adopted, stopped_with, is_own, agent_step, ChannelStep, ByMaster, Hear, ByAgent, heard_mail, happens, World, Happening, At, TearDown, Restart, Halt, behind, in_front, at_agent, with_side, after, after_all, open_channel, open_world}
 use Rattle.cluster_model.specs.Masters.{Move, AtSide, TearDownAll, RestartAll, HaltAll, Doing, new_registers}
-use Rattle.cluster_model.specs.Clusters.{Cluster, MailToMaster, Post, sides_of, master_of, Verdict, Fine}
+use Rattle.cluster_histories.specs.Clusters.{Cluster, Post, sides_of, master_of}
+use Rattle.cluster_steps.specs.declared.verdict.Sent.TheVariants.{ToMaster as MailToMaster}
+use Rattle.cluster_steps.specs.declared.verdict.Verdict.{Verdict}
+use Rattle.cluster_steps.specs.declared.verdict.Verdict.TheVariants.{Ok as Fine}
 use Rattle.cluster_model.specs.Openings.{NamesOnce}
-use Rattle.cluster_model.specs.Steps.{Setup, posts_in, sent_in, sent_between, posts_between, sent_by, posts_by, done, happening, happening_of, effect_of, hello_to, greets_all, master_stops, master_falls, new_master_falls, agent_falls, open_cluster, streams_after}
+use Rattle.cluster_histories.specs.Steps.{Setup, posts_in, sent_in, sent_between, posts_between, sent_by, posts_by, done, happening, happening_of, effect_of, hello_to, greets_all, master_stops, master_falls, new_master_falls, agent_falls, open_cluster, streams_after}
 use Rattle.cluster_laws.specs.Items.{names_of}
 use Rattle.cluster_laws.specs.Parts.{part_of, parts_of, recovered_part, IsSilent, from_agent, greeting, anew, next_master}
 use Rattle.cluster_laws.proofs.Lists.{each_at, bytes_refl, bytes_differ, cons_same, append_same, drop_all}

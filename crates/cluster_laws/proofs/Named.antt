@@ -17,7 +17,7 @@ use Rattle.mails.specs.declared.refusal.AgentRefusal.TheVariants.{OldSession, No
 use Rattle.cluster_model.specs.Ids.{last_number}
 use Rattle.cluster_model.specs.Agents.{Agent, Draft, has_ended, is_task, front_at, owning, reopened, reports, opens_next, starts, stated, with_tasks, applies, has_room, hears_mail, needs_place, executes, next_of}
 use Rattle.cluster_model.specs.Channels.{is_own}
-use Rattle.cluster_model.specs.Steps.{Setup, Marked, history}
+use Rattle.cluster_histories.specs.Steps.{Setup, Marked, history}
 use Rattle.cluster_laws.proofs.Lists.{each_all}
 use Rattle.cluster_laws.proofs.Agents.{AllOk, all_if, starts_ok, all_wider, Makes, Rules, WorldOk, world_ok, opened_ok}
 use Rattle.cluster_laws.proofs.Histories.{reached}

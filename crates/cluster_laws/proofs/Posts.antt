@@ -9,7 +9,7 @@ use Rattle.mails.specs.declared.mail.AgentMail.{AgentMail}
 use Rattle.mails.specs.declared.mail.ToAgent.{ToAgent}
 use Rattle.mails.specs.declared.mail.ToMaster.{ToMaster}
 use Rattle.cluster_model.specs.Channels.{Channel}
-use Rattle.cluster_model.specs.Clusters.{Cluster, Post, Called, Down, Up}
+use Rattle.cluster_histories.specs.Clusters.{Cluster, Post, Called, Down, Up}
 use Rattle.cluster_laws.specs.Items.{channel_at, to_agent, to_master, down_item, up_item, item_of, Item, Stand, StandIn}
 use Rattle.cluster_laws.specs.declared.item.Item.TheVariants as items
 use Rattle.cluster_laws.specs.Premises.{IsDown, IsUp}

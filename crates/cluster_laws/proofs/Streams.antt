@@ -21,9 +21,18 @@ use Rattle.cluster_model.specs.Masters.{Doing, new_registers}
 use Rattle.cluster_model.specs.Calls.{called, new_stream}
 use Rattle.cluster_model.specs.Mails.{mailed, ticked, agent_lost, hung_up}
 use Rattle.cluster_model.specs.Rounds.{allocated}
-use Rattle.cluster_model.specs.Clusters.{Stream, Post, Called, Down, Up, Cluster, master_of, StepCause, ByStart, ByAgain, ByExecutor, ByMail, Step, Send, Deliver, Allocate, Tick, LoseAgent, HangUp, Prepare, Commit, StopBefore, StopAfter, StopMaster, Take, StepRefusal, MasterDown, AgentDown, DraftOpen, NoDraft, HistoryFull, TimeBack, Verdict, Fine, AgentRefused, Fell}
-use Rattle.cluster_model.specs.Steps as steps
-use Rattle.cluster_model.specs.Steps.{Setup, Effect, Done, done, does, happening, effect_of, happening_of, master_does, master_hears, channel_of, delivers_up, delivers, post_at, with_tick, ticks_at, stream_at, hangs_up, loses_agent, hello_to, drafts, draws_mail_at, draws_mail, prepares, commits, up_again, stops, with_master, at_channel, is_fallen, if_up, by_draft, without_draft, with_draft, takes_one, takes_event, takes, answer, master_falls, new_master_falls, fallen_too, agent_falls, instead, fallen_answer, Marked, step_marked, hears, streams_after, History, opened_over, opening, extended, extend_all, history}
+use Rattle.cluster_histories.specs.Clusters.{Stream, Post, Called, Down, Up, Cluster, master_of}
+use Rattle.cluster_steps.specs.declared.step.StepCause.{StepCause}
+use Rattle.cluster_steps.specs.declared.step.StepCause.TheVariants.{Start as ByStart, Again as ByAgain, Executor as ByExecutor, Mail as ByMail}
+use Rattle.cluster_steps.specs.declared.step.Step.{Step}
+use Rattle.cluster_steps.specs.declared.step.Step.TheVariants.{Send, Deliver, Allocate, Tick, LoseAgent, HangUp, Prepare, Commit, StopAgent, StopMaster, Take}
+use Rattle.cluster_steps.specs.declared.step.Keep.TheVariants.{Before, After}
+use Rattle.cluster_steps.specs.declared.fault.ClusterFault.{ClusterFault}
+use Rattle.cluster_steps.specs.declared.fault.ClusterFault.TheVariants.{MasterDown, AgentDown, DraftOpen, NoDraft, HistoryFull, TimeBack}
+use Rattle.cluster_steps.specs.declared.verdict.Verdict.{Verdict}
+use Rattle.cluster_steps.specs.declared.verdict.Verdict.TheVariants.{Ok as Fine, AgentRefused, OutOfMemory as Fell}
+use Rattle.cluster_histories.specs.Steps as steps
+use Rattle.cluster_histories.specs.Steps.{Setup, Done, done, does, happening, effect_of, happening_of, master_does, master_hears, channel_of, delivers_up, delivers, post_at, with_tick, ticks_at, stream_at, hangs_up, loses_agent, hello_to, drafts, draws_mail_at, draws_mail, prepares, commits, up_again, stops, with_master, at_channel, is_fallen, if_up, by_draft, without_draft, with_draft, takes_one, takes_event, takes, answer, master_falls, new_master_falls, fallen_too, agent_falls, instead, fallen_answer, Marked, step_marked, hears, streams_after, History, opened_over, opening, extended, extend_all, history}
 use Rattle.cluster_laws.specs.Runs.{SameRun, OpensNext, ids_of, AreRising}
 use Rattle.cluster_laws.proofs.Lists.{each_append, each_map, cons_same}
 use Rattle.cluster_laws.proofs.Ordinary.{Ordinary, called_ordinary, allocated_ordinary, ticked_ordinary, lost_ordinary, hung_ordinary, mailed_ordinary}
@@ -160,15 +169,15 @@ hellos_within : (cs : List Channel) → Each IsWithinRun (map hello_to cs)
 hellos_within [] = tt
 hellos_within (c ∷ cs) = (tt, hellos_within cs)
 
-abbrev Streamed : Cluster → Result Done StepRefusal → Type 0
+abbrev Streamed : Cluster → Result Done ClusterFault → Type 0
 Streamed c (Ok d) = ClusterOk c → ClusterOk d.after
 Streamed c (Err refusal) = ⊤
 
-by_test : (c : Cluster) (b : Bool) (x y : Result Done StepRefusal) → Streamed c x → Streamed c y → Streamed c (if b then x else y)
+by_test : (c : Cluster) (b : Bool) (x y : Result Done ClusterFault) → Streamed c x → Streamed c y → Streamed c (if b then x else y)
 by_test c true x y p q = p
 by_test c false x y p q = q
 
-with_master_streamed : (c : Cluster) (r : Result Done StepRefusal) → (c.world.run.serves ≡ true → Streamed c r) → Streamed c (with_master c r)
+with_master_streamed : (c : Cluster) (r : Result Done ClusterFault) → (c.world.run.serves ≡ true → Streamed c r) → Streamed c (with_master c r)
 with_master_streamed c r p = cond_both c.world.run.serves r (Err MasterDown) (Streamed c) p (λ e. tt)
 
 does_streamed : (c : Cluster) (d : Doing) → Ordinary (master_of c) d → c.world.run.serves ≡ true → Streamed c (master_does c d)
@@ -217,14 +226,14 @@ prepares_streamed c ByAgain x = drafts_streamed c x (Draw Again) (next_of x.agen
 prepares_streamed c (ByExecutor key state) x = drafts_streamed c x (Draw (Executor key state)) (next_of x.agent (Executor key state))
 prepares_streamed c (ByMail number) x = draws_mail_streamed c x (post_at c number)
 
-at_channel_streamed : (c : Cluster) (x : Option Channel) (step : Channel → Result Done StepRefusal) → ((y : Channel) → Streamed c (step y)) → Streamed c (at_channel x step)
+at_channel_streamed : (c : Cluster) (x : Option Channel) (step : Channel → Result Done ClusterFault) → ((y : Channel) → Streamed c (step y)) → Streamed c (at_channel x step)
 at_channel_streamed c None step p = tt
 at_channel_streamed c (Some x) step p = p x
 
-if_up_streamed : (c : Cluster) (step : Channel → Result Done StepRefusal) (x : Channel) → Streamed c (step x) → Streamed c (if_up c step x)
+if_up_streamed : (c : Cluster) (step : Channel → Result Done ClusterFault) (x : Channel) → Streamed c (step x) → Streamed c (if_up c step x)
 if_up_streamed c step x p = by_test c (is_fallen c x) (Err AgentDown) (step x) tt p
 
-by_draft_streamed : (c : Cluster) (d : Option Draft) (without with_one : Result Done StepRefusal) → Streamed c without → Streamed c with_one → Streamed c (by_draft d without with_one)
+by_draft_streamed : (c : Cluster) (d : Option Draft) (without with_one : Result Done ClusterFault) → Streamed c without → Streamed c with_one → Streamed c (by_draft d without with_one)
 by_draft_streamed c None without with_one p q = p
 by_draft_streamed c (Some d) without with_one p q = q
 
@@ -250,8 +259,8 @@ answer_streamed c (Prepare agent cause) = at_channel_streamed c (channel_of c ag
     (λ x. if_up_streamed c (without_draft (prepares c cause)) x (by_draft_streamed c x.draft (prepares c cause x) (Err DraftOpen) (prepares_streamed c cause x) tt))
 answer_streamed c (Commit agent) = at_channel_streamed c (channel_of c agent) (if_up c (with_draft (commits c)))
     (λ x. if_up_streamed c (with_draft (commits c)) x (by_draft_streamed c x.draft (Err NoDraft) (commits c x) tt (λ ok. quiet_streamed c Fine (At x.side.name (ByAgent Adopt) ∷ []) (tt, tt) ok)))
-answer_streamed c (StopBefore agent) = at_channel_streamed c (channel_of c agent) (stops c StopWithout) (stops_streamed c StopWithout)
-answer_streamed c (StopAfter agent) = at_channel_streamed c (channel_of c agent) (with_draft (stops c StopWith)) (λ x. by_draft_streamed c x.draft (Err NoDraft) (stops c StopWith x) tt (stops_streamed c StopWith x))
+answer_streamed c (StopAgent agent Before) = at_channel_streamed c (channel_of c agent) (stops c StopWithout) (stops_streamed c StopWithout)
+answer_streamed c (StopAgent agent After) = at_channel_streamed c (channel_of c agent) (with_draft (stops c StopWith)) (λ x. by_draft_streamed c x.draft (Err NoDraft) (stops c StopWith x) tt (stops_streamed c StopWith x))
 answer_streamed c StopMaster = by (nat_lt c.world.run.number last_run)
   where
     by : (b : Bool) → Streamed c (does c (if b then record (happening c Fine (Restart ∷ map hello_to c.world.channels)) { registers = new_registers } else record (happening c Fine (Halt ∷ [])) { registers = new_registers }))
@@ -259,7 +268,7 @@ answer_streamed c StopMaster = by (nat_lt c.world.run.number last_run)
     by false = λ ok. halt_streamed c Fine ok
 answer_streamed c (Take stream) = takes_streamed c stream (stream_at c stream)
 
-instead_streamed : (c : Cluster) (r : Result Done StepRefusal) (d : Done) → (ClusterOk c → ClusterOk d.after) → Streamed c (instead r d)
+instead_streamed : (c : Cluster) (r : Result Done ClusterFault) (d : Done) → (ClusterOk c → ClusterOk d.after) → Streamed c (instead r d)
 instead_streamed c (Ok x) d f = f
 instead_streamed c (Err e) d f = tt
 
@@ -275,8 +284,8 @@ fallen_streamed c (LoseAgent agent) = instead_streamed c (answer c (LoseAgent ag
 fallen_streamed c (HangUp stream) = instead_streamed c (answer c (HangUp stream)) (master_falls c) (halt_streamed c Fell)
 fallen_streamed c (Prepare agent cause) = instead_streamed c (answer c (Prepare agent cause)) (agent_falls c agent StopWithout) (agent_falls_streamed c agent StopWithout)
 fallen_streamed c (Commit agent) = answer_streamed c (Commit agent)
-fallen_streamed c (StopBefore agent) = instead_streamed c (answer c (StopBefore agent)) (agent_falls c agent StopWithout) (agent_falls_streamed c agent StopWithout)
-fallen_streamed c (StopAfter agent) = instead_streamed c (answer c (StopAfter agent)) (agent_falls c agent StopWith) (agent_falls_streamed c agent StopWith)
+fallen_streamed c (StopAgent agent Before) = instead_streamed c (answer c (StopAgent agent Before)) (agent_falls c agent StopWithout) (agent_falls_streamed c agent StopWithout)
+fallen_streamed c (StopAgent agent After) = instead_streamed c (answer c (StopAgent agent After)) (agent_falls c agent StopWith) (agent_falls_streamed c agent StopWith)
 fallen_streamed c StopMaster = by_test c (nat_lt c.world.run.number last_run) (Ok (new_master_falls c)) (answer c StopMaster) (new_fall_streamed c) (answer_streamed c StopMaster)
 fallen_streamed c (Take stream) = answer_streamed c (Take stream)
 
@@ -284,7 +293,7 @@ step_streamed : (c : Cluster) (s : Marked) → Streamed c (step_marked c s)
 step_streamed c s = by_test c (nat_le last_number c.entries) (Err HistoryFull) (if s.fell then fallen_answer c s.step else answer c s.step) tt
     (by_test c s.fell (fallen_answer c s.step) (answer c s.step) (fallen_streamed c s.step) (answer_streamed c s.step))
 
-extended_streamed : (h : History) (r : Result Done StepRefusal) → Streamed h.state r → ClusterOk h.state → ClusterOk (extended h r).state
+extended_streamed : (h : History) (r : Result Done ClusterFault) → Streamed h.state r → ClusterOk h.state → ClusterOk (extended h r).state
 extended_streamed h (Ok d) f ok = f ok
 extended_streamed h (Err refusal) f ok = ok
 

@@ -8,10 +8,10 @@ use Rattle.agent_sides.specs.declared.config.ConfiguredAgent.{ConfiguredAgent}
 use Rattle.agent_sides.specs.Looks.{told_of}
 use Rattle.cluster_model.specs.Sides.{Side, new_run, new_side}
 use Rattle.cluster_model.specs.Channels.{Channel, open_channel}
-use Rattle.cluster_model.specs.Clusters.{Cluster, master_of, sides_of}
+use Rattle.cluster_histories.specs.Clusters.{Cluster, master_of, sides_of}
 use Rattle.cluster_model.specs.Mails.{agent_lost, mailed}
 use Rattle.cluster_model.specs.Masters.{new_registers, nothing}
-use Rattle.cluster_model.specs.Steps.{Setup, channel_of, opened_over}
+use Rattle.cluster_histories.specs.Steps.{Setup, channel_of, opened_over}
 use Rattle.agent_sides.specs.Named.{lost_by, mailed_by}
 use Rattle.master_state.specs.States.{fresh}
 use Rattle.master_state.specs.Works.{master_of as master_in}

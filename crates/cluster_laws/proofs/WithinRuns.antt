@@ -13,8 +13,8 @@ use Rattle.cluster_model.specs.Ids.{following, is_among}
 use Rattle.cluster_model.specs.Sides.{Run, Side, Sending, sends_nothing, issue, books, offer_rows, Launching, may_launch, launch_one, launch_all, is_good, used_offers, without_used, may_offer, SideStep, MakeOffer, Withdraw, LaunchFrom, SendKill, SendAck, SendEnd, SendHello, SendAgain, Lose, side_step}
 use Rattle.cluster_model.specs.Channels.{Channel, ChannelStep, ByMaster, Hear, ByAgent, happens, World, Happening, At, TearDown, Restart, Halt, behind, in_front, at_agent, after, after_all}
 use Rattle.cluster_model.specs.Masters.{Move, AtSide, TearDownAll, RestartAll, HaltAll, Doing}
-use Rattle.cluster_model.specs.Clusters.{Cluster}
-use Rattle.cluster_model.specs.Steps.{done, effect_of, happening_of}
+use Rattle.cluster_histories.specs.Clusters.{Cluster}
+use Rattle.cluster_histories.specs.Steps.{done, effect_of, happening_of}
 use Rattle.cluster_laws.specs.Runs.{SameRun, KeepsRun, IsPlain}
 
 pub same_run : (run : Run) → SameRun run run

@@ -5,8 +5,12 @@ use Rattle.std.specs.List.{find}
 use Rattle.mails.specs.declared.mail.MasterMail.{MasterMail}
 use Rattle.mails.specs.declared.mail.AgentMail.{AgentMail}
 use Rattle.cluster_model.specs.Channels.{Channel}
-use Rattle.cluster_model.specs.Clusters.{Post, Called, Down, Up, Cluster, Step, Send, Sent, CallSent, MailToAgent, MailToMaster}
-use Rattle.cluster_model.specs.Steps.{Done}
+use Rattle.cluster_histories.specs.Clusters.{Post, Called, Down, Up, Cluster}
+use Rattle.cluster_steps.specs.declared.step.Step.{Step}
+use Rattle.cluster_steps.specs.declared.step.Step.TheVariants.{Send}
+use Rattle.cluster_steps.specs.declared.verdict.Sent.{Sent}
+use Rattle.cluster_steps.specs.declared.verdict.Sent.TheVariants.{Call as CallSent, ToAgent as MailToAgent, ToMaster as MailToMaster}
+use Rattle.cluster_histories.specs.Steps.{Done}
 pub use Rattle.cluster_laws.specs.declared.item.Item.{Item}
 use Rattle.cluster_laws.specs.declared.item.Item.TheVariants as items
 

@@ -8,7 +8,9 @@ use Rattle.cluster_model.specs.Agents.{Agent, Draft, recovered_from}
 use Rattle.cluster_model.specs.Sides.{SendHello, restarted, new_run}
 use Rattle.cluster_model.specs.Channels.{Channel, AgentStep, Draw, DrawMail, Adopt, StopWithout, StopWith, Restart, after}
 use Rattle.cluster_model.specs.Masters.{AtSide, Doing, Master, moving, new_registers}
-use Rattle.cluster_model.specs.Clusters.{Cluster, Sent, MailToMaster}
+use Rattle.cluster_histories.specs.Clusters.{Cluster}
+use Rattle.cluster_steps.specs.declared.verdict.Sent.{Sent}
+use Rattle.cluster_steps.specs.declared.verdict.Sent.TheVariants.{ToMaster as MailToMaster}
 
 -- an agent with its draft
 pub record Part : Type 0 where

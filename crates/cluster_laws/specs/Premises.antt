@@ -6,8 +6,8 @@ use Rattle.mails.specs.declared.mail.ToAgent.{ToAgent}
 use Rattle.mails.specs.declared.mail.ToMaster.{ToMaster}
 use Rattle.mails.specs.declared.record.Durable.{Durable}
 use Rattle.cluster_model.specs.Channels.{Channel}
-use Rattle.cluster_model.specs.Clusters.{Cluster, Down, Up}
-use Rattle.cluster_model.specs.Steps.{channel_of}
+use Rattle.cluster_histories.specs.Clusters.{Cluster, Down, Up}
+use Rattle.cluster_histories.specs.Steps.{channel_of}
 use Rattle.cluster_safe.specs.Acknowledged.{recorded_tasks}
 
 -- the tasks of the records have updates as every value of the type `Updates` is

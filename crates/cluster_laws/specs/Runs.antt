@@ -7,8 +7,8 @@ use Rattle.cluster_model.specs.Ids.{before}
 use Rattle.cluster_model.specs.Sides.{Run}
 use Rattle.cluster_model.specs.Masters.{Doing, Master, Move, AtSide, TearDownAll, RestartAll, HaltAll, refused}
 use Rattle.cluster_model.specs.Calls.{new_stream}
-use Rattle.cluster_model.specs.Clusters.{Cluster, Stream}
-use Rattle.cluster_model.specs.Steps.{done, effect_of}
+use Rattle.cluster_histories.specs.Clusters.{Cluster, Stream}
+use Rattle.cluster_histories.specs.Steps.{done, effect_of}
 
 -- the same run, which serves if it did
 pub record SameRun (old new : Run) : Type 0 where

@@ -5,12 +5,12 @@ ghost use Rattle.cluster_laws.specs.Runs.{AreRising, KeepsRun, OpensNext, SameRu
 ghost use Rattle.role_weights.specs.Weights.{RoleWeight};
 ghost use Rattle.cluster_model.specs.Calls.{called};
 ghost use Rattle.cluster_model.specs.Channels.{At, Hear};
-ghost use Rattle.cluster_model.specs.Clusters.{Cluster, master_of};
+ghost use Rattle.cluster_histories.specs.Clusters.{Cluster, master_of};
 ghost use Rattle.cluster_model.specs.Mails.{agent_lost, hung_up, mailed, ticked};
 ghost use Rattle.cluster_model.specs.Masters.{Master};
 ghost use Rattle.cluster_model.specs.Rounds.{allocated};
 ghost use Rattle.cluster_model.specs.Sides.{Side};
-ghost use Rattle.cluster_model.specs.Steps.{Setup, Marked, done, effect_of, history};
+ghost use Rattle.cluster_histories.specs.Steps.{Setup, Marked, done, effect_of, history};
 ghost use Rattle.mails.specs.declared.call.Call.{Call};
 ghost use Rattle.mails.specs.declared.mail.AgentMail.{AgentMail};
 ghost use Rattle.mails.specs.declared.record.Durable.{Durable};

@@ -5,7 +5,7 @@ ghost use Rattle.agent_sides.specs.declared.config.ConfiguredAgent.{ConfiguredAg
 ghost use Rattle.cluster_laws.specs.Parts.{AreAgentsOf};
 ghost use Rattle.role_weights.specs.Weights.{RoleWeight};
 ghost use Rattle.cluster_model.specs.Channels.{Channel};
-ghost use Rattle.cluster_model.specs.Clusters.{Cluster, master_of};
+ghost use Rattle.cluster_histories.specs.Clusters.{Cluster, master_of};
 ghost use Rattle.cluster_laws.specs.Runs.{RefusesAlone};
 ghost use Rattle.cluster_model.specs.Calls.{called};
 ghost use Rattle.cluster_model.specs.Mails.{agent_lost, hung_up, mailed, ticked};
@@ -14,7 +14,7 @@ ghost use Rattle.cluster_model.specs.Rounds.{allocated};
 ghost use Rattle.cluster_model.specs.Sides.{Side};
 ghost use Rattle.mails.specs.declared.call.Call.{Call};
 ghost use Rattle.names_core.specs.Ids.{Numbered};
-ghost use Rattle.cluster_model.specs.Steps.{Setup, channel_of, opened_over};
+ghost use Rattle.cluster_histories.specs.Steps.{Setup, channel_of, opened_over};
 ghost use Rattle.mails.specs.declared.mail.AgentMail.{AgentMail};
 ghost use Rattle.mails.specs.declared.record.Durable.{Durable};
 ghost use Rattle.agent_sides.specs.Named.{lost_by, mailed_by};

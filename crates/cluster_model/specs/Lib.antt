@@ -7,6 +7,4 @@ pub mod Masters
 pub mod Calls
 pub mod Mails
 pub mod Rounds
-pub mod Clusters
-pub mod Steps
 pub mod Openings

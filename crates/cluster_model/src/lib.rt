@@ -1,5 +1,5 @@
-//! The model of the whole cluster: what frameworks, master and agents do at each step, said from
-//! all that was ever sent. It has no code: contracts of the crates above cite its definitions.
+//! The model of a cluster's parts: what master and agents do, and the channels between them, said
+//! from all that was ever sent. It has no code: contracts of the crates above cite its definitions.
 #![tactic(auto)]
 
 ghost use Rattle.cluster_model.specs.Channels.{Happening, World, after_all};

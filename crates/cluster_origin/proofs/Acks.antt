@@ -6,9 +6,9 @@ use Rattle.mails.specs.declared.mail.MasterMail.{MasterMail}
 use Rattle.mails.specs.declared.record.Durable.{Durable}
 use Rattle.mails.specs.declared.task.Job.{Job}
 use Rattle.cluster_model.specs.Channels.{Channel, open_world}
-use Rattle.cluster_model.specs.Clusters.{Post}
+use Rattle.cluster_histories.specs.Clusters.{Post}
 use Rattle.cluster_model.specs.Openings.{recorded_jobs, KeysOnce, GoodOpening}
-use Rattle.cluster_model.specs.Steps.{Setup, History, Marked, history}
+use Rattle.cluster_histories.specs.Steps.{Setup, History, Marked, history}
 use Rattle.cluster_safe.specs.Acknowledged.{WasSent, WasCounted, recorded_tasks}
 use Rattle.cluster_safe.specs.Origin.{Mark, jobs_of, trail}
 use Rattle.cluster_safe.proofs.Orders.{each_map}

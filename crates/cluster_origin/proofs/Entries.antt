@@ -25,8 +25,17 @@ use Rattle.cluster_model.specs.Masters.{Master, AtSide, Doing, new_registers}
 use Rattle.cluster_model.specs.Calls.{called}
 use Rattle.cluster_model.specs.Mails.{mailed, ticked, agent_lost, hung_up}
 use Rattle.cluster_model.specs.Rounds.{round, allocated}
-use Rattle.cluster_model.specs.Clusters.{Sent, Stream, Post, Called, Down, Up, Cluster, master_of, StepCause, ByStart, ByAgain, ByExecutor, ByMail, Step, Send, Deliver, Allocate, Tick, LoseAgent, HangUp, Prepare, Commit, StopBefore, StopAfter, StopMaster, Take, StepRefusal, MasterDown, AgentDown, DraftOpen, NoDraft, HistoryFull, TimeBack, Fine, AgentRefused, Fell}
-use Rattle.cluster_model.specs.Steps.{Setup, sent_between, sent_by, Effect, Done, done, does, happening, happening_of, verdict_of, effect_of, master_does, master_hears, channel_of, delivers_up, delivers, post_at, with_tick, ticks_at, stream_at, hangs_up, loses_agent, hello_to, drafts, draws_mail_at, draws_mail, prepares, commits, up_again, stops, with_master, at_channel, is_fallen, if_up, by_draft, without_draft, with_draft, takes_event, takes, answer, master_falls, new_master_falls, fallen_too, agent_falls, instead, fallen_answer, Marked, step_marked, History, opening, extended, extend_all, history}
+use Rattle.cluster_histories.specs.Clusters.{Stream, Post, Called, Down, Up, Cluster, master_of}
+use Rattle.cluster_steps.specs.declared.verdict.Sent.{Sent}
+use Rattle.cluster_steps.specs.declared.step.StepCause.{StepCause}
+use Rattle.cluster_steps.specs.declared.step.StepCause.TheVariants.{Start as ByStart, Again as ByAgain, Executor as ByExecutor, Mail as ByMail}
+use Rattle.cluster_steps.specs.declared.step.Step.{Step}
+use Rattle.cluster_steps.specs.declared.step.Step.TheVariants.{Send, Deliver, Allocate, Tick, LoseAgent, HangUp, Prepare, Commit, StopAgent, StopMaster, Take}
+use Rattle.cluster_steps.specs.declared.step.Keep.TheVariants.{Before, After}
+use Rattle.cluster_steps.specs.declared.fault.ClusterFault.{ClusterFault}
+use Rattle.cluster_steps.specs.declared.fault.ClusterFault.TheVariants.{MasterDown, AgentDown, DraftOpen, NoDraft, HistoryFull, TimeBack}
+use Rattle.cluster_steps.specs.declared.verdict.Verdict.TheVariants.{Ok as Fine, AgentRefused, OutOfMemory as Fell}
+use Rattle.cluster_histories.specs.Steps.{Setup, sent_between, sent_by, Effect, Done, done, does, happening, happening_of, verdict_of, effect_of, master_does, master_hears, channel_of, delivers_up, delivers, post_at, with_tick, ticks_at, stream_at, hangs_up, loses_agent, hello_to, drafts, draws_mail_at, draws_mail, prepares, commits, up_again, stops, with_master, at_channel, is_fallen, if_up, by_draft, without_draft, with_draft, takes_event, takes, answer, master_falls, new_master_falls, fallen_too, agent_falls, instead, fallen_answer, Marked, step_marked, History, opening, extended, extend_all, history}
 use Rattle.cluster_safe.specs.Listed.{IsListed, MoveFrom, IsAcceptOf}
 use Rattle.cluster_safe.specs.Offered.{IsAmong}
 use Rattle.cluster_safe.specs.Origin.{Mark, Made, Used, Use, marks_at, marks_in, jobs_of, trail}
@@ -58,7 +67,7 @@ abbrev pub Launching : Moment → List Mark → Type 0
 Launching m own = (IsTick m.step.step → ⊥) → launches_in m.did.entry.outs.sent ≡ jobs_of own
 
 -- what a step that isn't refused leaves: the channels go on, and its marks come from its entry
-abbrev pub Sourced : Cluster → Marked → Result Done StepRefusal → Type 0
+abbrev pub Sourced : Cluster → Marked → Result Done ClusterFault → Type 0
 Sourced c s (Ok d) =
     let m : Moment = record { before = c; step = s; did = d } in
     (d.after.world ≡ after_all d.happenings c.world) × Each (IsSource m) (trail d.happenings c.world []) × Each (Stood m) (trail d.happenings c.world []) × Launching m (trail d.happenings c.world [])
@@ -76,7 +85,7 @@ unmarked_sourced c now s e is h sent =
 silent : (c now : Cluster) (s : Marked) (e : Effect) → now.world ≡ c.world → Each Silent e.happenings → Sourced c s (does now e)
 silent c now s e is h = unmarked_sourced c now s e is (unmarked e.happenings h) (λ q. sent_silent e.happenings h now.world)
 
-by_test : (c : Cluster) (s : Marked) (b : Bool) (x y : Result Done StepRefusal) → Sourced c s x → Sourced c s y → Sourced c s (if b then x else y)
+by_test : (c : Cluster) (s : Marked) (b : Bool) (x y : Result Done ClusterFault) → Sourced c s x → Sourced c s y → Sourced c s (if b then x else y)
 by_test c s true x y p q = p
 by_test c s false x y p q = q
 
@@ -184,7 +193,7 @@ delivers_sourced c s number e (Some (Up agent place)) at = up_sourced c s place 
 
 -- the master's other steps
 
-with_master_sourced : (c : Cluster) (s : Marked) (r : Result Done StepRefusal) → Sourced c s r → Sourced c s (with_master c r)
+with_master_sourced : (c : Cluster) (s : Marked) (r : Result Done ClusterFault) → Sourced c s r → Sourced c s (with_master c r)
 with_master_sourced c s r p = by_test c s c.world.run.serves r (Err MasterDown) p tt
 
 offers_send : (gs : List MadeOffer) (w : World) → launches_in (sent_by (map happening_of (map (λ (g : MadeOffer). AtSide g.agent (MakeOffer g.offer)) gs)) w) ≡ []
@@ -254,14 +263,14 @@ prepares_sourced c s ByAgain x = drafts_sourced c s x (Draw Again) (next_of x.ag
 prepares_sourced c s (ByExecutor key state) x = drafts_sourced c s x (Draw (Executor key state)) (next_of x.agent (Executor key state))
 prepares_sourced c s (ByMail number) x = draws_mail_sourced c s x (post_at c number)
 
-by_draft_sourced : (c : Cluster) (s : Marked) (d : Option Draft) (without with_one : Result Done StepRefusal) → Sourced c s without → Sourced c s with_one → Sourced c s (by_draft d without with_one)
+by_draft_sourced : (c : Cluster) (s : Marked) (d : Option Draft) (without with_one : Result Done ClusterFault) → Sourced c s without → Sourced c s with_one → Sourced c s (by_draft d without with_one)
 by_draft_sourced c s None without with_one p q = p
 by_draft_sourced c s (Some d) without with_one p q = q
 
-if_up_sourced : (c : Cluster) (s : Marked) (step : Channel → Result Done StepRefusal) (x : Channel) → Sourced c s (step x) → Sourced c s (if_up c step x)
+if_up_sourced : (c : Cluster) (s : Marked) (step : Channel → Result Done ClusterFault) (x : Channel) → Sourced c s (step x) → Sourced c s (if_up c step x)
 if_up_sourced c s step x p = by_test c s (is_fallen c x) (Err AgentDown) (step x) tt p
 
-at_channel_sourced : (c : Cluster) (s : Marked) (o : Option Channel) (step : Channel → Result Done StepRefusal) → ((x : Channel) → Sourced c s (step x)) → Sourced c s (at_channel o step)
+at_channel_sourced : (c : Cluster) (s : Marked) (o : Option Channel) (step : Channel → Result Done ClusterFault) → ((x : Channel) → Sourced c s (step x)) → Sourced c s (at_channel o step)
 at_channel_sourced c s None step p = tt
 at_channel_sourced c s (Some x) step p = p x
 
@@ -286,8 +295,8 @@ answer_sourced c s (LoseAgent agent) e = at_channel_sourced c s (channel_of c ag
 answer_sourced c s (HangUp stream) e = with_master_sourced c s (hangs_up c stream (stream_at c stream)) (hangs_up_sourced c s stream (stream_at c stream))
 answer_sourced c s (Prepare agent cause) e = at_channel_sourced c s (channel_of c agent) (if_up c (without_draft (prepares c cause))) (λ x. if_up_sourced c s (without_draft (prepares c cause)) x (by_draft_sourced c s x.draft (prepares c cause x) (Err DraftOpen) (prepares_sourced c s cause x) tt))
 answer_sourced c s (Commit agent) e = at_channel_sourced c s (channel_of c agent) (if_up c (with_draft (commits c))) (λ x. if_up_sourced c s (with_draft (commits c)) x (by_draft_sourced c s x.draft (Err NoDraft) (commits c x) tt (silent c c s (happening c Fine (At x.side.name (ByAgent Adopt) ∷ [])) refl (agent_silent x.side.name Adopt, tt))))
-answer_sourced c s (StopBefore agent) e = at_channel_sourced c s (channel_of c agent) (stops c StopWithout) (λ x. silent c (up_again c x.side.name) s (happening c Fine (At x.side.name (ByAgent StopWithout) ∷ [])) refl (agent_silent x.side.name StopWithout, tt))
-answer_sourced c s (StopAfter agent) e = at_channel_sourced c s (channel_of c agent) (with_draft (stops c StopWith)) (λ x. by_draft_sourced c s x.draft (Err NoDraft) (stops c StopWith x) tt (silent c (up_again c x.side.name) s (happening c Fine (At x.side.name (ByAgent StopWith) ∷ [])) refl (agent_silent x.side.name StopWith, tt)))
+answer_sourced c s (StopAgent agent Before) e = at_channel_sourced c s (channel_of c agent) (stops c StopWithout) (λ x. silent c (up_again c x.side.name) s (happening c Fine (At x.side.name (ByAgent StopWithout) ∷ [])) refl (agent_silent x.side.name StopWithout, tt))
+answer_sourced c s (StopAgent agent After) e = at_channel_sourced c s (channel_of c agent) (with_draft (stops c StopWith)) (λ x. by_draft_sourced c s x.draft (Err NoDraft) (stops c StopWith x) tt (silent c (up_again c x.side.name) s (happening c Fine (At x.side.name (ByAgent StopWith) ∷ [])) refl (agent_silent x.side.name StopWith, tt)))
 answer_sourced c s StopMaster e = stops_sourced (nat_lt c.world.run.number last_run)
   where
     stops_sourced : (b : Bool) → Sourced c s (does c (if b then record (happening c Fine (Restart ∷ map hello_to c.world.channels)) { registers = new_registers } else record (happening c Fine (Halt ∷ [])) { registers = new_registers }))
@@ -295,14 +304,14 @@ answer_sourced c s StopMaster e = stops_sourced (nat_lt c.world.run.number last_
     stops_sourced false = silent c c s (record (happening c Fine (Halt ∷ [])) { registers = new_registers }) refl (halt_silent, tt)
 answer_sourced c s (Take stream) e = takes_sourced c s stream (stream_at c stream)
 
-instead_sourced : (c : Cluster) (s : Marked) (r : Result Done StepRefusal) (d : Done) → Sourced c s (Ok d) → Sourced c s (instead r d)
+instead_sourced : (c : Cluster) (s : Marked) (r : Result Done ClusterFault) (d : Done) → Sourced c s (Ok d) → Sourced c s (instead r d)
 instead_sourced c s (Ok done) d m = m
 instead_sourced c s (Err e) d m = tt
 
-master_fell : (c now : Cluster) (s : Marked) (r : Result Done StepRefusal) → now.world ≡ c.world → Sourced c s (instead r (master_falls now))
+master_fell : (c now : Cluster) (s : Marked) (r : Result Done ClusterFault) → now.world ≡ c.world → Sourced c s (instead r (master_falls now))
 master_fell c now s r is = instead_sourced c s r (master_falls now) (silent c now s (record (happening now Fell (Halt ∷ [])) { registers = new_registers }) is (halt_silent, tt))
 
-agent_fell : (c : Cluster) (s : Marked) (r : Result Done StepRefusal) (agent : List ℕ) (stop : AgentStep) → Sourced c s (instead r (agent_falls c agent stop))
+agent_fell : (c : Cluster) (s : Marked) (r : Result Done ClusterFault) (agent : List ℕ) (stop : AgentStep) → Sourced c s (instead r (agent_falls c agent stop))
 agent_fell c s r agent stop = instead_sourced c s r (agent_falls c agent stop) (silent c (fallen_too c agent) s (happening c Fell (At agent (ByAgent stop) ∷ [])) refl (agent_silent agent stop, tt))
 
 fallen_sourced : (c : Cluster) (s : Marked) (step : Step) → s.step ≡ step → Sourced c s (fallen_answer c step)
@@ -314,8 +323,8 @@ fallen_sourced c s (LoseAgent agent) e = master_fell c c s (answer c (LoseAgent 
 fallen_sourced c s (HangUp stream) e = master_fell c c s (answer c (HangUp stream)) refl
 fallen_sourced c s (Prepare agent cause) e = agent_fell c s (answer c (Prepare agent cause)) agent StopWithout
 fallen_sourced c s (Commit agent) e = answer_sourced c s (Commit agent) e
-fallen_sourced c s (StopBefore agent) e = agent_fell c s (answer c (StopBefore agent)) agent StopWithout
-fallen_sourced c s (StopAfter agent) e = agent_fell c s (answer c (StopAfter agent)) agent StopWith
+fallen_sourced c s (StopAgent agent Before) e = agent_fell c s (answer c (StopAgent agent Before)) agent StopWithout
+fallen_sourced c s (StopAgent agent After) e = agent_fell c s (answer c (StopAgent agent After)) agent StopWith
 fallen_sourced c s StopMaster e = by_test c s (nat_lt c.world.run.number last_run) (Ok (new_master_falls c)) (answer c StopMaster) (silent c c s (record (happening c Fell (Restart ∷ Halt ∷ [])) { registers = new_registers }) refl (restart_silent, (halt_silent, tt))) (answer_sourced c s StopMaster e)
 fallen_sourced c s (Take stream) e = answer_sourced c s (Take stream) e
 
@@ -333,7 +342,7 @@ record Goes (start : World) (h : History) (older : List Moment) : Type 0 where
   pub path : h.state.world ≡ after_all h.happenings start
   pub traced : Traced older (trail h.happenings start [])
 
-goes_on : (start : World) (h : History) (older : List Moment) (s : Marked) (r : Result Done StepRefusal) → Sourced h.state s r → Goes start h older → Goes start (extended h r) (noted h.state s r older)
+goes_on : (start : World) (h : History) (older : List Moment) (s : Marked) (r : Result Done ClusterFault) → Sourced h.state s r → Goes start h older → Goes start (extended h r) (noted h.state s r older)
 goes_on start h older s (Err refusal) src goes = goes
 goes_on start h older s (Ok d) src goes = record {
   path = src.0 ∙ (ap (after_all d.happenings) goes.path ∙ sym (after_append h.happenings d.happenings start));

@@ -20,12 +20,16 @@ use Rattle.mails.specs.declared.task.Job.{Job}
 use Rattle.mails.specs.declared.task.Offer.{Offer}
 use Rattle.cluster_model.specs.Calls.{good_side, given_by, passes_limits, accepts_all, accepted_from, on_accept, is_stream, on_its_stream, by_known, called}
 use Rattle.cluster_model.specs.Channels.{Channel, ChannelStep, ByMaster, Hear, ByAgent, heard_mail, happens, World, Happening, At, TearDown, Restart, Halt, at_agent, with_side, after, after_all}
-use Rattle.cluster_model.specs.Clusters.{Cluster, sides_of, master_of, Called, Deliver, StepRefusal, MasterDown, HistoryFull, Fine}
+use Rattle.cluster_histories.specs.Clusters.{Cluster, sides_of, master_of, Called}
+use Rattle.cluster_steps.specs.declared.step.Step.TheVariants.{Deliver}
+use Rattle.cluster_steps.specs.declared.fault.ClusterFault.{ClusterFault}
+use Rattle.cluster_steps.specs.declared.fault.ClusterFault.TheVariants.{MasterDown, HistoryFull}
+use Rattle.cluster_steps.specs.declared.verdict.Verdict.TheVariants.{Ok as Fine}
 use Rattle.cluster_model.specs.Ids.{same, first_of_run, is_among, is_empty, is_repeated, last_number}
 use Rattle.cluster_model.specs.Masters.{Framework, Master, Doing, refused, framework_of, is_torn, withdraws_on}
 use Rattle.cluster_model.specs.Openings.{NamesOnce}
 use Rattle.cluster_model.specs.Sides.{Run, Side, Sending, sends_nothing, issue, Launching, launch_all, is_named, has_offer, is_good, used_offers, without_used, offer_rows, taken, may_offer, accepted, heard_update, forget_all, last_session, opens, opened, counts, shut, SideStep, MakeOffer, Withdraw, LaunchFrom, SendKill, SendAck, SendEnd, SendHello, SendAgain, Lose, side_step}
-use Rattle.cluster_model.specs.Steps.{Done, happening_of, verdict_of, master_does, delivers, with_master, answer, master_falls, instead, fallen_answer, Marked, step_marked}
+use Rattle.cluster_histories.specs.Steps.{Done, happening_of, verdict_of, master_does, delivers, with_master, answer, master_falls, instead, fallen_answer, Marked, step_marked}
 use Rattle.cluster_safe.specs.Facts.{Less}
 use Rattle.cluster_safe.specs.Offered.{IsAmong}
 use Rattle.cluster_safe.specs.Origin.{Mark, Made, Used, WasMade, marks_by}
@@ -313,7 +317,7 @@ accept_spends rs c marks x o ids tasks seconds stream ok a k among = known_spend
         rw front among
 
 -- what the answer to its step leaves
-abbrev Spent : Numbered → Result Done StepRefusal → Type 0
+abbrev Spent : Numbered → Result Done ClusterFault → Type 0
 Spent id (Ok d) = d.entry.verdict ≡ Fine → Gone id d.after.world
 Spent id (Err refusal) = ⊤
 
@@ -321,11 +325,11 @@ verdict_fine : (o : Option MasterRefusal) → verdict_of o ≡ Fine → o ≡ No
 verdict_fine None e = refl
 verdict_fine (Some refusal) e = absurd cc
 
-spent_if : (id : Numbered) (b : Bool) (x y : Result Done StepRefusal) → Spent id x → Spent id y → Spent id (if b then x else y)
+spent_if : (id : Numbered) (b : Bool) (x y : Result Done ClusterFault) → Spent id x → Spent id y → Spent id (if b then x else y)
 spent_if id true x y p q = p
 spent_if id false x y p q = q
 
-fell_spends : (id : Numbered) (c : Cluster) (r : Result Done StepRefusal) → Spent id (instead r (master_falls c))
+fell_spends : (id : Numbered) (c : Cluster) (r : Result Done ClusterFault) → Spent id (instead r (master_falls c))
 fell_spends id c (Ok d) = λ e. absurd cc
 fell_spends id c (Err refusal) = tt
 

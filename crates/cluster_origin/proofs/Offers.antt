@@ -10,8 +10,8 @@ use Rattle.cluster_model.specs.Channels.{Channel, ByMaster, happens, World, at_a
 use Rattle.cluster_model.specs.Events.{MadeOffer}
 use Rattle.cluster_model.specs.Masters.{Master, AtSide, moved}
 use Rattle.cluster_model.specs.Rounds.{entered_on, entered, making, round, allocated}
-use Rattle.cluster_model.specs.Clusters.{Cluster, sides_of, master_of}
-use Rattle.cluster_model.specs.Steps.{happening_of}
+use Rattle.cluster_histories.specs.Clusters.{Cluster, sides_of, master_of}
+use Rattle.cluster_histories.specs.Steps.{happening_of}
 use Rattle.cluster_safe.specs.Offered.{IsAmong, IsTold}
 use Rattle.cluster_safe.specs.Origin.{Mark, Made, Used, marks_at, marks_in, trail}
 use Rattle.cluster_safe.proofs.Alone.{master_alone}

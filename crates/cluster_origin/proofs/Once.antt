@@ -12,11 +12,16 @@ use Rattle.mails.specs.declared.record.Durable.{Durable}
 use Rattle.mails.specs.declared.task.Job.{Job}
 use Rattle.mails.specs.declared.task.Offer.{Offer}
 use Rattle.cluster_model.specs.Channels.{Channel, World, after_all, open_world}
-use Rattle.cluster_model.specs.Clusters.{Cluster, Step, Tick, Sent, CallSent, MailToAgent, MailToMaster, StepRefusal}
+use Rattle.cluster_histories.specs.Clusters.{Cluster}
+use Rattle.cluster_steps.specs.declared.step.Step.{Step}
+use Rattle.cluster_steps.specs.declared.step.Step.TheVariants.{Tick}
+use Rattle.cluster_steps.specs.declared.verdict.Sent.{Sent}
+use Rattle.cluster_steps.specs.declared.verdict.Sent.TheVariants.{Call as CallSent, ToAgent as MailToAgent, ToMaster as MailToMaster}
+use Rattle.cluster_steps.specs.declared.fault.ClusterFault.{ClusterFault}
 use Rattle.cluster_model.specs.Ids.{same, is_among}
 use Rattle.cluster_model.specs.Openings.{GoodOpening, KeysOnce, recorded_jobs}
 use Rattle.cluster_model.specs.Sides.{is_named, job_rows, offer_rows}
-use Rattle.cluster_model.specs.Steps.{Setup, Done, hello_to, Marked, History, step_marked, opening, extended, extend_all, history}
+use Rattle.cluster_histories.specs.Steps.{Setup, Done, hello_to, Marked, History, step_marked, opening, extended, extend_all, history}
 use Rattle.cluster_safe.specs.Facts.{AtMost}
 use Rattle.cluster_safe.specs.Listed.{IsListed}
 use Rattle.cluster_safe.specs.Offered.{IsAmong}
@@ -98,7 +103,7 @@ once_in records m marks ok (Used u) h =
     let own = each_among (ChannelOk records m.before.world.run marks) m.before.world.channels h.channel ok.channels h.among in
     subst DistinctOffers (sym h.offers) (offers_kept m.before.world.run.next_offer marks h.channel.side.name (is_named u.framework u.ids) h.channel.side.offers own.0).1
 
-goes_on : (records : List Durable) (start : World) (h : History) (older : List Moment) (s : Marked) (r : Result Done StepRefusal) → step_marked h.state s ≡ r → Sourced h.state s r → Goes records start h older → Goes records start (extended h r) (noted h.state s r older)
+goes_on : (records : List Durable) (start : World) (h : History) (older : List Moment) (s : Marked) (r : Result Done ClusterFault) → step_marked h.state s ≡ r → Sourced h.state s r → Goes records start h older → Goes records start (extended h r) (noted h.state s r older)
 goes_on records start h older s (Err refusal) e src goes = goes
 goes_on records start h older s (Ok d) e src goes = record {
   path = src.0 ∙ (ap (after_all d.happenings) goes.path ∙ sym (after_append h.happenings d.happenings start));

@@ -12,10 +12,13 @@ use Rattle.mails.specs.declared.mail.MasterMail.{MasterMail}
 use Rattle.mails.specs.declared.mail.MasterMail.TheVariants.{Issued}
 use Rattle.mails.specs.declared.task.Job.{Job}
 use Rattle.cluster_model.specs.Channels.{Channel, AgentStep, ChannelStep, ByMaster, Hear, ByAgent, heard_mail, happens, at_agent, with_side}
-use Rattle.cluster_model.specs.Clusters.{Sent, CallSent, MailToAgent, MailToMaster, Step, Tick}
+use Rattle.cluster_steps.specs.declared.verdict.Sent.{Sent}
+use Rattle.cluster_steps.specs.declared.verdict.Sent.TheVariants.{Call as CallSent, ToAgent as MailToAgent, ToMaster as MailToMaster}
+use Rattle.cluster_steps.specs.declared.step.Step.{Step}
+use Rattle.cluster_steps.specs.declared.step.Step.TheVariants.{Tick}
 use Rattle.cluster_model.specs.Ids.{is_among, is_empty, is_repeated}
 use Rattle.cluster_model.specs.Sides.{Run, Side, Sending, sends_nothing, issue, books, Launching, may_launch, launch_all, is_good, used_offers, without_used, offer_rows, may_offer, SideStep, MakeOffer, Withdraw, LaunchFrom, SendKill, SendAck, SendEnd, SendHello, SendAgain, Lose, side_step}
-use Rattle.cluster_model.specs.Steps.{new_to_agent, new_to_master, sent_in, sent_between}
+use Rattle.cluster_histories.specs.Steps.{new_to_agent, new_to_master, sent_in, sent_between}
 use Rattle.cluster_safe.specs.Origin.{launched, use_of, marks_at, marks_of, marks_in, jobs_of}
 use Rattle.cluster_safe.proofs.Drafts.{both_true}
 use Rattle.cluster_safe.proofs.SideNames.{agent_beside}

@@ -7,7 +7,7 @@ use Rattle.cluster_model.specs.Sides.{Run, Side, halted, restarted, SideStep, Ma
 use Rattle.cluster_model.specs.Channels.{Channel, AgentStep, ChannelStep, ByMaster, Hear, ByAgent, World, Happening, At, Restart, Halt, after}
 use Rattle.cluster_model.specs.Masters.{Move, AtSide, TearDownAll, RestartAll, HaltAll}
 use Rattle.cluster_model.specs.Mails.{ticks}
-use Rattle.cluster_model.specs.Steps.{sent_between, sent_by, happening_of, hello_to}
+use Rattle.cluster_histories.specs.Steps.{sent_between, sent_by, happening_of, hello_to}
 use Rattle.cluster_safe.specs.Origin.{Mark, marks_at, marks_of, marks_in, marks_by, trail, jobs_of}
 use Rattle.cluster_origin.specs.Launches.{launches_in}
 use Rattle.cluster_origin.proofs.Sent.{in_append, none_sent, same_sent, NotAgain, SendsItsMarks, by_master, by_hearing, by_agent, at_sends}

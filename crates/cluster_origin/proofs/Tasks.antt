@@ -7,10 +7,10 @@ use Rattle.mails.specs.declared.record.Durable.{Durable}
 use Rattle.mails.specs.declared.task.Job.{Job}
 use Rattle.mails.specs.declared.task.Offer.{Offer}
 use Rattle.cluster_model.specs.Channels.{Channel, open_world}
-use Rattle.cluster_model.specs.Clusters.{Deliver, Allocate}
+use Rattle.cluster_steps.specs.declared.step.Step.TheVariants.{Deliver, Allocate}
 use Rattle.cluster_model.specs.Events.{MadeOffer}
 use Rattle.cluster_model.specs.Openings.{GoodOpening}
-use Rattle.cluster_model.specs.Steps.{Setup, Marked, history}
+use Rattle.cluster_histories.specs.Steps.{Setup, Marked, history}
 use Rattle.cluster_safe.specs.Offered.{IsAmong}
 use Rattle.cluster_safe.specs.Origin.{Mark, Made, Used, Use, IsOneOf, IsTrail, From, HasOrigin, WasMade, NotUsed, jobs_on, recorded_on, trail}
 use Rattle.cluster_safe.proofs.Histories.{history_origin}

@@ -16,11 +16,16 @@ use Rattle.mails.specs.declared.mail.MasterMail.TheVariants.{Hello, Issued}
 use Rattle.mails.specs.declared.record.Durable.{Durable}
 use Rattle.mails.specs.declared.task.Job.{Job}
 use Rattle.cluster_model.specs.Channels.{Channel, ChannelStep, ByMaster, Hear, ByAgent, heard_mail, agent_step, happens, World, Happening, At, TearDown, Restart, Halt, at_agent, with_side, open_channel, after, after_all}
-use Rattle.cluster_model.specs.Clusters.{Cluster, sides_of, master_of, Sent, CallSent, MailToAgent, MailToMaster, StepRefusal, MasterDown, HistoryFull, TimeBack, Tick, Fell}
+use Rattle.cluster_histories.specs.Clusters.{Cluster, sides_of, master_of}
+use Rattle.cluster_steps.specs.declared.verdict.Sent.{Sent}
+use Rattle.cluster_steps.specs.declared.verdict.Sent.TheVariants.{Call as CallSent, ToAgent as MailToAgent, ToMaster as MailToMaster}
+use Rattle.cluster_steps.specs.declared.fault.ClusterFault.{ClusterFault}
+use Rattle.cluster_steps.specs.declared.fault.ClusterFault.TheVariants.{MasterDown, HistoryFull, TimeBack}
+use Rattle.cluster_steps.specs.declared.step.Step.TheVariants.{Tick}
 use Rattle.cluster_model.specs.Ids.{is_among, last_number}
 use Rattle.cluster_model.specs.Mails.{ticks, ticked}
 use Rattle.cluster_model.specs.Sides.{Run, Side, Sending, sends_nothing, issue, oldest_again, books, Launching, may_launch, launch_one, launch_all, is_good, used_offers, without_used, offer_rows, may_offer, heard_update, forget_all, last_session, opens, opened, counts, shut, halted, SideStep, MakeOffer, Withdraw, LaunchFrom, SendKill, SendAck, SendEnd, SendHello, SendAgain, Lose, side_step}
-use Rattle.cluster_model.specs.Steps.{new_to_agent, new_to_master, sent_in, sent_between, sent_by, Done, happening_of, with_tick, ticks_at, master_does, answer, master_falls, instead, fallen_answer, Marked, step_marked}
+use Rattle.cluster_histories.specs.Steps.{new_to_agent, new_to_master, sent_in, sent_between, sent_by, Done, happening_of, with_tick, ticks_at, master_does, answer, master_falls, instead, fallen_answer, Marked, step_marked}
 use Rattle.cluster_safe.specs.Offered.{IsAmong}
 use Rattle.cluster_safe.proofs.Drafts.{both_true}
 use Rattle.cluster_safe.proofs.Orders.{each_append}
@@ -253,15 +258,15 @@ as_before c [] f = tt
 as_before c (x ∷ cs) f = ((x, f x (inl refl), refl), as_before c cs (λ y k. f y (inr k)))
 
 -- all that the answer sends was sent before
-abbrev SendsOld : Cluster → Result Done StepRefusal → Type 0
+abbrev SendsOld : Cluster → Result Done ClusterFault → Type 0
 SendsOld c (Ok d) = Each (IsOld c) d.entry.outs.sent
 SendsOld c (Err refusal) = ⊤
 
-old_if : (c : Cluster) (b : Bool) (x y : Result Done StepRefusal) → SendsOld c x → SendsOld c y → SendsOld c (if b then x else y)
+old_if : (c : Cluster) (b : Bool) (x y : Result Done ClusterFault) → SendsOld c x → SendsOld c y → SendsOld c (if b then x else y)
 old_if c true x y p q = p
 old_if c false x y p q = q
 
-fell_old : (c now : Cluster) (r : Result Done StepRefusal) → SendsOld c (instead r (master_falls now))
+fell_old : (c now : Cluster) (r : Result Done ClusterFault) → SendsOld c (instead r (master_falls now))
 fell_old c now (Ok d) = each_append (IsOld c) (sent_between now.world.channels (map (with_side halted) now.world.channels)) [] (shut_old c halted now.world.channels) tt
 fell_old c now (Err refusal) = tt
 
@@ -275,6 +280,6 @@ ticks_again c s d waits e tick = by s.step refl tick
     all now = old_if c (nat_le last_number c.entries) (Err HistoryFull) (if s.fell then fallen_answer c (Tick now) else answer c (Tick now)) tt
         (old_if c s.fell (fallen_answer c (Tick now)) (answer c (Tick now)) (fell_old c (with_tick c now) (answer c (Tick now))) (tick_old c now waits))
 
-    by : (step : Rattle.cluster_model.specs.Clusters.Step) → s.step ≡ step → IsTick step → Each (IsOld c) d.entry.outs.sent
+    by : (step : Rattle.cluster_steps.specs.declared.step.Step.Step) → s.step ≡ step → IsTick step → Each (IsOld c) d.entry.outs.sent
     by (Tick now) is t = subst (SendsOld c) e (subst (λ st. SendsOld c (if nat_le last_number c.entries then Err HistoryFull else (if s.fell then fallen_answer c st else answer c st))) (sym is) (all now))
     by other is t = absurd t

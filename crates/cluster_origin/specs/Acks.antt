@@ -8,7 +8,7 @@ use Rattle.mails.specs.declared.mail.MasterMail.TheVariants.{Issued}
 use Rattle.mails.specs.declared.record.Durable.{Durable}
 use Rattle.mails.specs.declared.task.Job.{Job}
 use Rattle.cluster_model.specs.Channels.{Channel, World}
-use Rattle.cluster_model.specs.Clusters.{Post}
+use Rattle.cluster_histories.specs.Clusters.{Post}
 use Rattle.cluster_safe.specs.Acknowledged.{WasSent, WasCounted, recorded_tasks}
 use Rattle.cluster_safe.specs.Honest.{IsKeyOf}
 

@@ -1,8 +1,9 @@
 -- The entries of a history, each with the state before it.
 use Rattle.std.specs.Prelude.{List, [], ◌∷◌, Result, Ok, Err}
 use Rattle.mails.specs.declared.record.Durable.{Durable}
-use Rattle.cluster_model.specs.Clusters.{Cluster, StepRefusal}
-use Rattle.cluster_model.specs.Steps.{Setup, Done, History, Marked, extended, opening, step_marked}
+use Rattle.cluster_histories.specs.Clusters.{Cluster}
+use Rattle.cluster_steps.specs.declared.fault.ClusterFault.{ClusterFault}
+use Rattle.cluster_histories.specs.Steps.{Setup, Done, History, Marked, extended, opening, step_marked}
 
 -- a step that was taken: the state before it, and what it did, its entry among that
 pub record Moment : Type 0 where
@@ -11,7 +12,7 @@ pub record Moment : Type 0 where
   pub did : Done
 
 -- a step that is refused adds no entry
-abbrev pub noted : Cluster → Marked → Result Done StepRefusal → List Moment → List Moment
+abbrev pub noted : Cluster → Marked → Result Done ClusterFault → List Moment → List Moment
 noted c s (Ok d) older = record { before = c; step = s; did = d } ∷ older
 noted c s (Err refusal) older = older
 

@@ -12,11 +12,15 @@ use Rattle.mails.specs.declared.record.Durable.{Durable}
 use Rattle.mails.specs.declared.task.Job.{Job}
 use Rattle.mails.specs.declared.task.Offer.{Offer}
 use Rattle.cluster_model.specs.Channels.{Channel, World}
-use Rattle.cluster_model.specs.Clusters.{Cluster, Called, Deliver, Allocate, Fine, Sent, CallSent, MailToAgent, MailToMaster}
+use Rattle.cluster_histories.specs.Clusters.{Cluster, Called}
+use Rattle.cluster_steps.specs.declared.step.Step.TheVariants.{Deliver, Allocate}
+use Rattle.cluster_steps.specs.declared.verdict.Verdict.TheVariants.{Ok as Fine}
+use Rattle.cluster_steps.specs.declared.verdict.Sent.{Sent}
+use Rattle.cluster_steps.specs.declared.verdict.Sent.TheVariants.{Call as CallSent, ToAgent as MailToAgent, ToMaster as MailToMaster}
 use Rattle.cluster_model.specs.Events.{MadeOffer}
 use Rattle.cluster_model.specs.Ids.{is_among, is_empty}
 use Rattle.cluster_model.specs.Sides.{job_rows, offer_rows}
-use Rattle.cluster_model.specs.Steps.{post_at}
+use Rattle.cluster_histories.specs.Steps.{post_at}
 use Rattle.cluster_safe.specs.Facts.{AtMost}
 use Rattle.cluster_safe.specs.Listed.{IsListed}
 use Rattle.cluster_safe.specs.Offered.{IsAmong, IsTold}

@@ -4,7 +4,7 @@
 
 ghost use Rattle.cluster_model.specs.Channels.{open_world};
 ghost use Rattle.cluster_model.specs.Openings.{GoodOpening, recorded_jobs};
-ghost use Rattle.cluster_model.specs.Steps.{Setup, Marked, history};
+ghost use Rattle.cluster_histories.specs.Steps.{Setup, Marked, history};
 ghost use Rattle.cluster_origin.specs.Acks.{AcksAreOwners};
 ghost use Rattle.cluster_origin.specs.Entries.{moments};
 ghost use Rattle.cluster_origin.specs.Launches.{Origin};

@@ -5,9 +5,9 @@ use Rattle.std.specs.Cmp.Lexicographic.{bytes_decides}
 use Rattle.std.proofs.lemmas.Iterator.Adapters.{position_from-zero}
 use Rattle.std.proofs.lemmas.Map.Views.{any-filter_same}
 use Rattle.cluster_model.specs.Channels.{Channel}
-use Rattle.cluster_model.specs.Clusters.{Cluster}
+use Rattle.cluster_histories.specs.Clusters.{Cluster}
 use Rattle.cluster_model.specs.Openings.{NamesOnce}
-use Rattle.cluster_model.specs.Steps.{channel_of}
+use Rattle.cluster_histories.specs.Steps.{channel_of}
 use Rattle.cluster_laws.specs.Items.{names_of}
 use Rattle.cluster_laws.specs.Parts.{Part, part_of, parts_of}
 use Rattle.cluster_parts.specs.Agents.{KeptAgent, place_in}

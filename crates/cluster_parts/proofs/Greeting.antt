@@ -1,10 +1,11 @@
 -- A master that begins a run greets every agent, and stays as it is.
 use Rattle.std.proofs.Common.{◌≡◌, ℕ, List, [], ◌∷◌, map, refl, ap, ◌∙◌, bytes_eq}
 use Rattle.std.proofs.lemmas.Bool.{cond_both}
-use Rattle.cluster_model.specs.Clusters.{Cluster, MailToAgent, master_of}
+use Rattle.cluster_histories.specs.Clusters.{Cluster, master_of}
+use Rattle.cluster_steps.specs.declared.verdict.Sent.TheVariants.{ToAgent as MailToAgent}
 use Rattle.cluster_model.specs.Masters.{AtSide, Doing, Master, Moved, after_doing, at_side, at_this_side, move, move_all, moved, past_side, unmoved}
 use Rattle.cluster_model.specs.Sides.{Run, SendHello, Side, side_step}
-use Rattle.cluster_model.specs.Steps.{Effect, done, effect_of, greets_all}
+use Rattle.cluster_histories.specs.Steps.{Effect, done, effect_of, greets_all}
 use Rattle.cluster_laws.specs.Parts.{greeting}
 
 abbrev SameMoved : Run → List Side → Moved → Type 0

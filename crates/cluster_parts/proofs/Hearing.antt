@@ -7,13 +7,19 @@ use Rattle.mails.specs.declared.mail.ToMaster.{ToMaster}
 use Rattle.mails.specs.declared.record.Durable.{Durable}
 use Rattle.mails.specs.declared.refusal.MasterRefusal.{MasterRefusal}
 use Rattle.cluster_model.specs.Channels.{At, Channel, Hear}
-use Rattle.cluster_model.specs.Clusters.{Cluster, Deliver, MailToAgent, Up, Sent, Step, StepRefusal, MasterDown, NoSuchMail, master_of, sides_of}
+use Rattle.cluster_histories.specs.Clusters.{Cluster, Up, master_of, sides_of}
+use Rattle.cluster_steps.specs.declared.step.Step.TheVariants.{Deliver}
+use Rattle.cluster_steps.specs.declared.verdict.Sent.TheVariants.{ToAgent as MailToAgent}
+use Rattle.cluster_steps.specs.declared.verdict.Sent.{Sent}
+use Rattle.cluster_steps.specs.declared.step.Step.{Step}
+use Rattle.cluster_steps.specs.declared.fault.ClusterFault.{ClusterFault}
+use Rattle.cluster_steps.specs.declared.fault.ClusterFault.TheVariants.{MasterDown, NoSuchMail}
 use Rattle.cluster_model.specs.Mails.{having_heard, mailed}
 use Rattle.cluster_model.specs.Masters.{Doing, Master, after_doing, moved}
 use Rattle.cluster_model.specs.Openings.{GoodOpening}
 use Rattle.cluster_model.specs.Sides.{Side, halted}
-use Rattle.cluster_model.specs.Steps.{Setup, Done, Marked, answer, channel_of, delivers, delivers_up, done, effect_of, fallen_answer, history, instead, master_falls, master_hears, post_at}
-use Rattle.cluster_model.specs.Steps as steps
+use Rattle.cluster_histories.specs.Steps.{Setup, Done, Marked, answer, channel_of, delivers, delivers_up, done, effect_of, fallen_answer, history, instead, master_falls, master_hears, post_at}
+use Rattle.cluster_histories.specs.Steps as steps
 use Rattle.cluster_laws.proofs.Found.{found_has}
 use Rattle.cluster_laws.proofs.Lists.{each_all}
 use Rattle.cluster_laws.specs.declared.item.Item.{Item}
@@ -22,13 +28,12 @@ use Rattle.cluster_laws.specs.Items.{StandIn, items_sent}
 use Rattle.cluster_laws.specs.Parts.{parts_of}
 use Rattle.cluster_laws.specs.Premises.{AreRecorded, IsDown, IsUp}
 use Rattle.cluster_laws.specs.Runs.{AreRising, SameRun, ids_of}
-use Rattle.cluster_steps.specs.declared.entry.Outputs.{Outputs}
-use Rattle.cluster_steps.specs.declared.entry.Sent as code
-use Rattle.cluster_steps.specs.declared.entry.Verdict.{Verdict}
-use Rattle.cluster_steps.specs.declared.entry.Verdict.TheVariants as verdicts
-use Rattle.cluster_steps.specs.declared.fault.ClusterFault.{ClusterFault}
+use Rattle.cluster_entries.specs.declared.entry.Outputs.{Outputs}
+use Rattle.cluster_steps.specs.declared.verdict.Sent as code
+use Rattle.cluster_steps.specs.declared.verdict.Verdict.{Verdict}
+use Rattle.cluster_steps.specs.declared.verdict.Verdict.TheVariants as verdicts
 use Rattle.cluster_steps.specs.declared.fault.ClusterFault.TheVariants as faults
-use Rattle.cluster_steps.specs.Steps.{fell, sent_of, verdict_of}
+use Rattle.cluster_steps.specs.Verdicts.{fell}
 use Rattle.master_core.specs.declared.master.HeardMail.{HeardMail}
 use Rattle.master_core.specs.Steps.{Hears, outs_of}
 use Rattle.agent_sides.specs.Named.{mailed_by}
@@ -109,7 +114,7 @@ delivering b number = record { fell = b; step = Deliver number }
 
 -- where the mail was heard: its outs are told, refused or not
 heard_told : HearLaws → (c : Cluster) (number : ℕ) (to : ToMaster) (items : List Item) (verdict : Verdict) → Reached c → AreWithin c.streams → StandIn c items → c.world.run.serves ≡ true → (come : Comes c number to) →
-    fell verdict ≡ false → verdict ≡ verdict_of (steps.verdict_of (mailed (master_of c) come.x.side to.mail).refusal) →
+    fell verdict ≡ false → verdict ≡ (steps.verdict_of (mailed (master_of c) come.x.side to.mail).refusal) →
     MasterMakes c (Deliver number) c.last_tick (record (tells (outs_of (having_heard (master_of c) to.agent to.mail) (mailed (master_of c) come.x.side to.mail))) { verdict = verdict })
     (Some (Some (after_doing (having_heard (master_of c) to.agent to.mail) (mailed (master_of c) come.x.side to.mail))))
     (items ++ map item_to (outs_of (having_heard (master_of c) to.agent to.mail) (mailed (master_of c) come.x.side to.mail)).mails)
@@ -118,7 +123,7 @@ heard_told laws c number to items verdict r within stand serves come fine is = r
   done = D;
   answers = if_it_is_up (fell verdict) (fallen_answer c (Deliver number)) (answer c (Deliver number)) fine ∙ answers;
   ends = is;
-  brings = ap (told_with (map written d.events) d.closes) (sym (told_so mails)) ∙ ap (λ (xs : List Sent). told_with (map written d.events) d.closes (map sent_of xs)) (sym sends);
+  brings = ap (told_with (map written d.events) d.closes) (sym (told_so mails)) ∙ ap (λ (xs : List Sent). told_with (map written d.events) d.closes xs) (sym sends);
   drafts = refl;
   stands = record {
     as_master = ap (λ (m : Master). Some (Some m)) (sym after) ∙ sym (serving (master_of D.after) (same.serves ∙ serves));
@@ -160,8 +165,8 @@ told_as_refused : HearLaws → (c : Cluster) (number : ℕ) (to : ToMaster) (ite
     (Some (Some (after_doing (having_heard (master_of c) to.agent to.mail) (mailed (master_of c) come.x.side to.mail))))
     (items ++ map item_to (outs_of (having_heard (master_of c) to.agent to.mail) (mailed (master_of c) come.x.side to.mail)).mails)
     (heard (mailed (master_of c) come.x.side to.mail).opens (map written (mailed (master_of c) come.x.side to.mail).events) (kept_streams c.streams))
-told_as_refused laws c number to items None r within stand serves come is = heard_told laws c number to items verdicts.Ok r within stand serves come refl (ap (λ o. verdict_of (steps.verdict_of o)) is)
-told_as_refused laws c number to items (Some refusal) r within stand serves come is = heard_told laws c number to items (verdicts.MasterRefused refusal) r within stand serves come refl (ap (λ o. verdict_of (steps.verdict_of o)) is)
+told_as_refused laws c number to items None r within stand serves come is = heard_told laws c number to items verdicts.Ok r within stand serves come refl (ap steps.verdict_of is)
+told_as_refused laws c number to items (Some refusal) r within stand serves come is = heard_told laws c number to items (verdicts.MasterRefused refusal) r within stand serves come refl (ap steps.verdict_of is)
 
 -- where memory was refused
 mail_falls : HearLaws → (c : Cluster) (number : ℕ) (to : ToMaster) (items : List Item) → Reached c → AreWithin c.streams → StandIn c items → c.world.run.serves ≡ true → Comes c number to →
@@ -170,7 +175,7 @@ mail_falls laws c number to items r within stand serves come = record {
   done = master_falls c;
   answers = answers;
   ends = refl;
-  brings = ap (λ (xs : List Sent). sending (map sent_of xs)) (sym silent);
+  brings = ap (λ (xs : List Sent). sending xs) (sym silent);
   drafts = refl;
   stands = record {
     as_master = sym (not_serving (master_of (master_falls c).after) (laws.more.down c));
@@ -185,7 +190,7 @@ mail_falls laws c number to items r within stand serves come = record {
 }
   where
     answers : fallen_answer c (Deliver number) ≡ Ok (master_falls c)
-    answers = ap (λ (o : Result Done StepRefusal). instead o (master_falls c)) (it_answers c number to serves come)
+    answers = ap (λ (o : Result Done ClusterFault). instead o (master_falls c)) (it_answers c number to serves come)
 
     silent : (master_falls c).entry.outs.sent ≡ []
     silent = ap (λ (xs : List Sent). xs ++ []) (sides_send_nothing halted c.world.channels)

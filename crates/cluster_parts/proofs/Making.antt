@@ -7,14 +7,18 @@ use Rattle.mails.specs.declared.cause.Cause.{Cause}
 use Rattle.cluster_model.specs.Ids.{last_number}
 use Rattle.cluster_model.specs.Agents.{Draft, hears_mail, next_of, recovered}
 use Rattle.cluster_model.specs.Channels.{Channel, AgentStep, Draw, DrawMail, Adopt, StopWithout, StopWith, At, ByAgent, agent_step, is_own}
-use Rattle.cluster_model.specs.Clusters.{Cluster, Sent, Step, Stream, HistoryFull, Verdict, master_of}
+use Rattle.cluster_histories.specs.Clusters.{Cluster, Stream, master_of}
+use Rattle.cluster_steps.specs.declared.verdict.Sent.{Sent}
+use Rattle.cluster_steps.specs.declared.step.Step.{Step}
+use Rattle.cluster_steps.specs.declared.fault.ClusterFault.TheVariants.{HistoryFull}
+use Rattle.cluster_steps.specs.declared.verdict.Verdict.{Verdict}
 use Rattle.cluster_model.specs.Openings.{GoodOpening, NamesOnce}
-use Rattle.cluster_model.specs.Steps.{Setup, Done, Marked, answer, done, fallen_answer, happening, hears, history, step_marked, streams_after}
+use Rattle.cluster_histories.specs.Steps.{Setup, Done, Marked, answer, done, fallen_answer, happening, hears, history, step_marked, streams_after}
 use Rattle.cluster_laws.specs.declared.item.Item.{Item}
 use Rattle.cluster_laws.specs.Items.{StandIn, call_of, items_sent, names_of, new_items}
 use Rattle.cluster_laws.specs.Parts.{IsSilent, Part, from_agent, part_of, parts_of}
-use Rattle.cluster_steps.specs.declared.entry.Verdict as verdicts
-use Rattle.cluster_steps.specs.Steps.{fell, sent_of, verdict_of}
+use Rattle.cluster_steps.specs.declared.verdict.Verdict as verdicts
+use Rattle.cluster_steps.specs.Verdicts.{fell}
 use Rattle.cluster_parts.specs.Moves.{Makes, Reached, kept_agents, kept_part, sending}
 use Rattle.cluster_parts.proofs.Finding.{SameBut, one_changes}
 
@@ -89,7 +93,7 @@ pub record OneMoves (c : Cluster) (s : Step) (place : ℕ) (verdict : verdicts.V
   pub step : AgentStep
   pub ends_as : Verdict
   pub there : slice_get c.world.channels place ≡ Some x
-  pub ends : verdict ≡ verdict_of ends_as
+  pub ends : verdict ≡ ends_as
   pub answers : (if fell verdict then fallen_answer c s else answer c s) ≡ Ok (done_at c fallen ends_as x step)
   pub becomes : part_of (agent_step x step) ≡ p
   pub same : SameBut x.side.name c.fallen fallen
@@ -97,12 +101,12 @@ pub record OneMoves (c : Cluster) (s : Step) (place : ℕ) (verdict : verdicts.V
 
 pub one_moves : Laws → (c : Cluster) (s : Step) (place : ℕ) (verdict : verdicts.Verdict) (sent : List Sent) (fallen : List (List ℕ)) (p : Part) (items : List Item) →
     Reached c → StandIn c items → OneMoves c s place verdict sent fallen p →
-    Makes c s verdict (sending (map sent_of sent)) (slice_set (kept_agents c) place (kept_part fallen p)) (items ++ items_sent (call_of s) sent)
+    Makes c s verdict (sending sent) (slice_set (kept_agents c) place (kept_part fallen p)) (items ++ items_sent (call_of s) sent)
 one_moves laws c s place verdict sent fallen p items r stand m = record {
   done = d;
   answers = m.answers;
   ends = m.ends;
-  brings = ap (λ (xs : List Sent). sending (map sent_of xs)) (sym m.sends);
+  brings = ap (λ (xs : List Sent). sending xs) (sym m.sends);
   keeps_agents = sym (ap (map (kept_part fallen)) parts ∙ one_changes c.fallen fallen c.world.channels place m.x p once m.there m.same);
   keeps_items = subst (λ (xs : List Sent). StandIn d.after (items ++ items_sent (call_of s) xs)) m.sends (items_stand laws c marks d items r m.answers stand);
   leaves_master = laws.master (with_fallen fallen c) m.ends_as m.x.side.name m.step;

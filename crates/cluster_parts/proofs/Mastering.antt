@@ -6,20 +6,23 @@ use Rattle.mails.specs.declared.mail.ToAgent.{ToAgent}
 use Rattle.mails.specs.declared.refusal.MasterRefusal.{MasterRefusal}
 use Rattle.names_core.specs.Ids.{Numbered}
 use Rattle.cluster_model.specs.Channels.{Channel, with_side}
-use Rattle.cluster_model.specs.Clusters.{Cluster, MailToAgent, Sent, Step, Stream, StepRefusal, master_of}
+use Rattle.cluster_histories.specs.Clusters.{Cluster, Stream, master_of}
+use Rattle.cluster_steps.specs.declared.verdict.Sent.TheVariants.{ToAgent as MailToAgent}
+use Rattle.cluster_steps.specs.declared.verdict.Sent.{Sent}
+use Rattle.cluster_steps.specs.declared.step.Step.{Step}
+use Rattle.cluster_steps.specs.declared.fault.ClusterFault.{ClusterFault}
 use Rattle.cluster_model.specs.Events.{Told}
 use Rattle.cluster_model.specs.Masters.{Doing, Master, after_doing, moved, refused}
 use Rattle.cluster_model.specs.Sides.{halted}
-use Rattle.cluster_model.specs.Steps.{Setup, Done, History, Marked, answer, extend_all, extended, history, opening, step_marked, done, effect_of, fallen_answer, instead, master_does, master_falls, sent_between, streams_after, with_tick}
-use Rattle.cluster_model.specs.Steps as steps
+use Rattle.cluster_histories.specs.Steps.{Setup, Done, History, Marked, answer, extend_all, extended, history, opening, step_marked, done, effect_of, fallen_answer, instead, master_does, master_falls, sent_between, streams_after, with_tick}
+use Rattle.cluster_histories.specs.Steps as steps
 use Rattle.cluster_laws.specs.declared.item.Item.{Item}
 use Rattle.cluster_laws.specs.Items.{StandIn, call_of, items_sent}
 use Rattle.cluster_laws.specs.Parts.{parts_of}
 use Rattle.cluster_laws.specs.Runs.{AreRising, ids_of}
-use Rattle.cluster_steps.specs.declared.entry.Outputs.{Outputs}
-use Rattle.cluster_steps.specs.declared.entry.Sent as code
-use Rattle.cluster_steps.specs.declared.entry.Verdict.TheVariants as verdicts
-use Rattle.cluster_steps.specs.Steps.{sent_of, verdict_of}
+use Rattle.cluster_entries.specs.declared.entry.Outputs.{Outputs}
+use Rattle.cluster_steps.specs.declared.verdict.Sent as code
+use Rattle.cluster_steps.specs.declared.verdict.Verdict.TheVariants as verdicts
 use Rattle.master_core.specs.Steps.{Answers, outs_of}
 use Rattle.master_state.specs.Works.{written}
 use Rattle.master_state.specs.declared.fault.MasterFault.{MasterFault}
@@ -49,7 +52,7 @@ pub record MasterLaws : Type 0 where
 abbrev marks_so : Bool → Step → Marked
 marks_so b s = record { fell = b; step = s }
 
-told_so : (mails : List ToAgent) → map sent_of (map MailToAgent mails) ≡ map sent_to mails
+told_so : (mails : List ToAgent) → map MailToAgent mails ≡ map sent_to mails
 told_so [] = refl
 told_so (m ∷ ms) = ap (λ (xs : List code.Sent). sent_to m ∷ xs) (told_so ms)
 
@@ -79,8 +82,8 @@ pub doing_told : MasterLaws → (c : Cluster) (s : Step) (moment : ℕ) (d : Doi
 doing_told more c s moment d items r within stand serves how fine = record {
   done = D;
   answers = how.answers;
-  ends = ap (λ o. verdict_of (steps.verdict_of o)) (sym fine);
-  brings = ap (told_with (map written d.events) d.closes) (sym (told_so mails)) ∙ ap (λ (xs : List Sent). told_with (map written d.events) d.closes (map sent_of xs)) (sym sends);
+  ends = ap steps.verdict_of (sym fine);
+  brings = ap (told_with (map written d.events) d.closes) (sym (told_so mails)) ∙ ap (λ (xs : List Sent). told_with (map written d.events) d.closes xs) (sym sends);
   drafts = refl;
   stands = record {
     as_master = ap (λ (m : Master). Some (Some m)) (sym after) ∙ sym (serving (master_of D.after) (how.keeps.serves ∙ serves));
@@ -156,7 +159,7 @@ doing_falls more c s moment d items r within stand how = record {
   done = D;
   answers = answers;
   ends = refl;
-  brings = ap (λ (xs : List Sent). sending (map sent_of xs)) (sym silent);
+  brings = ap (λ (xs : List Sent). sending xs) (sym silent);
   drafts = refl;
   stands = record {
     as_master = sym (not_serving (master_of D.after) (more.down base));
@@ -177,7 +180,7 @@ doing_falls more c s moment d items r within stand how = record {
     D = master_falls base
 
     answers : fallen_answer c s ≡ Ok D
-    answers = how.falls ∙ ap (λ (o : Result Done StepRefusal). instead o (master_falls base)) how.answers
+    answers = how.falls ∙ ap (λ (o : Result Done ClusterFault). instead o (master_falls base)) how.answers
 
     silent : D.entry.outs.sent ≡ []
     silent = ap (λ (xs : List Sent). xs ++ []) (halt_sends c.world.channels)
@@ -223,7 +226,7 @@ extended_more h (s ∷ ss) m = extended_more (extended h (step_marked h.state s)
 pub state_then : (c : Cluster) (r : Reached c) (m : Marked) (d : Done) → (if m.fell then fallen_answer c m.step else answer c m.step) ≡ Ok d → (history r.setup r.records (r.steps ++ m ∷ [])).state ≡ d.after
 state_then c r m d e =
     let steps_so : step_marked (history r.setup r.records r.steps).state m ≡ Ok d = subst (λ (x : Cluster). step_marked x m ≡ Ok d) r.is (marked c m d r.room e) in
-    ap (λ (x : History). x.state) (extended_more (opening r.setup r.records) r.steps m) ∙ ap (λ (x : Result Done StepRefusal). (extended (history r.setup r.records r.steps) x).state) steps_so
+    ap (λ (x : History). x.state) (extended_more (opening r.setup r.records) r.steps m) ∙ ap (λ (x : Result Done ClusterFault). (extended (history r.setup r.records r.steps) x).state) steps_so
 
 pub streams_then_rise : MasterLaws → (c : Cluster) (s : Step) (moment : ℕ) (doing : Master → Doing) (answered : Result Outs MasterFault) (after : Option Master) → Reached c → Does c s moment (doing (master_of c)) → Answers answered (Some (master_of c)) after doing →
     IfOk answered (λ outs. AreRising (kept_ids (kept_streams c.streams) ++ outs.opened))

@@ -4,17 +4,19 @@ use Rattle.std.specs.Prelude.{IfOk}
 use Rattle.mails.specs.declared.mail.ToAgent.{ToAgent}
 use Rattle.mails.specs.declared.record.Durable.{Durable}
 use Rattle.agent_sides.specs.declared.config.ConfiguredAgent.{ConfiguredAgent}
-use Rattle.cluster_model.specs.Clusters.{Cluster, MailToAgent, Sent, master_of}
+use Rattle.cluster_histories.specs.Clusters.{Cluster, master_of}
+use Rattle.cluster_steps.specs.declared.verdict.Sent.TheVariants.{ToAgent as MailToAgent}
+use Rattle.cluster_steps.specs.declared.verdict.Sent.{Sent}
 use Rattle.cluster_model.specs.Masters.{Master, moved}
 use Rattle.cluster_model.specs.Openings.{GoodOpening}
-use Rattle.cluster_model.specs.Steps.{Setup, Done, open_cluster, opened_over, opening, unweighted}
+use Rattle.cluster_histories.specs.Steps.{Setup, Done, open_cluster, opened_over, opening, unweighted}
 use Rattle.cluster_laws.specs.declared.item.Item.{Item}
 use Rattle.cluster_laws.specs.Items.{StandIn, items_sent}
 use Rattle.cluster_laws.specs.Parts.{AreAgentsOf, greeting, parts_of, recovered_part}
 use Rattle.cluster_laws.specs.Runs.{AreRising}
-use Rattle.cluster_steps.specs.declared.entry.Sent as code
-use Rattle.cluster_steps.specs.declared.entry.Verdict.TheVariants as verdicts
-use Rattle.cluster_steps.specs.Steps.{outputs_of, sent_of}
+use Rattle.cluster_steps.specs.declared.verdict.Sent as code
+use Rattle.cluster_steps.specs.declared.verdict.Verdict.TheVariants as verdicts
+use Rattle.cluster_entries.specs.Entries.{outputs_of}
 use Rattle.master_core.specs.Steps.{outs_of}
 use Rattle.master_state.specs.declared.fault.MasterFault.{MasterFault}
 use Rattle.master_state.specs.declared.fault.MasterFault.TheVariants as fault
@@ -75,7 +77,7 @@ parts_open laws setup agents records outs made started n js ts of good begins br
     }
 
     outputs : made.outputs ≡ outputs_of D.entry.outs
-    outputs = ap (λ (m : Made). m.outputs) (t.is ∙ ap tells outs_so) ∙ ap (λ (xs : List code.Sent). sending xs) (sym (told_so mails)) ∙ ap (λ (xs : List Sent). sending (map sent_of xs)) (sym sends)
+    outputs = ap (λ (m : Made). m.outputs) (t.is ∙ ap tells outs_so) ∙ ap (λ (xs : List code.Sent). sending xs) (sym (told_so mails)) ∙ ap (λ (xs : List Sent). sending xs) (sym sends)
 
 no_fall : {A : Type 0} (made : Made) → made ≡ ends_with verdicts.OutOfMemory → made.verdict ≡ verdicts.Ok → A
 no_fall {A = A} made is fine = absurd (let clash : verdicts.OutOfMemory ≡ verdicts.Ok = sym (ap (λ (m : Made). m.verdict) is) ∙ fine in cc)

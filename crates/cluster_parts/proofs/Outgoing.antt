@@ -2,18 +2,17 @@
 use Rattle.std.proofs.Common.{◌≡◌, true, false, List, [], ◌∷◌, length, drop, map, Some, None, refl, ap}
 use Rattle.mails.specs.declared.mail.ToAgent.{ToAgent}
 use Rattle.cluster_model.specs.Channels.{Channel, with_side}
-use Rattle.cluster_model.specs.Clusters.{MailToAgent}
+use Rattle.cluster_steps.specs.declared.verdict.Sent.TheVariants.{ToAgent as MailToAgent}
 use Rattle.cluster_model.specs.Masters.{Master}
 use Rattle.cluster_model.specs.Sides.{Side}
-use Rattle.cluster_model.specs.Steps.{sent_between}
+use Rattle.cluster_histories.specs.Steps.{sent_between}
 use Rattle.cluster_laws.specs.declared.item.Item.{Item}
 use Rattle.cluster_laws.specs.Items.{items_sent}
-use Rattle.cluster_steps.specs.declared.entry.Sent as code
-use Rattle.cluster_steps.specs.Steps.{sent_of}
+use Rattle.cluster_steps.specs.declared.verdict.Sent as code
 use Rattle.cluster_parts.specs.Masters.{item_to, kept_master, sent_to}
 use Rattle.cluster_parts.proofs.Committing.{if_it_is_down, if_it_is_up}
 
-pub told_so : (mails : List ToAgent) → map sent_of (map MailToAgent mails) ≡ map sent_to mails
+pub told_so : (mails : List ToAgent) → map MailToAgent mails ≡ map sent_to mails
 told_so [] = refl
 told_so (m ∷ ms) = ap (λ (xs : List code.Sent). sent_to m ∷ xs) (told_so ms)
 

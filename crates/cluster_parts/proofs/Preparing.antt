@@ -17,18 +17,21 @@ use Rattle.names_core.specs.Ids.{Numbered}
 use Rattle.agent_core.specs.Drafts.{is_in_order}
 use Rattle.cluster_model.specs.Agents.{Draft, hears_mail, next_of, recovered}
 use Rattle.cluster_model.specs.Channels.{Channel, AgentStep, Draw, DrawMail, StopWithout, agent_step}
-use Rattle.cluster_model.specs.Clusters.{Cluster, Post, Called, Down, Up, Prepare, Step, StepRefusal, AgentDown, DraftOpen, NoSuchAgent, NoSuchMail, Fine, AgentRefused, Fell, Verdict}
-use Rattle.cluster_model.specs.Clusters as model
-use Rattle.cluster_model.specs.Steps.{Setup, Done, Marked, answer, agent_falls, at_channel, by_draft, channel_of, done, drafts, draws_mail, draws_mail_at, does, happening, history, if_up, instead, post_at, prepares, without_draft}
+use Rattle.cluster_histories.specs.Clusters.{Cluster, Post, Called, Down, Up}
+use Rattle.cluster_steps.specs.declared.step.Step.TheVariants.{Prepare}
+use Rattle.cluster_steps.specs.declared.step.Step.{Step}
+use Rattle.cluster_steps.specs.declared.fault.ClusterFault.{ClusterFault}
+use Rattle.cluster_steps.specs.declared.fault.ClusterFault.TheVariants.{AgentDown, DraftOpen, NoSuchAgent, NoSuchMail}
+use Rattle.cluster_steps.specs.declared.verdict.Verdict.TheVariants.{Ok as Fine, AgentRefused, OutOfMemory as Fell}
+use Rattle.cluster_steps.specs.declared.verdict.Verdict.{Verdict}
+use Rattle.cluster_histories.specs.Steps.{Setup, Done, Marked, answer, agent_falls, at_channel, by_draft, channel_of, done, drafts, draws_mail, draws_mail_at, does, happening, history, if_up, instead, post_at, prepares, without_draft}
 use Rattle.cluster_laws.specs.declared.item.Item.{Item}
 use Rattle.cluster_laws.specs.declared.item.Item.TheVariants as items
 use Rattle.cluster_laws.specs.Items.{StandIn}
 use Rattle.cluster_laws.specs.Parts.{IsSilent, Part, part_of}
 use Rattle.cluster_laws.specs.Premises.{IsDown, IsUp}
-use Rattle.cluster_steps.specs.Steps.{cause_of}
-use Rattle.cluster_steps.specs.declared.entry.Verdict as code
-use Rattle.cluster_steps.specs.declared.entry.Verdict.TheVariants as verdicts
-use Rattle.cluster_steps.specs.declared.fault.ClusterFault.{ClusterFault}
+use Rattle.cluster_steps.specs.declared.verdict.Verdict as code
+use Rattle.cluster_steps.specs.declared.verdict.Verdict.TheVariants as verdicts
 use Rattle.cluster_steps.specs.declared.fault.ClusterFault.TheVariants as faults
 use Rattle.cluster_steps.specs.declared.step.StepCause.{StepCause}
 use Rattle.cluster_steps.specs.declared.step.StepCause.TheVariants.{Start, Again, Executor, Mail}
@@ -82,7 +85,7 @@ drawn_part x d = record { name = x.side.name; agent = x.agent; draft = Some d }
 record Drawing (c : Cluster) (x : Channel) (cause : StepCause) (given : Cause) : Type 0 where
   step : AgentStep
   silent : IsSilent step
-  asks : prepares c (cause_of cause) x ≡ drafts c x step (next_of x.agent given)
+  asks : prepares c cause x ≡ drafts c x step (next_of x.agent given)
   becomes : (d : Draft) → next_of x.agent given ≡ Ok d → part_of (agent_step x step) ≡ drawn_part x d
 
 named : MoreLaws → (c : Cluster) (place : ℕ) (x : Channel) → Reached c → slice_get c.world.channels place ≡ Some x → x.agent.durable.name ≡ x.side.name
@@ -150,7 +153,7 @@ record Ready (c : Cluster) (name : List ℕ) (place : ℕ) (a : KeptAgent) : Typ
   here : channel_of c x.side.name ≡ Some x
   is : a ≡ kept_part c.fallen (part_of x)
   none : x.draft ≡ None
-  asked : (cause : StepCause) → answer c (Prepare x.side.name (cause_of cause)) ≡ prepares c (cause_of cause) x
+  asked : (cause : StepCause) → answer c (Prepare x.side.name cause) ≡ prepares c cause x
 
 ready : (c : Cluster) (name : List ℕ) (place : ℕ) (a : KeptAgent) → place_in name (kept_agents c) ≡ Some place → slice_get (kept_agents c) place ≡ Some a → a.is_down ≡ false → a.part.draft ≡ None → Ready c name place a
 ready c name place a e at is_up free = by (found c name place e)
@@ -167,9 +170,9 @@ ready c name place a e at is_up free = by (found c name place e)
           here = here;
           is = is;
           none = none;
-          asked = λ cause. ap (λ (o : Option Channel). at_channel o (if_up c (without_draft (prepares c (cause_of cause))))) here
-              ∙ if_it_is_up (kept_part c.fallen (part_of f.x)).is_down (Err AgentDown) (without_draft (prepares c (cause_of cause)) f.x) (ap (λ (b : KeptAgent). b.is_down) (sym is) ∙ is_up)
-              ∙ ap (λ (o : Option Draft). by_draft o (prepares c (cause_of cause) f.x) (Err DraftOpen)) none;
+          asked = λ cause. ap (λ (o : Option Channel). at_channel o (if_up c (without_draft (prepares c cause)))) here
+              ∙ if_it_is_up (kept_part c.fallen (part_of f.x)).is_down (Err AgentDown) (without_draft (prepares c cause) f.x) (ap (λ (b : KeptAgent). b.is_down) (sym is) ∙ is_up)
+              ∙ ap (λ (o : Option Draft). by_draft o (prepares c cause f.x) (Err DraftOpen)) none;
         }
 
 -- nothing moves
@@ -207,10 +210,10 @@ recovered_so x = record { name = x.side.name; agent = recovered x.agent; draft =
 
 -- a draft is open
 draws_one : MoreLaws → (c : Cluster) (name : List ℕ) (place : ℕ) (a : KeptAgent) (cause : StepCause) (given : Cause) (d : Draft) (sent : List Item) → Reached c → StandIn c sent → (y : Ready c name place a) → Drawing c y.x cause given → next_of a.part.agent given ≡ Ok d →
-    Makes c (Prepare y.x.side.name (cause_of cause)) verdicts.Ok (sending []) (slice_set (kept_agents c) place (with_part a.part.agent (Some d) a)) sent
+    Makes c (Prepare y.x.side.name cause) verdicts.Ok (sending []) (slice_set (kept_agents c) place (with_part a.part.agent (Some d) a)) sent
 draws_one more c name place a cause given d sent r stand y w e =
     let due : next_of y.x.agent given ≡ Ok d = ap (λ (b : KeptAgent). next_of b.part.agent given) (sym y.is) ∙ e in
-    let m : OneMoves c (Prepare y.x.side.name (cause_of cause)) place verdicts.Ok [] c.fallen (drawn_part y.x d) = record {
+    let m : OneMoves c (Prepare y.x.side.name cause) place verdicts.Ok [] c.fallen (drawn_part y.x d) = record {
       x = y.x;
       step = w.step;
       ends_as = Fine;
@@ -221,49 +224,49 @@ draws_one more c name place a cause given d sent r stand y w e =
       same = λ n differ. refl;
       sends = more.laws.silent c Fine y.x.side.name w.step w.silent;
     } in
-    subst (λ (b : KeptAgent). Makes c (Prepare y.x.side.name (cause_of cause)) verdicts.Ok (sending []) (slice_set (kept_agents c) place b) sent) (ap (λ (b : KeptAgent). with_part b.part.agent (Some d) b) (sym y.is))
-    (one_moves_silently more.laws c (Prepare y.x.side.name (cause_of cause)) place verdicts.Ok c.fallen (drawn_part y.x d) sent r stand m)
+    subst (λ (b : KeptAgent). Makes c (Prepare y.x.side.name cause) verdicts.Ok (sending []) (slice_set (kept_agents c) place b) sent) (ap (λ (b : KeptAgent). with_part b.part.agent (Some d) b) (sym y.is))
+    (one_moves_silently more.laws c (Prepare y.x.side.name cause) place verdicts.Ok c.fallen (drawn_part y.x d) sent r stand m)
 
 falls_so : MoreLaws → (c : Cluster) (name : List ℕ) (place : ℕ) (a : KeptAgent) (cause : StepCause) (given : Cause) (sent : List Item) → Reached c → StandIn c sent → (y : Ready c name place a) → Drawing c y.x cause given →
-    Makes c (Prepare y.x.side.name (cause_of cause)) verdicts.OutOfMemory (sending []) (slice_set (kept_agents c) place (goes_down (comes_up_without a))) sent
+    Makes c (Prepare y.x.side.name cause) verdicts.OutOfMemory (sending []) (slice_set (kept_agents c) place (goes_down (comes_up_without a))) sent
 falls_so more c name place a cause given sent r stand y w =
-    let m : OneMoves c (Prepare y.x.side.name (cause_of cause)) place verdicts.OutOfMemory [] (fallen_so c y.x.side.name) (recovered_so y.x) = record {
+    let m : OneMoves c (Prepare y.x.side.name cause) place verdicts.OutOfMemory [] (fallen_so c y.x.side.name) (recovered_so y.x) = record {
       x = y.x;
       step = StopWithout;
       ends_as = Fell;
       there = y.there;
       ends = refl;
-      answers = ap (λ (o : Result Done StepRefusal). instead o (agent_falls c y.x.side.name StopWithout)) (y.asked cause ∙ w.asks) ∙ any_draft c y.x w.step (next_of y.x.agent given) (agent_falls c y.x.side.name StopWithout);
+      answers = ap (λ (o : Result Done ClusterFault). instead o (agent_falls c y.x.side.name StopWithout)) (y.asked cause ∙ w.asks) ∙ any_draft c y.x w.step (next_of y.x.agent given) (agent_falls c y.x.side.name StopWithout);
       becomes = more.laws.stops_without y.x;
       same = falls_alone y.x.side.name c.fallen;
       sends = more.laws.silent (record c { fallen = fallen_so c y.x.side.name }) Fell y.x.side.name StopWithout tt;
     } in
     let down : kept_part (fallen_so c y.x.side.name) (recovered_so y.x) ≡ goes_down (comes_up_without a) = ap (kept_so (recovered_so y.x)) (is_down_then y.x.side.name (filter (λ a. not (bytes_eq a y.x.side.name)) c.fallen)) ∙ ap (λ (b : KeptAgent). goes_down (comes_up_without b)) (sym y.is) in
-    subst (λ (b : KeptAgent). Makes c (Prepare y.x.side.name (cause_of cause)) verdicts.OutOfMemory (sending []) (slice_set (kept_agents c) place b) sent) down
-    (one_moves_silently more.laws c (Prepare y.x.side.name (cause_of cause)) place verdicts.OutOfMemory (fallen_so c y.x.side.name) (recovered_so y.x) sent r stand m)
+    subst (λ (b : KeptAgent). Makes c (Prepare y.x.side.name cause) verdicts.OutOfMemory (sending []) (slice_set (kept_agents c) place b) sent) down
+    (one_moves_silently more.laws c (Prepare y.x.side.name cause) place verdicts.OutOfMemory (fallen_so c y.x.side.name) (recovered_so y.x) sent r stand m)
   where
     kept_so : Part → Bool → KeptAgent
     kept_so p b = record { part = p; is_down = b }
 
 drawn_so : MoreLaws → (c : Cluster) (name : List ℕ) (place : ℕ) (a new : KeptAgent) (cause : StepCause) (given : Cause) (verdict : code.Verdict) (sent : List Item) → Reached c → StandIn c sent → slice_get (kept_agents c) place ≡ Some a → (y : Ready c name place a) → Drawing c y.x cause given → Drawn verdict a new (next_of a.part.agent given) →
-    Makes c (Prepare y.x.side.name (cause_of cause)) verdict (sending []) (slice_set (kept_agents c) place new) sent
+    Makes c (Prepare y.x.side.name cause) verdict (sending []) (slice_set (kept_agents c) place new) sent
 drawn_so more c name place a new cause given verdicts.Ok sent r stand at y w (d, due, is) =
-    subst (λ (b : KeptAgent). Makes c (Prepare y.x.side.name (cause_of cause)) verdicts.Ok (sending []) (slice_set (kept_agents c) place b) sent) (sym is) (draws_one more c name place a cause given d sent r stand y w due)
+    subst (λ (b : KeptAgent). Makes c (Prepare y.x.side.name cause) verdicts.Ok (sending []) (slice_set (kept_agents c) place b) sent) (sym is) (draws_one more c name place a cause given d sent r stand y w due)
 drawn_so more c name place a new cause given (verdicts.MasterRefused refusal) sent r stand at y w h = absurd h
 drawn_so more c name place a new cause given (verdicts.AgentRefused refusal) sent r stand at y w (due, is) =
-    subst (λ (as_ : List KeptAgent). Makes c (Prepare y.x.side.name (cause_of cause)) (verdicts.AgentRefused refusal) (sending []) as_ sent) (sym (ap (slice_set (kept_agents c) place) is ∙ set_same (kept_agents c) place a at))
-    (stays more c (Prepare y.x.side.name (cause_of cause)) refusal sent r stand (y.asked cause ∙ w.asks ∙ ap (drafts c y.x w.step) (ap (λ (b : KeptAgent). next_of b.part.agent given) (sym y.is) ∙ due)))
+    subst (λ (as_ : List KeptAgent). Makes c (Prepare y.x.side.name cause) (verdicts.AgentRefused refusal) (sending []) as_ sent) (sym (ap (slice_set (kept_agents c) place) is ∙ set_same (kept_agents c) place a at))
+    (stays more c (Prepare y.x.side.name cause) refusal sent r stand (y.asked cause ∙ w.asks ∙ ap (drafts c y.x w.step) (ap (λ (b : KeptAgent). next_of b.part.agent given) (sym y.is) ∙ due)))
 drawn_so more c name place a new cause given verdicts.OutOfMemory sent r stand at y w is =
-    subst (λ (b : KeptAgent). Makes c (Prepare y.x.side.name (cause_of cause)) verdicts.OutOfMemory (sending []) (slice_set (kept_agents c) place b) sent) (sym is) (falls_so more c name place a cause given sent r stand y w)
+    subst (λ (b : KeptAgent). Makes c (Prepare y.x.side.name cause) verdicts.OutOfMemory (sending []) (slice_set (kept_agents c) place b) sent) (sym is) (falls_so more c name place a cause given sent r stand y w)
 
 pub prepare_made : MoreLaws → (c : Cluster) (name : List ℕ) (place : ℕ) (a new : KeptAgent) (cause : StepCause) (given : Cause) (verdict : code.Verdict) (sent : List Item) → Reached c → StandIn c sent → place_in name (kept_agents c) ≡ Some place → slice_get (kept_agents c) place ≡ Some a →
-    a.is_down ≡ false → a.part.draft ≡ None → cause_due sent name cause ≡ Some (Some given) → Drawn verdict a new (next_of a.part.agent given) → Makes c (Prepare name (cause_of cause)) verdict (sending []) (slice_set (kept_agents c) place new) sent
+    a.is_down ≡ false → a.part.draft ≡ None → cause_due sent name cause ≡ Some (Some given) → Drawn verdict a new (next_of a.part.agent given) → Makes c (Prepare name cause) verdict (sending []) (slice_set (kept_agents c) place new) sent
 prepare_made more c name place a new cause given verdict sent r stand e at is_up free due how = by (ready c name place a e at is_up free)
   where
-    by : Ready c name place a → Makes c (Prepare name (cause_of cause)) verdict (sending []) (slice_set (kept_agents c) place new) sent
+    by : Ready c name place a → Makes c (Prepare name cause) verdict (sending []) (slice_set (kept_agents c) place new) sent
     by y =
         let w : Drawing c y.x cause given = drawing more c y.x cause given sent stand y.here (named more c place y.x r y.there) y.none (ap (λ (n : List ℕ). cause_due sent n cause) y.called ∙ due) in
-        subst (λ (n : List ℕ). Makes c (Prepare n (cause_of cause)) verdict (sending []) (slice_set (kept_agents c) place new) sent) y.called (drawn_so more c name place a new cause given verdict sent r stand at y w how)
+        subst (λ (n : List ℕ). Makes c (Prepare n cause) verdict (sending []) (slice_set (kept_agents c) place new) sent) y.called (drawn_so more c name place a new cause given verdict sent r stand at y w how)
 
 -- ---- a mail for another agent
 
@@ -274,7 +277,7 @@ not_for_it name to e = by (bytes_eq to.agent name) refl e
     by true b f = absurd (let clash : Some (causes.Mail to) ≡ None = rw b at f in cc)
     by false b f = b
 
-strays : (c : Cluster) (x : Channel) (n : ℕ) (i : Option Item) → Under c n i → mail_due x.side.name i ≡ Some None → prepares c (cause_of (Mail n)) x ≡ Ok (done c (happening c (AgentRefused NotForMe) []))
+strays : (c : Cluster) (x : Channel) (n : ℕ) (i : Option Item) → Under c n i → mail_due x.side.name i ≡ Some None → prepares c (Mail n) x ≡ Ok (done c (happening c (AgentRefused NotForMe) []))
 strays c x n None u due = absurd (let clash : None ≡ Some None = due in cc)
 strays c x n (Some (items.Call stream call)) u due = absurd (let clash : None ≡ Some None = due in cc)
 strays c x n (Some (items.ToMaster to)) u due = absurd (let clash : None ≡ Some None = due in cc)
@@ -283,26 +286,26 @@ strays c x n (Some (items.ToAgent to)) (k, down, n_is) due =
     let post : post_at c n ≡ Some (Down to.agent down.0) = subst (λ (m : ℕ). post_at c m ≡ Some (Down to.agent down.0)) (sym n_is) down.2 in
     ap (draws_mail c x) post ∙ if_it_is_up (bytes_eq to.agent x.side.name) (draws_mail_at c x down.0 (slice_get x.to_agent down.0)) (does c (happening c (AgentRefused NotForMe) [])) (not_for_it x.side.name to none)
 
-strays_by : MoreLaws → (c : Cluster) (x : Channel) (cause : StepCause) (sent : List Item) → StandIn c sent → cause_due sent x.side.name cause ≡ Some None → prepares c (cause_of cause) x ≡ Ok (done c (happening c (AgentRefused NotForMe) []))
+strays_by : MoreLaws → (c : Cluster) (x : Channel) (cause : StepCause) (sent : List Item) → StandIn c sent → cause_due sent x.side.name cause ≡ Some None → prepares c cause x ≡ Ok (done c (happening c (AgentRefused NotForMe) []))
 strays_by more c x (Start total) sent stand due = absurd (let clash : Some (Some (causes.Start total)) ≡ Some None = due in cc)
 strays_by more c x Again sent stand due = absurd (let clash : Some (Some causes.Again) ≡ Some None = due in cc)
 strays_by more c x (Executor key state) sent stand due = absurd (let clash : Some (Some (causes.Executor key state)) ≡ Some None = due in cc)
 strays_by more c x (Mail n) sent stand due = strays c x n (item_at n sent) (under more c sent n stand) due
 
 pub prepare_astray : MoreLaws → (c : Cluster) (name : List ℕ) (place : ℕ) (a : KeptAgent) (cause : StepCause) (sent : List Item) → Reached c → StandIn c sent → place_in name (kept_agents c) ≡ Some place → slice_get (kept_agents c) place ≡ Some a →
-    a.is_down ≡ false → a.part.draft ≡ None → cause_due sent name cause ≡ Some None → Makes c (Prepare name (cause_of cause)) (verdicts.AgentRefused NotForMe) (sending []) (kept_agents c) sent
+    a.is_down ≡ false → a.part.draft ≡ None → cause_due sent name cause ≡ Some None → Makes c (Prepare name cause) (verdicts.AgentRefused NotForMe) (sending []) (kept_agents c) sent
 prepare_astray more c name place a cause sent r stand e at is_up free due = by (ready c name place a e at is_up free)
   where
-    by : Ready c name place a → Makes c (Prepare name (cause_of cause)) (verdicts.AgentRefused NotForMe) (sending []) (kept_agents c) sent
-    by y = subst (λ (n : List ℕ). Makes c (Prepare n (cause_of cause)) (verdicts.AgentRefused NotForMe) (sending []) (kept_agents c) sent) y.called
-        (stays more c (Prepare y.x.side.name (cause_of cause)) NotForMe sent r stand (y.asked cause ∙ strays_by more c y.x cause sent stand (ap (λ (n : List ℕ). cause_due sent n cause) y.called ∙ due)))
+    by : Ready c name place a → Makes c (Prepare name cause) (verdicts.AgentRefused NotForMe) (sending []) (kept_agents c) sent
+    by y = subst (λ (n : List ℕ). Makes c (Prepare n cause) (verdicts.AgentRefused NotForMe) (sending []) (kept_agents c) sent) y.called
+        (stays more c (Prepare y.x.side.name cause) NotForMe sent r stand (y.asked cause ∙ strays_by more c y.x cause sent stand (ap (λ (n : List ℕ). cause_due sent n cause) y.called ∙ due)))
 
 -- ---- refusals
 
-pub prepare_unknown : (c : Cluster) (name : List ℕ) (asked : model.StepCause) → place_in name (kept_agents c) ≡ None → answer c (Prepare name asked) ≡ Err NoSuchAgent
+pub prepare_unknown : (c : Cluster) (name : List ℕ) (asked : StepCause) → place_in name (kept_agents c) ≡ None → answer c (Prepare name asked) ≡ Err NoSuchAgent
 prepare_unknown c name asked e = ap (λ (o : Option Channel). at_channel o (if_up c (without_draft (prepares c asked)))) (not_found c name e)
 
-pub prepare_down : (c : Cluster) (name : List ℕ) (place : ℕ) (a : KeptAgent) (asked : model.StepCause) → place_in name (kept_agents c) ≡ Some place → slice_get (kept_agents c) place ≡ Some a → a.is_down ≡ true → answer c (Prepare name asked) ≡ Err AgentDown
+pub prepare_down : (c : Cluster) (name : List ℕ) (place : ℕ) (a : KeptAgent) (asked : StepCause) → place_in name (kept_agents c) ≡ Some place → slice_get (kept_agents c) place ≡ Some a → a.is_down ≡ true → answer c (Prepare name asked) ≡ Err AgentDown
 prepare_down c name place a asked e at down = by (found c name place e)
   where
     by : Found c name place → answer c (Prepare name asked) ≡ Err AgentDown
@@ -311,11 +314,11 @@ prepare_down c name place a asked e at down = by (found c name place e)
         ap (λ (o : Option Channel). at_channel o (if_up c (without_draft (prepares c asked)))) f.channel
         ∙ if_it_is_down (kept_part c.fallen (part_of f.x)).is_down (Err AgentDown) (without_draft (prepares c asked) f.x) (ap (λ (b : KeptAgent). b.is_down) (sym is) ∙ down)
 
-open_so : (c : Cluster) (asked : model.StepCause) (x : Channel) (o : Option Draft) → is_some o ≡ true → by_draft o (prepares c asked x) (Err DraftOpen) ≡ Err DraftOpen
+open_so : (c : Cluster) (asked : StepCause) (x : Channel) (o : Option Draft) → is_some o ≡ true → by_draft o (prepares c asked x) (Err DraftOpen) ≡ Err DraftOpen
 open_so c asked x None e = absurd (let clash : false ≡ true = e in cc)
 open_so c asked x (Some d) e = refl
 
-pub prepare_opened : (c : Cluster) (name : List ℕ) (place : ℕ) (a : KeptAgent) (asked : model.StepCause) → place_in name (kept_agents c) ≡ Some place → slice_get (kept_agents c) place ≡ Some a → a.is_down ≡ false → is_some a.part.draft ≡ true → answer c (Prepare name asked) ≡ Err DraftOpen
+pub prepare_opened : (c : Cluster) (name : List ℕ) (place : ℕ) (a : KeptAgent) (asked : StepCause) → place_in name (kept_agents c) ≡ Some place → slice_get (kept_agents c) place ≡ Some a → a.is_down ≡ false → is_some a.part.draft ≡ true → answer c (Prepare name asked) ≡ Err DraftOpen
 prepare_opened c name place a asked e at is_up has = by (found c name place e)
   where
     by : Found c name place → answer c (Prepare name asked) ≡ Err DraftOpen
@@ -325,27 +328,27 @@ prepare_opened c name place a asked e at is_up has = by (found c name place e)
         ∙ if_it_is_up (kept_part c.fallen (part_of f.x)).is_down (Err AgentDown) (without_draft (prepares c asked) f.x) (ap (λ (b : KeptAgent). b.is_down) (sym is) ∙ is_up)
         ∙ open_so c asked f.x f.x.draft (ap (λ (b : KeptAgent). is_some b.part.draft) (sym is) ∙ has)
 
-unsent : (c : Cluster) (x : Channel) (n : ℕ) (i : Option Item) → Under c n i → mail_due x.side.name i ≡ None → prepares c (cause_of (Mail n)) x ≡ Err NoSuchMail
+unsent : (c : Cluster) (x : Channel) (n : ℕ) (i : Option Item) → Under c n i → mail_due x.side.name i ≡ None → prepares c (Mail n) x ≡ Err NoSuchMail
 unsent c x n None post due = ap (draws_mail c x) post
 unsent c x n (Some (items.Call stream call)) post due = ap (draws_mail c x) post
 unsent c x n (Some (items.ToMaster to)) (place, post) due = ap (draws_mail c x) post
 unsent c x n (Some (items.ToAgent to)) u due = absurd (let clash : Some (for_it x.side.name to) ≡ None = due in cc)
 
-unsent_by : MoreLaws → (c : Cluster) (x : Channel) (cause : StepCause) (sent : List Item) → StandIn c sent → cause_due sent x.side.name cause ≡ None → prepares c (cause_of cause) x ≡ Err NoSuchMail
+unsent_by : MoreLaws → (c : Cluster) (x : Channel) (cause : StepCause) (sent : List Item) → StandIn c sent → cause_due sent x.side.name cause ≡ None → prepares c cause x ≡ Err NoSuchMail
 unsent_by more c x (Start total) sent stand due = absurd (let clash : Some (Some (causes.Start total)) ≡ None = due in cc)
 unsent_by more c x Again sent stand due = absurd (let clash : Some (Some causes.Again) ≡ None = due in cc)
 unsent_by more c x (Executor key state) sent stand due = absurd (let clash : Some (Some (causes.Executor key state)) ≡ None = due in cc)
 unsent_by more c x (Mail n) sent stand due = unsent c x n (item_at n sent) (under more c sent n stand) due
 
 pub prepare_unsent : MoreLaws → (c : Cluster) (name : List ℕ) (place : ℕ) (a : KeptAgent) (cause : StepCause) (sent : List Item) → StandIn c sent → place_in name (kept_agents c) ≡ Some place → slice_get (kept_agents c) place ≡ Some a → a.is_down ≡ false → a.part.draft ≡ None →
-    cause_due sent name cause ≡ None → answer c (Prepare name (cause_of cause)) ≡ Err NoSuchMail
+    cause_due sent name cause ≡ None → answer c (Prepare name cause) ≡ Err NoSuchMail
 prepare_unsent more c name place a cause sent stand e at is_up free due = by (ready c name place a e at is_up free)
   where
-    by : Ready c name place a → answer c (Prepare name (cause_of cause)) ≡ Err NoSuchMail
-    by y = subst (λ (n : List ℕ). answer c (Prepare n (cause_of cause)) ≡ Err NoSuchMail) y.called (y.asked cause ∙ unsent_by more c y.x cause sent stand (ap (λ (n : List ℕ). cause_due sent n cause) y.called ∙ due))
+    by : Ready c name place a → answer c (Prepare name cause) ≡ Err NoSuchMail
+    by y = subst (λ (n : List ℕ). answer c (Prepare n cause) ≡ Err NoSuchMail) y.called (y.asked cause ∙ unsent_by more c y.x cause sent stand (ap (λ (n : List ℕ). cause_due sent n cause) y.called ∙ due))
 
 pub prepare_refused : MoreLaws → (c : Cluster) (name : List ℕ) (place : ℕ) (a : KeptAgent) (cause : StepCause) (fault : ClusterFault) (sent : List Item) → StandIn c sent → place_in name (kept_agents c) ≡ Some place → slice_get (kept_agents c) place ≡ Some a → a.is_down ≡ false → a.part.draft ≡ None →
-    Causes (Err fault) (cause_due sent name cause) → Refuses c (Prepare name (cause_of cause)) fault
+    Causes (Err fault) (cause_due sent name cause) → Refuses c (Prepare name cause) fault
 prepare_refused more c name place a cause faults.NoSuchMail sent stand e at is_up free due = prepare_unsent more c name place a cause sent stand e at is_up free due
 prepare_refused more c name place a cause faults.MasterDown sent stand e at is_up free due = absurd due
 prepare_refused more c name place a cause faults.AgentDown sent stand e at is_up free due = absurd due
@@ -372,7 +375,7 @@ unsent_or_taken c x (Some (Called stream call)) = inl refl
 unsent_or_taken c x (Some (Up agent place)) = inl refl
 unsent_or_taken c x (Some (Down agent place)) = by (bytes_eq agent x.side.name)
   where
-    there : Result Done StepRefusal
+    there : Result Done ClusterFault
     there = draws_mail_at c x place (slice_get x.to_agent place)
 
     by : (b : Bool) → ((if b then there else does c (happening c (AgentRefused NotForMe) [])) ≡ Err NoSuchMail) ⊎ ((d : Done) × ((if b then there else does c (happening c (AgentRefused NotForMe) [])) ≡ Ok d))
@@ -383,22 +386,22 @@ not_true : (b : Bool) → not b ≡ true → b ≡ false
 not_true true e = absurd (let clash : false ≡ true = e in cc)
 not_true false e = refl
 
-withheld_so : (c : Cluster) (name : List ℕ) (x : Channel) (n : ℕ) (gives : ℕ → Bool) → answer c (Prepare name (model.ByMail n)) ≡ draws_mail c x (post_at c n) → gives n ≡ false → MayRefuse c gives (Prepare name (model.ByMail n)) faults.NoSuchMail
+withheld_so : (c : Cluster) (name : List ℕ) (x : Channel) (n : ℕ) (gives : ℕ → Bool) → answer c (Prepare name (Mail n)) ≡ draws_mail c x (post_at c n) → gives n ≡ false → MayRefuse c gives (Prepare name (Mail n)) faults.NoSuchMail
 withheld_so c name x n gives asked none = by (unsent_or_taken c x (post_at c n))
   where
-    by : (draws_mail c x (post_at c n) ≡ Err NoSuchMail) ⊎ ((d : Done) × (draws_mail c x (post_at c n) ≡ Ok d)) → MayRefuse c gives (Prepare name (model.ByMail n)) faults.NoSuchMail
+    by : (draws_mail c x (post_at c n) ≡ Err NoSuchMail) ⊎ ((d : Done) × (draws_mail c x (post_at c n) ≡ Ok d)) → MayRefuse c gives (Prepare name (Mail n)) faults.NoSuchMail
     by (inl e) = inl (asked ∙ e)
     by (inr (d, e)) = inr (refl, (n, d, refl, none, asked ∙ e))
 
 pub prepare_withheld : (c : Cluster) (name : List ℕ) (place : ℕ) (a : KeptAgent) (cause : StepCause) (gives : ℕ → Bool) → place_in name (kept_agents c) ≡ Some place → slice_get (kept_agents c) place ≡ Some a → a.is_down ≡ false → a.part.draft ≡ None →
-    is_withheld gives cause ≡ true → MayRefuse c gives (Prepare name (cause_of cause)) faults.NoSuchMail
+    is_withheld gives cause ≡ true → MayRefuse c gives (Prepare name cause) faults.NoSuchMail
 prepare_withheld c name place a (Start total) gives e at is_up free held = absurd (let clash : false ≡ true = held in cc)
 prepare_withheld c name place a Again gives e at is_up free held = absurd (let clash : false ≡ true = held in cc)
 prepare_withheld c name place a (Executor key state) gives e at is_up free held = absurd (let clash : false ≡ true = held in cc)
 prepare_withheld c name place a (Mail n) gives e at is_up free held = by (ready c name place a e at is_up free)
   where
-    by : Ready c name place a → MayRefuse c gives (Prepare name (model.ByMail n)) faults.NoSuchMail
-    by y = subst (λ (m : List ℕ). MayRefuse c gives (Prepare m (model.ByMail n)) faults.NoSuchMail) y.called (withheld_so c y.x.side.name y.x n gives (y.asked (Mail n)) (not_true (gives n) held))
+    by : Ready c name place a → MayRefuse c gives (Prepare name (Mail n)) faults.NoSuchMail
+    by y = subst (λ (m : List ℕ). MayRefuse c gives (Prepare m (Mail n)) faults.NoSuchMail) y.called (withheld_so c y.x.side.name y.x n gives (y.asked (Mail n)) (not_true (gives n) held))
 
 -- ---- the record of the draft that was opened
 

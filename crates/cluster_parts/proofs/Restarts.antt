@@ -6,12 +6,16 @@ use Rattle.mails.specs.declared.record.Durable.{Durable}
 use Rattle.names_core.specs.Ids.{Numbered}
 use Rattle.agent_sides.specs.declared.config.ConfiguredAgent.{ConfiguredAgent}
 use Rattle.cluster_model.specs.Channels.{Channel, Halt, Restart, after, open_channel, with_side}
-use Rattle.cluster_model.specs.Clusters.{Cluster, MailToAgent, Sent, StopMaster, Stream, Fine, master_of, sides_of}
+use Rattle.cluster_histories.specs.Clusters.{Cluster, Stream, master_of, sides_of}
+use Rattle.cluster_steps.specs.declared.verdict.Sent.TheVariants.{ToAgent as MailToAgent}
+use Rattle.cluster_steps.specs.declared.verdict.Sent.{Sent}
+use Rattle.cluster_steps.specs.declared.step.Step.TheVariants.{StopMaster}
+use Rattle.cluster_steps.specs.declared.verdict.Verdict.TheVariants.{Ok as Fine}
 use Rattle.cluster_model.specs.Events.{Told}
 use Rattle.cluster_model.specs.Ids.{last_run}
 use Rattle.cluster_model.specs.Masters.{Master, moved, new_registers}
 use Rattle.cluster_model.specs.Sides.{Side, halted, new_run, new_side, restarted}
-use Rattle.cluster_model.specs.Steps.{Setup, unweighted, Done, Effect, Marked, answer, done, fallen_answer, greets_all, happening, hello_to, history, master_stops, new_master_falls, opened_over, sent_between, streams_after}
+use Rattle.cluster_histories.specs.Steps.{Setup, unweighted, Done, Effect, Marked, answer, done, fallen_answer, greets_all, happening, hello_to, history, master_stops, new_master_falls, opened_over, sent_between, streams_after}
 use Rattle.cluster_laws.proofs.Grown.{Grown, world_grown}
 use Rattle.cluster_laws.proofs.Histories.{reached}
 use Rattle.cluster_laws.proofs.Lists.{append_same, cons_same}
@@ -19,9 +23,8 @@ use Rattle.cluster_laws.specs.declared.item.Item.{Item}
 use Rattle.cluster_laws.specs.Items.{StandIn, items_sent}
 use Rattle.cluster_laws.specs.Parts.{AreAgentsOf, anew, greeting, next_master, parts_of}
 use Rattle.cluster_laws.specs.Runs.{AreRising, ids_of}
-use Rattle.cluster_steps.specs.declared.entry.Sent as code
-use Rattle.cluster_steps.specs.declared.entry.Verdict.TheVariants as verdicts
-use Rattle.cluster_steps.specs.Steps.{sent_of}
+use Rattle.cluster_steps.specs.declared.verdict.Sent as code
+use Rattle.cluster_steps.specs.declared.verdict.Verdict.TheVariants as verdicts
 use Rattle.master_core.specs.Steps.{outs_of}
 use Rattle.master_state.specs.Works.{written}
 use Rattle.master_state.specs.declared.fault.MasterFault.{MasterFault}
@@ -101,7 +104,7 @@ anew_told laws c r items within stand later = record {
   done = D;
   answers = answers;
   ends = refl;
-  brings = ap (λ (xs : List code.Sent). sending xs) (sym (told_so mails)) ∙ ap (λ (xs : List Sent). sending (map sent_of xs)) (sym sends);
+  brings = ap (λ (xs : List code.Sent). sending xs) (sym (told_so mails)) ∙ ap (λ (xs : List Sent). sending xs) (sym sends);
   drafts = refl;
   stands = record {
     as_master = sym (ap kept_master after_is);
@@ -140,7 +143,7 @@ anew_falls laws c items r within stand later = record {
   done = D;
   answers = answers;
   ends = refl;
-  brings = ap (λ (xs : List Sent). sending (map sent_of xs)) (sym silent);
+  brings = ap (λ (xs : List Sent). sending xs) (sym silent);
   drafts = refl;
   stands = record {
     as_master = refl;
@@ -189,7 +192,7 @@ last_halts laws c master items ss r stands none = subst (Restarts c (ends_with v
       done = D;
       answers = answers;
       ends = refl;
-      brings = ap (λ (xs : List Sent). sending (map sent_of xs)) (sym silent);
+      brings = ap (λ (xs : List Sent). sending xs) (sym silent);
       drafts = refl;
       stands = record {
         as_master = refl;

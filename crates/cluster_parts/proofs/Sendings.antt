@@ -5,18 +5,22 @@ use Rattle.mails.specs.declared.call.Call.{Call}
 use Rattle.mails.specs.declared.record.Durable.{Durable}
 use Rattle.master_state.specs.Works.{event_of}
 use Rattle.names_core.specs.Ids.{Numbered}
-use Rattle.cluster_model.specs.Clusters.{Cluster, Send, Step, Stream, Take, NoSuchMail, Fine}
+use Rattle.cluster_histories.specs.Clusters.{Cluster, Stream}
+use Rattle.cluster_steps.specs.declared.step.Step.TheVariants.{Send, Take}
+use Rattle.cluster_steps.specs.declared.step.Step.{Step}
+use Rattle.cluster_steps.specs.declared.fault.ClusterFault.TheVariants.{NoSuchMail}
+use Rattle.cluster_steps.specs.declared.verdict.Verdict.TheVariants.{Ok as Fine}
 use Rattle.cluster_model.specs.Events.{Event}
 use Rattle.cluster_model.specs.Masters.{Master}
-use Rattle.cluster_model.specs.Steps.{Setup, Done, Marked, answer, history, sends, takes_event, takes_one}
+use Rattle.cluster_histories.specs.Steps.{Setup, Done, Marked, answer, history, sends, takes_event, takes_one}
 use Rattle.cluster_laws.specs.declared.item.Item.{Item}
 use Rattle.cluster_laws.specs.declared.item.Item.TheVariants as items
 use Rattle.cluster_laws.specs.Items.{StandIn}
 use Rattle.cluster_laws.specs.Runs.{AreRising, ids_of}
-use Rattle.cluster_steps.specs.declared.entry.Outputs.{Outputs}
-use Rattle.cluster_steps.specs.declared.entry.Sent as entries_so
-use Rattle.cluster_steps.specs.declared.entry.Sent.TheVariants as entries
-use Rattle.cluster_steps.specs.declared.entry.Verdict.TheVariants as verdicts
+use Rattle.cluster_entries.specs.declared.entry.Outputs.{Outputs}
+use Rattle.cluster_steps.specs.declared.verdict.Sent as entries_so
+use Rattle.cluster_steps.specs.declared.verdict.Sent.TheVariants as entries
+use Rattle.cluster_steps.specs.declared.verdict.Verdict.TheVariants as verdicts
 use Rattle.told_streams.specs.Kept.{AreWithin, kept_streams, untaken}
 use Rattle.told_streams.specs.Streams.{next_on, taken}
 use Rattle.told_streams.specs.declared.kept.KeptStream.{KeptStream}

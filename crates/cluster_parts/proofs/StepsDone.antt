@@ -5,13 +5,16 @@ use Rattle.agent_sides.specs.Named.{lost_by}
 use Rattle.names_core.specs.Ids.{Numbered}
 use Rattle.cluster_model.specs.Calls.{called}
 use Rattle.cluster_model.specs.Channels.{Channel}
-use Rattle.cluster_model.specs.Clusters.{Allocate, Called, Cluster, Deliver, HangUp, LoseAgent, Stream, StepRefusal, MasterDown, TimeBack, Tick, master_of}
+use Rattle.cluster_histories.specs.Clusters.{Called, Cluster, Stream, master_of}
+use Rattle.cluster_steps.specs.declared.step.Step.TheVariants.{Allocate, Deliver, HangUp, LoseAgent, Tick}
+use Rattle.cluster_steps.specs.declared.fault.ClusterFault.{ClusterFault}
+use Rattle.cluster_steps.specs.declared.fault.ClusterFault.TheVariants.{MasterDown, TimeBack}
 use Rattle.cluster_model.specs.Mails.{agent_lost, hung_up, ticked}
 use Rattle.role_weights.specs.Weights.{RoleWeight}
 use Rattle.cluster_model.specs.Masters.{Master}
 use Rattle.cluster_model.specs.Rounds.{allocated}
 use Rattle.cluster_model.specs.Sides.{Side}
-use Rattle.cluster_model.specs.Steps.{Done, at_channel, channel_of, delivers, hangs_up, loses_agent, master_does, post_at, stream_at, ticks_at, with_master, with_tick}
+use Rattle.cluster_histories.specs.Steps.{Done, at_channel, channel_of, delivers, hangs_up, loses_agent, master_does, post_at, stream_at, ticks_at, with_master, with_tick}
 use Rattle.cluster_laws.specs.Runs.{KeepsRun, RefusesAlone}
 use Rattle.cluster_parts.specs.Masters.{Does}
 use Rattle.cluster_parts.proofs.Committing.{if_it_is_down, if_it_is_up}
@@ -29,7 +32,7 @@ pub record DoingLaws : Type 0 where
   pub alone_hang_ups : (m : Master) (stream : Numbered) → RefusesAlone m (hung_up m stream)
   pub lost : (c : Cluster) (agent : List ℕ) (x : Channel) → channel_of c agent ≡ Some x → lost_by (master_of c) agent ≡ agent_lost (master_of c) x.side
 
-up : (c : Cluster) (r : Result Done StepRefusal) → c.world.run.serves ≡ true → with_master c r ≡ r
+up : (c : Cluster) (r : Result Done ClusterFault) → c.world.run.serves ≡ true → with_master c r ≡ r
 up c r e = if_it_is_down c.world.run.serves r (Err MasterDown) e
 
 pub does_calls : DoingLaws → (c : Cluster) (n : ℕ) (stream : Option Numbered) (call : Call) → c.world.run.serves ≡ true → post_at c n ≡ Some (Called stream call) → Does c (Deliver n) c.last_tick (called (master_of c) stream call)

@@ -6,10 +6,14 @@ use Rattle.mails.specs.declared.call.Call.{Call}
 use Rattle.mails.specs.declared.mail.AgentMail.{AgentMail}
 use Rattle.names_core.specs.Ids.{Numbered}
 use Rattle.cluster_model.specs.Mails.{ticked}
-use Rattle.cluster_model.specs.Clusters.{Called, Cluster, Deliver, Down, Post, Step, StepRefusal, MasterDown, HangUp, LoseAgent, NoSuchAgent, NoSuchMail, Stream, Tick, TimeBack, Up, master_of}
+use Rattle.cluster_histories.specs.Clusters.{Called, Cluster, Down, Post, Stream, Up, master_of}
+use Rattle.cluster_steps.specs.declared.step.Step.TheVariants.{Deliver, HangUp, LoseAgent, Tick}
+use Rattle.cluster_steps.specs.declared.step.Step.{Step}
+use Rattle.cluster_steps.specs.declared.fault.ClusterFault.{ClusterFault}
+use Rattle.cluster_steps.specs.declared.fault.ClusterFault.TheVariants.{MasterDown, NoSuchAgent, NoSuchMail, TimeBack}
 use Rattle.cluster_model.specs.Channels.{Channel}
 use Rattle.cluster_model.specs.Masters.{Doing, Master}
-use Rattle.cluster_model.specs.Steps.{Done, answer, at_channel, channel_of, delivers, delivers_up, hangs_up, loses_agent, master_does, master_hears, post_at, stream_at, ticks_at, with_master, with_tick}
+use Rattle.cluster_histories.specs.Steps.{Done, answer, at_channel, channel_of, delivers, delivers_up, hangs_up, loses_agent, master_does, master_hears, post_at, stream_at, ticks_at, with_master, with_tick}
 use Rattle.cluster_laws.specs.declared.item.Item.{Item}
 use Rattle.cluster_laws.specs.declared.item.Item.TheVariants as sent_items
 use Rattle.cluster_laws.specs.Items.{StandIn}
@@ -62,7 +66,7 @@ serve_rise law c s moment doing before after answered p of is how a =
     subst (λ (xs : List KeptStream). IfOk answered (λ (outs : Outs). AreRising (kept_ids xs ++ outs.opened))) (sym stands.as_streams)
     (law c s moment doing answered after of.reached (how up.0) (subst (λ (m : Option Master). Answers answered m after doing) up.1 a))
 
-pub no_master : (c : Cluster) (answered : Result Done StepRefusal) (items : List Item) (ss : List KeptStream) → StandsFor c None items ss → with_master c answered ≡ Err MasterDown
+pub no_master : (c : Cluster) (answered : Result Done ClusterFault) (items : List Item) (ss : List KeptStream) → StandsFor c None items ss → with_master c answered ≡ Err MasterDown
 no_master c answered items ss stands = if_it_is_up c.world.run.serves answered (Err MasterDown) (none_serves (master_of c) stands.as_master)
 
 -- a call that was sent under a number stands there among the posts

@@ -4,20 +4,22 @@ use Rattle.event_json.specs.declared.event.Event.{Event}
 use Rattle.names_core.specs.Ids.{Numbered}
 use Rattle.mails.specs.declared.mail.ToAgent.{ToAgent}
 use Rattle.mails.specs.declared.refusal.MasterRefusal.{MasterRefusal}
-use Rattle.cluster_model.specs.Clusters.{Cluster, Step, master_of}
+use Rattle.cluster_histories.specs.Clusters.{Cluster, master_of}
+use Rattle.cluster_steps.specs.declared.step.Step.{Step}
 use Rattle.cluster_model.specs.Masters.{Doing, Master}
-use Rattle.cluster_model.specs.Steps.{Done, answer, fallen_answer, instead, master_does, master_falls, with_tick}
+use Rattle.cluster_histories.specs.Steps.{Done, answer, fallen_answer, instead, master_does, master_falls, with_tick}
 use Rattle.cluster_laws.specs.declared.item.Item.{Item}
 use Rattle.cluster_laws.specs.declared.item.Item.TheVariants as items
 use Rattle.cluster_laws.specs.Items.{StandIn}
 use Rattle.cluster_laws.specs.Parts.{parts_of}
 use Rattle.cluster_laws.specs.Runs.{KeepsRun, RefusesAlone}
-use Rattle.cluster_steps.specs.declared.entry.Outputs.{Outputs}
-use Rattle.cluster_steps.specs.declared.entry.Sent.{Sent}
-use Rattle.cluster_steps.specs.declared.entry.Sent.TheVariants as sent
-use Rattle.cluster_steps.specs.declared.entry.Verdict.{Verdict}
-use Rattle.cluster_steps.specs.declared.entry.Verdict.TheVariants as verdicts
-use Rattle.cluster_steps.specs.Steps.{fell, outputs_of, verdict_of}
+use Rattle.cluster_entries.specs.declared.entry.Outputs.{Outputs}
+use Rattle.cluster_steps.specs.declared.verdict.Sent.{Sent}
+use Rattle.cluster_steps.specs.declared.verdict.Sent.TheVariants as sent
+use Rattle.cluster_steps.specs.declared.verdict.Verdict.{Verdict}
+use Rattle.cluster_steps.specs.declared.verdict.Verdict.TheVariants as verdicts
+use Rattle.cluster_entries.specs.Entries.{outputs_of}
+use Rattle.cluster_steps.specs.Verdicts.{fell}
 use Rattle.master_state.specs.declared.fault.MasterFault.{MasterFault}
 use Rattle.master_state.specs.declared.fault.MasterFault.TheVariants as fault
 use Rattle.master_state.specs.declared.state.Outs.{Outs}
@@ -45,7 +47,7 @@ pub record MasterMakes (c : Cluster) (step : Step) (moment : ℕ) (made : Made)
     (streams : List KeptStream) : Type 0 where
   pub done : Done
   pub answers : (if fell made.verdict then fallen_answer c step else answer c step) ≡ Ok done
-  pub ends : made.verdict ≡ verdict_of done.entry.verdict
+  pub ends : made.verdict ≡ done.entry.verdict
   pub brings : made.outputs ≡ outputs_of done.entry.outs
   pub drafts : made.durable ≡ None
   pub stands : StandsFor done.after master items_sent streams

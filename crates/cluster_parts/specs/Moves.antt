@@ -6,20 +6,22 @@ use Rattle.mails.specs.declared.cause.Cause.TheVariants.{Mail}
 use Rattle.mails.specs.declared.mail.ToAgent.{ToAgent}
 use Rattle.agent_core.specs.Drafts.{is_in_order}
 use Rattle.cluster_model.specs.Ids.{last_number}
-use Rattle.cluster_model.specs.Clusters.{Cluster, Step, NoSuchMail, MasterDown, AgentDown, DraftOpen, NoDraft, HistoryFull, TimeBack, NoSuchAgent, master_of}
+use Rattle.cluster_histories.specs.Clusters.{Cluster, master_of}
+use Rattle.cluster_steps.specs.declared.step.Step.{Step}
+use Rattle.cluster_steps.specs.declared.fault.ClusterFault.TheVariants.{OutOfMemory}
 use Rattle.cluster_model.specs.Openings.{GoodOpening}
-use Rattle.cluster_model.specs.Steps.{Setup, Done, Marked, answer, fallen_answer, history}
+use Rattle.cluster_histories.specs.Steps.{Setup, Done, Marked, answer, fallen_answer, history}
 use Rattle.cluster_laws.specs.declared.item.Item.{Item}
 use Rattle.cluster_laws.specs.Items.{StandIn}
 use Rattle.cluster_laws.specs.Parts.{Part, parts_of}
 use Rattle.cluster_laws.specs.Premises.{AreRecorded}
 use Rattle.cluster_laws.specs.declared.item.Item.TheVariants as items
-use Rattle.cluster_steps.specs.declared.entry.Outputs.{Outputs}
-use Rattle.cluster_steps.specs.declared.entry.Sent.{Sent}
-use Rattle.cluster_steps.specs.declared.entry.Verdict.{Verdict}
+use Rattle.cluster_entries.specs.declared.entry.Outputs.{Outputs}
+use Rattle.cluster_steps.specs.declared.verdict.Sent.{Sent}
+use Rattle.cluster_steps.specs.declared.verdict.Verdict.{Verdict}
 use Rattle.cluster_steps.specs.declared.fault.ClusterFault.{ClusterFault}
-use Rattle.cluster_steps.specs.declared.fault.ClusterFault.TheVariants as faults
-use Rattle.cluster_steps.specs.Steps.{fell, outputs_of, verdict_of}
+use Rattle.cluster_entries.specs.Entries.{outputs_of}
+use Rattle.cluster_steps.specs.Verdicts.{fell}
 use Rattle.cluster_parts.specs.Agents.{KeptAgent}
 
 -- a state that is reached from a good opening, where the history has room for one more entry
@@ -55,7 +57,7 @@ pub record Makes (c : Cluster) (step : Step) (verdict : Verdict) (outputs : Outp
     (agents : List KeptAgent) (sent : List Item) : Type 0 where
   pub done : Done
   pub answers : (if fell verdict then fallen_answer c step else answer c step) ≡ Ok done
-  pub ends : verdict ≡ verdict_of done.entry.verdict
+  pub ends : verdict ≡ done.entry.verdict
   pub brings : outputs ≡ outputs_of done.entry.outs
   pub keeps_agents : agents ≡ kept_agents done.after
   pub keeps_items : StandIn done.after sent
@@ -65,12 +67,5 @@ pub record Makes (c : Cluster) (step : Step) (verdict : Verdict) (outputs : Outp
 
 -- memory was refused, or the step is
 abbrev pub Refuses : Cluster → Step → ClusterFault → Type 0
-Refuses c step faults.NoSuchMail = answer c step ≡ Err NoSuchMail
-Refuses c step faults.MasterDown = answer c step ≡ Err MasterDown
-Refuses c step faults.AgentDown = answer c step ≡ Err AgentDown
-Refuses c step faults.DraftOpen = answer c step ≡ Err DraftOpen
-Refuses c step faults.NoDraft = answer c step ≡ Err NoDraft
-Refuses c step faults.HistoryFull = answer c step ≡ Err HistoryFull
-Refuses c step faults.TimeBack = answer c step ≡ Err TimeBack
-Refuses c step faults.NoSuchAgent = answer c step ≡ Err NoSuchAgent
-Refuses c step faults.OutOfMemory = ⊤
+Refuses c step OutOfMemory = ⊤
+Refuses c step fault = answer c step ≡ Err fault

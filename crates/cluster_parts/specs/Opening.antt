@@ -3,9 +3,9 @@ use Rattle.std.specs.Prelude.{◌≡◌, ℕ, false, List, Option, Some, Result,
 use Rattle.mails.specs.declared.record.Durable.{Durable}
 use Rattle.agent_sides.specs.declared.config.ConfiguredAgent.{ConfiguredAgent}
 use Rattle.cluster_model.specs.Masters.{Master}
-use Rattle.cluster_model.specs.Steps.{Setup, open_cluster, opening}
+use Rattle.cluster_histories.specs.Steps.{Setup, open_cluster, opening}
 use Rattle.cluster_laws.specs.Parts.{recovered_part}
-use Rattle.cluster_steps.specs.Steps.{outputs_of}
+use Rattle.cluster_entries.specs.Entries.{outputs_of}
 use Rattle.master_core.specs.Steps.{greeting, outs_of}
 use Rattle.master_state.specs.States.{fresh}
 use Rattle.master_state.specs.Works.{master_of}

@@ -2,11 +2,14 @@
 use Rattle.std.specs.Prelude.{◌≡◌, ℕ, Bool, if◌then◌else◌, List, Option, None, Ok}
 use Rattle.mails.specs.declared.record.Durable.{Durable}
 use Rattle.role_weights.specs.Weights.{RoleWeight}
-use Rattle.cluster_model.specs.Clusters.{Cluster, Step, Prepare}
-use Rattle.cluster_model.specs.Steps.{Done, answer, fallen_answer}
+use Rattle.cluster_histories.specs.Clusters.{Cluster}
+use Rattle.cluster_steps.specs.declared.step.Step.{Step}
+use Rattle.cluster_steps.specs.declared.step.Step.TheVariants.{Prepare}
+use Rattle.cluster_histories.specs.Steps.{Done, answer, fallen_answer}
 use Rattle.cluster_laws.specs.Parts.{AreAgentsOf}
-use Rattle.cluster_steps.specs.Steps.{fell, outputs_of, verdict_of}
-use Rattle.cluster_steps.specs.declared.entry.Verdict.{Verdict}
+use Rattle.cluster_entries.specs.Entries.{outputs_of}
+use Rattle.cluster_steps.specs.Verdicts.{fell}
+use Rattle.cluster_steps.specs.declared.verdict.Verdict.{Verdict}
 use Rattle.cluster_steps.specs.declared.fault.ClusterFault.{ClusterFault}
 use Rattle.cluster_parts.specs.Agents.{KeptAgent}
 use Rattle.cluster_parts.specs.Causes.{record_prepared}
@@ -55,7 +58,7 @@ record_of step verdict agents = None
 pub record Takes (c : Cluster) (step : Step) (made : Made) (p : Parts) : Type 0 where
   pub done : Done
   pub answers : (if fell made.verdict then fallen_answer c step else answer c step) ≡ Ok done
-  pub ends : made.verdict ≡ verdict_of done.entry.verdict
+  pub ends : made.verdict ≡ done.entry.verdict
   pub brings : made.outputs ≡ outputs_of done.entry.outs
   pub drafts : made.durable ≡ record_of step made.verdict p.agents.items
   pub stands : Stands done.after p

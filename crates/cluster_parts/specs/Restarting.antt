@@ -1,12 +1,14 @@
 -- The master stops, and a new one begins the next run.
 use Rattle.std.specs.Prelude.{◌≡◌, ◌+◌, ℕ, nat_lt, if◌then◌else◌, List, Option, Some, None, Ok}
-use Rattle.cluster_model.specs.Clusters.{Cluster, StopMaster}
+use Rattle.cluster_histories.specs.Clusters.{Cluster}
+use Rattle.cluster_steps.specs.declared.step.Step.TheVariants.{StopMaster}
 use Rattle.cluster_model.specs.Ids.{last_run}
 use Rattle.cluster_model.specs.Masters.{Master}
-use Rattle.cluster_model.specs.Steps.{Done, answer, fallen_answer}
+use Rattle.cluster_histories.specs.Steps.{Done, answer, fallen_answer}
 use Rattle.cluster_laws.specs.Parts.{parts_of}
 use Rattle.cluster_laws.specs.declared.item.Item.{Item}
-use Rattle.cluster_steps.specs.Steps.{fell, outputs_of, verdict_of}
+use Rattle.cluster_entries.specs.Entries.{outputs_of}
+use Rattle.cluster_steps.specs.Verdicts.{fell}
 use Rattle.told_streams.specs.declared.kept.KeptStream.{KeptStream}
 use Rattle.cluster_parts.specs.Masters.{StandsFor}
 use Rattle.cluster_parts.specs.declared.masters.Made.{Made}
@@ -22,7 +24,7 @@ pub record Restarts (c : Cluster) (made : Made) (run : ℕ) (master : Option (Op
   pub done : Done
   pub answers : (if fell made.verdict then fallen_answer c StopMaster else answer c StopMaster)
       ≡ Ok done
-  pub ends : made.verdict ≡ verdict_of done.entry.verdict
+  pub ends : made.verdict ≡ done.entry.verdict
   pub brings : made.outputs ≡ outputs_of done.entry.outs
   pub drafts : made.durable ≡ None
   pub stands : StandsFor done.after master sent streams

@@ -5,8 +5,8 @@ use Rattle.event_json.specs.declared.event.Event.{Event}
 use Rattle.cluster_model.specs.Agents.{Draft}
 use Rattle.cluster_laws.specs.declared.item.Item.{Item}
 use Rattle.cluster_laws.specs.declared.item.Item.TheVariants as items
-use Rattle.cluster_steps.specs.declared.entry.Sent.{Sent}
-use Rattle.cluster_steps.specs.declared.entry.Sent.TheVariants as sent
+use Rattle.cluster_steps.specs.declared.verdict.Sent.{Sent}
+use Rattle.cluster_steps.specs.declared.verdict.Sent.TheVariants as sent
 use Rattle.cluster_steps.specs.declared.fault.ClusterFault.{ClusterFault}
 use Rattle.cluster_steps.specs.declared.fault.ClusterFault.TheVariants.{NoSuchMail, MasterDown, AgentDown, DraftOpen, NoDraft, HistoryFull, TimeBack, NoSuchAgent, OutOfMemory}
 use Rattle.cluster_parts.specs.declared.masters.Outgoing.{Outgoing}

@@ -4,7 +4,7 @@ ghost use Rattle.std.specs.Prelude.{◌≡◌, length, map, IfOk, IfErr, OnErr};
 ghost use Rattle.cluster_parts.specs.Parts.{AllRefuse, AllTake, Same};
 ghost use Rattle.cluster_parts.specs.Posts.{Grows};
 ghost use Rattle.cluster_parts.specs.Sending.{BringsNothing, BringsOut, item_from, sent_from};
-ghost use Rattle.cluster_model.specs.Clusters.{Commit};
+ghost use Rattle.cluster_steps.specs.declared.step.Step.TheVariants.{Commit};
 
 use crate::agents::ClusterAgent;
 use crate::laws::commits_are_made;

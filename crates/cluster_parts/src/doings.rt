@@ -4,11 +4,12 @@ ghost use Rattle.std.specs.Prelude.{◌≡◌, true, false, nat_lt, List, Option
 ghost use Rattle.cluster_parts.specs.Masters.{Does};
 ghost use Rattle.cluster_model.specs.Calls.{called};
 ghost use Rattle.cluster_model.specs.Channels.{Channel};
-ghost use Rattle.cluster_model.specs.Clusters.{Allocate, Called, Cluster, Deliver, HangUp, LoseAgent, Stream, Tick, master_of};
+ghost use Rattle.cluster_histories.specs.Clusters.{Called, Cluster, Stream, master_of};
+ghost use Rattle.cluster_steps.specs.declared.step.Step.TheVariants.{Allocate, Deliver, HangUp, LoseAgent, Tick};
 ghost use Rattle.cluster_model.specs.Mails.{hung_up, ticked};
 ghost use Rattle.role_weights.specs.Weights.{RoleWeight};
 ghost use Rattle.cluster_model.specs.Rounds.{allocated};
-ghost use Rattle.cluster_model.specs.Steps.{channel_of, post_at, stream_at};
+ghost use Rattle.cluster_histories.specs.Steps.{channel_of, post_at, stream_at};
 ghost use Rattle.mails.specs.declared.call.Call.{Call};
 ghost use Rattle.agent_sides.specs.Named.{lost_by};
 ghost use Rattle.names_core.specs.Ids.{Numbered};

@@ -5,13 +5,14 @@ ghost use Rattle.cluster_parts.specs.Masters.{Settles, ends_with, item_to, sent_
 ghost use Rattle.cluster_parts.specs.Moves.{sending};
 ghost use Rattle.cluster_parts.specs.Posts.{Grows};
 ghost use Rattle.cluster_laws.specs.Runs.{AreRising};
-ghost use Rattle.cluster_steps.specs.declared.entry.Verdict.TheVariants as verdicts;
+ghost use Rattle.cluster_steps.specs.declared.verdict.Verdict.TheVariants as verdicts;
 ghost use Rattle.told_streams.specs.Streams.{heard, kept_ids};
 
 use crate::items::Items;
 use agent_core::Record;
+use cluster_entries::Outputs;
 use cluster_laws::Item;
-use cluster_steps::{Outputs, Sent, Verdict};
+use cluster_steps::{Sent, Verdict};
 use listed::Listed;
 use mails::ToAgent;
 use master_core::{Master, MasterFault, Outs, StreamEvent};

@@ -12,9 +12,9 @@ ghost use Rattle.cluster_laws.specs.declared.item.Item.{Item};
 ghost use Rattle.role_weights.specs.Weights.{RoleWeight};
 ghost use Rattle.cluster_model.specs.Masters.{Master as ModelMaster};
 ghost use Rattle.cluster_model.specs.Openings.{GoodOpening};
-ghost use Rattle.cluster_model.specs.Steps.{Setup, open_cluster, opening};
-ghost use Rattle.cluster_steps.specs.Steps.{outputs_of};
-ghost use Rattle.cluster_steps.specs.declared.entry.Verdict.TheVariants as verdicts;
+ghost use Rattle.cluster_histories.specs.Steps.{Setup, open_cluster, opening};
+ghost use Rattle.cluster_entries.specs.Entries.{outputs_of};
+ghost use Rattle.cluster_steps.specs.declared.verdict.Verdict.TheVariants as verdicts;
 ghost use Rattle.cluster_steps.specs.declared.fault.ClusterFault.TheVariants.{OutOfMemory};
 ghost use Rattle.mails.specs.declared.record.Durable.{Durable as Record};
 ghost use Rattle.master_state.specs.declared.fault.MasterFault.{MasterFault as Fault};
@@ -26,11 +26,12 @@ use crate::agents::ClusterAgent;
 use crate::items::Items;
 use crate::masters::settle;
 use agent_core::Record;
+use cluster_entries::Outputs;
 use cluster_laws::{
     fresh_masters_open, masters_begin_with_greetings, masters_leave_agents, opening_items_stand,
 };
 use cluster_safe::masters_step_alone;
-use cluster_steps::{ClusterFault, Outputs, Verdict};
+use cluster_steps::{ClusterFault, Verdict};
 use master_core::{Config, Master, MasterFault, Outs};
 use names_core::Run;
 use plain_data::Plain;

@@ -4,7 +4,6 @@ ghost use Rattle.std.specs.Prelude.{◌≡◌, length, IfOk, IfErr, OnErr};
 ghost use Rattle.cluster_parts.specs.Handing.{IsGiven};
 ghost use Rattle.cluster_parts.specs.Parts.{AllMayRefuse, AllTakeBy, AreParts, ArePartsBy, Same};
 ghost use Rattle.cluster_parts.specs.Posts.{Grows};
-ghost use Rattle.cluster_steps.specs.Steps.{step_of};
 
 use crate::agents::ClusterAgent;
 use crate::items::Items;
@@ -47,14 +46,14 @@ impl Parts {
         requires parts { AreParts self.old }
         requires weights { ArePartsBy weights.now self.old }
         ensures made { IfOk result
-            (AllTakeBy weights.now self.old (step_of step.now) self.new) }
+            (AllTakeBy weights.now self.old step.now self.new) }
         ensures refused { IfErr result
-            (AllMayRefuse (P.gives (P.known post.old)) self.old (step_of step.now)) }
+            (AllMayRefuse (P.gives (P.known post.old)) self.old step.now) }
         ensures unchanged { OnErr result (Same self.old self.new) }
         ensures config { self.new.config ≡ self.old.config }
         ensures post { P.known post.new ≡ P.known post.old }
         ensures room { Grows (length self.old.items) (length self.new.items) (P.room post.new) }
-        ensures given { IfOk result (λ _. IsGiven (P.gives (P.known post.old)) (step_of step.now)) }
+        ensures given { IfOk result (λ _. IsGiven (P.gives (P.known post.old)) step.now) }
     {
         match step {
             Step::Send { stream, call } => self.send(post, alloc, *stream, call),

@@ -9,9 +9,8 @@ ghost use Rattle.cluster_parts.specs.Masters.{ends_with};
 ghost use Rattle.cluster_parts.specs.Moves.{sending};
 ghost use Rattle.cluster_parts.specs.Parts.{AllMayRefuse, AllTake, AreParts, Same};
 ghost use Rattle.cluster_model.specs.Agents.{next_of};
-ghost use Rattle.cluster_model.specs.Clusters.{Prepare};
-ghost use Rattle.cluster_steps.specs.Steps.{cause_of};
-ghost use Rattle.cluster_steps.specs.declared.entry.Verdict.TheVariants as verdicts;
+ghost use Rattle.cluster_steps.specs.declared.step.Step.TheVariants.{Prepare};
+ghost use Rattle.cluster_steps.specs.declared.verdict.Verdict.TheVariants as verdicts;
 
 use crate::agents::ClusterAgent;
 use crate::causes::cause_due;
@@ -96,9 +95,9 @@ impl Parts {
     ) -> Result<Made, ClusterFault>
         requires { AreParts self.old }
         ensures made { IfOk result
-            (AllTake self.old (Prepare name.now (cause_of cause.now)) self.new) }
+            (AllTake self.old (Prepare name.now cause.now) self.new) }
         ensures refused { IfErr result (AllMayRefuse (P.gives (P.known post.now)) self.old
-            (Prepare name.now (cause_of cause.now))) }
+            (Prepare name.now cause.now)) }
         ensures unchanged { OnErr result (Same self.old self.new) }
         ensures config { self.new.config ≡ self.old.config }
         ensures given { IfOk result (λ _. is_withheld (P.gives (P.known post.now)) cause.now

@@ -12,10 +12,11 @@ ghost use Rattle.agent_sides.specs.declared.config.ConfiguredAgent.{ConfiguredAg
 ghost use Rattle.cluster_laws.specs.Parts.{AreAgentsOf};
 ghost use Rattle.cluster_laws.specs.Runs.{AreRising};
 ghost use Rattle.cluster_laws.specs.declared.item.Item.{Item};
-ghost use Rattle.cluster_model.specs.Clusters.{Cluster, StopMaster};
+ghost use Rattle.cluster_histories.specs.Clusters.{Cluster};
+ghost use Rattle.cluster_steps.specs.declared.step.Step.TheVariants.{StopMaster};
 ghost use Rattle.cluster_model.specs.Ids.{last_run};
 ghost use Rattle.cluster_model.specs.Masters.{Master as ModelMaster};
-ghost use Rattle.cluster_steps.specs.declared.entry.Verdict.TheVariants as verdicts;
+ghost use Rattle.cluster_steps.specs.declared.verdict.Verdict.TheVariants as verdicts;
 ghost use Rattle.master_state.specs.declared.fault.MasterFault.{MasterFault as Fault};
 ghost use Rattle.master_state.specs.declared.state.Outs.{Outs};
 ghost use Rattle.told_streams.specs.Streams.{kept_ids};

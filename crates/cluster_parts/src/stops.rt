@@ -3,7 +3,8 @@
 ghost use Rattle.std.specs.Prelude.{◌≡◌, ◌<◌, length, Some, None, IfOk, IfErr, OnErr};
 ghost use Rattle.cluster_parts.specs.Agents.{place_in};
 ghost use Rattle.cluster_parts.specs.Parts.{AllRefuse, AllTake, Same};
-ghost use Rattle.cluster_model.specs.Clusters.{StopAfter, StopBefore};
+ghost use Rattle.cluster_steps.specs.declared.step.Step.TheVariants.{StopAgent};
+ghost use Rattle.cluster_steps.specs.declared.step.Keep.TheVariants.{After, Before};
 ghost use Rattle.cluster_steps.specs.declared.fault.ClusterFault.TheVariants.{NoSuchAgent};
 
 use crate::agents::{ClusterAgent, place_of};
@@ -35,8 +36,8 @@ impl Parts {
         alloc: Global,
         name: &AgentName,
     ) -> Result<Made, ClusterFault>
-        ensures made { IfOk result (AllTake self.old (StopBefore name.now) self.new) }
-        ensures refused { IfErr result (AllRefuse self.old (StopBefore name.now)) }
+        ensures made { IfOk result (AllTake self.old (StopAgent name.now Before) self.new) }
+        ensures refused { IfErr result (AllRefuse self.old (StopAgent name.now Before)) }
         ensures unchanged { OnErr result (Same self.old self.new) }
         ensures config { self.new.config ≡ self.old.config }
         ensures items { length self.new.items ≡ length self.old.items }
@@ -55,8 +56,8 @@ impl Parts {
         alloc: Global,
         name: &AgentName,
     ) -> Result<Made, ClusterFault>
-        ensures made { IfOk result (AllTake self.old (StopAfter name.now) self.new) }
-        ensures refused { IfErr result (AllRefuse self.old (StopAfter name.now)) }
+        ensures made { IfOk result (AllTake self.old (StopAgent name.now After) self.new) }
+        ensures refused { IfErr result (AllRefuse self.old (StopAgent name.now After)) }
         ensures unchanged { OnErr result (Same self.old self.new) }
         ensures config { self.new.config ≡ self.old.config }
         ensures items { length self.new.items ≡ length self.old.items }

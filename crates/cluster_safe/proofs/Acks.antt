@@ -23,7 +23,7 @@ use Rattle.cluster_model.specs.Masters.{Framework, Master, Move, AtSide, TearDow
 use Rattle.cluster_model.specs.Calls.{frameworks_limit, to_list, subscribed, removed, resubscribed, is_unheard_of, sides_with_tasks, on_teardown, answers_held, Given, good_side, given_by, Accepting, accepts_all, passes_limits, accepted_as, accepted_from, on_accept, on_decline, on_revive, on_suppress, commanding, on_kill, is_last_heard, on_acknowledge, on_reconcile, is_stream, on_its_stream, by_known, called}
 use Rattle.cluster_model.specs.Mails.{judged, rescinds, loses, is_to_end, session_opens, goes_with, mailed_as, mailed, ticks, ticked, agent_lost, hung_up_by, hung_up}
 use Rattle.cluster_model.specs.Rounds.{round, allocated}
-use Rattle.cluster_model.specs.Steps.{happening_of}
+use Rattle.cluster_histories.specs.Steps.{happening_of}
 use Rattle.cluster_safe.specs.Origin.{launched}
 use Rattle.cluster_safe.proofs.Orders.{each_append}
 use Rattle.cluster_safe.proofs.Told.{Carried, SendingTold, StepTold, happens_told, shut_told}

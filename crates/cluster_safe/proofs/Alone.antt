@@ -14,8 +14,10 @@ use Rattle.cluster_model.specs.Sides.{Run, Side, torn_down, offer_rows, sends_no
 use Rattle.cluster_model.specs.Channels.{Channel, ByMaster, Hear, by_master, World, At, at_agent, with_side, after, after_all}
 use Rattle.cluster_model.specs.Masters.{Move, AtSide, TearDownAll, RestartAll, HaltAll, Doing, Moved, at_side, move, move_all, unmoved, moved, after_doing}
 use Rattle.cluster_model.specs.Mails.{hear_at, having_heard}
-use Rattle.cluster_model.specs.Clusters.{Cluster, sides_of, master_of, Sent, MailToAgent}
-use Rattle.cluster_model.specs.Steps.{sent_in, sent_between, sent_by, done, happening_of, effect_of, channel_of}
+use Rattle.cluster_histories.specs.Clusters.{Cluster, sides_of, master_of}
+use Rattle.cluster_steps.specs.declared.verdict.Sent.{Sent}
+use Rattle.cluster_steps.specs.declared.verdict.Sent.TheVariants.{ToAgent as MailToAgent}
+use Rattle.cluster_histories.specs.Steps.{sent_in, sent_between, sent_by, done, happening_of, effect_of, channel_of}
 use Rattle.cluster_safe.proofs.Origins.{untouched_issue, untouched_all}
 
 -- sides

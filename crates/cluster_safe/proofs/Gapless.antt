@@ -16,10 +16,13 @@ use Rattle.mails.specs.declared.call.Call.TheVariants.{Subscribe, Teardown, Acce
 use Rattle.mails.specs.declared.call.Call.TheVariants as calls
 use Rattle.cluster_model.specs.Ids.{same}
 use Rattle.cluster_model.specs.Channels.{Channel, World, Happening, after_all, open_channel, open_world}
-use Rattle.cluster_model.specs.Clusters.{Post, Called, Down, Up, Step, Send, Entry, StepRefusal}
+use Rattle.cluster_histories.specs.Clusters.{Post, Called, Down, Up, Entry}
+use Rattle.cluster_steps.specs.declared.step.Step.{Step}
+use Rattle.cluster_steps.specs.declared.step.Step.TheVariants.{Send}
+use Rattle.cluster_steps.specs.declared.fault.ClusterFault.{ClusterFault}
 use Rattle.cluster_model.specs.Events.{Event, SUBSCRIBED, OFFERS, RESCIND, UPDATE, FAILURE, FAILED_OVER, REMOVED, HEARTBEAT, Told}
 use Rattle.cluster_model.specs.Openings.{GoodOpening, recorded_jobs}
-use Rattle.cluster_model.specs.Steps.{Setup, Done, History, Marked, step_marked, extended, extend_all, history, opening, hello_to}
+use Rattle.cluster_histories.specs.Steps.{Setup, Done, History, Marked, step_marked, extended, extend_all, history, opening, hello_to}
 use Rattle.cluster_safe.specs.Acknowledged.{Names, WasSent, WasCounted, recorded_tasks}
 use Rattle.cluster_safe.specs.Honest.{Tells, WasTold, handed_in, IsHonestCall, IsHonestStep, Honest, has_number, noted, up_to, counted, acknowledged_by, IsKeyOf, IsBeginningOf}
 use Rattle.cluster_safe.specs.Updates.{longer, states_under, recorded_states, updates_of, AcknowledgeTheirs}
@@ -253,7 +256,7 @@ call_ready records start h framework key ok origin owns stream (Reconcile f task
 wider : (most later : ℕ) (ks : List ℕ) → most ≤ later → Gapless most ks → Gapless later ks
 wider most later ks le g = (g.0, g.1, le_trans g.2 le)
 
-extended_gapless : (records : List Durable) (start : World) (h : History) (framework key : Numbered) (r : Result Done StepRefusal) → HistoryOk records start h → OriginOk records start [] → Owns framework key (all_jobs records start h.happenings) → Legal (AckedBy records (trail h.happenings start []) h.state.posts) (Tellable records start h.happenings h.state.posts) (λ stream call. IsHonestCall framework h.entries call) h.state r →
+extended_gapless : (records : List Durable) (start : World) (h : History) (framework key : Numbered) (r : Result Done ClusterFault) → HistoryOk records start h → OriginOk records start [] → Owns framework key (all_jobs records start h.happenings) → Legal (AckedBy records (trail h.happenings start []) h.state.posts) (Tellable records start h.happenings h.state.posts) (λ stream call. IsHonestCall framework h.entries call) h.state r →
     Gapless (told_count start h.happenings key) (acknowledged_by records framework key h.state.posts) → Gapless (told_count start (extended h r).happenings key) (acknowledged_by records framework key (extended h r).state.posts)
 extended_gapless records start h framework key (Ok d) ok origin owns l g =
     wider most later (acknowledged_by records framework key d.after.posts) grown (subst (λ ps. Gapless most (acknowledged_by records framework key ps)) (sym l.4.1)
@@ -270,7 +273,7 @@ extended_gapless records start h framework key (Ok d) ok origin owns l g =
     grown = subst (λ xs. told_count start h.happenings key ≤ length xs) (sym (over_append key h.happenings d.happenings start (recorded_states key start))) (over_more key d.happenings (after_all h.happenings start) (updates_of key h.happenings start))
 extended_gapless records start h framework key (Err refusal) ok origin owns l g = g
 
-jobs_step : (records : List Durable) (start : World) (h : History) (r : Result Done StepRefusal) (j : Job) → IsOneOf j (all_jobs records start h.happenings) → IsOneOf j (all_jobs records start (extended h r).happenings)
+jobs_step : (records : List Durable) (start : World) (h : History) (r : Result Done ClusterFault) (j : Job) → IsOneOf j (all_jobs records start h.happenings) → IsOneOf j (all_jobs records start (extended h r).happenings)
 jobs_step records start h (Ok d) j x = subst (λ ms. IsOneOf j (jobs_of ms ++ recorded_jobs records)) (sym (trail_append h.happenings d.happenings start [])) (jobs_grow d.happenings (after_all h.happenings start) (trail h.happenings start []) (recorded_jobs records) j x)
 jobs_step records start h (Err refusal) j x = x
 

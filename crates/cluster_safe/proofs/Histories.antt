@@ -31,8 +31,17 @@ use Rattle.cluster_model.specs.Masters.{Framework, Master, new_registers, Doing,
 use Rattle.cluster_model.specs.Calls.{is_last_heard, called}
 use Rattle.cluster_model.specs.Mails.{mailed, ticked, agent_lost, hung_up}
 use Rattle.cluster_model.specs.Rounds.{allocated}
-use Rattle.cluster_model.specs.Clusters.{Stream, Post, Called, Down, Up, Cluster, sides_of, master_of, StepCause, ByStart, ByAgain, ByExecutor, ByMail, Step, Send, Deliver, Allocate, Tick, LoseAgent, HangUp, Prepare, Commit, StopBefore, StopAfter, StopMaster, Take, StepRefusal, MasterDown, AgentDown, DraftOpen, NoDraft, HistoryFull, TimeBack, Verdict, Fine, MasterRefused, AgentRefused, Fell, Entry}
-use Rattle.cluster_model.specs.Steps.{Setup, posts_by, Effect, Done, done, does, happening, verdict_of, effect_of, master_does, master_hears, channel_of, delivers_up, delivers, post_at, with_tick, ticks_at, stream_at, hangs_up, loses_agent, hello_to, drafts, draws_mail_at, draws_mail, prepares, commits, up_again, stops, with_master, at_channel, is_fallen, if_up, by_draft, without_draft, with_draft, takes_event, takes, answer, master_falls, new_master_falls, fallen_too, agent_falls, instead, fallen_answer, Marked, step_marked, History, opening, extended, extend_all, history}
+use Rattle.cluster_histories.specs.Clusters.{Stream, Post, Called, Down, Up, Cluster, sides_of, master_of, Entry}
+use Rattle.cluster_steps.specs.declared.step.StepCause.{StepCause}
+use Rattle.cluster_steps.specs.declared.step.StepCause.TheVariants.{Start as ByStart, Again as ByAgain, Executor as ByExecutor, Mail as ByMail}
+use Rattle.cluster_steps.specs.declared.step.Step.{Step}
+use Rattle.cluster_steps.specs.declared.step.Step.TheVariants.{Send, Deliver, Allocate, Tick, LoseAgent, HangUp, Prepare, Commit, StopAgent, StopMaster, Take}
+use Rattle.cluster_steps.specs.declared.step.Keep.TheVariants as keep
+use Rattle.cluster_steps.specs.declared.fault.ClusterFault.{ClusterFault}
+use Rattle.cluster_steps.specs.declared.fault.ClusterFault.TheVariants.{MasterDown, AgentDown, DraftOpen, NoDraft, HistoryFull, TimeBack}
+use Rattle.cluster_steps.specs.declared.verdict.Verdict.{Verdict}
+use Rattle.cluster_steps.specs.declared.verdict.Verdict.TheVariants.{Ok as Fine, MasterRefused, AgentRefused, OutOfMemory as Fell}
+use Rattle.cluster_histories.specs.Steps.{Setup, posts_by, Effect, Done, done, does, happening, verdict_of, effect_of, master_does, master_hears, channel_of, delivers_up, delivers, post_at, with_tick, ticks_at, stream_at, hangs_up, loses_agent, hello_to, drafts, draws_mail_at, draws_mail, prepares, commits, up_again, stops, with_master, at_channel, is_fallen, if_up, by_draft, without_draft, with_draft, takes_event, takes, answer, master_falls, new_master_falls, fallen_too, agent_falls, instead, fallen_answer, Marked, step_marked, History, opening, extended, extend_all, history}
 use Rattle.cluster_safe.specs.Facts.{HasRoom, RoomForAll}
 use Rattle.cluster_safe.specs.Acknowledged.{Names, WasSent, WasCounted, recorded_tasks, AcknowledgedByOwner}
 use Rattle.cluster_safe.specs.Saved.{IsFound}
@@ -56,7 +65,7 @@ use Rattle.cluster_safe.proofs.Names.{AllNamed, open_named, worlds_named}
 use Rattle.cluster_safe.specs.Premises.{MeetsPremises}
 use Rattle.cluster_safe.proofs.Premises.{all_premises}
 use Rattle.cluster_model.specs.Events.{Told}
-use Rattle.cluster_model.specs.Steps.{Effect, new_to_agent, new_to_master, places, posts_between, posts_by, posts_in, told_on, hears, new_stream, streams_after, takes_one}
+use Rattle.cluster_histories.specs.Steps.{Effect, new_to_agent, new_to_master, places, posts_between, posts_by, posts_in, told_on, hears, new_stream, streams_after, takes_one}
 use Rattle.cluster_safe.proofs.Events.{TellOk, EventOk, MailOk, allocated_events, called_events, event_wider, hung_events, lost_events, mailed_events, ticked_events}
 use Rattle.cluster_safe.proofs.Orders.{each_at}
 use Rattle.std.proofs.Common.{le_trans, le_refl}
@@ -103,7 +112,7 @@ abbrev pub AllTell : (List ℕ → Numbered → ℕ → TaskState → Type 0) �
 AllTell T w = Each (λ (c : Channel). Each (MailOk (T c.side.name)) c.to_master) w.channels
 
 -- what a step that isn't refused does: what happens, what it answers, what it tells and what it sends, and the frameworks that are then known; T holds of each update that it tells, and S of a call that it sends
-abbrev pub Legal : (Numbered → ℕ → Type 0) → (List ℕ → Numbered → ℕ → TaskState → Type 0) → (Option Numbered → Call → Type 0) → Cluster → Result Done StepRefusal → Type 0
+abbrev pub Legal : (Numbered → ℕ → Type 0) → (List ℕ → Numbered → ℕ → TaskState → Type 0) → (Option Numbered → Call → Type 0) → Cluster → Result Done ClusterFault → Type 0
 Legal A T S c (Ok d) = (d.after.world ≡ after_all d.happenings c.world) × NotNoRoom d.entry.verdict × Each (HappeningOk A c.world.run.number) d.happenings × Each (EventOk T) d.entry.outs.events × ((more : List Post) × (d.after.posts ≡ c.posts ++ more) × (Each NotCall more ⊎ Sends S more)) × (Each (StreamOk T) c.streams → Each (StreamOk T) d.after.streams × HandedOk T d.entry) × (AllUpTo c.world.run.number c.registers.frameworks → AllUpTo c.world.run.number d.after.registers.frameworks)
 Legal A T S c (Err refusal) = ⊤
 
@@ -152,7 +161,7 @@ hellos_ok : (A : Numbered → ℕ → Type 0) (n : ℕ) (cs : List Channel) → 
 hellos_ok A n [] = tt
 hellos_ok A n (c ∷ cs) = (tt, hellos_ok A n cs)
 
-by_test : (A : Numbered → ℕ → Type 0) (T : List ℕ → Numbered → ℕ → TaskState → Type 0) (S : Option Numbered → Call → Type 0) (c : Cluster) (b : Bool) (x y : Result Done StepRefusal) → Legal A T S c x → Legal A T S c y → Legal A T S c (if b then x else y)
+by_test : (A : Numbered → ℕ → Type 0) (T : List ℕ → Numbered → ℕ → TaskState → Type 0) (S : Option Numbered → Call → Type 0) (c : Cluster) (b : Bool) (x y : Result Done ClusterFault) → Legal A T S c x → Legal A T S c y → Legal A T S c (if b then x else y)
 by_test A T S c true x y p q = p
 by_test A T S c false x y p q = q
 
@@ -199,7 +208,7 @@ hangs_up_legal : (A : Numbered → ℕ → Type 0) (T : List ℕ → Numbered �
 hangs_up_legal A T S c id None = tt
 hangs_up_legal A T S c id (Some s) = master_legal A T S c (hung_up (master_of c) id) (hung_ok A c.world.run.number (master_of c) id) (hung_events T (master_of c) id) (λ k. hung_up_to c.world.run.number (master_of c) id k)
 
-with_master_legal : (A : Numbered → ℕ → Type 0) (T : List ℕ → Numbered → ℕ → TaskState → Type 0) (S : Option Numbered → Call → Type 0) (c : Cluster) (r : Result Done StepRefusal) → Legal A T S c r → Legal A T S c (with_master c r)
+with_master_legal : (A : Numbered → ℕ → Type 0) (T : List ℕ → Numbered → ℕ → TaskState → Type 0) (S : Option Numbered → Call → Type 0) (c : Cluster) (r : Result Done ClusterFault) → Legal A T S c r → Legal A T S c (with_master c r)
 with_master_legal A T S c r p = by_test A T S c c.world.run.serves r (Err MasterDown) p tt
 
 -- agents
@@ -251,14 +260,14 @@ prepares_legal A T S c ByAgain x h = drafts_legal A T S c x (Draw Again) (next_o
 prepares_legal A T S c (ByExecutor key state) x h = drafts_legal A T S c x (Draw (Executor key state)) (next_of x.agent (Executor key state)) (executes_room x.agent key state)
 prepares_legal A T S c (ByMail number) x h = draws_mail_legal A T S c x (post_at c number) h
 
-by_draft_legal : (A : Numbered → ℕ → Type 0) (T : List ℕ → Numbered → ℕ → TaskState → Type 0) (S : Option Numbered → Call → Type 0) (c : Cluster) (d : Option Draft) (without with_one : Result Done StepRefusal) → Legal A T S c without → Legal A T S c with_one → Legal A T S c (by_draft d without with_one)
+by_draft_legal : (A : Numbered → ℕ → Type 0) (T : List ℕ → Numbered → ℕ → TaskState → Type 0) (S : Option Numbered → Call → Type 0) (c : Cluster) (d : Option Draft) (without with_one : Result Done ClusterFault) → Legal A T S c without → Legal A T S c with_one → Legal A T S c (by_draft d without with_one)
 by_draft_legal A T S c None without with_one p q = p
 by_draft_legal A T S c (Some d) without with_one p q = q
 
-if_up_legal : (A : Numbered → ℕ → Type 0) (T : List ℕ → Numbered → ℕ → TaskState → Type 0) (S : Option Numbered → Call → Type 0) (c : Cluster) (step : Channel → Result Done StepRefusal) (x : Channel) → Legal A T S c (step x) → Legal A T S c (if_up c step x)
+if_up_legal : (A : Numbered → ℕ → Type 0) (T : List ℕ → Numbered → ℕ → TaskState → Type 0) (S : Option Numbered → Call → Type 0) (c : Cluster) (step : Channel → Result Done ClusterFault) (x : Channel) → Legal A T S c (step x) → Legal A T S c (if_up c step x)
 if_up_legal A T S c step x p = by_test A T S c (is_fallen c x) (Err AgentDown) (step x) tt p
 
-at_channel_legal : (A : Numbered → ℕ → Type 0) (T : List ℕ → Numbered → ℕ → TaskState → Type 0) (S : Option Numbered → Call → Type 0) (c : Cluster) (agent : List ℕ) (step : Channel → Result Done StepRefusal) → Each Roomy c.world.channels → ((x : Channel) → Roomy x → Legal A T S c (step x)) → Legal A T S c (at_channel (channel_of c agent) step)
+at_channel_legal : (A : Numbered → ℕ → Type 0) (T : List ℕ → Numbered → ℕ → TaskState → Type 0) (S : Option Numbered → Call → Type 0) (c : Cluster) (agent : List ℕ) (step : Channel → Result Done ClusterFault) → Each Roomy c.world.channels → ((x : Channel) → Roomy x → Legal A T S c (step x)) → Legal A T S c (at_channel (channel_of c agent) step)
 at_channel_legal A T S c agent step rooms p = found Roomy (λ x. bytes_eq x.side.name agent) (λ o. Legal A T S c (at_channel o step)) tt p c.world.channels rooms
 
 -- all steps
@@ -272,8 +281,8 @@ answer_legal A T S c rooms acks acked (LoseAgent agent) sends = at_channel_legal
 answer_legal A T S c rooms acks acked (HangUp stream) sends = with_master_legal A T S c (hangs_up c stream (stream_at c stream)) (hangs_up_legal A T S c stream (stream_at c stream))
 answer_legal A T S c rooms acks acked (Prepare agent cause) sends = at_channel_legal A T S c agent (if_up c (without_draft (prepares c cause))) rooms (λ x h. if_up_legal A T S c (without_draft (prepares c cause)) x (by_draft_legal A T S c x.draft (prepares c cause x) (Err DraftOpen) (prepares_legal A T S c cause x h) tt))
 answer_legal A T S c rooms acks acked (Commit agent) sends = at_channel_legal A T S c agent (if_up c (with_draft (commits c))) rooms (λ x h. if_up_legal A T S c (with_draft (commits c)) x (by_draft_legal A T S c x.draft (Err NoDraft) (commits c x) tt (legal_effect A T S c (happening c Fine (At x.side.name (ByAgent Adopt) ∷ [])) tt tt (tt, tt) (λ k. k))))
-answer_legal A T S c rooms acks acked (StopBefore agent) sends = at_channel_legal A T S c agent (stops c StopWithout) rooms (λ x h. legal_effect A T S (up_again c x.side.name) (happening c Fine (At x.side.name (ByAgent StopWithout) ∷ [])) tt tt (tt, tt) (λ k. k))
-answer_legal A T S c rooms acks acked (StopAfter agent) sends = at_channel_legal A T S c agent (with_draft (stops c StopWith)) rooms (λ x h. by_draft_legal A T S c x.draft (Err NoDraft) (stops c StopWith x) tt (legal_effect A T S (up_again c x.side.name) (happening c Fine (At x.side.name (ByAgent StopWith) ∷ [])) tt tt (tt, tt) (λ k. k)))
+answer_legal A T S c rooms acks acked (StopAgent agent keep.Before) sends = at_channel_legal A T S c agent (stops c StopWithout) rooms (λ x h. legal_effect A T S (up_again c x.side.name) (happening c Fine (At x.side.name (ByAgent StopWithout) ∷ [])) tt tt (tt, tt) (λ k. k))
+answer_legal A T S c rooms acks acked (StopAgent agent keep.After) sends = at_channel_legal A T S c agent (with_draft (stops c StopWith)) rooms (λ x h. by_draft_legal A T S c x.draft (Err NoDraft) (stops c StopWith x) tt (legal_effect A T S (up_again c x.side.name) (happening c Fine (At x.side.name (ByAgent StopWith) ∷ [])) tt tt (tt, tt) (λ k. k)))
 answer_legal A T S c rooms acks acked StopMaster sends = stops_legal (nat_lt c.world.run.number last_run)
   where
     stops_legal : (b : Bool) → Legal A T S c (does c (if b then record (happening c Fine (Restart ∷ map hello_to c.world.channels)) { registers = new_registers } else record (happening c Fine (Halt ∷ [])) { registers = new_registers }))
@@ -281,7 +290,7 @@ answer_legal A T S c rooms acks acked StopMaster sends = stops_legal (nat_lt c.w
     stops_legal false = legal_effect A T S c (record (happening c Fine (Halt ∷ [])) { registers = new_registers }) tt tt (tt, tt) (λ k. tt)
 answer_legal A T S c rooms acks acked (Take stream) sends = takes_legal A T S c stream (stream_at c stream) (found_stream T c stream)
 
-instead_legal : (A : Numbered → ℕ → Type 0) (T : List ℕ → Numbered → ℕ → TaskState → Type 0) (S : Option Numbered → Call → Type 0) (c : Cluster) (r : Result Done StepRefusal) (d : Done) → Legal A T S c (Ok d) → Legal A T S c (instead r d)
+instead_legal : (A : Numbered → ℕ → Type 0) (T : List ℕ → Numbered → ℕ → TaskState → Type 0) (S : Option Numbered → Call → Type 0) (c : Cluster) (r : Result Done ClusterFault) (d : Done) → Legal A T S c (Ok d) → Legal A T S c (instead r d)
 instead_legal A T S c (Ok done) d m = m
 instead_legal A T S c (Err e) d m = tt
 
@@ -294,8 +303,8 @@ fallen_legal A T S c rooms acks acked (LoseAgent agent) sends = instead_legal A 
 fallen_legal A T S c rooms acks acked (HangUp stream) sends = instead_legal A T S c (answer c (HangUp stream)) (master_falls c) (legal_effect A T S c (record (happening c Fell (Halt ∷ [])) { registers = new_registers }) tt tt (tt, tt) (λ k. tt))
 fallen_legal A T S c rooms acks acked (Prepare agent cause) sends = instead_legal A T S c (answer c (Prepare agent cause)) (agent_falls c agent StopWithout) (legal_effect A T S (fallen_too c agent) (happening (fallen_too c agent) Fell (At agent (ByAgent StopWithout) ∷ [])) tt tt (tt, tt) (λ k. k))
 fallen_legal A T S c rooms acks acked (Commit agent) sends = answer_legal A T S c rooms acks acked (Commit agent) sends
-fallen_legal A T S c rooms acks acked (StopBefore agent) sends = instead_legal A T S c (answer c (StopBefore agent)) (agent_falls c agent StopWithout) (legal_effect A T S (fallen_too c agent) (happening (fallen_too c agent) Fell (At agent (ByAgent StopWithout) ∷ [])) tt tt (tt, tt) (λ k. k))
-fallen_legal A T S c rooms acks acked (StopAfter agent) sends = instead_legal A T S c (answer c (StopAfter agent)) (agent_falls c agent StopWith) (legal_effect A T S (fallen_too c agent) (happening (fallen_too c agent) Fell (At agent (ByAgent StopWith) ∷ [])) tt tt (tt, tt) (λ k. k))
+fallen_legal A T S c rooms acks acked (StopAgent agent keep.Before) sends = instead_legal A T S c (answer c (StopAgent agent keep.Before)) (agent_falls c agent StopWithout) (legal_effect A T S (fallen_too c agent) (happening (fallen_too c agent) Fell (At agent (ByAgent StopWithout) ∷ [])) tt tt (tt, tt) (λ k. k))
+fallen_legal A T S c rooms acks acked (StopAgent agent keep.After) sends = instead_legal A T S c (answer c (StopAgent agent keep.After)) (agent_falls c agent StopWith) (legal_effect A T S (fallen_too c agent) (happening (fallen_too c agent) Fell (At agent (ByAgent StopWith) ∷ [])) tt tt (tt, tt) (λ k. k))
 fallen_legal A T S c rooms acks acked StopMaster sends = by_test A T S c (nat_lt c.world.run.number last_run) (Ok (new_master_falls c)) (answer c StopMaster) (legal_effect A T S c (record (happening c Fell (Restart ∷ Halt ∷ [])) { registers = new_registers }) tt tt (tt, (tt, tt)) (λ k. tt)) (answer_legal A T S c rooms acks acked StopMaster sends)
 fallen_legal A T S c rooms acks acked (Take stream) sends = answer_legal A T S c rooms acks acked (Take stream) sends
 
@@ -455,7 +464,7 @@ pub record HistoryOk (records : List Durable) (start : World) (h : History) : Ty
 events_wider : (A B : List ℕ → Numbered → ℕ → TaskState → Type 0) → ((agent : List ℕ) (key : Numbered) (k : ℕ) (state : TaskState) → A agent key k state → B agent key k state) → (ts : List Told) → Each (EventOk A) ts → Each (EventOk B) ts
 events_wider A B f ts h = each_map (EventOk A) (EventOk B) (λ t k. event_wider A B f t.event k) ts h
 
-extended_ok : (records : List Durable) (start : World) (S : Option Numbered → Call → Type 0) (h : History) (r : Result Done StepRefusal) → Legal (AckedBy records (trail h.happenings start []) h.state.posts) (Tellable records start h.happenings h.state.posts) S h.state r → HistoryOk records start h → HistoryOk records start (extended h r)
+extended_ok : (records : List Durable) (start : World) (S : Option Numbered → Call → Type 0) (h : History) (r : Result Done ClusterFault) → Legal (AckedBy records (trail h.happenings start []) h.state.posts) (Tellable records start h.happenings h.state.posts) S h.state r → HistoryOk records start h → HistoryOk records start (extended h r)
 extended_ok records start S h (Ok d) l ok = record {
   path = l.0 ∙ (ap (after_all d.happenings) ok.path ∙ sym (after_append h.happenings d.happenings start));
   sent = subst (SentOk (updates_in start (h.happenings ++ d.happenings))) (sym l.0) (sent_alike (all_over (updates_in start h.happenings) d.happenings h.state.world) (updates_in start (h.happenings ++ d.happenings)) (after_all d.happenings h.state.world) sent_joins (worlds_sent records d.happenings h.state.world marks (updates_in start h.happenings) ok.origin ok.sent));

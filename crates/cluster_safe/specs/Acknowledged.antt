@@ -6,7 +6,7 @@ use Rattle.mails.specs.declared.call.Call.TheVariants.{Acknowledge}
 use Rattle.mails.specs.declared.record.Durable.{Durable}
 use Rattle.mails.specs.declared.record.RecordedTask.{RecordedTask}
 use Rattle.cluster_model.specs.Channels.{World}
-use Rattle.cluster_model.specs.Clusters.{Post, Called}
+use Rattle.cluster_histories.specs.Clusters.{Post, Called}
 
 -- an ACKNOWLEDGE of this framework names this update
 abbrev pub Names : Numbered → Numbered → ℕ → Post → Type 0

@@ -10,8 +10,10 @@ use Rattle.mails.specs.declared.record.Durable.{Durable}
 use Rattle.mails.specs.declared.record.RecordedTask.{RecordedTask}
 use Rattle.cluster_model.specs.Ids.{same}
 use Rattle.cluster_model.specs.Events.{Event, Told, UPDATE}
-use Rattle.cluster_model.specs.Clusters.{Post, Called, Step, Send, Entry}
-use Rattle.cluster_model.specs.Steps.{History, Marked, extended, step_marked}
+use Rattle.cluster_histories.specs.Clusters.{Post, Called, Entry}
+use Rattle.cluster_steps.specs.declared.step.Step.{Step}
+use Rattle.cluster_steps.specs.declared.step.Step.TheVariants.{Send}
+use Rattle.cluster_histories.specs.Steps.{History, Marked, extended, step_marked}
 use Rattle.cluster_safe.specs.Acknowledged.{recorded_tasks}
 use Rattle.cluster_safe.specs.Origin.{IsOneOf}
 

@@ -2,8 +2,9 @@
 use Rattle.std.specs.Prelude.{◌≢◌}
 use Rattle.std.specs.List.{AllByRecursion as Each}
 use Rattle.mails.specs.declared.refusal.AgentRefusal.TheVariants.{NoRoom}
-use Rattle.cluster_model.specs.Clusters.{Entry, AgentRefused}
-use Rattle.cluster_model.specs.Steps.{History}
+use Rattle.cluster_histories.specs.Clusters.{Entry}
+use Rattle.cluster_steps.specs.declared.verdict.Verdict.TheVariants.{AgentRefused}
+use Rattle.cluster_histories.specs.Steps.{History}
 
 -- no entry of the history is a refusal of an agent for want of room
 abbrev pub NeverLacksRoom : History → Type 0

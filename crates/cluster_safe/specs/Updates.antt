@@ -9,8 +9,8 @@ use Rattle.mails.specs.declared.record.RecordedTask.{RecordedTask}
 use Rattle.cluster_model.specs.Ids.{same}
 use Rattle.cluster_model.specs.Channels.{Channel, World, Happening, after}
 use Rattle.cluster_model.specs.Events.{Event, UPDATE, Told}
-use Rattle.cluster_model.specs.Clusters.{Entry}
-use Rattle.cluster_model.specs.Steps.{History}
+use Rattle.cluster_histories.specs.Clusters.{Entry}
+use Rattle.cluster_histories.specs.Steps.{History}
 use Rattle.cluster_safe.specs.Acknowledged.{recorded_tasks}
 
 abbrev pub longer : List TaskState → List TaskState → List TaskState

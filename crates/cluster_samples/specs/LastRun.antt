@@ -2,7 +2,10 @@
 use Rattle.std.specs.Prelude.{ℕ, List, [], ◌∷◌}
 use Rattle.mails.specs.declared.mail.MasterMail.TheVariants.{Hello}
 use Rattle.mails.specs.declared.record.Durable.{Durable}
-use Rattle.cluster_model.specs.Clusters.{Step, Deliver, Allocate, StopMaster, MasterDown, Fine}
+use Rattle.cluster_steps.specs.declared.step.Step.{Step}
+use Rattle.cluster_steps.specs.declared.step.Step.TheVariants.{Deliver, Allocate, StopMaster}
+use Rattle.cluster_steps.specs.declared.fault.ClusterFault.TheVariants.{MasterDown}
+use Rattle.cluster_steps.specs.declared.verdict.Verdict.TheVariants.{Ok as Fine}
 use Rattle.cluster_samples.specs.Short.{row, to_agent, durable, line, Refused, ending, Expected}
 
 abbrev pub n_a1 : List ℕ

@@ -6,7 +6,12 @@ use Rattle.mails.specs.declared.mail.MasterMail.TheVariants.{Hello, Issued}
 use Rattle.mails.specs.declared.mail.AgentMail.TheVariants.{Report, Applied, Update}
 use Rattle.mails.specs.declared.record.Durable.{Durable}
 use Rattle.cluster_model.specs.Events.{SUBSCRIBED, OFFERS, UPDATE, FAILED_OVER, REMOVED, HEARTBEAT}
-use Rattle.cluster_model.specs.Clusters.{Step, Send, Deliver, Allocate, Tick, HangUp, Prepare, Commit, Take, ByStart, ByExecutor, ByMail, NoDraft, Fine, MasterRefused, AgentRefused, CallSent}
+use Rattle.cluster_steps.specs.declared.step.Step.{Step}
+use Rattle.cluster_steps.specs.declared.step.Step.TheVariants.{Send, Deliver, Allocate, Tick, HangUp, Prepare, Commit, Take}
+use Rattle.cluster_steps.specs.declared.step.StepCause.TheVariants.{Start as ByStart, Executor as ByExecutor, Mail as ByMail}
+use Rattle.cluster_steps.specs.declared.fault.ClusterFault.TheVariants.{NoDraft}
+use Rattle.cluster_steps.specs.declared.verdict.Verdict.TheVariants.{Ok as Fine, MasterRefused, AgentRefused}
+use Rattle.cluster_steps.specs.declared.verdict.Sent.TheVariants.{Call as CallSent}
 use Rattle.cluster_samples.specs.Short.{id, row, job, booked, made, wanted, asked, uuid, told, to_agent, from_agent, task, durable, line, Refused, ending, Expected}
 use Rattle.mails.specs.declared.call.Call.TheVariants as calls
 use Rattle.mails.specs.declared.refusal.AgentRefusal.TheVariants as refusals

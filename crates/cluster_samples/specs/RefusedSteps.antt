@@ -4,7 +4,13 @@ use Rattle.mails.specs.declared.mail.MasterMail.TheVariants.{Hello}
 use Rattle.mails.specs.declared.mail.AgentMail.TheVariants.{Report}
 use Rattle.mails.specs.declared.record.Durable.{Durable}
 use Rattle.cluster_model.specs.Events.{SUBSCRIBED}
-use Rattle.cluster_model.specs.Clusters.{Step, Send, Deliver, HangUp, Prepare, Commit, StopAfter, ByAgain, ByMail, NoSuchMail, DraftOpen, NoDraft, NoSuchAgent, Fine, CallSent}
+use Rattle.cluster_steps.specs.declared.step.Step.{Step}
+use Rattle.cluster_steps.specs.declared.step.Step.TheVariants.{Send, Deliver, HangUp, Prepare, Commit, StopAgent}
+use Rattle.cluster_steps.specs.declared.step.Keep.TheVariants.{After}
+use Rattle.cluster_steps.specs.declared.step.StepCause.TheVariants.{Again as ByAgain, Mail as ByMail}
+use Rattle.cluster_steps.specs.declared.fault.ClusterFault.TheVariants.{NoSuchMail, DraftOpen, NoDraft, NoSuchAgent}
+use Rattle.cluster_steps.specs.declared.verdict.Verdict.TheVariants.{Ok as Fine}
+use Rattle.cluster_steps.specs.declared.verdict.Sent.TheVariants.{Call as CallSent}
 use Rattle.cluster_samples.specs.Short.{id, row, told, to_agent, from_agent, durable, line, Refused, ending, Expected}
 use Rattle.mails.specs.declared.call.Call.TheVariants as calls
 
@@ -36,7 +42,7 @@ steps = Prepare n_a1 (ByMail 1) ∷
     Prepare n_a1 (ByMail 2) ∷
     Prepare n_zz (ByMail 2) ∷
     Commit n_a1 ∷
-    StopAfter n_a1 ∷
+    StopAgent n_a1 After ∷
     Prepare n_a1 ByAgain ∷
     Prepare n_a1 (ByMail 99) ∷
     HangUp (id 1 2) ∷

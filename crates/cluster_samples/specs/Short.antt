@@ -16,8 +16,13 @@ use Rattle.mails.specs.declared.record.RecordedTask.{RecordedTask}
 use Rattle.cluster_model.specs.Sides.{offer_rows}
 use Rattle.cluster_model.specs.Channels.{Channel}
 use Rattle.cluster_model.specs.Events.{Event, MadeOffer, Told}
-use Rattle.cluster_model.specs.Clusters.{Cluster, Step, StepRefusal, Verdict, Sent, MailToAgent, MailToMaster, Entry}
-use Rattle.cluster_model.specs.Steps.{Done, Marked, unmarked, step_marked, open_cluster, unweighted}
+use Rattle.cluster_histories.specs.Clusters.{Cluster, Entry}
+use Rattle.cluster_steps.specs.declared.step.Step.{Step}
+use Rattle.cluster_steps.specs.declared.fault.ClusterFault.{ClusterFault}
+use Rattle.cluster_steps.specs.declared.verdict.Verdict.{Verdict}
+use Rattle.cluster_steps.specs.declared.verdict.Sent.{Sent}
+use Rattle.cluster_steps.specs.declared.verdict.Sent.TheVariants.{ToAgent as MailToAgent, ToMaster as MailToMaster}
+use Rattle.cluster_histories.specs.Steps.{Done, Marked, unmarked, step_marked, open_cluster, unweighted}
 
 abbrev pub id : ℕ → ℕ → Numbered
 id run n = record { run = run; n = n }
@@ -61,7 +66,7 @@ durable name total session run tasks = record { name = name; total = total; sess
 -- what a step answers
 pub data Line : Type 0 where
   Entered : (entry : Entry) → Line
-  Refused : (refusal : StepRefusal) → Line
+  Refused : (refusal : ClusterFault) → Line
 
 abbrev pub line : Verdict → List Told → List Numbered → List Sent → List Told → Line
 line verdict events closed sent taken = Entered (record { verdict = verdict; outs = record { events = events; closed = closed; sent = sent; taken = taken } })
@@ -83,7 +88,7 @@ pub record Run : Type 0 where
   pub lines : List Line
   pub state : Cluster
 
-abbrev pub run_by : Run → Result Done StepRefusal → Run
+abbrev pub run_by : Run → Result Done ClusterFault → Run
 run_by r (Ok d) = record { lines = r.lines ++ Entered d.entry ∷ []; state = d.after }
 run_by r (Err refusal) = record { lines = r.lines ++ Refused refusal ∷ []; state = r.state }
 

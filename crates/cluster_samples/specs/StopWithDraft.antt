@@ -6,7 +6,12 @@ use Rattle.mails.specs.declared.mail.MasterMail.TheVariants.{Hello, Issued}
 use Rattle.mails.specs.declared.mail.AgentMail.TheVariants.{Report}
 use Rattle.mails.specs.declared.record.Durable.{Durable}
 use Rattle.cluster_model.specs.Events.{SUBSCRIBED, OFFERS}
-use Rattle.cluster_model.specs.Clusters.{Step, Send, Deliver, Allocate, Prepare, Commit, StopAfter, ByStart, ByMail, Fine, CallSent}
+use Rattle.cluster_steps.specs.declared.step.Step.{Step}
+use Rattle.cluster_steps.specs.declared.step.Step.TheVariants.{Send, Deliver, Allocate, Prepare, Commit, StopAgent}
+use Rattle.cluster_steps.specs.declared.step.Keep.TheVariants.{After}
+use Rattle.cluster_steps.specs.declared.step.StepCause.TheVariants.{Start as ByStart, Mail as ByMail}
+use Rattle.cluster_steps.specs.declared.verdict.Verdict.TheVariants.{Ok as Fine}
+use Rattle.cluster_steps.specs.declared.verdict.Sent.TheVariants.{Call as CallSent}
 use Rattle.cluster_samples.specs.Short.{id, row, job, booked, made, wanted, told, to_agent, from_agent, task, durable, line, ending, Expected}
 use Rattle.mails.specs.declared.call.Call.TheVariants as calls
 
@@ -38,7 +43,7 @@ steps = Prepare n_a1 (ByMail 1) ∷
     Send (Some (id 1 1)) (calls.Accept (id 1 1) ((id 1 1) ∷ []) (wanted n_t1 n_a1 (row n_cpus 2 ∷ row n_mem 1024 ∷ []) ∷ []) 5) ∷
     Deliver 4 ∷
     Prepare n_a1 (ByMail 5) ∷
-    StopAfter n_a1 ∷
+    StopAgent n_a1 After ∷
     Prepare n_a1 (ByStart None) ∷
     Commit n_a1 ∷ []
 

@@ -6,7 +6,12 @@ use Rattle.mails.specs.declared.mail.MasterMail.TheVariants.{Hello, Issued}
 use Rattle.mails.specs.declared.mail.AgentMail.TheVariants.{Report}
 use Rattle.mails.specs.declared.record.Durable.{Durable}
 use Rattle.cluster_model.specs.Events.{SUBSCRIBED, OFFERS, RESCIND, UPDATE}
-use Rattle.cluster_model.specs.Clusters.{Step, Send, Deliver, Allocate, Prepare, Commit, StopBefore, ByStart, ByMail, Fine, CallSent}
+use Rattle.cluster_steps.specs.declared.step.Step.{Step}
+use Rattle.cluster_steps.specs.declared.step.Step.TheVariants.{Send, Deliver, Allocate, Prepare, Commit, StopAgent}
+use Rattle.cluster_steps.specs.declared.step.Keep.TheVariants.{Before}
+use Rattle.cluster_steps.specs.declared.step.StepCause.TheVariants.{Start as ByStart, Mail as ByMail}
+use Rattle.cluster_steps.specs.declared.verdict.Verdict.TheVariants.{Ok as Fine}
+use Rattle.cluster_steps.specs.declared.verdict.Sent.TheVariants.{Call as CallSent}
 use Rattle.cluster_samples.specs.Short.{id, row, job, made, wanted, told, to_agent, from_agent, durable, line, ending, Expected}
 use Rattle.mails.specs.declared.call.Call.TheVariants as calls
 
@@ -39,7 +44,7 @@ steps = Prepare n_a1 (ByMail 1) ∷
     Deliver 4 ∷
     Allocate ∷
     Prepare n_a1 (ByMail 5) ∷
-    StopBefore n_a1 ∷
+    StopAgent n_a1 Before ∷
     Prepare n_a1 (ByStart None) ∷
     Commit n_a1 ∷
     Deliver 6 ∷ []

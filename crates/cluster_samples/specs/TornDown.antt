@@ -6,7 +6,11 @@ use Rattle.mails.specs.declared.mail.MasterMail.TheVariants.{Hello, Issued}
 use Rattle.mails.specs.declared.mail.AgentMail.TheVariants.{Report, Applied, Update}
 use Rattle.mails.specs.declared.record.Durable.{Durable}
 use Rattle.cluster_model.specs.Events.{SUBSCRIBED, OFFERS, UPDATE}
-use Rattle.cluster_model.specs.Clusters.{Step, Send, Deliver, Allocate, Prepare, Commit, ByExecutor, ByMail, Fine, CallSent}
+use Rattle.cluster_steps.specs.declared.step.Step.{Step}
+use Rattle.cluster_steps.specs.declared.step.Step.TheVariants.{Send, Deliver, Allocate, Prepare, Commit}
+use Rattle.cluster_steps.specs.declared.step.StepCause.TheVariants.{Executor as ByExecutor, Mail as ByMail}
+use Rattle.cluster_steps.specs.declared.verdict.Verdict.TheVariants.{Ok as Fine}
+use Rattle.cluster_steps.specs.declared.verdict.Sent.TheVariants.{Call as CallSent}
 use Rattle.cluster_samples.specs.Short.{id, row, job, made, wanted, uuid, told, to_agent, from_agent, durable, line, ending, Expected}
 use Rattle.mails.specs.declared.call.Call.TheVariants as calls
 

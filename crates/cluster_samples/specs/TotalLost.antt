@@ -5,7 +5,12 @@ use Rattle.mails.specs.declared.mail.AgentMail.TheVariants.{Report}
 use Rattle.mails.specs.declared.record.Durable.{Durable}
 use Rattle.quantity.specs.declared.rows.Row.{Row}
 use Rattle.cluster_model.specs.Events.{SUBSCRIBED, OFFERS}
-use Rattle.cluster_model.specs.Clusters.{Step, Send, Deliver, Allocate, Prepare, Commit, StopBefore, ByStart, ByMail, Fine, CallSent}
+use Rattle.cluster_steps.specs.declared.step.Step.{Step}
+use Rattle.cluster_steps.specs.declared.step.Step.TheVariants.{Send, Deliver, Allocate, Prepare, Commit, StopAgent}
+use Rattle.cluster_steps.specs.declared.step.Keep.TheVariants.{Before}
+use Rattle.cluster_steps.specs.declared.step.StepCause.TheVariants.{Start as ByStart, Mail as ByMail}
+use Rattle.cluster_steps.specs.declared.verdict.Verdict.TheVariants.{Ok as Fine}
+use Rattle.cluster_steps.specs.declared.verdict.Sent.TheVariants.{Call as CallSent}
 use Rattle.cluster_samples.specs.Short.{id, row, made, told, to_agent, from_agent, durable, line, ending, Expected}
 use Rattle.mails.specs.declared.call.Call.TheVariants as calls
 
@@ -38,7 +43,7 @@ steps = Prepare n_a1 (ByMail 1) ∷
     Deliver 3 ∷
     Allocate ∷
     Prepare n_a1 (ByStart (Some more)) ∷
-    StopBefore n_a1 ∷
+    StopAgent n_a1 Before ∷
     Allocate ∷
     Prepare n_a1 (ByStart None) ∷
     Commit n_a1 ∷ []

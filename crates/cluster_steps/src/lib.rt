@@ -1,10 +1,10 @@
-//! The steps of a cluster, and the entries of its history: plain data.
+//! The steps of a cluster, how each ends, and why one isn't taken: plain data.
 #![tactic(auto)]
 
-mod entry;
 mod fault;
 mod step;
+mod verdict;
 
-pub use entry::{Entry, Outputs, Sent, Verdict};
 pub use fault::ClusterFault;
 pub use step::{Keep, Step, StepCause};
+pub use verdict::{Sent, Verdict};

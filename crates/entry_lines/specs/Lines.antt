@@ -5,10 +5,10 @@ use Rattle.names_core.specs.Ids.{Numbered, id_text}
 use Rattle.event_json.specs.Events.{event_text}
 use Rattle.mail_text.specs.Mails.{to_agent_form, to_master_form}
 use Rattle.master_state.specs.declared.state.StreamEvent.{StreamEvent}
-use Rattle.cluster_steps.specs.declared.entry.Sent.{Sent}
-use Rattle.cluster_steps.specs.declared.entry.Sent.TheVariants.{Call, ToAgent, ToMaster}
-use Rattle.cluster_steps.specs.declared.entry.Outputs.{Outputs}
-use Rattle.cluster_steps.specs.declared.entry.Entry.{Entry}
+use Rattle.cluster_steps.specs.declared.verdict.Sent.{Sent}
+use Rattle.cluster_steps.specs.declared.verdict.Sent.TheVariants.{Call, ToAgent, ToMaster}
+use Rattle.cluster_entries.specs.declared.entry.Outputs.{Outputs}
+use Rattle.cluster_entries.specs.declared.entry.Entry.{Entry}
 use Rattle.cluster_steps.specs.declared.step.Step.{Step}
 use Rattle.cluster_steps.specs.declared.fault.ClusterFault.{ClusterFault}
 use Rattle.entry_lines.specs.Words.{step_word, verdict_text, fault_text}

@@ -6,7 +6,8 @@ ghost use Rattle.entry_lines.specs.Lines.{closed_line, entry_text, event_line, l
 
 use crate::line::{event_front, mail_front, number_front, push_line};
 use crate::words::{fault_text, step_word, verdict_text};
-use cluster_steps::{ClusterFault, Entry, Outputs, Sent, Step};
+use cluster_entries::{Entry, Outputs};
+use cluster_steps::{ClusterFault, Sent, Step};
 use event_json::write_event;
 use mail_text::{to_agent_text, to_master_text};
 use master_state::StreamEvent;

@@ -3,7 +3,7 @@ use Rattle.std.proofs.Common.{◌≡◌, ℕ, Bool, Option, Result, Ok, Err, ap,
 use Rattle.std.specs.Prelude.{IfOk}
 use Rattle.names_core.specs.Ids.{Numbered}
 use Rattle.mails.specs.declared.call.Call.{Call}
-use Rattle.cluster_steps.specs.declared.entry.Entry.{Entry}
+use Rattle.cluster_entries.specs.declared.entry.Entry.{Entry}
 use Rattle.cluster_steps.specs.declared.step.Step.TheVariants.{Send, Deliver}
 use Rattle.desk_seats.specs.Receipts.{PassState}
 use Rattle.desk_seats.specs.declared.desk.pass.Answered.{Answered}

@@ -4,12 +4,12 @@ use Rattle.names_core.specs.Ids.{Numbered}
 use Rattle.mails.specs.declared.call.Call.{Call}
 use Rattle.mails.specs.declared.call.Call.TheVariants.{Subscribe, Teardown, Accept, Decline, Revive, Suppress, Kill, Acknowledge, Reconcile}
 use Rattle.master_state.specs.declared.state.StreamEvent.{StreamEvent}
-use Rattle.cluster_model.specs.Clusters.{Cluster}
+use Rattle.cluster_histories.specs.Clusters.{Cluster}
 use Rattle.cluster_model.specs.Events.{Told}
 use Rattle.cluster_model.specs.Masters.{Doing}
-use Rattle.cluster_steps.specs.declared.entry.Entry.{Entry}
-use Rattle.cluster_steps.specs.declared.entry.Verdict.{Verdict}
-use Rattle.cluster_steps.specs.declared.entry.Verdict.TheVariants as verdicts
+use Rattle.cluster_entries.specs.declared.entry.Entry.{Entry}
+use Rattle.cluster_steps.specs.declared.verdict.Verdict.{Verdict}
+use Rattle.cluster_steps.specs.declared.verdict.Verdict.TheVariants as verdicts
 use Rattle.cluster_steps.specs.declared.fault.ClusterFault.{ClusterFault}
 use Rattle.cluster_steps.specs.declared.fault.ClusterFault.TheVariants as steps
 use Rattle.cluster_core.specs.Reading.{is_open_in, waiting_in}

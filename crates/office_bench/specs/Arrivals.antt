@@ -1,7 +1,7 @@
 -- The connections of a listener.
 use Rattle.std.specs.Prelude.{◌≡◌, ◌⊎◌, ◌<◌, ◌≤◌, ℕ, Bool, true}
 use Rattle.desk_seats.specs.Receipts.{PassState}
-use Rattle.cluster_steps.specs.declared.entry.Entry.{Entry}
+use Rattle.cluster_entries.specs.declared.entry.Entry.{Entry}
 
 -- the pass by which the office is asked, how many connections are taken at most (0 is no limit),
 -- how many were taken, how many failed since the last that was taken, and whether the office is

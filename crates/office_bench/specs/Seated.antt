@@ -1,7 +1,7 @@
 -- What the bench of a connection did.
 use Rattle.std.specs.Prelude.{◌≡◌, Option, Some, None}
 use Rattle.desk_seats.specs.Receipts.{PassState}
-use Rattle.cluster_steps.specs.declared.entry.Entry.{Entry}
+use Rattle.cluster_entries.specs.declared.entry.Entry.{Entry}
 use Rattle.http_door.specs.Deeds.{Deed}
 use Rattle.office_bench.specs.Deeds.{Does, RefusesAll}
 use Rattle.office_bench.specs.declared.seating.Seating.{Seating}

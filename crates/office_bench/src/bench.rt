@@ -4,7 +4,7 @@ ghost use Rattle.std.specs.Prelude.{◌≡◌, ◌⊎◌, OnErr, IfOk, IfErr, Ma
 ghost use Rattle.cluster_steps.specs.declared.step.Step.TheVariants.{Send, Deliver, Take};
 ghost use Rattle.cluster_core.specs.Answering.{Answers};
 ghost use Rattle.desk_seats.specs.declared.desk.pass.Answered.{Answered as Got};
-ghost use Rattle.cluster_steps.specs.declared.entry.Entry.{Entry};
+ghost use Rattle.cluster_entries.specs.declared.entry.Entry.{Entry};
 ghost use Rattle.office_bench.specs.Answers.{IsOfOffice, answer_of};
 ghost use Rattle.office_bench.specs.Deeds.{Delivers, Does, Steps, call_number};
 ghost use Rattle.cluster_core.specs.declared.given.Given.{Given as GivenSo};
@@ -34,7 +34,7 @@ pub struct SeatBench<'a, L: ledger::Ledger, R: Wait> {
 
 impl<'a, L: ledger::Ledger, R: Wait> Model for SeatBench<'a, L, R> {
     ghost use Rattle.desk_seats.specs.Receipts.{PassState};
-    ghost use Rattle.cluster_steps.specs.declared.entry.Entry.{Entry};
+    ghost use Rattle.cluster_entries.specs.declared.entry.Entry.{Entry};
 
     ghost Value = { PassState Entry };
 

@@ -10,17 +10,17 @@ use Rattle.mails.specs.declared.record.Durable.{Durable}
 use Rattle.quantity.specs.declared.rows.Row.{Row}
 use Rattle.post_rules.specs.Numbers.{is_number}
 use Rattle.cluster_model.specs.Channels.{Channel}
-use Rattle.cluster_model.specs.Clusters as model
-use Rattle.cluster_model.specs.Clusters.{StepRefusal, master_of}
-use Rattle.cluster_model.specs.Steps.{Done, Marked, open_cluster, step_marked, unmarked}
+use Rattle.cluster_histories.specs.Clusters.{master_of}
+use Rattle.cluster_steps.specs.declared.fault.ClusterFault.{ClusterFault}
+use Rattle.cluster_histories.specs.Steps.{Done, Marked, open_cluster, step_marked, unmarked}
 use Rattle.master_core.specs.Steps.{offered_on}
 use Rattle.cluster_laws.specs.Parts.{parts_of}
-use Rattle.cluster_steps.specs.declared.entry.Entry.{Entry}
-use Rattle.cluster_steps.specs.declared.entry.Outputs.{Outputs}
-use Rattle.cluster_steps.specs.declared.fault.ClusterFault.{ClusterFault}
+use Rattle.cluster_entries.specs.declared.entry.Entry.{Entry}
+use Rattle.cluster_entries.specs.declared.entry.Outputs.{Outputs}
 use Rattle.cluster_steps.specs.declared.fault.ClusterFault.TheVariants as faults
 use Rattle.cluster_steps.specs.declared.step.Step.{Step}
-use Rattle.cluster_steps.specs.Steps.{entry_of, fault_of, fell, marked_of, outputs_of, step_of}
+use Rattle.cluster_entries.specs.Entries.{entry_of, marked_of, outputs_of}
+use Rattle.cluster_steps.specs.Verdicts.{fell}
 use Rattle.cluster_parts.specs.Agents.{recorded}
 use Rattle.cluster_core.specs.Keeping.{IsRefused, IsTaken, WithheldFrom, offered_in}
 use Rattle.cluster_parts.specs.Moves.{kept_agents, kept_part}
@@ -70,13 +70,13 @@ no_sum_there s agent e = no_sum_in (state_of s).world.run.serves (offered_on (ma
 
 -- ---- steps
 
-same_mark : (step : Step) (entry : Entry) → entry.step ≡ step → fell entry.verdict ≡ false → marked_of entry ≡ unmarked (step_of step)
+same_mark : (step : Step) (entry : Entry) → entry.step ≡ step → fell entry.verdict ≡ false → marked_of entry ≡ unmarked step
 same_mark step entry is stands = rw (is, stands) refl
 
-taken_so : (answer : Marked → Result Done StepRefusal) (step : Step) (entry : Entry) (d : Done) → answer (marked_of entry) ≡ Ok d → entry ≡ entry_of step d.entry → fell entry.verdict ≡ false
-    → entry_or_fault step (answer (unmarked (step_of step))) ≡ Ok entry
+taken_so : (answer : Marked → Result Done ClusterFault) (step : Step) (entry : Entry) (d : Done) → answer (marked_of entry) ≡ Ok d → entry ≡ entry_of step d.entry → fell entry.verdict ≡ false
+    → entry_or_fault step (answer (unmarked step)) ≡ Ok entry
 taken_so answer step entry d answers makes stands =
-    let mark : marked_of entry ≡ unmarked (step_of step) = same_mark step entry (ap (λ (e : Entry). e.step) makes) stands in
+    let mark : marked_of entry ≡ unmarked step = same_mark step entry (ap (λ (e : Entry). e.step) makes) stands in
     ap (λ (m : Marked). entry_or_fault step (answer m)) (sym mark) ∙ (ap (entry_or_fault step) answers ∙ ap Ok (sym makes))
 
 -- the entry of a step that was taken, and whose part didn't run out of memory, is due
@@ -84,25 +84,25 @@ pub taken_due : (s : Story) (step : Step) (taken : Taken) (new : Story) → IsTa
 unfolding due
 taken_due s step taken new t stands = taken_so (step_marked (state_of s)) step taken.entry t.done t.answers t.makes stands
 
-refused_so : (step : Step) (answer : Result Done StepRefusal) (refusal : StepRefusal) → answer ≡ Err refusal → entry_or_fault step answer ≡ Err (fault_of refusal)
+refused_so : (step : Step) (answer : Result Done ClusterFault) (refusal : ClusterFault) → answer ≡ Err refusal → entry_or_fault step answer ≡ Err refusal
 refused_so step answer refusal e = ap (entry_or_fault step) e
 
-refusal_due : (s : Story) (step : Step) (refusal : StepRefusal) → step_marked (state_of s) (unmarked (step_of step)) ≡ Err refusal → due s step ≡ Err (fault_of refusal)
+refusal_due : (s : Story) (step : Step) (refusal : ClusterFault) → step_marked (state_of s) (unmarked step) ≡ Err refusal → due s step ≡ Err refusal
 unfolding due
-refusal_due s step refusal e = refused_so step (step_marked (state_of s) (unmarked (step_of step))) refusal e
+refusal_due s step refusal e = refused_so step (step_marked (state_of s) (unmarked step)) refusal e
 
 -- where nothing is withheld, a step is refused as it is due, or for want of memory
-pub refused_due : (s : Story) (gives : ℕ → Bool) (step : Step) (fault : ClusterFault) → (WithheldFrom (state_of s) gives (step_of step) → ⊥) → IsRefused (state_of s) gives (step_of step) fault
+pub refused_due : (s : Story) (gives : ℕ → Bool) (step : Step) (fault : ClusterFault) → (WithheldFrom (state_of s) gives step → ⊥) → IsRefused (state_of s) gives step fault
     → (fault ≡ faults.OutOfMemory) ⊎ (due s step ≡ Err fault)
-refused_due s gives step faults.NoSuchMail none (inl e) = inr (refusal_due s step model.NoSuchMail e)
+refused_due s gives step faults.NoSuchMail none (inl e) = inr (refusal_due s step faults.NoSuchMail e)
 refused_due s gives step faults.NoSuchMail none (inr w) = absurd (none w)
-refused_due s gives step faults.MasterDown none e = inr (refusal_due s step model.MasterDown e)
-refused_due s gives step faults.AgentDown none e = inr (refusal_due s step model.AgentDown e)
-refused_due s gives step faults.DraftOpen none e = inr (refusal_due s step model.DraftOpen e)
-refused_due s gives step faults.NoDraft none e = inr (refusal_due s step model.NoDraft e)
-refused_due s gives step faults.HistoryFull none e = inr (refusal_due s step model.HistoryFull e)
-refused_due s gives step faults.TimeBack none e = inr (refusal_due s step model.TimeBack e)
-refused_due s gives step faults.NoSuchAgent none e = inr (refusal_due s step model.NoSuchAgent e)
+refused_due s gives step faults.MasterDown none e = inr (refusal_due s step faults.MasterDown e)
+refused_due s gives step faults.AgentDown none e = inr (refusal_due s step faults.AgentDown e)
+refused_due s gives step faults.DraftOpen none e = inr (refusal_due s step faults.DraftOpen e)
+refused_due s gives step faults.NoDraft none e = inr (refusal_due s step faults.NoDraft e)
+refused_due s gives step faults.HistoryFull none e = inr (refusal_due s step faults.HistoryFull e)
+refused_due s gives step faults.TimeBack none e = inr (refusal_due s step faults.TimeBack e)
+refused_due s gives step faults.NoSuchAgent none e = inr (refusal_due s step faults.NoSuchAgent e)
 refused_due s gives step faults.OutOfMemory none e = inl refl
 
 -- the same of what the replayed cluster answers

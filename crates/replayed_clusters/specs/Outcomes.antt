@@ -1,6 +1,6 @@
 -- What comes of a step.
 use Rattle.std.specs.Prelude.{ℕ, List, [], length, Result, Ok, Err, unwrap_or}
-use Rattle.cluster_steps.specs.declared.entry.Entry.{Entry}
+use Rattle.cluster_entries.specs.declared.entry.Entry.{Entry}
 use Rattle.cluster_steps.specs.declared.fault.ClusterFault.{ClusterFault}
 use Rattle.entry_lines.specs.Lines.{entry_text, refused_text}
 use Rattle.cluster_core.specs.Stories.{Story, with_entry}

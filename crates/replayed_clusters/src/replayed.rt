@@ -4,7 +4,7 @@ ghost use Rattle.std.specs.Prelude.{◌≡◌, ◌⊎◌, Ok, Err, false, IfOk, 
 ghost use Rattle.cluster_core.specs.Keeping.{IsRefused};
 ghost use Rattle.cluster_core.specs.Safety.{Safe};
 ghost use Rattle.cluster_core.specs.Stories.{state_of, with_entry};
-ghost use Rattle.cluster_steps.specs.Steps.{fell, step_of};
+ghost use Rattle.cluster_steps.specs.Verdicts.{fell};
 ghost use Rattle.cluster_steps.specs.declared.fault.ClusterFault.{ClusterFault};
 ghost use Rattle.cluster_steps.specs.declared.fault.ClusterFault.TheVariants.{OutOfMemory};
 ghost use Rattle.cluster_steps.specs.declared.step.Step.{Step};
@@ -35,7 +35,7 @@ impl Model for Replayed {
 
 /// A cluster of all that was ever sent refuses a step only as it is due, or for want of memory.
 fn refuses_as_due(cluster: &Cluster<EverSent>)
-    ensures { (step : Step) (fault : ClusterFault) → IsRefused (state_of cluster.now.story) (is_number cluster.now.post.count) (step_of step) fault
+    ensures { (step : Step) (fault : ClusterFault) → IsRefused (state_of cluster.now.story) (is_number cluster.now.post.count) step fault
         → (fault ≡ OutOfMemory) ⊎ (due cluster.now.story step ≡ Err fault) }
 {
     cluster.withholds_nothing();

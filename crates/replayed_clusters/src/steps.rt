@@ -7,7 +7,8 @@ ghost use Rattle.replayed_clusters.specs.Stories.{due, greetings};
 
 use crate::numbers::raised;
 use crate::replayed::Replayed;
-use cluster_steps::{ClusterFault, Entry, Step};
+use cluster_entries::Entry;
+use cluster_steps::{ClusterFault, Step};
 use entry_lines::{entry_text, opening_text, refused_text};
 use std::alloc::{AllocError, Global};
 

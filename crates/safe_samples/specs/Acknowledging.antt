@@ -7,8 +7,8 @@ use Rattle.cluster_model.specs.Agents.{Agent, fronts}
 use Rattle.cluster_model.specs.Channels.{World, after_all}
 use Rattle.cluster_model.specs.Masters.{Doing, Framework, Master, new_registers}
 use Rattle.cluster_model.specs.Calls.{on_acknowledge}
-use Rattle.cluster_model.specs.Clusters.{Called, Post, sides_of}
-use Rattle.cluster_model.specs.Steps.{happening_of}
+use Rattle.cluster_histories.specs.Clusters.{Called, Post, sides_of}
+use Rattle.cluster_histories.specs.Steps.{happening_of}
 use Rattle.cluster_samples.specs.Short.{id, uuid}
 use Rattle.safe_samples.specs.Agents.{n_a1, n_t1, applying}
 use Rattle.safe_samples.specs.Worlds.{updated}

@@ -3,8 +3,10 @@ use Rattle.std.specs.Prelude.{ℕ, List, [], ◌∷◌, map, None, Some}
 use Rattle.mails.specs.declared.call.Call.TheVariants.{Subscribe, Accept}
 use Rattle.mails.specs.declared.record.Durable.{Durable}
 use Rattle.cluster_model.specs.Channels.{World}
-use Rattle.cluster_model.specs.Clusters.{Step, Send, Deliver, Allocate, Prepare, Commit, ByMail}
-use Rattle.cluster_model.specs.Steps.{history, unmarked, unweighted}
+use Rattle.cluster_steps.specs.declared.step.Step.{Step}
+use Rattle.cluster_steps.specs.declared.step.Step.TheVariants.{Send, Deliver, Allocate, Prepare, Commit}
+use Rattle.cluster_steps.specs.declared.step.StepCause.TheVariants.{Mail as ByMail}
+use Rattle.cluster_histories.specs.Steps.{history, unmarked, unweighted}
 use Rattle.cluster_samples.specs.Short.{id, wanted}
 use Rattle.safe_samples.specs.Agents.{n_a1, n_t1, cpus}
 

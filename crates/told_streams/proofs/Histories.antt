@@ -16,8 +16,16 @@ use Rattle.cluster_model.specs.Masters.{new_registers}
 use Rattle.cluster_model.specs.Calls.{called}
 use Rattle.cluster_model.specs.Mails.{mailed, ticked, agent_lost, hung_up}
 use Rattle.cluster_model.specs.Rounds.{allocated}
-use Rattle.cluster_model.specs.Clusters.{Stream, Post, Called, Down, Up, Cluster, master_of, StepCause, ByStart, ByAgain, ByExecutor, ByMail, Step, Send, Deliver, Allocate, Tick, LoseAgent, HangUp, Prepare, Commit, StopBefore, StopAfter, StopMaster, Take, StepRefusal, MasterDown, AgentDown, DraftOpen, NoDraft, HistoryFull, TimeBack, Fine, AgentRefused, Fell}
-use Rattle.cluster_model.specs.Steps.{Setup, Effect, Done, does, happening, effect_of, master_does, master_hears, channel_of, delivers_up, delivers, post_at, with_tick, ticks_at, stream_at, streams_after, hangs_up, loses_agent, hello_to, drafts, draws_mail_at, draws_mail, prepares, commits, up_again, stops, with_master, at_channel, is_fallen, if_up, by_draft, without_draft, with_draft, takes_event, answer, master_falls, new_master_falls, fallen_too, agent_falls, instead, fallen_answer, Marked, step_marked, History, opening, extended, extend_all, history}
+use Rattle.cluster_histories.specs.Clusters.{Stream, Post, Called, Down, Up, Cluster, master_of}
+use Rattle.cluster_steps.specs.declared.step.StepCause.{StepCause}
+use Rattle.cluster_steps.specs.declared.step.StepCause.TheVariants.{Start as ByStart, Again as ByAgain, Executor as ByExecutor, Mail as ByMail}
+use Rattle.cluster_steps.specs.declared.step.Step.{Step}
+use Rattle.cluster_steps.specs.declared.step.Step.TheVariants.{Send, Deliver, Allocate, Tick, LoseAgent, HangUp, Prepare, Commit, StopAgent, StopMaster, Take}
+use Rattle.cluster_steps.specs.declared.step.Keep.TheVariants.{Before, After}
+use Rattle.cluster_steps.specs.declared.fault.ClusterFault.{ClusterFault}
+use Rattle.cluster_steps.specs.declared.fault.ClusterFault.TheVariants.{MasterDown, AgentDown, DraftOpen, NoDraft, HistoryFull, TimeBack}
+use Rattle.cluster_steps.specs.declared.verdict.Verdict.TheVariants.{Ok as Fine, AgentRefused, OutOfMemory as Fell}
+use Rattle.cluster_histories.specs.Steps.{Setup, Effect, Done, does, happening, effect_of, master_does, master_hears, channel_of, delivers_up, delivers, post_at, with_tick, ticks_at, stream_at, streams_after, hangs_up, loses_agent, hello_to, drafts, draws_mail_at, draws_mail, prepares, commits, up_again, stops, with_master, at_channel, is_fallen, if_up, by_draft, without_draft, with_draft, takes_event, answer, master_falls, new_master_falls, fallen_too, agent_falls, instead, fallen_answer, Marked, step_marked, History, opening, extended, extend_all, history}
 use Rattle.cluster_laws.specs.Runs.{AreRising, ids_of}
 use Rattle.cluster_laws.proofs.Streams.{history_streams}
 use Rattle.told_streams.specs.Streams.{kept_ids}
@@ -26,18 +34,18 @@ use Rattle.told_streams.proofs.Keeping.{after_within, take_within, answers_untak
 
 -- one step
 
-abbrev Keeps : Cluster → Result Done StepRefusal → Type 0
+abbrev Keeps : Cluster → Result Done ClusterFault → Type 0
 Keeps c (Ok d) = AreRising (ids_of c.streams) → AreWithin c.streams → AreWithin d.after.streams
 Keeps c (Err refusal) = ⊤
 
-by_test : (c : Cluster) (b : Bool) (x y : Result Done StepRefusal) → Keeps c x → Keeps c y → Keeps c (if b then x else y)
+by_test : (c : Cluster) (b : Bool) (x y : Result Done ClusterFault) → Keeps c x → Keeps c y → Keeps c (if b then x else y)
 by_test c true x y p q = p
 by_test c false x y p q = q
 
 does_keeps : (c : Cluster) (e : Effect) → Keeps c (does c e)
 does_keeps c e = λ rising h. after_within c.streams e.opens e.events h
 
-with_master_keeps : (c : Cluster) (r : Result Done StepRefusal) → Keeps c r → Keeps c (with_master c r)
+with_master_keeps : (c : Cluster) (r : Result Done ClusterFault) → Keeps c r → Keeps c (with_master c r)
 with_master_keeps c r p = by_test c c.world.run.serves r (Err MasterDown) p tt
 
 hears_keeps : (c : Cluster) (x : Channel) (place : ℕ) (mail : Option AgentMail) → Keeps c (master_hears c x place mail)
@@ -82,14 +90,14 @@ prepares_keeps c ByAgain x = drafts_keeps c x (Draw Again) (next_of x.agent Agai
 prepares_keeps c (ByExecutor key state) x = drafts_keeps c x (Draw (Executor key state)) (next_of x.agent (Executor key state))
 prepares_keeps c (ByMail number) x = draws_mail_keeps c x (post_at c number)
 
-at_channel_keeps : (c : Cluster) (x : Option Channel) (step : Channel → Result Done StepRefusal) → ((y : Channel) → Keeps c (step y)) → Keeps c (at_channel x step)
+at_channel_keeps : (c : Cluster) (x : Option Channel) (step : Channel → Result Done ClusterFault) → ((y : Channel) → Keeps c (step y)) → Keeps c (at_channel x step)
 at_channel_keeps c None step p = tt
 at_channel_keeps c (Some x) step p = p x
 
-if_up_keeps : (c : Cluster) (step : Channel → Result Done StepRefusal) (x : Channel) → Keeps c (step x) → Keeps c (if_up c step x)
+if_up_keeps : (c : Cluster) (step : Channel → Result Done ClusterFault) (x : Channel) → Keeps c (step x) → Keeps c (if_up c step x)
 if_up_keeps c step x p = by_test c (is_fallen c x) (Err AgentDown) (step x) tt p
 
-by_draft_keeps : (c : Cluster) (d : Option Draft) (without with_one : Result Done StepRefusal) → Keeps c without → Keeps c with_one → Keeps c (by_draft d without with_one)
+by_draft_keeps : (c : Cluster) (d : Option Draft) (without with_one : Result Done ClusterFault) → Keeps c without → Keeps c with_one → Keeps c (by_draft d without with_one)
 by_draft_keeps c None without with_one p q = p
 by_draft_keeps c (Some d) without with_one p q = q
 
@@ -111,8 +119,8 @@ answer_keeps c (Prepare agent cause) = at_channel_keeps c (channel_of c agent) (
     (λ x. if_up_keeps c (without_draft (prepares c cause)) x (by_draft_keeps c x.draft (prepares c cause x) (Err DraftOpen) (prepares_keeps c cause x) tt))
 answer_keeps c (Commit agent) = at_channel_keeps c (channel_of c agent) (if_up c (with_draft (commits c)))
     (λ x. if_up_keeps c (with_draft (commits c)) x (by_draft_keeps c x.draft (Err NoDraft) (commits c x) tt (does_keeps c (happening c Fine (At x.side.name (ByAgent Adopt) ∷ [])))))
-answer_keeps c (StopBefore agent) = at_channel_keeps c (channel_of c agent) (stops c StopWithout) (stops_keeps c StopWithout)
-answer_keeps c (StopAfter agent) = at_channel_keeps c (channel_of c agent) (with_draft (stops c StopWith)) (λ x. by_draft_keeps c x.draft (Err NoDraft) (stops c StopWith x) tt (stops_keeps c StopWith x))
+answer_keeps c (StopAgent agent Before) = at_channel_keeps c (channel_of c agent) (stops c StopWithout) (stops_keeps c StopWithout)
+answer_keeps c (StopAgent agent After) = at_channel_keeps c (channel_of c agent) (with_draft (stops c StopWith)) (λ x. by_draft_keeps c x.draft (Err NoDraft) (stops c StopWith x) tt (stops_keeps c StopWith x))
 answer_keeps c StopMaster = by (nat_lt c.world.run.number last_run)
   where
     by : (b : Bool) → Keeps c (does c (if b then record (happening c Fine (Restart ∷ map hello_to c.world.channels)) { registers = new_registers } else record (happening c Fine (Halt ∷ [])) { registers = new_registers }))
@@ -120,7 +128,7 @@ answer_keeps c StopMaster = by (nat_lt c.world.run.number last_run)
     by false = does_keeps c (record (happening c Fine (Halt ∷ [])) { registers = new_registers })
 answer_keeps c (Take stream) = subst (Keeps c) (sym (answers_untaken c stream)) (takes_keeps c stream (untaken c stream) refl)
 
-instead_keeps : (c : Cluster) (r : Result Done StepRefusal) (d : Done) → Keeps c (Ok d) → Keeps c (instead r d)
+instead_keeps : (c : Cluster) (r : Result Done ClusterFault) (d : Done) → Keeps c (Ok d) → Keeps c (instead r d)
 instead_keeps c (Ok x) d f = f
 instead_keeps c (Err e) d f = tt
 
@@ -139,8 +147,8 @@ fallen_keeps c (LoseAgent agent) = instead_keeps c (answer c (LoseAgent agent)) 
 fallen_keeps c (HangUp stream) = instead_keeps c (answer c (HangUp stream)) (master_falls c) (master_falls_keeps c)
 fallen_keeps c (Prepare agent cause) = instead_keeps c (answer c (Prepare agent cause)) (agent_falls c agent StopWithout) (agent_falls_keeps c agent StopWithout)
 fallen_keeps c (Commit agent) = answer_keeps c (Commit agent)
-fallen_keeps c (StopBefore agent) = instead_keeps c (answer c (StopBefore agent)) (agent_falls c agent StopWithout) (agent_falls_keeps c agent StopWithout)
-fallen_keeps c (StopAfter agent) = instead_keeps c (answer c (StopAfter agent)) (agent_falls c agent StopWith) (agent_falls_keeps c agent StopWith)
+fallen_keeps c (StopAgent agent Before) = instead_keeps c (answer c (StopAgent agent Before)) (agent_falls c agent StopWithout) (agent_falls_keeps c agent StopWithout)
+fallen_keeps c (StopAgent agent After) = instead_keeps c (answer c (StopAgent agent After)) (agent_falls c agent StopWith) (agent_falls_keeps c agent StopWith)
 fallen_keeps c StopMaster = by_test c (nat_lt c.world.run.number last_run) (Ok (new_master_falls c)) (answer c StopMaster) (does_keeps c (record (happening c Fell (Restart ∷ Halt ∷ [])) { registers = new_registers })) (answer_keeps c StopMaster)
 fallen_keeps c (Take stream) = answer_keeps c (Take stream)
 
@@ -154,7 +162,7 @@ extend_more : (h : History) (ss : List Marked) (s : Marked) → extend_all h (ss
 extend_more h [] s = refl
 extend_more h (x ∷ ss) s = extend_more (extended h (step_marked h.state x)) ss s
 
-extended_keeps : (h : History) (r : Result Done StepRefusal) → Keeps h.state r → AreRising (ids_of h.state.streams) → AreWithin h.state.streams → AreWithin (extended h r).state.streams
+extended_keeps : (h : History) (r : Result Done ClusterFault) → Keeps h.state r → AreRising (ids_of h.state.streams) → AreWithin h.state.streams → AreWithin (extended h r).state.streams
 extended_keeps h (Ok d) f rising within = f rising within
 extended_keeps h (Err refusal) f rising within = within
 

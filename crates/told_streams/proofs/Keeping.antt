@@ -10,8 +10,9 @@ use Rattle.event_json.specs.declared.event.Event as json
 use Rattle.master_state.specs.Works.{event_of, written}
 use Rattle.cluster_model.specs.Ids.{same, before}
 use Rattle.cluster_model.specs.Events.{Event, Told}
-use Rattle.cluster_model.specs.Clusters.{Cluster, Stream, Take}
-use Rattle.cluster_model.specs.Steps.{answer, hears, new_stream, stream_at, streams_after, takes, takes_event, takes_one, told_on}
+use Rattle.cluster_histories.specs.Clusters.{Cluster, Stream}
+use Rattle.cluster_steps.specs.declared.step.Step.TheVariants.{Take}
+use Rattle.cluster_histories.specs.Steps.{answer, hears, new_stream, stream_at, streams_after, takes, takes_event, takes_one, told_on}
 use Rattle.cluster_laws.specs.Runs.{AreRising, ids_of}
 use Rattle.told_streams.specs.Streams.{KeptStream, events_on, first_waiting, heard, hearing, is_kept_as, kept_ids, next_on, opened_stream, taken, taking}
 use Rattle.told_streams.specs.Kept.{AreWithin, kept_stream, kept_streams, untaken, untaken_of}

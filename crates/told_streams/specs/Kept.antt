@@ -3,8 +3,8 @@ use Rattle.std.specs.Prelude.{◌≤◌, List, map, drop, length, slice_get, Opt
 use Rattle.std.specs.List.{AllByRecursion as Each}
 use Rattle.names_core.specs.Ids.{Numbered}
 use Rattle.cluster_model.specs.Events.{Event}
-use Rattle.cluster_model.specs.Clusters.{Cluster, Stream}
-use Rattle.cluster_model.specs.Steps.{stream_at}
+use Rattle.cluster_histories.specs.Clusters.{Cluster, Stream}
+use Rattle.cluster_histories.specs.Steps.{stream_at}
 use Rattle.master_state.specs.Works.{event_of}
 use Rattle.told_streams.specs.Streams.{KeptStream}
 

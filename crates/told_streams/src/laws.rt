@@ -2,9 +2,10 @@
 
 ghost use Rattle.std.specs.Prelude.{◌≡◌, ◌++◌, List, map, option_map, Some, Ok, ℕ};
 ghost use Rattle.cluster_laws.specs.Runs.{AreRising, ids_of};
-ghost use Rattle.cluster_model.specs.Clusters.{Cluster, Stream, Take};
+ghost use Rattle.cluster_histories.specs.Clusters.{Cluster, Stream};
+ghost use Rattle.cluster_steps.specs.declared.step.Step.TheVariants.{Take};
 ghost use Rattle.cluster_model.specs.Events.{Event, Told};
-ghost use Rattle.cluster_model.specs.Steps.{Setup, Done, Marked, answer, history, step_marked, stream_at, streams_after, takes_event, takes_one};
+ghost use Rattle.cluster_histories.specs.Steps.{Setup, Done, Marked, answer, history, step_marked, stream_at, streams_after, takes_event, takes_one};
 ghost use Rattle.mails.specs.declared.record.Durable.{Durable};
 ghost use Rattle.master_state.specs.Works.{event_of, written};
 ghost use Rattle.names_core.specs.Ids.{Numbered};

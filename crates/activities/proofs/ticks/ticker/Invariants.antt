@@ -1,6 +1,6 @@
 use Rattle.std.proofs.Common.{List}
 use Rattle.desk_seats.specs.Receipts.{PassState}
-use Rattle.cluster_steps.specs.declared.entry.Entry.{Entry}
+use Rattle.cluster_entries.specs.declared.entry.Entry.{Entry}
 use Rattle.activities.specs.Rounds.{AreRounds}
 use Rattle.activities.proofs.ticks.ticker.Given as goal
 

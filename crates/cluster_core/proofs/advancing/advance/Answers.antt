@@ -1,8 +1,8 @@
 use Rattle.std.proofs.Common.{rules, ◌≡◌, ◌<◌, ◌∙◌, ap, drop, length, map, refl, sym, subst}
 use Rattle.std.specs.Prelude.{fold, IfErr}
 use Rattle.std.proofs.lemmas.Result.{IfErr-weaker}
-use Rattle.cluster_steps.specs.Steps.{marked_of, step_of}
-use Rattle.cluster_steps.specs.declared.entry.Outputs.{Outputs}
+use Rattle.cluster_entries.specs.Entries.{marked_of}
+use Rattle.cluster_entries.specs.declared.entry.Outputs.{Outputs}
 use Rattle.agent_sides.specs.Configs.{names_of}
 use Rattle.cluster_laws.specs.Parts.{AreAgentsOf}
 use Rattle.cluster_parts.specs.Handing.{handed}
@@ -21,7 +21,7 @@ returns-in_err-place-clause-refused g c =
     let s = story_of c.args.history.now in
     let gives = g.P.Post.gives (g.P.Post.known c.args.post.now) in
     let first : IfErr c.from_residual.result (IsRefusedFirst s) = search rules in
-    IfErr-weaker c.from_residual.result (IsRefusedFirst s) (IsRefused (state_of s) gives (step_of c.args.step)) (λ fault why. first_refused c.states_count_entries.ensures s gives (step_of c.args.step) fault c.requires.legal why) first
+    IfErr-weaker c.from_residual.result (IsRefusedFirst s) (IsRefused (state_of s) gives c.args.step) (λ fault why. first_refused c.states_count_entries.ensures s gives c.args.step fault c.requires.legal why) first
 
 pub take_step-requires : goal.take_step-requires
 take_step-requires g c =
@@ -71,7 +71,7 @@ returns-in-Ok-clause-known g c =
     let q = c.take_step.new.self in
     let new = story_of c.write_down.new.history in
     let put = g.P.Post.with_put in
-    let step = handed (step_of c.args.step) in
+    let step = handed c.args.step in
     let before : length c.as_slice-before.result.now ≡ length (state_of s).posts = ap length c.as_slice-before.ensures ∙ sym (all_posts (state_of s) c.args.parts.now.items c.requires.stands.as_others.as_items) in
     let agents : AreAgentsOf q.config s.records = ap names_of c.take_step.ensures.config ∙ c.requires.config in
     let kept = returns-in-Ok-clause-kept g c in
@@ -83,7 +83,7 @@ returns-in-Ok-clause-known g c =
 pub returns-in-Err-clause-refused : goal.returns-in-Err-clause-refused
 returns-in-Err-clause-refused g c =
     let h : length c.args.history.now.entries.items < 4294967294 = c.in_ok-place.ensures.within in
-    step_refused c.states_count_entries.ensures (story_of c.args.history.now) c.args.history.now.opened c.args.parts.now (g.P.Post.count (g.P.Post.known c.args.post.now)) (g.P.Post.direction_at (g.P.Post.known c.args.post.now)) (g.P.Post.gives (g.P.Post.known c.args.post.now)) (step_of c.args.step) c.in-Err.fault c.requires h c.in-Err.ensures.refused
+    step_refused c.states_count_entries.ensures (story_of c.args.history.now) c.args.history.now.opened c.args.parts.now (g.P.Post.count (g.P.Post.known c.args.post.now)) (g.P.Post.direction_at (g.P.Post.known c.args.post.now)) (g.P.Post.gives (g.P.Post.known c.args.post.now)) c.args.step c.in-Err.fault c.requires h c.in-Err.ensures.refused
 
 pub returns-in-Err-clause-kept : goal.returns-in-Err-clause-kept
 returns-in-Err-clause-kept g c =

@@ -1,6 +1,6 @@
 use Rattle.std.proofs.Common.{◌≡◌, ◌<◌, ◌+◌, ◌++◌, ◌∷◌, [], ◌∙◌, List, ap, arith, length, subst, sym, take}
 use Rattle.std.proofs.lemmas.List.{take_more}
-use Rattle.cluster_model.specs.Steps.{Setup}
+use Rattle.cluster_histories.specs.Steps.{Setup}
 use Rattle.cluster_steps.specs.declared.step.Step.{Step}
 use Rattle.cluster_openings.specs.Fresh.{fresh_records}
 use Rattle.cluster_core.specs.Running.{Ran}

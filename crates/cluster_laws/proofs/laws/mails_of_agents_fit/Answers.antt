@@ -1,4 +1,4 @@
-use Rattle.cluster_model.specs.Steps.{history}
+use Rattle.cluster_histories.specs.Steps.{history}
 use Rattle.cluster_laws.specs.declared.item.Item.TheVariants as items
 use Rattle.cluster_laws.proofs.InOrder.{fits_sides}
 use Rattle.cluster_laws.proofs.Histories.{history_once}

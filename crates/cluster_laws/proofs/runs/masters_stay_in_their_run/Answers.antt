@@ -1,5 +1,5 @@
 use Rattle.cluster_model.specs.Calls.{called}
-use Rattle.cluster_model.specs.Clusters.{master_of}
+use Rattle.cluster_histories.specs.Clusters.{master_of}
 use Rattle.cluster_model.specs.Mails.{agent_lost, hung_up, mailed, ticked}
 use Rattle.cluster_model.specs.Rounds.{allocated}
 use Rattle.cluster_laws.proofs.Ordinary.{called_ordinary, allocated_ordinary, ticked_ordinary, lost_ordinary, hung_ordinary, mailed_ordinary}

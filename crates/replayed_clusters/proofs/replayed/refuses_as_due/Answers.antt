@@ -1,9 +1,8 @@
 use Rattle.post_rules.specs.Numbers.{is_number}
-use Rattle.cluster_steps.specs.Steps.{step_of}
 use Rattle.replayed_clusters.proofs.Clusters.{numbers_so, refused_due}
 use Rattle.replayed_clusters.proofs.replayed.refuses_as_due.Goals as goal
 
 pub returns : goal.returns
 returns c step fault =
     let count = c.args.cluster.now.post.count in
-    refused_due c.args.cluster.now.story (is_number count) step fault (c.withholds_nothing.ensures (is_number count) (step_of step) (numbers_so count))
+    refused_due c.args.cluster.now.story (is_number count) step fault (c.withholds_nothing.ensures (is_number count) step (numbers_so count))

@@ -2,7 +2,7 @@ use Rattle.std.proofs.Common.{◌≡◌, ◌∙◌, List, ap, length, refl, subs
 use Rattle.agent_sides.specs.declared.config.ConfiguredAgent.{ConfiguredAgent}
 use Rattle.cluster_laws.specs.Premises.{AreRecorded}
 use Rattle.cluster_laws.specs.declared.item.Item.{Item}
-use Rattle.cluster_model.specs.Steps.{Setup}
+use Rattle.cluster_histories.specs.Steps.{Setup}
 use Rattle.cluster_parts.specs.Opening.{Opens}
 use Rattle.mails.specs.declared.record.Durable.{Durable}
 use Rattle.cluster_core.specs.Putting.{ArePut}

@@ -1,5 +1,5 @@
 use Rattle.std.proofs.Common.{refl, sym}
-use Rattle.cluster_model.specs.Clusters.{Allocate}
+use Rattle.cluster_steps.specs.declared.step.Step.TheVariants.{Allocate}
 use Rattle.cluster_model.specs.Rounds.{allocated}
 use Rattle.cluster_parts.proofs.StepsServed.{serve_rise, serve_takes}
 use Rattle.cluster_parts.proofs.parts.Parts.allocate.Goals as goal

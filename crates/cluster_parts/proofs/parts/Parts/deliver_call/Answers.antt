@@ -1,5 +1,5 @@
 use Rattle.std.proofs.Common.{refl, sym}
-use Rattle.cluster_model.specs.Clusters.{Deliver}
+use Rattle.cluster_steps.specs.declared.step.Step.TheVariants.{Deliver}
 use Rattle.cluster_model.specs.Calls.{called}
 use Rattle.cluster_parts.proofs.StepsServed.{post_of_call, serve_rise, serve_takes}
 use Rattle.cluster_parts.proofs.parts.Parts.deliver_call.Goals as goal

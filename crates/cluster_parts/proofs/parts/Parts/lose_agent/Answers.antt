@@ -1,5 +1,5 @@
 use Rattle.std.proofs.Common.{rules, ◌≡◌, ◌∙◌, None, Option, refl, sym, subst}
-use Rattle.cluster_model.specs.Clusters.{LoseAgent}
+use Rattle.cluster_steps.specs.declared.step.Step.TheVariants.{LoseAgent}
 use Rattle.cluster_model.specs.Masters.{Master}
 use Rattle.agent_sides.specs.Named.{lost_by}
 use Rattle.cluster_parts.specs.Masters.{StandsFor}

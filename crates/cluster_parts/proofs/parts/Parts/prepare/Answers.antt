@@ -4,10 +4,9 @@ use Rattle.std.proofs.lemmas.Result.{IfErr-weaker}
 use Rattle.mails.specs.declared.cause.Cause.{Cause}
 use Rattle.mails.specs.declared.refusal.AgentRefusal.TheVariants.{NotForMe}
 use Rattle.cluster_laws.specs.declared.item.Item.{Item}
-use Rattle.cluster_model.specs.Clusters.{Prepare}
-use Rattle.cluster_steps.specs.Steps.{cause_of}
-use Rattle.cluster_steps.specs.declared.entry.Outputs.{Outputs}
-use Rattle.cluster_steps.specs.declared.entry.Verdict.TheVariants.{AgentRefused}
+use Rattle.cluster_steps.specs.declared.step.Step.TheVariants.{Prepare}
+use Rattle.cluster_entries.specs.declared.entry.Outputs.{Outputs}
+use Rattle.cluster_steps.specs.declared.verdict.Verdict.TheVariants.{AgentRefused}
 use Rattle.cluster_steps.specs.declared.fault.ClusterFault.{ClusterFault}
 use Rattle.cluster_steps.specs.declared.fault.ClusterFault.TheVariants.{NoSuchAgent}
 use Rattle.cluster_parts.specs.Agents.{KeptAgent, place_in}
@@ -23,7 +22,7 @@ pub returns-in_err-place-clause-refused : goal.returns-in_err-place-clause-refus
 returns-in_err-place-clause-refused g c =
     let p = c.args.self.now in
     let name = c.args.name.now in
-    let asked = cause_of c.args.cause.now in
+    let asked = c.args.cause.now in
     let gives = g.P.Post.gives (g.P.Post.known c.args.post.now) in
     let first : IfErr c.from_residual.result (λ fault. (place_in name c.as_slice.result.now ≡ None) × (fault ≡ NoSuchAgent)) = search rules in
     IfErr-weaker c.from_residual.result (λ fault. (place_in name c.as_slice.result.now ≡ None) × (fault ≡ NoSuchAgent)) (AllMayRefuse gives p (Prepare name asked))
@@ -37,7 +36,7 @@ returns-then-is_down-clause-refused g c = λ s of.
     let place = c.in_ok-place.place in
     let a = c.index_mut-agent.result.now in
     let at = here s p c.as_slice.result.now name place a of c.as_slice.ensures.value c.in_ok-place.ensures.place c.in_ok-place.ensures.within c.index_mut-agent.ensures.value in
-    inl (c.prepares_are_made.ensures.down s name place a (cause_of c.args.cause.now) at.0 at.1 (sym c.is_down.ensures ∙ c.if-is_down.true))
+    inl (c.prepares_are_made.ensures.down s name place a c.args.cause.now at.0 at.1 (sym c.is_down.ensures ∙ c.if-is_down.true))
 
 pub returns-then-has_draft-clause-refused : goal.returns-then-has_draft-clause-refused
 returns-then-has_draft-clause-refused g c = λ s of.
@@ -46,7 +45,7 @@ returns-then-has_draft-clause-refused g c = λ s of.
     let place = c.in_ok-place.place in
     let a = c.index_mut-agent.result.now in
     let at = here s p c.as_slice.result.now name place a of c.as_slice.ensures.value c.in_ok-place.ensures.place c.in_ok-place.ensures.within c.index_mut-agent.ensures.value in
-    inl (c.prepares_are_made.ensures.opened s name place a (cause_of c.args.cause.now) at.0 at.1 (sym c.is_down.ensures ∙ c.if-is_down.false) (sym c.has_draft.ensures ∙ c.if-has_draft.true))
+    inl (c.prepares_are_made.ensures.opened s name place a c.args.cause.now at.0 at.1 (sym c.is_down.ensures ∙ c.if-is_down.false) (sym c.has_draft.ensures ∙ c.if-has_draft.true))
 
 pub returns-then-is_withheld-clause-refused : goal.returns-then-is_withheld-clause-refused
 returns-then-is_withheld-clause-refused g c = λ s of.
@@ -81,8 +80,8 @@ returns-in-Ok-Some-clause-made g c = λ s of.
     let at = here s p c.as_slice.result.now name place a of c.as_slice.ensures.value c.in_ok-place.ensures.place c.in_ok-place.ensures.within c.index_mut-agent.ensures.value in
     let due : cause_due p.items name cause ≡ Some (Some c.in-Ok-Some.given) =
     ap (λ (xs : List Item). cause_due xs name cause) (sym c.as_slice-2.ensures) ∙ ap (cause_due c.as_slice-2.result.now name) (sym c.in_ok-copy.ensures) ∙ c.in-Ok-Some.ensures ∙ ap Some c.in-Ok-Some.field-0-is in
-    one_takes s (Prepare name (cause_of cause)) c.draw.result c.draw.result p _ place new of refl
-    (subst (λ (o : Outputs). Makes s (Prepare name (cause_of cause)) verdict o (slice_set (kept_agents s) place new) p.items) (sym c.draw.ensures.quiet)
+    one_takes s (Prepare name cause) c.draw.result c.draw.result p _ place new of refl
+    (subst (λ (o : Outputs). Makes s (Prepare name cause) verdict o (slice_set (kept_agents s) place new) p.items) (sym c.draw.ensures.quiet)
     (c.prepares_are_made.ensures.made s name place a new cause c.in-Ok-Some.given verdict p.items of.reached of.stands.as_others.as_items at.0 at.1
     (sym c.is_down.ensures ∙ c.if-is_down.false) (none_open a.part.draft (sym c.has_draft.ensures ∙ c.if-has_draft.false)) due c.draw.ensures.drawn))
     (c.draw.ensures.durable ∙ record_so verdict name (slice_set p.agents.items place new) new (set_found name p.agents.items place a new there.0 there.1 c.draw.ensures.name)) refl refl refl refl refl
@@ -97,8 +96,8 @@ returns-in-Ok-None-clause-made g c = λ s of.
     let at = here s p c.as_slice.result.now name place a of c.as_slice.ensures.value c.in_ok-place.ensures.place c.in_ok-place.ensures.within c.index_mut-agent.ensures.value in
     let due : cause_due p.items name cause ≡ Some None =
     ap (λ (xs : List Item). cause_due xs name cause) (sym c.as_slice-2.ensures) ∙ ap (cause_due c.as_slice-2.result.now name) (sym c.in_ok-copy.ensures) ∙ c.in-Ok-None.ensures ∙ ap Some c.in-Ok-None.field-0-is in
-    one_takes s (Prepare name (cause_of cause)) c.ends_with.result _ p _ place a of c.ends_with.ensures
-    (subst (λ (xs : List KeptAgent). Makes s (Prepare name (cause_of cause)) (AgentRefused NotForMe) (sending []) xs p.items) (sym (set_same (kept_agents s) place a at.1))
+    one_takes s (Prepare name cause) c.ends_with.result _ p _ place a of c.ends_with.ensures
+    (subst (λ (xs : List KeptAgent). Makes s (Prepare name cause) (AgentRefused NotForMe) (sending []) xs p.items) (sym (set_same (kept_agents s) place a at.1))
     (c.prepares_are_made.ensures.astray s name place a cause p.items of.reached of.stands.as_others.as_items at.0 at.1
     (sym c.is_down.ensures ∙ c.if-is_down.false) (none_open a.part.draft (sym c.has_draft.ensures ∙ c.if-has_draft.false)) due)) refl refl refl refl refl refl
 

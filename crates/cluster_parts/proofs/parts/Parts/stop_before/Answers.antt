@@ -1,7 +1,8 @@
 use Rattle.std.proofs.Common.{[], refl, sym, subst}
 use Rattle.std.specs.Prelude.{slice_set}
-use Rattle.cluster_model.specs.Clusters.{StopBefore}
-use Rattle.cluster_steps.specs.declared.entry.Verdict.TheVariants as verdicts
+use Rattle.cluster_steps.specs.declared.step.Step.TheVariants.{StopAgent}
+use Rattle.cluster_steps.specs.declared.step.Keep.TheVariants.{Before}
+use Rattle.cluster_steps.specs.declared.verdict.Verdict.TheVariants as verdicts
 use Rattle.cluster_parts.specs.Agents.{KeptAgent}
 use Rattle.cluster_parts.specs.Moves.{Makes, kept_agents, sending}
 use Rattle.cluster_parts.proofs.Parting.{here, one_takes}
@@ -14,6 +15,6 @@ returns-clause-made c = λ s of.
     let place = c.in_ok-place.place in
     let a = c.index_mut-agent.result.now in
     let at = here s p c.as_slice.result.now name place a of c.as_slice.ensures.value c.in_ok-place.ensures.place c.in_ok-place.ensures.within c.index_mut-agent.ensures.value in
-    one_takes s (StopBefore name) c.ends_with.result _ p _ place c.stop_before.new.self of c.ends_with.ensures
-    (subst (λ (b : KeptAgent). Makes s (StopBefore name) verdicts.Ok (sending []) (slice_set (kept_agents s) place b) p.items) (sym c.stop_before.ensures)
+    one_takes s (StopAgent name Before) c.ends_with.result _ p _ place c.stop_before.new.self of c.ends_with.ensures
+    (subst (λ (b : KeptAgent). Makes s (StopAgent name Before) verdicts.Ok (sending []) (slice_set (kept_agents s) place b) p.items) (sym c.stop_before.ensures)
     (c.stops_are_made.ensures.before s name place a p.items of.reached of.stands.as_others.as_items at.0 at.1)) refl refl refl refl refl refl

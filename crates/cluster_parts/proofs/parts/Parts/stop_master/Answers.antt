@@ -1,6 +1,6 @@
 use Rattle.std.proofs.Common.{◌≡◌, ◌+◌, ℕ, true, false, None, nat_lt, refl, sym, ap, ◌∙◌, subst}
 use Rattle.cluster_model.specs.Ids.{last_run}
-use Rattle.cluster_steps.specs.declared.entry.Verdict.TheVariants as verdicts
+use Rattle.cluster_steps.specs.declared.verdict.Verdict.TheVariants as verdicts
 use Rattle.cluster_parts.specs.Masters.{ends_with}
 use Rattle.cluster_parts.specs.Opening.{Starts}
 use Rattle.cluster_parts.specs.Restarting.{Restarts}

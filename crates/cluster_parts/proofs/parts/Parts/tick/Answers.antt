@@ -1,5 +1,5 @@
 use Rattle.std.proofs.Common.{◌∙◌, nat_lt, ap, refl}
-use Rattle.cluster_model.specs.Clusters.{Tick}
+use Rattle.cluster_steps.specs.declared.step.Step.TheVariants.{Tick}
 use Rattle.cluster_model.specs.Mails.{ticked}
 use Rattle.cluster_parts.proofs.StepsServed.{is_not_below, serve_rise, serve_takes}
 use Rattle.cluster_parts.proofs.parts.Parts.tick.Goals as goal

@@ -2,52 +2,12 @@
 
 ghost use Rattle.std.proofs.Common.{rules};
 
-use crate::step::Step;
+use cluster_steps::{Sent, Step, Verdict};
 use listed::Listed;
-use mails::{AgentRefusal, MasterRefusal, ToAgent, ToMaster};
 use master_state::StreamEvent;
 use names_core::StreamId;
 use plain_data::Plain;
 use shared_value::Shared;
-
-/// How a step ended.
-#[derive(Clone, Copy, Drop, PartialEq, Eq)]
-pub enum Verdict {
-    Ok,
-    MasterRefused(MasterRefusal),
-    AgentRefused(AgentRefusal),
-    /// The part that the step moves ran out of memory, and is down.
-    OutOfMemory,
-}
-
-impl Plain for Verdict {
-    ghost cloned = { Prim.search rules };
-
-    ghost decided = { Prim.search rules };
-}
-
-/// A call or a mail that was sent. A call is its step's; a mail stands once,
-/// and who delivers it shares it.
-#[derive(Clone, Drop, PartialEq)]
-pub enum Sent {
-    Call,
-    ToAgent(Shared<ToAgent>),
-    ToMaster(Shared<ToMaster>),
-}
-
-impl Plain for Sent {
-    ghost use Rattle.cluster_steps.specs.declared.entry.Sent.TheVariants.{Call, ToAgent, ToMaster};
-    ghost use Rattle.mails.specs.contracts.mail.ToAgentPlain.TheImpl.Laws.{decided-law as agent_decided};
-    ghost use Rattle.mails.specs.contracts.mail.ToMasterPlain.TheImpl.Laws.{decided-law as master_decided};
-
-    ghost cloned = { Prim.search rules };
-
-    ghost decided = { elim [
-      | Call ↦ elim [ Call ↦ Prim.search rules | _ ↦ Prim.search rules ]
-      | ToAgent m ↦ elim [ ToAgent n ↦ (let d = agent_decided m n in ((λ h. let e = d.0 h in Prim.search rules), (λ e. d.1 (Prim.search rules)))) | _ ↦ Prim.search rules ]
-      | ToMaster m ↦ elim [ ToMaster n ↦ (let d = master_decided m n in ((λ h. let e = d.0 h in Prim.search rules), (λ e. d.1 (Prim.search rules)))) | _ ↦ Prim.search rules ]
-    ] };
-}
 
 /// What a step brought out.
 #[derive(Clone, Drop, PartialEq)]
@@ -62,7 +22,7 @@ pub struct Outputs {
 }
 
 impl Plain for Outputs {
-    ghost use Rattle.cluster_steps.specs.contracts.entry.SentPlain.TheImpl.Laws.{decided-law as sent_decided};
+    ghost use Rattle.cluster_steps.specs.contracts.verdict.SentPlain.TheImpl.Laws.{decided-law as sent_decided};
     ghost use Rattle.master_state.specs.contracts.state.StreamEventPlain.TheImpl.Laws.{decided-law as event_decided};
     ghost use Rattle.names_core.specs.contracts.stream.StreamIdPlain.TheImpl.Laws.{decided-law as stream_decided};
     ghost use Rattle.plain_data.specs.Deciding.{and_decides};
@@ -84,8 +44,8 @@ pub struct Entry {
 }
 
 impl Plain for Entry {
-    ghost use Rattle.cluster_steps.specs.contracts.entry.OutputsPlain.TheImpl.Laws.{cloned-law as outputs_cloned, decided-law as outputs_decided};
-    ghost use Rattle.cluster_steps.specs.contracts.entry.VerdictPlain.TheImpl.Laws.{cloned-law as verdict_cloned, decided-law as verdict_decided};
+    ghost use Rattle.cluster_entries.specs.contracts.entry.OutputsPlain.TheImpl.Laws.{cloned-law as outputs_cloned, decided-law as outputs_decided};
+    ghost use Rattle.cluster_steps.specs.contracts.verdict.VerdictPlain.TheImpl.Laws.{cloned-law as verdict_cloned, decided-law as verdict_decided};
     ghost use Rattle.cluster_steps.specs.contracts.step.StepPlain.TheImpl.Laws.{cloned-law as step_cloned, decided-law as step_decided};
     ghost use Rattle.plain_data.specs.Deciding.{and_decides};
 

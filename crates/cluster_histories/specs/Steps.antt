@@ -21,7 +21,18 @@ use Rattle.cluster_model.specs.Masters.{Registers, Doing, Move, AtSide, TearDown
 use Rattle.cluster_model.specs.Calls.{called}
 use Rattle.cluster_model.specs.Mails.{mailed, ticked, agent_lost, hung_up}
 use Rattle.cluster_model.specs.Rounds.{allocated}
-use Rattle.cluster_model.specs.Clusters.{Stream, Post, Called, Down, Up, Cluster, master_of, StepCause, ByStart, ByAgain, ByExecutor, ByMail, Step, Send, Deliver, Allocate, Tick, LoseAgent, HangUp, Prepare, Commit, StopBefore, StopAfter, StopMaster, Take, StepRefusal, NoSuchMail, MasterDown, AgentDown, DraftOpen, NoDraft, HistoryFull, TimeBack, NoSuchAgent, Verdict, Fine, MasterRefused, AgentRefused, Fell, Sent, CallSent, MailToAgent, MailToMaster, Entry, no_outs}
+use Rattle.cluster_histories.specs.Clusters.{Stream, Post, Called, Down, Up, Cluster, master_of, Entry, no_outs}
+use Rattle.cluster_steps.specs.declared.step.StepCause.{StepCause}
+use Rattle.cluster_steps.specs.declared.step.StepCause.TheVariants.{Start as ByStart, Again as ByAgain, Executor as ByExecutor, Mail as ByMail}
+use Rattle.cluster_steps.specs.declared.step.Step.{Step}
+use Rattle.cluster_steps.specs.declared.step.Step.TheVariants.{Send, Deliver, Allocate, Tick, LoseAgent, HangUp, Prepare, Commit, StopAgent, StopMaster, Take}
+use Rattle.cluster_steps.specs.declared.step.Keep.TheVariants.{Before, After}
+use Rattle.cluster_steps.specs.declared.fault.ClusterFault.{ClusterFault}
+use Rattle.cluster_steps.specs.declared.fault.ClusterFault.TheVariants.{NoSuchMail, MasterDown, AgentDown, DraftOpen, NoDraft, HistoryFull, TimeBack, NoSuchAgent}
+use Rattle.cluster_steps.specs.declared.verdict.Verdict.{Verdict}
+use Rattle.cluster_steps.specs.declared.verdict.Verdict.TheVariants.{Ok as Fine, MasterRefused, AgentRefused, OutOfMemory as Fell}
+use Rattle.cluster_steps.specs.declared.verdict.Sent.{Sent}
+use Rattle.cluster_steps.specs.declared.verdict.Sent.TheVariants.{Call as CallSent, ToAgent as MailToAgent, ToMaster as MailToMaster}
 
 -- what was sent
 
@@ -127,7 +138,7 @@ done c e = record {
   };
 }
 
-abbrev pub does : Cluster → Effect → Result Done StepRefusal
+abbrev pub does : Cluster → Effect → Result Done ClusterFault
 does c e = Ok (done c e)
 
 -- what happens in channels alone
@@ -166,11 +177,11 @@ effect_of first d =
     }
 
 -- what the master does
-abbrev pub master_does : Cluster → Doing → Result Done StepRefusal
+abbrev pub master_does : Cluster → Doing → Result Done ClusterFault
 master_does c d = does c (effect_of [] d)
 
 -- what the master does at a mail, which its side hears first
-abbrev pub master_hears : Cluster → Channel → ℕ → Option AgentMail → Result Done StepRefusal
+abbrev pub master_hears : Cluster → Channel → ℕ → Option AgentMail → Result Done ClusterFault
 master_hears c x place None = Err NoSuchMail
 master_hears c x place (Some mail) =
     does c (effect_of (At x.side.name (Hear place) ∷ []) (mailed (master_of c) x.side mail))
@@ -178,11 +189,11 @@ master_hears c x place (Some mail) =
 abbrev pub channel_of : Cluster → List ℕ → Option Channel
 channel_of c agent = find (λ x. bytes_eq x.side.name agent) c.world.channels
 
-abbrev pub delivers_up : Cluster → ℕ → Option Channel → Result Done StepRefusal
+abbrev pub delivers_up : Cluster → ℕ → Option Channel → Result Done ClusterFault
 delivers_up c place None = Err NoSuchMail
 delivers_up c place (Some x) = master_hears c x place (slice_get x.to_master place)
 
-abbrev pub delivers : Cluster → Option Post → Result Done StepRefusal
+abbrev pub delivers : Cluster → Option Post → Result Done ClusterFault
 delivers c None = Err NoSuchMail
 delivers c (Some (Called stream call)) = master_does c (called (master_of c) stream call)
 delivers c (Some (Down agent place)) = Err NoSuchMail
@@ -196,7 +207,7 @@ post_at c (suc n) = slice_get c.posts n
 abbrev pub with_tick : Cluster → ℕ → Cluster
 with_tick c now = record c { last_tick = now }
 
-abbrev pub ticks_at : Cluster → ℕ → Result Done StepRefusal
+abbrev pub ticks_at : Cluster → ℕ → Result Done ClusterFault
 ticks_at c now =
     if nat_lt now c.last_tick then Err TimeBack
     else master_does (with_tick c now) (ticked (master_of c) now)
@@ -204,11 +215,11 @@ ticks_at c now =
 abbrev pub stream_at : Cluster → Numbered → Option Stream
 stream_at c id = find (λ s. same s.id id) c.streams
 
-abbrev pub hangs_up : Cluster → Numbered → Option Stream → Result Done StepRefusal
+abbrev pub hangs_up : Cluster → Numbered → Option Stream → Result Done ClusterFault
 hangs_up c id None = Err NoSuchMail
 hangs_up c id (Some s) = master_does c (hung_up (master_of c) id)
 
-abbrev pub loses_agent : Cluster → Channel → Result Done StepRefusal
+abbrev pub loses_agent : Cluster → Channel → Result Done ClusterFault
 loses_agent c x = master_does c (agent_lost (master_of c) x.side)
 
 abbrev pub hello_to : Channel → Happening
@@ -226,18 +237,18 @@ master_stops c =
 -- the agents' steps
 
 abbrev pub drafts : Cluster → Channel → AgentStep → Result Draft AgentRefusal
-    → Result Done StepRefusal
+    → Result Done ClusterFault
 drafts c x step (Ok draft) = does c (happening c Fine (At x.side.name (ByAgent step) ∷ []))
 drafts c x step (Err refusal) = does c (happening c (AgentRefused refusal) [])
 
-abbrev pub draws : Cluster → Channel → Cause → Result Done StepRefusal
+abbrev pub draws : Cluster → Channel → Cause → Result Done ClusterFault
 draws c x cause = drafts c x (Draw cause) (next_of x.agent cause)
 
-abbrev pub draws_mail_at : Cluster → Channel → ℕ → Option MasterMail → Result Done StepRefusal
+abbrev pub draws_mail_at : Cluster → Channel → ℕ → Option MasterMail → Result Done ClusterFault
 draws_mail_at c x place None = Err NoSuchMail
 draws_mail_at c x place (Some mail) = drafts c x (DrawMail place) (hears_mail x.agent mail)
 
-abbrev pub draws_mail : Cluster → Channel → Option Post → Result Done StepRefusal
+abbrev pub draws_mail : Cluster → Channel → Option Post → Result Done ClusterFault
 draws_mail c x None = Err NoSuchMail
 draws_mail c x (Some (Called stream call)) = Err NoSuchMail
 draws_mail c x (Some (Up agent place)) = Err NoSuchMail
@@ -245,48 +256,48 @@ draws_mail c x (Some (Down agent place)) =
     if bytes_eq agent x.side.name then draws_mail_at c x place (slice_get x.to_agent place)
     else does c (happening c (AgentRefused NotForMe) [])
 
-abbrev pub prepares : Cluster → StepCause → Channel → Result Done StepRefusal
+abbrev pub prepares : Cluster → StepCause → Channel → Result Done ClusterFault
 prepares c (ByStart total) x = draws c x (causes.Start total)
 prepares c ByAgain x = draws c x causes.Again
 prepares c (ByExecutor key state) x = draws c x (causes.Executor key state)
 prepares c (ByMail number) x = draws_mail c x (post_at c number)
 
-abbrev pub commits : Cluster → Channel → Result Done StepRefusal
+abbrev pub commits : Cluster → Channel → Result Done ClusterFault
 commits c x = does c (happening c Fine (At x.side.name (ByAgent Adopt) ∷ []))
 
 -- the agent is up again after a stop
 abbrev pub up_again : Cluster → List ℕ → Cluster
 up_again c agent = record c { fallen = filter (λ a. not (bytes_eq a agent)) c.fallen }
 
-abbrev pub stops : Cluster → AgentStep → Channel → Result Done StepRefusal
+abbrev pub stops : Cluster → AgentStep → Channel → Result Done ClusterFault
 stops c stop x =
     does (up_again c x.side.name) (happening c Fine (At x.side.name (ByAgent stop) ∷ []))
 
 -- what a step asks first
 
-abbrev pub with_master : Cluster → Result Done StepRefusal → Result Done StepRefusal
+abbrev pub with_master : Cluster → Result Done ClusterFault → Result Done ClusterFault
 with_master c answer = if c.world.run.serves then answer else Err MasterDown
 
-abbrev pub at_channel : Option Channel → (Channel → Result Done StepRefusal)
-    → Result Done StepRefusal
+abbrev pub at_channel : Option Channel → (Channel → Result Done ClusterFault)
+    → Result Done ClusterFault
 at_channel None step = Err NoSuchAgent
 at_channel (Some x) step = step x
 
 abbrev pub is_fallen : Cluster → Channel → Bool
 is_fallen c x = list_any (bytes_eq x.side.name) c.fallen
 
-abbrev pub if_up : Cluster → (Channel → Result Done StepRefusal) → Channel → Result Done StepRefusal
+abbrev pub if_up : Cluster → (Channel → Result Done ClusterFault) → Channel → Result Done ClusterFault
 if_up c step x = if is_fallen c x then Err AgentDown else step x
 
-abbrev pub by_draft : Option Draft → Result Done StepRefusal → Result Done StepRefusal
-    → Result Done StepRefusal
+abbrev pub by_draft : Option Draft → Result Done ClusterFault → Result Done ClusterFault
+    → Result Done ClusterFault
 by_draft None without with_one = without
 by_draft (Some draft) without with_one = with_one
 
-abbrev pub without_draft : (Channel → Result Done StepRefusal) → Channel → Result Done StepRefusal
+abbrev pub without_draft : (Channel → Result Done ClusterFault) → Channel → Result Done ClusterFault
 without_draft step x = by_draft x.draft (step x) (Err DraftOpen)
 
-abbrev pub with_draft : (Channel → Result Done StepRefusal) → Channel → Result Done StepRefusal
+abbrev pub with_draft : (Channel → Result Done ClusterFault) → Channel → Result Done ClusterFault
 with_draft step x = by_draft x.draft (Err NoDraft) (step x)
 
 -- Send, Take
@@ -302,7 +313,7 @@ abbrev pub takes_one : Numbered → Stream → Stream
 takes_one id s =
     if same s.id id then record { id = s.id; events = s.events; taken = suc s.taken } else s
 
-abbrev pub takes_event : Cluster → Numbered → Option Event → Result Done StepRefusal
+abbrev pub takes_event : Cluster → Numbered → Option Event → Result Done ClusterFault
 takes_event c id None = Err NoSuchMail
 takes_event c id (Some event) = Ok (record {
   entry =
@@ -315,12 +326,12 @@ takes_event c id (Some event) = Ok (record {
   after = record c { streams = map (takes_one id) c.streams; entries = suc c.entries };
 })
 
-abbrev pub takes : Cluster → Numbered → Option Stream → Result Done StepRefusal
+abbrev pub takes : Cluster → Numbered → Option Stream → Result Done ClusterFault
 takes c id None = Err NoSuchMail
 takes c id (Some s) = takes_event c id (slice_get s.events s.taken)
 
 -- the answer to a step, but for a full history
-abbrev pub answer : Cluster → Step → Result Done StepRefusal
+abbrev pub answer : Cluster → Step → Result Done ClusterFault
 answer c (Send stream call) = Ok (sends c stream call)
 answer c (Deliver number) = with_master c (delivers c (post_at c number))
 answer c Allocate = with_master c (master_does c (allocated c.weights (master_of c)))
@@ -330,8 +341,8 @@ answer c (HangUp stream) = with_master c (hangs_up c stream (stream_at c stream)
 answer c (Prepare agent cause) =
     at_channel (channel_of c agent) (if_up c (without_draft (prepares c cause)))
 answer c (Commit agent) = at_channel (channel_of c agent) (if_up c (with_draft (commits c)))
-answer c (StopBefore agent) = at_channel (channel_of c agent) (stops c StopWithout)
-answer c (StopAfter agent) = at_channel (channel_of c agent) (with_draft (stops c StopWith))
+answer c (StopAgent agent Before) = at_channel (channel_of c agent) (stops c StopWithout)
+answer c (StopAgent agent After) = at_channel (channel_of c agent) (with_draft (stops c StopWith))
 answer c StopMaster = does c (master_stops c)
 answer c (Take stream) = takes c stream (stream_at c stream)
 
@@ -353,12 +364,12 @@ abbrev pub agent_falls : Cluster → List ℕ → AgentStep → Done
 agent_falls c agent stop =
     done (fallen_too c agent) (happening c Fell (At agent (ByAgent stop) ∷ []))
 
-abbrev pub instead : Result Done StepRefusal → Done → Result Done StepRefusal
+abbrev pub instead : Result Done ClusterFault → Done → Result Done ClusterFault
 instead (Ok done) fell = Ok fell
 instead (Err refusal) fell = Err refusal
 
 -- the answer where the part of the step runs out of memory; none can in a Send, a Commit or a Take
-abbrev pub fallen_answer : Cluster → Step → Result Done StepRefusal
+abbrev pub fallen_answer : Cluster → Step → Result Done ClusterFault
 fallen_answer c (Send stream call) = answer c (Send stream call)
 fallen_answer c (Deliver number) = instead (answer c (Deliver number)) (master_falls c)
 fallen_answer c Allocate = instead (answer c Allocate) (master_falls c)
@@ -368,10 +379,10 @@ fallen_answer c (HangUp stream) = instead (answer c (HangUp stream)) (master_fal
 fallen_answer c (Prepare agent cause) =
     instead (answer c (Prepare agent cause)) (agent_falls c agent StopWithout)
 fallen_answer c (Commit agent) = answer c (Commit agent)
-fallen_answer c (StopBefore agent) =
-    instead (answer c (StopBefore agent)) (agent_falls c agent StopWithout)
-fallen_answer c (StopAfter agent) =
-    instead (answer c (StopAfter agent)) (agent_falls c agent StopWith)
+fallen_answer c (StopAgent agent Before) =
+    instead (answer c (StopAgent agent Before)) (agent_falls c agent StopWithout)
+fallen_answer c (StopAgent agent After) =
+    instead (answer c (StopAgent agent After)) (agent_falls c agent StopWith)
 fallen_answer c StopMaster =
     if nat_lt c.world.run.number last_run then Ok (new_master_falls c) else answer c StopMaster
 fallen_answer c (Take stream) = answer c (Take stream)
@@ -381,7 +392,7 @@ pub record Marked : Type 0 where
   pub fell : Bool
   pub step : Step
 
-abbrev pub step_marked : Cluster → Marked → Result Done StepRefusal
+abbrev pub step_marked : Cluster → Marked → Result Done ClusterFault
 step_marked c s =
     if nat_le last_number c.entries then Err HistoryFull
     else (if s.fell then fallen_answer c s.step else answer c s.step)
@@ -434,7 +445,7 @@ opening setup records = let d =
     }
 
 -- a step that is refused adds no entry
-abbrev pub extended : History → Result Done StepRefusal → History
+abbrev pub extended : History → Result Done ClusterFault → History
 extended h (Ok d) =
     record {
       entries = h.entries ++ d.entry ∷ [];

@@ -1,0 +1,6 @@
+//! The entries of a cluster's history: plain data.
+#![tactic(auto)]
+
+mod entry;
+
+pub use entry::{Entry, Outputs};

@@ -1,0 +1,46 @@
+//! How steps end, and what they send.
+
+ghost use Rattle.std.proofs.Common.{rules};
+
+use mails::{AgentRefusal, MasterRefusal, ToAgent, ToMaster};
+use plain_data::Plain;
+use shared_value::Shared;
+
+/// How a step ended.
+#[derive(Clone, Copy, Drop, PartialEq, Eq)]
+pub enum Verdict {
+    Ok,
+    MasterRefused(MasterRefusal),
+    AgentRefused(AgentRefusal),
+    /// The part that the step moves ran out of memory, and is down.
+    OutOfMemory,
+}
+
+impl Plain for Verdict {
+    ghost cloned = { Prim.search rules };
+
+    ghost decided = { Prim.search rules };
+}
+
+/// A call or a mail that was sent. A call is its step's; a mail stands once,
+/// and who delivers it shares it.
+#[derive(Clone, Drop, PartialEq)]
+pub enum Sent {
+    Call,
+    ToAgent(Shared<ToAgent>),
+    ToMaster(Shared<ToMaster>),
+}
+
+impl Plain for Sent {
+    ghost use Rattle.cluster_steps.specs.declared.verdict.Sent.TheVariants.{Call, ToAgent, ToMaster};
+    ghost use Rattle.mails.specs.contracts.mail.ToAgentPlain.TheImpl.Laws.{decided-law as agent_decided};
+    ghost use Rattle.mails.specs.contracts.mail.ToMasterPlain.TheImpl.Laws.{decided-law as master_decided};
+
+    ghost cloned = { Prim.search rules };
+
+    ghost decided = { elim [
+      | Call ↦ elim [ Call ↦ Prim.search rules | _ ↦ Prim.search rules ]
+      | ToAgent m ↦ elim [ ToAgent n ↦ (let d = agent_decided m n in ((λ h. let e = d.0 h in Prim.search rules), (λ e. d.1 (Prim.search rules)))) | _ ↦ Prim.search rules ]
+      | ToMaster m ↦ elim [ ToMaster n ↦ (let d = master_decided m n in ((λ h. let e = d.0 h in Prim.search rules), (λ e. d.1 (Prim.search rules)))) | _ ↦ Prim.search rules ]
+    ] };
+}
