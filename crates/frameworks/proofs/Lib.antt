@@ -1,2 +1,4 @@
 pub mod Ordered
+pub mod Placed
+pub mod Leading
 pub mod Keeping

@@ -10,14 +10,15 @@ use Rattle.cluster_model.specs.Ids.{same, before}
 use Rattle.cluster_model.specs.Masters.{put_framework}
 use Rattle.cluster_model.specs.Mails.{beaten, beaten_on, is_due}
 use Rattle.frameworks.specs.Frameworks.{KeepsId, PutsAreChanges, are_ordered, changed, ids_of, is_at, place_of, with_id}
+use Rattle.frameworks.specs.OpenStreams.{streams_of}
 
 -- ids
 
-both_true : (x y : Bool) → (x && y) ≡ true → (x ≡ true) × (y ≡ true)
+pub both_true : (x y : Bool) → (x && y) ≡ true → (x ≡ true) × (y ≡ true)
 both_true true y e = (refl, e)
 both_true false y e = absurd cc
 
-same_is : (a b : Numbered) → same a b ≡ true → a ≡ b
+pub same_is : (a b : Numbered) → same a b ≡ true → a ≡ b
 same_is a b h =
     let n : a.n ≡ b.n = grind (arith, nat_tests) in
     let run : a.run ≡ b.run = grind (arith, nat_tests) in
@@ -26,16 +27,16 @@ same_is a b h =
 not_itself : (a : Numbered) → before a a ≡ false
 not_itself a = grind (arith, nat_tests)
 
-not_after : (a b : Numbered) → before a b ≡ true → before b a ≡ false
+pub not_after : (a b : Numbered) → before a b ≡ true → before b a ≡ false
 not_after a b h = grind (arith, nat_tests)
 
-is_other : (a b : Numbered) → before a b ≡ true → same b a ≡ false
+pub is_other : (a b : Numbered) → before a b ≡ true → same b a ≡ false
 is_other a b h = grind (arith, nat_tests)
 
-else_after : (a b : Numbered) → before a b ≡ false → same a b ≡ false → before b a ≡ true
+pub else_after : (a b : Numbered) → before a b ≡ false → same a b ≡ false → before b a ≡ true
 else_after a b h k = grind (arith, nat_tests)
 
-before_trans : (a b c : Numbered) → before a b ≡ true → before b c ≡ true → before a c ≡ true
+pub before_trans : (a b c : Numbered) → before a b ≡ true → before b c ≡ true → before a c ≡ true
 before_trans a b c h k = grind (arith, nat_tests)
 
 -- frameworks that all stand behind an id
@@ -55,7 +56,7 @@ all_after a (f ∷ fs) h =
     let both = both_true (before a f.id) (list_all (λ g. before a g.id) fs) h in
     rw both.0 (ap (λ gs. f ∷ gs) (all_after a fs both.1))
 
-none_changed : (change : Framework → Framework) (a : Numbered) (fs : List Framework) → AllBehind a fs → map (changed change a) fs ≡ fs
+pub none_changed : (change : Framework → Framework) (a : Numbered) (fs : List Framework) → AllBehind a fs → map (changed change a) fs ≡ fs
 none_changed change a [] h = refl
 none_changed change a (f ∷ fs) h =
     let both = both_true (before a f.id) (list_all (λ g. before a g.id) fs) h in
@@ -72,7 +73,7 @@ found_behind a id (g ∷ gs) f h e = by (same g.id id) refl (found_behind a id g
         subst (λ (x : Framework). before a x.id ≡ true) one (both_true (before a g.id) (list_all (λ x. before a x.id) gs) h).0
     by false s rest = rest (rw s at e)
 
-behind_trans : (a b : Numbered) (fs : List Framework) → before a b ≡ true → AllBehind b fs → AllBehind a fs
+pub behind_trans : (a b : Numbered) (fs : List Framework) → before a b ≡ true → AllBehind b fs → AllBehind a fs
 behind_trans a b [] lt h = refl
 behind_trans a b (f ∷ fs) lt h =
     let both = both_true (before b f.id) (list_all (λ g. before b g.id) fs) h in
@@ -80,17 +81,17 @@ behind_trans a b (f ∷ fs) lt h =
 
 -- where a framework is put
 
-put_first : (x h : Framework) (fs : List Framework) → x.id ≡ h.id → AllBehind h.id fs → put_framework x (h ∷ fs) ≡ x ∷ fs
+pub put_first : (x h : Framework) (fs : List Framework) → x.id ≡ h.id → AllBehind h.id fs → put_framework x (h ∷ fs) ≡ x ∷ fs
 put_first x h fs e all =
     let behind : AllBehind x.id fs = subst (λ i. AllBehind i fs) (sym e) all in
     let no : before h.id x.id ≡ false = subst (λ i. before h.id i ≡ false) (sym e) (not_itself h.id) in
     let nor : before x.id h.id ≡ false = subst (λ i. before i h.id ≡ false) (sym e) (not_itself h.id) in
     rw (no, nor, none_before x.id fs behind, all_after x.id fs behind) refl
 
-put_later : (x h : Framework) (fs : List Framework) → before h.id x.id ≡ true → put_framework x (h ∷ fs) ≡ h ∷ put_framework x fs
+pub put_later : (x h : Framework) (fs : List Framework) → before h.id x.id ≡ true → put_framework x (h ∷ fs) ≡ h ∷ put_framework x fs
 put_later x h fs lt = rw (lt, not_after h.id x.id lt) refl
 
-put_before : (x h : Framework) (fs : List Framework) → before x.id h.id ≡ true → AllBehind h.id fs → put_framework x (h ∷ fs) ≡ x ∷ h ∷ fs
+pub put_before : (x h : Framework) (fs : List Framework) → before x.id h.id ≡ true → AllBehind h.id fs → put_framework x (h ∷ fs) ≡ x ∷ h ∷ fs
 put_before x h fs lt all =
     let behind : AllBehind x.id fs = behind_trans x.id h.id fs lt all in
     rw (not_after x.id h.id lt, lt, none_before x.id fs behind, all_after x.id fs behind) refl
@@ -230,6 +231,11 @@ pub ids_set : (fs : List Framework) (i : ℕ) (x d : Framework) → i < length f
 ids_set [] i x d lt e = absurd (omega arith)
 ids_set (f ∷ fs) zero x d lt e = ap (λ j. j ∷ ids_of fs) e
 ids_set (f ∷ fs) (suc i) x d lt e = ap (λ js. f.id ∷ js) (ids_set fs i x d (omega arith) e)
+
+pub streams_set : (fs : List Framework) (i : ℕ) (x d : Framework) → i < length fs → x.stream ≡ (slice_index_or fs i d).stream → streams_of (slice_set fs i x) ≡ streams_of fs
+streams_set [] i x d lt e = absurd (omega arith)
+streams_set (f ∷ fs) zero x d lt e = ap (λ (s : Option Numbered). s ∷ streams_of fs) e
+streams_set (f ∷ fs) (suc i) x d lt e = ap (λ (ss : List (Option Numbered)). f.stream ∷ ss) (streams_set fs i x d (omega arith) e)
 
 behind_alike : (a : Numbered) (fs gs : List Framework) → ids_of fs ≡ ids_of gs → AllBehind a gs → AllBehind a fs
 behind_alike a [] gs e h = refl

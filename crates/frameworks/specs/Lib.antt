@@ -1,1 +1,2 @@
 pub mod Frameworks
+pub mod OpenStreams

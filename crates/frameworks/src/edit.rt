@@ -1,12 +1,13 @@
 //! Changes in place.
 
-ghost use Rattle.std.specs.Prelude.{◌≡◌, true, map, OnOk};
+ghost use Rattle.std.specs.Prelude.{◌≡◌, true, map, OnOk, OnErr};
 ghost use Rattle.cluster_model.specs.Masters.{clear_on, put_framework};
 ghost use Rattle.cluster_model.specs.Mails.{beaten, is_due};
 ghost use Rattle.frameworks.specs.Frameworks.{are_ordered, changed, ids_of, revived, suppressed, with_filter, without_stream};
+ghost use Rattle.frameworks.specs.OpenStreams.{streams_of};
 
 use crate::filters;
-use crate::look::{is_at, place_in};
+use crate::look::{is_at, place_in, place_with};
 use listed::Listed;
 use mails::Framework;
 use names_core::{AgentName, FrameworkId};
@@ -21,6 +22,7 @@ const HEARTBEAT_SECONDS: u64 = 15;
 pub fn put(frameworks: &mut Vec<Framework>, framework: Framework) -> Result<(), AllocError>
     requires { are_ordered frameworks.old.items ≡ true }
     ensures ok { OnOk result (frameworks.new.items ≡ put_framework framework frameworks.old.items) }
+    ensures err { OnErr result (frameworks.new.items ≡ frameworks.old.items) }
     ensures ordered { are_ordered frameworks.new.items ≡ true }
 {
     let place = place_in(frameworks, framework.id);
@@ -32,73 +34,67 @@ pub fn put(frameworks: &mut Vec<Framework>, framework: Framework) -> Result<(), 
     Ok(())
 }
 
-fn close_one(framework: &mut Framework, id: FrameworkId)
-    ensures { framework.new ≡ changed without_stream id framework.old }
+fn close_one(framework: &mut Framework)
+    ensures { framework.new ≡ without_stream framework.old }
 {
-    if framework.id == id {
-        framework.stream = None;
-    }
+    framework.stream = None;
 }
 
 pub fn close_in(frameworks: &mut Vec<Framework>, id: FrameworkId)
+    requires { are_ordered frameworks.old.items ≡ true }
     ensures { frameworks.new.items ≡ map (changed without_stream id) frameworks.old.items }
 {
-    for i in 0..frameworks.len() {
-        close_one(&mut frameworks[i], id);
+    if let Some(place) = place_with(frameworks, id) {
+        close_one(&mut frameworks[place]);
     }
 }
 
-fn revive_one(framework: &mut Framework, alloc: Global, id: FrameworkId)
-    ensures { framework.new ≡ changed revived id framework.old }
+fn revive_one(framework: &mut Framework, alloc: Global)
+    ensures { framework.new ≡ revived framework.old }
 {
-    if framework.id == id {
-        framework.suppressed = false;
-        framework.filters = Listed::new(alloc);
-    }
+    framework.suppressed = false;
+    framework.filters = Listed::new(alloc);
 }
 
 pub fn revive_in(frameworks: &mut Vec<Framework>, alloc: Global, id: FrameworkId)
+    requires { are_ordered frameworks.old.items ≡ true }
     ensures { frameworks.new.items ≡ map (changed revived id) frameworks.old.items }
 {
-    for i in 0..frameworks.len() {
-        revive_one(&mut frameworks[i], alloc, id);
+    if let Some(place) = place_with(frameworks, id) {
+        revive_one(&mut frameworks[place], alloc);
     }
 }
 
-fn suppress_one(framework: &mut Framework, id: FrameworkId)
-    ensures { framework.new ≡ changed suppressed id framework.old }
+fn suppress_one(framework: &mut Framework)
+    ensures { framework.new ≡ suppressed framework.old }
 {
-    if framework.id == id {
-        framework.suppressed = true;
-    }
+    framework.suppressed = true;
 }
 
 pub fn suppress_in(frameworks: &mut Vec<Framework>, id: FrameworkId)
+    requires { are_ordered frameworks.old.items ≡ true }
     ensures { frameworks.new.items ≡ map (changed suppressed id) frameworks.old.items }
 {
-    for i in 0..frameworks.len() {
-        suppress_one(&mut frameworks[i], id);
+    if let Some(place) = place_with(frameworks, id) {
+        suppress_one(&mut frameworks[place]);
     }
 }
 
 fn refuse_one(
     framework: &mut Framework,
     alloc: Global,
-    id: FrameworkId,
     now: u32,
     seconds: u32,
     agent: &AgentName,
     refused: &Resources,
 ) -> Result<(), AllocError>
     ensures ok { OnOk result (framework.new
-        ≡ changed (with_filter now seconds agent.now refused.now) id framework.old) }
+        ≡ with_filter now seconds agent.now refused.now framework.old) }
     ensures id { framework.new.id ≡ framework.old.id }
+    ensures stream { framework.new.stream ≡ framework.old.stream }
 {
-    if framework.id == id {
-        let refused = refused.copy()?;
-        filters::add_filter(&mut framework.filters, alloc, now, seconds, agent, refused)?;
-    }
-    Ok(())
+    let refused = refused.copy()?;
+    filters::add_filter(&mut framework.filters, alloc, now, seconds, agent, refused)
 }
 
 pub fn refuse_in(
@@ -110,13 +106,16 @@ pub fn refuse_in(
     agent: &AgentName,
     refused: &Resources,
 ) -> Result<(), AllocError>
+    requires { are_ordered frameworks.old.items ≡ true }
     ensures ok { OnOk result (frameworks.new.items
         ≡ map (changed (with_filter now seconds agent.now refused.now) id) frameworks.old.items) }
     ensures ids { ids_of frameworks.new.items ≡ ids_of frameworks.old.items }
+    ensures streams { streams_of frameworks.new.items ≡ streams_of frameworks.old.items }
 {
-    for i in 0..frameworks.len() {
-        refuse_one(&mut frameworks[i], alloc, id, now, seconds, agent, refused)?;
-    }
+    let Some(place) = place_with(frameworks, id) else {
+        return Ok(());
+    };
+    refuse_one(&mut frameworks[place], alloc, now, seconds, agent, refused)?;
     Ok(())
 }
 

@@ -7,10 +7,11 @@ mod edit;
 mod filters;
 mod laws;
 mod look;
+mod streams;
 mod table;
 
 pub use edit::is_due;
 pub use filters::is_eligible;
 pub use laws::puts_are_changes;
-pub use look::{is_before, is_subscriber};
+pub use look::is_before;
 pub use table::Frameworks;

@@ -1,10 +1,10 @@
 //! Look-ups.
 
-ghost use Rattle.std.specs.Prelude.{◌≡◌, ◌≤◌, length, option_map};
-ghost use Rattle.std.specs.List.{find};
-ghost use Rattle.cluster_model.specs.Ids.{before};
-ghost use Rattle.cluster_model.specs.Calls.{is_stream};
-ghost use Rattle.frameworks.specs.Frameworks.{is_at, place_of, with_id};
+ghost use Rattle.std.specs.Prelude.{◌≡◌, ◌≤◌, true, length, option_map};
+ghost use Rattle.std.specs.List.{position};
+ghost use Rattle.cluster_model.specs.Ids.{before, same};
+ghost use Rattle.frameworks.specs.Frameworks.{are_ordered, is_at, place_of, with_id};
+ghost use Rattle.frameworks.specs.OpenStreams.{open_stream};
 
 use mails::Framework;
 use names_core::{FrameworkId, StreamId};
@@ -16,54 +16,13 @@ pub fn is_before(id: FrameworkId, other: FrameworkId) -> bool
     id.run() < other.run() || (id.run() == other.run() && id.number() < other.number())
 }
 
-/// Whether this is the framework's open stream.
-pub fn is_subscriber(framework: &Framework, stream: StreamId) -> bool
-    ensures { result ≡ is_stream stream framework.now.stream }
-{
-    match framework.stream {
-        None => false,
-        Some(other) => other == stream,
-    }
-}
-
-/// The stream of the framework of this id, where it is known.
-pub fn stream_in(frameworks: &[Framework], id: FrameworkId) -> Option<Option<StreamId>>
-    ensures { result ≡ option_map (λ f. f.stream) (with_id id frameworks.now) }
-{
-    for framework in frameworks {
-        if framework.id == id {
-            return Some(framework.stream);
-        }
-    }
-    None
-}
-
-/// The framework whose open stream this is.
-pub fn subscriber_in(frameworks: &[Framework], stream: StreamId) -> Option<FrameworkId>
-    ensures { result ≡ option_map (λ f. f.id)
-        (find (λ f. is_stream stream f.stream) frameworks.now) }
-{
-    for framework in frameworks {
-        if is_subscriber(framework, stream) {
-            return Some(framework.id);
-        }
-    }
-    None
-}
-
-/// How many frameworks of the first stand before an id.
+/// How many frameworks of the first stand before an id, found by halving.
 pub fn place_in(frameworks: &[Framework], id: FrameworkId) -> usize
+    requires { are_ordered frameworks.now ≡ true }
     ensures place { result ≡ place_of id frameworks.now }
     ensures within { result ≤ length frameworks.now }
 {
-    let mut place = 0;
-    for framework in frameworks {
-        if !is_before(framework.id, id) {
-            return place;
-        }
-        place += 1;
-    }
-    place
+    frameworks.partition_point(|framework| is_before(framework.id, id))
 }
 
 /// Whether this framework's id stands at a place.
@@ -71,4 +30,39 @@ pub fn is_at(frameworks: &[Framework], place: usize, framework: &Framework) -> b
     ensures { result ≡ is_at place framework.now frameworks.now }
 {
     place < frameworks.len() && frameworks[place].id == framework.id
+}
+
+fn has_id(framework: &Framework, id: FrameworkId) -> bool
+    ensures { result ≡ same framework.now.id id }
+{
+    framework.id == id
+}
+
+/// The place of the framework of this id, found by halving.
+pub fn place_with(frameworks: &[Framework], id: FrameworkId) -> Option<usize>
+    requires { are_ordered frameworks.now ≡ true }
+    ensures { result ≡ position (λ f. same f.id id) frameworks.now }
+{
+    let place = place_in(frameworks, id);
+    if place < frameworks.len() && has_id(&frameworks[place], id) {
+        return Some(place);
+    }
+    None
+}
+
+/// The stream of the framework of this id, where it is known.
+pub fn stream_in(frameworks: &[Framework], id: FrameworkId) -> Option<Option<StreamId>>
+    requires { are_ordered frameworks.now ≡ true }
+    ensures { result ≡ option_map (λ f. f.stream) (with_id id frameworks.now) }
+{
+    let place = place_with(frameworks, id)?;
+    Some(frameworks[place].stream)
+}
+
+/// The open stream of the framework of this id, if it has one.
+pub fn open_stream(frameworks: &[Framework], id: FrameworkId) -> Option<StreamId>
+    requires { are_ordered frameworks.now ≡ true }
+    ensures { result ≡ open_stream id frameworks.now }
+{
+    stream_in(frameworks, id)?
 }

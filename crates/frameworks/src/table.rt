@@ -7,30 +7,32 @@ ghost use Rattle.cluster_model.specs.Masters.{clear_on, put_framework};
 ghost use Rattle.cluster_model.specs.Mails.{beaten};
 ghost use Rattle.frameworks.specs.Frameworks.{are_ordered, changed, revived, subscriber, suppressed, with_filter, with_id, without_stream};
 
-use crate::{edit, look};
+use crate::{edit, look, streams};
 use listed::Listed;
 use mails::Framework;
 use names_core::{AgentName, FrameworkId, RoleName, StreamId};
 use quantity::Resources;
 use std::alloc::{AllocError, Global};
+use std::collections::BTreeMap;
 use std::marker::Model;
 
 /// The frameworks that are known in a run, in the order of their ids.
 #[derive(Drop)]
 pub struct Frameworks {
     items: Vec<Framework>,
+    by_stream: BTreeMap<StreamId, FrameworkId>,
 }
 
 impl Model for Frameworks {
-    ghost use Rattle.std.specs.Prelude.{◌≡◌, List, true};
+    ghost use Rattle.std.specs.Prelude.{List};
     ghost use Rattle.mails.specs.declared.framework.Framework.{Framework};
-    ghost use Rattle.frameworks.specs.Frameworks.{are_ordered};
+    ghost use Rattle.frameworks.specs.OpenStreams.{IsTable, led_by};
 
     ghost Value = { List Framework };
 
     ghost view = { λ frameworks. frameworks.items.items };
 
-    ghost invariant = { λ frameworks. are_ordered frameworks.items.items ≡ true };
+    ghost invariant = { λ table. IsTable (led_by table.by_stream) table.items.items };
 }
 
 impl Frameworks {
@@ -39,6 +41,7 @@ impl Frameworks {
     {
         Frameworks {
             items: Vec::new(alloc),
+            by_stream: BTreeMap::new(alloc),
         }
     }
 
@@ -66,11 +69,12 @@ impl Frameworks {
     pub fn subscriber_on(&self, stream: StreamId) -> Option<FrameworkId>
         ensures { result ≡ option_map (λ f. f.id) (find (λ f. is_stream stream f.stream) self.now) }
     {
-        look::subscriber_in(&self.items, stream)
+        self.by_stream.get(&stream).copied()
     }
 
     /// The framework is subscribed on a stream, with a role, and without filters.
-    /// It is known from now on.
+    /// It is known from now on. It fails for want of memory, and where a framework has this stream
+    /// open; then nothing changes.
     pub fn subscribe(
         &mut self,
         alloc: Global,
@@ -89,13 +93,15 @@ impl Frameworks {
             last_beat: now,
             filters: Listed::new(alloc),
         };
-        edit::put(&mut self.items, framework)
+        streams::put_open(&mut self.items, &mut self.by_stream, framework, stream)
     }
 
     /// The framework's stream is open no more.
     pub fn close_stream(&mut self, id: FrameworkId)
         ensures { self.new ≡ map (changed without_stream id) self.old }
     {
+        let stream = look::open_stream(&self.items, id);
+        streams::shut(&mut self.by_stream, stream);
         edit::close_in(&mut self.items, id);
     }
 

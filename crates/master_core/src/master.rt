@@ -1,8 +1,7 @@
 //! Masters.
 
 ghost use Rattle.std.specs.Prelude.{◌≡◌, Some, None, IfOk, IfErr, IfSome, option_and_then, option_map};
-ghost use Rattle.std.specs.List.{list_any};
-ghost use Rattle.cluster_model.specs.Calls.{called, is_stream};
+ghost use Rattle.cluster_model.specs.Calls.{called};
 ghost use Rattle.cluster_model.specs.Masters.{framework_of, stream_of};
 ghost use Rattle.cluster_model.specs.Mails.{hung_up, ticked};
 ghost use Rattle.cluster_model.specs.Rounds.{allocated};
@@ -17,8 +16,7 @@ use crate::answer::answer;
 use crate::offered::sum_of;
 use crate::settle::settle;
 use agent_sides::Config;
-use frameworks::is_subscriber;
-use mails::{AgentMail, Call, Framework, MasterRefusal};
+use mails::{AgentMail, Call, MasterRefusal};
 use master_mails::{hang_up, lose_agent, mail as hear, tick};
 use master_rounds::allocate;
 use master_state::{MasterFault, Outs, State};
@@ -75,15 +73,6 @@ fn lose(state: &mut State, alloc: Global, agent: &AgentName) -> Result<(), Maste
     }
 }
 
-/// Whether this is the open stream of one of these.
-fn is_open_in(frameworks: &[Framework], stream: StreamId) -> bool
-    ensures { result ≡ list_any (λ f. is_stream stream f.stream) frameworks.now }
-{
-    frameworks
-        .iter()
-        .any(|framework| is_subscriber(framework, stream))
-}
-
 impl Master {
     /// A master that begins a run over these agents, and a Hello to each.
     pub fn start(alloc: Global, run: Run, config: &Config) -> Result<(Master, Outs), MasterFault>
@@ -113,12 +102,13 @@ impl Master {
         state.frameworks.stream_of(framework)?
     }
 
-    /// Whether this is a framework's open stream. It takes time for each framework.
+    /// Whether this is a framework's open stream.
+    #[tactic(auto, using(crate::proofs::Opening::some_found))]
     pub fn is_open(&self, stream: StreamId) -> bool
         ensures { result ≡ is_open stream self.now }
     {
         match &self.state {
-            Some(state) => is_open_in(state.frameworks.as_slice(), stream),
+            Some(state) => state.frameworks.subscriber_on(stream).is_some(),
             None => false,
         }
     }

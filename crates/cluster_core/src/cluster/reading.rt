@@ -33,7 +33,7 @@ impl<P: Post + Drop> Cluster<P> {
         self.parts.streams.count(stream)
     }
 
-    /// Whether a stream is a framework's open one. It takes time for each framework.
+    /// Whether a stream is a framework's open one.
     pub fn is_open(&self, stream: StreamId) -> bool
         ensures { result ≡ is_open_in stream (state_of self.now.story) }
     {

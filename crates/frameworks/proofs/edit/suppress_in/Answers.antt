@@ -1,7 +1,14 @@
-use Rattle.std.proofs.Common.{rules, arith}
-use Rattle.std.proofs.lemmas.List.Edits.{map_over_more}
-use Rattle.frameworks.specs.Frameworks.{changed, suppressed}
+use Rattle.std.proofs.Common.{set, ap, sym, ◌∙◌}
+use Rattle.mails.specs.declared.framework.Framework.{Framework}
+use Rattle.frameworks.specs.Frameworks.{suppressed}
+use Rattle.frameworks.proofs.Placed.{changes_there, changes_nowhere}
 use Rattle.frameworks.proofs.edit.suppress_in.Goals as goal
 
-pub loop-i-preserved : goal.loop-i-preserved
-loop-i-preserved c = rw c.suppress_one.ensures (map_over_more (changed suppressed c.args.id) c.args.frameworks.now.items c.loop-i.frameworks.items c.loop-i.i c.index_mut.result.now (omega (arith, c.len-i-end.ensures)) c.loop-i.invariant (search rules))
+pub returns-in-Some : goal.returns-in-Some
+returns-in-Some c =
+    let fs = c.args.frameworks.now.items in
+    let at = sym (rw c.deref.ensures.value at c.place_with.ensures) ∙ c.in-Some.is in
+    ap (λ (f : Framework). set fs c.in-Some.place f) c.suppress_one.ensures ∙ changes_there suppressed c.args.id fs c.in-Some.place c.index_mut.result.now c.requires at c.index_mut.ensures.value
+
+pub returns-in_default : goal.returns-in_default
+returns-in_default c = sym (changes_nowhere suppressed c.args.id c.args.frameworks.now.items (sym (rw c.deref.ensures.value at c.place_with.ensures) ∙ c.in_default.is))

@@ -1,6 +1,8 @@
 use Rattle.cluster_model.specs.Mails.{beaten}
-use Rattle.frameworks.proofs.Ordered.{map_ordered, beaten_keeps}
+use Rattle.frameworks.specs.OpenStreams.{led_by}
+use Rattle.frameworks.proofs.Ordered.{beaten_keeps}
+use Rattle.frameworks.proofs.Leading.{table_kept, beaten_keeps_stream}
 use Rattle.frameworks.proofs.table.Frameworks.beat.Goals as goal
 
 pub invariant_of-self : goal.invariant_of-self
-invariant_of-self c = rw c.beat_in.ensures (map_ordered (beaten c.args.now) c.self.inside.items.items (beaten_keeps c.args.now) c.self.invariant)
+invariant_of-self c = rw c.beat_in.ensures (table_kept (led_by c.self.inside.by_stream) (beaten c.args.now) c.self.inside.items.items (beaten_keeps c.args.now) (beaten_keeps_stream c.args.now) c.self.invariant)

@@ -1,0 +1,53 @@
+//! The index of open streams.
+
+ghost use Rattle.std.specs.Prelude.{◌≡◌, Some, OnOk};
+ghost use Rattle.names_core.specs.Ids.{Numbered};
+ghost use Rattle.cluster_model.specs.Masters.{put_framework};
+ghost use Rattle.frameworks.specs.OpenStreams.{IsTable, led_by, without};
+
+use crate::edit::put;
+use crate::look::open_stream;
+use mails::Framework;
+use names_core::{FrameworkId, StreamId};
+use std::alloc::AllocError;
+use std::collections::BTreeMap;
+
+/// This stream, if it is one, leads nowhere any more.
+pub fn shut(by_stream: &mut BTreeMap<StreamId, FrameworkId>, stream: Option<StreamId>)
+    ensures { (s : Numbered) → led_by by_stream.new s ≡ without stream (led_by by_stream.old) s }
+{
+    if let Some(stream) = stream {
+        let _framework = by_stream.remove(&stream);
+    }
+}
+
+/// Puts a framework in its place by id, and its open stream into the index. A stream that leads to
+/// a framework is refused.
+pub fn put_open(
+    frameworks: &mut Vec<Framework>,
+    by_stream: &mut BTreeMap<StreamId, FrameworkId>,
+    framework: Framework,
+    stream: StreamId,
+) -> Result<(), AllocError>
+    requires table { IsTable (led_by by_stream.old) frameworks.old.items }
+    requires stream { framework.stream ≡ Some stream }
+    ensures ok { OnOk result (frameworks.new.items ≡ put_framework framework frameworks.old.items) }
+    ensures table { IsTable (led_by by_stream.new) frameworks.new.items }
+{
+    if by_stream.contains_key(&stream) {
+        return Err(AllocError);
+    }
+    let id = framework.id;
+    let before = open_stream(frameworks, id);
+    by_stream.insert(stream, id)?;
+    match put(frameworks, framework) {
+        Ok(()) => {
+            shut(by_stream, before);
+            Ok(())
+        }
+        Err(fault) => {
+            shut(by_stream, Some(stream));
+            Err(fault)
+        }
+    }
+}
