@@ -18,7 +18,7 @@ use command_line::ServeOptions;
 use device_io::put;
 use post_rules::Queues;
 use replayed_clusters::end_table;
-use serving::{Folder, Pace, open_folder, serve_cluster, told_of};
+use serving::{Folder, Pace, open_folder, read_recorded, serve_cluster};
 use std::io::Write;
 use std::marker::Brand;
 use std::net::{Net, TcpListener, TcpStream};
@@ -64,7 +64,7 @@ fn serve_folder<R: Threads + Wait + Clock + Sync>(
         Ok(history) => {
             let alloc = rt.alloc();
             let look = |recorded: &RecordedCluster| end_table(alloc, recorded.cluster());
-            Ok(told_of(history, look)?)
+            Ok(read_recorded(history, look)?)
         }
         Err(fault) => Err(ServeFault::Serving(fault)),
     }

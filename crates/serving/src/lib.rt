@@ -15,5 +15,5 @@ pub use cabinet::{FileCabinet, RecordFile};
 pub use fault::ServingFault;
 pub use folder::{Folder, open_folder};
 pub use folder_fault::FolderFault;
-pub use serve::{serve_cluster, told_of};
+pub use serve::{read_recorded, serve_cluster};
 pub use staff::Pace;

@@ -128,9 +128,9 @@ fn run_office<L: ledger::Ledger + Send + Sync, R: Threads + Wait + Clock + Sync>
     })
 }
 
-/// Lets a desk go. (Of a desk over a cluster, whose entries are references, the borrow checker can't
+/// Drops a desk. (Of a desk over a cluster, whose entries are references, the borrow checker can't
 /// follow that in place.)
-fn let_desk_go<C: Recorded, L: ledger::Ledger>(desk: Desk<C, L>) {
+fn drop_desk<C: Recorded, L: ledger::Ledger>(desk: Desk<C, L>) {
     drop(desk);
 }
 
@@ -158,7 +158,7 @@ fn close<L: ledger::Ledger>(
         Ok(history) => Ok(history),
         Err(refused) => {
             let (desk, _passes, fault) = refused;
-            let_desk_go(desk);
+            drop_desk(desk);
             Err(ServingFault::Office(fault))
         }
     }
@@ -178,9 +178,9 @@ fn opened<L: ledger::Ledger>(
     Office::new(desk)
 }
 
-/// What a look tells of what a desk recorded, which is let go then. (Of a desk over a cluster, whose
-/// entries are references, the borrow checker can't follow that in place.)
-pub fn told_of<C: Recorded, T, F: Fn(&C) -> T>(history: SeatedHistory<C>, look: F) -> T
+/// What a look at what a desk recorded gives; the history is dropped then. (Of a desk over a
+/// cluster, whose entries are references, the borrow checker can't follow that in place.)
+pub fn read_recorded<C: Recorded, T, F: Fn(&C) -> T>(history: SeatedHistory<C>, look: F) -> T
     requires { F.IsAlwaysCallable look }
     ensures { FnReturnsAt F.Fn look history.recorded result }
 {
