@@ -3,7 +3,7 @@
 ghost use Rattle.std.specs.Prelude.{◌≡◌, ◌<◌, ◌≤◌, ◌-◌, ◌+◌, ◌++◌, ◌∷◌, [], ℕ, suc, Bool, true, false, length, not, ◌||◌, nat_eq, if◌then◌else◌, set, slice_get, take, vec_capacity, IfNone, IfSome, OnOk, Some};
 ghost use Rattle.std.specs.HashMap.{spare};
 ghost use Rattle.post_rules.specs.Queueing.{IsFirstWaiting, direction_in, hands_out, is_next, nothing_waits, same_queue, with_given, with_put};
-ghost use Rattle.post_rules.specs.Stores.{AreInOrder, first_in, first_with, given_sent, items_of, lasts_of, last_in, with_first, with_next};
+ghost use Rattle.post_rules.specs.Stores.{AreInOrder, first_in, first_with, given_sent, items_of, lasts_of, last_in, numbers_left, with_first, with_next};
 
 use crate::direction::Direction;
 use std::alloc::{AllocError, Global};
@@ -15,25 +15,25 @@ use std::marker::Model;
 struct Sent {
     direction: Direction,
     /// The number of the one before it in its queue; 0 where there is none.
-    previous: usize,
+    previous: u32,
     given: bool,
 }
 
 /// The numbers of the last mails to and from an agent; 0 where there is none.
 #[derive(Clone, Copy)]
 struct Lasts {
-    to_agent: usize,
-    from_agent: usize,
+    to_agent: u32,
+    from_agent: u32,
 }
 
 /// What is kept of an item's queue beside it.
 #[derive(Clone, Copy)]
 struct Link {
     /// The number of the one behind it in its queue; 0 where there is none.
-    next: usize,
+    next: u32,
     /// Of the last in a queue, the number of the first that waits there; 0 where nothing does.
     /// Of others it says nothing.
-    first: usize,
+    first: u32,
 }
 
 /// All that was put, each with its link, and the last numbers of each agent.
@@ -48,11 +48,11 @@ impl Model for Stores {
     ghost use Rattle.std.specs.Prelude.{◌-◌, length, min, vec_capacity};
     ghost use Rattle.std.specs.HashMap.{spare};
     ghost use Rattle.post_rules.specs.Queueing.{Post as Kept};
-    ghost use Rattle.post_rules.specs.Stores.{AreInOrder, AreLasts, AreLinked, items_of};
+    ghost use Rattle.post_rules.specs.Stores.{AreInOrder, AreLasts, AreLinked, items_of, numbers_left};
 
     ghost Value = { Kept };
 
-    ghost view = { λ q. record { items = items_of q.sent.items; room = min (min (vec_capacity q.sent - length q.sent.items) (vec_capacity q.links - length q.links.items)) (spare q.lasts) } };
+    ghost view = { λ q. record { items = items_of q.sent.items; room = min (min (min (vec_capacity q.sent - length q.sent.items) (vec_capacity q.links - length q.links.items)) (spare q.lasts)) (numbers_left (length q.sent.items)) } };
 
     ghost invariant = { λ q. AreInOrder q.sent.items × AreLasts q.sent.items q.lasts × AreLinked q.sent.items q.lasts q.links.items };
 }
@@ -70,7 +70,7 @@ fn lasts_of(lasts: &HashMap<usize, Lasts>, agent: usize) -> Lasts
 }
 
 /// The number of the last in a direction's queue, 0 where there is none.
-fn last_in(lasts: &HashMap<usize, Lasts>, direction: Direction) -> usize
+fn last_in(lasts: &HashMap<usize, Lasts>, direction: Direction) -> u32
     ensures { result ≡ last_in lasts.now direction }
 {
     match direction {
@@ -81,7 +81,7 @@ fn last_in(lasts: &HashMap<usize, Lasts>, direction: Direction) -> usize
 }
 
 /// This number is the last in the direction's queue now.
-fn set_last(lasts: &mut HashMap<usize, Lasts>, direction: Direction, number: usize)
+fn set_last(lasts: &mut HashMap<usize, Lasts>, direction: Direction, number: u32)
     requires { 0 < spare lasts.old }
     ensures lasts { (d : Direction) → last_in lasts.new d
         ≡ (if same_queue direction d then number else last_in lasts.old d) }
@@ -119,50 +119,61 @@ fn is_next(sent: &[Sent], index: usize) -> bool
             if item.given {
                 return false;
             }
-            item.previous == 0 || sent[item.previous - 1].given
+            item.previous == 0 || sent[item.previous as usize - 1].given
         }
     }
 }
 
 /// The number of the first that waits in the queue whose last has this number;
 /// 0 where nothing waits there.
-fn first_in(links: &[Link], last: usize) -> usize
+fn first_in(links: &[Link], last: u32) -> u32
     requires { last ≤ length links.now }
     ensures { result ≡ first_in links.now last }
 {
-    if last == 0 { 0 } else { links[last - 1].first }
+    if last == 0 {
+        0
+    } else {
+        links[last as usize - 1].first
+    }
 }
 
 /// Which is the first that waits once this number is put,
 /// where the first that waited before has that one, or none did and it is 0.
-fn first_with(waiting: usize, number: usize) -> usize
+fn first_with(waiting: u32, number: u32) -> u32
     ensures { result ≡ first_with waiting number }
 {
     if waiting == 0 { number } else { waiting }
 }
 
 /// This number is the first that waits in the queue whose last has that number, if there is one.
-fn set_first(links: &mut Vec<Link>, last: usize, number: usize)
+fn set_first(links: &mut Vec<Link>, last: u32, number: u32)
     requires { last ≤ length links.old.items }
     ensures items { links.new.items ≡ with_first last number links.old.items }
     ensures room { vec_capacity links.new ≡ vec_capacity links.old }
 {
     if last > 0 {
-        let link = &mut links[last - 1];
+        let link = &mut links[last as usize - 1];
         link.first = number;
     }
 }
 
 /// This number is the one behind that number in its queue, if there is one.
-fn set_next(links: &mut Vec<Link>, before: usize, number: usize)
+fn set_next(links: &mut Vec<Link>, before: u32, number: u32)
     requires { before ≤ length links.old.items }
     ensures items { links.new.items ≡ with_next before number links.old.items }
     ensures room { vec_capacity links.new ≡ vec_capacity links.old }
 {
     if before > 0 {
-        let link = &mut links[before - 1];
+        let link = &mut links[before as usize - 1];
         link.next = number;
     }
+}
+
+/// How many numbers are left where so many were put.
+fn numbers_left(count: usize) -> usize
+    ensures { result ≡ numbers_left count }
+{
+    (u32::MAX as usize).saturating_sub(count)
 }
 
 fn hand_out(sent: &mut Vec<Sent>, index: usize)
@@ -187,10 +198,14 @@ impl Stores {
     }
 
     /// Makes room for so many more, whatever their directions.
+    /// It is refused where memory is, or where numbers would be above 4,294,967,295.
     pub(crate) fn reserve(&mut self, more: usize) -> Result<(), AllocError>
         ensures room { OnOk result (more ≤ self.new.room) }
         ensures items { self.new.items ≡ self.old.items }
     {
+        if numbers_left(self.sent.len()) < more {
+            return Err(AllocError);
+        }
         self.sent.reserve(more)?;
         self.links.reserve(more)?;
         self.lasts.reserve(more)
@@ -217,7 +232,8 @@ impl Stores {
             previous,
             given: false,
         });
-        let number = self.sent.len();
+        let count = self.sent.len();
+        let number = count as u32;
         set_next(&mut self.links, previous, number);
         self.links.push_reserved(Link {
             next: 0,
@@ -242,7 +258,7 @@ impl Stores {
         if first == 0 {
             return None;
         }
-        Some(first as u64)
+        Some(u64::from(first))
     }
 
     /// What was handed out has its mark.

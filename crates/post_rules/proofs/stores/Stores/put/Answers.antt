@@ -12,7 +12,7 @@ invariant_of-self c =
     let xs = c.self.inside.sent.items in
     let s : Sent = record { direction = c.args.direction; previous = c.last_in-previous.result; given = false } in
     let more : length (xs ++ s ∷ []) ≡ length xs + 1 = length-append xs (s ∷ []) in
-    let number : c.len-number.result ≡ length xs + 1 = omega (arith, c.len-number.ensures, c.push_reserved.ensures.len, c.self.inside) in
+    let number : c.len-count.result ≡ length xs + 1 = omega (arith, c.len-count.ensures, c.push_reserved.ensures.len, c.self.inside) in
     let lasts = rw number at c.set_last.ensures.lasts in (
       order_along (xs ++ s ∷ []) _ c.push_reserved.ensures.items (order_with_more xs s c.self.invariant.0 (rw c.last_in-previous.ensures (c.self.invariant.1 c.args.direction)) refl),
       lasts_there (xs ++ s ∷ []) _ c.set_last.new.lasts c.push_reserved.ensures.items (lasts_with_more xs c.self.inside.lasts c.set_last.new.lasts s c.self.invariant.1 lasts),
