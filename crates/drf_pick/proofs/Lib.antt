@@ -8,3 +8,6 @@ pub mod OnceRoles
 pub mod UpTo
 pub mod Weights
 pub mod Picked
+pub mod KeptShares
+pub mod ChangedShares
+pub mod ByFractions

@@ -1,5 +1,5 @@
 -- Holders of which no framework stands twice.
-use Rattle.std.proofs.Common.{◌≡◌, ℕ, zero, suc, ◌<◌, Bool, true, false, cond, List, [], ◌∷◌, ◌++◌, length, get_or, Option, Some, None, Result, Ok, Err, OnOk, OnErr, refl, sym, ap, subst, ◌∙◌, arith}
+use Rattle.std.proofs.Common.{◌≡◌, ℕ, zero, suc, ◌<◌, Bool, true, false, cond, List, [], ◌∷◌, ◌++◌, length, get_or, Option, Some, None, refl, sym, ap, ◌∙◌, arith}
 use Rattle.std.specs.List.{position, position_or_len, find}
 use Rattle.std.specs.Prelude.{is_some}
 use Rattle.std.proofs.lemmas.List.Sums.{position_or_len_is}
@@ -94,8 +94,3 @@ once_changed t change keeps (g ∷ hs) once = by_case (is_holder t g) (once_chan
 pub none_left : {X : Type 0} (o : Option X) → is_some o ≡ false → o ≡ None
 none_left None e = refl
 none_left (Some x) e = absurd (true≢false e)
-
--- whether they changed or stayed
-pub once_either : {T E : Type 0} (X : Type 0) (r : Result T E) (now changed before : List Holder) → OnOk r (now ≡ changed) → OnErr r ((now ≡ before) × X) → HoldersOnce changed → HoldersOnce before → HoldersOnce now
-once_either X (Ok x) now changed before ok err c b = subst HoldersOnce (sym ok) c
-once_either X (Err e) now changed before ok err c b = subst HoldersOnce (sym err.0) b

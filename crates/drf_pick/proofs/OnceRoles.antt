@@ -1,5 +1,5 @@
 -- Sums of roles of which none stands twice.
-use Rattle.std.proofs.Common.{◌≡◌, ℕ, zero, suc, ◌<◌, Bool, true, false, cond, List, [], ◌∷◌, ◌++◌, length, get_or, Option, Some, None, Result, Ok, Err, OnOk, OnErr, refl, sym, ap, subst, ◌∙◌, arith, bytes_eq}
+use Rattle.std.proofs.Common.{◌≡◌, ℕ, zero, suc, ◌<◌, Bool, true, false, cond, List, [], ◌∷◌, ◌++◌, length, get_or, Option, Some, None, refl, sym, ap, ◌∙◌, arith, bytes_eq}
 use Rattle.std.specs.List.{position, position_or_len, find}
 use Rattle.std.proofs.lemmas.List.Sums.{position_or_len_is}
 use Rattle.std.proofs.lemmas.Bool.{true≢false, lt-ltb}
@@ -95,8 +95,3 @@ returned_once rows (Some h) rs once = changed_once h.role (role_returning rows) 
 
 pub weighed_once : (name : List ℕ) (weight : ℕ) (rs : List RoleSum) → RolesOnce rs → RolesOnce (weighed_roles name weight rs)
 weighed_once name weight rs once = changed_once name (weighing weight) (λ r. refl) (roles_with name rs (find (is_role name) rs)) (with_once name rs once)
-
--- whether they changed or stayed
-pub roles_either : {T E : Type 0} (X : Type 0) (r : Result T E) (now changed before : List RoleSum) → OnOk r (now ≡ changed) → OnErr r (X × (now ≡ before)) → RolesOnce changed → RolesOnce before → RolesOnce now
-roles_either X (Ok x) now changed before ok err c b = subst RolesOnce (sym ok) c
-roles_either X (Err e) now changed before ok err c b = subst RolesOnce (sym err.1) b

@@ -1,5 +1,5 @@
 -- Holders none of which is behind the last one.
-use Rattle.std.proofs.Common.{◌≡◌, ℕ, Bool, true, false, cond, List, [], ◌∷◌, ◌++◌, Option, Some, None, Result, Ok, Err, OnOk, OnErr, refl, sym, ap, subst, ◌∙◌, arith}
+use Rattle.std.proofs.Common.{◌≡◌, ℕ, Bool, true, false, cond, List, [], ◌∷◌, ◌++◌, Option, Some, None, refl, ap, ◌∙◌, arith}
 use Rattle.std.specs.List.{AllByRecursion, find}
 use Rattle.std.proofs.lemmas.Bool.Decides.{nat_tests}
 use Rattle.names_core.specs.Ids.{Numbered}
@@ -59,8 +59,3 @@ all_changed last t change keeps (h ∷ hs) all = by_case (is_holder t h) (all_ch
 pub changed_up_to : (o : Option Numbered) (t : Numbered) (change : Holder → Holder) → ((h : Holder) → (change h).framework ≡ h.framework) → (hs : List Holder) → AreUpTo o hs → AreUpTo o (at_first (is_holder t) change hs)
 changed_up_to None t change keeps hs up = ap (at_first (is_holder t) change) up
 changed_up_to (Some last) t change keeps hs up = all_changed last t change keeps hs up
-
--- whether they changed or stayed
-pub up_to_either : {T E : Type 0} (X : Type 0) (o : Option Numbered) (r : Result T E) (now changed before : List Holder) → OnOk r (now ≡ changed) → OnErr r ((now ≡ before) × X) → AreUpTo o changed → AreUpTo o before → AreUpTo o now
-up_to_either X o (Ok x) now changed before ok err c b = subst (AreUpTo o) (sym ok) c
-up_to_either X o (Err e) now changed before ok err c b = subst (AreUpTo o) (sym err.0) b

@@ -1,5 +1,5 @@
 -- Sums of roles, each of some weight.
-use Rattle.std.proofs.Common.{◌≡◌, ℕ, ◌<◌, Bool, true, false, cond, List, [], ◌∷◌, ◌++◌, Option, Some, None, Result, Ok, Err, OnOk, OnErr, sym, subst, arith}
+use Rattle.std.proofs.Common.{ℕ, ◌<◌, Bool, true, false, cond, List, [], ◌∷◌, ◌++◌, Option, Some, None, arith}
 use Rattle.std.specs.List.{find}
 use Rattle.quantity.specs.declared.rows.Row.{Row}
 use Rattle.drf_pick.specs.Shares.{AreWeighed, Holder, RoleSum, is_role, at_first, given_roles, returned_roles, role_holding, role_returning, role_sum_of, roles_with, weighed_roles, weighing}
@@ -36,8 +36,3 @@ returned_weighed rows (Some h) rs all = changed_weighed h.role (role_returning r
 
 pub weighed_weighed : (name : List ℕ) (weight : ℕ) (rs : List RoleSum) → 0 < weight → AreWeighed rs → AreWeighed (weighed_roles name weight rs)
 weighed_weighed name weight rs some all = changed_weighed name (weighing weight) (λ r had. some) (roles_with name rs (find (is_role name) rs)) (with_weighed name rs all)
-
--- whether they changed or stayed
-pub weighed_either : {T E : Type 0} (X : Type 0) (r : Result T E) (now changed before : List RoleSum) → OnOk r (now ≡ changed) → OnErr r (X × (now ≡ before)) → AreWeighed changed → AreWeighed before → AreWeighed now
-weighed_either X (Ok x) now changed before ok err c b = subst AreWeighed (sym ok) c
-weighed_either X (Err e) now changed before ok err c b = subst AreWeighed (sym err.1) b

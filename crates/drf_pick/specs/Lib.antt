@@ -1,4 +1,5 @@
 pub mod Shares
+pub mod Fractions
 pub mod Least
 pub mod Orders
 pub mod Laws

@@ -3,15 +3,15 @@
 ghost use Rattle.std.specs.Prelude.{◌≡◌, [], None, fold, IfNone, IfSome};
 ghost use Rattle.std.specs.Option.{option_copied};
 ghost use Rattle.cluster_model.specs.Ids.{bytes_before};
-ghost use Rattle.cluster_model.specs.Rounds.{share};
+ghost use Rattle.share_sums.specs.Dominant.{IsDominant};
 ghost use Rattle.drf_pick.specs.Laws.{ArePositive};
-ghost use Rattle.drf_pick.specs.Shares.{AreWeighed, RolesOnce};
+ghost use Rattle.drf_pick.specs.Shares.{AreWeighed};
 ghost use Rattle.drf_pick.specs.Least.{IsPicked, better_client, comes_before, comes_by_role, comes_within_role, held_by, holder_for, role_share};
 
-use crate::holder::{Client, RoleSum, is_before};
-use crate::shares::{Shares, find_holder, find_role, guess_at};
+use crate::holder::{Client, is_before};
+use crate::shares::{Shares, guess_at, holder_near, role_place};
 use names_core::{FrameworkId, RoleName};
-use share_sums::{Sum, stands_first};
+use share_sums::Fraction;
 
 fn is_name_before(name: &RoleName, other: &RoleName) -> bool
     ensures { result ≡ bytes_before name.now other.now }
@@ -19,35 +19,27 @@ fn is_name_before(name: &RoleName, other: &RoleName) -> bool
     name.as_text().cmp(other.as_text()).is_lt()
 }
 
-fn held_by_role<'a>(roles: &'a [RoleSum], none: &'a Sum, guess: usize, role: &RoleName) -> &'a Sum
-    requires none { none.now ≡ [] }
-    requires once { RolesOnce roles.now }
-    ensures { result.now ≡ (role_share roles.entry.now role.now).held }
-{
-    match find_role(roles, guess, role) {
-        Some(sum) => &sum.held,
-        None => none,
-    }
-}
-
-fn weight_of_role(roles: &[RoleSum], guess: usize, role: &RoleName) -> u16
-    requires { RolesOnce roles.now }
-    ensures { result ≡ (role_share roles.now role.now).weight }
-{
-    match find_role(roles, guess, role) {
-        Some(sum) => sum.weight,
-        None => 1,
-    }
-}
-
-/// What a framework holds; nothing where no role was told of it.
+/// A framework's fraction; nothing where no role was told of it.
 /// It is likely to stand at this place.
-fn held_by(shares: &Shares, guess: usize, framework: FrameworkId) -> &Sum
-    ensures { result.now ≡ held_by shares.entry.now framework }
+fn fraction_of(shares: &Shares, guess: usize, framework: FrameworkId) -> Fraction
+    ensures { IsDominant shares.now.totals (held_by shares.now framework) result }
 {
-    match find_holder(shares.holders.as_slice(), guess, framework) {
-        Some(holder) => &holder.held,
-        None => &shares.nothing,
+    match holder_near(&shares.holders, guess, framework) {
+        Some(place) => shares.fractions[place],
+        None => Fraction::nothing(),
+    }
+}
+
+/// A role's fraction, and its weight; nothing and 1 where it isn't known.
+/// It is likely to stand at this place.
+fn weighed_fraction_of(shares: &Shares, guess: usize, role: &RoleName) -> (Fraction, u16)
+    ensures fraction { IsDominant shares.now.totals (role_share shares.now.roles role.now).held
+        result.0 }
+    ensures weight { result.1 ≡ (role_share shares.now.roles role.now).weight }
+{
+    match role_place(&shares.roles, guess, role) {
+        Some(place) => (shares.role_fractions[place], shares.roles[place].weight),
+        None => (Fraction::nothing(), 1),
     }
 }
 
@@ -61,10 +53,10 @@ fn comes_within_role(
 ) -> bool
     ensures { result ≡ comes_within_role shares.now first second }
 {
-    let first_held = held_by(shares, first_place, first);
-    let second_held = held_by(shares, second_place, second);
-    let tie = is_before(first, second);
-    stands_first(&shares.totals, first_held, 1, second_held, 1, tie)
+    let _ordered = shares.totals.rows();
+    let one = fraction_of(shares, first_place, first);
+    let other = fraction_of(shares, second_place, second);
+    one.is_at_most(1, other, 1) && (!other.is_at_most(1, one, 1) || is_before(first, second))
 }
 
 /// Whether the frameworks of the first role are served rather than those of the second,
@@ -78,19 +70,11 @@ fn comes_by_role(
 ) -> bool
     ensures { result ≡ comes_by_role shares.now first.now second.now }
 {
-    let first_held = held_by_role(&shares.roles, &shares.nothing, first_guess, first);
-    let second_held = held_by_role(&shares.roles, &shares.nothing, second_guess, second);
-    let first_weight = weight_of_role(&shares.roles, first_guess, first);
-    let second_weight = weight_of_role(&shares.roles, second_guess, second);
-    let tie = is_name_before(first, second);
-    stands_first(
-        &shares.totals,
-        first_held,
-        first_weight,
-        second_held,
-        second_weight,
-        tie,
-    )
+    let _ordered = shares.totals.rows();
+    let (one, weight) = weighed_fraction_of(shares, first_guess, first);
+    let (other, other_weight) = weighed_fraction_of(shares, second_guess, second);
+    one.is_at_most(weight, other, other_weight)
+        && (!other.is_at_most(other_weight, one, weight) || is_name_before(first, second))
 }
 
 /// Whether the first framework is served rather than the second, each of its role: by their roles,

@@ -1,6 +1,7 @@
 //! Which framework stands least, by dominant shares (DRF paper, section 4).
 #![tactic(auto)]
 
+mod fractions;
 mod holder;
 mod laws;
 mod least;

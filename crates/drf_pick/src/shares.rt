@@ -4,13 +4,15 @@ ghost use Rattle.std.specs.Prelude.{◌≡◌, ◌++◌, ◌∷◌, [], ℕ, Lis
 ghost use Rattle.std.specs.List.{find, position};
 ghost use Rattle.std.specs.Option.{option_copied};
 ghost use Rattle.role_weights.specs.Weights.{IsWeight};
+ghost use Rattle.drf_pick.specs.Fractions.{OfHolders, OfOthers, OfOtherRoles, OfRoles, OfRolesBut};
 ghost use Rattle.drf_pick.specs.Shares.{AreUpTo, Holder, HoldersOnce, RolesOnce, is_behind, is_holder, is_role, at_first, role_holding, given_holders, given_roles, entered, given, holder_of, role_sum_of, roles_with, weighed, weighing, with_role, can_leave, departed, role_has, holder_has, can_back, role_returning, returned_holders, returned_roles, returned};
 
+use crate::fractions::{keep_nothing, renew_all};
 use crate::holder::{Holder, RoleSum, is_before};
 use names_core::{FrameworkId, RoleName};
 use plain_data::Plain;
 use quantity::Resources;
-use share_sums::{SharesFault, Sum};
+use share_sums::{Fraction, SharesFault, Sum};
 use std::alloc::{AllocError, Global};
 use std::marker::Model;
 
@@ -19,29 +21,33 @@ use std::marker::Model;
 pub struct Shares {
     pub(crate) totals: Sum,
     pub(crate) holders: Vec<Holder>,
+    /// For each holder, at its place, its dominant share; there may be more behind them.
+    pub(crate) fractions: Vec<Fraction>,
     /// The last of the holders' frameworks, by their ids: one behind it is none of them.
     last: Option<FrameworkId>,
     pub(crate) roles: Vec<RoleSum>,
+    /// The same for each role.
+    pub(crate) role_fractions: Vec<Fraction>,
     /// For each holder the place of its role. It is tried first; no answer hangs on it.
     pub(crate) role_places: Vec<usize>,
-    pub(crate) nothing: Sum,
 }
 
 impl Model for Shares {
-    ghost use Rattle.std.specs.Prelude.{◌≡◌, []};
+    ghost use Rattle.drf_pick.specs.Fractions.{OfHolders, OfRoles};
     ghost use Rattle.drf_pick.specs.Shares.{AreUpTo, AreWeighed, Tally, HoldersOnce, RolesOnce};
 
     ghost Value = { Tally };
 
     ghost view = { λ s. record { totals = s.totals; holders = s.holders.items; roles = s.roles.items } };
 
-    ghost invariant = { λ s. ((((s.nothing ≡ []) × AreWeighed s.roles.items) × AreUpTo s.last s.holders.items)
-        × RolesOnce s.roles.items) × HoldersOnce s.holders.items };
+    ghost invariant = { λ s. ((((OfHolders s.totals s.holders.items s.fractions.items
+        × OfRoles s.totals s.roles.items s.role_fractions.items) × AreWeighed s.roles.items)
+        × AreUpTo s.last s.holders.items) × RolesOnce s.roles.items) × HoldersOnce s.holders.items };
 }
 
 /// The place of a framework's holder.
 /// It is found at once where the holders stand in the order of their frameworks' ids.
-pub(crate) fn holder_place(holders: &[Holder], framework: FrameworkId) -> Option<usize>
+fn holder_place(holders: &[Holder], framework: FrameworkId) -> Option<usize>
     requires { HoldersOnce holders.now }
     ensures { result ≡ position (is_holder framework) holders.now }
 {
@@ -63,7 +69,7 @@ fn is_behind(last: Option<FrameworkId>, framework: FrameworkId) -> bool
 }
 
 /// The place of a role's sum. It is found at once where the guess is right.
-fn role_place(roles: &[RoleSum], guess: usize, role: &RoleName) -> Option<usize>
+pub(crate) fn role_place(roles: &[RoleSum], guess: usize, role: &RoleName) -> Option<usize>
     requires { RolesOnce roles.now }
     ensures { result ≡ position (is_role role.now) roles.now }
 {
@@ -74,7 +80,7 @@ fn role_place(roles: &[RoleSum], guess: usize, role: &RoleName) -> Option<usize>
 }
 
 /// The place of a framework's holder. It is found at once where the guess is right.
-fn holder_near(holders: &[Holder], guess: usize, framework: FrameworkId) -> Option<usize>
+pub(crate) fn holder_near(holders: &[Holder], guess: usize, framework: FrameworkId) -> Option<usize>
     requires { HoldersOnce holders.now }
     ensures { result ≡ position (is_holder framework) holders.now }
 {
@@ -84,11 +90,7 @@ fn holder_near(holders: &[Holder], guess: usize, framework: FrameworkId) -> Opti
     holder_place(holders, framework)
 }
 
-pub(crate) fn find_holder(
-    holders: &[Holder],
-    guess: usize,
-    framework: FrameworkId,
-) -> Option<&Holder>
+fn find_holder(holders: &[Holder], guess: usize, framework: FrameworkId) -> Option<&Holder>
     requires { HoldersOnce holders.now }
     ensures { option_copied result ≡ find (is_holder framework) holders.now }
 {
@@ -121,18 +123,6 @@ fn later(last: Option<FrameworkId>, framework: FrameworkId) -> FrameworkId
     } else {
         last
     }
-}
-
-pub(crate) fn find_role<'a>(
-    roles: &'a [RoleSum],
-    guess: usize,
-    role: &RoleName,
-) -> Option<&'a RoleSum>
-    requires { RolesOnce roles.now }
-    ensures { option_copied result ≡ find (is_role role.now) roles.entry.now }
-{
-    let place = role_place(roles, guess, role)?;
-    Some(&roles[place])
 }
 
 /// Where the role of the holder at a place is likely to stand.
@@ -256,6 +246,51 @@ fn back_in(
     }
 }
 
+/// A role's fraction is made anew.
+fn renew_role(
+    fractions: &mut Vec<Fraction>,
+    totals: &Sum,
+    roles: &[RoleSum],
+    guess: usize,
+    role: &RoleName,
+)
+    requires once { RolesOnce roles.now }
+    requires others { OfOtherRoles role.now totals.now roles.now fractions.old.items }
+    ensures { OfRoles totals.now roles.now fractions.new.items }
+{
+    let Some(place) = role_place(roles, guess, role) else {
+        return;
+    };
+    fractions[place] = Fraction::dominant(totals, &roles[place].held);
+}
+
+/// A framework's fraction and its role's are made anew.
+fn renew_of(
+    fractions: &mut Vec<Fraction>,
+    role_fractions: &mut Vec<Fraction>,
+    totals: &Sum,
+    holders: &[Holder],
+    roles: &[RoleSum],
+    role_places: &[usize],
+    framework: FrameworkId,
+)
+    requires holders_once { HoldersOnce holders.now }
+    requires roles_once { RolesOnce roles.now }
+    requires holders { OfOthers framework totals.now holders.now fractions.old.items }
+    requires roles { OfRolesBut (find (is_holder framework) holders.now) totals.now roles.now
+        role_fractions.old.items }
+    ensures holders { OfHolders totals.now holders.now fractions.new.items }
+    ensures roles { OfRoles totals.now roles.now role_fractions.new.items }
+{
+    let Some(place) = holder_place(holders, framework) else {
+        return;
+    };
+    let holder = &holders[place];
+    fractions[place] = Fraction::dominant(totals, &holder.held);
+    let guess = guess_at(role_places, place);
+    renew_role(role_fractions, totals, roles, guess, &holder.role);
+}
+
 fn push_role(roles: &mut Vec<RoleSum>, alloc: Global, role: &RoleName) -> Result<(), AllocError>
     ensures ok { OnOk result (roles.new.items ≡ roles.old.items ++ role_sum_of role.now ∷ []) }
     ensures err { OnErr result (roles.new.items ≡ roles.old.items) }
@@ -355,10 +390,11 @@ impl Shares {
         Shares {
             totals: Sum::new(alloc),
             holders: Vec::new(alloc),
+            fractions: Vec::new(alloc),
             last: None,
             roles: Vec::new(alloc),
+            role_fractions: Vec::new(alloc),
             role_places: Vec::new(alloc),
-            nothing: Sum::new(alloc),
         }
     }
 
@@ -368,7 +404,15 @@ impl Shares {
         ensures err { OnErr result (self.new ≡ self.old) }
         ensures memory { IfErr result (λ fault. fault ≡ SharesFault.OutOfMemory) }
     {
-        self.totals = self.totals.plus(alloc, total)?;
+        let totals = self.totals.plus(alloc, total)?;
+        renew_all(
+            &mut self.fractions,
+            &mut self.role_fractions,
+            &totals,
+            &self.holders,
+            &self.roles,
+        );
+        self.totals = totals;
         Ok(())
     }
 
@@ -387,6 +431,8 @@ impl Shares {
         if is_known(&self.holders, self.last, framework) {
             return Ok(());
         }
+        keep_nothing(&mut self.fractions, self.holders.len())?;
+        keep_nothing(&mut self.role_fractions, self.roles.len())?;
         add_holder(
             &mut self.holders,
             &mut self.roles,
@@ -408,6 +454,7 @@ impl Shares {
         ensures memory { IfErr result (λ fault. fault ≡ SharesFault.OutOfMemory) }
     {
         let guess = last_place(&self.role_places);
+        keep_nothing(&mut self.role_fractions, self.roles.len())?;
         let place = add_role(&mut self.roles, alloc, guess, role)?;
         weigh_in(&mut self.roles, place, role, weight);
         Ok(())
@@ -433,6 +480,15 @@ impl Shares {
             framework,
             resources,
         )?;
+        renew_of(
+            &mut self.fractions,
+            &mut self.role_fractions,
+            &self.totals,
+            &self.holders,
+            &self.roles,
+            &self.role_places,
+            framework,
+        );
         Ok(())
     }
 
@@ -446,6 +502,13 @@ impl Shares {
     {
         match self.totals.minus(alloc, total) {
             Ok(rest) => {
+                renew_all(
+                    &mut self.fractions,
+                    &mut self.role_fractions,
+                    &rest,
+                    &self.holders,
+                    &self.roles,
+                );
                 self.totals = rest;
                 Ok(())
             }
@@ -467,13 +530,27 @@ impl Shares {
             → can_back framework resources.now self.old ≡ false }
         ensures err { OnErr result (self.new ≡ self.old) }
     {
-        back_in(
+        match back_in(
             &mut self.holders,
             &mut self.roles,
             &self.role_places,
             alloc,
             framework,
             resources,
-        )
+        ) {
+            Ok(()) => {
+                renew_of(
+                    &mut self.fractions,
+                    &mut self.role_fractions,
+                    &self.totals,
+                    &self.holders,
+                    &self.roles,
+                    &self.role_places,
+                    framework,
+                );
+                Ok(())
+            }
+            Err(fault) => Err(fault),
+        }
     }
 }

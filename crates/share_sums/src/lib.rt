@@ -7,5 +7,5 @@ mod share;
 mod sum;
 
 pub use fault::SharesFault;
-pub use share::{stands_at_most_at, stands_first};
+pub use share::Fraction;
 pub use sum::Sum;

@@ -1,21 +1,55 @@
-use Rattle.std.proofs.Common.{◌≡◌, List, refl, ap, ◌∙◌}
-use Rattle.drf_pick.specs.Shares.{Tally, RoleSum}
+use Rattle.std.proofs.Common.{◌≡◌, true, false, not, ap, sym, subst, ◌∙◌}
+use Rattle.cluster_model.specs.Ids.{bytes_before}
+use Rattle.cluster_model.specs.Rounds.{Share}
+use Rattle.share_sums.specs.Dominant.{is_at_most}
+use Rattle.share_sums.specs.Sums.{IsSum}
+use Rattle.drf_pick.specs.Shares.{Tally}
 use Rattle.drf_pick.specs.Least.{role_share}
+use Rattle.drf_pick.proofs.ByFractions.{Compared, by_weights, is_first, is_later, is_tied}
 use Rattle.drf_pick.proofs.least.comes_by_role.Goals as goal
 
-pub returns : goal.returns
-returns c =
+pub returns-then-not-is_at_most : goal.returns-then-not-is_at_most
+returns-then-not-is_at_most c =
     let t : Tally = c.args.shares.now in
-    let f = c.args.first.now in
-    let s = c.args.second.now in
-    let totals_are : c.shares.inside.totals ≡ t.totals = ap (λ (x : Tally). x.totals) c.shares.view_is in
-    let roles_are = λ (rs : List RoleSum) (e : rs ≡ c.shares.inside.roles.items). e ∙ ap (λ (x : Tally). x.roles) c.shares.view_is in
-    let one = roles_are c.deref.result.now c.deref.ensures.value in
-    let two = roles_are c.deref-2.result.now c.deref-2.ensures.value in
-    let three = roles_are c.deref-3.result.now c.deref-3.ensures.value in
-    let four = roles_are c.deref-4.result.now c.deref-4.ensures.value in
-    let first : c.held_by_role-first_held.result.now ≡ (role_share t.roles f).held = c.held_by_role-first_held.ensures ∙ ap (λ (rs : List RoleSum). (role_share rs f).held) one in
-    let second : c.held_by_role-second_held.result.now ≡ (role_share t.roles s).held = c.held_by_role-second_held.ensures ∙ ap (λ (rs : List RoleSum). (role_share rs s).held) two in
-    let weight : c.weight_of_role-first_weight.result ≡ (role_share t.roles f).weight = c.weight_of_role-first_weight.ensures ∙ ap (λ (rs : List RoleSum). (role_share rs f).weight) three in
-    let other_weight : c.weight_of_role-second_weight.result ≡ (role_share t.roles s).weight = c.weight_of_role-second_weight.ensures ∙ ap (λ (rs : List RoleSum). (role_share rs s).weight) four in
-    c.stands_first.ensures ∙ rw (totals_are, first, second, weight, other_weight, c.is_name_before-tie.ensures) refl
+    let a : Share = role_share t.roles c.args.first.now in
+    let b : Share = role_share t.roles c.args.second.now in
+    let one = c.weighed_fraction_of-one in
+    let other = c.weighed_fraction_of-other in
+    let f = one.result.0 in
+    let g = other.result.0 in
+    let sum : IsSum t.totals = subst IsSum (ap (λ (x : Tally). x.totals) c.shares.view_is) c.rows-ordered.ensures.sum in
+    let two : Compared t.totals a b f g = record { sum = sum; one = one.ensures.fraction; other = other.ensures.fraction } in
+    let forth : c.is_at_most.result ≡ is_at_most f a.weight g b.weight = c.is_at_most.ensures ∙ by_weights f one.result.1 a.weight g other.result.1 b.weight one.ensures.weight other.ensures.weight in
+    let back : c.is_at_most-then-is_at_most.result ≡ is_at_most g b.weight f a.weight = c.is_at_most-then-is_at_most.ensures ∙ by_weights g other.result.1 b.weight f one.result.1 a.weight other.ensures.weight one.ensures.weight in
+    let above = sym back ∙ c.if-not-is_at_most.true in
+    ap not c.if-not-is_at_most.true ∙ sym (is_first t.totals a b f g (bytes_before c.args.first.now c.args.second.now) two (sym forth ∙ c.if-is_at_most.true) above)
+
+pub returns-else-not-is_at_most : goal.returns-else-not-is_at_most
+returns-else-not-is_at_most c =
+    let t : Tally = c.args.shares.now in
+    let a : Share = role_share t.roles c.args.first.now in
+    let b : Share = role_share t.roles c.args.second.now in
+    let one = c.weighed_fraction_of-one in
+    let other = c.weighed_fraction_of-other in
+    let f = one.result.0 in
+    let g = other.result.0 in
+    let sum : IsSum t.totals = subst IsSum (ap (λ (x : Tally). x.totals) c.shares.view_is) c.rows-ordered.ensures.sum in
+    let two : Compared t.totals a b f g = record { sum = sum; one = one.ensures.fraction; other = other.ensures.fraction } in
+    let forth : c.is_at_most.result ≡ is_at_most f a.weight g b.weight = c.is_at_most.ensures ∙ by_weights f one.result.1 a.weight g other.result.1 b.weight one.ensures.weight other.ensures.weight in
+    let back : c.is_at_most-then-is_at_most.result ≡ is_at_most g b.weight f a.weight = c.is_at_most-then-is_at_most.ensures ∙ by_weights g other.result.1 b.weight f one.result.1 a.weight other.ensures.weight one.ensures.weight in
+    let also = sym back ∙ c.if-not-is_at_most.false in
+    c.is_name_before.ensures ∙ sym (is_tied t.totals a b f g (bytes_before c.args.first.now c.args.second.now) two (sym forth ∙ c.if-is_at_most.true) also)
+
+pub returns-else-is_at_most : goal.returns-else-is_at_most
+returns-else-is_at_most c =
+    let t : Tally = c.args.shares.now in
+    let a : Share = role_share t.roles c.args.first.now in
+    let b : Share = role_share t.roles c.args.second.now in
+    let one = c.weighed_fraction_of-one in
+    let other = c.weighed_fraction_of-other in
+    let f = one.result.0 in
+    let g = other.result.0 in
+    let sum : IsSum t.totals = subst IsSum (ap (λ (x : Tally). x.totals) c.shares.view_is) c.rows-ordered.ensures.sum in
+    let two : Compared t.totals a b f g = record { sum = sum; one = one.ensures.fraction; other = other.ensures.fraction } in
+    let forth : c.is_at_most.result ≡ is_at_most f a.weight g b.weight = c.is_at_most.ensures ∙ by_weights f one.result.1 a.weight g other.result.1 b.weight one.ensures.weight other.ensures.weight in
+    c.if-is_at_most.false ∙ sym (is_later t.totals a b f g (bytes_before c.args.first.now c.args.second.now) two (sym forth ∙ c.if-is_at_most.false))

@@ -1,24 +1,56 @@
-use Rattle.std.proofs.Common.{refl}
+use Rattle.std.proofs.Common.{List, refl, sym, subst}
 use Rattle.std.specs.List.{find}
-use Rattle.drf_pick.specs.Shares.{is_holder, returned_holders, returned_roles, returning}
-use Rattle.drf_pick.proofs.Once.{once_changed, once_either}
-use Rattle.drf_pick.proofs.OnceRoles.{returned_once, roles_either}
-use Rattle.drf_pick.proofs.UpTo.{changed_up_to, up_to_either}
-use Rattle.drf_pick.proofs.Weights.{returned_weighed, weighed_either}
+use Rattle.drf_pick.specs.Shares.{AreUpTo, AreWeighed, Holder, HoldersOnce, RoleSum, RolesOnce, returned_roles, returning, is_holder}
+use Rattle.drf_pick.specs.Fractions.{OfHolders, OfOthers, OfRoles, OfRolesBut}
+use Rattle.drf_pick.proofs.Once.{once_changed}
+use Rattle.drf_pick.proofs.OnceRoles.{returned_once}
+use Rattle.drf_pick.proofs.UpTo.{changed_up_to}
+use Rattle.drf_pick.proofs.Weights.{returned_weighed}
+use Rattle.drf_pick.proofs.ChangedShares.{returned_other_roles, returned_others}
 use Rattle.drf_pick.proofs.shares.Shares.back.Goals as goal
+
+pub renew_of-requires-clause-holders_once : goal.renew_of-requires-clause-holders_once
+renew_of-requires-clause-holders_once c =
+    let hs = c.self.inside.holders.items in
+    let once = subst HoldersOnce (sym c.in-Ok.ensures.holders) (once_changed c.args.framework (returning c.args.resources.now) (λ h. refl) hs c.self.invariant.1) in
+    subst HoldersOnce (sym c.deref-in-Ok.ensures.value) once
+
+pub renew_of-requires-clause-roles_once : goal.renew_of-requires-clause-roles_once
+renew_of-requires-clause-roles_once c =
+    let found = find (is_holder c.args.framework) c.self.inside.holders.items in
+    let once = subst RolesOnce (sym c.in-Ok.ensures.roles) (returned_once c.args.resources.now found c.self.inside.roles.items c.self.invariant.0.1) in
+    subst RolesOnce (sym c.deref-in-Ok-2.ensures.value) once
+
+pub renew_of-requires-clause-holders : goal.renew_of-requires-clause-holders
+renew_of-requires-clause-holders c =
+    let s = c.self.inside in
+    let f = c.args.framework in
+    let all = returned_others f c.args.resources.now s.totals s.holders.items s.fractions.items c.self.invariant.0.0.0.0.0 in
+    let now = subst (λ (hs : List Holder). OfOthers f s.totals hs s.fractions.items) (sym c.in-Ok.ensures.holders) all in
+    subst (λ (hs : List Holder). OfOthers f s.totals hs s.fractions.items) (sym c.deref-in-Ok.ensures.value) now
+
+pub renew_of-requires-clause-roles : goal.renew_of-requires-clause-roles
+renew_of-requires-clause-roles c =
+    let s = c.self.inside in
+    let f = c.args.framework in
+    let rows = c.args.resources.now in
+    let found = find (is_holder f) s.holders.items in
+    let all = returned_other_roles f rows s.totals s.holders.items s.roles.items s.role_fractions.items c.self.invariant.0.0.0.0.1 in
+    let now = subst (λ (hs : List Holder). OfRolesBut (find (is_holder f) hs) s.totals (returned_roles rows found s.roles.items) s.role_fractions.items) (sym c.in-Ok.ensures.holders) all in
+    let also = subst (λ (rs : List RoleSum). OfRolesBut (find (is_holder f) c.back_in.new.holders.items) s.totals rs s.role_fractions.items) (sym c.in-Ok.ensures.roles) now in
+    let of = subst (λ (hs : List Holder). OfRolesBut (find (is_holder f) hs) s.totals c.back_in.new.roles.items s.role_fractions.items) (sym c.deref-in-Ok.ensures.value) also in
+    subst (λ (rs : List RoleSum). OfRolesBut (find (is_holder f) c.deref-in-Ok.result.now) s.totals rs s.role_fractions.items) (sym c.deref-in-Ok-2.ensures.value) of
 
 pub invariant_of-self : goal.invariant_of-self
 invariant_of-self c =
-    let hs = c.self.inside.holders.items in
-    let rs = c.self.inside.roles.items in
+    let s = c.self.inside in
+    let hs = s.holders.items in
+    let rows = c.args.resources.now in
     let found = find (is_holder c.args.framework) hs in
-    let last = c.self.inside.last in
-    let up = up_to_either _ last c.back_in.result c.back_in.new.holders.items (returned_holders c.args.framework c.args.resources.now hs) hs c.back_in.ensures.holders c.back_in.ensures.err
-    (changed_up_to last c.args.framework (returning c.args.resources.now) (λ h. refl) hs c.self.invariant.0.0.1) c.self.invariant.0.0.1 in
-    let roles = roles_either _ c.back_in.result c.back_in.new.roles.items (returned_roles c.args.resources.now found rs) rs c.back_in.ensures.roles c.back_in.ensures.err (returned_once c.args.resources.now found rs c.self.invariant.0.1) c.self.invariant.0.1 in
-    let weighed = weighed_either _ c.back_in.result c.back_in.new.roles.items (returned_roles c.args.resources.now found rs) rs c.back_in.ensures.roles c.back_in.ensures.err
-    (returned_weighed c.args.resources.now found rs c.self.invariant.0.0.0.1) c.self.invariant.0.0.0.1 in (
-      (((c.self.invariant.0.0.0.0, weighed), up), roles),
-      once_either _ c.back_in.result c.back_in.new.holders.items (returned_holders c.args.framework c.args.resources.now hs) hs c.back_in.ensures.holders c.back_in.ensures.err
-          (once_changed c.args.framework (returning c.args.resources.now) (λ h. refl) hs c.self.invariant.1) c.self.invariant.1,
-    )
+    let roles = subst RolesOnce (sym c.in-Ok.ensures.roles) (returned_once rows found s.roles.items c.self.invariant.0.1) in
+    let weighed = subst AreWeighed (sym c.in-Ok.ensures.roles) (returned_weighed rows found s.roles.items c.self.invariant.0.0.0.1) in
+    let up = subst (AreUpTo s.last) (sym c.in-Ok.ensures.holders) (changed_up_to s.last c.args.framework (returning rows) (λ h. refl) hs c.self.invariant.0.0.1) in
+    let once = subst HoldersOnce (sym c.in-Ok.ensures.holders) (once_changed c.args.framework (returning rows) (λ h. refl) hs c.self.invariant.1) in
+    let its = subst (λ (xs : List Holder). OfHolders s.totals xs c.renew_of.new.fractions.items) c.deref-in-Ok.ensures.value c.renew_of.ensures.holders in
+    let role_its = subst (λ (xs : List RoleSum). OfRoles s.totals xs c.renew_of.new.role_fractions.items) c.deref-in-Ok-2.ensures.value c.renew_of.ensures.roles in
+    (((((its, role_its), weighed), up), roles), once)
