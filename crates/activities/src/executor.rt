@@ -11,59 +11,37 @@ use std::alloc::{AllocError, Global};
 use std::collections::{BTreeMap, VecDeque};
 use std::time::{Duration, Instant};
 
-/// What is seen of a task in the agent's record.
-#[derive(Clone, Copy, Drop)]
-pub(crate) struct Sight {
-    pub key: LaunchKey,
-    /// Its last update.
-    pub state: Option<TaskState>,
-    /// Whether all its updates are acknowledged.
-    pub is_settled: bool,
-}
-
-/// What is seen of an agent.
-#[derive(Drop)]
-pub(crate) struct Seen {
-    pub tasks: Vec<Sight>,
-    /// Whether it has an open session, not the last one there is, and owns less than is configured.
-    pub can_grow: bool,
-}
-
 /// Whether a total covers what a record has, and is more.
 fn is_more(total: &Resources, record: &Durable) -> bool {
     total.covers(&record.total) && !record.total.covers(total)
 }
 
-/// What is seen of an agent with this record, and with this total configured.
-pub(crate) fn seen_of(
-    alloc: Global,
-    record: &Durable,
-    total: &Resources,
-    is_in_session: bool,
-) -> Result<Seen, AllocError> {
-    Ok(Seen {
-        tasks: sights_of(alloc, record.tasks.as_slice())?,
-        can_grow: is_in_session && record.session < u32::MAX && is_more(total, record),
-    })
+/// Whether an agent of this record owns less than is configured, and can start with that:
+/// it has an open session, and not the last one there is.
+fn can_grow(record: &Durable, total: &Resources, is_in_session: bool) -> bool {
+    is_in_session && record.session < u32::MAX && is_more(total, record)
 }
 
-/// What is seen of the tasks of a record, in their order.
-fn sights_of(alloc: Global, tasks: &[Shared<RecordedTask>]) -> Result<Vec<Sight>, AllocError> {
-    let mut sights = Vec::with_capacity(alloc, tasks.len())?;
-    for task in tasks {
-        sights.push(Sight {
-            key: task.job.key,
-            state: task.updates.states().last().copied(),
-            is_settled: task.updates.front().is_none(),
-        })?;
+/// The last update of a task.
+fn state_of(task: &RecordedTask) -> Option<TaskState> {
+    task.updates.states().last().copied()
+}
+
+fn runs(task: &RecordedTask) -> bool {
+    state_of(task) == Some(TaskState::Running)
+}
+
+/// Whether the task of a key runs; the tasks come by their keys.
+fn runs_among(tasks: &[Shared<RecordedTask>], key: LaunchKey) -> bool {
+    match tasks.binary_search_by_key(&key, |task| task.job.key) {
+        Ok(at) => tasks.get(at).is_some_and(|task| runs(task)),
+        Err(_) => false,
     }
-    Ok(sights)
 }
 
 /// The executors of an agent's tasks.
 #[derive(Drop)]
 pub(crate) struct Executors {
-    alloc: Global,
     /// How long a task runs; None for until it is killed.
     pace: Option<Duration>,
     /// When each task that runs was first seen to run.
@@ -76,7 +54,6 @@ impl Executors {
     /// Executors whose tasks end after so many seconds, and at 0 never.
     pub fn new(alloc: Global, pace: u64) -> Executors {
         Executors {
-            alloc,
             pace: if pace == 0 {
                 None
             } else {
@@ -105,19 +82,27 @@ impl Executors {
         }
     }
 
-    /// When each task that runs began to.
-    fn running(
-        &self,
-        sights: &[Sight],
-        now: Instant,
-    ) -> Result<BTreeMap<LaunchKey, Instant>, AllocError> {
-        let mut running = BTreeMap::new(self.alloc);
-        for sight in sights {
-            if sight.state == Some(TaskState::Running) {
-                running.insert(sight.key, self.began(sight.key, now))?;
-            }
+    /// A task that runs began to now, unless it is known when.
+    fn notes(&mut self, task: &RecordedTask, now: Instant) -> Result<(), AllocError> {
+        if runs(task) && !self.began.contains_key(&task.job.key) {
+            self.began.insert(task.job.key, now)?;
         }
-        Ok(running)
+        Ok(())
+    }
+
+    /// Notes which tasks began to run, and forgets those that run no more.
+    /// Where tasks run until they are killed nothing is noted.
+    fn follow(&mut self, tasks: &[Shared<RecordedTask>], now: Instant) -> Result<(), AllocError> {
+        if self.pace.is_none() {
+            return Ok(());
+        }
+        for task in tasks {
+            self.notes(task, now)?;
+        }
+        if self.began.len() > tasks.iter().filter(|task| runs(task)).count() {
+            self.began.retain(|key, _| runs_among(tasks, *key));
+        }
+        Ok(())
     }
 
     /// Whether a task that began to run then has run for long enough.
@@ -129,11 +114,11 @@ impl Executors {
     }
 
     /// What the executor of a task tells now.
-    fn next_state(&self, sight: &Sight, now: Instant) -> Option<TaskState> {
-        match sight.state {
+    fn next_state(&self, task: &RecordedTask, now: Instant) -> Option<TaskState> {
+        match state_of(task) {
             None => Some(TaskState::Running),
             Some(TaskState::Running) => {
-                if self.is_over(self.began(sight.key, now), now) {
+                if self.is_over(self.began(task.job.key, now), now) {
                     Some(TaskState::Finished)
                 } else {
                     None
@@ -143,25 +128,27 @@ impl Executors {
         }
     }
 
-    /// Begins a turn: an agent that owns less than is configured starts with that,
-    /// what isn't acknowledged is sent again, and each executor tells its next state.
+    /// Begins a turn of an agent of this record: one that owns less than is configured starts
+    /// with that, what isn't acknowledged is sent again, and each executor tells its next state.
     pub fn begin_turn(
         &mut self,
-        seen: &Seen,
+        record: &Durable,
         total: &Resources,
+        is_in_session: bool,
         now: Instant,
     ) -> Result<(), AllocError> {
-        let sights = seen.tasks.as_slice();
-        self.began = self.running(sights, now)?;
-        if seen.can_grow {
+        let tasks = record.tasks.as_slice();
+        self.follow(tasks, now)?;
+        if can_grow(record, total, is_in_session) {
             self.due.push_back(StepCause::Start(Some(total.copy()?)))?;
         }
-        if sights.iter().any(|sight| !sight.is_settled) {
+        if tasks.iter().any(|task| task.updates.front().is_some()) {
             self.due.push_back(StepCause::Again)?;
         }
-        for sight in sights {
-            if let Some(state) = self.next_state(sight, now) {
-                self.due.push_back(StepCause::Executor(sight.key, state))?;
+        for task in tasks {
+            if let Some(state) = self.next_state(task, now) {
+                self.due
+                    .push_back(StepCause::Executor(task.job.key, state))?;
             }
         }
         Ok(())

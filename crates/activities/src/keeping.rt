@@ -112,6 +112,7 @@ impl<'a, L: ledger::Ledger, R: Wait + Clock> Worker<'a, L, R> {
         &self,
         pass: &mut Pass<KeptEntry, L>,
         opened: &mut Option<Record>,
+        own: &mut Option<Record>,
         cabinet: &mut C,
     ) -> Result<(), Stop<C::Fault>>
         requires { IsOpen self.now.agent.now opened.old pass.old }
@@ -119,8 +120,8 @@ impl<'a, L: ledger::Ledger, R: Wait + Clock> Worker<'a, L, R> {
         ensures opened { IsOpen self.now.agent.now opened.new pass.new }
     {
         match self.standing(pass, opened, cabinet)? {
-            Keep::After => self.stop_after(pass, opened),
-            Keep::Before => self.stop_before(pass, opened),
+            Keep::After => self.stop_after(pass, opened, own),
+            Keep::Before => self.stop_before(pass, opened, own),
         }
     }
 
@@ -132,6 +133,7 @@ impl<'a, L: ledger::Ledger, R: Wait + Clock> Worker<'a, L, R> {
         &self,
         pass: &mut Pass<KeptEntry, L>,
         opened: &mut Option<Record>,
+        own: &mut Option<Record>,
         cabinet: &mut C,
     ) -> Result<bool, Stop<C::Fault>>
         requires { IsOpen self.now.agent.now opened.old pass.old }
@@ -141,18 +143,18 @@ impl<'a, L: ledger::Ledger, R: Wait + Clock> Worker<'a, L, R> {
     {
         match self.save(pass, opened, cabinet) {
             Saving::Kept => {
-                self.commit(pass, opened)?;
+                self.commit(pass, opened, own)?;
                 Ok(true)
             }
             Saving::Failed => {
-                self.reopen(pass, opened, cabinet)?;
+                self.reopen(pass, opened, own, cabinet)?;
                 Err(Stop::Later)
             }
             Saving::NoDraft => {
                 if !has_stopped(pass) {
                     return Ok(false);
                 }
-                self.prepare(pass, opened, StepCause::Start(None))?;
+                self.prepare(pass, opened, own, StepCause::Start(None))?;
                 Ok(true)
             }
         }

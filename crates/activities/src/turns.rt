@@ -2,13 +2,14 @@
 
 ghost use Rattle.activities.specs.Saved.{CommitsSaved, IsGrown, IsOpen, Keeps};
 
-use crate::executor::{Executors, Seen, seen_of};
+use crate::executor::Executors;
 use crate::fault::{ActivityFault, Stop, stop_of};
 use crate::worker::Worker;
 use agent_core::{Cabinet, Record};
 use cluster_core::{Awaited, ClusterFault, KeptEntry, RecordedCluster, StepCause};
 use desk_lock::{Office, Pass, Waited};
 use names_core::AgentName;
+use plain_data::Plain;
 use quantity::Resources;
 use std::alloc::Global;
 use std::sync::{Wait, ledger};
@@ -18,45 +19,55 @@ use std::time::{Clock, Instant};
 const WAIT: u64 = 1;
 
 impl<'a, L: ledger::Ledger, R: Wait + Clock> Worker<'a, L, R> {
-    /// What is seen of the agent.
-    fn seen<F>(&self, pass: &Pass<KeptEntry, L>) -> Result<Seen, Stop<F>> {
-        let (agent, total, alloc) = (self.agent, self.total, self.alloc);
-        let look = |recorded: &RecordedCluster| {
-            let cluster = recorded.cluster();
-            match cluster.durable(agent) {
-                Some(own) => match seen_of(
-                    alloc,
-                    own.parts(),
-                    total,
-                    cluster.is_in_session(agent),
-                ) {
-                    Ok(seen) => Ok(Some(seen)),
-                    Err(_) => Err(ClusterFault::OutOfMemory),
-                },
-                None => Err(ClusterFault::NoSuchAgent),
-            }
-        };
-        match self
-            .office
-            .wait_for(self.rt, pass, Awaited::mails_to(agent), 0, look)
-        {
-            Ok(Waited::Found(seen)) => Ok(seen),
+    /// Whether the agent has an open session.
+    fn is_in_session<F>(&self, pass: &Pass<KeptEntry, L>) -> Result<bool, Stop<F>> {
+        let agent = self.agent;
+        let look = |recorded: &RecordedCluster| Ok(Some(recorded.cluster().is_in_session(agent)));
+        let mails = Awaited::mails_to(agent);
+        match self.office.wait_for(self.rt, pass, mails, 0, look) {
+            Ok(Waited::Found(is)) => Ok(is),
             Ok(_) => Err(Stop::Ended),
             Err(fault) => Err(stop_of(fault)),
         }
     }
 
-    /// Begins a turn.
+    /// A copy of the agent's own record, which has an owner more of each task.
+    fn record<F>(&self, pass: &Pass<KeptEntry, L>) -> Result<Record, Stop<F>> {
+        let agent = self.agent;
+        let look = |recorded: &RecordedCluster| match recorded.cluster().durable(agent) {
+            Some(own) => match own.copy() {
+                Ok(copy) => Ok(Some(copy)),
+                Err(_) => Err(ClusterFault::OutOfMemory),
+            },
+            None => Err(ClusterFault::NoSuchAgent),
+        };
+        let mails = Awaited::mails_to(agent);
+        match self.office.wait_for(self.rt, pass, mails, 0, look) {
+            Ok(Waited::Found(record)) => Ok(record),
+            Ok(_) => Err(Stop::Ended),
+            Err(fault) => Err(stop_of(fault)),
+        }
+    }
+
+    /// Begins a turn. It goes by the agent's own record where that is known, and no answer hangs on
+    /// what stands there: a cause that doesn't fit the agent any more is refused.
     fn begin_turn<F>(
         &self,
         pass: &Pass<KeptEntry, L>,
+        own: &mut Option<Record>,
         executors: &mut Executors,
     ) -> Result<(), Stop<F>> {
-        let seen = self.seen(pass)?;
+        let is_in_session = self.is_in_session(pass)?;
         let Ok(now) = Instant::now(self.rt) else {
             return Err(Stop::Later);
         };
-        match executors.begin_turn(&seen, self.total, now) {
+        let record = match own.take() {
+            Some(record) => record,
+            None => self.record(pass)?,
+        };
+        let begun = executors.begin_turn(record.parts(), self.total, is_in_session, now);
+        *own = Some(record);
+        match begun {
             Ok(()) => Ok(()),
             Err(_) => Err(Stop::Later),
         }
@@ -67,6 +78,7 @@ impl<'a, L: ledger::Ledger, R: Wait + Clock> Worker<'a, L, R> {
     fn next_cause<F>(
         &self,
         pass: &Pass<KeptEntry, L>,
+        own: &mut Option<Record>,
         executors: &mut Executors,
     ) -> Result<Option<StepCause>, Stop<F>> {
         let seconds = if executors.is_due() { 0 } else { WAIT };
@@ -74,7 +86,7 @@ impl<'a, L: ledger::Ledger, R: Wait + Clock> Worker<'a, L, R> {
             return Ok(Some(StepCause::Mail(number)));
         }
         if !executors.is_due() {
-            self.begin_turn(pass, executors)?;
+            self.begin_turn(pass, own, executors)?;
         }
         Ok(executors.pop())
     }
@@ -86,6 +98,7 @@ impl<'a, L: ledger::Ledger, R: Wait + Clock> Worker<'a, L, R> {
         &self,
         pass: &mut Pass<KeptEntry, L>,
         opened: &mut Option<Record>,
+        own: &mut Option<Record>,
         cabinet: &mut C,
         executors: &mut Executors,
     ) -> Result<(), Stop<C::Fault>>
@@ -93,12 +106,12 @@ impl<'a, L: ledger::Ledger, R: Wait + Clock> Worker<'a, L, R> {
         ensures keeps { Keeps (C.saved cabinet.old) (C.saved cabinet.new) pass.old pass.new }
         ensures opened { IsOpen self.now.agent.now opened.new pass.new }
     {
-        if self.settle(pass, opened, cabinet)? {
+        if self.settle(pass, opened, own, cabinet)? {
             return Ok(());
         }
         self.deliver(pass)?;
-        match self.next_cause(pass, executors)? {
-            Some(cause) => self.prepare(pass, opened, cause),
+        match self.next_cause(pass, own, executors)? {
+            Some(cause) => self.prepare(pass, opened, own, cause),
             None => Ok(()),
         }
     }
@@ -108,8 +121,9 @@ impl<'a, L: ledger::Ledger, R: Wait + Clock> Worker<'a, L, R> {
 /// the executors of its tasks tell, and saves each draft in the cabinet before it commits it.
 /// `pace` is after how many seconds a task has finished, 0 for never; `total` is what is configured
 /// that the agent owns: where its record has less, it starts with that at its first turn in a
-/// session. It ends before by O1 and C8, and by a fault that it gives, for which it finishes the
-/// office; after other refusals it does the same again a second later.
+/// session. What another caller commits of the agent is seen at a turn once the activity commits or
+/// stops the agent itself. It ends before by O1 and C8, and by a fault that it gives, for which it
+/// finishes the office; after other refusals it does the same again a second later.
 #[tactic(auto, using(crate::proofs::Saves::keeps_itself, crate::proofs::Saves::keeps_then))]
 pub fn activity<L: ledger::Ledger, R: Wait + Clock, C: Cabinet>(
     rt: &R,
@@ -134,8 +148,9 @@ pub fn activity<L: ledger::Ledger, R: Wait + Clock, C: Cabinet>(
     };
     let mut executors = Executors::new(alloc, pace);
     let mut opened = None;
+    let mut own = None;
     for _ in rt.forever() {
-        match worker.go_on(&mut pass, &mut opened, cabinet, &mut executors) {
+        match worker.go_on(&mut pass, &mut opened, &mut own, cabinet, &mut executors) {
             Ok(()) => {}
             Err(Stop::Later) if worker.pause(&pass) => {}
             Err(Stop::Later | Stop::Ended) => return (pass, None),

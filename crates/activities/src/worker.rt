@@ -1,6 +1,6 @@
 //! The steps that an activity takes, each at the office.
 
-ghost use Rattle.std.specs.Prelude.{◌≡◌, Bool, None, IfOk, OnErr};
+ghost use Rattle.std.specs.Prelude.{◌≡◌, Bool, None, IfOk, OnErr, OnOk};
 ghost use Rattle.mails.specs.declared.record.Durable.{Durable};
 ghost use Rattle.cluster_core.specs.Answering.{Answers};
 ghost use Rattle.activities.specs.Saved.{IsBehindSave, IsLastSaved, IsOpen, Keeps, last_of};
@@ -33,12 +33,31 @@ fn opens(opened: &mut Option<Record>, answered: Answered<KeptEntry, Given>)
     *opened = answered.given.durable;
 }
 
-/// Behind an answer no draft is open.
-fn closes(opened: &mut Option<Record>, answered: Answered<KeptEntry, Given>)
-    ensures { opened.new ≡ None }
+/// Behind a stop no draft is open, and the agent's own record isn't known.
+fn forgets(
+    opened: &mut Option<Record>,
+    own: &mut Option<Record>,
+    answered: Answered<KeptEntry, Given>,
+)
+    ensures opened { opened.new ≡ None }
+    ensures own { own.new ≡ None }
 {
     drop(answered);
     *opened = None;
+    *own = None;
+}
+
+/// Behind a Commit no draft is open, and the record of the one that was is the agent's own.
+fn adopts(
+    opened: &mut Option<Record>,
+    own: &mut Option<Record>,
+    answered: Answered<KeptEntry, Given>,
+)
+    ensures opened { opened.new ≡ None }
+    ensures own { own.new ≡ opened.old }
+{
+    drop(answered);
+    *own = opened.take();
 }
 
 /// What an activity works with.
@@ -84,6 +103,7 @@ impl<'a, L: ledger::Ledger, R: Wait + Clock> Worker<'a, L, R> {
         &self,
         pass: &mut Pass<KeptEntry, L>,
         opened: &mut Option<Record>,
+        own: &mut Option<Record>,
     ) -> Result<(), Stop<F>>
         requires { IsOpen self.now.agent.now opened.old pass.old }
         ensures keeps { (saved : Durable → Bool) → Keeps saved saved pass.old pass.new }
@@ -94,7 +114,7 @@ impl<'a, L: ledger::Ledger, R: Wait + Clock> Worker<'a, L, R> {
             keep: Keep::Before,
         };
         match self.call(pass, step) {
-            Ok(answered) => Ok(closes(opened, answered)),
+            Ok(answered) => Ok(forgets(opened, own, answered)),
             Err(fault) => Err(stop_of(fault)),
         }
     }
@@ -105,6 +125,7 @@ impl<'a, L: ledger::Ledger, R: Wait + Clock> Worker<'a, L, R> {
         &self,
         pass: &mut Pass<KeptEntry, L>,
         opened: &mut Option<Record>,
+        own: &mut Option<Record>,
     ) -> Result<(), Stop<F>>
         requires { IsOpen self.now.agent.now opened.old pass.old }
         ensures keeps { (saved : Durable → Bool) → IsLastSaved saved self.now.agent.now pass.old
@@ -116,7 +137,7 @@ impl<'a, L: ledger::Ledger, R: Wait + Clock> Worker<'a, L, R> {
             keep: Keep::After,
         };
         match self.call(pass, step) {
-            Ok(answered) => Ok(closes(opened, answered)),
+            Ok(answered) => Ok(forgets(opened, own, answered)),
             Err(fault) => Err(stop_of(fault)),
         }
     }
@@ -127,13 +148,16 @@ impl<'a, L: ledger::Ledger, R: Wait + Clock> Worker<'a, L, R> {
         &self,
         pass: &mut Pass<KeptEntry, L>,
         opened: &mut Option<Record>,
-    ) -> Result<(), Stop<F>>
+        own: &mut Option<Record>,
+    ) -> Stop<F>
         requires { IsOpen self.now.agent.now opened.old pass.old }
         ensures keeps { (saved : Durable → Bool) → Keeps saved saved pass.old pass.new }
         ensures opened { IsOpen self.now.agent.now opened.new pass.new }
     {
-        self.stop_before(pass, opened)?;
-        Err(Stop::Later)
+        match self.stop_before(pass, opened, own) {
+            Ok(()) => Stop::Later,
+            Err(stop) => stop,
+        }
     }
 
     /// The record of the agent's open draft, which was saved, becomes its own.
@@ -143,17 +167,19 @@ impl<'a, L: ledger::Ledger, R: Wait + Clock> Worker<'a, L, R> {
         &self,
         pass: &mut Pass<KeptEntry, L>,
         opened: &mut Option<Record>,
+        own: &mut Option<Record>,
     ) -> Result<(), Stop<F>>
         requires { IsOpen self.now.agent.now opened.old pass.old }
         ensures keeps { (saved : Durable → Bool) → IsLastSaved saved self.now.agent.now pass.old
             → Keeps saved saved pass.old pass.new }
         ensures opened { IsOpen self.now.agent.now opened.new pass.new }
+        ensures own { OnOk result (own.new ≡ opened.old) }
     {
         let step = Step::Commit(self.name()?);
         match self.call(pass, step) {
-            Ok(answered) => Ok(closes(opened, answered)),
+            Ok(answered) => Ok(adopts(opened, own, answered)),
             Err(OfficeFault::Core(ClusterFault::AgentDown | ClusterFault::NoDraft)) => {
-                self.restart(pass, opened)
+                Err(self.restart(pass, opened, own))
             }
             Err(fault) => Err(stop_of(fault)),
         }
@@ -166,6 +192,7 @@ impl<'a, L: ledger::Ledger, R: Wait + Clock> Worker<'a, L, R> {
         &self,
         pass: &mut Pass<KeptEntry, L>,
         opened: &mut Option<Record>,
+        own: &mut Option<Record>,
         cause: StepCause,
     ) -> Result<(), Stop<F>>
         requires { opened.old ≡ None }
@@ -178,7 +205,9 @@ impl<'a, L: ledger::Ledger, R: Wait + Clock> Worker<'a, L, R> {
         };
         match self.call(pass, step) {
             Ok(answered) => Ok(opens(opened, answered)),
-            Err(OfficeFault::Core(ClusterFault::AgentDown)) => self.restart(pass, opened),
+            Err(OfficeFault::Core(ClusterFault::AgentDown)) => {
+                Err(self.restart(pass, opened, own))
+            }
             Err(fault) => Err(stop_of(fault)),
         }
     }

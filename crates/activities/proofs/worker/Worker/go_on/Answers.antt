@@ -1,4 +1,4 @@
-use Rattle.activities.proofs.Saves.{keeps_then, none_open}
+use Rattle.activities.proofs.Saves.{keeps_then}
 use Rattle.activities.proofs.worker.Worker.go_on.Goals as goal
 
 pub returns-in_err-deliver-clause-keeps : goal.returns-in_err-deliver-clause-keeps
