@@ -165,6 +165,9 @@ begun_above d h = let e : eqb d.run 0 ≡ false = grind (arith, nat_tests) in rw
 begun_mapped : (d : Durable) (change : RecordedTask → RecordedTask) → has_begun d ≡ true → has_begun (with_other_tasks d (map change d.tasks)) ≡ true
 begun_mapped d change h = rw (length-map d.tasks change) h
 
+pub none_done : (d : Durable) → is_record d ≡ true → none_is_done d.tasks ≡ true
+none_done d h = (parts_of d h).not_done
+
 pub session_recorded : (d : Durable) (session run : ℕ) → is_record d ≡ true → 0 < run → is_record (with_session d session run) ≡ true
 session_recorded d session run h above =
     let p = parts_of d h in

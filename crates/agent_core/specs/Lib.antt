@@ -1,3 +1,4 @@
 pub mod Drafts
 pub mod Prepared
 pub mod Records
+pub mod Spared

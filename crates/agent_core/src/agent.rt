@@ -108,8 +108,9 @@ impl Agent {
         ensures before { IfOk result (λ d. d.before ≡ self.now) }
         ensures refused { IfErr result (IsRefusal (next_of self.now cause)) }
     {
+        let kept = self.state.kept_first(&cause);
         let next = self.state.next(alloc, cause)?;
-        Ok(Draft::of(alloc, &self.state, next)?)
+        Ok(Draft::of(alloc, &self.state, next, kept)?)
     }
 
     /// Makes a draft's record the agent's, and gives the draft's mails,
@@ -128,8 +129,18 @@ impl Agent {
         if !draft.is_current(&self.state) {
             return Err((draft, AgentFault::StaleDraft));
         }
+        Ok(self.adopt(draft))
+    }
+
+    /// Makes the record of a draft that was prepared for the agent as it is the agent's, and gives
+    /// the draft's mails, which are to be sent. It takes no memory, and compares nothing.
+    pub fn adopt(&mut self, draft: Draft) -> Vec<AgentMail>
+        requires current { draft.before ≡ self.old }
+        ensures changed { self.new ≡ draft.draft.after }
+        ensures mails { result.items ≡ draft.draft.mails }
+    {
         let next = draft.into_next();
         self.state = next.after;
-        Ok(next.mails)
+        next.mails
     }
 }

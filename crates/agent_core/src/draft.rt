@@ -1,10 +1,10 @@
 //! Drafts: what an agent would be and would send.
 
-ghost use Rattle.std.specs.Prelude.{◌≡◌, ◌↔◌, true, IsTrue, IfOk};
+ghost use Rattle.std.specs.Prelude.{◌≡◌, ◌↔◌, ◌≤◌, true, IsTrue, IfOk, length, take};
 ghost use Rattle.agent_core.specs.Drafts.{agent_of, is_with_run, next_draft};
 
 use crate::commands::Next;
-use crate::differences::{difference_of, is_spliced};
+use crate::differences::is_spliced;
 use crate::record::Record;
 use crate::state::{Former, State};
 use mails::AgentMail;
@@ -16,7 +16,7 @@ use std::marker::Model;
 /// its record is to be saved before it is committed.
 #[derive(Drop)]
 pub struct Draft {
-    /// What the agent is, with those tasks alone that the draft doesn't keep as they are.
+    /// What the agent is, with a part of its tasks alone.
     before: Former,
     /// Where these tasks stand: before and behind that the draft's tasks are the agent's.
     from: usize,
@@ -39,18 +39,26 @@ impl Model for Draft {
 }
 
 impl Draft {
-    pub(crate) fn of(alloc: Global, state: &State, next: Next) -> Result<Draft, AllocError>
-        requires { is_with_run (agent_of next.after) ≡ true }
+    /// The draft of what an agent would be, whose first so many tasks stay as they are.
+    pub(crate) fn of(
+        alloc: Global,
+        state: &State,
+        next: Next,
+        kept: usize,
+    ) -> Result<Draft, AllocError>
+        requires run { is_with_run (agent_of next.after) ≡ true }
+        requires within { kept ≤ length state.now.durable.tasks }
+        requires kept { take kept state.now.durable.tasks ≡ take kept next.after.durable.tasks }
         ensures { IfOk result
             (λ d. d ≡ record { before = agent_of state.now; draft = next_draft next }) }
     {
         let tasks = state.tasks();
-        let difference = difference_of(tasks, next.after.tasks());
-        let part = copies_of(alloc, &tasks[difference.from..difference.end])?;
+        let part = copies_of(alloc, &tasks[kept..])?;
+        let to = next.after.tasks().len();
         Ok(Draft {
             before: state.former(part)?,
-            from: difference.from,
-            to: difference.to,
+            from: kept,
+            to,
             after: next.after,
             mails: next.mails,
         })

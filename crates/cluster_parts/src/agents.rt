@@ -115,13 +115,7 @@ impl ClusterAgent {
             self.new }
     {
         let draft = self.draft.take()?;
-        match self.agent.commit(draft) {
-            Ok(mails) => Some(mails),
-            Err((draft, _)) => {
-                self.draft = Some(draft);
-                None
-            }
-        }
+        Some(self.agent.adopt(draft))
     }
 
     /// Stops, and is up again over its record.

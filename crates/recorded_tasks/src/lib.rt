@@ -9,9 +9,10 @@ mod keys;
 mod room;
 
 pub use edits::{
-    acknowledged_all, front_sent_after, has_ended_task, has_task, lacks_place, stated_all,
-    without_framework,
+    acknowledged_all, front_sent_after, has_ended_task, has_task, is_of_key, lacks_place,
+    stated_all, without_framework,
 };
 pub use fronts::{all_reported, push_fronts, push_fronts_at};
+pub use ids::is_same_framework;
 pub use keys::{is_before, is_behind_all};
 pub use room::has_room;

@@ -1,0 +1,62 @@
+//! Which tasks a cause leaves as they are. These calls take no memory.
+
+ghost use Rattle.std.specs.Prelude.{◌≡◌, ◌≤◌, true, Ok, length, take};
+ghost use Rattle.std.specs.List.{list_all};
+ghost use Rattle.cluster_model.specs.Agents.{Draft, next_of};
+ghost use Rattle.agent_core.specs.Drafts.{agent_of};
+ghost use Rattle.agent_core.specs.Spared.{command_spares, spares};
+
+use crate::state::State;
+use mails::{Cause, Command, MasterMail, RecordedTask};
+use recorded_tasks::{is_of_key, is_same_framework};
+use shared_value::Shared;
+
+/// Whether a command names neither a task nor its framework.
+fn command_spares(command: &Command, task: &RecordedTask) -> bool
+    ensures { result ≡ command_spares command.now task.now }
+{
+    match command {
+        Command::Launch(..) => true,
+        Command::Kill(key) | Command::Ack(key, _) => !is_of_key(*key, task),
+        Command::EndFramework(framework) => !is_same_framework(task.job.framework, *framework),
+    }
+}
+
+/// Whether a cause names neither a task nor its framework.
+fn spares(cause: &Cause, task: &RecordedTask) -> bool
+    ensures { result ≡ spares cause.now task.now }
+{
+    match cause {
+        Cause::Executor(key, _) => !is_of_key(*key, task),
+        Cause::Mail(to) => match &to.mail {
+            MasterMail::Issued { command, .. } => command_spares(command, task),
+            MasterMail::Hello { .. } => true,
+        },
+        _ => true,
+    }
+}
+
+/// How many of the first tasks a cause spares.
+fn spared_first(cause: &Cause, tasks: &[Shared<RecordedTask>]) -> usize
+    ensures within { result ≤ length tasks.now }
+    ensures spared { list_all (spares cause.now) (take result tasks.now) ≡ true }
+{
+    for i in 0..tasks.len() {
+        if !spares(cause, &tasks[i]) {
+            return i;
+        }
+    }
+    tasks.len()
+}
+
+impl State {
+    /// How many of the first tasks stand as they are in what a cause makes of the agent.
+    pub fn kept_first(&self, cause: &Cause) -> usize
+        ensures within { result ≤ length self.now.durable.tasks }
+        ensures kept { (d : Draft) → next_of (agent_of self.now) cause.now ≡ Ok d
+            → take result self.now.durable.tasks ≡ take result d.after.durable.tasks }
+    {
+        let _recorded = self.parts();
+        spared_first(cause, self.tasks())
+    }
+}
