@@ -1,5 +1,5 @@
 -- Whole numbers that were written with a point, as the numbers they are.
-use Rattle.std.specs.Prelude.{◌≡◌, ℕ, zero, suc, ◌+◌, ◌==◌, ◌&&◌, Bool, true, false, List, [], ◌∷◌, length, take, drop, take_while, slice_index, nat_lt, if◌then◌else◌}
+use Rattle.std.specs.Prelude.{◌≡◌, ℕ, zero, suc, ◌+◌, ◌==◌, ◌&&◌, Bool, true, false, not, List, [], ◌∷◌, length, take, drop, take_while, slice_index, nat_lt, if◌then◌else◌}
 use Rattle.std.specs.List.{list_all, flat_map, before_first, after_first}
 use Rattle.std.specs.Char.{is_ascii_digit}
 use Rattle.number_trim.specs.Cuts.{is_token_byte, Cuts}
@@ -8,6 +8,9 @@ use Rattle.number_trim.specs.Cuts.{is_token_byte, Cuts}
 
 abbrev pub is_point : ℕ → Bool
 is_point b = b == 46
+
+abbrev pub lacks_point : List ℕ → Bool
+lacks_point text = list_all (λ b. not (is_point b)) text
 
 -- a number without a minus that it may have
 abbrev pub without_minus : List ℕ → List ℕ

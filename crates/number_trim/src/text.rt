@@ -2,12 +2,19 @@
 
 ghost use Rattle.std.specs.Prelude.{◌≡◌, ◌<◌, ◌≤◌, ◌++◌, length, take, drop, nat_lt, IfOk, OnOk, IsOkAnd};
 ghost use Rattle.std.specs.Cow.{cow_slice_items, IsBorrowedSlice};
-ghost use Rattle.number_trim.specs.Trim.{trimmed, trim, OneCut, AreCut};
+ghost use Rattle.number_trim.specs.Trim.{lacks_point, trimmed, trim, OneCut, AreCut};
 
 use crate::number::trimmed;
 use crate::piece::piece_end;
 use std::alloc::{AllocError, Global};
 use std::borrow::CowSlice;
+
+/// Whether there is no point: then no number is trimmed.
+fn lacks_point(text: &[u8]) -> bool
+    ensures { result ≡ lacks_point text.now }
+{
+    text.iter().all(|b| *b != b'.')
+}
 
 /// Whether a piece doesn't stay as it is.
 fn is_trimmed(piece: &[u8]) -> bool
@@ -56,6 +63,9 @@ pub fn trim(alloc: Global, text: &[u8]) -> Result<CowSlice<'_, u8>, AllocError>
     ensures value { IfOk result (λ out. cow_slice_items out ≡ trim text.now) }
     ensures lent { trim text.now ≡ text.now → IsOkAnd result IsBorrowedSlice }
 {
+    if lacks_point(text) {
+        return Ok(CowSlice::Borrowed(text));
+    }
     let (front, rest) = text.split_at(kept_len(text));
     if rest.is_empty() {
         return Ok(CowSlice::Borrowed(text));

@@ -1,5 +1,10 @@
+use Rattle.std.proofs.Common.{sym}
 use Rattle.number_trim.proofs.Trimming.{all_stays, not_all_stays, made}
+use Rattle.number_trim.proofs.Pointless.{stays}
 use Rattle.number_trim.proofs.text.trim.Goals as goal
+
+pub returns-then-lacks_point-clause-value : goal.returns-then-lacks_point-clause-value
+returns-then-lacks_point-clause-value c = sym (stays c.args.text.now (sym c.if-lacks_point.ensures))
 
 pub returns-then-is_empty-clause-value : goal.returns-then-is_empty-clause-value
 returns-then-is_empty-clause-value c =
