@@ -1,6 +1,6 @@
 -- What changes of an agent's tasks leave is a record.
 use Rattle.std.proofs.Common.{◌≡◌, ℕ, ◌+◌, ◌≤◌, ◌<◌, Bool, true, false, not, ◌&&◌, eqb, nat_le, List, [], ◌∷◌, ◌++◌, length, map, filter, Option, Some, None, refl, ap, inl, inr, arith}
-use Rattle.std.specs.Prelude.{if◌then◌else◌}
+use Rattle.std.specs.Prelude.{if◌then◌else◌, ⊤}
 use Rattle.std.specs.List.{AllByRecursion as Each, list_all, list_any}
 use Rattle.std.proofs.lemmas.Bool.{and_from, and_parts, cond_both, cases_Bool}
 use Rattle.std.proofs.lemmas.Bool.Decides.{nat_tests}
@@ -24,7 +24,8 @@ use Rattle.mails.specs.declared.task.Job.{Job}
 use Rattle.cluster_model.specs.Agents.{Agent, acknowledged, has_ended, has_room, is_task, launched_task, live_tasks, stated, task_rows, tasks_after, with_session}
 use Rattle.cluster_model.specs.Ids.{before, same}
 use Rattle.agent_core.specs.Drafts.{launches_in_order}
-use Rattle.agent_core.specs.Records.{has_begun, is_behind, is_record, keys_rise, none_is_done, rise_behind, with_other_tasks}
+use Rattle.recorded_tasks.specs.Room.{Leaves}
+use Rattle.agent_core.specs.Records.{HasRoom, has_begun, is_behind, is_record, keys_rise, none_is_done, rise_behind, with_other_tasks}
 
 -- launch keys
 
@@ -221,3 +222,32 @@ command_recorded a (Launch job offers) sums covering each h above room order = l
 command_recorded a (Kill key) sums covering each h above room order = stated_recorded a.durable key Killed sums covering each h
 command_recorded a (Ack key k) sums covering each h above room order = acknowledged_recorded a.durable key k sums covering h above
 command_recorded a (EndFramework framework) sums covering each h above room order = kept_recorded a.durable (λ t. not (same t.job.framework framework)) sums covering h above
+
+-- what is left
+
+pub launched_leaves : (d : Durable) (job : Job) (offers : List Numbered) (room : List Row) → AmountsAddUp → Leaves room (job.resources ++ task_rows (live_tasks d.tasks)) d.total → HasRoom room (with_other_tasks d (d.tasks ++ launched_task job offers ∷ []))
+launched_leaves d job offers room sums left name = omega (arith, left name, sums name job.resources (task_rows (live_tasks d.tasks)), held_more name d.tasks (launched_task job offers) sums refl)
+
+pub stated_leaves : (d : Durable) (key : Numbered) (state : TaskState) (room : List Row) → AmountsAddUp → HasRoom room d → HasRoom room (with_other_tasks d (map (stated key state) d.tasks))
+stated_leaves d key state room sums left name = omega (arith, left name, held_mapped name (stated key state) d.tasks sums (stated_keeps key state))
+
+pub acknowledged_leaves : (d : Durable) (key : Numbered) (k : ℕ) (room : List Row) → AmountsAddUp → HasRoom room d → HasRoom room (with_other_tasks d (tasks_after (Ack key k) d.tasks))
+acknowledged_leaves d key k room sums left name =
+    let kept = held_kept name (λ t. not (is_done t.updates)) (map (acknowledged key k) d.tasks) sums in
+    let mapped = held_mapped name (acknowledged key k) d.tasks sums (acknowledged_keeps key k) in
+    omega (arith, left name, kept, mapped)
+
+pub ended_leaves : (d : Durable) (framework : Numbered) (room : List Row) → AmountsAddUp → HasRoom room d → HasRoom room (with_other_tasks d (tasks_after (EndFramework framework) d.tasks))
+ended_leaves d framework room sums left name = omega (arith, left name, held_kept name (λ t. not (same t.job.framework framework)) d.tasks sums)
+
+abbrev pub LaunchesNothing : Command → Type 0
+LaunchesNothing (Launch job offers) = ⊥
+LaunchesNothing (Kill key) = ⊤
+LaunchesNothing (Ack key k) = ⊤
+LaunchesNothing (EndFramework framework) = ⊤
+
+pub command_leaves : (d : Durable) (command : Command) (room : List Row) → AmountsAddUp → LaunchesNothing command → HasRoom room d → HasRoom room (with_other_tasks d (tasks_after command d.tasks))
+command_leaves d (Launch job offers) room sums none left = absurd none
+command_leaves d (Kill key) room sums none left = stated_leaves d key Killed room sums left
+command_leaves d (Ack key k) room sums none left = acknowledged_leaves d key k room sums left
+command_leaves d (EndFramework framework) room sums none left = ended_leaves d framework room sums left

@@ -2,12 +2,14 @@
 use Rattle.std.specs.Prelude.{Bool, true, not, ◌&&◌, ◌||◌, ◌==◌, if◌then◌else◌, List, [], ◌∷◌, length, Option, Some, None}
 use Rattle.std.specs.List.{list_all}
 use Rattle.names_core.specs.Ids.{Numbered}
+use Rattle.quantity.specs.declared.rows.Row.{Row}
 use Rattle.quantity.specs.Rows.{covers}
 use Rattle.stream_core.specs.Updates.{is_done}
 use Rattle.mails.specs.declared.record.Durable.{Durable}
 use Rattle.mails.specs.declared.record.RecordedTask.{RecordedTask}
 use Rattle.cluster_model.specs.Agents.{live_tasks, task_rows}
 use Rattle.cluster_model.specs.Ids.{before}
+use Rattle.recorded_tasks.specs.Room.{Leaves}
 
 -- each launch key is behind the one before it
 abbrev pub is_behind : Option Numbered → Numbered → Bool
@@ -34,6 +36,10 @@ abbrev pub is_record : Durable → Bool
 is_record d =
     keys_rise d.tasks && none_is_done d.tasks && has_begun d
     && covers d.total (task_rows (live_tasks d.tasks))
+
+-- the live tasks leave these resources of what the agent owns, or more
+abbrev pub HasRoom : List Row → Durable → Type 0
+HasRoom room d = Leaves room (task_rows (live_tasks d.tasks)) d.total
 
 -- the record, if it can be one
 abbrev pub rebuilt : Durable → Option Durable

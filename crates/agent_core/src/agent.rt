@@ -8,6 +8,7 @@ ghost use Rattle.agent_core.specs.declared.fault.AgentFault.TheVariants.{StaleDr
 use crate::draft::Draft;
 use crate::fault::AgentFault;
 use crate::record::Record;
+use crate::room::RecordWithRoom;
 use crate::state::State;
 use mails::{AgentMail, Cause};
 use std::alloc::Global;
@@ -39,7 +40,7 @@ impl Agent {
     {
         Agent {
             state: State {
-                durable,
+                durable: RecordWithRoom::of(durable),
                 in_session: false,
                 link: LinkIn::new(),
             },
@@ -50,7 +51,7 @@ impl Agent {
     pub fn durable(&self) -> &Record
         ensures { result.now ≡ self.now.durable }
     {
-        &self.state.durable
+        self.state.durable.record()
     }
 
     /// Whether it has an open session. It takes no memory.

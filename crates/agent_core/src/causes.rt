@@ -112,7 +112,8 @@ impl State {
     {
         self.stated_is_record(key, state);
         let tasks = stated_all(alloc, key, state, self.tasks())?;
-        let after = self.with_tasks(tasks, self.link)?;
+        let room = self.durable.room(alloc)?;
+        let after = self.with_tasks(tasks, self.link, room)?;
         let mut mails = Vec::new(alloc);
         if self.in_session {
             push_fronts_at(&mut mails, self.parts().session, key, after.tasks())?;

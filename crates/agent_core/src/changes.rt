@@ -1,12 +1,13 @@
 //! What changes of an agent's tasks leave is a record: each function's contract is a law,
 //! and its call brings the law into a proof.
 
-ghost use Rattle.std.specs.Prelude.{◌≡◌, ◌<◌, true, map};
+ghost use Rattle.std.specs.Prelude.{◌≡◌, ◌<◌, true, map, List};
+ghost use Rattle.quantity.specs.declared.rows.Row.{Row};
 ghost use Rattle.std.specs.List.{AllByRecursion as Each};
 ghost use Rattle.stream_core.specs.Updates.{are_updates};
 ghost use Rattle.cluster_model.specs.Agents.{has_room, stated, tasks_after};
 ghost use Rattle.agent_core.specs.Drafts.{agent_of, launches_in_order};
-ghost use Rattle.agent_core.specs.Records.{is_record, with_other_tasks};
+ghost use Rattle.agent_core.specs.Records.{HasRoom, is_record, with_other_tasks};
 
 use crate::state::State;
 use mails::{Command, RecordedTask};
@@ -23,10 +24,13 @@ fn tasks_are_recorded(tasks: &[Shared<RecordedTask>])
 }
 
 impl State {
-    /// A state that comes to the task of a key leaves a record.
+    /// A state that comes to the task of a key leaves a record, and all the room there was.
     pub fn stated_is_record(&self, key: LaunchKey, state: TaskState)
-        ensures { is_record (with_other_tasks self.now.durable
+        ensures recorded { is_record (with_other_tasks self.now.durable
             (map (stated key state) self.now.durable.tasks)) ≡ true }
+        ensures room { (room : List Row) → HasRoom room self.now.durable → HasRoom room
+            (with_other_tasks self.now.durable
+            (map (stated key state) self.now.durable.tasks)) }
     {
         quantity::amounts_add_up();
         quantity::covers_is_at_least();

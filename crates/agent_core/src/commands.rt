@@ -1,11 +1,11 @@
 //! What an agent prepares at a command.
 
-ghost use Rattle.std.specs.Prelude.{◌≡◌, ◌<◌, true, Ok, IfOk, suc};
+ghost use Rattle.std.specs.Prelude.{◌≡◌, ◌<◌, true, Ok, IfOk, IfSome, is_some, suc};
 ghost use Rattle.cluster_model.specs.Agents.{has_room, hears_command, applies, tasks_after};
 ghost use Rattle.mails.specs.declared.mail.Command.TheVariants.{Launch};
 ghost use Rattle.mails.specs.declared.mail.MasterMail.TheVariants.{Issued};
 ghost use Rattle.agent_core.specs.Drafts.{agent_of, applied_with, hears_in_order, is_with_run, launches_in_order, next_draft, Prepares, told_again};
-ghost use Rattle.agent_core.specs.Records.{is_record, with_other_tasks};
+ghost use Rattle.agent_core.specs.Records.{HasRoom, is_record, with_other_tasks};
 
 use crate::fault::AgentFault;
 use crate::state::State;
@@ -13,6 +13,7 @@ use listed::Listed;
 use mails::{AgentMail, AgentRefusal, Command, Job, RecordedTask};
 use names_core::{LaunchKey, OfferId, TaskState};
 use plain_data::push_copies;
+use quantity::Resources;
 use recorded_tasks::{
     acknowledged_all, front_sent_after, push_fronts_at, stated_all, without_framework,
 };
@@ -53,14 +54,16 @@ impl State {
         alloc: Global,
         link: LinkIn,
         tasks: Vec<Shared<RecordedTask>>,
+        room: Resources,
         told: Option<LaunchKey>,
     ) -> Result<Next, AllocError>
         requires next { link ≡ suc self.now.link }
         requires recorded { is_record (with_other_tasks self.now.durable tasks.items) ≡ true }
+        requires room { HasRoom room (with_other_tasks self.now.durable tasks.items) }
         ensures { IfOk result (λ n. next_draft n
             ≡ applied_with (agent_of self.now) tasks.items told) }
     {
-        let after = self.with_tasks(tasks, link)?;
+        let after = self.with_tasks(tasks, link, room)?;
         let mut mails = Vec::new(alloc);
         mails.push(AgentMail::Applied {
             session: self.parts().session,
@@ -73,10 +76,18 @@ impl State {
     }
 
     /// The next command is applied; the link has taken it.
-    fn apply(&self, alloc: Global, link: LinkIn, command: Command) -> Result<Next, AllocError>
+    fn apply(
+        &self,
+        alloc: Global,
+        link: LinkIn,
+        command: Command,
+        room: Resources,
+    ) -> Result<Next, AllocError>
         requires next { link ≡ suc self.now.link }
         requires run { 0 < self.now.durable.run }
-        requires room { has_room (agent_of self.now) command ≡ true }
+        requires has_room { has_room (agent_of self.now) command ≡ true }
+        requires room { HasRoom room (with_other_tasks self.now.durable
+            (tasks_after command self.now.durable.tasks)) }
         requires order { launches_in_order (agent_of self.now) command ≡ true }
         ensures { IfOk result (λ n. next_draft n ≡ applies (agent_of self.now) command) }
     {
@@ -84,32 +95,38 @@ impl State {
         match command {
             Command::Launch(job, offers) => {
                 let tasks = launched(alloc, self.tasks(), job, offers)?;
-                self.applied_with(alloc, link, tasks, None)
+                self.applied_with(alloc, link, tasks, room, None)
             }
             Command::Kill(key) => {
                 let tasks = stated_all(alloc, key, TaskState::Killed, self.tasks())?;
-                self.applied_with(alloc, link, tasks, Some(key))
+                self.applied_with(alloc, link, tasks, room, Some(key))
             }
             Command::Ack(key, k) => {
                 let tasks = acknowledged_all(alloc, key, k, self.tasks())?;
                 let sent = front_sent_after(key, k, self.tasks());
-                self.applied_with(alloc, link, tasks, sent)
+                self.applied_with(alloc, link, tasks, room, sent)
             }
             Command::EndFramework(framework) => {
                 let tasks = without_framework(alloc, framework, self.tasks())?;
-                self.applied_with(alloc, link, tasks, None)
+                self.applied_with(alloc, link, tasks, room, None)
             }
         }
     }
 
-    fn has_room(&self, alloc: Global, command: &Command) -> Result<bool, AllocError>
-        ensures { IfOk result (λ has. has ≡ has_room (agent_of self.now) command.now) }
+    /// A room that is left once a command is applied; None where there is none for it.
+    fn room_after(&self, alloc: Global, command: &Command) -> Result<Option<Resources>, AllocError>
+        ensures some { IfOk result (λ room. is_some room ≡ has_room (agent_of self.now) command.now) }
+        ensures left { IfOk result (λ room. IfSome room (λ rest. HasRoom rest
+            (with_other_tasks self.now.durable
+            (tasks_after command.now self.now.durable.tasks)))) }
     {
+        quantity::amounts_add_up();
         match command {
-            Command::Launch(job, _) => {
-                recorded_tasks::has_room(alloc, &self.parts().total, &job.resources, self.tasks())
+            Command::Launch(job, _) => self.durable.room_beside(alloc, &job.resources),
+            Command::Kill(_) | Command::Ack(..) | Command::EndFramework(_) => {
+                let room = self.durable.room(alloc)?;
+                Ok(Some(room))
             }
-            _ => Ok(true),
         }
     }
 
@@ -148,9 +165,9 @@ impl State {
         if link.take(number).is_err() {
             return Err(AgentFault::Refused(AgentRefusal::NotNext));
         }
-        if !self.has_room(alloc, &command)? {
+        let Some(room) = self.room_after(alloc, &command)? else {
             return Err(AgentFault::Refused(AgentRefusal::NoRoom));
-        }
-        Ok(self.apply(alloc, link, command)?)
+        };
+        Ok(self.apply(alloc, link, command, room)?)
     }
 }

@@ -93,7 +93,7 @@ impl Draft {
     pub fn durable(&self) -> &Record
         ensures { result.now ≡ self.now.draft.after.durable }
     {
-        &self.after.durable
+        self.after.durable.record()
     }
 
     /// The mails that the commit will give. It takes no memory.

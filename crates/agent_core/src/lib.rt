@@ -12,6 +12,7 @@ mod draft;
 mod fault;
 mod mails_out;
 mod record;
+mod room;
 mod spared;
 mod state;
 

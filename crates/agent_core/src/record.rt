@@ -9,7 +9,7 @@ use mails::{Durable, RecordedTask};
 use names_core::{AgentName, LaunchKey};
 use plain_data::Plain;
 use quantity::Resources;
-use recorded_tasks::{has_room, is_before};
+use recorded_tasks::{is_before, room_beside};
 use shared_value::Shared;
 use std::alloc::{AllocError, Global};
 use std::marker::Model;
@@ -90,7 +90,8 @@ fn is_record(alloc: Global, durable: &Durable) -> Result<bool, AllocError>
         return Ok(false);
     }
     let nothing = Resources::new(alloc);
-    has_room(alloc, &durable.total, &nothing, tasks)
+    let room = room_beside(alloc, &durable.total, &nothing, tasks)?;
+    Ok(room.is_some())
 }
 
 impl Record {

@@ -4,9 +4,10 @@ ghost use Rattle.std.specs.Prelude.{◌≡◌, ◌<◌, ◌↔◌, true, [], IfO
 ghost use Rattle.quantity.specs.Rows.{covers};
 ghost use Rattle.cluster_model.specs.Agents.{owning, reopened, with_tasks};
 ghost use Rattle.agent_core.specs.Drafts.{agent_of, former_of, without_tasks};
-ghost use Rattle.agent_core.specs.Records.{is_record, with_other_tasks};
+ghost use Rattle.agent_core.specs.Records.{HasRoom, is_record, with_other_tasks};
 
 use crate::record::Record;
+use crate::room::RecordWithRoom;
 use listed::Listed;
 use mails::{Durable, RecordedTask};
 use plain_data::Plain;
@@ -17,7 +18,7 @@ use stream_core::LinkIn;
 
 #[derive(Drop)]
 pub struct State {
-    pub durable: Record,
+    pub durable: RecordWithRoom,
     pub in_session: bool,
     /// How many commands of the open session are applied.
     pub link: LinkIn,
@@ -36,7 +37,7 @@ impl State {
         ensures parts { result.now ≡ self.now.durable }
         ensures recorded { is_record self.now.durable ≡ true }
     {
-        self.durable.parts()
+        self.durable.record().parts()
     }
 
     pub fn tasks(&self) -> &[Shared<RecordedTask>]
@@ -58,18 +59,20 @@ impl State {
         })
     }
 
-    /// With other tasks, which make a record, and so many commands applied.
+    /// With other tasks, which make a record and leave a room, and so many commands applied.
     pub fn with_tasks(
         &self,
         tasks: Vec<Shared<RecordedTask>>,
         link: LinkIn,
+        room: Resources,
     ) -> Result<State, AllocError>
-        requires { is_record (with_other_tasks self.now.durable tasks.items) ≡ true }
+        requires recorded { is_record (with_other_tasks self.now.durable tasks.items) ≡ true }
+        requires room { HasRoom room (with_other_tasks self.now.durable tasks.items) }
         ensures { IfOk result (λ s. agent_of s ≡ with_tasks (agent_of self.now) tasks.items link) }
     {
         let parts = self.durable_with(tasks)?;
         Ok(State {
-            durable: Record::make(parts),
+            durable: RecordWithRoom::make(parts, room),
             in_session: self.in_session,
             link,
         })
@@ -106,7 +109,7 @@ impl State {
         let mut parts = self.parts().copy()?;
         parts.total = total;
         Ok(State {
-            durable: Record::make(parts),
+            durable: RecordWithRoom::of(Record::make(parts)),
             in_session: self.in_session,
             link: self.link,
         })
@@ -121,7 +124,7 @@ impl State {
         parts.session = session;
         parts.run = run;
         Ok(State {
-            durable: Record::make(parts),
+            durable: RecordWithRoom::of(Record::make(parts)),
             in_session: true,
             link: LinkIn::new(),
         })

@@ -15,4 +15,4 @@ pub use edits::{
 pub use fronts::{all_reported, push_fronts, push_fronts_at};
 pub use ids::is_same_framework;
 pub use keys::{is_before, is_behind_all};
-pub use room::has_room;
+pub use room::room_beside;

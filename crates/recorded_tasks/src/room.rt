@@ -1,8 +1,10 @@
-//! Whether an agent's total has room.
+//! What an agent's total leaves.
 
-ghost use Rattle.std.specs.Prelude.{◌≡◌, ◌++◌, ◌&&◌, IfOk, List};
+ghost use Rattle.std.specs.Prelude.{◌≡◌, ◌++◌, ◌&&◌, IfOk, IfSome, List, is_some};
+ghost use Rattle.std.specs.Bool.{OnTrue};
 ghost use Rattle.quantity.specs.Rows.{covers};
 ghost use Rattle.quantity.specs.declared.rows.Row.{Row};
+ghost use Rattle.recorded_tasks.specs.Room.{Leaves};
 ghost use Rattle.cluster_model.specs.Agents.{live_tasks, task_rows};
 
 use mails::RecordedTask;
@@ -13,8 +15,9 @@ use std::alloc::{AllocError, Global};
 
 /// Takes resources away where they are covered, and tells whether they were.
 fn take(rest: &mut Resources, resources: &Resources) -> bool
-    ensures { (more : List Row) → covers rest.old (resources.now ++ more)
+    ensures covered { (more : List Row) → covers rest.old (resources.now ++ more)
         ≡ (result && covers rest.new more) }
+    ensures left { OnTrue result (Leaves rest.new resources.now rest.old) }
 {
     quantity::amounts_add_up();
     quantity::covers_is_at_least();
@@ -28,7 +31,8 @@ fn take(rest: &mut Resources, resources: &Resources) -> bool
 }
 
 fn take_live(rest: &mut Resources, tasks: &[Shared<RecordedTask>]) -> bool
-    ensures { result ≡ covers rest.old (task_rows (live_tasks tasks.now)) }
+    ensures covered { result ≡ covers rest.old (task_rows (live_tasks tasks.now)) }
+    ensures left { OnTrue result (Leaves rest.new (task_rows (live_tasks tasks.now)) rest.old) }
 {
     for task in tasks {
         if !task.updates.has_ended() && !take(rest, &task.job.resources) {
@@ -38,17 +42,23 @@ fn take_live(rest: &mut Resources, tasks: &[Shared<RecordedTask>]) -> bool
     true
 }
 
-/// Whether a total has at least as much of each name as some resources and
-/// the tasks that haven't ended have together.
-pub fn has_room(
+/// What some resources and the tasks that haven't ended leave of a total;
+/// None where it has less of a name than they have together.
+pub fn room_beside(
     alloc: Global,
     total: &Resources,
     resources: &Resources,
     tasks: &[Shared<RecordedTask>],
-) -> Result<bool, AllocError>
-    ensures { IfOk result (λ has. has ≡ covers total.now
+) -> Result<Option<Resources>, AllocError>
+    ensures some { IfOk result (λ room. is_some room ≡ covers total.now
         (resources.now ++ task_rows (live_tasks tasks.now))) }
+    ensures left { IfOk result (λ room. IfSome room (λ rest. Leaves rest
+        (resources.now ++ task_rows (live_tasks tasks.now)) total.now)) }
 {
     let mut rest = total.copy()?;
-    Ok(take(&mut rest, resources) && take_live(&mut rest, tasks))
+    if take(&mut rest, resources) && take_live(&mut rest, tasks) {
+        Ok(Some(rest))
+    } else {
+        Ok(None)
+    }
 }

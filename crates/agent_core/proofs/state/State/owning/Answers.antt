@@ -1,4 +1,4 @@
-use Rattle.std.proofs.Common.{◌≡◌, true, sym, subst, ap, ◌∙◌}
+use Rattle.std.proofs.Common.{◌≡◌, true, sym, subst, ◌∙◌}
 use Rattle.quantity.specs.Rows.{covers}
 use Rattle.mails.specs.declared.record.Durable.{Durable}
 use Rattle.agent_core.specs.Records.{is_record}
