@@ -8,15 +8,15 @@ use Rattle.mails.specs.declared.call.Call.TheVariants.{Subscribe, Teardown, Acce
 use Rattle.call_members.specs.declared.fault.Refusal.{Refusal}
 use Rattle.call_json.specs.Calls.{read_call}
 use Rattle.call_members.specs.Texts as call_texts
-use Rattle.event_json.specs.declared.event.Event.{Event}
-use Rattle.event_json.specs.declared.event.Event.TheVariants.{Error}
+use Rattle.scheduler_events.specs.declared.event.Event.{Event}
+use Rattle.scheduler_events.specs.declared.event.Event.TheVariants.{Error}
 use Rattle.event_json.specs.Events.{event_text}
 use Rattle.mails.specs.declared.refusal.MasterRefusal.{MasterRefusal}
 use Rattle.cluster_model.specs.Masters.{Doing, Master, after_doing, framework_of, stream_of}
 use Rattle.cluster_model.specs.Calls.{called}
 use Rattle.master_state.specs.States.{fresh}
 use Rattle.master_state.specs.Works.{master_of}
-use Rattle.master_state.specs.declared.state.StreamEvent.{StreamEvent}
+use Rattle.scheduler_events.specs.declared.stream_event.StreamEvent.{StreamEvent}
 use Rattle.master_core.specs.Steps.{outs_of}
 use Rattle.master_core.specs.Texts as master_texts
 

@@ -6,17 +6,18 @@ ghost use Rattle.device_io.specs.Writes.{AppendsFront};
 ghost use Rattle.frame_record.specs.Firsts.{bodies};
 ghost use Rattle.call_json.specs.Calls.{read_call};
 ghost use Rattle.call_members.specs.Texts as call_texts;
-ghost use Rattle.event_json.specs.declared.event.Event.TheVariants.{Error};
+ghost use Rattle.scheduler_events.specs.declared.event.Event.TheVariants.{Error};
 ghost use Rattle.master_core.specs.Texts as master_texts;
 ghost use Rattle.call_replies.specs.Replies.{after_all, event_in, frame, frames, framework_of_call, replies, reply, stream_given};
 
 use crate::fault::Stop;
 use call_json::{Call, CallFault, read_call};
 use device_io::put;
-use event_json::{Event, Message, write_event};
+use event_json::write_event;
 use frame_record::{FrameFault, encode};
-use master_core::{Master, MasterFault, StreamEvent, refusal_text};
+use master_core::{Master, MasterFault, refusal_text};
 use names_core::{FrameworkId, StreamId};
+use scheduler_events::{Event, Message, StreamEvent};
 use std::alloc::Global;
 use std::io::Write;
 

@@ -14,12 +14,11 @@ use Rattle.mails.specs.declared.record.Durable.{Durable}
 use Rattle.cluster_model.specs.Channels.{Channel}
 use Rattle.cluster_histories.specs.Clusters as model
 use Rattle.cluster_histories.specs.Clusters.{Cluster, Down, Up}
-use Rattle.cluster_histories.specs.Steps.{Setup, Marked, history, post_at}
+use Rattle.cluster_histories.specs.Steps.{Setup, Marked, history, marked_of, post_at}
 use Rattle.cluster_laws.specs.Items.{StandIn, channel_at, down_item, item_of, names_of, to_agent, to_master, up_item}
 use Rattle.cluster_laws.specs.Premises.{IsDown, IsUp}
 use Rattle.cluster_laws.specs.declared.item.Item.{Item}
 use Rattle.cluster_laws.specs.declared.item.Item.TheVariants as items
-use Rattle.cluster_entries.specs.Entries.{marked_of}
 use Rattle.cluster_entries.specs.declared.entry.Outputs.{Outputs}
 use Rattle.post_rules.specs.declared.direction.Direction.{Direction}
 use Rattle.post_rules.specs.declared.direction.Direction.TheVariants as ways

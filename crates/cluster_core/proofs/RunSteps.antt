@@ -5,10 +5,9 @@ use Rattle.std.proofs.lemmas.Bool.Decides.{nat_tests}
 use Rattle.mails.specs.declared.record.Durable.{Durable}
 use Rattle.cluster_steps.specs.declared.step.Step.{Step}
 use Rattle.cluster_steps.specs.declared.fault.ClusterFault.{ClusterFault}
-use Rattle.cluster_histories.specs.Steps.{Setup, History, Marked, extended, history, opening, step_marked, unmarked}
+use Rattle.cluster_histories.specs.Steps.{Setup, History, Marked, extended, history, marked_of, opening, step_marked, unmarked}
 use Rattle.cluster_entries.specs.declared.entry.Entry.{Entry}
 use Rattle.cluster_steps.specs.declared.fault.ClusterFault.TheVariants as faults
-use Rattle.cluster_entries.specs.Entries.{marked_of}
 use Rattle.cluster_steps.specs.Verdicts.{fell}
 use Rattle.post_rules.specs.Numbers.{is_number}
 use Rattle.cluster_core.specs.Keeping.{IsRefused, IsTaken}
@@ -21,7 +20,7 @@ use Rattle.cluster_core.proofs.Posted.{never_withheld}
 
 -- ---- the history goes on
 
-history_more : (s : Story) (e : Entry) → history_of (with_entry s e) ≡ extended (history_of s) (step_marked (state_of s) (marked_of e))
+history_more : (s : Story) (e : Entry) → history_of (with_entry s e) ≡ extended (history_of s) e.step (step_marked (state_of s) (marked_of e))
 history_more s e = ap (history s.setup s.records) (map_more s.entries e) ∙ extended_more (opening s.setup s.records) (map marked_of s.entries) (marked_of e)
 
 taken_passes : (s new : Story) (step : Step) (taken : Taken) → IsTaken s step taken new → Passes s step new
@@ -30,7 +29,7 @@ taken_passes s new step taken t =
     let same : e.step ≡ step = ap (λ (x : Entry). x.step) t.makes in
     record {
       fell = fell e.verdict;
-      goes_on = ap history_of t.tells ∙ history_more s e ∙ ap (λ (x : Step). extended (history_of s) (step_marked (state_of s) (marked_as (fell e.verdict) x))) same;
+      goes_on = ap history_of t.tells ∙ history_more s e ∙ ap (λ (x : Step). extended (history_of s) x (step_marked (state_of s) (marked_as (fell e.verdict) x))) same;
       same_setup = ap (λ (x : Story). x.setup) t.tells;
       same_records = ap (λ (x : Story). x.records) t.tells;
     }
@@ -38,7 +37,7 @@ taken_passes s new step taken t =
 passed_over : (s new : Story) (step : Step) (r : ClusterFault) → new ≡ s → step_marked (state_of s) (unmarked step) ≡ Err r → Passes s step new
 passed_over s new step r same e = record {
   fell = false;
-  goes_on = ap history_of same ∙ sym (ap (extended (history_of s)) e);
+  goes_on = ap history_of same ∙ sym (ap (extended (history_of s) step) e);
   same_setup = ap (λ (x : Story). x.setup) same;
   same_records = ap (λ (x : Story). x.records) same;
 }
@@ -87,5 +86,5 @@ one_ran setup records steps s new step r p =
       of_steps = map_step_more r.marks m ∙ ap (λ (ss : List Step). ss ++ step ∷ []) r.of_steps;
       opened = p.same_setup ∙ r.opened;
       over = p.same_records ∙ r.over;
-      tells = p.goes_on ∙ ap (λ (h : History). extended h (step_marked h.state m)) r.tells ∙ sym (extended_more (opening setup records) r.marks m);
+      tells = p.goes_on ∙ ap (λ (h : History). extended h m.step (step_marked h.state m)) r.tells ∙ sym (extended_more (opening setup records) r.marks m);
     }

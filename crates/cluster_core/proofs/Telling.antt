@@ -6,7 +6,7 @@ use Rattle.mails.specs.declared.record.Durable.{Durable}
 use Rattle.cluster_histories.specs.Clusters.{Cluster}
 use Rattle.cluster_steps.specs.declared.fault.ClusterFault.{ClusterFault}
 use Rattle.cluster_model.specs.Ids.{last_number}
-use Rattle.cluster_histories.specs.Steps.{Setup, Done, History, Marked, answer, extend_all, extended, fallen_answer, history, opening, step_marked, unmarked}
+use Rattle.cluster_histories.specs.Steps.{Setup, Done, History, Marked, answer, entry_of, extend_all, extended, fallen_answer, history, marked_of, opening, step_marked, unmarked}
 use Rattle.cluster_laws.specs.Items.{StandIn, new_items}
 use Rattle.agent_sides.specs.Configs.{names_of}
 use Rattle.cluster_laws.specs.Parts.{AreAgentsOf}
@@ -18,7 +18,6 @@ use Rattle.cluster_entries.specs.declared.entry.Entry.{Entry}
 use Rattle.cluster_entries.specs.declared.entry.Outputs.{Outputs}
 use Rattle.cluster_steps.specs.declared.fault.ClusterFault.TheVariants as faults
 use Rattle.cluster_steps.specs.declared.step.Step.{Step}
-use Rattle.cluster_entries.specs.Entries.{entry_of, marked_of}
 use Rattle.cluster_parts.specs.Handing.{MayRefuse}
 use Rattle.cluster_core.specs.Keeping.{IsKept, IsRefused, IsRefusedFirst, IsTaken, entry_made, taken_made}
 use Rattle.post_rules.specs.declared.direction.Direction.{Direction}
@@ -36,23 +35,23 @@ use Rattle.cluster_parts.proofs.Mastering.{extended_more}
 
 -- the law that a state counts the entries of its history
 abbrev pub CountLaw : Type 0
-CountLaw = (setup : Setup) (records : List Durable) (steps : List Marked) → (history setup records steps).state.entries ≡ length (history setup records steps).entries
+CountLaw = (setup : Setup) (records : List Durable) (steps : List Marked) → (history setup records steps).state.entries ≡ suc (length (history setup records steps).entries)
 
 counts : (h : History) (es : List Entry) (new : Cluster) → Legal h.state es new → length (extend_all h (map marked_of es)).entries ≡ length h.entries + length es
 counts h [] new l = omega arith
 counts h (e ∷ es) new (d, step, is, rest) =
-    let next : History = record { entries = h.entries ++ d.entry ∷ []; happenings = h.happenings ++ d.happenings; state = d.after } in
-    let here : extended h (step_marked h.state (marked_of e)) ≡ next = ap (extended h) step in
+    let next : History = record { opened = h.opened; entries = h.entries ++ entry_of e.step d ∷ []; happenings = h.happenings ++ d.happenings; state = d.after } in
+    let here : extended h e.step (step_marked h.state (marked_of e)) ≡ next = ap (extended h e.step) step in
     let behind : length (extend_all next (map marked_of es)).entries ≡ length next.entries + length es = counts next es new rest in
-    let one : length next.entries ≡ length h.entries + 1 = length-append h.entries (d.entry ∷ []) in
-    let all : length (extend_all (extended h (step_marked h.state (marked_of e))) (map marked_of es)).entries ≡ length next.entries + length es = ap (λ (x : History). length (extend_all x (map marked_of es)).entries) here ∙ behind in
+    let one : length next.entries ≡ length h.entries + 1 = length-append h.entries (entry_of e.step d ∷ []) in
+    let all : length (extend_all (extended h e.step (step_marked h.state (marked_of e))) (map marked_of es)).entries ≡ length next.entries + length es = ap (λ (x : History). length (extend_all x (map marked_of es)).entries) here ∙ behind in
     omega (arith, all, one)
 
 pub state_counts : CountLaw → (s : Story) → IsLegal s → (state_of s).entries ≡ suc (length s.entries)
 state_counts law s l =
     let all : length (history_of s).entries ≡ length (opening s.setup s.records).entries + length s.entries = counts (opening s.setup s.records) s.entries (state_of s) l.legal in
-    let first : length (opening s.setup s.records).entries ≡ 1 = refl in
-    let counted : (state_of s).entries ≡ length (history_of s).entries = law s.setup s.records (map marked_of s.entries) in
+    let first : length (opening s.setup s.records).entries ≡ 0 = refl in
+    let counted : (state_of s).entries ≡ suc (length (history_of s).entries) = law s.setup s.records (map marked_of s.entries) in
     omega (arith, all, first, counted)
 
 pub has_room : CountLaw → (s : Story) → IsLegal s → length s.entries < 4294967294 → nat_le last_number (state_of s).entries ≡ false
@@ -131,13 +130,13 @@ state_more : (s : Story) (e : Entry) (d : Done) → step_marked (state_of s) (ma
 state_more s e d step =
     ap (λ (ms : List Marked). (history s.setup s.records ms).state) (map_more s.entries e)
     ∙ ap (λ (x : History). x.state) (extended_more (opening s.setup s.records) (map marked_of s.entries) (marked_of e))
-    ∙ ap (λ (x : Result Done ClusterFault). (extended (history_of s) x).state) step
+    ∙ ap (λ (x : Result Done ClusterFault). (extended (history_of s) e.step x).state) step
 
-legal_more : (c : Cluster) (es : List Entry) (e : Entry) (m : Cluster) (d : Done) → Legal c es m → step_marked m (marked_of e) ≡ Ok d → e ≡ entry_of e.step d.entry → Legal c (es ++ e ∷ []) d.after
+legal_more : (c : Cluster) (es : List Entry) (e : Entry) (m : Cluster) (d : Done) → Legal c es m → step_marked m (marked_of e) ≡ Ok d → e ≡ entry_of e.step d → Legal c (es ++ e ∷ []) d.after
 legal_more c [] e m d l step is = (d, subst (λ (x : Cluster). step_marked x (marked_of e) ≡ Ok d) l step, is, refl)
 legal_more c (x ∷ es) e m d (dx, stepx, isx, rest) step is = (dx, stepx, isx, legal_more dx.after es e m d rest step is)
 
-pub story_more : (s : Story) (e : Entry) (d : Done) → IsLegal s → step_marked (state_of s) (marked_of e) ≡ Ok d → e ≡ entry_of e.step d.entry → IsLegal (with_entry s e)
+pub story_more : (s : Story) (e : Entry) (d : Done) → IsLegal s → step_marked (state_of s) (marked_of e) ≡ Ok d → e ≡ entry_of e.step d → IsLegal (with_entry s e)
 story_more s e d l step is = record {
   good = l.good;
   recorded = l.recorded;
@@ -153,7 +152,7 @@ pub keeps_on : CountLaw → ItemsLaw → (s : Story) (opened : Outputs) (p q : P
 keeps_on law items_law s opened p q count before more ways between news step made k h t config counted there same older behind =
     let e = entry_made step made in
     let step_is : step_marked (state_of s) (marked_of e) ≡ Ok t.done = made_marks law s step made q k.legal h t in
-    let is : e ≡ entry_of step t.done.entry = rw (t.ends, t.brings) refl in
+    let is : e ≡ entry_of step t.done = rw (t.ends, t.brings) refl in
     record {
       legal = story_more s e t.done k.legal step_is is;
       short = (let one : length (s.entries ++ e ∷ []) ≡ length s.entries + 1 = length-append s.entries (e ∷ []) in omega (arith, one, h));

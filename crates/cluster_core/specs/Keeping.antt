@@ -5,9 +5,8 @@ use Rattle.cluster_model.specs.Masters.{Master}
 use Rattle.master_core.specs.Steps.{offered_on}
 use Rattle.post_rules.specs.declared.direction.Direction.{Direction}
 use Rattle.quantity.specs.declared.rows.Row.{Row}
-use Rattle.cluster_histories.specs.Steps.{Done, open_cluster, step_marked, unmarked}
+use Rattle.cluster_histories.specs.Steps.{Done, entry_of, marked_of, open_cluster, step_marked, unmarked}
 use Rattle.cluster_laws.specs.Parts.{AreAgentsOf, configured}
-use Rattle.cluster_entries.specs.Entries.{entry_of, marked_of, outputs_of}
 use Rattle.cluster_entries.specs.declared.entry.Entry.{Entry}
 use Rattle.cluster_entries.specs.declared.entry.Outputs.{Outputs}
 use Rattle.cluster_steps.specs.declared.fault.ClusterFault.{ClusterFault}
@@ -46,7 +45,7 @@ pub record IsKept (s : Story) (opened : Outputs) (p : Parts) (count : ℕ)
     (directions : ℕ → Option Direction) : Type 0 where
   pub legal : IsLegal s
   pub short : length s.entries < 4294967295
-  pub begins : opened ≡ outputs_of (open_cluster s.setup s.records).entry.outs
+  pub begins : opened ≡ (open_cluster s.setup s.records).outputs
   pub config : AreAgentsOf p.config s.records
   pub stands : Stands (state_of s) p
   pub counted : count ≡ length p.items
@@ -57,7 +56,7 @@ pub record IsKept (s : Story) (opened : Outputs) (p : Parts) (count : ℕ)
 pub record IsTaken (s : Story) (step : Step) (taken : Taken) (new : Story) : Type 0 where
   pub done : Done
   pub answers : step_marked (state_of s) (marked_of taken.entry) ≡ Ok done
-  pub makes : taken.entry ≡ entry_of step done.entry
+  pub makes : taken.entry ≡ entry_of step done
   pub drafts : taken.durable ≡ record_of step taken.entry.verdict (kept_agents done.after)
   pub tells : new ≡ with_entry s taken.entry
 

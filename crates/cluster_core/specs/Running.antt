@@ -11,7 +11,7 @@ marked_as fell step = record { fell = fell; step = step }
 -- a story went on by a step, or stayed where it is refused
 pub record Passes (s : Story) (step : Step) (new : Story) : Type 0 where
   pub fell : Bool
-  pub goes_on : history_of new ≡ extended (history_of s)
+  pub goes_on : history_of new ≡ extended (history_of s) step
       (step_marked (state_of s) (marked_as fell step))
   pub same_setup : new.setup ≡ s.setup
   pub same_records : new.records ≡ s.records

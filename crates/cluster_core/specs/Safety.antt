@@ -3,7 +3,7 @@ use Rattle.std.specs.Prelude.{List, [], ◌++◌, map}
 use Rattle.names_core.specs.Ids.{Numbered}
 use Rattle.cluster_model.specs.Channels.{AllFit, open_world}
 use Rattle.cluster_model.specs.Openings.{recorded_jobs}
-use Rattle.cluster_histories.specs.Steps.{opening}
+use Rattle.cluster_histories.specs.Steps.{marked_of, opening}
 use Rattle.cluster_origin.specs.Acks.{AcksAreOwners}
 use Rattle.cluster_origin.specs.Entries.{Moment, moments}
 use Rattle.cluster_origin.specs.Launches.{Origin}
@@ -13,7 +13,6 @@ use Rattle.cluster_safe.specs.Honest.{Honest, IsBeginningOf, IsKeyOf, acknowledg
 use Rattle.cluster_safe.specs.Origin.{HasOrigin, Mark, jobs_of, trail}
 use Rattle.cluster_safe.specs.Safe.{NeverLacksRoom}
 use Rattle.cluster_safe.specs.Updates.{updates_of}
-use Rattle.cluster_entries.specs.Entries.{marked_of}
 use Rattle.cluster_core.specs.Stories.{Story, history_of, state_of}
 
 -- the offers that were made and the accepted ones that were used, over a whole story

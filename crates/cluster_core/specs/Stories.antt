@@ -5,10 +5,9 @@ use Rattle.mails.specs.declared.record.Durable.{Durable}
 use Rattle.agent_sides.specs.declared.config.ConfiguredAgent.{ConfiguredAgent}
 use Rattle.cluster_histories.specs.Clusters.{Cluster}
 use Rattle.cluster_model.specs.Openings.{GoodOpening}
-use Rattle.cluster_histories.specs.Steps.{Setup, Done, History, history, opening, step_marked}
+use Rattle.cluster_histories.specs.Steps.{Setup, Done, History, entry_of, history, marked_of, opening, step_marked}
 use Rattle.cluster_laws.specs.Premises.{AreRecorded}
 use Rattle.cluster_entries.specs.declared.entry.Entry.{Entry}
-use Rattle.cluster_entries.specs.Entries.{entry_of, marked_of}
 use Rattle.cluster_openings.specs.Records.{in_order}
 
 pub record Story : Type 0 where
@@ -35,7 +34,7 @@ with_entry s e = record { setup = s.setup; records = s.records; entries = s.entr
 abbrev pub Legal : Cluster → List Entry → Cluster → Type 0
 Legal c [] new = new ≡ c
 Legal c (e ∷ es) new =
-    (d : Done) × (step_marked c (marked_of e) ≡ Ok d) × (e ≡ entry_of e.step d.entry)
+    (d : Done) × (step_marked c (marked_of e) ≡ Ok d) × (e ≡ entry_of e.step d)
     × Legal d.after es new
 
 -- a story from a good opening, whose entries are legal

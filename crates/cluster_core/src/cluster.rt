@@ -15,7 +15,6 @@ ghost use Rattle.cluster_histories.specs.Steps.{Setup, open_cluster};
 ghost use Rattle.cluster_parts.specs.Agents.{agent_in, drafted_in, is_in_session_in, recorded, recorded_in};
 ghost use Rattle.cluster_parts.specs.Handing.{IsGiven};
 ghost use Rattle.cluster_parts.specs.Moves.{kept_agents};
-ghost use Rattle.cluster_entries.specs.Entries.{outputs_of};
 ghost use Rattle.cluster_steps.specs.declared.step.Step.{Step};
 ghost use Rattle.cluster_steps.specs.declared.fault.ClusterFault.TheVariants.{OutOfMemory};
 ghost use Rattle.mails.specs.declared.record.Durable.{Durable as Record};
@@ -189,8 +188,8 @@ impl<P: Post + Drop> Cluster<P> {
 
     /// What the opening brought out: a Hello to every agent.
     pub fn opened(&self) -> &Outputs
-        ensures { result.now ≡ outputs_of
-            (open_cluster self.now.story.setup self.now.story.records).entry.outs }
+        ensures { result.now
+            ≡ (open_cluster self.now.story.setup self.now.story.records).outputs }
     {
         &self.history.opened
     }

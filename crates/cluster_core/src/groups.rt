@@ -2,8 +2,8 @@
 
 use cluster_entries::Entry;
 use cluster_steps::{Sent, Step, Verdict};
-use master_state::StreamEvent;
 use names_core::{AgentName, StreamId};
+use scheduler_events::StreamEvent;
 
 /// What a caller of an office over a cluster waits for.
 #[derive(Drop)]

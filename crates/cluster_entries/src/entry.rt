@@ -4,9 +4,9 @@ ghost use Rattle.std.proofs.Common.{rules};
 
 use cluster_steps::{Sent, Step, Verdict};
 use listed::Listed;
-use master_state::StreamEvent;
 use names_core::StreamId;
 use plain_data::Plain;
+use scheduler_events::StreamEvent;
 use shared_value::Shared;
 
 /// What a step brought out.
@@ -23,7 +23,7 @@ pub struct Outputs {
 
 impl Plain for Outputs {
     ghost use Rattle.cluster_steps.specs.contracts.verdict.SentPlain.TheImpl.Laws.{decided-law as sent_decided};
-    ghost use Rattle.master_state.specs.contracts.state.StreamEventPlain.TheImpl.Laws.{decided-law as event_decided};
+    ghost use Rattle.scheduler_events.specs.contracts.stream_event.StreamEventPlain.TheImpl.Laws.{decided-law as event_decided};
     ghost use Rattle.names_core.specs.contracts.stream.StreamIdPlain.TheImpl.Laws.{decided-law as stream_decided};
     ghost use Rattle.plain_data.specs.Deciding.{and_decides};
     ghost use Rattle.std.specs.Bool.{Decides};

@@ -1,14 +1,14 @@
 -- A cluster's state, its steps, and what they answer.
-use Rattle.std.specs.Prelude.{ℕ, List, [], map, Option}
+use Rattle.std.specs.Prelude.{ℕ, List, [], map, Option, None}
 use Rattle.names_core.specs.Ids.{Numbered}
 use Rattle.mails.specs.declared.call.Call.{Call}
 use Rattle.role_weights.specs.Weights.{RoleWeight}
-use Rattle.cluster_steps.specs.declared.verdict.Sent.{Sent}
-use Rattle.cluster_steps.specs.declared.verdict.Verdict.{Verdict}
 use Rattle.cluster_model.specs.Sides.{Side}
 use Rattle.cluster_model.specs.Channels.{Channel, World}
-use Rattle.cluster_model.specs.Events.{Event, Told}
+use Rattle.cluster_model.specs.Events.{Event}
 use Rattle.cluster_model.specs.Masters.{Master, Registers}
+pub use Rattle.cluster_entries.specs.declared.entry.Outputs.{Outputs}
+pub use Rattle.cluster_entries.specs.declared.entry.Entry.{Entry}
 
 -- a stream that was ever opened: its events, and how many of them were taken
 pub record Stream : Type 0 where
@@ -41,15 +41,5 @@ abbrev pub master_of : Cluster → Master
 master_of c =
     record { run = c.world.run; sides = sides_of c.world.channels; registers = c.registers }
 
-pub record Outs : Type 0 where
-  pub events : List Told
-  pub closed : List Numbered
-  pub sent : List Sent
-  pub taken : List Told
-
-pub record Entry : Type 0 where
-  pub verdict : Verdict
-  pub outs : Outs
-
-abbrev pub no_outs : Outs
-no_outs = record { events = []; closed = []; sent = []; taken = [] }
+abbrev pub no_outputs : Outputs
+no_outputs = record { events = []; closed = []; sent = []; taken = None }

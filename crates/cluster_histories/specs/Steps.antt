@@ -16,12 +16,12 @@ use Rattle.cluster_model.specs.Ids.{same, last_number, last_run}
 use Rattle.cluster_model.specs.Agents.{Draft, next_of, hears_mail}
 use Rattle.cluster_model.specs.Sides.{SendHello}
 use Rattle.cluster_model.specs.Channels.{Channel, World, Happening, At, TearDown, Restart, Halt, ByMaster, Hear, ByAgent, AgentStep, Draw, DrawMail, Adopt, StopWithout, StopWith, after, after_all, open_world}
-use Rattle.cluster_model.specs.Events.{Event, Told}
+use Rattle.cluster_model.specs.Events.{Event, StreamEvent}
 use Rattle.cluster_model.specs.Masters.{Registers, Doing, Move, AtSide, TearDownAll, RestartAll, HaltAll, new_registers}
 use Rattle.cluster_model.specs.Calls.{called}
 use Rattle.cluster_model.specs.Mails.{mailed, ticked, agent_lost, hung_up}
 use Rattle.cluster_model.specs.Rounds.{allocated}
-use Rattle.cluster_histories.specs.Clusters.{Stream, Post, Called, Down, Up, Cluster, master_of, Entry, no_outs}
+use Rattle.cluster_histories.specs.Clusters.{Stream, Post, Called, Down, Up, Cluster, Outputs, Entry, master_of, no_outputs}
 use Rattle.cluster_steps.specs.declared.step.StepCause.{StepCause}
 use Rattle.cluster_steps.specs.declared.step.StepCause.TheVariants.{Start as ByStart, Again as ByAgain, Executor as ByExecutor, Mail as ByMail}
 use Rattle.cluster_steps.specs.declared.step.Step.{Step}
@@ -29,6 +29,7 @@ use Rattle.cluster_steps.specs.declared.step.Step.TheVariants.{Send, Deliver, Al
 use Rattle.cluster_steps.specs.declared.step.Keep.TheVariants.{Before, After}
 use Rattle.cluster_steps.specs.declared.fault.ClusterFault.{ClusterFault}
 use Rattle.cluster_steps.specs.declared.fault.ClusterFault.TheVariants.{NoSuchMail, MasterDown, AgentDown, DraftOpen, NoDraft, HistoryFull, TimeBack, NoSuchAgent}
+use Rattle.cluster_steps.specs.Verdicts.{fell}
 use Rattle.cluster_steps.specs.declared.verdict.Verdict.{Verdict}
 use Rattle.cluster_steps.specs.declared.verdict.Verdict.TheVariants.{Ok as Fine, MasterRefused, AgentRefused, OutOfMemory as Fell}
 use Rattle.cluster_steps.specs.declared.verdict.Sent.{Sent}
@@ -83,16 +84,16 @@ posts_by (h ∷ hs) w = let next =
 
 -- streams
 
-abbrev pub told_on : Numbered → List Told → List Event
+abbrev pub told_on : Numbered → List StreamEvent → List Event
 told_on stream told = flat_map (λ t. if same t.stream stream then t.event ∷ [] else []) told
 
 abbrev pub new_stream : Numbered → Stream
 new_stream id = record { id = id; events = []; taken = 0 }
 
-abbrev pub hears : List Told → Stream → Stream
+abbrev pub hears : List StreamEvent → Stream → Stream
 hears told s = record { id = s.id; events = s.events ++ told_on s.id told; taken = s.taken }
 
-abbrev pub streams_after : List Stream → List Numbered → List Told → List Stream
+abbrev pub streams_after : List Stream → List Numbered → List StreamEvent → List Stream
 streams_after streams opens told = map (hears told) (streams ++ map new_stream opens)
 
 -- what a step does
@@ -102,29 +103,27 @@ streams_after streams opens told = map (hears told) (streams ++ map new_stream o
 pub record Effect : Type 0 where
   pub verdict : Verdict
   pub happenings : List Happening
-  pub events : List Told
+  pub events : List StreamEvent
   pub opens : List Numbered
   pub closes : List Numbered
   pub registers : Registers
 
--- an entry, what happened in the channels, and the state after it
+-- its verdict and outputs, what happened in the channels, and the state after it
 pub record Done : Type 0 where
-  pub entry : Entry
+  pub verdict : Verdict
+  pub outputs : Outputs
   pub happenings : List Happening
   pub after : Cluster
 
 abbrev pub done : Cluster → Effect → Done
 done c e = record {
-  entry =
-      record {
-        verdict = e.verdict;
-        outs = record {
-          events = e.events;
-          closed = e.closes;
-          sent = sent_by e.happenings c.world;
-          taken = [];
-        };
-      };
+  verdict = e.verdict;
+  outputs = record {
+    events = e.events;
+    closed = e.closes;
+    sent = sent_by e.happenings c.world;
+    taken = None;
+  };
   happenings = e.happenings;
   after = record {
     world = after_all e.happenings c.world;
@@ -137,6 +136,10 @@ done c e = record {
     weights = c.weights;
   };
 }
+
+-- the entry of a step that did this
+abbrev pub entry_of : Step → Done → Entry
+entry_of step d = record { step = step; verdict = d.verdict; outputs = d.outputs }
 
 abbrev pub does : Cluster → Effect → Result Done ClusterFault
 does c e = Ok (done c e)
@@ -304,7 +307,8 @@ with_draft step x = by_draft x.draft (Err NoDraft) (step x)
 
 abbrev pub sends : Cluster → Option Numbered → Call → Done
 sends c stream call = record {
-  entry = record { verdict = Fine; outs = record no_outs { sent = CallSent ∷ [] } };
+  verdict = Fine;
+  outputs = record no_outputs { sent = CallSent ∷ [] };
   happenings = [];
   after = record c { posts = c.posts ++ Called stream call ∷ []; entries = suc c.entries };
 }
@@ -316,12 +320,8 @@ takes_one id s =
 abbrev pub takes_event : Cluster → Numbered → Option Event → Result Done ClusterFault
 takes_event c id None = Err NoSuchMail
 takes_event c id (Some event) = Ok (record {
-  entry =
-      record {
-        verdict = Fine;
-        outs = record no_outs
-            { taken = record { stream = id; event = event } ∷ [] };
-      };
+  verdict = Fine;
+  outputs = record no_outputs { taken = Some (record { stream = id; event = event }) };
   happenings = [];
   after = record c { streams = map (takes_one id) c.streams; entries = suc c.entries };
 })
@@ -397,6 +397,10 @@ step_marked c s =
     if nat_le last_number c.entries then Err HistoryFull
     else (if s.fell then fallen_answer c s.step else answer c s.step)
 
+-- the step of an entry, with the mark that its part ran out of memory
+abbrev pub marked_of : Entry → Marked
+marked_of e = record { fell = fell e.verdict; step = e.step }
+
 abbrev pub unmarked : Step → Marked
 unmarked s = record { fell = false; step = s }
 
@@ -430,8 +434,10 @@ greets_all c = happening c Fine (map hello_to c.world.channels)
 abbrev pub open_cluster : Setup → List Durable → Done
 open_cluster setup records = let c = opened_over setup records in done c (greets_all c)
 
--- entries, the oldest first; all that happened in the channels; and the state after them
+-- what the opening brought out; the entries behind it, the oldest first;
+-- all that happened in the channels; and the state after them
 pub record History : Type 0 where
+  pub opened : Outputs
   pub entries : List Entry
   pub happenings : List Happening
   pub state : Cluster
@@ -439,24 +445,26 @@ pub record History : Type 0 where
 abbrev pub opening : Setup → List Durable → History
 opening setup records = let d =
     open_cluster setup records in record {
-      entries = d.entry ∷ [];
+      opened = d.outputs;
+      entries = [];
       happenings = d.happenings;
       state = d.after;
     }
 
 -- a step that is refused adds no entry
-abbrev pub extended : History → Result Done ClusterFault → History
-extended h (Ok d) =
+abbrev pub extended : History → Step → Result Done ClusterFault → History
+extended h step (Ok d) =
     record {
-      entries = h.entries ++ d.entry ∷ [];
+      opened = h.opened;
+      entries = h.entries ++ entry_of step d ∷ [];
       happenings = h.happenings ++ d.happenings;
       state = d.after;
     }
-extended h (Err refusal) = h
+extended h step (Err refusal) = h
 
 abbrev pub extend_all : History → List Marked → History
 extend_all h [] = h
-extend_all h (s ∷ ss) = extend_all (extended h (step_marked h.state s)) ss
+extend_all h (s ∷ ss) = extend_all (extended h s.step (step_marked h.state s)) ss
 
 -- the history of a list of steps, from an opening
 abbrev pub history : Setup → List Durable → List Marked → History

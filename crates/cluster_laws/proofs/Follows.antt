@@ -30,7 +30,7 @@ use Rattle.cluster_laws.specs.Items.{names_of, Item, StandIn, items_sent, call_o
 use Rattle.cluster_laws.proofs.Sent.{happened_stand, stand_append}
 
 abbrev pub Posted : List Item → Cluster → Done → Type 0
-Posted calls c d = (sent : List Item) → NamesOnce (names_of c.world.channels) → StandIn c sent → StandIn d.after (sent ++ items_sent calls d.entry.outs.sent)
+Posted calls c d = (sent : List Item) → NamesOnce (names_of c.world.channels) → StandIn c sent → StandIn d.after (sent ++ items_sent calls d.outputs.sent)
 
 pub record Followed (calls : List Item) (c : Cluster) (d : Done) : Type 0 where
   pub world : d.after.world ≡ after_all d.happenings c.world

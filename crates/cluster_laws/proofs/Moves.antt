@@ -205,7 +205,7 @@ silent_between agent step run (c ∷ cs) h =
     (λ e. append_same (sent_in c (agent_step c step)) [] (sent_between cs cs) [] (quiet_in c (agent_step c step) (agent_itself c step).down (silent_up c step h)) (none_between cs))
     (λ e. append_same (sent_in c c) [] (sent_between cs (at_agent agent (ByAgent step) run cs).channels) [] (none_in c) rest)
 
-pub silent_sends : (c : Cluster) (verdict : Verdict) (agent : List ℕ) (step : AgentStep) → IsSilent step → (done c (happening c verdict (At agent (ByAgent step) ∷ []))).entry.outs.sent ≡ []
+pub silent_sends : (c : Cluster) (verdict : Verdict) (agent : List ℕ) (step : AgentStep) → IsSilent step → (done c (happening c verdict (At agent (ByAgent step) ∷ []))).outputs.sent ≡ []
 silent_sends c verdict agent step h = append-nil (sent_between c.world.channels (at_agent agent (ByAgent step) c.world.run c.world.channels).channels) ∙ silent_between agent step c.world.run c.world.channels h
 
 between_set : (cs : List Channel) (place : ℕ) (x y : Channel) → slice_get cs place ≡ Some x → sent_between cs (slice_set cs place y) ≡ sent_in x y
@@ -219,7 +219,7 @@ adopted_in : (x : Channel) (d : Draft) → sent_in x (adopted x (Some d)) ≡ ma
 adopted_in x d = rw (drop_itself x.to_agent, drop_all x.to_master d.mails) refl
 
 pub commit_sends : (c : Cluster) (verdict : Verdict) (agent : List ℕ) (place : ℕ) (x : Channel) (d : Draft) → NamesOnce (names_of c.world.channels) → slice_get c.world.channels place ≡ Some x → x.side.name ≡ agent → x.draft ≡ Some d →
-    (done c (happening c verdict (At agent (ByAgent Adopt) ∷ []))).entry.outs.sent ≡ map (from_agent agent) d.mails
+    (done c (happening c verdict (At agent (ByAgent Adopt) ∷ []))).outputs.sent ≡ map (from_agent agent) d.mails
 commit_sends c verdict agent place x d once e name draft =
     append-nil (sent_between c.world.channels (at_agent agent (ByAgent Adopt) c.world.run c.world.channels).channels)
     ∙ (ap (sent_between c.world.channels) (at_its_place agent (ByAgent Adopt) c.world.run c.world.channels place x once e name)
@@ -278,12 +278,12 @@ anew_after c = ap (make (map hello_to c.world.channels)) (none_posted c.world.ch
       weights = c.weights;
     }
 
-anew_sent : (c : Cluster) → (done c (record (happening c Fine (Restart ∷ map hello_to c.world.channels)) { registers = new_registers })).entry.outs.sent ≡ (done (anew c) (greets_all (anew c))).entry.outs.sent
+anew_sent : (c : Cluster) → (done c (record (happening c Fine (Restart ∷ map hello_to c.world.channels)) { registers = new_registers })).outputs.sent ≡ (done (anew c) (greets_all (anew c))).outputs.sent
 anew_sent c = append_same (sent_between c.world.channels (map (with_side restarted) c.world.channels)) [] (sent_by (map hello_to c.world.channels) (after c.world Restart)) (sent_by (map hello_to (map (with_side restarted) c.world.channels)) (after c.world Restart))
     (none_sent c.world.channels) (ap (λ hs. sent_by hs (after c.world Restart)) (sym (hellos_again c.world.channels)))
 
 pub stops_anew : (c : Cluster) → nat_lt c.world.run.number last_run ≡ true →
-    ((done c (master_stops c)).after ≡ (done (anew c) (greets_all (anew c))).after) × ((done c (master_stops c)).entry.outs.sent ≡ (done (anew c) (greets_all (anew c))).entry.outs.sent)
+    ((done c (master_stops c)).after ≡ (done (anew c) (greets_all (anew c))).after) × ((done c (master_stops c)).outputs.sent ≡ (done (anew c) (greets_all (anew c))).outputs.sent)
 stops_anew c test = rw test (anew_after c, anew_sent c)
 
 sides_mapped : (f : Side → Side) (cs : List Channel) → sides_of (map (with_side f) cs) ≡ map f (sides_of cs)

@@ -15,7 +15,7 @@ use Rattle.mails.specs.declared.call.ReconciledTask.{ReconciledTask}
 use Rattle.role_weights.specs.Weights.{RoleWeight}
 use Rattle.cluster_model.specs.Ids.{last_number}
 use Rattle.cluster_model.specs.Sides.{Side, opens, is_named, MakeOffer, SendKill, SendAck, SendEnd, SendHello, Lose}
-use Rattle.cluster_model.specs.Events.{MadeOffer, FAILURE}
+use Rattle.cluster_model.specs.Events.{MadeOffer, Failure}
 use Rattle.cluster_model.specs.Masters.{Framework, Registers, Master, Move, AtSide, TearDownAll, Doing, nothing, refused, saying, moving, framework_of, is_torn, with_framework, tells_all, Placed, all_booked, held, is_of, withdraws_on, withdraws, without_filters_on, side_of, has_numbers, may_have_numbers}
 use Rattle.cluster_model.specs.Calls.{frameworks_limit, to_list, subscribed, removed, resubscribed, is_unheard_of, sides_with_tasks, on_teardown, answers_held, Given, good_side, given_by, Accepting, accepts_all, accepted_as, passes_limits, accepted_from, on_accept, on_decline, on_revive, on_suppress, commanding, on_kill, is_last_heard, on_acknowledge, on_reconcile, is_stream, on_its_stream, by_known, called}
 use Rattle.cluster_model.specs.Mails.{judged, rescinds, loses, is_to_end, session_opens, goes_with, mailed_as, mailed, ticks, ticked, agent_lost, hung_up_by, hung_up}
@@ -128,7 +128,7 @@ pub lost_ordinary : (m : Master) (s : Side) → Ordinary m (agent_lost m s)
 lost_ordinary m s = if_ordinary m s.is_open lost (nothing m) (plain m lost (tt, (tt, tt)) refl refl) (does_nothing m)
   where
     lost : Doing
-    lost = record { refusal = None; moves = AtSide s.name Lose ∷ AtSide s.name SendHello ∷ []; events = rescinds m s.offers ++ loses m s.name s.booked ++ tells_all m.registers.frameworks (FAILURE s.name); opens = []; closes = []; registers = without_filters_on s.name m.registers }
+    lost = record { refusal = None; moves = AtSide s.name Lose ∷ AtSide s.name SendHello ∷ []; events = rescinds m s.offers ++ loses m s.name s.booked ++ tells_all m.registers.frameworks (Failure s.name); opens = []; closes = []; registers = without_filters_on s.name m.registers }
 
 hung_by : (m : Master) (stream : Numbered) (o : Option Framework) → Ordinary m (hung_up_by m stream o)
 hung_by m stream None = does_nothing m

@@ -16,7 +16,7 @@ use Rattle.cluster_model.specs.Ids.{same, before, last_number, last_run}
 use Rattle.cluster_model.specs.Agents.{Draft, hears_mail, next_of}
 use Rattle.cluster_model.specs.Sides.{Run}
 use Rattle.cluster_model.specs.Channels.{Channel, AgentStep, Draw, DrawMail, Adopt, StopWithout, StopWith, Hear, ByAgent, Happening, At, Restart, Halt, after, after_all}
-use Rattle.cluster_model.specs.Events.{Event, Told}
+use Rattle.cluster_model.specs.Events.{Event, StreamEvent}
 use Rattle.cluster_model.specs.Masters.{Doing, new_registers}
 use Rattle.cluster_model.specs.Calls.{called, new_stream}
 use Rattle.cluster_model.specs.Mails.{mailed, ticked, agent_lost, hung_up}
@@ -47,7 +47,7 @@ pub record StreamsOk (ids : List Numbered) (run : Run) (last : ℕ) : Type 0 whe
 
 -- ids
 
-heard_ids : (told : List Told) (ss : List Stream) → ids_of (map (hears told) ss) ≡ ids_of ss
+heard_ids : (told : List StreamEvent) (ss : List Stream) → ids_of (map (hears told) ss) ≡ ids_of ss
 heard_ids told [] = refl
 heard_ids told (s ∷ ss) = ap (λ ids. s.id ∷ ids) (heard_ids told ss)
 
@@ -55,7 +55,7 @@ new_ids : (opens : List Numbered) → ids_of (map steps.new_stream opens) ≡ op
 new_ids [] = refl
 new_ids (id ∷ opens) = ap (λ ids. id ∷ ids) (new_ids opens)
 
-ids_after : (ss : List Stream) (opens : List Numbered) (told : List Told) → ids_of (streams_after ss opens told) ≡ ids_of ss ++ opens
+ids_after : (ss : List Stream) (opens : List Numbered) (told : List StreamEvent) → ids_of (streams_after ss opens told) ≡ ids_of ss ++ opens
 ids_after ss opens told = heard_ids told (ss ++ map steps.new_stream opens) ∙ (map-append (λ (s : Stream). s.id) ss (map steps.new_stream opens) ∙ ap (λ ids. ids_of ss ++ ids) (new_ids opens))
 
 taken_ids : (id : Numbered) (ss : List Stream) → ids_of (map (takes_one id) ss) ≡ ids_of ss
@@ -130,10 +130,10 @@ ClusterOk c = StreamsOk (ids_of c.streams) c.world.run c.registers.last_stream
 
 -- steps
 
-ids_with : (c : Cluster) (opens others : List Numbered) (told : List Told) (new : Run) (last known : ℕ) → opens ≡ others → known ≡ last → StreamsOk (ids_of c.streams ++ others) new last → StreamsOk (ids_of (streams_after c.streams opens told)) new known
+ids_with : (c : Cluster) (opens others : List Numbered) (told : List StreamEvent) (new : Run) (last known : ℕ) → opens ≡ others → known ≡ last → StreamsOk (ids_of c.streams ++ others) new last → StreamsOk (ids_of (streams_after c.streams opens told)) new known
 ids_with c opens others told new last known o l ok = subst (λ xs. StreamsOk xs new known) (sym (ids_after c.streams opens told ∙ ap (λ xs. ids_of c.streams ++ xs) o)) (subst (StreamsOk (ids_of c.streams ++ others) new) (sym l) ok)
 
-ids_without : (c : Cluster) (told : List Told) (new : Run) (last : ℕ) → StreamsOk (ids_of c.streams) new last → StreamsOk (ids_of (streams_after c.streams [] told)) new last
+ids_without : (c : Cluster) (told : List StreamEvent) (new : Run) (last : ℕ) → StreamsOk (ids_of c.streams) new last → StreamsOk (ids_of (streams_after c.streams [] told)) new last
 ids_without c told new last ok = ids_with c [] [] told new last last refl refl (subst (λ xs. StreamsOk xs new last) (sym (append-nil (ids_of c.streams))) ok)
 
 master_streamed : (c : Cluster) (first : List Happening) (d : Doing) → Each IsWithinRun first → Ordinary (master_of c) d → c.world.run.serves ≡ true → ClusterOk c → ClusterOk (done c (effect_of first d)).after
@@ -293,13 +293,13 @@ step_streamed : (c : Cluster) (s : Marked) → Streamed c (step_marked c s)
 step_streamed c s = by_test c (nat_le last_number c.entries) (Err HistoryFull) (if s.fell then fallen_answer c s.step else answer c s.step) tt
     (by_test c s.fell (fallen_answer c s.step) (answer c s.step) (fallen_streamed c s.step) (answer_streamed c s.step))
 
-extended_streamed : (h : History) (r : Result Done ClusterFault) → Streamed h.state r → ClusterOk h.state → ClusterOk (extended h r).state
-extended_streamed h (Ok d) f ok = f ok
-extended_streamed h (Err refusal) f ok = ok
+extended_streamed : (h : History) (step : Step) (r : Result Done ClusterFault) → Streamed h.state r → ClusterOk h.state → ClusterOk (extended h step r).state
+extended_streamed h step (Ok d) f ok = f ok
+extended_streamed h step (Err refusal) f ok = ok
 
 all_streamed : (h : History) (ss : List Marked) → ClusterOk h.state → ClusterOk (extend_all h ss).state
 all_streamed h [] ok = ok
-all_streamed h (s ∷ ss) ok = all_streamed (extended h (step_marked h.state s)) ss (extended_streamed h (step_marked h.state s) (step_streamed h.state s) ok)
+all_streamed h (s ∷ ss) ok = all_streamed (extended h s.step (step_marked h.state s)) ss (extended_streamed h s.step (step_marked h.state s) (step_streamed h.state s) ok)
 
 opened_streamed : (setup : Setup) (records : List Durable) → ClusterOk (opening setup records).state
 opened_streamed setup records = quiet_streamed (opened_over setup records) Fine (map hello_to (opened_over setup records).world.channels) (hellos_within (opened_over setup records).world.channels) (record { rising = tt; runs = tt; given = λ e. tt })

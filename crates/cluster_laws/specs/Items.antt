@@ -66,4 +66,4 @@ call_of step = []
 
 -- the items that a step sends
 abbrev pub new_items : Step → Done → List Item
-new_items step d = items_sent (call_of step) d.entry.outs.sent
+new_items step d = items_sent (call_of step) d.outputs.sent

@@ -37,7 +37,7 @@ pub fn agents_keep_their_names()
 pub fn opening_items_stand()
     ensures { (setup : Setup) (records : List Durable) → GoodOpening setup.run records →
         StandIn (opening setup records).state
-        (items_sent [] (open_cluster setup records).entry.outs.sent) }
+        (items_sent [] (open_cluster setup records).outputs.sent) }
 {}
 
 /// Where items stand for all posts, they stand so after each step,

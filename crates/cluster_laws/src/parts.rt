@@ -49,9 +49,9 @@ pub fn agents_leave_the_others()
 pub fn commits_send_drafts()
     ensures silent { (c : Cluster) (verdict : Verdict) (agent : List ℕ) (step : AgentStep)
         → IsSilent step
-        → (done c (happening c verdict (At agent (ByAgent step) ∷ []))).entry.outs.sent ≡ [] }
+        → (done c (happening c verdict (At agent (ByAgent step) ∷ []))).outputs.sent ≡ [] }
     ensures commits { (c : Cluster) (verdict : Verdict) (agent : List ℕ) (place : ℕ) (x : Channel) (d : Draft) → NamesOnce (names_of c.world.channels) → slice_get c.world.channels place ≡ Some x → x.side.name ≡ agent → x.draft ≡ Some d →
-        (done c (happening c verdict (At agent (ByAgent Adopt) ∷ []))).entry.outs.sent ≡ map (from_agent agent) d.mails }
+        (done c (happening c verdict (At agent (ByAgent Adopt) ∷ []))).outputs.sent ≡ map (from_agent agent) d.mails }
 {}
 
 /// What each step of an agent makes of it and of its draft.
@@ -78,8 +78,8 @@ pub fn masters_begin_with_greetings()
     ensures state { (c : Cluster) → nat_lt c.world.run.number last_run ≡ true
         → (done c (master_stops c)).after ≡ (done (anew c) (greets_all (anew c))).after }
     ensures mails { (c : Cluster) → nat_lt c.world.run.number last_run ≡ true
-        → (done c (master_stops c)).entry.outs.sent
-        ≡ (done (anew c) (greets_all (anew c))).entry.outs.sent }
+        → (done c (master_stops c)).outputs.sent
+        ≡ (done (anew c) (greets_all (anew c))).outputs.sent }
     ensures master { (c : Cluster) → master_of (anew c) ≡ next_master (master_of c) }
     ensures sides { (s : Side) → restarted s ≡ new_side s.name }
 {}

@@ -1,6 +1,6 @@
 //! What a master's step keeps of its run, and the order of the streams.
 
-ghost use Rattle.std.specs.Prelude.{◌≡◌, ◌∷◌, List, [], length, Option, ℕ};
+ghost use Rattle.std.specs.Prelude.{◌≡◌, ◌∷◌, List, [], length, suc, Option, ℕ};
 ghost use Rattle.cluster_laws.specs.Runs.{AreRising, KeepsRun, OpensNext, SameRun, ids_of};
 ghost use Rattle.role_weights.specs.Weights.{RoleWeight};
 ghost use Rattle.cluster_model.specs.Calls.{called};
@@ -43,10 +43,11 @@ pub fn masters_open_next_streams()
     ensures mails { (m : Master) (s : Side) (mail : AgentMail) → OpensNext m (mailed m s mail) }
 {}
 
-/// A state counts the entries of its history.
+/// A state counts the opening and the entries of its history.
 pub fn states_count_entries()
     ensures { (setup : Setup) (records : List Durable) (steps : List Marked) →
-        (history setup records steps).state.entries ≡ length (history setup records steps).entries }
+        (history setup records steps).state.entries
+        ≡ suc (length (history setup records steps).entries) }
 {}
 
 /// The roles' weights stay those of the opening.

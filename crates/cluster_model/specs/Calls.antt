@@ -14,7 +14,7 @@ use Rattle.mails.specs.declared.call.ReconciledTask.{ReconciledTask}
 use Rattle.mails.specs.declared.refusal.MasterRefusal.TheVariants.{NotSubscribed, WrongStream, NoSuchFramework, LimitExceeded}
 use Rattle.cluster_model.specs.Ids.{same, following, each_once, is_empty, last_number}
 use Rattle.cluster_model.specs.Sides.{Side, LaunchFrom, SendKill, SendAck, SendEnd, is_named, is_good, used_offers, offer_rows, just_booked}
-use Rattle.cluster_model.specs.Events.{MadeOffer, Told, SUBSCRIBED, UPDATE, FAILED_OVER, REMOVED}
+use Rattle.cluster_model.specs.Events.{MadeOffer, StreamEvent, Subscribed, update_event, failover_error, removal_error}
 use Rattle.cluster_model.specs.Masters.{Master, Registers, Framework, Doing, Move, AtSide, TearDownAll, Placed, nothing, refused, saying, moving, keeping, framework_of, is_torn, with_framework, stream_of, on_stream, all_booked, put_placed, is_task_of, held_among, held, is_of, withdraws, add_filter, side_of, has_numbers, may_have_numbers, has_returned}
 
 -- SUBSCRIBE
@@ -47,7 +47,7 @@ subscribed m r id role known = record {
   refusal = None;
   moves = withdraws (is_of id) m;
   events =
-      on_stream (stream_of known) FAILED_OVER ++ on_stream (Some (new_stream m)) (SUBSCRIBED id);
+      on_stream (stream_of known) failover_error ++ on_stream (Some (new_stream m)) (Subscribed id);
   opens = new_stream m ∷ [];
   closes = to_list (stream_of known);
   registers = record (with_framework r (subscriber m id role)) { last_stream = suc r.last_stream };
@@ -68,7 +68,7 @@ abbrev pub removed : Master → Doing
 removed m = record {
   refusal = None;
   moves = [];
-  events = on_stream (Some (new_stream m)) REMOVED;
+  events = on_stream (Some (new_stream m)) removal_error;
   opens = new_stream m ∷ [];
   closes = new_stream m ∷ [];
   registers = record m.registers { last_stream = suc m.registers.last_stream };
@@ -117,11 +117,11 @@ on_teardown m f =
 
 -- answers on a framework's stream
 
-abbrev pub answers : Framework → List ℕ → TaskState → Option (List ℕ) → List Told
-answers f task state agent = on_stream f.stream (UPDATE task state agent None)
+abbrev pub answers : Framework → List ℕ → TaskState → Option (List ℕ) → List StreamEvent
+answers f task state agent = on_stream f.stream (update_event task state agent None)
 
 -- the state of a held task, with its agent
-abbrev pub answers_held : Framework → Placed → List Told
+abbrev pub answers_held : Framework → Placed → List StreamEvent
 answers_held f p = answers f p.booked.job.name p.booked.state (Some p.agent)
 
 -- ACCEPT
@@ -149,7 +149,7 @@ pub record Accepting : Type 0 where
   pub jobs : List Job  -- those that are launched
   pub used : List Row
   pub next : Numbered  -- the next launch key
-  pub events : List Told
+  pub events : List StreamEvent
 
 -- the task is for the offers' agent, asks for something, and the rest covers it
 abbrev pub is_covered : Given → List Row → TaskInfo → Bool
@@ -170,7 +170,7 @@ launching f g x task = record {
   events = x.events;
 }
 
-abbrev pub answering : Accepting → List Told → Accepting
+abbrev pub answering : Accepting → List StreamEvent → Accepting
 answering x events =
     record {
       booked = x.booked;
@@ -293,12 +293,12 @@ abbrev pub is_awaited : Master → Option (List ℕ) → Bool
 is_awaited m None = list_any (λ s. not (has_returned s)) m.sides
 is_awaited m (Some agent) = list_any (λ s. bytes_eq s.name agent && not (has_returned s)) m.sides
 
-abbrev pub reconciles_as : Master → Framework → ReconciledTask → Option Placed → List Told
+abbrev pub reconciles_as : Master → Framework → ReconciledTask → Option Placed → List StreamEvent
 reconciles_as m f asked (Some p) = answers_held f p
 reconciles_as m f asked None =
     if is_awaited m asked.agent then [] else answers f asked.name Lost asked.agent
 
-abbrev pub reconciles : Master → Framework → ReconciledTask → List Told
+abbrev pub reconciles : Master → Framework → ReconciledTask → List StreamEvent
 reconciles m f asked = reconciles_as m f asked (held m f.id asked.name)
 
 abbrev pub on_reconcile : Master → List ReconciledTask → Framework → Doing

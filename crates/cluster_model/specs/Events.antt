@@ -1,27 +1,33 @@
--- Events on a framework's stream (Mesos scheduler HTTP API, Events).
-use Rattle.std.specs.Prelude.{ℕ, List, Option}
-use Rattle.names_core.specs.Ids.{Numbered}
-use Rattle.names_core.specs.Updates.{Update}
+-- Events on frameworks' streams (Mesos scheduler HTTP API, Events).
+use Rattle.std.specs.Prelude.{ℕ, List, codes, Option}
+use Rattle.names_core.specs.Updates as updates
 use Rattle.names_core.specs.declared.state.TaskState.{TaskState}
-use Rattle.mails.specs.declared.task.Offer.{Offer}
+use Rattle.mails.specs.declared.task.Offer as mails
+use Rattle.scheduler_events.specs.declared.offer.Offer.{Offer}
+pub use Rattle.scheduler_events.specs.declared.event.Event.{Event}
+pub use Rattle.scheduler_events.specs.declared.event.Event.TheVariants.{Subscribed, Offers, Rescind, Update, Failure, Error, Heartbeat}
+pub use Rattle.scheduler_events.specs.declared.stream_event.StreamEvent.{StreamEvent}
 
 -- an offer on an agent
 pub record MadeOffer : Type 0 where
   pub agent : List ℕ
-  pub offer : Offer
+  pub offer : mails.Offer
 
-pub data Event : Type 0 where
-  SUBSCRIBED : (framework : Numbered) → Event
-  OFFERS : (offers : List MadeOffer) → Event
-  RESCIND : (offer : Numbered) → Event
-  UPDATE : (task : List ℕ) → (state : TaskState) → (agent : Option (List ℕ))
-      → (uuid : Option Update) → Event
-  FAILURE : (agent : List ℕ) → Event
-  FAILED_OVER : Event  -- ERROR with the message `Framework failed over`
-  REMOVED : Event  -- ERROR with the message `Framework has been removed`
-  HEARTBEAT : Event
+-- as an event names it
+abbrev pub offer_of : MadeOffer → Offer
+offer_of made = record {
+  id = made.offer.id;
+  framework = made.offer.framework;
+  agent = made.agent;
+  resources = made.offer.resources;
+}
 
--- an event that goes out on a stream
-pub record Told : Type 0 where
-  pub stream : Numbered
-  pub event : Event
+abbrev pub update_event : List ℕ → TaskState → Option (List ℕ) → Option updates.Update → Event
+update_event task state agent update =
+    Update (record { task = task; state = state; agent = agent; update = update })
+
+abbrev pub failover_error : Event
+failover_error = Error (codes "Framework failed over")
+
+abbrev pub removal_error : Event
+removal_error = Error (codes "Framework has been removed")

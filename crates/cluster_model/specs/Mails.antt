@@ -13,7 +13,7 @@ use Rattle.mails.specs.declared.refusal.MasterRefusal.TheVariants.{OtherRun, Old
 use Rattle.stream_core.specs.Updates.{most_updates}
 use Rattle.cluster_model.specs.Ids.{same}
 use Rattle.cluster_model.specs.Sides.{Run, Side, SendEnd, SendHello, SendAgain, Lose, opens, heard}
-use Rattle.cluster_model.specs.Events.{Told, UPDATE, RESCIND, FAILURE, HEARTBEAT}
+use Rattle.cluster_model.specs.Events.{StreamEvent, Rescind, Failure, Heartbeat, update_event}
 use Rattle.cluster_model.specs.Masters.{Master, Framework, Doing, Move, AtSide, nothing, refused, saying, tells, tells_all, on_stream, is_torn, is_of, withdraws, with_framework, without_filters_on}
 use Rattle.cluster_model.specs.Calls.{is_stream}
 
@@ -43,14 +43,14 @@ judged run s (Applied session count) = in_session s session
 judged run s (Update session key k state ended) = in_session s session
 
 -- RESCIND of offers
-abbrev pub rescinds : Master → List Offer → List Told
-rescinds m os = flat_map (λ o. tells m o.framework (RESCIND o.id)) os
+abbrev pub rescinds : Master → List Offer → List StreamEvent
+rescinds m os = flat_map (λ o. tells m o.framework (Rescind o.id)) os
 
 -- TASK_LOST of booked tasks that haven't ended
-abbrev pub loses : Master → List ℕ → List Booked → List Told
+abbrev pub loses : Master → List ℕ → List Booked → List StreamEvent
 loses m agent bs =
     flat_map (λ b. if b.ended then []
-    else tells m b.job.framework (UPDATE b.job.name Lost (Some agent) None)) bs
+    else tells m b.job.framework (update_event b.job.name Lost (Some agent) None)) bs
 
 abbrev pub is_reported : List Booked → Booked → Bool
 is_reported tasks b = list_any (λ t. same t.job.key b.job.key) tasks
@@ -72,11 +72,11 @@ session_opens m s tasks = record {
 }
 
 -- an update of a booked task that isn't older than what was heard goes to its framework
-abbrev pub news_of : Master → List ℕ → Numbered → ℕ → TaskState → Booked → List Told
+abbrev pub news_of : Master → List ℕ → Numbered → ℕ → TaskState → Booked → List StreamEvent
 news_of m agent key k state b =
     if same b.job.key key && nat_le b.heard (suc k)
     then tells m b.job.framework
-    (UPDATE b.job.name state (Some agent) (Some (record { key = key; k = k }))) else []
+    (update_event b.job.name state (Some agent) (Some (record { key = key; k = k }))) else []
 
 abbrev pub goes_with : Master → Side → AgentMail → Doing
 goes_with m s (Report session number tasks total) =
@@ -114,8 +114,8 @@ heartbeat_seconds = 15
 abbrev pub is_due : ℕ → Framework → Bool
 is_due now f = nat_le (f.last_beat + heartbeat_seconds) now
 
-abbrev pub beats : ℕ → Framework → List Told
-beats now f = if is_due now f then on_stream f.stream HEARTBEAT else []
+abbrev pub beats : ℕ → Framework → List StreamEvent
+beats now f = if is_due now f then on_stream f.stream Heartbeat else []
 
 abbrev pub beaten_on : ℕ → Framework → Option Numbered → Framework
 beaten_on now f None = f
@@ -149,7 +149,7 @@ agent_lost m s =
       moves = AtSide s.name Lose ∷ AtSide s.name SendHello ∷ [];
       events =
           rescinds m s.offers ++ loses m s.name s.booked
-          ++ tells_all m.registers.frameworks (FAILURE s.name);
+          ++ tells_all m.registers.frameworks (Failure s.name);
       opens = [];
       closes = [];
       registers = without_filters_on s.name m.registers;

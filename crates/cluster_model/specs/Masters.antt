@@ -11,7 +11,7 @@ pub use Rattle.mails.specs.declared.framework.Filter.{Filter}
 pub use Rattle.mails.specs.declared.framework.Framework.{Framework}
 use Rattle.cluster_model.specs.Ids.{same, before, is_among, last_number}
 use Rattle.cluster_model.specs.Sides.{Run, Side, Sending, SideStep, Withdraw, new_run, side_step, torn_down, halted, restarted}
-use Rattle.cluster_model.specs.Events.{Event, Told}
+use Rattle.cluster_model.specs.Events.{Event, StreamEvent}
 
 -- frameworks
 
@@ -44,7 +44,7 @@ pub data Move : Type 0 where
 pub record Doing : Type 0 where
   pub refusal : Option MasterRefusal
   pub moves : List Move
-  pub events : List Told
+  pub events : List StreamEvent
   pub opens : List Numbered
   pub closes : List Numbered
   pub registers : Registers
@@ -71,7 +71,7 @@ refused m refusal =
       registers = m.registers;
     }
 
-abbrev pub saying : Master → List Told → Doing
+abbrev pub saying : Master → List StreamEvent → Doing
 saying m events =
     record {
       refusal = None;
@@ -172,7 +172,7 @@ abbrev pub with_framework : Registers → Framework → Registers
 with_framework r f = record r { frameworks = put_framework f r.frameworks }
 
 -- an event on a stream, where there is one
-abbrev pub on_stream : Option Numbered → Event → List Told
+abbrev pub on_stream : Option Numbered → Event → List StreamEvent
 on_stream None event = []
 on_stream (Some stream) event = record { stream = stream; event = event } ∷ []
 
@@ -181,10 +181,10 @@ stream_of None = None
 stream_of (Some f) = f.stream
 
 -- an event to a framework, where it has an open stream
-abbrev pub tells : Master → Numbered → Event → List Told
+abbrev pub tells : Master → Numbered → Event → List StreamEvent
 tells m framework event = on_stream (stream_of (framework_of m framework)) event
 
-abbrev pub tells_all : List Framework → Event → List Told
+abbrev pub tells_all : List Framework → Event → List StreamEvent
 tells_all fs event = flat_map (λ f. on_stream f.stream event) fs
 
 -- booked tasks

@@ -7,7 +7,7 @@ use Rattle.quantity.specs.Rows.{amount, covers, rest_of}
 use Rattle.role_weights.specs.Weights.{RoleWeight, weight_of}
 use Rattle.cluster_model.specs.Ids.{same, before, following, bytes_before, last_number}
 use Rattle.cluster_model.specs.Sides.{Side, MakeOffer, taken, offer_rows, job_rows, unended}
-use Rattle.cluster_model.specs.Events.{MadeOffer, Told, OFFERS}
+use Rattle.cluster_model.specs.Events.{MadeOffer, StreamEvent, Offers, offer_of}
 use Rattle.cluster_model.specs.Masters.{Master, Framework, Filter, Doing, Move, AtSide, moved, on_stream}
 
 -- what is held, and its weight: how much of all that agents own is its due, beside the others'
@@ -170,11 +170,11 @@ entered (old ∷ olds) [] = []
 entered (old ∷ olds) (new ∷ news) = entered_on old new ++ entered olds news
 
 -- one OFFERS event for each framework with new offers
-abbrev pub tells_offers : Framework → List MadeOffer → List Told
+abbrev pub tells_offers : Framework → List MadeOffer → List StreamEvent
 tells_offers f [] = []
-tells_offers f (made ∷ more) = on_stream f.stream (OFFERS (made ∷ more))
+tells_offers f (made ∷ more) = on_stream f.stream (Offers (map offer_of (made ∷ more)))
 
-abbrev pub offers_of : List MadeOffer → Framework → List Told
+abbrev pub offers_of : List MadeOffer → Framework → List StreamEvent
 offers_of made f = tells_offers f (filter (λ g. same g.offer.framework f.id) made)
 
 abbrev pub making : List RoleWeight → Master → List Move

@@ -56,7 +56,7 @@ pub record FromSide (m : Moment) (u : Use) : Type 0 where
   pub channel : Channel
   pub among : IsAmong channel m.before.world.channels
   pub offers : u.offers ≡ used_offers channel.side u.framework u.ids
-  pub launched : launches_in m.did.entry.outs.sent ≡ u.jobs
+  pub launched : launches_in m.did.outputs.sent ≡ u.jobs
 
 abbrev pub Stood : Moment → Mark → Type 0
 Stood m (Made g) = ⊤
@@ -64,7 +64,7 @@ Stood m (Used u) = FromSide m u
 
 -- what an entry that isn't a Tick launches is of its marks
 abbrev pub Launching : Moment → List Mark → Type 0
-Launching m own = (IsTick m.step.step → ⊥) → launches_in m.did.entry.outs.sent ≡ jobs_of own
+Launching m own = (IsTick m.step.step → ⊥) → launches_in m.did.outputs.sent ≡ jobs_of own
 
 -- what a step that isn't refused leaves: the channels go on, and its marks come from its entry
 abbrev pub Sourced : Cluster → Marked → Result Done ClusterFault → Type 0
@@ -342,7 +342,7 @@ record Goes (start : World) (h : History) (older : List Moment) : Type 0 where
   pub path : h.state.world ≡ after_all h.happenings start
   pub traced : Traced older (trail h.happenings start [])
 
-goes_on : (start : World) (h : History) (older : List Moment) (s : Marked) (r : Result Done ClusterFault) → Sourced h.state s r → Goes start h older → Goes start (extended h r) (noted h.state s r older)
+goes_on : (start : World) (h : History) (older : List Moment) (s : Marked) (r : Result Done ClusterFault) → Sourced h.state s r → Goes start h older → Goes start (extended h s.step r) (noted h.state s r older)
 goes_on start h older s (Err refusal) src goes = goes
 goes_on start h older s (Ok d) src goes = record {
   path = src.0 ∙ (ap (after_all d.happenings) goes.path ∙ sym (after_append h.happenings d.happenings start));
@@ -357,7 +357,7 @@ goes_on start h older s (Ok d) src goes = record {
 
 all_go : (start : World) (ss : List Marked) (h : History) (older : List Moment) → Goes start h older → Goes start (extend_all h ss) (moments_from h ss older)
 all_go start [] h older goes = goes
-all_go start (s ∷ ss) h older goes = all_go start ss (extended h (step_marked h.state s)) (noted h.state s (step_marked h.state s) older) (goes_on start h older s (step_marked h.state s) (step_sourced h.state s) goes)
+all_go start (s ∷ ss) h older goes = all_go start ss (extended h s.step (step_marked h.state s)) (noted h.state s (step_marked h.state s) older) (goes_on start h older s (step_marked h.state s) (step_sourced h.state s) goes)
 
 pub history_traced : (setup : Setup) (records : List Durable) (steps : List Marked) → Traced (moments setup records steps) (trail (history setup records steps).happenings (open_world setup.run records) [])
 history_traced setup records steps = (all_go (open_world setup.run records) steps (opening setup records) [] (record { path = refl; traced = trail_silent (map hello_to (open_world setup.run records).channels) (unmarked (map hello_to (open_world setup.run records).channels) (hellos_silent (open_world setup.run records).channels)) (open_world setup.run records) [] })).traced

@@ -318,7 +318,7 @@ accept_spends rs c marks x o ids tasks seconds stream ok a k among = known_spend
 
 -- what the answer to its step leaves
 abbrev Spent : Numbered → Result Done ClusterFault → Type 0
-Spent id (Ok d) = d.entry.verdict ≡ Fine → Gone id d.after.world
+Spent id (Ok d) = d.verdict ≡ Fine → Gone id d.after.world
 Spent id (Err refusal) = ⊤
 
 verdict_fine : (o : Option MasterRefusal) → verdict_of o ≡ Fine → o ≡ None

@@ -60,7 +60,7 @@ HasKey key js = (i : Job) × IsOneOf i js × (i.key ≡ key)
 -- the Launches that an entry sends: those of its marks, or at a Tick some that were sent before; and those that were sent before are of older jobs
 record Sends (m : Moment) (own : List Mark) (js : List Job) : Type 0 where
   pub launches : Launching m own
-  pub again : IsTick m.step.step → Each (IsOld m.before) m.did.entry.outs.sent
+  pub again : IsTick m.step.step → Each (IsOld m.before) m.did.outputs.sent
   pub before : (to : ToAgent) (key : Numbered) → WasSent m.before to → IsLaunchOf key to.mail → HasKey key js
 
 -- the marks are those of the entries, with what the entries launched
@@ -103,7 +103,7 @@ once_in records m marks ok (Used u) h =
     let own = each_among (ChannelOk records m.before.world.run marks) m.before.world.channels h.channel ok.channels h.among in
     subst DistinctOffers (sym h.offers) (offers_kept m.before.world.run.next_offer marks h.channel.side.name (is_named u.framework u.ids) h.channel.side.offers own.0).1
 
-goes_on : (records : List Durable) (start : World) (h : History) (older : List Moment) (s : Marked) (r : Result Done ClusterFault) → step_marked h.state s ≡ r → Sourced h.state s r → Goes records start h older → Goes records start (extended h r) (noted h.state s r older)
+goes_on : (records : List Durable) (start : World) (h : History) (older : List Moment) (s : Marked) (r : Result Done ClusterFault) → step_marked h.state s ≡ r → Sourced h.state s r → Goes records start h older → Goes records start (extended h s.step r) (noted h.state s r older)
 goes_on records start h older s (Err refusal) e src goes = goes
 goes_on records start h older s (Ok d) e src goes = record {
   path = src.0 ∙ (ap (after_all d.happenings) goes.path ∙ sym (after_append h.happenings d.happenings start));
@@ -134,7 +134,7 @@ goes_on records start h older s (Ok d) e src goes = record {
 
 all_go : (records : List Durable) (start : World) (ss : List Marked) (h : History) (older : List Moment) → Goes records start h older → Goes records start (extend_all h ss) (moments_from h ss older)
 all_go records start [] h older goes = goes
-all_go records start (s ∷ ss) h older goes = all_go records start ss (extended h (step_marked h.state s)) (noted h.state s (step_marked h.state s) older) (goes_on records start h older s (step_marked h.state s) refl (step_sourced h.state s) goes)
+all_go records start (s ∷ ss) h older goes = all_go records start ss (extended h s.step (step_marked h.state s)) (noted h.state s (step_marked h.state s) older) (goes_on records start h older s (step_marked h.state s) refl (step_sourced h.state s) goes)
 
 history_goes : (setup : Setup) (records : List Durable) (steps : List Marked) → GoodOpening setup.run records → Goes records (open_world setup.run records) (history setup records steps) (moments setup records steps)
 history_goes setup records steps good = all_go records (open_world setup.run records) steps (opening setup records) [] (record {
@@ -210,8 +210,8 @@ issued_own : (m : Moment) (own : List Mark) (js : List Job) (key : Numbered) →
 issued_own m own js key h is = by (tick_or_not m.step.step)
   where
     by : IsTick m.step.step ⊎ (IsTick m.step.step → ⊥) → HasKey key (jobs_of own)
-    by (inl tick) = absurd (is.3 (each_among (IsOld m.before) m.did.entry.outs.sent (MailToAgent is.0) (h.again tick) is.1 key is.2))
-    by (inr other) = let r = launch_sent key is.0 m.did.entry.outs.sent is.1 is.2 in (r.0, subst (IsOneOf r.0) (h.launches other) r.1, r.2)
+    by (inl tick) = absurd (is.3 (each_among (IsOld m.before) m.did.outputs.sent (MailToAgent is.0) (h.again tick) is.1 key is.2))
+    by (inr other) = let r = launch_sent key is.0 m.did.outputs.sent is.1 is.2 in (r.0, subst (IsOneOf r.0) (h.launches other) r.1, r.2)
 
 -- no entry of these issues a key that no job of theirs has
 none_issue : (records : List Durable) (ms : List Moment) (marks : List Mark) (key : Numbered) → Came records ms marks → ((i : Job) → IsOneOf i (jobs_of marks) → i.key ≢ key) → Each (λ n. Issues n key → ⊥) ms
@@ -254,7 +254,7 @@ job_in (Used v ∷ own) u j (inr a) h = in_behind v.jobs (jobs_of own) j (job_in
 
 launches_first : (records : List Durable) (m : Moment) (older : List Moment) (agent : List ℕ) (j : Job) (own rest : List Mark) → Each (Stood m) own → Each OnceIn own → Sends m own (jobs_of rest ++ recorded_jobs records) → Came records older rest → KeysOnce (jobs_of own ++ (jobs_of rest ++ recorded_jobs records)) → UsedOnce (m ∷ older) → LaunchedFrom m older agent j own → Launches [] m older agent j
 launches_first records m older agent j own rest stood once sends came keys used f = record {
-  issues = let r = sent_launch j m.did.entry.outs.sent (subst (IsOneOf j) (sym side.launched) l.job) in (r.0, r.1, r.2, λ before. let k = sends.before r.0 j.key before r.2 in other k.0 k.1 k.2);
+  issues = let r = sent_launch j m.did.outputs.sent (subst (IsOneOf j) (sym side.launched) l.job) in (r.0, r.1, r.2, λ before. let k = sends.before r.0 j.key before r.2 in other k.0 k.1 k.2);
   alone = none_issue records older rest j.key came (λ i k. other i (in_front_of (jobs_of rest) (recorded_jobs records) i k));
   ids = u.ids;
   tasks = l.accepted.tasks;

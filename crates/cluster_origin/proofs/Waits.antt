@@ -259,7 +259,7 @@ as_before c (x ∷ cs) f = ((x, f x (inl refl), refl), as_before c cs (λ y k. f
 
 -- all that the answer sends was sent before
 abbrev SendsOld : Cluster → Result Done ClusterFault → Type 0
-SendsOld c (Ok d) = Each (IsOld c) d.entry.outs.sent
+SendsOld c (Ok d) = Each (IsOld c) d.outputs.sent
 SendsOld c (Err refusal) = ⊤
 
 old_if : (c : Cluster) (b : Bool) (x y : Result Done ClusterFault) → SendsOld c x → SendsOld c y → SendsOld c (if b then x else y)
@@ -273,13 +273,13 @@ fell_old c now (Err refusal) = tt
 tick_old : (c : Cluster) (now : ℕ) → AllWait c.world → SendsOld c (answer c (Tick now))
 tick_old c now waits = old_if c c.world.run.serves (ticks_at c now) (Err MasterDown) (old_if c (nat_lt now c.last_tick) (Err TimeBack) (master_does (with_tick c now) (ticked (master_of c) now)) tt (ticks_old c (sides_of c.world.channels) c.world waits (as_before c c.world.channels (λ x k. k)))) tt
 
-pub ticks_again : (c : Cluster) (s : Marked) (d : Done) → AllWait c.world → step_marked c s ≡ Ok d → IsTick s.step → Each (IsOld c) d.entry.outs.sent
+pub ticks_again : (c : Cluster) (s : Marked) (d : Done) → AllWait c.world → step_marked c s ≡ Ok d → IsTick s.step → Each (IsOld c) d.outputs.sent
 ticks_again c s d waits e tick = by s.step refl tick
   where
     all : (now : ℕ) → SendsOld c (if nat_le last_number c.entries then Err HistoryFull else (if s.fell then fallen_answer c (Tick now) else answer c (Tick now)))
     all now = old_if c (nat_le last_number c.entries) (Err HistoryFull) (if s.fell then fallen_answer c (Tick now) else answer c (Tick now)) tt
         (old_if c s.fell (fallen_answer c (Tick now)) (answer c (Tick now)) (fell_old c (with_tick c now) (answer c (Tick now))) (tick_old c now waits))
 
-    by : (step : Rattle.cluster_steps.specs.declared.step.Step.Step) → s.step ≡ step → IsTick step → Each (IsOld c) d.entry.outs.sent
+    by : (step : Rattle.cluster_steps.specs.declared.step.Step.Step) → s.step ≡ step → IsTick step → Each (IsOld c) d.outputs.sent
     by (Tick now) is t = subst (SendsOld c) e (subst (λ st. SendsOld c (if nat_le last_number c.entries then Err HistoryFull else (if s.fell then fallen_answer c st else answer c st))) (sym is) (all now))
     by other is t = absurd t

@@ -20,7 +20,7 @@ noted c s (Err refusal) older = older
 abbrev pub moments_from : History → List Marked → List Moment → List Moment
 moments_from h [] older = older
 moments_from h (s ∷ ss) older =
-    moments_from (extended h (step_marked h.state s)) ss
+    moments_from (extended h s.step (step_marked h.state s)) ss
     (noted h.state s (step_marked h.state s) older)
 
 -- all entries since the opening, the newest first

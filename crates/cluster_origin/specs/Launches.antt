@@ -38,7 +38,7 @@ pub record Accepts (m : Moment) (framework : Numbered) (ids : List Numbered)
   pub seconds : ℕ
   pub step : m.step.step ≡ Deliver number
   pub call : post_at m.before number ≡ Some (Called stream (Accept framework ids tasks seconds))
-  pub fine : m.did.entry.verdict ≡ Fine
+  pub fine : m.did.verdict ≡ Fine
 
 -- the offer is one of the current ones of this agent
 pub record IsCurrent (c : Cluster) (agent : List ℕ) (o : Offer) : Type 0 where
@@ -87,7 +87,7 @@ WasSent c to =
 -- the entry issued a Launch with this key: it sent one that wasn't sent before
 abbrev pub Issues : Moment → Numbered → Type 0
 Issues m key =
-    (to : ToAgent) × IsAmong (MailToAgent to) m.did.entry.outs.sent ×
+    (to : ToAgent) × IsAmong (MailToAgent to) m.did.outputs.sent ×
     IsLaunchOf key to.mail × (WasSent m.before to → ⊥)
 
 -- offers that were made
@@ -96,7 +96,7 @@ Issues m key =
 -- on the stream of the offer's framework, has the offer
 pub record IsOffered (m : Moment) (g : MadeOffer) : Type 0 where
   pub step : m.step.step ≡ Allocate
-  pub told : IsTold m.before.registers.frameworks m.did.entry.outs.events g
+  pub told : IsTold m.before.registers.frameworks m.did.outputs.events g
 
 -- one of these entries made the offer on this agent, and told it to its framework
 abbrev pub WasOffered : List Moment → List ℕ → Offer → Type 0
@@ -141,7 +141,7 @@ pub record Launches (newer : List Moment) (m : Moment) (older : List Moment) (ag
   pub made : Each (WasOffered older agent) offers
   pub apart : Each (λ o. Each (UsesNone o.id) (newer ++ older)) offers
   -- the tasks launched there sum to at most the offers' sum
-  pub sum : AtMost (job_rows (launches_in m.did.entry.outs.sent)) (offer_rows offers)
+  pub sum : AtMost (job_rows (launches_in m.did.outputs.sent)) (offer_rows offers)
 
 -- exactly one of these entries launched the task on this agent
 abbrev pub IsLaunched : List Moment → List ℕ → Job → Type 0

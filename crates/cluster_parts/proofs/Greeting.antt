@@ -33,11 +33,11 @@ greeting_stays m =
 -- what the laws give
 pub record GreetLaws : Type 0 where
   pub master : (c : Cluster) (d : Doing) → master_of (done c (effect_of [] d)).after ≡ after_doing (master_of c) d
-  pub mails : (c : Cluster) (d : Doing) → (done c (effect_of [] d)).entry.outs.sent ≡ map MailToAgent (moved (master_of c) d.moves).sent
+  pub mails : (c : Cluster) (d : Doing) → (done c (effect_of [] d)).outputs.sent ≡ map MailToAgent (moved (master_of c) d.moves).sent
   pub greets : (c : Cluster) → greets_all c ≡ effect_of [] (greeting (master_of c))
 
 pub greeted_master : GreetLaws → (c : Cluster) → master_of (done c (greets_all c)).after ≡ master_of c
 greeted_master laws c = ap (λ (e : Effect). master_of (done c e).after) (laws.greets c) ∙ laws.master c (greeting (master_of c)) ∙ greeting_stays (master_of c)
 
-pub greeting_mails : GreetLaws → (c : Cluster) → (done c (greets_all c)).entry.outs.sent ≡ map MailToAgent (moved (master_of c) (greeting (master_of c)).moves).sent
-greeting_mails laws c = ap (λ (e : Effect). (done c e).entry.outs.sent) (laws.greets c) ∙ laws.mails c (greeting (master_of c))
+pub greeting_mails : GreetLaws → (c : Cluster) → (done c (greets_all c)).outputs.sent ≡ map MailToAgent (moved (master_of c) (greeting (master_of c)).moves).sent
+greeting_mails laws c = ap (λ (e : Effect). (done c e).outputs.sent) (laws.greets c) ∙ laws.mails c (greeting (master_of c))

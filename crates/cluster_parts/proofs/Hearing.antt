@@ -38,11 +38,10 @@ use Rattle.master_core.specs.declared.master.HeardMail.{HeardMail}
 use Rattle.master_core.specs.Steps.{Hears, outs_of}
 use Rattle.agent_sides.specs.Named.{mailed_by}
 use Rattle.cluster_model.specs.Mails.{FitsRecord}
-use Rattle.master_state.specs.Works.{written}
 use Rattle.master_state.specs.declared.fault.MasterFault.{MasterFault}
 use Rattle.master_state.specs.declared.fault.MasterFault.TheVariants as fault
 use Rattle.master_state.specs.declared.state.Outs.{Outs}
-use Rattle.master_state.specs.declared.state.StreamEvent.{StreamEvent}
+use Rattle.scheduler_events.specs.declared.stream_event.StreamEvent.{StreamEvent}
 use Rattle.names_core.specs.Ids.{Numbered}
 use Rattle.side_fits.specs.Fits.{MailFitsAt}
 use Rattle.told_streams.specs.Kept.{AreWithin, kept_streams}
@@ -66,7 +65,7 @@ pub record HearLaws : Type 0 where
   pub none : (c : Cluster) (sent : List Item) (n : ℕ) → StandIn c sent → slice_get sent n ≡ None → slice_get c.posts n ≡ None
   pub hears : (c : Cluster) (agent : List ℕ) (place : ℕ) (x : Channel) (mail : AgentMail) (d : Doing) → channel_of c agent ≡ Some x → slice_get x.to_master place ≡ Some mail →
       (master_of (done c (effect_of (At agent (Hear place) ∷ []) d)).after ≡ after_doing (having_heard (master_of c) agent mail) d) ×
-      ((done c (effect_of (At agent (Hear place) ∷ []) d)).entry.outs.sent ≡ map MailToAgent (moved (having_heard (master_of c) agent mail) d.moves).sent)
+      ((done c (effect_of (At agent (Hear place) ∷ []) d)).outputs.sent ≡ map MailToAgent (moved (having_heard (master_of c) agent mail) d.moves).sent)
   pub parts : (c : Cluster) (agent : List ℕ) (place : ℕ) (d : Doing) → parts_of (done c (effect_of (At agent (Hear place) ∷ []) d)).after.world.channels ≡ parts_of c.world.channels
   pub run : (c : Cluster) (agent : List ℕ) (place : ℕ) (s : Side) (mail : AgentMail) → SameRun c.world.run (done c (effect_of (At agent (Hear place) ∷ []) (mailed (master_of c) s mail))).after.world.run
   pub named : (c : Cluster) (agent : List ℕ) (x : Channel) (mail : AgentMail) → channel_of c agent ≡ Some x → mailed_by (master_of c) agent mail ≡ mailed (master_of c) x.side mail
@@ -118,12 +117,12 @@ heard_told : HearLaws → (c : Cluster) (number : ℕ) (to : ToMaster) (items : 
     MasterMakes c (Deliver number) c.last_tick (record (tells (outs_of (having_heard (master_of c) to.agent to.mail) (mailed (master_of c) come.x.side to.mail))) { verdict = verdict })
     (Some (Some (after_doing (having_heard (master_of c) to.agent to.mail) (mailed (master_of c) come.x.side to.mail))))
     (items ++ map item_to (outs_of (having_heard (master_of c) to.agent to.mail) (mailed (master_of c) come.x.side to.mail)).mails)
-    (heard (mailed (master_of c) come.x.side to.mail).opens (map written (mailed (master_of c) come.x.side to.mail).events) (kept_streams c.streams))
+    (heard (mailed (master_of c) come.x.side to.mail).opens (mailed (master_of c) come.x.side to.mail).events (kept_streams c.streams))
 heard_told laws c number to items verdict r within stand serves come fine is = record {
   done = D;
   answers = if_it_is_up (fell verdict) (fallen_answer c (Deliver number)) (answer c (Deliver number)) fine ∙ answers;
   ends = is;
-  brings = ap (told_with (map written d.events) d.closes) (sym (told_so mails)) ∙ ap (λ (xs : List Sent). told_with (map written d.events) d.closes xs) (sym sends);
+  brings = ap (told_with d.events d.closes) (sym (told_so mails)) ∙ ap (λ (xs : List Sent). told_with d.events d.closes xs) (sym sends);
   drafts = refl;
   stands = record {
     as_master = ap (λ (m : Master). Some (Some m)) (sym after) ∙ sym (serving (master_of D.after) (same.serves ∙ serves));
@@ -149,7 +148,7 @@ heard_told laws c number to items verdict r within stand serves come fine is = r
     mails : List ToAgent
     mails = (moved (having_heard (master_of c) to.agent to.mail) d.moves).sent
 
-    sends : D.entry.outs.sent ≡ map MailToAgent mails
+    sends : D.outputs.sent ≡ map MailToAgent mails
     sends = (laws.hears c to.agent come.place come.x to.mail d come.channel come.there).1
 
     after : master_of D.after ≡ after_doing (having_heard (master_of c) to.agent to.mail) d
@@ -164,7 +163,7 @@ told_as_refused : HearLaws → (c : Cluster) (number : ℕ) (to : ToMaster) (ite
     MasterMakes c (Deliver number) c.last_tick (with_refusal refusal (tells (outs_of (having_heard (master_of c) to.agent to.mail) (mailed (master_of c) come.x.side to.mail))))
     (Some (Some (after_doing (having_heard (master_of c) to.agent to.mail) (mailed (master_of c) come.x.side to.mail))))
     (items ++ map item_to (outs_of (having_heard (master_of c) to.agent to.mail) (mailed (master_of c) come.x.side to.mail)).mails)
-    (heard (mailed (master_of c) come.x.side to.mail).opens (map written (mailed (master_of c) come.x.side to.mail).events) (kept_streams c.streams))
+    (heard (mailed (master_of c) come.x.side to.mail).opens (mailed (master_of c) come.x.side to.mail).events (kept_streams c.streams))
 told_as_refused laws c number to items None r within stand serves come is = heard_told laws c number to items verdicts.Ok r within stand serves come refl (ap steps.verdict_of is)
 told_as_refused laws c number to items (Some refusal) r within stand serves come is = heard_told laws c number to items (verdicts.MasterRefused refusal) r within stand serves come refl (ap steps.verdict_of is)
 
@@ -192,7 +191,7 @@ mail_falls laws c number to items r within stand serves come = record {
     answers : fallen_answer c (Deliver number) ≡ Ok (master_falls c)
     answers = ap (λ (o : Result Done ClusterFault). instead o (master_falls c)) (it_answers c number to serves come)
 
-    silent : (master_falls c).entry.outs.sent ≡ []
+    silent : (master_falls c).outputs.sent ≡ []
     silent = ap (λ (xs : List Sent). xs ++ []) (sides_send_nothing halted c.world.channels)
 
 -- ---- what becomes of the master's answer
@@ -220,7 +219,7 @@ made_here : HearLaws → (c : Cluster) (number : ℕ) (to : ToMaster) (answered 
     Reached c → AreWithin c.streams → StandIn c items → c.world.run.serves ≡ true → Comes c number to → Hears answered (Some (master_of c)) after to.agent to.mail → SettlesHeard answered made (Some after) n items js (kept_streams c.streams) ts →
     MasterMakes c (Deliver number) c.last_tick made n js ts
 made_here laws c number to (Ok h) after made n items js ts r within stand serves come (why, outs, next) (settled, is, inl t) =
-    same_made c (Deliver number) c.last_tick made (with_refusal h.refusal (tells told)) n (Some (Some (after_doing heard_so d))) js (items ++ map item_to told.mails) ts (heard d.opens (map written d.events) (kept_streams c.streams))
+    same_made c (Deliver number) c.last_tick made (with_refusal h.refusal (tells told)) n (Some (Some (after_doing heard_so d))) js (items ++ map item_to told.mails) ts (heard d.opens d.events (kept_streams c.streams))
     (is ∙ ap (with_refusal h.refusal) (t.is ∙ ap tells outs_so))
     (t.same_master ∙ ap (λ (m : Option Master). Some m) (next ∙ ap (λ (y : Doing). Some (after_doing heard_so y)) doing_so))
     (t.more_items ∙ ap (λ (o : Outs). items ++ map item_to o.mails) outs_so)

@@ -30,9 +30,9 @@ pub record Laws : Type 0 where
   pub master : (c : Cluster) (verdict : Verdict) (agent : List ℕ) (step : AgentStep) → master_of (done c (happening c verdict (At agent (ByAgent step) ∷ []))).after ≡ master_of c
   pub one : (c : Cluster) (verdict : Verdict) (agent : List ℕ) (step : AgentStep) (place : ℕ) (x : Channel) → NamesOnce (names_of c.world.channels) → slice_get c.world.channels place ≡ Some x → x.side.name ≡ agent →
       parts_of (done c (happening c verdict (At agent (ByAgent step) ∷ []))).after.world.channels ≡ slice_set (parts_of c.world.channels) place (part_of (agent_step x step))
-  pub silent : (c : Cluster) (verdict : Verdict) (agent : List ℕ) (step : AgentStep) → IsSilent step → (done c (happening c verdict (At agent (ByAgent step) ∷ []))).entry.outs.sent ≡ []
+  pub silent : (c : Cluster) (verdict : Verdict) (agent : List ℕ) (step : AgentStep) → IsSilent step → (done c (happening c verdict (At agent (ByAgent step) ∷ []))).outputs.sent ≡ []
   pub commits : (c : Cluster) (verdict : Verdict) (agent : List ℕ) (place : ℕ) (x : Channel) (d : Draft) → NamesOnce (names_of c.world.channels) → slice_get c.world.channels place ≡ Some x → x.side.name ≡ agent → x.draft ≡ Some d →
-      (done c (happening c verdict (At agent (ByAgent Adopt) ∷ []))).entry.outs.sent ≡ map (from_agent agent) d.mails
+      (done c (happening c verdict (At agent (ByAgent Adopt) ∷ []))).outputs.sent ≡ map (from_agent agent) d.mails
   pub draws : (x : Channel) (cause : Cause) (d : Draft) → is_own cause ≡ true → x.draft ≡ None → next_of x.agent cause ≡ Ok d → part_of (agent_step x (Draw cause)) ≡ record { name = x.side.name; agent = x.agent; draft = Some d }
   pub draws_mail : (x : Channel) (place : ℕ) (mail : MasterMail) (d : Draft) → slice_get x.to_agent place ≡ Some mail → x.draft ≡ None → hears_mail x.agent mail ≡ Ok d →
       part_of (agent_step x (DrawMail place)) ≡ record { name = x.side.name; agent = x.agent; draft = Some d }
@@ -97,7 +97,7 @@ pub record OneMoves (c : Cluster) (s : Step) (place : ℕ) (verdict : verdicts.V
   pub answers : (if fell verdict then fallen_answer c s else answer c s) ≡ Ok (done_at c fallen ends_as x step)
   pub becomes : part_of (agent_step x step) ≡ p
   pub same : SameBut x.side.name c.fallen fallen
-  pub sends : (done_at c fallen ends_as x step).entry.outs.sent ≡ sent
+  pub sends : (done_at c fallen ends_as x step).outputs.sent ≡ sent
 
 pub one_moves : Laws → (c : Cluster) (s : Step) (place : ℕ) (verdict : verdicts.Verdict) (sent : List Sent) (fallen : List (List ℕ)) (p : Part) (items : List Item) →
     Reached c → StandIn c items → OneMoves c s place verdict sent fallen p →

@@ -11,7 +11,6 @@ use Rattle.cluster_steps.specs.declared.verdict.Sent.TheVariants.{ToAgent as Mai
 use Rattle.cluster_steps.specs.declared.verdict.Sent.{Sent}
 use Rattle.cluster_steps.specs.declared.step.Step.{Step}
 use Rattle.cluster_steps.specs.declared.fault.ClusterFault.{ClusterFault}
-use Rattle.cluster_model.specs.Events.{Told}
 use Rattle.cluster_model.specs.Masters.{Doing, Master, after_doing, moved, refused}
 use Rattle.cluster_model.specs.Sides.{halted}
 use Rattle.cluster_histories.specs.Steps.{Setup, Done, History, Marked, answer, extend_all, extended, history, opening, step_marked, done, effect_of, fallen_answer, instead, master_does, master_falls, sent_between, streams_after, with_tick}
@@ -24,11 +23,10 @@ use Rattle.cluster_entries.specs.declared.entry.Outputs.{Outputs}
 use Rattle.cluster_steps.specs.declared.verdict.Sent as code
 use Rattle.cluster_steps.specs.declared.verdict.Verdict.TheVariants as verdicts
 use Rattle.master_core.specs.Steps.{Answers, outs_of}
-use Rattle.master_state.specs.Works.{written}
 use Rattle.master_state.specs.declared.fault.MasterFault.{MasterFault}
 use Rattle.master_state.specs.declared.fault.MasterFault.TheVariants as fault
 use Rattle.master_state.specs.declared.state.Outs.{Outs}
-use Rattle.master_state.specs.declared.state.StreamEvent.{StreamEvent}
+use Rattle.scheduler_events.specs.declared.stream_event.StreamEvent.{StreamEvent}
 use Rattle.told_streams.specs.Kept.{AreWithin, kept_streams}
 use Rattle.told_streams.specs.declared.kept.KeptStream.{KeptStream}
 use Rattle.told_streams.specs.Streams.{heard, kept_ids}
@@ -40,14 +38,14 @@ use Rattle.cluster_parts.proofs.Making.{ItemsStand, append_nothing, items_by, ma
 pub record MasterLaws : Type 0 where
   pub stand : ItemsStand
   pub master : (c : Cluster) (d : Doing) → master_of (done c (effect_of [] d)).after ≡ after_doing (master_of c) d
-  pub mails : (c : Cluster) (d : Doing) → (done c (effect_of [] d)).entry.outs.sent ≡ map MailToAgent (moved (master_of c) d.moves).sent
+  pub mails : (c : Cluster) (d : Doing) → (done c (effect_of [] d)).outputs.sent ≡ map MailToAgent (moved (master_of c) d.moves).sent
   pub parts : (c : Cluster) (d : Doing) → parts_of (done c (effect_of [] d)).after.world.channels ≡ parts_of c.world.channels
   pub parts_fallen : (c : Cluster) → parts_of (master_falls c).after.world.channels ≡ parts_of c.world.channels
   pub down : (c : Cluster) → (master_falls c).after.world.run.serves ≡ false
-  pub hears : (streams : List Stream) (opens : List Numbered) (told : List Told) → AreWithin streams → kept_streams (streams_after streams opens told) ≡ heard opens (map written told) (kept_streams streams)
+  pub hears : (streams : List Stream) (opens : List Numbered) (told : List StreamEvent) → AreWithin streams → kept_streams (streams_after streams opens told) ≡ heard opens told (kept_streams streams)
   pub rising : (setup : Setup) (records : List Durable) (steps : List Marked) → AreRising (ids_of (history setup records steps).state.streams)
-  pub ids : (streams : List Stream) (opens : List Numbered) (told : List Told) → ids_of (streams_after streams opens told) ≡ kept_ids (kept_streams streams) ++ opens
-  pub within : (streams : List Stream) (opens : List Numbered) (told : List Told) → AreWithin streams → AreWithin (streams_after streams opens told)
+  pub ids : (streams : List Stream) (opens : List Numbered) (told : List StreamEvent) → ids_of (streams_after streams opens told) ≡ kept_ids (kept_streams streams) ++ opens
+  pub within : (streams : List Stream) (opens : List Numbered) (told : List StreamEvent) → AreWithin streams → AreWithin (streams_after streams opens told)
 
 abbrev marks_so : Bool → Step → Marked
 marks_so b s = record { fell = b; step = s }
@@ -78,12 +76,12 @@ abbrev told_with : List StreamEvent → List Numbered → List code.Sent → Out
 told_with events closed sent = record { events = events; closed = closed; sent = sent; taken = None }
 
 pub doing_told : MasterLaws → (c : Cluster) (s : Step) (moment : ℕ) (d : Doing) (items : List Item) → Reached c → AreWithin c.streams → StandIn c items → c.world.run.serves ≡ true → Does c s moment d → d.refusal ≡ None →
-    MasterMakes c s moment (tells (outs_of (master_of c) d)) (Some (Some (after_doing (master_of c) d))) (items ++ map item_to (outs_of (master_of c) d).mails) (heard d.opens (map written d.events) (kept_streams c.streams))
+    MasterMakes c s moment (tells (outs_of (master_of c) d)) (Some (Some (after_doing (master_of c) d))) (items ++ map item_to (outs_of (master_of c) d).mails) (heard d.opens d.events (kept_streams c.streams))
 doing_told more c s moment d items r within stand serves how fine = record {
   done = D;
   answers = how.answers;
   ends = ap steps.verdict_of (sym fine);
-  brings = ap (told_with (map written d.events) d.closes) (sym (told_so mails)) ∙ ap (λ (xs : List Sent). told_with (map written d.events) d.closes xs) (sym sends);
+  brings = ap (told_with d.events d.closes) (sym (told_so mails)) ∙ ap (λ (xs : List Sent). told_with d.events d.closes xs) (sym sends);
   drafts = refl;
   stands = record {
     as_master = ap (λ (m : Master). Some (Some m)) (sym after) ∙ sym (serving (master_of D.after) (how.keeps.serves ∙ serves));
@@ -106,7 +104,7 @@ doing_told more c s moment d items r within stand serves how fine = record {
     mails : List ToAgent
     mails = (moved (master_of c) d.moves).sent
 
-    sends : D.entry.outs.sent ≡ map MailToAgent mails
+    sends : D.outputs.sent ≡ map MailToAgent mails
     sends = more.mails base d
 
     after : master_of D.after ≡ after_doing (master_of c) d
@@ -182,7 +180,7 @@ doing_falls more c s moment d items r within stand how = record {
     answers : fallen_answer c s ≡ Ok D
     answers = how.falls ∙ ap (λ (o : Result Done ClusterFault). instead o (master_falls base)) how.answers
 
-    silent : D.entry.outs.sent ≡ []
+    silent : D.outputs.sent ≡ []
     silent = ap (λ (xs : List Sent). xs ++ []) (halt_sends c.world.channels)
 
 -- ---- what becomes of the master's answer
@@ -201,7 +199,7 @@ falls_then more c s moment d made n items js ts r within stand how f =
 pub answer_made : MasterLaws → (c : Cluster) (s : Step) (moment : ℕ) (doing : Master → Doing) (answered : Result Outs MasterFault) (after : Option Master) (made : Made) (n : Option (Option Master)) (items js : List Item) (ts : List KeptStream) →
     Reached c → AreWithin c.streams → StandIn c items → c.world.run.serves ≡ true → Does c s moment (doing (master_of c)) → Answers answered (Some (master_of c)) after doing → Settles answered made (Some after) n items js (kept_streams c.streams) ts → MasterMakes c s moment made n js ts
 answer_made more c s moment doing (Ok outs) after made n items js ts r within stand serves how (fine, is, next) (inl t) =
-    same_but c s moment made (tells (outs_of (master_of c) (doing (master_of c)))) n (Some (Some (after_doing (master_of c) (doing (master_of c))))) js (items ++ map item_to (outs_of (master_of c) (doing (master_of c))).mails) ts (heard (doing (master_of c)).opens (map written (doing (master_of c)).events) (kept_streams c.streams))
+    same_but c s moment made (tells (outs_of (master_of c) (doing (master_of c)))) n (Some (Some (after_doing (master_of c) (doing (master_of c))))) js (items ++ map item_to (outs_of (master_of c) (doing (master_of c))).mails) ts (heard (doing (master_of c)).opens (doing (master_of c)).events (kept_streams c.streams))
     (t.is ∙ ap tells is)
     (t.same_master ∙ ap (λ (m : Option Master). Some m) next)
     (t.more_items ∙ ap (λ (o : Outs). items ++ map item_to o.mails) is)
@@ -218,15 +216,15 @@ answer_made more c s moment doing (Err (fault.Refused refusal)) after made n ite
 abbrev unfallen : Step → Marked
 unfallen s = record { fell = false; step = s }
 
-pub extended_more : (h : History) (ss : List Marked) (m : Marked) → extend_all h (ss ++ m ∷ []) ≡ extended (extend_all h ss) (step_marked (extend_all h ss).state m)
+pub extended_more : (h : History) (ss : List Marked) (m : Marked) → extend_all h (ss ++ m ∷ []) ≡ extended (extend_all h ss) m.step (step_marked (extend_all h ss).state m)
 extended_more h [] m = refl
-extended_more h (s ∷ ss) m = extended_more (extended h (step_marked h.state s)) ss m
+extended_more h (s ∷ ss) m = extended_more (extended h s.step (step_marked h.state s)) ss m
 
 -- the state after a step is reached by one more step
 pub state_then : (c : Cluster) (r : Reached c) (m : Marked) (d : Done) → (if m.fell then fallen_answer c m.step else answer c m.step) ≡ Ok d → (history r.setup r.records (r.steps ++ m ∷ [])).state ≡ d.after
 state_then c r m d e =
     let steps_so : step_marked (history r.setup r.records r.steps).state m ≡ Ok d = subst (λ (x : Cluster). step_marked x m ≡ Ok d) r.is (marked c m d r.room e) in
-    ap (λ (x : History). x.state) (extended_more (opening r.setup r.records) r.steps m) ∙ ap (λ (x : Result Done ClusterFault). (extended (history r.setup r.records r.steps) x).state) steps_so
+    ap (λ (x : History). x.state) (extended_more (opening r.setup r.records) r.steps m) ∙ ap (λ (x : Result Done ClusterFault). (extended (history r.setup r.records r.steps) m.step x).state) steps_so
 
 pub streams_then_rise : MasterLaws → (c : Cluster) (s : Step) (moment : ℕ) (doing : Master → Doing) (answered : Result Outs MasterFault) (after : Option Master) → Reached c → Does c s moment (doing (master_of c)) → Answers answered (Some (master_of c)) after doing →
     IfOk answered (λ outs. AreRising (kept_ids (kept_streams c.streams) ++ outs.opened))

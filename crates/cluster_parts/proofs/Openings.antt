@@ -16,7 +16,6 @@ use Rattle.cluster_laws.specs.Parts.{AreAgentsOf, greeting, parts_of, recovered_
 use Rattle.cluster_laws.specs.Runs.{AreRising}
 use Rattle.cluster_steps.specs.declared.verdict.Sent as code
 use Rattle.cluster_steps.specs.declared.verdict.Verdict.TheVariants as verdicts
-use Rattle.cluster_entries.specs.Entries.{outputs_of}
 use Rattle.master_core.specs.Steps.{outs_of}
 use Rattle.master_state.specs.declared.fault.MasterFault.{MasterFault}
 use Rattle.master_state.specs.declared.fault.MasterFault.TheVariants as fault
@@ -33,7 +32,7 @@ use Rattle.cluster_parts.proofs.Outgoing.{kept_so, told_so}
 pub record OpenLaws : Type 0 where
   pub greet : GreetLaws
   pub fresh : (setup : Setup) (agents : List ConfiguredAgent) (records : List Durable) → AreAgentsOf agents records → new_master setup.run agents ≡ master_of (opened_over setup records)
-  pub stand : (setup : Setup) (records : List Durable) → GoodOpening setup.run records → StandIn (opening setup records).state (items_sent [] (open_cluster setup records).entry.outs.sent)
+  pub stand : (setup : Setup) (records : List Durable) → GoodOpening setup.run records → StandIn (opening setup records).state (items_sent [] (open_cluster setup records).outputs.sent)
   pub parts : (setup : Setup) (records : List Durable) → parts_of (open_cluster setup records).after.world.channels ≡ map recovered_part records
 
 all_up : (records : List Durable) → map up_over records ≡ map (kept_part []) (map recovered_part records)
@@ -50,7 +49,7 @@ first_outs laws setup agents records outs of is = is ∙ ap (λ (m : Master). ou
 
 parts_open : OpenLaws → (setup : Setup) (agents : List ConfiguredAgent) (records : List Durable) (outs : Outs) (made : Made) (started n : Option (Option Master)) (js : List Item) (ts : List KeptStream) →
     AreAgentsOf agents records → GoodOpening setup.run records → started ≡ Some (Some (new_master setup.run agents)) → outs ≡ outs_of (new_master setup.run agents) (greeting (new_master setup.run agents)) → Tells outs made started n [] js [] ts →
-    StandsFor (opening setup records).state n js ts × (made.outputs ≡ outputs_of (open_cluster setup records).entry.outs)
+    StandsFor (opening setup records).state n js ts × (made.outputs ≡ (open_cluster setup records).outputs)
 parts_open laws setup agents records outs made started n js ts of good begins brings t = (stands, outputs)
   where
     first : Cluster
@@ -65,7 +64,7 @@ parts_open laws setup agents records outs made started n js ts of good begins br
     outs_so : outs ≡ outs_of (master_of first) (greeting (master_of first))
     outs_so = first_outs laws setup agents records outs of brings
 
-    sends : D.entry.outs.sent ≡ map MailToAgent mails
+    sends : D.outputs.sent ≡ map MailToAgent mails
     sends = greeting_mails laws.greet first
 
     stands : StandsFor D.after n js ts
@@ -76,7 +75,7 @@ parts_open laws setup agents records outs made started n js ts of good begins br
       within = tt;
     }
 
-    outputs : made.outputs ≡ outputs_of D.entry.outs
+    outputs : made.outputs ≡ D.outputs
     outputs = ap (λ (m : Made). m.outputs) (t.is ∙ ap tells outs_so) ∙ ap (λ (xs : List code.Sent). sending xs) (sym (told_so mails)) ∙ ap (λ (xs : List Sent). sending xs) (sym sends)
 
 no_fall : {A : Type 0} (made : Made) → made ≡ ends_with verdicts.OutOfMemory → made.verdict ≡ verdicts.Ok → A
@@ -84,7 +83,7 @@ no_fall {A = A} made is fine = absurd (let clash : verdicts.OutOfMemory ≡ verd
 
 pub open_made : OpenLaws → (setup : Setup) (agents : List ConfiguredAgent) (records : List Durable) (answered : Result Outs MasterFault) (made : Made) (started n : Option (Option Master)) (js : List Item) (ts : List KeptStream) →
     AreAgentsOf agents records → GoodOpening setup.run records → Starts answered started setup.run agents → Settles answered made started n [] js [] ts → made.verdict ≡ verdicts.Ok →
-    StandsFor (opening setup records).state n js ts × (made.outputs ≡ outputs_of (open_cluster setup records).entry.outs)
+    StandsFor (opening setup records).state n js ts × (made.outputs ≡ (open_cluster setup records).outputs)
 open_made laws setup agents records (Ok outs) made started n js ts of good begins (inl t) fine = parts_open laws setup agents records outs made started n js ts of good begins.0 begins.1 t
 open_made laws setup agents records (Ok outs) made started n js ts of good begins (inr f) fine = no_fall made f.is fine
 open_made laws setup agents records (Err fault.OutOfMemory) made started n js ts of good begins f fine = no_fall made f.is fine

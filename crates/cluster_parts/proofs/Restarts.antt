@@ -11,7 +11,7 @@ use Rattle.cluster_steps.specs.declared.verdict.Sent.TheVariants.{ToAgent as Mai
 use Rattle.cluster_steps.specs.declared.verdict.Sent.{Sent}
 use Rattle.cluster_steps.specs.declared.step.Step.TheVariants.{StopMaster}
 use Rattle.cluster_steps.specs.declared.verdict.Verdict.TheVariants.{Ok as Fine}
-use Rattle.cluster_model.specs.Events.{Told}
+use Rattle.cluster_model.specs.Events.{StreamEvent}
 use Rattle.cluster_model.specs.Ids.{last_run}
 use Rattle.cluster_model.specs.Masters.{Master, moved, new_registers}
 use Rattle.cluster_model.specs.Sides.{Side, halted, new_run, new_side, restarted}
@@ -26,7 +26,6 @@ use Rattle.cluster_laws.specs.Runs.{AreRising, ids_of}
 use Rattle.cluster_steps.specs.declared.verdict.Sent as code
 use Rattle.cluster_steps.specs.declared.verdict.Verdict.TheVariants as verdicts
 use Rattle.master_core.specs.Steps.{outs_of}
-use Rattle.master_state.specs.Works.{written}
 use Rattle.master_state.specs.declared.fault.MasterFault.{MasterFault}
 use Rattle.master_state.specs.declared.fault.MasterFault.TheVariants as fault
 use Rattle.master_state.specs.declared.state.Outs.{Outs}
@@ -48,12 +47,12 @@ pub record StopLaws : Type 0 where
   pub stand : ItemsStand
   pub fresh : (setup : Setup) (agents : List ConfiguredAgent) (records : List Durable) → AreAgentsOf agents records → new_master setup.run agents ≡ master_of (opened_over setup records)
   pub state : (c : Cluster) → nat_lt c.world.run.number last_run ≡ true → (done c (master_stops c)).after ≡ (done (anew c) (greets_all (anew c))).after
-  pub mails : (c : Cluster) → nat_lt c.world.run.number last_run ≡ true → (done c (master_stops c)).entry.outs.sent ≡ (done (anew c) (greets_all (anew c))).entry.outs.sent
+  pub mails : (c : Cluster) → nat_lt c.world.run.number last_run ≡ true → (done c (master_stops c)).outputs.sent ≡ (done (anew c) (greets_all (anew c))).outputs.sent
   pub master : (c : Cluster) → master_of (anew c) ≡ next_master (master_of c)
   pub parts : (c : Cluster) → parts_of (done c (master_stops c)).after.world.channels ≡ parts_of c.world.channels
   pub parts_fallen : (c : Cluster) → parts_of (new_master_falls c).after.world.channels ≡ parts_of c.world.channels
-  pub hears : (streams : List Stream) (opens : List Numbered) (told : List Told) → AreWithin streams → kept_streams (streams_after streams opens told) ≡ heard opens (map written told) (kept_streams streams)
-  pub ids : (streams : List Stream) (opens : List Numbered) (told : List Told) → ids_of (streams_after streams opens told) ≡ kept_ids (kept_streams streams) ++ opens
+  pub hears : (streams : List Stream) (opens : List Numbered) (told : List StreamEvent) → AreWithin streams → kept_streams (streams_after streams opens told) ≡ heard opens told (kept_streams streams)
+  pub ids : (streams : List Stream) (opens : List Numbered) (told : List StreamEvent) → ids_of (streams_after streams opens told) ≡ kept_ids (kept_streams streams) ++ opens
   pub rising : (setup : Setup) (records : List Durable) (steps : List Marked) → AreRising (ids_of (history setup records steps).state.streams)
 
 -- ---- of its sides a new master has the names of the opening's records
@@ -130,8 +129,8 @@ anew_told laws c r items within stand later = record {
     mails : List ToAgent
     mails = (moved (master_of (anew c)) (greeting (master_of (anew c))).moves).sent
 
-    sends : D.entry.outs.sent ≡ map MailToAgent mails
-    sends = ap (λ (e : Effect). (done c e).entry.outs.sent) (sym stops) ∙ laws.mails c later ∙ greeting_mails laws.greet (anew c)
+    sends : D.outputs.sent ≡ map MailToAgent mails
+    sends = ap (λ (e : Effect). (done c e).outputs.sent) (sym stops) ∙ laws.mails c later ∙ greeting_mails laws.greet (anew c)
 
     after_is : master_of D.after ≡ master_of (anew c)
     after_is = ap (λ (e : Effect). master_of (done c e).after) (sym stops) ∙ ap (λ (x : Cluster). master_of x) (laws.state c later) ∙ greeted_master laws.greet (anew c)
@@ -166,7 +165,7 @@ anew_falls laws c items r within stand later = record {
     anew_channels : List Channel
     anew_channels = map (with_side restarted) c.world.channels
 
-    silent : D.entry.outs.sent ≡ []
+    silent : D.outputs.sent ≡ []
     silent = append_same (sent_between c.world.channels anew_channels) [] (sent_between anew_channels (map (with_side halted) anew_channels) ++ []) [] (sides_send_nothing restarted c.world.channels)
         (ap (λ (xs : List Sent). xs ++ []) (sides_send_nothing halted anew_channels))
 
@@ -184,7 +183,7 @@ last_halts laws c master items ss r stands none = subst (Restarts c (ends_with v
     answers : answer c StopMaster ≡ Ok D
     answers = ap (λ (e : Effect). Ok (done c e)) stops
 
-    silent : D.entry.outs.sent ≡ []
+    silent : D.outputs.sent ≡ []
     silent = ap (λ (xs : List Sent). xs ++ []) (sides_send_nothing halted c.world.channels)
 
     halted_so : Restarts c (ends_with verdicts.Ok) c.world.run.number None items (kept_streams c.streams)

@@ -1,9 +1,7 @@
 -- Calls are sent, and events are taken.
 use Rattle.std.proofs.Common.{◌≡◌, suc, Bool, false, List, [], ◌∷◌, ◌++◌, map, Option, Some, None, option_map, Ok, Err, refl, sym, ap, ◌∙◌, subst}
-use Rattle.event_json.specs.declared.event.Event as json
 use Rattle.mails.specs.declared.call.Call.{Call}
 use Rattle.mails.specs.declared.record.Durable.{Durable}
-use Rattle.master_state.specs.Works.{event_of}
 use Rattle.names_core.specs.Ids.{Numbered}
 use Rattle.cluster_histories.specs.Clusters.{Cluster, Stream}
 use Rattle.cluster_steps.specs.declared.step.Step.TheVariants.{Send, Take}
@@ -67,20 +65,21 @@ send_takes law c stream call given made told more p js of same as_item as_told a
 pub record TakeLaws : Type 0 where
   pub stand : ItemsStand
   pub rising : (setup : Setup) (records : List Durable) (steps : List Marked) → AreRising (ids_of (history setup records steps).state.streams)
-  pub next : (c : Cluster) (id : Numbered) → next_on id (kept_streams c.streams) ≡ option_map event_of (untaken c id)
+  pub next : (c : Cluster) (id : Numbered) → next_on id (kept_streams c.streams) ≡ untaken c id
   pub answers : (c : Cluster) (id : Numbered) → answer c (Take id) ≡ takes_event c id (untaken c id)
   pub takes : (streams : List Stream) (id : Numbered) → kept_streams (map (takes_one id) streams) ≡ taken id (kept_streams streams)
   pub within : (c : Cluster) (id : Numbered) (event : Event) → AreRising (ids_of c.streams) → AreWithin c.streams → untaken c id ≡ Some event → AreWithin (map (takes_one id) c.streams)
 
 abbrev taken_so : Cluster → Numbered → Event → Done
 taken_so c id event = record {
-  entry = record { verdict = Fine; outs = record { events = []; closed = []; sent = []; taken = record { stream = id; event = event } ∷ [] } };
+  verdict = Fine;
+  outputs = taking_out id event;
   happenings = [];
   after = record c { streams = map (takes_one id) c.streams; entries = suc c.entries };
 }
 
 take_one : TakeLaws → (c : Cluster) (id : Numbered) (event : Event) (master : Option (Option Master)) (sent : List Item) → Reached c → StandsFor c master sent (kept_streams c.streams) → untaken c id ≡ Some event →
-    MasterMakes c (Take id) c.last_tick (taking id (event_of event)) master sent (taken id (kept_streams c.streams))
+    MasterMakes c (Take id) c.last_tick (taking id event) master sent (taken id (kept_streams c.streams))
 take_one laws c id event master sent r stands e = record {
   done = taken_so c id event;
   answers = answers;
@@ -102,28 +101,18 @@ take_one laws c id event master sent r stands e = record {
     answers : answer c (Take id) ≡ Ok (taken_so c id event)
     answers = laws.answers c id ∙ ap (takes_event c id) e
 
-pub take_made : TakeLaws → (c : Cluster) (id : Numbered) (event : json.Event) (master : Option (Option Master)) (sent : List Item) → Reached c → StandsFor c master sent (kept_streams c.streams) → next_on id (kept_streams c.streams) ≡ Some event →
+pub take_made : TakeLaws → (c : Cluster) (id : Numbered) (event : Event) (master : Option (Option Master)) (sent : List Item) → Reached c → StandsFor c master sent (kept_streams c.streams) → next_on id (kept_streams c.streams) ≡ Some event →
     MasterMakes c (Take id) c.last_tick (taking id event) master sent (taken id (kept_streams c.streams))
-take_made laws c id event master sent r stands e = by (untaken c id) refl (sym (laws.next c id) ∙ e)
-  where
-    by : (o : Option Event) → untaken c id ≡ o → option_map event_of (untaken c id) ≡ Some event → MasterMakes c (Take id) c.last_tick (taking id event) master sent (taken id (kept_streams c.streams))
-    by None f g = absurd (let clash : None ≡ Some event = ap (option_map event_of) (sym f) ∙ g in cc)
-    by (Some x) f g =
-        let same : event_of x ≡ event = (let s : Some (event_of x) ≡ Some event = ap (option_map event_of) (sym f) ∙ g in cc) in
-        subst (λ (y : json.Event). MasterMakes c (Take id) c.last_tick (taking id y) master sent (taken id (kept_streams c.streams))) same (take_one laws c id x master sent r stands f)
+take_made laws c id event master sent r stands e = take_one laws c id event master sent r stands (sym (laws.next c id) ∙ e)
 
 pub take_refused : TakeLaws → (c : Cluster) (id : Numbered) → next_on id (kept_streams c.streams) ≡ None → answer c (Take id) ≡ Err NoSuchMail
-take_refused laws c id e = by (untaken c id) refl (sym (laws.next c id) ∙ e)
-  where
-    by : (o : Option Event) → untaken c id ≡ o → option_map event_of (untaken c id) ≡ None → answer c (Take id) ≡ Err NoSuchMail
-    by None f g = laws.answers c id ∙ ap (takes_event c id) f
-    by (Some x) f g = absurd (let clash : Some (event_of x) ≡ None = ap (option_map event_of) (sym f) ∙ g in cc)
+take_refused laws c id e = laws.answers c id ∙ ap (takes_event c id) (sym (laws.next c id) ∙ e)
 
 abbrev pub TakeLaw : Type 0
-TakeLaw = (c : Cluster) (id : Numbered) (event : json.Event) (master : Option (Option Master)) (sent : List Item) → Reached c → StandsFor c master sent (kept_streams c.streams) → next_on id (kept_streams c.streams) ≡ Some event →
+TakeLaw = (c : Cluster) (id : Numbered) (event : Event) (master : Option (Option Master)) (sent : List Item) → Reached c → StandsFor c master sent (kept_streams c.streams) → next_on id (kept_streams c.streams) ≡ Some event →
     MasterMakes c (Take id) c.last_tick (taking id event) master sent (taken id (kept_streams c.streams))
 
-pub take_takes : TakeLaw → (c : Cluster) (id : Numbered) (event : json.Event) (outs : Outputs) (p : Parts) (ts : List KeptStream) → PartsOf c p → next_on id p.streams ≡ Some event → outs ≡ taking_out id event → ts ≡ taken id p.streams →
+pub take_takes : TakeLaw → (c : Cluster) (id : Numbered) (event : Event) (outs : Outputs) (p : Parts) (ts : List KeptStream) → PartsOf c p → next_on id p.streams ≡ Some event → outs ≡ taking_out id event → ts ≡ taken id p.streams →
     Takes c (Take id) (record { verdict = verdicts.Ok; outputs = outs; durable = None }) (record p { streams = ts })
 take_takes law c id event outs p ts of e is left =
     let same = of.stands.as_others.as_streams in

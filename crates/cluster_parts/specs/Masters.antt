@@ -1,6 +1,6 @@
 -- What stands for the master's part of a state: the master, all that was sent, and the streams.
 use Rattle.std.specs.Prelude.{◌≡◌, ◌⊎◌, ◌++◌, ℕ, if◌then◌else◌, List, [], map, Option, Some, None, Result, Ok, Err}
-use Rattle.event_json.specs.declared.event.Event.{Event}
+use Rattle.scheduler_events.specs.declared.event.Event.{Event}
 use Rattle.names_core.specs.Ids.{Numbered}
 use Rattle.mails.specs.declared.mail.ToAgent.{ToAgent}
 use Rattle.mails.specs.declared.refusal.MasterRefusal.{MasterRefusal}
@@ -18,7 +18,6 @@ use Rattle.cluster_steps.specs.declared.verdict.Sent.{Sent}
 use Rattle.cluster_steps.specs.declared.verdict.Sent.TheVariants as sent
 use Rattle.cluster_steps.specs.declared.verdict.Verdict.{Verdict}
 use Rattle.cluster_steps.specs.declared.verdict.Verdict.TheVariants as verdicts
-use Rattle.cluster_entries.specs.Entries.{outputs_of}
 use Rattle.cluster_steps.specs.Verdicts.{fell}
 use Rattle.master_state.specs.declared.fault.MasterFault.{MasterFault}
 use Rattle.master_state.specs.declared.fault.MasterFault.TheVariants as fault
@@ -47,8 +46,8 @@ pub record MasterMakes (c : Cluster) (step : Step) (moment : ℕ) (made : Made)
     (streams : List KeptStream) : Type 0 where
   pub done : Done
   pub answers : (if fell made.verdict then fallen_answer c step else answer c step) ≡ Ok done
-  pub ends : made.verdict ≡ done.entry.verdict
-  pub brings : made.outputs ≡ outputs_of done.entry.outs
+  pub ends : made.verdict ≡ done.verdict
+  pub brings : made.outputs ≡ done.outputs
   pub drafts : made.durable ≡ None
   pub stands : StandsFor done.after master items_sent streams
   pub leaves_parts : parts_of done.after.world.channels ≡ parts_of c.world.channels

@@ -20,7 +20,6 @@ use Rattle.cluster_entries.specs.declared.entry.Outputs.{Outputs}
 use Rattle.cluster_steps.specs.declared.verdict.Sent.{Sent}
 use Rattle.cluster_steps.specs.declared.verdict.Verdict.{Verdict}
 use Rattle.cluster_steps.specs.declared.fault.ClusterFault.{ClusterFault}
-use Rattle.cluster_entries.specs.Entries.{outputs_of}
 use Rattle.cluster_steps.specs.Verdicts.{fell}
 use Rattle.cluster_parts.specs.Agents.{KeptAgent}
 
@@ -57,8 +56,8 @@ pub record Makes (c : Cluster) (step : Step) (verdict : Verdict) (outputs : Outp
     (agents : List KeptAgent) (sent : List Item) : Type 0 where
   pub done : Done
   pub answers : (if fell verdict then fallen_answer c step else answer c step) ≡ Ok done
-  pub ends : verdict ≡ done.entry.verdict
-  pub brings : outputs ≡ outputs_of done.entry.outs
+  pub ends : verdict ≡ done.verdict
+  pub brings : outputs ≡ done.outputs
   pub keeps_agents : agents ≡ kept_agents done.after
   pub keeps_items : StandIn done.after sent
   pub leaves_master : master_of done.after ≡ master_of c

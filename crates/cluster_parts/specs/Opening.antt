@@ -5,7 +5,6 @@ use Rattle.agent_sides.specs.declared.config.ConfiguredAgent.{ConfiguredAgent}
 use Rattle.cluster_model.specs.Masters.{Master}
 use Rattle.cluster_histories.specs.Steps.{Setup, open_cluster, opening}
 use Rattle.cluster_laws.specs.Parts.{recovered_part}
-use Rattle.cluster_entries.specs.Entries.{outputs_of}
 use Rattle.master_core.specs.Steps.{greeting, outs_of}
 use Rattle.master_state.specs.States.{fresh}
 use Rattle.master_state.specs.Works.{master_of}
@@ -34,9 +33,9 @@ Starts (Ok outs) master run agents =
 Starts (Err fault.OutOfMemory) master run agents = ⊤
 Starts (Err (fault.Refused refusal)) master run agents = ⊥
 
--- what stands for the opening, and what its entry tells
+-- what stands for the opening, and what it brings out
 pub record Opens (setup : Setup) (records : List Durable) (opened : Opened) : Type 0 where
   pub agents : opened.agents.items ≡ kept_agents (opening setup records).state
   pub stands : StandsFor (opening setup records).state opened.master opened.items opened.streams
   pub in_run : (opening setup records).state.world.run.number ≡ setup.run
-  pub outputs : opened.outputs ≡ outputs_of (open_cluster setup records).entry.outs
+  pub outputs : opened.outputs ≡ (open_cluster setup records).outputs

@@ -7,7 +7,6 @@ use Rattle.cluster_steps.specs.declared.step.Step.{Step}
 use Rattle.cluster_steps.specs.declared.step.Step.TheVariants.{Prepare}
 use Rattle.cluster_histories.specs.Steps.{Done, answer, fallen_answer}
 use Rattle.cluster_laws.specs.Parts.{AreAgentsOf}
-use Rattle.cluster_entries.specs.Entries.{outputs_of}
 use Rattle.cluster_steps.specs.Verdicts.{fell}
 use Rattle.cluster_steps.specs.declared.verdict.Verdict.{Verdict}
 use Rattle.cluster_steps.specs.declared.fault.ClusterFault.{ClusterFault}
@@ -58,8 +57,8 @@ record_of step verdict agents = None
 pub record Takes (c : Cluster) (step : Step) (made : Made) (p : Parts) : Type 0 where
   pub done : Done
   pub answers : (if fell made.verdict then fallen_answer c step else answer c step) ≡ Ok done
-  pub ends : made.verdict ≡ done.entry.verdict
-  pub brings : made.outputs ≡ outputs_of done.entry.outs
+  pub ends : made.verdict ≡ done.verdict
+  pub brings : made.outputs ≡ done.outputs
   pub drafts : made.durable ≡ record_of step made.verdict p.agents.items
   pub stands : Stands done.after p
 

@@ -7,7 +7,6 @@ use Rattle.cluster_model.specs.Masters.{Master}
 use Rattle.cluster_histories.specs.Steps.{Done, answer, fallen_answer}
 use Rattle.cluster_laws.specs.Parts.{parts_of}
 use Rattle.cluster_laws.specs.declared.item.Item.{Item}
-use Rattle.cluster_entries.specs.Entries.{outputs_of}
 use Rattle.cluster_steps.specs.Verdicts.{fell}
 use Rattle.told_streams.specs.declared.kept.KeptStream.{KeptStream}
 use Rattle.cluster_parts.specs.Masters.{StandsFor}
@@ -24,8 +23,8 @@ pub record Restarts (c : Cluster) (made : Made) (run : ℕ) (master : Option (Op
   pub done : Done
   pub answers : (if fell made.verdict then fallen_answer c StopMaster else answer c StopMaster)
       ≡ Ok done
-  pub ends : made.verdict ≡ done.entry.verdict
-  pub brings : made.outputs ≡ outputs_of done.entry.outs
+  pub ends : made.verdict ≡ done.verdict
+  pub brings : made.outputs ≡ done.outputs
   pub drafts : made.durable ≡ None
   pub stands : StandsFor done.after master sent streams
   pub leaves_parts : parts_of done.after.world.channels ≡ parts_of c.world.channels

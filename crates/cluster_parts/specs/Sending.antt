@@ -1,7 +1,7 @@
 -- What an agent's commit sends: as an entry tells it, and as it is kept.
 use Rattle.std.specs.Prelude.{◌≡◌, ℕ, List, map, Option, Some, None, ⊤}
 use Rattle.mails.specs.declared.mail.AgentMail.{AgentMail}
-use Rattle.event_json.specs.declared.event.Event.{Event}
+use Rattle.scheduler_events.specs.declared.event.Event.{Event}
 use Rattle.cluster_model.specs.Agents.{Draft}
 use Rattle.cluster_laws.specs.declared.item.Item.{Item}
 use Rattle.cluster_laws.specs.declared.item.Item.TheVariants as items

@@ -13,7 +13,6 @@ ghost use Rattle.role_weights.specs.Weights.{RoleWeight};
 ghost use Rattle.cluster_model.specs.Masters.{Master as ModelMaster};
 ghost use Rattle.cluster_model.specs.Openings.{GoodOpening};
 ghost use Rattle.cluster_histories.specs.Steps.{Setup, open_cluster, opening};
-ghost use Rattle.cluster_entries.specs.Entries.{outputs_of};
 ghost use Rattle.cluster_steps.specs.declared.verdict.Verdict.TheVariants as verdicts;
 ghost use Rattle.cluster_steps.specs.declared.fault.ClusterFault.TheVariants.{OutOfMemory};
 ghost use Rattle.mails.specs.declared.record.Durable.{Durable as Record};
@@ -39,7 +38,7 @@ use post_rules::Post;
 use std::alloc::{AllocError, Global};
 use told_streams::Streams;
 
-/// What a cluster has at its opening, and what the opening's entry tells.
+/// What a cluster has at its opening, and what the opening brings out.
 #[derive(Drop)]
 pub struct Opened {
     pub master: Option<Master>,
@@ -53,7 +52,7 @@ pub struct Opened {
 /// and so do agents that come up over their records.
 fn openings_are_made()
     ensures made { (setup : Setup) (agents : List ConfiguredAgent) (records : List Record) (answered : Result OutsSo Fault) (made : MadeSo) (started n : Option (Option ModelMaster)) (js : List Item) (ts : List KeptStream) →
-        AreAgentsOf agents records → GoodOpening setup.run records → Starts answered started setup.run agents → Settles answered made started n [] js [] ts → made.verdict ≡ verdicts.Ok → StandsFor (opening setup records).state n js ts × (made.outputs ≡ outputs_of (open_cluster setup records).entry.outs) }
+        AreAgentsOf agents records → GoodOpening setup.run records → Starts answered started setup.run agents → Settles answered made started n [] js [] ts → made.verdict ≡ verdicts.Ok → StandsFor (opening setup records).state n js ts × (made.outputs ≡ (open_cluster setup records).outputs) }
     ensures runs { (setup : Setup) (records : List Record) →
         (opening setup records).state.world.run.number ≡ setup.run }
     ensures agents { (setup : Setup) (records : List Record) →

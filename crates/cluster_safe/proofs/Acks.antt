@@ -18,7 +18,7 @@ use Rattle.role_weights.specs.Weights.{RoleWeight}
 use Rattle.cluster_model.specs.Ids.{is_among, last_number}
 use Rattle.cluster_model.specs.Sides.{Run, Side, offer_rows, sends_nothing, Launching, launch_all, is_named, is_good, used_offers, without_used, accepted, last_session, opens, shut, SideStep, MakeOffer, Withdraw, LaunchFrom, SendKill, SendAck, SendEnd, SendHello, SendAgain, Lose}
 use Rattle.cluster_model.specs.Channels.{Channel, ChannelStep, ByMaster, Hear, ByAgent, happens, World, Happening, At, TearDown, Restart, Halt, behind, in_front, at_agent, with_side, after, after_all}
-use Rattle.cluster_model.specs.Events.{MadeOffer, FAILURE}
+use Rattle.cluster_model.specs.Events.{MadeOffer, Failure}
 use Rattle.cluster_model.specs.Masters.{Framework, Master, Move, AtSide, TearDownAll, RestartAll, HaltAll, Doing, nothing, refused, saying, moving, framework_of, is_torn, with_framework, tells_all, Placed, all_booked, held, is_of, withdraws_on, withdraws, without_filters_on, side_of, has_numbers, may_have_numbers}
 use Rattle.cluster_model.specs.Calls.{frameworks_limit, to_list, subscribed, removed, resubscribed, is_unheard_of, sides_with_tasks, on_teardown, answers_held, Given, good_side, given_by, Accepting, accepts_all, passes_limits, accepted_as, accepted_from, on_accept, on_decline, on_revive, on_suppress, commanding, on_kill, is_last_heard, on_acknowledge, on_reconcile, is_stream, on_its_stream, by_known, called}
 use Rattle.cluster_model.specs.Mails.{judged, rescinds, loses, is_to_end, session_opens, goes_with, mailed_as, mailed, ticks, ticked, agent_lost, hung_up_by, hung_up}
@@ -209,7 +209,7 @@ ticked_ok A n m now = mapped_ok A n ticks (λ s. cond_both s.is_open SendAgain S
 pub lost_ok : (A : Numbered → ℕ → Type 0) (n : ℕ) (m : Master) (s : Side) → Each (MoveOk A n) (agent_lost m s).moves
 lost_ok A n m s = by s.is_open
   where
-    by : (b : Bool) → Each (MoveOk A n) (if b then record { refusal = None; moves = AtSide s.name Lose ∷ AtSide s.name SendHello ∷ []; events = rescinds m s.offers ++ loses m s.name s.booked ++ tells_all m.registers.frameworks (FAILURE s.name); opens = []; closes = []; registers = without_filters_on s.name m.registers } else nothing m).moves
+    by : (b : Bool) → Each (MoveOk A n) (if b then record { refusal = None; moves = AtSide s.name Lose ∷ AtSide s.name SendHello ∷ []; events = rescinds m s.offers ++ loses m s.name s.booked ++ tells_all m.registers.frameworks (Failure s.name); opens = []; closes = []; registers = without_filters_on s.name m.registers } else nothing m).moves
     by true = (tt, (tt, tt))
     by false = tt
 

@@ -130,7 +130,7 @@ pub master_alone : (c : Cluster) (d : Doing) → master_of (done c (effect_of []
 master_alone c d = let all = all_alike d.moves c.world [] in ap (λ (x : Moved). record { run = x.run; sides = x.sides; registers = d.registers }) (sym all.1)
 
 -- and so are the mails of its entry
-pub mails_alone : (c : Cluster) (d : Doing) → (done c (effect_of [] d)).entry.outs.sent ≡ map MailToAgent (moved (master_of c) d.moves).sent
+pub mails_alone : (c : Cluster) (d : Doing) → (done c (effect_of [] d)).outputs.sent ≡ map MailToAgent (moved (master_of c) d.moves).sent
 mails_alone c d = let all = all_alike d.moves c.world [] in all.2 ∙ ap (λ (x : Moved). map MailToAgent x.sent) (sym all.1)
 
 -- a mail that a side hears
@@ -153,7 +153,7 @@ hear_alone agent place run mail (c ∷ cs) x f e = by (bytes_eq c.side.name agen
 -- the master after it hears a mail: its side has heard it, and then it moves
 pub hears_alone : (c : Cluster) (agent : List ℕ) (place : ℕ) (x : Channel) (mail : AgentMail) (d : Doing) → channel_of c agent ≡ Some x → slice_get x.to_master place ≡ Some mail →
     (master_of (done c (effect_of (At agent (Hear place) ∷ []) d)).after ≡ after_doing (having_heard (master_of c) agent mail) d) ×
-    ((done c (effect_of (At agent (Hear place) ∷ []) d)).entry.outs.sent ≡ map MailToAgent (moved (having_heard (master_of c) agent mail) d.moves).sent)
+    ((done c (effect_of (At agent (Hear place) ∷ []) d)).outputs.sent ≡ map MailToAgent (moved (having_heard (master_of c) agent mail) d.moves).sent)
 hears_alone c agent place x mail d f e = (
   ap (λ (y : Moved). record { run = y.run; sides = y.sides; registers = d.registers }) whole,
   ap (λ xs. xs ++ sent_by (map happening_of d.moves) (after c.world (At agent (Hear place)))) h.2 ∙ (all.2 ∙ ap (λ (y : Moved). map MailToAgent y.sent) whole),

@@ -1,6 +1,6 @@
 -- What is known of each update that a mail tells is known of it where the master tells it: the events of each step.
 use Rattle.std.proofs.Common.{ℕ, suc, Bool, true, false, not, ◌&&◌, ◌||◌, List, [], ◌∷◌, ◌++◌, length, map, filter, flat_map, fold, Option, Some, None, nat_le}
-use Rattle.std.specs.Prelude.{⊤, if◌then◌else◌}
+use Rattle.std.specs.Prelude.{IfSome, ⊤, if◌then◌else◌}
 use Rattle.std.specs.List.{AllByRecursion as Each, find, list_any}
 use Rattle.std.proofs.lemmas.Bool.{cond_both}
 use Rattle.names_core.specs.Ids.{Numbered}
@@ -17,7 +17,8 @@ use Rattle.names_core.specs.declared.state.TaskState.TheVariants.{Lost, Error}
 use Rattle.role_weights.specs.Weights.{RoleWeight}
 use Rattle.cluster_model.specs.Ids.{same, last_number}
 use Rattle.cluster_model.specs.Sides.{Side, opens, SendKill, SendAck, SendEnd, SendHello, Lose}
-use Rattle.cluster_model.specs.Events.{REMOVED, MadeOffer, Event, SUBSCRIBED, OFFERS, RESCIND, UPDATE, FAILURE, FAILED_OVER, HEARTBEAT, Told}
+use Rattle.cluster_model.specs.Events.{MadeOffer, Event, StreamEvent, failover_error, offer_of, update_event}
+use Rattle.scheduler_events.specs.declared.event.Event.TheVariants as events
 use Rattle.cluster_model.specs.Masters.{Framework, Registers, Master, Move, AtSide, TearDownAll, Doing, nothing, refused, saying, moving, moved, framework_of, is_torn, with_framework, on_stream, stream_of, tells, tells_all, Placed, all_booked, put_placed, held_among, held, is_of, withdraws, without_filters_on, side_of, has_numbers, may_have_numbers}
 use Rattle.cluster_model.specs.Calls.{frameworks_limit, new_stream, to_list, subscribed, removed, resubscribed, is_unheard_of, sides_with_tasks, on_teardown, answers, answers_held, Given, good_side, given_by, Accepting, is_covered, launching, answering, accepts_as, accepts_one, accepts_all, passes_limits, accepted_as, accepted_from, on_accept, on_decline, on_revive, on_suppress, commanding, on_kill, is_last_heard, on_acknowledge, is_live_of, is_awaited, reconciles_as, reconciles, on_reconcile, is_stream, on_its_stream, by_known, called}
 use Rattle.cluster_model.specs.Mails.{judged, rescinds, loses, is_reported, session_opens, news_of, goes_with, mailed_as, mailed, is_due, beats, ticked, agent_lost, hung_up_by, hung_up}
@@ -34,7 +35,7 @@ TellAt A None uuid state = ⊥
 TellAt A (Some agent) uuid state = A agent uuid.key uuid.k state
 
 abbrev pub TellOk : (List ℕ → Numbered → ℕ → TaskState → Type 0) → Event → Type 0
-TellOk A (UPDATE task state agent (Some uuid)) = TellAt A agent uuid state
+TellOk A (events.Update status) = IfSome status.update (λ uuid. TellAt A status.agent uuid status.state)
 TellOk A event = ⊤
 
 -- P holds of the key, the number and the state of an update that a mail tells
@@ -43,14 +44,14 @@ MailOk P (Report session run tasks total) = ⊤
 MailOk P (Applied session count) = ⊤
 MailOk P (Update session key k state ended) = P key k state
 
-abbrev pub EventOk : (List ℕ → Numbered → ℕ → TaskState → Type 0) → Told → Type 0
+abbrev pub EventOk : (List ℕ → Numbered → ℕ → TaskState → Type 0) → StreamEvent → Type 0
 EventOk A t = TellOk A t.event
 
 on_ok : (A : List ℕ → Numbered → ℕ → TaskState → Type 0) (o : Option Numbered) (e : Event) → TellOk A e → Each (EventOk A) (on_stream o e)
 on_ok A None e h = tt
 on_ok A (Some s) e h = (h, tt)
 
-flat_ok : {X : Type 0} (A : List ℕ → Numbered → ℕ → TaskState → Type 0) (g : X → List Told) → ((x : X) → Each (EventOk A) (g x)) → (xs : List X) → Each (EventOk A) (flat_map g xs)
+flat_ok : {X : Type 0} (A : List ℕ → Numbered → ℕ → TaskState → Type 0) (g : X → List StreamEvent) → ((x : X) → Each (EventOk A) (g x)) → (xs : List X) → Each (EventOk A) (flat_map g xs)
 flat_ok A g f [] = tt
 flat_ok A g f (x ∷ xs) = each_append (EventOk A) (g x) (flat_map g xs) (f x) (flat_ok A g f xs)
 
@@ -58,7 +59,7 @@ tells_ok : (A : List ℕ → Numbered → ℕ → TaskState → Type 0) (m : Mas
 tells_ok A m framework e h = on_ok A (stream_of (framework_of m framework)) e h
 
 answers_ok : (A : List ℕ → Numbered → ℕ → TaskState → Type 0) (f : Framework) (task : List ℕ) (state : TaskState) (agent : Option (List ℕ)) → Each (EventOk A) (answers f task state agent)
-answers_ok A f task state agent = on_ok A f.stream (UPDATE task state agent None) tt
+answers_ok A f task state agent = on_ok A f.stream (update_event task state agent None) tt
 
 if_events : (A : List ℕ → Numbered → ℕ → TaskState → Type 0) (b : Bool) (x y : Doing) → Each (EventOk A) x.events → Each (EventOk A) y.events → Each (EventOk A) (if b then x else y).events
 if_events A true x y h k = h
@@ -73,7 +74,7 @@ known_events A m stream None doing h = tt
 known_events A m stream (Some f) doing h = if_events A (is_torn m f.id) (refused m NoSuchFramework) (on_its_stream m stream f.stream (doing f)) tt (stream_events A m stream f.stream (doing f) (h f))
 
 subscribed_events : (A : List ℕ → Numbered → ℕ → TaskState → Type 0) (m : Master) (r : Registers) (id : Numbered) (role : List ℕ) (known : Option Framework) → Each (EventOk A) (subscribed m r id role known).events
-subscribed_events A m r id role known = each_append (EventOk A) (on_stream (stream_of known) FAILED_OVER) (on_stream (Some (new_stream m)) (SUBSCRIBED id)) (on_ok A (stream_of known) FAILED_OVER tt) (tt, tt)
+subscribed_events A m r id role known = each_append (EventOk A) (on_stream (stream_of known) failover_error) (on_stream (Some (new_stream m)) (events.Subscribed id)) (on_ok A (stream_of known) failover_error tt) (tt, tt)
 
 resubscribed_events : (A : List ℕ → Numbered → ℕ → TaskState → Type 0) (m : Master) (id : Numbered) (role : List ℕ) (o : Option Framework) → Each (EventOk A) (resubscribed m id role o).events
 resubscribed_events A m id role None = if_events A (nat_le frameworks_limit (length m.registers.frameworks)) (refused m LimitExceeded) (subscribed m m.registers id role None) tt (subscribed_events A m m.registers id role None)
@@ -103,7 +104,7 @@ kill_events : (A : List ℕ → Numbered → ℕ → TaskState → Type 0) (m : 
 kill_events A m task agent f None = answers_ok A f task Lost agent
 kill_events A m task agent f (Some p) = if_events A p.booked.ended (saying m (answers_held f p)) (commanding m (side_of m p.agent) (AtSide p.agent (SendKill p.booked.job.key))) (answers_ok A f p.booked.job.name p.booked.state (Some p.agent)) (commanding_events A m (side_of m p.agent) (AtSide p.agent (SendKill p.booked.job.key)))
 
-told_if : (A : List ℕ → Numbered → ℕ → TaskState → Type 0) (b : Bool) (x y : List Told) → Each (EventOk A) x → Each (EventOk A) y → Each (EventOk A) (if b then x else y)
+told_if : (A : List ℕ → Numbered → ℕ → TaskState → Type 0) (b : Bool) (x y : List StreamEvent) → Each (EventOk A) x → Each (EventOk A) y → Each (EventOk A) (if b then x else y)
 told_if A true x y h k = h
 told_if A false x y h k = k
 
@@ -134,17 +135,17 @@ called_events A m stream (Reconcile framework tasks) = known_events A m stream (
 -- mails, Ticks, losses, hang-ups, rounds
 
 rescinds_ok : (A : List ℕ → Numbered → ℕ → TaskState → Type 0) (m : Master) (os : List Offer) → Each (EventOk A) (rescinds m os)
-rescinds_ok A m os = flat_ok A (λ (o : Offer). tells m o.framework (RESCIND o.id)) (λ o. tells_ok A m o.framework (RESCIND o.id) tt) os
+rescinds_ok A m os = flat_ok A (λ (o : Offer). tells m o.framework (events.Rescind o.id)) (λ o. tells_ok A m o.framework (events.Rescind o.id) tt) os
 
 loses_ok : (A : List ℕ → Numbered → ℕ → TaskState → Type 0) (m : Master) (agent : List ℕ) (bs : List Booked) → Each (EventOk A) (loses m agent bs)
-loses_ok A m agent bs = flat_ok A (λ (b : Booked). if b.ended then [] else tells m b.job.framework (UPDATE b.job.name Lost (Some agent) None)) (λ b. told_if A b.ended [] (tells m b.job.framework (UPDATE b.job.name Lost (Some agent) None)) tt (tells_ok A m b.job.framework (UPDATE b.job.name Lost (Some agent) None) tt)) bs
+loses_ok A m agent bs = flat_ok A (λ (b : Booked). if b.ended then [] else tells m b.job.framework (update_event b.job.name Lost (Some agent) None)) (λ b. told_if A b.ended [] (tells m b.job.framework (update_event b.job.name Lost (Some agent) None)) tt (tells_ok A m b.job.framework (update_event b.job.name Lost (Some agent) None) tt)) bs
 
 goes_events : (A : List ℕ → Numbered → ℕ → TaskState → Type 0) (m : Master) (s : Side) (mail : AgentMail) → MailOk (A s.name) mail → Each (EventOk A) (goes_with m s mail).events
 goes_events A m s (Report session number tasks total) h = if_events A (opens m.run s session number) (session_opens m s tasks) (nothing m)
     (each_append (EventOk A) (rescinds m s.offers) (loses m s.name (filter (λ b. not (is_reported tasks b)) s.booked)) (rescinds_ok A m s.offers) (loses_ok A m s.name (filter (λ b. not (is_reported tasks b)) s.booked))) tt
 goes_events A m s (Applied session count) h = tt
 goes_events A m s (Update session key k state ended) h = flat_ok A (news_of m s.name key k state)
-    (λ b. told_if A (same b.job.key key && nat_le b.heard (suc k)) (tells m b.job.framework (UPDATE b.job.name state (Some s.name) (Some (record { key = key; k = k })))) [] (tells_ok A m b.job.framework (UPDATE b.job.name state (Some s.name) (Some (record { key = key; k = k }))) h) tt) s.booked
+    (λ b. told_if A (same b.job.key key && nat_le b.heard (suc k)) (tells m b.job.framework (update_event b.job.name state (Some s.name) (Some (record { key = key; k = k })))) [] (tells_ok A m b.job.framework (update_event b.job.name state (Some s.name) (Some (record { key = key; k = k }))) h) tt) s.booked
 
 mailed_as_events : (A : List ℕ → Numbered → ℕ → TaskState → Type 0) (m : Master) (s : Side) (mail : AgentMail) (o : Option MasterRefusal) → MailOk (A s.name) mail → Each (EventOk A) (mailed_as m s mail o).events
 mailed_as_events A m s mail None h = goes_events A m s mail h
@@ -161,13 +162,13 @@ pub mailed_events : (A : List ℕ → Numbered → ℕ → TaskState → Type 0)
 mailed_events A m s mail h = mailed_as_events A m s mail (judged m.run s mail) h
 
 pub ticked_events : (A : List ℕ → Numbered → ℕ → TaskState → Type 0) (m : Master) (now : ℕ) → Each (EventOk A) (ticked m now).events
-ticked_events A m now = flat_ok A (beats now) (λ f. told_if A (is_due now f) (on_stream f.stream HEARTBEAT) [] (on_ok A f.stream HEARTBEAT tt) tt) m.registers.frameworks
+ticked_events A m now = flat_ok A (beats now) (λ f. told_if A (is_due now f) (on_stream f.stream events.Heartbeat) [] (on_ok A f.stream events.Heartbeat tt) tt) m.registers.frameworks
 
 pub lost_events : (A : List ℕ → Numbered → ℕ → TaskState → Type 0) (m : Master) (s : Side) → Each (EventOk A) (agent_lost m s).events
-lost_events A m s = if_events A s.is_open (record { refusal = None; moves = AtSide s.name Lose ∷ AtSide s.name SendHello ∷ []; events = rescinds m s.offers ++ loses m s.name s.booked ++ tells_all m.registers.frameworks (FAILURE s.name); opens = []; closes = []; registers = without_filters_on s.name m.registers }) (nothing m)
-    (each_append (EventOk A) (rescinds m s.offers ++ loses m s.name s.booked) (tells_all m.registers.frameworks (FAILURE s.name))
+lost_events A m s = if_events A s.is_open (record { refusal = None; moves = AtSide s.name Lose ∷ AtSide s.name SendHello ∷ []; events = rescinds m s.offers ++ loses m s.name s.booked ++ tells_all m.registers.frameworks (events.Failure s.name); opens = []; closes = []; registers = without_filters_on s.name m.registers }) (nothing m)
+    (each_append (EventOk A) (rescinds m s.offers ++ loses m s.name s.booked) (tells_all m.registers.frameworks (events.Failure s.name))
     (each_append (EventOk A) (rescinds m s.offers) (loses m s.name s.booked) (rescinds_ok A m s.offers) (loses_ok A m s.name s.booked))
-    (flat_ok A (λ (f : Framework). on_stream f.stream (FAILURE s.name)) (λ f. on_ok A f.stream (FAILURE s.name) tt) m.registers.frameworks)) tt
+    (flat_ok A (λ (f : Framework). on_stream f.stream (events.Failure s.name)) (λ f. on_ok A f.stream (events.Failure s.name) tt) m.registers.frameworks)) tt
 
 pub hung_events : (A : List ℕ → Numbered → ℕ → TaskState → Type 0) (m : Master) (stream : Numbered) → Each (EventOk A) (hung_up m stream).events
 hung_events A m stream = by (find (λ f. is_stream stream f.stream) m.registers.frameworks)
@@ -178,19 +179,21 @@ hung_events A m stream = by (find (λ f. is_stream stream f.stream) m.registers.
 
 offers_events : (A : List ℕ → Numbered → ℕ → TaskState → Type 0) (f : Framework) (made : List MadeOffer) → Each (EventOk A) (tells_offers f made)
 offers_events A f [] = tt
-offers_events A f (g ∷ more) = on_ok A f.stream (OFFERS (g ∷ more)) tt
+offers_events A f (g ∷ more) = on_ok A f.stream (events.Offers (map offer_of (g ∷ more))) tt
 
 pub allocated_events : (A : List ℕ → Numbered → ℕ → TaskState → Type 0) (ws : List RoleWeight) (m : Master) → Each (EventOk A) (allocated ws m).events
 allocated_events A ws m = flat_ok A (offers_of (entered m.sides (moved m (making ws m)).sides)) (λ f. offers_events A f (filter (λ g. same g.offer.framework f.id) (entered m.sides (moved m (making ws m)).sides))) m.registers.frameworks
 
 pub event_wider : (A B : List ℕ → Numbered → ℕ → TaskState → Type 0) → ((agent : List ℕ) (key : Numbered) (k : ℕ) (state : TaskState) → A agent key k state → B agent key k state) → (e : Event) → TellOk A e → TellOk B e
-event_wider A B f (SUBSCRIBED framework) h = tt
-event_wider A B f (OFFERS offers) h = tt
-event_wider A B f (RESCIND offer) h = tt
-event_wider A B f (UPDATE task state agent None) h = tt
-event_wider A B f (UPDATE task state None (Some uuid)) h = absurd h
-event_wider A B f (UPDATE task state (Some agent) (Some uuid)) h = f agent uuid.key uuid.k state h
-event_wider A B f (FAILURE agent) h = tt
-event_wider A B f FAILED_OVER h = tt
-event_wider A B f REMOVED h = tt
-event_wider A B f HEARTBEAT h = tt
+event_wider A B f (events.Subscribed framework) h = tt
+event_wider A B f (events.Offers offers) h = tt
+event_wider A B f (events.Rescind offer) h = tt
+event_wider A B f (events.Update status) h = by status.agent status.update h
+  where
+    by : (agent : Option (List ℕ)) (update : Option Uuid) → IfSome update (λ uuid. TellAt A agent uuid status.state) → IfSome update (λ uuid. TellAt B agent uuid status.state)
+    by agent None h = tt
+    by None (Some uuid) h = absurd h
+    by (Some agent) (Some uuid) h = f agent uuid.key uuid.k status.state h
+event_wider A B f (events.Failure agent) h = tt
+event_wider A B f (events.Error message) h = tt
+event_wider A B f events.Heartbeat h = tt

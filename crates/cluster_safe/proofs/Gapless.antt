@@ -1,12 +1,13 @@
 -- What an honest framework has acknowledged of a task is a beginning of its updates.
 use Rattle.std.proofs.Common.{◌≡◌, ℕ, suc, zero, ◌<◌, ◌≤◌, Bool, true, false, not, ◌&&◌, ◌||◌, List, [], ◌∷◌, ◌++◌, length, map, fold, Option, Some, None, Result, Ok, Err, refl, sym, ap, ◌∙◌, subst, inl, inr, le_trans, slice_get, arith}
-use Rattle.std.specs.Prelude.{◌⊎◌, ◌==◌, if◌then◌else◌, max, flat_map}
+use Rattle.std.specs.Prelude.{◌⊎◌, ◌==◌, if◌then◌else◌, max, flat_map, option_to_list, IfSome}
 use Rattle.std.specs.List.{AllByRecursion as Each}
 use Rattle.std.proofs.lemmas.Bool.{cond_both, cases_Bool, cases_lt}
 use Rattle.std.proofs.lemmas.Bool.Decides.{nat_tests}
 use Rattle.std.proofs.lemmas.List.Folds.{list_any-append}
 use Rattle.std.proofs.lemmas.List.Sums.{fold-append}
 use Rattle.names_core.specs.Ids.{Numbered}
+use Rattle.names_core.specs.Updates.{Update as Uuid}
 use Rattle.names_core.specs.declared.state.TaskState.{TaskState}
 use Rattle.mails.specs.declared.task.Job.{Job}
 use Rattle.mails.specs.declared.record.Durable.{Durable}
@@ -20,18 +21,19 @@ use Rattle.cluster_histories.specs.Clusters.{Post, Called, Down, Up, Entry}
 use Rattle.cluster_steps.specs.declared.step.Step.{Step}
 use Rattle.cluster_steps.specs.declared.step.Step.TheVariants.{Send}
 use Rattle.cluster_steps.specs.declared.fault.ClusterFault.{ClusterFault}
-use Rattle.cluster_model.specs.Events.{Event, SUBSCRIBED, OFFERS, RESCIND, UPDATE, FAILURE, FAILED_OVER, REMOVED, HEARTBEAT, Told}
+use Rattle.cluster_model.specs.Events.{Event, StreamEvent}
+use Rattle.scheduler_events.specs.declared.event.Event.TheVariants as events
 use Rattle.cluster_model.specs.Openings.{GoodOpening, recorded_jobs}
 use Rattle.cluster_histories.specs.Steps.{Setup, Done, History, Marked, step_marked, extended, extend_all, history, opening, hello_to}
 use Rattle.cluster_safe.specs.Acknowledged.{Names, WasSent, WasCounted, recorded_tasks}
-use Rattle.cluster_safe.specs.Honest.{Tells, WasTold, handed_in, IsHonestCall, IsHonestStep, Honest, has_number, noted, up_to, counted, acknowledged_by, IsKeyOf, IsBeginningOf}
+use Rattle.cluster_safe.specs.Honest.{IsNumbered, Tells, WasTold, handed_in, IsHonestCall, IsHonestStep, Honest, has_number, noted, up_to, counted, acknowledged_by, IsKeyOf, IsBeginningOf}
 use Rattle.cluster_safe.specs.Updates.{longer, states_under, recorded_states, updates_of, AcknowledgeTheirs}
 use Rattle.cluster_safe.specs.Origin.{IsOneOf, jobs_of, trail}
 use Rattle.cluster_safe.proofs.Ids.{same_refl, same_is}
 use Rattle.cluster_safe.proofs.Orders.{each_append}
 use Rattle.cluster_safe.proofs.Drafts.{both_true}
 use Rattle.cluster_safe.proofs.Worlds.{all_room}
-use Rattle.cluster_safe.proofs.Events.{TellOk, EventOk}
+use Rattle.cluster_safe.proofs.Events.{TellAt, TellOk, EventOk}
 use Rattle.cluster_safe.proofs.Counts.{longer_left, longer_right, count, over_more, over_append}
 use Rattle.cluster_safe.proofs.OriginWorlds.{OriginOk}
 use Rattle.cluster_safe.proofs.Openings.{origin_opened}
@@ -191,25 +193,31 @@ opened_tasks (d ∷ ds) = ap (λ ts. d.tasks ++ ts) (opened_tasks ds)
 -- what was told
 
 event_told : (A : List ℕ → Numbered → ℕ → TaskState → Type 0) (B : Numbered → ℕ → Type 0) → ((agent : List ℕ) (key : Numbered) (k : ℕ) (state : TaskState) → A agent key k state → B key k) → (key : Numbered) (k : ℕ) (e : Event) → TellOk A e → Tells key k e → B key k
-event_told A B f key k (UPDATE task state None (Some uuid)) ok h = absurd ok
-event_told A B f key k (UPDATE task state (Some agent) (Some uuid)) ok h = subst (λ x. B x k) h.0 (subst (B uuid.key) h.1 (f agent uuid.key uuid.k state ok))
-event_told A B f key k (UPDATE task state agent None) ok h = absurd h
-event_told A B f key k (SUBSCRIBED framework) ok h = absurd h
-event_told A B f key k (OFFERS offers) ok h = absurd h
-event_told A B f key k (RESCIND offer) ok h = absurd h
-event_told A B f key k (FAILURE agent) ok h = absurd h
-event_told A B f key k FAILED_OVER ok h = absurd h
-event_told A B f key k REMOVED ok h = absurd h
-event_told A B f key k HEARTBEAT ok h = absurd h
+event_told A B f key k (events.Update status) ok h = by status.agent status.update ok h
+  where
+    by : (agent : Option (List ℕ)) (update : Option Uuid) → IfSome update (λ uuid. TellAt A agent uuid status.state) → IsNumbered key k update → B key k
+    by agent None ok h = absurd h
+    by None (Some uuid) ok h = absurd ok
+    by (Some agent) (Some uuid) ok h = subst (λ x. B x k) h.0 (subst (B uuid.key) h.1 (f agent uuid.key uuid.k status.state ok))
+event_told A B f key k (events.Subscribed framework) ok h = absurd h
+event_told A B f key k (events.Offers offers) ok h = absurd h
+event_told A B f key k (events.Rescind offer) ok h = absurd h
+event_told A B f key k (events.Failure agent) ok h = absurd h
+event_told A B f key k (events.Error message) ok h = absurd h
+event_told A B f key k events.Heartbeat ok h = absurd h
 
-was_told : (A : List ℕ → Numbered → ℕ → TaskState → Type 0) (B : Numbered → ℕ → Type 0) → ((agent : List ℕ) (key : Numbered) (k : ℕ) (state : TaskState) → A agent key k state → B key k) → (key : Numbered) (k : ℕ) (ts : List Told) → Each (EventOk A) ts → WasTold key k ts → B key k
+was_told : (A : List ℕ → Numbered → ℕ → TaskState → Type 0) (B : Numbered → ℕ → Type 0) → ((agent : List ℕ) (key : Numbered) (k : ℕ) (state : TaskState) → A agent key k state → B key k) → (key : Numbered) (k : ℕ) (ts : List StreamEvent) → Each (EventOk A) ts → WasTold key k ts → B key k
 was_told A B f key k [] ok h = absurd h
 was_told A B f key k (t ∷ ts) ok (inl h) = event_told A B f key k t.event ok.0 h
 was_told A B f key k (t ∷ ts) ok (inr h) = was_told A B f key k ts ok.1 h
 
 each_handed : (A : List ℕ → Numbered → ℕ → TaskState → Type 0) (es : List Entry) → Each (HandedOk A) es → Each (EventOk A) (handed_in es)
 each_handed A [] h = tt
-each_handed A (e ∷ es) h = each_append (EventOk A) e.outs.taken (handed_in es) h.0 (each_handed A es h.1)
+each_handed A (e ∷ es) h = each_append (EventOk A) (option_to_list e.outputs.taken) (handed_in es) (one e.outputs.taken h.0) (each_handed A es h.1)
+  where
+    one : (o : Option StreamEvent) → IfSome o (EventOk A) → Each (EventOk A) (option_to_list o)
+    one None ok = tt
+    one (Some t) ok = (ok, tt)
 
 -- how many updates of a key there were
 abbrev pub told_count : World → List Happening → Numbered → ℕ
@@ -256,9 +264,9 @@ call_ready records start h framework key ok origin owns stream (Reconcile f task
 wider : (most later : ℕ) (ks : List ℕ) → most ≤ later → Gapless most ks → Gapless later ks
 wider most later ks le g = (g.0, g.1, le_trans g.2 le)
 
-extended_gapless : (records : List Durable) (start : World) (h : History) (framework key : Numbered) (r : Result Done ClusterFault) → HistoryOk records start h → OriginOk records start [] → Owns framework key (all_jobs records start h.happenings) → Legal (AckedBy records (trail h.happenings start []) h.state.posts) (Tellable records start h.happenings h.state.posts) (λ stream call. IsHonestCall framework h.entries call) h.state r →
-    Gapless (told_count start h.happenings key) (acknowledged_by records framework key h.state.posts) → Gapless (told_count start (extended h r).happenings key) (acknowledged_by records framework key (extended h r).state.posts)
-extended_gapless records start h framework key (Ok d) ok origin owns l g =
+extended_gapless : (records : List Durable) (start : World) (h : History) (framework key : Numbered) (step : Step) (r : Result Done ClusterFault) → HistoryOk records start h → OriginOk records start [] → Owns framework key (all_jobs records start h.happenings) → Legal (AckedBy records (trail h.happenings start []) h.state.posts) (Tellable records start h.happenings h.state.posts) (λ stream call. IsHonestCall framework h.entries call) h.state r →
+    Gapless (told_count start h.happenings key) (acknowledged_by records framework key h.state.posts) → Gapless (told_count start (extended h step r).happenings key) (acknowledged_by records framework key (extended h step r).state.posts)
+extended_gapless records start h framework key step (Ok d) ok origin owns l g =
     wider most later (acknowledged_by records framework key d.after.posts) grown (subst (λ ps. Gapless most (acknowledged_by records framework key ps)) (sym l.4.1)
     (subst (Gapless most) (sym (fold-append (noted framework key) (up_to (counted key (recorded_tasks records))) h.state.posts l.4.0))
     (posts_gapless (λ stream call. IsHonestCall framework h.entries call) framework key most (acknowledged_by records framework key h.state.posts) l.4.0 g (call_ready records start h framework key ok origin owns) l.4.2)))
@@ -271,15 +279,15 @@ extended_gapless records start h framework key (Ok d) ok origin owns l g =
 
     grown : told_count start h.happenings key ≤ told_count start (h.happenings ++ d.happenings) key
     grown = subst (λ xs. told_count start h.happenings key ≤ length xs) (sym (over_append key h.happenings d.happenings start (recorded_states key start))) (over_more key d.happenings (after_all h.happenings start) (updates_of key h.happenings start))
-extended_gapless records start h framework key (Err refusal) ok origin owns l g = g
+extended_gapless records start h framework key step (Err refusal) ok origin owns l g = g
 
-jobs_step : (records : List Durable) (start : World) (h : History) (r : Result Done ClusterFault) (j : Job) → IsOneOf j (all_jobs records start h.happenings) → IsOneOf j (all_jobs records start (extended h r).happenings)
-jobs_step records start h (Ok d) j x = subst (λ ms. IsOneOf j (jobs_of ms ++ recorded_jobs records)) (sym (trail_append h.happenings d.happenings start [])) (jobs_grow d.happenings (after_all h.happenings start) (trail h.happenings start []) (recorded_jobs records) j x)
-jobs_step records start h (Err refusal) j x = x
+jobs_step : (records : List Durable) (start : World) (h : History) (step : Step) (r : Result Done ClusterFault) (j : Job) → IsOneOf j (all_jobs records start h.happenings) → IsOneOf j (all_jobs records start (extended h step r).happenings)
+jobs_step records start h step (Ok d) j x = subst (λ ms. IsOneOf j (jobs_of ms ++ recorded_jobs records)) (sym (trail_append h.happenings d.happenings start [])) (jobs_grow d.happenings (after_all h.happenings start) (trail h.happenings start []) (recorded_jobs records) j x)
+jobs_step records start h step (Err refusal) j x = x
 
 jobs_kept : (records : List Durable) (start : World) (ss : List Marked) (h : History) (j : Job) → IsOneOf j (all_jobs records start h.happenings) → IsOneOf j (all_jobs records start (extend_all h ss).happenings)
 jobs_kept records start [] h j x = x
-jobs_kept records start (s ∷ ss) h j x = jobs_kept records start ss (extended h (step_marked h.state s)) j (jobs_step records start h (step_marked h.state s) j x)
+jobs_kept records start (s ∷ ss) h j x = jobs_kept records start ss (extended h s.step (step_marked h.state s)) j (jobs_step records start h s.step (step_marked h.state s) j x)
 
 honest_send : (framework : Numbered) (entries : List Entry) (s : Step) → IsHonestStep framework entries s → (stream : Option Numbered) (call : Call) → s ≡ Send stream call → IsHonestCall framework entries call
 honest_send framework entries s h stream call e = subst (IsHonestStep framework entries) e h
@@ -288,8 +296,8 @@ all_gapless : (records : List Durable) (start : World) (framework key : Numbered
     Gapless (told_count start h.happenings key) (acknowledged_by records framework key h.state.posts) → Gapless (told_count start (extend_all h ss).happenings key) (acknowledged_by records framework key (extend_all h ss).state.posts)
 all_gapless records start framework key [] h ok origin honest owns g = g
 all_gapless records start framework key (s ∷ ss) h ok origin honest owns g =
-    all_gapless records start framework key ss (extended h (step_marked h.state s)) (extend_ok records start (s ∷ []) h ok) origin honest.1 owns
-    (extended_gapless records start h framework key (step_marked h.state s) ok origin (λ j x e. owns j (jobs_kept records start (s ∷ ss) h j x) e)
+    all_gapless records start framework key ss (extended h s.step (step_marked h.state s)) (extend_ok records start (s ∷ []) h ok) origin honest.1 owns
+    (extended_gapless records start h framework key s.step (step_marked h.state s) ok origin (λ j x e. owns j (jobs_kept records start (s ∷ ss) h j x) e)
     (step_legal (AckedBy records (trail h.happenings start []) h.state.posts) (Tellable records start h.happenings h.state.posts) (λ stream call. IsHonestCall framework h.entries call) h.state (all_room (updates_in start h.happenings) h.state.world ok.sent.world) (number_tells records h.state (trail h.happenings start []) ok.origin ok.known) (all_tell records start h ok) s (honest_send framework h.entries s.step honest.0)) g)
 
 opening_gapless : (setup : Setup) (records : List Durable) (framework key : Numbered) → AcknowledgeTheirs records → Gapless (told_count (open_world setup.run records) (opening setup records).happenings key) (acknowledged_by records framework key (opening setup records).state.posts)

@@ -1,6 +1,6 @@
 -- What every step of a history does: happenings in the channels, and no refusal for want of room.
 use Rattle.std.proofs.Common.{length, zero, inl, inr, append_assoc, append-nil, flat_map, ◌<◌, ◌≡◌, ◌≢◌, ℕ, suc, Bool, true, false, not, ◌&&◌, List, [], ◌∷◌, ◌++◌, map, Option, Some, None, Result, Ok, Err, refl, sym, ap, ◌∙◌, subst, bytes_eq, nat_lt, nat_le, slice_get}
-use Rattle.std.specs.Prelude.{⊤, if◌then◌else◌, ◌==◌, ◌⊎◌}
+use Rattle.std.specs.Prelude.{⊤, if◌then◌else◌, ◌==◌, ◌⊎◌, IfSome}
 use Rattle.std.specs.List.{AllByRecursion as Each, find, list_any}
 use Rattle.std.proofs.lemmas.Bool.{cond_both}
 use Rattle.mails.specs.declared.call.Call.TheVariants.{Subscribe, Teardown, Accept, Decline, Revive, Suppress, Acknowledge, Reconcile}
@@ -26,7 +26,8 @@ use Rattle.cluster_model.specs.Agents.{Agent, Draft, has_ended, is_task, front_a
 use Rattle.cluster_model.specs.Sides.{Run, Side}
 use Rattle.cluster_model.specs.Channels.{Channel, AgentStep, Draw, DrawMail, Adopt, StopWithout, StopWith, Hear, ByAgent, World, Happening, At, Restart, Halt, after, after_all, open_channel, open_world, AllFit}
 use Rattle.cluster_model.specs.Openings.{recorded_jobs, KeysOnce, GoodOpening}
-use Rattle.cluster_model.specs.Events.{Event, SUBSCRIBED, OFFERS, RESCIND, UPDATE, FAILURE, FAILED_OVER, REMOVED, HEARTBEAT}
+use Rattle.cluster_model.specs.Events.{Event, StreamEvent}
+use Rattle.scheduler_events.specs.declared.event.Event.TheVariants as events
 use Rattle.cluster_model.specs.Masters.{Framework, Master, new_registers, Doing, framework_of, Placed, placed_on, all_booked, is_task_of}
 use Rattle.cluster_model.specs.Calls.{is_last_heard, called}
 use Rattle.cluster_model.specs.Mails.{mailed, ticked, agent_lost, hung_up}
@@ -41,7 +42,7 @@ use Rattle.cluster_steps.specs.declared.fault.ClusterFault.{ClusterFault}
 use Rattle.cluster_steps.specs.declared.fault.ClusterFault.TheVariants.{MasterDown, AgentDown, DraftOpen, NoDraft, HistoryFull, TimeBack}
 use Rattle.cluster_steps.specs.declared.verdict.Verdict.{Verdict}
 use Rattle.cluster_steps.specs.declared.verdict.Verdict.TheVariants.{Ok as Fine, MasterRefused, AgentRefused, OutOfMemory as Fell}
-use Rattle.cluster_histories.specs.Steps.{Setup, posts_by, Effect, Done, done, does, happening, verdict_of, effect_of, master_does, master_hears, channel_of, delivers_up, delivers, post_at, with_tick, ticks_at, stream_at, hangs_up, loses_agent, hello_to, drafts, draws_mail_at, draws_mail, prepares, commits, up_again, stops, with_master, at_channel, is_fallen, if_up, by_draft, without_draft, with_draft, takes_event, takes, answer, master_falls, new_master_falls, fallen_too, agent_falls, instead, fallen_answer, Marked, step_marked, History, opening, extended, extend_all, history}
+use Rattle.cluster_histories.specs.Steps.{Setup, posts_by, Effect, Done, done, entry_of, does, happening, verdict_of, effect_of, master_does, master_hears, channel_of, delivers_up, delivers, post_at, with_tick, ticks_at, stream_at, hangs_up, loses_agent, hello_to, drafts, draws_mail_at, draws_mail, prepares, commits, up_again, stops, with_master, at_channel, is_fallen, if_up, by_draft, without_draft, with_draft, takes_event, takes, answer, master_falls, new_master_falls, fallen_too, agent_falls, instead, fallen_answer, Marked, step_marked, History, opening, extended, extend_all, history}
 use Rattle.cluster_safe.specs.Facts.{HasRoom, RoomForAll}
 use Rattle.cluster_safe.specs.Acknowledged.{Names, WasSent, WasCounted, recorded_tasks, AcknowledgedByOwner}
 use Rattle.cluster_safe.specs.Saved.{IsFound}
@@ -64,14 +65,13 @@ use Rattle.names_core.specs.Updates.{Update}
 use Rattle.cluster_safe.proofs.Names.{AllNamed, open_named, worlds_named}
 use Rattle.cluster_safe.specs.Premises.{MeetsPremises}
 use Rattle.cluster_safe.proofs.Premises.{all_premises}
-use Rattle.cluster_model.specs.Events.{Told}
 use Rattle.cluster_histories.specs.Steps.{Effect, new_to_agent, new_to_master, places, posts_between, posts_by, posts_in, told_on, hears, new_stream, streams_after, takes_one}
-use Rattle.cluster_safe.proofs.Events.{TellOk, EventOk, MailOk, allocated_events, called_events, event_wider, hung_events, lost_events, mailed_events, ticked_events}
+use Rattle.cluster_safe.proofs.Events.{TellAt, TellOk, EventOk, MailOk, allocated_events, called_events, event_wider, hung_events, lost_events, mailed_events, ticked_events}
 use Rattle.cluster_safe.proofs.Orders.{each_at}
 use Rattle.std.proofs.Common.{le_trans, le_refl}
 use Rattle.mails.specs.declared.mail.AgentMail.TheVariants.{Report, Applied}
 use Rattle.mails.specs.declared.mail.AgentMail.TheVariants as mails
-use Rattle.cluster_safe.specs.Updates.{updates_of, states_on, sent_over, updates_on, TellsUpdate, TellsUpdates, HandsUpdates, HaveAllUpdates}
+use Rattle.cluster_safe.specs.Updates.{updates_of, states_on, sent_over, updates_on, IsUpdateOf, TellsUpdate, TellsUpdates, HandsUpdates, HaveAllUpdates}
 use Rattle.cluster_safe.proofs.Told.{UpTold}
 
 -- a found one has what each has
@@ -105,7 +105,7 @@ StreamOk T s = Each (TellOk T) s.events
 
 -- T holds of each update that an entry hands out
 abbrev pub HandedOk : (List ℕ → Numbered → ℕ → TaskState → Type 0) → Entry → Type 0
-HandedOk T e = Each (EventOk T) e.outs.taken
+HandedOk T e = IfSome e.outputs.taken (EventOk T)
 
 -- T holds of each update that was sent to the master
 abbrev pub AllTell : (List ℕ → Numbered → ℕ → TaskState → Type 0) → World → Type 0
@@ -113,7 +113,7 @@ AllTell T w = Each (λ (c : Channel). Each (MailOk (T c.side.name)) c.to_master)
 
 -- what a step that isn't refused does: what happens, what it answers, what it tells and what it sends, and the frameworks that are then known; T holds of each update that it tells, and S of a call that it sends
 abbrev pub Legal : (Numbered → ℕ → Type 0) → (List ℕ → Numbered → ℕ → TaskState → Type 0) → (Option Numbered → Call → Type 0) → Cluster → Result Done ClusterFault → Type 0
-Legal A T S c (Ok d) = (d.after.world ≡ after_all d.happenings c.world) × NotNoRoom d.entry.verdict × Each (HappeningOk A c.world.run.number) d.happenings × Each (EventOk T) d.entry.outs.events × ((more : List Post) × (d.after.posts ≡ c.posts ++ more) × (Each NotCall more ⊎ Sends S more)) × (Each (StreamOk T) c.streams → Each (StreamOk T) d.after.streams × HandedOk T d.entry) × (AllUpTo c.world.run.number c.registers.frameworks → AllUpTo c.world.run.number d.after.registers.frameworks)
+Legal A T S c (Ok d) = (d.after.world ≡ after_all d.happenings c.world) × NotNoRoom d.verdict × Each (HappeningOk A c.world.run.number) d.happenings × Each (EventOk T) d.outputs.events × ((more : List Post) × (d.after.posts ≡ c.posts ++ more) × (Each NotCall more ⊎ Sends S more)) × (Each (StreamOk T) c.streams → Each (StreamOk T) d.after.streams × IfSome d.outputs.taken (EventOk T)) × (AllUpTo c.world.run.number c.registers.frameworks → AllUpTo c.world.run.number d.after.registers.frameworks)
 Legal A T S c (Err refusal) = ⊤
 
 downs_no_calls : (agent : List ℕ) (ns : List ℕ) → Each NotCall (map (Down agent) ns)
@@ -135,11 +135,11 @@ pub no_calls : (hs : List Happening) (w : World) → Each NotCall (posts_by hs w
 no_calls [] w = tt
 no_calls (h ∷ hs) w = each_append NotCall (posts_between w.channels (after w h).channels) (posts_by hs (after w h)) (between_no_calls w.channels (after w h).channels) (no_calls hs (after w h))
 
-told_on_ok : (T : List ℕ → Numbered → ℕ → TaskState → Type 0) (id : Numbered) (ts : List Told) → Each (EventOk T) ts → Each (TellOk T) (told_on id ts)
+told_on_ok : (T : List ℕ → Numbered → ℕ → TaskState → Type 0) (id : Numbered) (ts : List StreamEvent) → Each (EventOk T) ts → Each (TellOk T) (told_on id ts)
 told_on_ok T id [] h = tt
 told_on_ok T id (t ∷ ts) h = each_append (TellOk T) (if same t.stream id then t.event ∷ [] else []) (told_on id ts) (cond_both (same t.stream id) (t.event ∷ []) [] (Each (TellOk T)) (λ e. (h.0, tt)) (λ e. tt)) (told_on_ok T id ts h.1)
 
-heard_ok : (T : List ℕ → Numbered → ℕ → TaskState → Type 0) (ts : List Told) (ss : List Stream) → Each (EventOk T) ts → Each (StreamOk T) ss → Each (StreamOk T) (map (hears ts) ss)
+heard_ok : (T : List ℕ → Numbered → ℕ → TaskState → Type 0) (ts : List StreamEvent) (ss : List Stream) → Each (EventOk T) ts → Each (StreamOk T) ss → Each (StreamOk T) (map (hears ts) ss)
 heard_ok T ts [] h k = tt
 heard_ok T ts (s ∷ ss) h k = (each_append (TellOk T) s.events (told_on s.id ts) k.0 (told_on_ok T s.id ts h), heard_ok T ts ss h k.1)
 
@@ -147,7 +147,7 @@ new_ok : (T : List ℕ → Numbered → ℕ → TaskState → Type 0) (ids : Lis
 new_ok T [] = tt
 new_ok T (id ∷ ids) = (tt, new_ok T ids)
 
-streams_ok : (T : List ℕ → Numbered → ℕ → TaskState → Type 0) (ss : List Stream) (opens : List Numbered) (ts : List Told) → Each (EventOk T) ts → Each (StreamOk T) ss → Each (StreamOk T) (streams_after ss opens ts)
+streams_ok : (T : List ℕ → Numbered → ℕ → TaskState → Type 0) (ss : List Stream) (opens : List Numbered) (ts : List StreamEvent) → Each (EventOk T) ts → Each (StreamOk T) ss → Each (StreamOk T) (streams_after ss opens ts)
 streams_ok T ss opens ts h k = heard_ok T ts (ss ++ map new_stream opens) h (each_append (StreamOk T) ss (map new_stream opens) k (new_ok T opens))
 
 taken_ok : (T : List ℕ → Numbered → ℕ → TaskState → Type 0) (id : Numbered) (ss : List Stream) → Each (StreamOk T) ss → Each (StreamOk T) (map (takes_one id) ss)
@@ -174,7 +174,7 @@ master_legal A T S c d h events known = legal_effect A T S c (effect_of [] d) ev
 
 takes_event_legal : (A : Numbered → ℕ → Type 0) (T : List ℕ → Numbered → ℕ → TaskState → Type 0) (S : Option Numbered → Call → Type 0) (c : Cluster) (id : Numbered) (e : Option Event) → (Each (StreamOk T) c.streams → (event : Event) → e ≡ Some event → TellOk T event) → Legal A T S c (takes_event c id e)
 takes_event_legal A T S c id None h = tt
-takes_event_legal A T S c id (Some e) h = (refl, tt, tt, tt, ([], sym (append-nil c.posts), inl tt), (λ k. (taken_ok T id c.streams k, (h k e refl, tt))), λ k. k)
+takes_event_legal A T S c id (Some e) h = (refl, tt, tt, tt, ([], sym (append-nil c.posts), inl tt), (λ k. (taken_ok T id c.streams k, h k e refl)), λ k. k)
 
 takes_legal : (A : Numbered → ℕ → Type 0) (T : List ℕ → Numbered → ℕ → TaskState → Type 0) (S : Option Numbered → Call → Type 0) (c : Cluster) (id : Numbered) (s : Option Stream) → (Each (StreamOk T) c.streams → (stream : Stream) → s ≡ Some stream → StreamOk T stream) → Legal A T S c (takes c id s)
 takes_legal A T S c id None h = tt
@@ -447,7 +447,7 @@ abbrev pub updates_in : World → List Happening → Sents
 updates_in start hs = λ name key. updates_on name key hs start
 
 abbrev pub EntryOk : (List ℕ → Numbered → ℕ → TaskState → Type 0) → Entry → Type 0
-EntryOk A e = Each (EventOk A) e.outs.events
+EntryOk A e = Each (EventOk A) e.outputs.events
 
 pub record HistoryOk (records : List Durable) (start : World) (h : History) : Type 0 where
   pub path : h.state.world ≡ after_all h.happenings start
@@ -455,26 +455,32 @@ pub record HistoryOk (records : List Durable) (start : World) (h : History) : Ty
   pub verdicts : Each (λ (e : Entry). NotNoRoom e.verdict) h.entries
   pub origin : OriginOk records h.state.world (trail h.happenings start [])
   pub acked : AllAcked (AckedBy records (trail h.happenings start []) h.state.posts) h.state.world
+  pub begun : Each (EventOk (Tellable records start h.happenings h.state.posts)) h.opened.events
   pub told : Each (EntryOk (Tellable records start h.happenings h.state.posts)) h.entries
   pub streams : Each (StreamOk (Tellable records start h.happenings h.state.posts)) h.state.streams
   pub handed : Each (HandedOk (Tellable records start h.happenings h.state.posts)) h.entries
   pub known : AllUpTo h.state.world.run.number h.state.registers.frameworks
   pub launches : AllFrom h.state.world
 
-events_wider : (A B : List ℕ → Numbered → ℕ → TaskState → Type 0) → ((agent : List ℕ) (key : Numbered) (k : ℕ) (state : TaskState) → A agent key k state → B agent key k state) → (ts : List Told) → Each (EventOk A) ts → Each (EventOk B) ts
+events_wider : (A B : List ℕ → Numbered → ℕ → TaskState → Type 0) → ((agent : List ℕ) (key : Numbered) (k : ℕ) (state : TaskState) → A agent key k state → B agent key k state) → (ts : List StreamEvent) → Each (EventOk A) ts → Each (EventOk B) ts
 events_wider A B f ts h = each_map (EventOk A) (EventOk B) (λ t k. event_wider A B f t.event k) ts h
 
-extended_ok : (records : List Durable) (start : World) (S : Option Numbered → Call → Type 0) (h : History) (r : Result Done ClusterFault) → Legal (AckedBy records (trail h.happenings start []) h.state.posts) (Tellable records start h.happenings h.state.posts) S h.state r → HistoryOk records start h → HistoryOk records start (extended h r)
-extended_ok records start S h (Ok d) l ok = record {
+taken_wider : (A B : List ℕ → Numbered → ℕ → TaskState → Type 0) → ((agent : List ℕ) (key : Numbered) (k : ℕ) (state : TaskState) → A agent key k state → B agent key k state) → (o : Option StreamEvent) → IfSome o (EventOk A) → IfSome o (EventOk B)
+taken_wider A B f None h = tt
+taken_wider A B f (Some t) h = event_wider A B f t.event h
+
+extended_ok : (records : List Durable) (start : World) (S : Option Numbered → Call → Type 0) (h : History) (step : Step) (r : Result Done ClusterFault) → Legal (AckedBy records (trail h.happenings start []) h.state.posts) (Tellable records start h.happenings h.state.posts) S h.state r → HistoryOk records start h → HistoryOk records start (extended h step r)
+extended_ok records start S h step (Ok d) l ok = record {
   path = l.0 ∙ (ap (after_all d.happenings) ok.path ∙ sym (after_append h.happenings d.happenings start));
   sent = subst (SentOk (updates_in start (h.happenings ++ d.happenings))) (sym l.0) (sent_alike (all_over (updates_in start h.happenings) d.happenings h.state.world) (updates_in start (h.happenings ++ d.happenings)) (after_all d.happenings h.state.world) sent_joins (worlds_sent records d.happenings h.state.world marks (updates_in start h.happenings) ok.origin ok.sent));
-  verdicts = each_append (λ (e : Entry). NotNoRoom e.verdict) h.entries (d.entry ∷ []) ok.verdicts (l.1, tt);
+  verdicts = each_append (λ (e : Entry). NotNoRoom e.verdict) h.entries (entry_of step d ∷ []) ok.verdicts (l.1, tt);
   origin = subst (OriginOk records d.after.world) trails (subst (λ w. OriginOk records w (trail d.happenings h.state.world marks)) (sym l.0) (origin_all records d.happenings h.state.world marks ok.origin));
   acked = subst (λ ms. AllAcked (AckedBy records ms d.after.posts) d.after.world) trails (subst (λ ps. AllAcked (AckedBy records (trail d.happenings h.state.world marks) ps) d.after.world) (sym l.4.1)
       (subst (AllAcked (AckedBy records (trail d.happenings h.state.world marks) (h.state.posts ++ l.4.0))) (sym l.0) wider));
-  told = each_append (EntryOk later) h.entries (d.entry ∷ []) (each_map (EntryOk now) (EntryOk later) (λ e k. events_wider now later widened e.outs.events k) h.entries ok.told) (events_wider now later widened d.entry.outs.events l.3, tt);
+  begun = events_wider now later widened h.opened.events ok.begun;
+  told = each_append (EntryOk later) h.entries (entry_of step d ∷ []) (each_map (EntryOk now) (EntryOk later) (λ e k. events_wider now later widened e.outputs.events k) h.entries ok.told) (events_wider now later widened d.outputs.events l.3, tt);
   streams = each_map (StreamOk now) (StreamOk later) (λ s k. each_map (TellOk now) (TellOk later) (λ e x. event_wider now later widened e x) s.events k) d.after.streams (l.5 ok.streams).0;
-  handed = each_append (HandedOk later) h.entries (d.entry ∷ []) (each_map (HandedOk now) (HandedOk later) (λ e k. events_wider now later widened e.outs.taken k) h.entries ok.handed) (events_wider now later widened d.entry.outs.taken (l.5 ok.streams).1, tt);
+  handed = each_append (HandedOk later) h.entries (entry_of step d ∷ []) (each_map (HandedOk now) (HandedOk later) (λ e k. taken_wider now later widened e.outputs.taken k) h.entries ok.handed) (taken_wider now later widened d.outputs.taken (l.5 ok.streams).1, tt);
   known = subst (λ w. AllUpTo w.run.number d.after.registers.frameworks) (sym l.0) (each_map (IsUpTo h.state.world.run.number) (IsUpTo (after_all d.happenings h.state.world).run.number) (λ f k. le_trans k (number_rises d.happenings h.state.world)) d.after.registers.frameworks (l.6 ok.known));
   launches = subst AllFrom (sym l.0) (worlds_from (AckedBy records marks h.state.posts) h.state.world.run.number records d.happenings h.state.world marks (le_refl h.state.world.run.number) l.2 ok.origin ok.launches);
 }
@@ -507,7 +513,7 @@ extended_ok records start S h (Ok d) l ok = record {
     wider = each_map (Carried Always (AckedBy records marks h.state.posts)) (Carried Always (AckedBy records (trail d.happenings h.state.world marks) (h.state.posts ++ l.4.0)))
         (λ c k. told_wider Always Always (AckedBy records marks h.state.posts) (AckedBy records (trail d.happenings h.state.world marks) (h.state.posts ++ l.4.0)) (λ j x. x) (λ key i x. acked_more records d.happenings h.state.world marks h.state.posts l.4.0 key i x) c k)
         (after_all d.happenings h.state.world).channels (worlds_acked (AckedBy records marks h.state.posts) h.state.world.run.number d.happenings h.state.world l.2 ok.acked)
-extended_ok records start S h (Err refusal) l ok = ok
+extended_ok records start S h step (Err refusal) l ok = ok
 
 mail_tells : (A : Numbered → ℕ → Type 0) (u : Numbered → List TaskState) (m : AgentMail) → UpTold Always A m → MailAt u m → MailOk (λ key k state. Before A key k × (slice_get (u key) k ≡ Some state)) m
 mail_tells A u (Report session number tasks total) h l = tt
@@ -521,8 +527,8 @@ all_tell records start h ok = each_both (Carried Always (AckedBy records (trail 
 
 pub extend_ok : (records : List Durable) (start : World) (ss : List Marked) (h : History) → HistoryOk records start h → HistoryOk records start (extend_all h ss)
 extend_ok records start [] h ok = ok
-extend_ok records start (s ∷ ss) h ok = extend_ok records start ss (extended h (step_marked h.state s))
-    (extended_ok records start (λ stream call. ⊤) h (step_marked h.state s) (step_legal (AckedBy records (trail h.happenings start []) h.state.posts) (Tellable records start h.happenings h.state.posts) (λ stream call. ⊤) h.state (all_room (updates_in start h.happenings) h.state.world ok.sent.world) (number_tells records h.state (trail h.happenings start []) ok.origin ok.known) (all_tell records start h ok) s (λ stream call e. tt)) ok)
+extend_ok records start (s ∷ ss) h ok = extend_ok records start ss (extended h s.step (step_marked h.state s))
+    (extended_ok records start (λ stream call. ⊤) h s.step (step_marked h.state s) (step_legal (AckedBy records (trail h.happenings start []) h.state.posts) (Tellable records start h.happenings h.state.posts) (λ stream call. ⊤) h.state (all_room (updates_in start h.happenings) h.state.world ok.sent.world) (number_tells records h.state (trail h.happenings start []) ok.origin ok.known) (all_tell records start h ok) s (λ stream call e. tt)) ok)
 
 -- the opening
 
@@ -558,12 +564,13 @@ pub opening_ok : (setup : Setup) (records : List Durable) → GoodOpening setup.
 opening_ok setup records good = record {
   path = refl;
   sent = worlds_sent records (map hello_to (open_world setup.run records).channels) (open_world setup.run records) [] (λ name key. states_on name key (open_world setup.run records).channels) (origin_opened setup.run records good) (opened_sent records setup.run (origin_opened setup.run records good) (world_opened setup.run records (opening_good setup.run records good)));
-  verdicts = (tt, tt);
+  verdicts = tt;
   origin = origin_all records (map hello_to (open_world setup.run records).channels) (open_world setup.run records) [] (origin_opened setup.run records good);
   acked = opening_acked setup records;
-  told = (tt, tt);
+  begun = tt;
+  told = tt;
   streams = tt;
-  handed = (tt, tt);
+  handed = tt;
   known = tt;
   launches = worlds_from (AckedBy records [] []) setup.run records (map hello_to (open_world setup.run records).channels) (open_world setup.run records) [] (le_refl setup.run) (hellos_ok (AckedBy records [] []) setup.run (open_world setup.run records).channels) (origin_opened setup.run records good) (opened_from setup.run records (opening_from setup.run records good));
 }
@@ -628,32 +635,38 @@ history_premises setup records steps good = all_premises (updates_in (open_world
 -- updates have the states of their numbers
 
 event_tells : (records : List Durable) (start : World) (hs : List Happening) (posts : List Post) → OriginOk records start [] → (e : Event) → TellOk (Tellable records start hs posts) e → TellsUpdate hs start e
-event_tells records start hs posts origin (SUBSCRIBED framework) h = tt
-event_tells records start hs posts origin (OFFERS offers) h = tt
-event_tells records start hs posts origin (RESCIND offer) h = tt
-event_tells records start hs posts origin (UPDATE task state agent None) h = tt
-event_tells records start hs posts origin (UPDATE task state None (Some uuid)) h = absurd h
-event_tells records start hs posts origin (UPDATE task state (Some agent) (Some uuid)) h = (update_there records hs start agent uuid.key uuid.k state origin h.1, h.1)
-event_tells records start hs posts origin (FAILURE agent) h = tt
-event_tells records start hs posts origin FAILED_OVER h = tt
-event_tells records start hs posts origin REMOVED h = tt
-event_tells records start hs posts origin HEARTBEAT h = tt
+event_tells records start hs posts origin (events.Subscribed framework) h = tt
+event_tells records start hs posts origin (events.Offers offers) h = tt
+event_tells records start hs posts origin (events.Rescind offer) h = tt
+event_tells records start hs posts origin (events.Update status) h = by status.agent status.update h
+  where
+    by : (agent : Option (List ℕ)) (update : Option Update) → IfSome update (λ uuid. TellAt (Tellable records start hs posts) agent uuid status.state) → IfSome update (λ uuid. IsUpdateOf hs start agent uuid status.state)
+    by agent None h = tt
+    by None (Some uuid) h = absurd h
+    by (Some agent) (Some uuid) h = (update_there records hs start agent uuid.key uuid.k status.state origin h.1, h.1)
+event_tells records start hs posts origin (events.Failure agent) h = tt
+event_tells records start hs posts origin (events.Error message) h = tt
+event_tells records start hs posts origin events.Heartbeat h = tt
 
 -- what is told over a whole history
 abbrev pub ToldOver : Setup → List Durable → List Marked → List ℕ → Numbered → ℕ → TaskState → Type 0
 ToldOver setup records steps = Tellable records (open_world setup.run records) (history setup records steps).happenings (history setup records steps).state.posts
 
-abbrev pub IsTelling : Setup → List Durable → List Marked → Told → Type 0
+abbrev pub IsTelling : Setup → List Durable → List Marked → StreamEvent → Type 0
 IsTelling setup records steps t = TellsUpdate (history setup records steps).happenings (open_world setup.run records) t.event
 
-all_telling : (setup : Setup) (records : List Durable) (steps : List Marked) → GoodOpening setup.run records → (ts : List Told) → Each (EventOk (ToldOver setup records steps)) ts → Each (IsTelling setup records steps) ts
+all_telling : (setup : Setup) (records : List Durable) (steps : List Marked) → GoodOpening setup.run records → (ts : List StreamEvent) → Each (EventOk (ToldOver setup records steps)) ts → Each (IsTelling setup records steps) ts
 all_telling setup records steps good ts h = each_map (EventOk (ToldOver setup records steps)) (IsTelling setup records steps) (λ t x. event_tells records (open_world setup.run records) (history setup records steps).happenings (history setup records steps).state.posts (origin_opened setup.run records good) t.event x) ts h
 
 pub history_tells : (setup : Setup) (records : List Durable) (steps : List Marked) → GoodOpening setup.run records → TellsUpdates (open_world setup.run records) (history setup records steps)
-history_tells setup records steps good = each_map (EntryOk (ToldOver setup records steps)) (λ (e : Entry). Each (IsTelling setup records steps) e.outs.events) (λ e h. all_telling setup records steps good e.outs.events h) (history setup records steps).entries (history_ok setup records steps good).told
+history_tells setup records steps good = (all_telling setup records steps good (history setup records steps).opened.events (history_ok setup records steps good).begun, each_map (EntryOk (ToldOver setup records steps)) (λ (e : Entry). Each (IsTelling setup records steps) e.outputs.events) (λ e h. all_telling setup records steps good e.outputs.events h) (history setup records steps).entries (history_ok setup records steps good).told)
+
+taken_telling : (setup : Setup) (records : List Durable) (steps : List Marked) → GoodOpening setup.run records → (o : Option StreamEvent) → IfSome o (EventOk (ToldOver setup records steps)) → IfSome o (IsTelling setup records steps)
+taken_telling setup records steps good None h = tt
+taken_telling setup records steps good (Some t) h = event_tells records (open_world setup.run records) (history setup records steps).happenings (history setup records steps).state.posts (origin_opened setup.run records good) t.event h
 
 pub history_hands : (setup : Setup) (records : List Durable) (steps : List Marked) → GoodOpening setup.run records → HandsUpdates (open_world setup.run records) (history setup records steps)
-history_hands setup records steps good = each_map (HandedOk (ToldOver setup records steps)) (λ (e : Entry). Each (IsTelling setup records steps) e.outs.taken) (λ e h. all_telling setup records steps good e.outs.taken h) (history setup records steps).entries (history_ok setup records steps good).handed
+history_hands setup records steps good = each_map (HandedOk (ToldOver setup records steps)) (λ (e : Entry). IfSome e.outputs.taken (IsTelling setup records steps)) (λ e h. taken_telling setup records steps good e.outputs.taken h) (history setup records steps).entries (history_ok setup records steps good).handed
 
 pub history_there : (setup : Setup) (records : List Durable) (steps : List Marked) (agent : List ℕ) (j : Job) → GoodOpening setup.run records → From records agent (trail (history setup records steps).happenings (open_world setup.run records) []) j → updates_of j.key (history setup records steps).happenings (open_world setup.run records) ≡ updates_on agent j.key (history setup records steps).happenings (open_world setup.run records)
 history_there setup records steps agent j good from = updates_there records (history setup records steps).happenings (open_world setup.run records) agent j (origin_opened setup.run records good) from

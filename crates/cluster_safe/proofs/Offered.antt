@@ -9,7 +9,7 @@ use Rattle.quantity.specs.declared.rows.Row.{Row}
 use Rattle.mails.specs.declared.task.Offer.{Offer}
 use Rattle.role_weights.specs.Weights.{RoleWeight}
 use Rattle.cluster_model.specs.Ids.{same, following, last_number}
-use Rattle.cluster_model.specs.Events.{MadeOffer, OFFERS, Told}
+use Rattle.cluster_model.specs.Events.{MadeOffer, Offers, StreamEvent, offer_of}
 use Rattle.cluster_model.specs.Sides.{Run, Side, MakeOffer, may_offer, offered, sends_nothing}
 use Rattle.cluster_model.specs.Masters.{Master, Framework, AtSide, Moved, past_side, at_this_side, at_side, move, move_all, moved, unmoved, on_stream}
 use Rattle.cluster_model.specs.Rounds.{Client, clients_of, totals_of, comes_before, first_client, is_subscribed, refuses, is_eligible, pick, Round, offers_to, offers_free, free, visits, round, entered_on, entered, tells_offers, offers_of, making, allocated}
@@ -127,16 +127,21 @@ kept_among framework g (x ∷ gs) h e = by (same x.offer.framework framework) re
     by false t rest (inl is) = absurd (let s : same x.offer.framework framework ≡ true = subst (λ n. same x.offer.framework n ≡ true) (ap (λ (y : MadeOffer). y.offer.framework) is ∙ e) (same_refl x.offer.framework) in cc)
     by false t rest (inr more) = rest more
 
+mapped_among : {A B : Type 0} (f : A → B) (x : A) (ys : List A) → IsAmong x ys → IsAmong (f x) (map f ys)
+mapped_among f x [] h = absurd h
+mapped_among f x (y ∷ ys) (inl e) = inl (ap f e)
+mapped_among f x (y ∷ ys) (inr h) = inr (mapped_among f x ys h)
+
 tells_among : (f : Framework) (stream : Numbered) (g : MadeOffer) (gs : List MadeOffer) → f.stream ≡ Some stream → IsAmong g gs → IsOfferedOn stream g (tells_offers f gs)
 tells_among f stream g [] e h = absurd h
-tells_among f stream g (x ∷ gs) e h = subst (λ o. IsOfferedOn stream g (on_stream o (OFFERS (x ∷ gs)))) (sym e) (inl (refl, h))
+tells_among f stream g (x ∷ gs) e h = subst (λ o. IsOfferedOn stream g (on_stream o (Offers (map offer_of (x ∷ gs))))) (sym e) (inl (refl, mapped_among offer_of g (x ∷ gs) h))
 
-offered_front : (stream : Numbered) (g : MadeOffer) (ts us : List Told) → IsOfferedOn stream g ts → IsOfferedOn stream g (ts ++ us)
+offered_front : (stream : Numbered) (g : MadeOffer) (ts us : List StreamEvent) → IsOfferedOn stream g ts → IsOfferedOn stream g (ts ++ us)
 offered_front stream g [] us h = absurd h
 offered_front stream g (t ∷ ts) us (inl h) = inl h
 offered_front stream g (t ∷ ts) us (inr h) = inr (offered_front stream g ts us h)
 
-offered_behind : (stream : Numbered) (g : MadeOffer) (ts us : List Told) → IsOfferedOn stream g us → IsOfferedOn stream g (ts ++ us)
+offered_behind : (stream : Numbered) (g : MadeOffer) (ts us : List StreamEvent) → IsOfferedOn stream g us → IsOfferedOn stream g (ts ++ us)
 offered_behind stream g [] us h = h
 offered_behind stream g (t ∷ ts) us h = inr (offered_behind stream g ts us h)
 

@@ -11,7 +11,7 @@ use Rattle.mails.specs.declared.mail.AgentMail.{AgentMail}
 use Rattle.mails.specs.declared.refusal.MasterRefusal.{MasterRefusal}
 use Rattle.cluster_model.specs.Ids.{same, before, each_once, last_number}
 use Rattle.cluster_model.specs.Sides.{Side, opens, SendKill, SendAck, SendEnd, SendHello, Lose}
-use Rattle.cluster_model.specs.Events.{FAILURE}
+use Rattle.cluster_model.specs.Events.{Failure}
 use Rattle.cluster_model.specs.Masters.{Framework, Master, Move, AtSide, TearDownAll, Doing, nothing, refused, saying, moving, framework_of, is_torn, put_framework, with_framework, tells_all, Placed, all_booked, held, is_of, withdraws, clear_on, without_filters_on, add_filter, side_of, has_numbers, may_have_numbers}
 use Rattle.cluster_model.specs.Calls.{frameworks_limit, to_list, subscribed, subscriber, removed, resubscribed, is_unheard_of, sides_with_tasks, on_teardown, answers_held, Given, good_side, given_by, Accepting, accepts_all, passes_limits, rest_after, own_offers, accepted_as, accepted_from, on_accept, on_decline, on_revive, on_suppress, commanding, on_kill, is_last_heard, on_acknowledge, on_reconcile, is_stream, on_its_stream, by_known, called}
 use Rattle.cluster_model.specs.Mails.{judged, rescinds, loses, session_opens, goes_with, mailed_as, mailed, is_due, beaten_on, beaten, ticked, agent_lost, hung_up_by, hung_up}
@@ -151,7 +151,7 @@ pub ticked_up_to : (n : ℕ) (m : Master) (now : ℕ) → AllUpTo n m.registers.
 ticked_up_to n m now h = mapped n (beaten now) (λ f k. beaten_up_to n now f f.stream k) m.registers.frameworks h
 
 pub lost_up_to : (n : ℕ) (m : Master) (s : Side) → AllUpTo n m.registers.frameworks → StaysUpTo n (agent_lost m s)
-lost_up_to n m s h = if_up_to n s.is_open (record { refusal = None; moves = AtSide s.name Lose ∷ AtSide s.name SendHello ∷ []; events = rescinds m s.offers ++ loses m s.name s.booked ++ tells_all m.registers.frameworks (FAILURE s.name); opens = []; closes = []; registers = without_filters_on s.name m.registers }) (nothing m) (cleared n s.name m.registers.frameworks h) h
+lost_up_to n m s h = if_up_to n s.is_open (record { refusal = None; moves = AtSide s.name Lose ∷ AtSide s.name SendHello ∷ []; events = rescinds m s.offers ++ loses m s.name s.booked ++ tells_all m.registers.frameworks (Failure s.name); opens = []; closes = []; registers = without_filters_on s.name m.registers }) (nothing m) (cleared n s.name m.registers.frameworks h) h
 
 hung_by_up_to : (n : ℕ) (m : Master) (stream : Numbered) (o : Option Framework) → AllUpTo n m.registers.frameworks → ((f : Framework) → o ≡ Some f → IsUpTo n f) → StaysUpTo n (hung_up_by m stream o)
 hung_by_up_to n m stream None h k = h

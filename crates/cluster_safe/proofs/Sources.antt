@@ -17,7 +17,7 @@ use Rattle.names_core.specs.declared.state.TaskState.TheVariants.{Error}
 use Rattle.role_weights.specs.Weights.{RoleWeight}
 use Rattle.cluster_model.specs.Ids.{same, is_empty, last_number}
 use Rattle.cluster_model.specs.Sides.{Side, is_named, opens, MakeOffer, SendKill, SendAck, SendEnd, SendHello, SendAgain, Lose}
-use Rattle.cluster_model.specs.Events.{MadeOffer, FAILURE}
+use Rattle.cluster_model.specs.Events.{MadeOffer, Failure}
 use Rattle.cluster_model.specs.Masters.{Framework, Master, Move, AtSide, TearDownAll, Doing, nothing, refused, saying, moving, framework_of, is_torn, with_framework, tells_all, Placed, all_booked, held_among, held, is_of, withdraws_on, withdraws, without_filters_on, side_of, has_numbers, may_have_numbers}
 use Rattle.cluster_model.specs.Calls.{frameworks_limit, to_list, subscribed, removed, resubscribed, is_unheard_of, sides_with_tasks, on_teardown, answers, answers_held, Given, good_side, given_by, Accepting, is_covered, job_of, launching, answering, accepts_as, accepts_one, passes_limits, accepted_from, on_accept, on_decline, on_revive, on_suppress, commanding, on_kill, is_last_heard, on_acknowledge, on_reconcile, is_stream, on_its_stream, by_known, called}
 use Rattle.cluster_model.specs.Mails.{judged, rescinds, loses, is_to_end, session_opens, goes_with, mailed_as, mailed, ticks, ticked, agent_lost, hung_up_by, hung_up}
@@ -154,7 +154,7 @@ ticked_without m now = mapped_without ticks (λ s. cond_both s.is_open SendAgain
 pub lost_without : (m : Master) (s : Side) → Each MoveWithout (agent_lost m s).moves
 lost_without m s = by s.is_open
   where
-    by : (b : Bool) → Each MoveWithout (if b then record { refusal = None; moves = AtSide s.name Lose ∷ AtSide s.name SendHello ∷ []; events = rescinds m s.offers ++ loses m s.name s.booked ++ tells_all m.registers.frameworks (FAILURE s.name); opens = []; closes = []; registers = without_filters_on s.name m.registers } else nothing m).moves
+    by : (b : Bool) → Each MoveWithout (if b then record { refusal = None; moves = AtSide s.name Lose ∷ AtSide s.name SendHello ∷ []; events = rescinds m s.offers ++ loses m s.name s.booked ++ tells_all m.registers.frameworks (Failure s.name); opens = []; closes = []; registers = without_filters_on s.name m.registers } else nothing m).moves
     by true = (tt, (tt, tt))
     by false = tt
 

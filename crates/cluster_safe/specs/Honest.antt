@@ -1,7 +1,8 @@
 -- Honest frameworks, and what they have acknowledged.
-use Rattle.std.specs.Prelude.{◌≡◌, ◌⊎◌, ℕ, suc, zero, ◌≤◌, Bool, not, ◌&&◌, ◌==◌, if◌then◌else◌, List, [], ◌∷◌, ◌++◌, fold, flat_map, length, max, Some, ⊤}
+use Rattle.std.specs.Prelude.{◌≡◌, ◌⊎◌, ℕ, suc, zero, ◌≤◌, Bool, not, ◌&&◌, ◌==◌, if◌then◌else◌, List, [], ◌∷◌, ◌++◌, fold, flat_map, length, max, Option, Some, None, option_to_list, ⊤}
 use Rattle.std.specs.List.{list_any}
 use Rattle.names_core.specs.Ids.{Numbered}
+use Rattle.names_core.specs.Updates as updates
 use Rattle.names_core.specs.declared.state.TaskState.{TaskState}
 use Rattle.mails.specs.declared.task.Job.{Job}
 use Rattle.mails.specs.declared.call.Call.{Call}
@@ -9,7 +10,7 @@ use Rattle.mails.specs.declared.call.Call.TheVariants.{Acknowledge}
 use Rattle.mails.specs.declared.record.Durable.{Durable}
 use Rattle.mails.specs.declared.record.RecordedTask.{RecordedTask}
 use Rattle.cluster_model.specs.Ids.{same}
-use Rattle.cluster_model.specs.Events.{Event, Told, UPDATE}
+use Rattle.cluster_model.specs.Events.{Event, StreamEvent, Update}
 use Rattle.cluster_histories.specs.Clusters.{Post, Called, Entry}
 use Rattle.cluster_steps.specs.declared.step.Step.{Step}
 use Rattle.cluster_steps.specs.declared.step.Step.TheVariants.{Send}
@@ -17,18 +18,23 @@ use Rattle.cluster_histories.specs.Steps.{History, Marked, extended, step_marked
 use Rattle.cluster_safe.specs.Acknowledged.{recorded_tasks}
 use Rattle.cluster_safe.specs.Origin.{IsOneOf}
 
--- an event tells update k of a launch key
+-- an update that has to be acknowledged is update k of a launch key
+abbrev pub IsNumbered : Numbered → ℕ → Option updates.Update → Type 0
+IsNumbered key k None = ⊥
+IsNumbered key k (Some uuid) = (uuid.key ≡ key) × (uuid.k ≡ k)
+
+-- an event tells it
 abbrev pub Tells : Numbered → ℕ → Event → Type 0
-Tells key k (UPDATE task state agent (Some uuid)) = (uuid.key ≡ key) × (uuid.k ≡ k)
+Tells key k (Update status) = IsNumbered key k status.update
 Tells key k event = ⊥
 
-abbrev pub WasTold : Numbered → ℕ → List Told → Type 0
+abbrev pub WasTold : Numbered → ℕ → List StreamEvent → Type 0
 WasTold key k [] = ⊥
 WasTold key k (t ∷ ts) = Tells key k t.event ⊎ WasTold key k ts
 
 -- the events that were handed out by the Takes of all entries
-abbrev pub handed_in : List Entry → List Told
-handed_in entries = flat_map (λ e. e.outs.taken) entries
+abbrev pub handed_in : List Entry → List StreamEvent
+handed_in entries = flat_map (λ e. option_to_list e.outputs.taken) entries
 
 -- a call that acknowledges as this framework names an update that was handed out before
 abbrev pub IsHonestCall : Numbered → List Entry → Call → Type 0
@@ -46,7 +52,7 @@ abbrev pub Honest : Numbered → History → List Marked → Type 0
 Honest framework h [] = ⊤
 Honest framework h (s ∷ ss) =
     IsHonestStep framework h.entries s.step
-    × Honest framework (extended h (step_marked h.state s)) ss
+    × Honest framework (extended h s.step (step_marked h.state s)) ss
 
 -- the numbers that a framework has acknowledged of a key, in order of first sending
 

@@ -1,14 +1,14 @@
 -- The updates of a launch key over a whole history.
-use Rattle.std.specs.Prelude.{◌≡◌, ℕ, ◌≤◌, nat_lt, if◌then◌else◌, List, [], ◌∷◌, length, flat_map, slice_get, bytes_eq, Option, Some, None, ⊤}
+use Rattle.std.specs.Prelude.{◌≡◌, ℕ, ◌≤◌, nat_lt, if◌then◌else◌, List, [], ◌∷◌, length, flat_map, slice_get, bytes_eq, Option, Some, None, IfSome, ⊤}
 use Rattle.std.specs.List.{AllByRecursion as Each}
 use Rattle.names_core.specs.Ids.{Numbered}
 use Rattle.names_core.specs.declared.state.TaskState.{TaskState}
-use Rattle.names_core.specs.Updates.{Update}
+use Rattle.names_core.specs.Updates as updates
 use Rattle.mails.specs.declared.record.Durable.{Durable}
 use Rattle.mails.specs.declared.record.RecordedTask.{RecordedTask}
 use Rattle.cluster_model.specs.Ids.{same}
 use Rattle.cluster_model.specs.Channels.{Channel, World, Happening, after}
-use Rattle.cluster_model.specs.Events.{Event, UPDATE, Told}
+use Rattle.cluster_model.specs.Events.{Event, StreamEvent, Update}
 use Rattle.cluster_histories.specs.Clusters.{Entry}
 use Rattle.cluster_histories.specs.Steps.{History}
 use Rattle.cluster_safe.specs.Acknowledged.{recorded_tasks}
@@ -63,25 +63,27 @@ HaveAllUpdates hs start w =
 
 -- an update that is told has the state of its number among the updates of its key,
 -- and these stand in its agent's record
-abbrev pub IsUpdateOf : List Happening → World → Option (List ℕ) → Update → TaskState → Type 0
+abbrev pub IsUpdateOf : List Happening → World → Option (List ℕ) → updates.Update → TaskState → Type 0
 IsUpdateOf hs start None uuid state = ⊥
 IsUpdateOf hs start (Some agent) uuid state =
     (slice_get (updates_of uuid.key hs start) uuid.k ≡ Some state)
     × (slice_get (updates_on agent uuid.key hs start) uuid.k ≡ Some state)
 
 abbrev pub TellsUpdate : List Happening → World → Event → Type 0
-TellsUpdate hs start (UPDATE task state agent (Some uuid)) = IsUpdateOf hs start agent uuid state
+TellsUpdate hs start (Update status) =
+    IfSome status.update (λ uuid. IsUpdateOf hs start status.agent uuid status.state)
 TellsUpdate hs start event = ⊤
 
--- so does each update of an entry that is told, or handed out by a Take
+-- so does each update that is told, or handed out by a Take
 abbrev pub TellsUpdates : World → History → Type 0
 TellsUpdates start h =
-    Each (λ (e : Entry). Each (λ (t : Told). TellsUpdate h.happenings start t.event) e.outs.events)
-    h.entries
+    Each (λ (t : StreamEvent). TellsUpdate h.happenings start t.event) h.opened.events
+    × Each (λ (e : Entry). Each (λ (t : StreamEvent). TellsUpdate h.happenings start t.event)
+    e.outputs.events) h.entries
 
 abbrev pub HandsUpdates : World → History → Type 0
 HandsUpdates start h =
-    Each (λ (e : Entry). Each (λ (t : Told). TellsUpdate h.happenings start t.event) e.outs.taken)
+    Each (λ (e : Entry). IfSome e.outputs.taken (λ t. TellsUpdate h.happenings start t.event))
     h.entries
 
 -- the records of an opening acknowledge no more updates than there are,

@@ -124,12 +124,12 @@ pub fn masters_step_alone()
     ensures master { (c : Cluster) (d : Doing)
         → master_of (done c (effect_of [] d)).after ≡ after_doing (master_of c) d }
     ensures mails { (c : Cluster) (d : Doing)
-        → (done c (effect_of [] d)).entry.outs.sent
+        → (done c (effect_of [] d)).outputs.sent
         ≡ map MailToAgent (moved (master_of c) d.moves).sent }
     // At an agent's mail its side hears it first.
     ensures hears { (c : Cluster) (agent : List ℕ) (place : ℕ) (x : Channel) (mail : AgentMail) (d : Doing) → channel_of c agent ≡ Some x → slice_get x.to_master place ≡ Some mail →
         (master_of (done c (effect_of (At agent (Hear place) ∷ []) d)).after ≡ after_doing (having_heard (master_of c) agent mail) d) ×
-        ((done c (effect_of (At agent (Hear place) ∷ []) d)).entry.outs.sent ≡ map MailToAgent (moved (having_heard (master_of c) agent mail) d.moves).sent) }
+        ((done c (effect_of (At agent (Hear place) ∷ []) d)).outputs.sent ≡ map MailToAgent (moved (having_heard (master_of c) agent mail) d.moves).sent) }
 {}
 
 /// Each offer that enters the current ones in a round is told in an OFFERS event,

@@ -4,7 +4,7 @@ use Rattle.names_core.specs.declared.state.TaskState.TheVariants.{Lost}
 use Rattle.mails.specs.declared.mail.MasterMail.TheVariants.{Hello}
 use Rattle.mails.specs.declared.mail.AgentMail.TheVariants.{Report}
 use Rattle.mails.specs.declared.record.Durable.{Durable}
-use Rattle.cluster_model.specs.Events.{SUBSCRIBED, OFFERS, UPDATE, FAILED_OVER}
+use Rattle.cluster_model.specs.Events.{Subscribed, Offers, update_event, failover_error}
 use Rattle.cluster_steps.specs.declared.step.Step.{Step}
 use Rattle.cluster_steps.specs.declared.step.Step.TheVariants.{Send, Deliver, Allocate, Tick, Prepare, Commit}
 use Rattle.cluster_steps.specs.declared.step.StepCause.TheVariants.{Mail as ByMail}
@@ -64,31 +64,31 @@ steps = Prepare n_a1 (ByMail 1) ∷
 
 abbrev pub expected : Expected
 expected = record {
-  lines = line Fine [] [] (to_agent n_a1 (Hello 1 0) ∷ to_agent n_a2 (Hello 1 0) ∷ []) [] ∷
-      line Fine [] [] [] [] ∷
-      line Fine [] [] (from_agent n_a1 (Report 1 1 [] (row n_cpus 4 ∷ [])) ∷ []) [] ∷
-      line Fine [] [] [] [] ∷
-      line Fine [] [] [] [] ∷
-      line Fine [] [] (from_agent n_a2 (Report 1 1 [] (row n_cpus 3 ∷ [])) ∷ []) [] ∷
-      line Fine [] [] [] [] ∷
-      line Fine [] [] (CallSent ∷ []) [] ∷
-      line Fine (told (id 1 1) (SUBSCRIBED (id 1 1)) ∷ []) [] [] [] ∷
-      line Fine (told (id 1 1) (OFFERS (made n_a1 (id 1 1) (id 1 1) (row n_cpus 4 ∷ []) ∷ made n_a2 (id 1 2) (id 1 1) (row n_cpus 3 ∷ []) ∷ [])) ∷ []) [] [] [] ∷
-      line Fine [] [] (CallSent ∷ []) [] ∷
-      line Fine [] [] [] [] ∷
-      line Fine [] [] [] [] ∷
-      line Fine [] [] [] [] ∷
-      line Fine [] [] [] [] ∷
-      line Fine [] [] [] [] ∷
-      line Fine (told (id 1 1) (OFFERS (made n_a1 (id 1 3) (id 1 1) (row n_cpus 4 ∷ []) ∷ made n_a2 (id 1 4) (id 1 1) (row n_cpus 3 ∷ []) ∷ [])) ∷ []) [] [] [] ∷
-      line Fine [] [] (CallSent ∷ []) [] ∷
-      line Fine (told (id 1 1) (UPDATE n_t1 Lost (Some n_a1) None) ∷ []) [] [] [] ∷
-      line Fine (told (id 1 1) (OFFERS (made n_a1 (id 1 5) (id 1 1) (row n_cpus 4 ∷ []) ∷ [])) ∷ []) [] [] [] ∷
-      line Fine [] [] (CallSent ∷ []) [] ∷
-      line Fine [] [] [] [] ∷
-      line Fine [] [] [] [] ∷
-      line Fine [] [] (CallSent ∷ []) [] ∷
-      line Fine (told (id 1 1) FAILED_OVER ∷ told (id 1 2) (SUBSCRIBED (id 1 1)) ∷ []) (id 1 1 ∷ []) [] [] ∷
-      line Fine (told (id 1 2) (OFFERS (made n_a1 (id 1 6) (id 1 1) (row n_cpus 4 ∷ []) ∷ made n_a2 (id 1 7) (id 1 1) (row n_cpus 3 ∷ []) ∷ [])) ∷ []) [] [] [] ∷ [];
+  lines = line Fine [] [] (to_agent n_a1 (Hello 1 0) ∷ to_agent n_a2 (Hello 1 0) ∷ []) None ∷
+      line Fine [] [] [] None ∷
+      line Fine [] [] (from_agent n_a1 (Report 1 1 [] (row n_cpus 4 ∷ [])) ∷ []) None ∷
+      line Fine [] [] [] None ∷
+      line Fine [] [] [] None ∷
+      line Fine [] [] (from_agent n_a2 (Report 1 1 [] (row n_cpus 3 ∷ [])) ∷ []) None ∷
+      line Fine [] [] [] None ∷
+      line Fine [] [] (CallSent ∷ []) None ∷
+      line Fine (told (id 1 1) (Subscribed (id 1 1)) ∷ []) [] [] None ∷
+      line Fine (told (id 1 1) (Offers (made n_a1 (id 1 1) (id 1 1) (row n_cpus 4 ∷ []) ∷ made n_a2 (id 1 2) (id 1 1) (row n_cpus 3 ∷ []) ∷ [])) ∷ []) [] [] None ∷
+      line Fine [] [] (CallSent ∷ []) None ∷
+      line Fine [] [] [] None ∷
+      line Fine [] [] [] None ∷
+      line Fine [] [] [] None ∷
+      line Fine [] [] [] None ∷
+      line Fine [] [] [] None ∷
+      line Fine (told (id 1 1) (Offers (made n_a1 (id 1 3) (id 1 1) (row n_cpus 4 ∷ []) ∷ made n_a2 (id 1 4) (id 1 1) (row n_cpus 3 ∷ []) ∷ [])) ∷ []) [] [] None ∷
+      line Fine [] [] (CallSent ∷ []) None ∷
+      line Fine (told (id 1 1) (update_event n_t1 Lost (Some n_a1) None) ∷ []) [] [] None ∷
+      line Fine (told (id 1 1) (Offers (made n_a1 (id 1 5) (id 1 1) (row n_cpus 4 ∷ []) ∷ [])) ∷ []) [] [] None ∷
+      line Fine [] [] (CallSent ∷ []) None ∷
+      line Fine [] [] [] None ∷
+      line Fine [] [] [] None ∷
+      line Fine [] [] (CallSent ∷ []) None ∷
+      line Fine (told (id 1 1) failover_error ∷ told (id 1 2) (Subscribed (id 1 1)) ∷ []) (id 1 1 ∷ []) [] None ∷
+      line Fine (told (id 1 2) (Offers (made n_a1 (id 1 6) (id 1 1) (row n_cpus 4 ∷ []) ∷ made n_a2 (id 1 7) (id 1 1) (row n_cpus 3 ∷ []) ∷ [])) ∷ []) [] [] None ∷ [];
   ends = ending n_a1 (row n_cpus 4 ∷ []) [] ∷ ending n_a2 (row n_cpus 3 ∷ []) [] ∷ [];
 }

@@ -4,7 +4,7 @@ use Rattle.mails.specs.declared.mail.Command.TheVariants.{Launch}
 use Rattle.mails.specs.declared.mail.MasterMail.TheVariants.{Hello, Issued}
 use Rattle.mails.specs.declared.mail.AgentMail.TheVariants.{Report}
 use Rattle.mails.specs.declared.record.Durable.{Durable}
-use Rattle.cluster_model.specs.Events.{SUBSCRIBED, OFFERS}
+use Rattle.cluster_model.specs.Events.{Subscribed, Offers}
 use Rattle.cluster_steps.specs.declared.step.Step.{Step}
 use Rattle.cluster_steps.specs.declared.step.Step.TheVariants.{Send, Deliver, Allocate, Prepare, Commit}
 use Rattle.cluster_steps.specs.declared.step.StepCause.TheVariants.{Mail as ByMail}
@@ -70,29 +70,29 @@ steps = Prepare n_a1 (ByMail 1) ∷
 
 abbrev pub expected : Expected
 expected = record {
-  lines = line Fine [] [] (to_agent n_a1 (Hello 1 0) ∷ []) [] ∷
-      line Fine [] [] [] [] ∷
-      line Fine [] [] (from_agent n_a1 (Report 1 1 [] (row n_cpus 9 ∷ row n_mem 18 ∷ [])) ∷ []) [] ∷
-      line Fine [] [] [] [] ∷
-      line Fine [] [] (CallSent ∷ []) [] ∷
-      line Fine (told (id 1 1) (SUBSCRIBED (id 1 1)) ∷ []) [] [] [] ∷
-      line Fine [] [] (CallSent ∷ []) [] ∷
-      line Fine (told (id 1 2) (SUBSCRIBED (id 1 2)) ∷ []) [] [] [] ∷
-      line Fine (told (id 1 1) (OFFERS (made n_a1 (id 1 1) (id 1 1) (row n_cpus 9 ∷ row n_mem 18 ∷ []) ∷ [])) ∷ []) [] [] [] ∷
-      line Fine [] [] (CallSent ∷ []) [] ∷
-      line Fine [] [] (to_agent n_a1 (Issued 1 1 (Launch (job (id 1 1) (id 1 1) n_t1 (row n_cpus 1 ∷ row n_mem 4 ∷ [])) ((id 1 1) ∷ []))) ∷ []) [] ∷
-      line Fine (told (id 1 2) (OFFERS (made n_a1 (id 1 2) (id 1 2) (row n_cpus 8 ∷ row n_mem 14 ∷ []) ∷ [])) ∷ []) [] [] [] ∷
-      line Fine [] [] (CallSent ∷ []) [] ∷
-      line Fine [] [] (to_agent n_a1 (Issued 1 2 (Launch (job (id 1 2) (id 1 2) n_t2 (row n_cpus 3 ∷ row n_mem 1 ∷ [])) ((id 1 2) ∷ []))) ∷ []) [] ∷
-      line Fine (told (id 1 1) (OFFERS (made n_a1 (id 1 3) (id 1 1) (row n_cpus 5 ∷ row n_mem 13 ∷ []) ∷ [])) ∷ []) [] [] [] ∷
-      line Fine [] [] (CallSent ∷ []) [] ∷
-      line Fine [] [] (to_agent n_a1 (Issued 1 3 (Launch (job (id 1 3) (id 1 1) n_t3 (row n_cpus 1 ∷ row n_mem 4 ∷ [])) ((id 1 3) ∷ []))) ∷ []) [] ∷
-      line Fine (told (id 1 2) (OFFERS (made n_a1 (id 1 4) (id 1 2) (row n_cpus 4 ∷ row n_mem 9 ∷ []) ∷ [])) ∷ []) [] [] [] ∷
-      line Fine [] [] (CallSent ∷ []) [] ∷
-      line Fine [] [] (to_agent n_a1 (Issued 1 4 (Launch (job (id 1 4) (id 1 2) n_t4 (row n_cpus 3 ∷ row n_mem 1 ∷ [])) ((id 1 4) ∷ []))) ∷ []) [] ∷
-      line Fine (told (id 1 1) (OFFERS (made n_a1 (id 1 5) (id 1 1) (row n_cpus 1 ∷ row n_mem 8 ∷ []) ∷ [])) ∷ []) [] [] [] ∷
-      line Fine [] [] (CallSent ∷ []) [] ∷
-      line Fine [] [] (to_agent n_a1 (Issued 1 5 (Launch (job (id 1 5) (id 1 1) n_t5 (row n_cpus 1 ∷ row n_mem 4 ∷ [])) ((id 1 5) ∷ []))) ∷ []) [] ∷
-      line Fine (told (id 1 1) (OFFERS (made n_a1 (id 1 6) (id 1 1) (row n_mem 4 ∷ []) ∷ [])) ∷ []) [] [] [] ∷ [];
+  lines = line Fine [] [] (to_agent n_a1 (Hello 1 0) ∷ []) None ∷
+      line Fine [] [] [] None ∷
+      line Fine [] [] (from_agent n_a1 (Report 1 1 [] (row n_cpus 9 ∷ row n_mem 18 ∷ [])) ∷ []) None ∷
+      line Fine [] [] [] None ∷
+      line Fine [] [] (CallSent ∷ []) None ∷
+      line Fine (told (id 1 1) (Subscribed (id 1 1)) ∷ []) [] [] None ∷
+      line Fine [] [] (CallSent ∷ []) None ∷
+      line Fine (told (id 1 2) (Subscribed (id 1 2)) ∷ []) [] [] None ∷
+      line Fine (told (id 1 1) (Offers (made n_a1 (id 1 1) (id 1 1) (row n_cpus 9 ∷ row n_mem 18 ∷ []) ∷ [])) ∷ []) [] [] None ∷
+      line Fine [] [] (CallSent ∷ []) None ∷
+      line Fine [] [] (to_agent n_a1 (Issued 1 1 (Launch (job (id 1 1) (id 1 1) n_t1 (row n_cpus 1 ∷ row n_mem 4 ∷ [])) ((id 1 1) ∷ []))) ∷ []) None ∷
+      line Fine (told (id 1 2) (Offers (made n_a1 (id 1 2) (id 1 2) (row n_cpus 8 ∷ row n_mem 14 ∷ []) ∷ [])) ∷ []) [] [] None ∷
+      line Fine [] [] (CallSent ∷ []) None ∷
+      line Fine [] [] (to_agent n_a1 (Issued 1 2 (Launch (job (id 1 2) (id 1 2) n_t2 (row n_cpus 3 ∷ row n_mem 1 ∷ [])) ((id 1 2) ∷ []))) ∷ []) None ∷
+      line Fine (told (id 1 1) (Offers (made n_a1 (id 1 3) (id 1 1) (row n_cpus 5 ∷ row n_mem 13 ∷ []) ∷ [])) ∷ []) [] [] None ∷
+      line Fine [] [] (CallSent ∷ []) None ∷
+      line Fine [] [] (to_agent n_a1 (Issued 1 3 (Launch (job (id 1 3) (id 1 1) n_t3 (row n_cpus 1 ∷ row n_mem 4 ∷ [])) ((id 1 3) ∷ []))) ∷ []) None ∷
+      line Fine (told (id 1 2) (Offers (made n_a1 (id 1 4) (id 1 2) (row n_cpus 4 ∷ row n_mem 9 ∷ []) ∷ [])) ∷ []) [] [] None ∷
+      line Fine [] [] (CallSent ∷ []) None ∷
+      line Fine [] [] (to_agent n_a1 (Issued 1 4 (Launch (job (id 1 4) (id 1 2) n_t4 (row n_cpus 3 ∷ row n_mem 1 ∷ [])) ((id 1 4) ∷ []))) ∷ []) None ∷
+      line Fine (told (id 1 1) (Offers (made n_a1 (id 1 5) (id 1 1) (row n_cpus 1 ∷ row n_mem 8 ∷ []) ∷ [])) ∷ []) [] [] None ∷
+      line Fine [] [] (CallSent ∷ []) None ∷
+      line Fine [] [] (to_agent n_a1 (Issued 1 5 (Launch (job (id 1 5) (id 1 1) n_t5 (row n_cpus 1 ∷ row n_mem 4 ∷ [])) ((id 1 5) ∷ []))) ∷ []) None ∷
+      line Fine (told (id 1 1) (Offers (made n_a1 (id 1 6) (id 1 1) (row n_mem 4 ∷ []) ∷ [])) ∷ []) [] [] None ∷ [];
   ends = ending n_a1 (row n_mem 4 ∷ []) [] ∷ [];
 }

@@ -1,9 +1,9 @@
--- A HEARTBEAT goes out fifteen seconds after the last one; time does not run back.
+-- A Heartbeat goes out fifteen seconds after the last one; time does not run back.
 use Rattle.std.specs.Prelude.{ℕ, List, [], ◌∷◌, None}
 use Rattle.mails.specs.declared.mail.MasterMail.TheVariants.{Hello}
 use Rattle.mails.specs.declared.mail.AgentMail.TheVariants.{Report}
 use Rattle.mails.specs.declared.record.Durable.{Durable}
-use Rattle.cluster_model.specs.Events.{SUBSCRIBED, HEARTBEAT}
+use Rattle.cluster_model.specs.Events.{Subscribed, Heartbeat}
 use Rattle.cluster_steps.specs.declared.step.Step.{Step}
 use Rattle.cluster_steps.specs.declared.step.Step.TheVariants.{Send, Deliver, Tick, Prepare, Commit}
 use Rattle.cluster_steps.specs.declared.step.StepCause.TheVariants.{Mail as ByMail}
@@ -41,15 +41,15 @@ steps = Prepare n_a1 (ByMail 1) ∷
 
 abbrev pub expected : Expected
 expected = record {
-  lines = line Fine [] [] (to_agent n_a1 (Hello 1 0) ∷ []) [] ∷
-      line Fine [] [] [] [] ∷
-      line Fine [] [] (from_agent n_a1 (Report 1 1 [] (row n_cpus 4 ∷ row n_mem 4096 ∷ [])) ∷ []) [] ∷
-      line Fine [] [] [] [] ∷
-      line Fine [] [] (CallSent ∷ []) [] ∷
-      line Fine (told (id 1 1) (SUBSCRIBED (id 1 1)) ∷ []) [] [] [] ∷
-      line Fine [] [] [] [] ∷
-      line Fine (told (id 1 1) HEARTBEAT ∷ []) [] [] [] ∷
-      line Fine [] [] [] [] ∷
+  lines = line Fine [] [] (to_agent n_a1 (Hello 1 0) ∷ []) None ∷
+      line Fine [] [] [] None ∷
+      line Fine [] [] (from_agent n_a1 (Report 1 1 [] (row n_cpus 4 ∷ row n_mem 4096 ∷ [])) ∷ []) None ∷
+      line Fine [] [] [] None ∷
+      line Fine [] [] (CallSent ∷ []) None ∷
+      line Fine (told (id 1 1) (Subscribed (id 1 1)) ∷ []) [] [] None ∷
+      line Fine [] [] [] None ∷
+      line Fine (told (id 1 1) Heartbeat ∷ []) [] [] None ∷
+      line Fine [] [] [] None ∷
       Refused TimeBack ∷ [];
   ends = ending n_a1 [] [] ∷ [];
 }

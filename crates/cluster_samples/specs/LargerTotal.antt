@@ -4,7 +4,7 @@ use Rattle.mails.specs.declared.mail.MasterMail.TheVariants.{Hello}
 use Rattle.mails.specs.declared.mail.AgentMail.TheVariants.{Report}
 use Rattle.mails.specs.declared.record.Durable.{Durable}
 use Rattle.quantity.specs.declared.rows.Row.{Row}
-use Rattle.cluster_model.specs.Events.{SUBSCRIBED, OFFERS, RESCIND}
+use Rattle.cluster_model.specs.Events.{Subscribed, Offers, Rescind}
 use Rattle.cluster_steps.specs.declared.step.Step.{Step}
 use Rattle.cluster_steps.specs.declared.step.Step.TheVariants.{Send, Deliver, Allocate, Prepare, Commit}
 use Rattle.cluster_steps.specs.declared.step.StepCause.TheVariants.{Start as ByStart, Mail as ByMail}
@@ -52,19 +52,19 @@ steps = Prepare n_a1 (ByMail 1) ∷
 
 abbrev pub expected : Expected
 expected = record {
-  lines = line Fine [] [] (to_agent n_a1 (Hello 1 0) ∷ []) [] ∷
-      line Fine [] [] [] [] ∷
-      line Fine [] [] (from_agent n_a1 (Report 1 1 [] less) ∷ []) [] ∷
-      line Fine [] [] [] [] ∷
-      line Fine [] [] (CallSent ∷ []) [] ∷
-      line Fine (told (id 1 1) (SUBSCRIBED (id 1 1)) ∷ []) [] [] [] ∷
-      line Fine (told (id 1 1) (OFFERS (made n_a1 (id 1 1) (id 1 1) less ∷ [])) ∷ []) [] [] [] ∷
-      line Fine [] [] [] [] ∷
-      line Fine [] [] [] [] ∷
-      line Fine [] [] (from_agent n_a1 (Report 2 1 [] more) ∷ []) [] ∷
-      line Fine [] [] [] [] ∷
-      line Fine (told (id 1 1) (RESCIND (id 1 1)) ∷ []) [] [] [] ∷
-      line Fine (told (id 1 1) (OFFERS (made n_a1 (id 1 2) (id 1 1) more ∷ [])) ∷ []) [] [] [] ∷
-      line (MasterRefused masters.OldSession) [] [] (to_agent n_a1 (Hello 1 1) ∷ []) [] ∷ [];
+  lines = line Fine [] [] (to_agent n_a1 (Hello 1 0) ∷ []) None ∷
+      line Fine [] [] [] None ∷
+      line Fine [] [] (from_agent n_a1 (Report 1 1 [] less) ∷ []) None ∷
+      line Fine [] [] [] None ∷
+      line Fine [] [] (CallSent ∷ []) None ∷
+      line Fine (told (id 1 1) (Subscribed (id 1 1)) ∷ []) [] [] None ∷
+      line Fine (told (id 1 1) (Offers (made n_a1 (id 1 1) (id 1 1) less ∷ [])) ∷ []) [] [] None ∷
+      line Fine [] [] [] None ∷
+      line Fine [] [] [] None ∷
+      line Fine [] [] (from_agent n_a1 (Report 2 1 [] more) ∷ []) None ∷
+      line Fine [] [] [] None ∷
+      line Fine (told (id 1 1) (Rescind (id 1 1)) ∷ []) [] [] None ∷
+      line Fine (told (id 1 1) (Offers (made n_a1 (id 1 2) (id 1 1) more ∷ [])) ∷ []) [] [] None ∷
+      line (MasterRefused masters.OldSession) [] [] (to_agent n_a1 (Hello 1 1) ∷ []) None ∷ [];
   ends = ending n_a1 more [] ∷ [];
 }

@@ -1,5 +1,5 @@
 -- Behind the last run no master comes.
-use Rattle.std.specs.Prelude.{ℕ, List, [], ◌∷◌}
+use Rattle.std.specs.Prelude.{ℕ, List, [], ◌∷◌, None}
 use Rattle.mails.specs.declared.mail.MasterMail.TheVariants.{Hello}
 use Rattle.mails.specs.declared.record.Durable.{Durable}
 use Rattle.cluster_steps.specs.declared.step.Step.{Step}
@@ -29,11 +29,11 @@ steps = StopMaster ∷
 
 abbrev pub expected : Expected
 expected = record {
-  lines = line Fine [] [] (to_agent n_a1 (Hello 65535 0) ∷ []) [] ∷
-      line Fine [] [] [] [] ∷
+  lines = line Fine [] [] (to_agent n_a1 (Hello 65535 0) ∷ []) None ∷
+      line Fine [] [] [] None ∷
       Refused MasterDown ∷
       Refused MasterDown ∷
-      line Fine [] [] [] [] ∷
+      line Fine [] [] [] None ∷
       Refused MasterDown ∷ [];
   ends = ending n_a1 [] [] ∷ [];
 }

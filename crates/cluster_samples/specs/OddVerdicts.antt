@@ -5,7 +5,7 @@ use Rattle.mails.specs.declared.mail.Command.TheVariants.{Launch, EndFramework}
 use Rattle.mails.specs.declared.mail.MasterMail.TheVariants.{Hello, Issued}
 use Rattle.mails.specs.declared.mail.AgentMail.TheVariants.{Report, Applied, Update}
 use Rattle.mails.specs.declared.record.Durable.{Durable}
-use Rattle.cluster_model.specs.Events.{SUBSCRIBED, OFFERS, UPDATE, FAILED_OVER, REMOVED, HEARTBEAT}
+use Rattle.cluster_model.specs.Events.{Subscribed, Offers, update_event, failover_error, removal_error, Heartbeat}
 use Rattle.cluster_steps.specs.declared.step.Step.{Step}
 use Rattle.cluster_steps.specs.declared.step.Step.TheVariants.{Send, Deliver, Allocate, Tick, HangUp, Prepare, Commit, Take}
 use Rattle.cluster_steps.specs.declared.step.StepCause.TheVariants.{Start as ByStart, Executor as ByExecutor, Mail as ByMail}
@@ -116,68 +116,68 @@ steps = Prepare n_a1 (ByStart None) ∷
 
 abbrev pub expected : Expected
 expected = record {
-  lines = line Fine [] [] (to_agent n_a1 (Hello 1 0) ∷ to_agent n_a2 (Hello 1 0) ∷ []) [] ∷
-      line (AgentRefused refusals.OldSession) [] [] [] [] ∷
+  lines = line Fine [] [] (to_agent n_a1 (Hello 1 0) ∷ to_agent n_a2 (Hello 1 0) ∷ []) None ∷
+      line (AgentRefused refusals.OldSession) [] [] [] None ∷
       Refused NoDraft ∷
-      line (AgentRefused refusals.NotForMe) [] [] [] [] ∷
+      line (AgentRefused refusals.NotForMe) [] [] [] None ∷
       Refused NoDraft ∷
-      line Fine [] [] [] [] ∷
-      line Fine [] [] (from_agent n_a1 (Report 1 1 [] (row n_cpus 4 ∷ [])) ∷ []) [] ∷
-      line Fine [] [] [] [] ∷
-      line Fine [] [] (CallSent ∷ []) [] ∷
-      line Fine (told (id 1 1) (SUBSCRIBED (id 1 1)) ∷ []) [] [] [] ∷
-      line Fine [] [] (CallSent ∷ []) [] ∷
-      line Fine (told (id 1 2) (SUBSCRIBED (id 1 2)) ∷ []) [] [] [] ∷
-      line Fine [] [] (CallSent ∷ []) [] ∷
-      line (MasterRefused masters.NoSuchFramework) [] [] [] [] ∷
-      line Fine (told (id 1 2) (OFFERS (made n_a1 (id 1 1) (id 1 2) (row n_cpus 4 ∷ []) ∷ [])) ∷ []) [] [] [] ∷
-      line Fine [] [] (CallSent ∷ []) [] ∷
-      line Fine (told (id 1 2) (UPDATE n_t1 Staging (Some n_a1) None) ∷ told (id 1 2) (UPDATE n_t2 Error (Some n_a1) None) ∷ told (id 1 2) (UPDATE n_t3 Error (Some n_a1) None) ∷ []) [] (to_agent n_a1 (Issued 1 1 (Launch (job (id 1 1) (id 1 2) n_t1 (row n_cpus 1 ∷ [])) ((id 1 1) ∷ []))) ∷ to_agent n_a1 (Issued 1 2 (Launch (job (id 1 2) (id 1 2) n_t4 (row n_cpus 2 ∷ [])) ((id 1 1) ∷ []))) ∷ []) [] ∷
-      line (AgentRefused refusals.NotNext) [] [] [] [] ∷
+      line Fine [] [] [] None ∷
+      line Fine [] [] (from_agent n_a1 (Report 1 1 [] (row n_cpus 4 ∷ [])) ∷ []) None ∷
+      line Fine [] [] [] None ∷
+      line Fine [] [] (CallSent ∷ []) None ∷
+      line Fine (told (id 1 1) (Subscribed (id 1 1)) ∷ []) [] [] None ∷
+      line Fine [] [] (CallSent ∷ []) None ∷
+      line Fine (told (id 1 2) (Subscribed (id 1 2)) ∷ []) [] [] None ∷
+      line Fine [] [] (CallSent ∷ []) None ∷
+      line (MasterRefused masters.NoSuchFramework) [] [] [] None ∷
+      line Fine (told (id 1 2) (Offers (made n_a1 (id 1 1) (id 1 2) (row n_cpus 4 ∷ []) ∷ [])) ∷ []) [] [] None ∷
+      line Fine [] [] (CallSent ∷ []) None ∷
+      line Fine (told (id 1 2) (update_event n_t1 Staging (Some n_a1) None) ∷ told (id 1 2) (update_event n_t2 Error (Some n_a1) None) ∷ told (id 1 2) (update_event n_t3 Error (Some n_a1) None) ∷ []) [] (to_agent n_a1 (Issued 1 1 (Launch (job (id 1 1) (id 1 2) n_t1 (row n_cpus 1 ∷ [])) ((id 1 1) ∷ []))) ∷ to_agent n_a1 (Issued 1 2 (Launch (job (id 1 2) (id 1 2) n_t4 (row n_cpus 2 ∷ [])) ((id 1 1) ∷ []))) ∷ []) None ∷
+      line (AgentRefused refusals.NotNext) [] [] [] None ∷
       Refused NoDraft ∷
-      line Fine [] [] [] [] ∷
-      line Fine [] [] (from_agent n_a1 (Applied 1 1) ∷ []) [] ∷
-      line Fine [] [] [] [] ∷
-      line Fine [] [] (from_agent n_a1 (Applied 1 2) ∷ []) [] ∷
-      line Fine [] [] [] [] ∷
-      line Fine [] [] (from_agent n_a1 (Applied 1 2) ∷ []) [] ∷
-      line (AgentRefused refusals.NoSuchTask) [] [] [] [] ∷
+      line Fine [] [] [] None ∷
+      line Fine [] [] (from_agent n_a1 (Applied 1 1) ∷ []) None ∷
+      line Fine [] [] [] None ∷
+      line Fine [] [] (from_agent n_a1 (Applied 1 2) ∷ []) None ∷
+      line Fine [] [] [] None ∷
+      line Fine [] [] (from_agent n_a1 (Applied 1 2) ∷ []) None ∷
+      line (AgentRefused refusals.NoSuchTask) [] [] [] None ∷
       Refused NoDraft ∷
-      line Fine [] [] [] [] ∷
-      line Fine [] [] (from_agent n_a1 (Update 1 (id 1 1) 0 Failed true) ∷ []) [] ∷
-      line Fine (told (id 1 2) (UPDATE n_t1 Failed (Some n_a1) (Some (uuid (id 1 1) 0))) ∷ []) [] [] [] ∷
-      line (AgentRefused refusals.Ended) [] [] [] [] ∷
+      line Fine [] [] [] None ∷
+      line Fine [] [] (from_agent n_a1 (Update 1 (id 1 1) 0 Failed true) ∷ []) None ∷
+      line Fine (told (id 1 2) (update_event n_t1 Failed (Some n_a1) (Some (uuid (id 1 1) 0))) ∷ []) [] [] None ∷
+      line (AgentRefused refusals.Ended) [] [] [] None ∷
       Refused NoDraft ∷
-      line Fine [] [] (CallSent ∷ []) [] ∷
-      line Fine (told (id 1 2) (UPDATE n_t1 Failed (Some n_a1) None) ∷ []) [] [] [] ∷
-      line Fine [] [] (CallSent ∷ []) [] ∷
-      line Fine (told (id 1 2) (UPDATE n_t1 Failed (Some n_a1) None) ∷ told (id 1 2) (UPDATE n_t4 Staging (Some n_a1) None) ∷ told (id 1 2) (UPDATE n_x Lost (Some n_a1) None) ∷ []) [] [] [] ∷
-      line Fine [] [] (CallSent ∷ []) [] ∷
-      line (MasterRefused masters.WrongStream) [] [] [] [] ∷
-      line Fine [] [] (CallSent ∷ []) [] ∷
-      line (MasterRefused masters.WrongStream) [] [] [] [] ∷
-      line Fine [] ((id 1 1) ∷ []) [] [] ∷
-      line Fine [] [] (CallSent ∷ []) [] ∷
-      line (MasterRefused masters.NotSubscribed) [] [] [] [] ∷
-      line Fine [] [] (CallSent ∷ []) [] ∷
-      line Fine (told (id 1 2) FAILED_OVER ∷ told (id 1 3) (SUBSCRIBED (id 1 2)) ∷ []) ((id 1 2) ∷ []) [] [] ∷
-      line Fine (told (id 1 3) HEARTBEAT ∷ []) [] (to_agent n_a1 (Issued 1 1 (Launch (job (id 1 1) (id 1 2) n_t1 (row n_cpus 1 ∷ [])) ((id 1 1) ∷ []))) ∷ to_agent n_a2 (Hello 1 0) ∷ []) [] ∷
-      line Fine (told (id 1 3) (OFFERS (made n_a1 (id 1 2) (id 1 2) (row n_cpus 2 ∷ []) ∷ [])) ∷ []) [] [] [] ∷
-      line Fine [] [] (CallSent ∷ []) [] ∷
-      line Fine [] ((id 1 3) ∷ []) (to_agent n_a1 (Issued 1 3 (EndFramework (id 1 2))) ∷ []) [] ∷
-      line Fine [] [] (CallSent ∷ []) [] ∷
-      line (MasterRefused masters.NoSuchFramework) [] [] [] [] ∷
-      line Fine [] [] (CallSent ∷ []) [] ∷
-      line Fine (told (id 1 4) REMOVED ∷ []) ((id 1 4) ∷ []) [] [] ∷
-      line (AgentRefused refusals.NotForMe) [] [] [] [] ∷
+      line Fine [] [] (CallSent ∷ []) None ∷
+      line Fine (told (id 1 2) (update_event n_t1 Failed (Some n_a1) None) ∷ []) [] [] None ∷
+      line Fine [] [] (CallSent ∷ []) None ∷
+      line Fine (told (id 1 2) (update_event n_t1 Failed (Some n_a1) None) ∷ told (id 1 2) (update_event n_t4 Staging (Some n_a1) None) ∷ told (id 1 2) (update_event n_x Lost (Some n_a1) None) ∷ []) [] [] None ∷
+      line Fine [] [] (CallSent ∷ []) None ∷
+      line (MasterRefused masters.WrongStream) [] [] [] None ∷
+      line Fine [] [] (CallSent ∷ []) None ∷
+      line (MasterRefused masters.WrongStream) [] [] [] None ∷
+      line Fine [] ((id 1 1) ∷ []) [] None ∷
+      line Fine [] [] (CallSent ∷ []) None ∷
+      line (MasterRefused masters.NotSubscribed) [] [] [] None ∷
+      line Fine [] [] (CallSent ∷ []) None ∷
+      line Fine (told (id 1 2) failover_error ∷ told (id 1 3) (Subscribed (id 1 2)) ∷ []) ((id 1 2) ∷ []) [] None ∷
+      line Fine (told (id 1 3) Heartbeat ∷ []) [] (to_agent n_a1 (Issued 1 1 (Launch (job (id 1 1) (id 1 2) n_t1 (row n_cpus 1 ∷ [])) ((id 1 1) ∷ []))) ∷ to_agent n_a2 (Hello 1 0) ∷ []) None ∷
+      line Fine (told (id 1 3) (Offers (made n_a1 (id 1 2) (id 1 2) (row n_cpus 2 ∷ []) ∷ [])) ∷ []) [] [] None ∷
+      line Fine [] [] (CallSent ∷ []) None ∷
+      line Fine [] ((id 1 3) ∷ []) (to_agent n_a1 (Issued 1 3 (EndFramework (id 1 2))) ∷ []) None ∷
+      line Fine [] [] (CallSent ∷ []) None ∷
+      line (MasterRefused masters.NoSuchFramework) [] [] [] None ∷
+      line Fine [] [] (CallSent ∷ []) None ∷
+      line Fine (told (id 1 4) removal_error ∷ []) ((id 1 4) ∷ []) [] None ∷
+      line (AgentRefused refusals.NotForMe) [] [] [] None ∷
       Refused NoDraft ∷
-      line Fine [] [] [] [] ∷
-      line Fine [] [] (from_agent n_a2 (Report 1 1 [] (row n_cpus 4 ∷ [])) ∷ []) [] ∷
-      line Fine [] [] [] [] ∷
-      line Fine [] [] [] [] ∷
-      line Fine [] [] (from_agent n_a1 (Report 2 1 (booked (job (id 1 1) (id 1 2) n_t1 (row n_cpus 1 ∷ [])) true 1 Failed ∷ booked (job (id 1 2) (id 1 2) n_t4 (row n_cpus 2 ∷ [])) false 0 Staging ∷ []) (row n_cpus 4 ∷ [])) ∷ from_agent n_a1 (Update 2 (id 1 1) 0 Failed true) ∷ []) [] ∷
-      line Fine [] [] (to_agent n_a1 (Issued 2 1 (EndFramework (id 1 2))) ∷ []) [] ∷
-      line Fine [] [] [] (told (id 1 3) (SUBSCRIBED (id 1 2)) ∷ []) ∷ [];
+      line Fine [] [] [] None ∷
+      line Fine [] [] (from_agent n_a2 (Report 1 1 [] (row n_cpus 4 ∷ [])) ∷ []) None ∷
+      line Fine [] [] [] None ∷
+      line Fine [] [] [] None ∷
+      line Fine [] [] (from_agent n_a1 (Report 2 1 (booked (job (id 1 1) (id 1 2) n_t1 (row n_cpus 1 ∷ [])) true 1 Failed ∷ booked (job (id 1 2) (id 1 2) n_t4 (row n_cpus 2 ∷ [])) false 0 Staging ∷ []) (row n_cpus 4 ∷ [])) ∷ from_agent n_a1 (Update 2 (id 1 1) 0 Failed true) ∷ []) None ∷
+      line Fine [] [] (to_agent n_a1 (Issued 2 1 (EndFramework (id 1 2))) ∷ []) None ∷
+      line Fine [] [] [] (Some (told (id 1 3) (Subscribed (id 1 2)))) ∷ [];
   ends = ending n_a1 [] (task (job (id 1 1) (id 1 2) n_t1 (row n_cpus 1 ∷ [])) ((id 1 1) ∷ []) (Failed ∷ []) 0 ∷ task (job (id 1 2) (id 1 2) n_t4 (row n_cpus 2 ∷ [])) ((id 1 1) ∷ []) [] 0 ∷ []) ∷
       ending n_a2 [] [] ∷ [];
 }

@@ -3,7 +3,7 @@ use Rattle.std.specs.Prelude.{ℕ, List, [], ◌∷◌, None}
 use Rattle.mails.specs.declared.mail.MasterMail.TheVariants.{Hello}
 use Rattle.mails.specs.declared.mail.AgentMail.TheVariants.{Report}
 use Rattle.mails.specs.declared.record.Durable.{Durable}
-use Rattle.cluster_model.specs.Events.{SUBSCRIBED}
+use Rattle.cluster_model.specs.Events.{Subscribed}
 use Rattle.cluster_steps.specs.declared.step.Step.{Step}
 use Rattle.cluster_steps.specs.declared.step.Step.TheVariants.{Send, Deliver, HangUp, Prepare, Commit, StopAgent}
 use Rattle.cluster_steps.specs.declared.step.Keep.TheVariants.{After}
@@ -51,21 +51,21 @@ steps = Prepare n_a1 (ByMail 1) ∷
 
 abbrev pub expected : Expected
 expected = record {
-  lines = line Fine [] [] (to_agent n_a1 (Hello 1 0) ∷ []) [] ∷
-      line Fine [] [] [] [] ∷
-      line Fine [] [] (from_agent n_a1 (Report 1 1 [] (row n_cpus 4 ∷ row n_mem 4096 ∷ [])) ∷ []) [] ∷
-      line Fine [] [] [] [] ∷
-      line Fine [] [] (CallSent ∷ []) [] ∷
-      line Fine (told (id 1 1) (SUBSCRIBED (id 1 1)) ∷ []) [] [] [] ∷
+  lines = line Fine [] [] (to_agent n_a1 (Hello 1 0) ∷ []) None ∷
+      line Fine [] [] [] None ∷
+      line Fine [] [] (from_agent n_a1 (Report 1 1 [] (row n_cpus 4 ∷ row n_mem 4096 ∷ [])) ∷ []) None ∷
+      line Fine [] [] [] None ∷
+      line Fine [] [] (CallSent ∷ []) None ∷
+      line Fine (told (id 1 1) (Subscribed (id 1 1)) ∷ []) [] [] None ∷
       Refused NoSuchMail ∷
       Refused NoSuchMail ∷
       Refused NoSuchAgent ∷
       Refused NoDraft ∷
       Refused NoDraft ∷
-      line Fine [] [] [] [] ∷
+      line Fine [] [] [] None ∷
       Refused DraftOpen ∷
       Refused NoSuchMail ∷
-      line Fine [] ((id 1 1) ∷ []) [] [] ∷
-      line Fine [] [] [] [] ∷ [];
+      line Fine [] ((id 1 1) ∷ []) [] None ∷
+      line Fine [] [] [] None ∷ [];
   ends = ending n_a1 [] [] ∷ [];
 }

@@ -5,7 +5,7 @@ use Rattle.mails.specs.declared.mail.Command.TheVariants.{Launch}
 use Rattle.mails.specs.declared.mail.MasterMail.TheVariants.{Hello, Issued}
 use Rattle.mails.specs.declared.mail.AgentMail.TheVariants.{Report, Applied, Update}
 use Rattle.mails.specs.declared.record.Durable.{Durable}
-use Rattle.cluster_model.specs.Events.{SUBSCRIBED, OFFERS}
+use Rattle.cluster_model.specs.Events.{Subscribed, Offers}
 use Rattle.cluster_steps.specs.declared.step.Step.{Step}
 use Rattle.cluster_steps.specs.declared.step.Step.TheVariants.{Send, Deliver, Allocate, Prepare, Commit, StopMaster}
 use Rattle.cluster_steps.specs.declared.step.StepCause.TheVariants.{Start as ByStart, Executor as ByExecutor, Mail as ByMail}
@@ -65,31 +65,31 @@ steps = Prepare n_a1 (ByMail 1) ∷
 
 abbrev pub expected : Expected
 expected = record {
-  lines = line Fine [] [] (to_agent n_a1 (Hello 1 0) ∷ to_agent n_a2 (Hello 1 0) ∷ []) [] ∷
-      line Fine [] [] [] [] ∷
-      line Fine [] [] (from_agent n_a1 (Report 1 1 [] (row n_cpus 4 ∷ row n_mem 4096 ∷ [])) ∷ []) [] ∷
-      line Fine [] [] [] [] ∷
-      line Fine [] [] (from_agent n_a1 (Report 2 1 [] (row n_cpus 4 ∷ row n_mem 4096 ∷ [])) ∷ []) [] ∷
-      line Fine [] [] [] [] ∷
-      line Fine [] [] (from_agent n_a1 (Report 3 1 [] (row n_cpus 4 ∷ row n_mem 4096 ∷ [])) ∷ []) [] ∷
-      line Fine [] [] [] [] ∷
-      line Fine [] [] [] [] ∷
-      line (MasterRefused masters.OldSession) [] [] (to_agent n_a1 (Hello 1 1) ∷ []) [] ∷
-      line Fine [] [] (CallSent ∷ []) [] ∷
-      line Fine (told (id 1 1) (SUBSCRIBED (id 1 1)) ∷ []) [] [] [] ∷
-      line Fine (told (id 1 1) (OFFERS (made n_a1 (id 1 1) (id 1 1) (row n_cpus 4 ∷ row n_mem 4096 ∷ []) ∷ [])) ∷ []) [] [] [] ∷
-      line Fine [] [] (CallSent ∷ []) [] ∷
-      line Fine [] [] (to_agent n_a1 (Issued 3 1 (Launch (job (id 1 1) (id 1 1) n_t1 (row n_cpus 1 ∷ [])) ((id 1 1) ∷ []))) ∷ []) [] ∷
-      line Fine [] [] [] [] ∷
-      line Fine [] [] (from_agent n_a1 (Applied 3 1) ∷ []) [] ∷
-      line Fine [] [] [] [] ∷
-      line Fine [] [] (from_agent n_a1 (Report 4 1 (booked (job (id 1 1) (id 1 1) n_t1 (row n_cpus 1 ∷ [])) false 0 Staging ∷ []) (row n_cpus 4 ∷ row n_mem 4096 ∷ [])) ∷ []) [] ∷
-      line Fine [] [] [] [] ∷
-      line Fine [] [] (from_agent n_a1 (Update 4 (id 1 1) 0 Running false) ∷ []) [] ∷
-      line (MasterRefused masters.NotOpen) [] [] (to_agent n_a1 (Hello 1 1) ∷ []) [] ∷
-      line Fine [] [] [] [] ∷
-      line Fine [] [] (to_agent n_a1 (Hello 2 0) ∷ to_agent n_a2 (Hello 2 0) ∷ []) [] ∷
-      line (MasterRefused masters.OtherRun) [] [] [] [] ∷ [];
+  lines = line Fine [] [] (to_agent n_a1 (Hello 1 0) ∷ to_agent n_a2 (Hello 1 0) ∷ []) None ∷
+      line Fine [] [] [] None ∷
+      line Fine [] [] (from_agent n_a1 (Report 1 1 [] (row n_cpus 4 ∷ row n_mem 4096 ∷ [])) ∷ []) None ∷
+      line Fine [] [] [] None ∷
+      line Fine [] [] (from_agent n_a1 (Report 2 1 [] (row n_cpus 4 ∷ row n_mem 4096 ∷ [])) ∷ []) None ∷
+      line Fine [] [] [] None ∷
+      line Fine [] [] (from_agent n_a1 (Report 3 1 [] (row n_cpus 4 ∷ row n_mem 4096 ∷ [])) ∷ []) None ∷
+      line Fine [] [] [] None ∷
+      line Fine [] [] [] None ∷
+      line (MasterRefused masters.OldSession) [] [] (to_agent n_a1 (Hello 1 1) ∷ []) None ∷
+      line Fine [] [] (CallSent ∷ []) None ∷
+      line Fine (told (id 1 1) (Subscribed (id 1 1)) ∷ []) [] [] None ∷
+      line Fine (told (id 1 1) (Offers (made n_a1 (id 1 1) (id 1 1) (row n_cpus 4 ∷ row n_mem 4096 ∷ []) ∷ [])) ∷ []) [] [] None ∷
+      line Fine [] [] (CallSent ∷ []) None ∷
+      line Fine [] [] (to_agent n_a1 (Issued 3 1 (Launch (job (id 1 1) (id 1 1) n_t1 (row n_cpus 1 ∷ [])) ((id 1 1) ∷ []))) ∷ []) None ∷
+      line Fine [] [] [] None ∷
+      line Fine [] [] (from_agent n_a1 (Applied 3 1) ∷ []) None ∷
+      line Fine [] [] [] None ∷
+      line Fine [] [] (from_agent n_a1 (Report 4 1 (booked (job (id 1 1) (id 1 1) n_t1 (row n_cpus 1 ∷ [])) false 0 Staging ∷ []) (row n_cpus 4 ∷ row n_mem 4096 ∷ [])) ∷ []) None ∷
+      line Fine [] [] [] None ∷
+      line Fine [] [] (from_agent n_a1 (Update 4 (id 1 1) 0 Running false) ∷ []) None ∷
+      line (MasterRefused masters.NotOpen) [] [] (to_agent n_a1 (Hello 1 1) ∷ []) None ∷
+      line Fine [] [] [] None ∷
+      line Fine [] [] (to_agent n_a1 (Hello 2 0) ∷ to_agent n_a2 (Hello 2 0) ∷ []) None ∷
+      line (MasterRefused masters.OtherRun) [] [] [] None ∷ [];
   ends = ending n_a1 [] (task (job (id 1 1) (id 1 1) n_t1 (row n_cpus 1 ∷ [])) ((id 1 1) ∷ []) (Running ∷ []) 0 ∷ []) ∷
       ending n_a2 [] [] ∷ [];
 }

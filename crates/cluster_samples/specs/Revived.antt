@@ -3,7 +3,7 @@ use Rattle.std.specs.Prelude.{ℕ, List, [], ◌∷◌, Some, None}
 use Rattle.mails.specs.declared.mail.MasterMail.TheVariants.{Hello}
 use Rattle.mails.specs.declared.mail.AgentMail.TheVariants.{Report}
 use Rattle.mails.specs.declared.record.Durable.{Durable}
-use Rattle.cluster_model.specs.Events.{SUBSCRIBED, OFFERS}
+use Rattle.cluster_model.specs.Events.{Subscribed, Offers}
 use Rattle.cluster_steps.specs.declared.step.Step.{Step}
 use Rattle.cluster_steps.specs.declared.step.Step.TheVariants.{Send, Deliver, Allocate, Prepare, Commit}
 use Rattle.cluster_steps.specs.declared.step.StepCause.TheVariants.{Mail as ByMail}
@@ -43,18 +43,18 @@ steps = Prepare n_a1 (ByMail 1) ∷
 
 abbrev pub expected : Expected
 expected = record {
-  lines = line Fine [] [] (to_agent n_a1 (Hello 1 0) ∷ []) [] ∷
-      line Fine [] [] [] [] ∷
-      line Fine [] [] (from_agent n_a1 (Report 1 1 [] (row n_cpus 4 ∷ row n_mem 4096 ∷ [])) ∷ []) [] ∷
-      line Fine [] [] [] [] ∷
-      line Fine [] [] (CallSent ∷ []) [] ∷
-      line Fine (told (id 1 1) (SUBSCRIBED (id 1 1)) ∷ []) [] [] [] ∷
-      line Fine (told (id 1 1) (OFFERS (made n_a1 (id 1 1) (id 1 1) (row n_cpus 4 ∷ row n_mem 4096 ∷ []) ∷ [])) ∷ []) [] [] [] ∷
-      line Fine [] [] (CallSent ∷ []) [] ∷
-      line Fine [] [] [] [] ∷
-      line Fine [] [] [] [] ∷
-      line Fine [] [] (CallSent ∷ []) [] ∷
-      line Fine [] [] [] [] ∷
-      line Fine (told (id 1 1) (OFFERS (made n_a1 (id 1 2) (id 1 1) (row n_cpus 4 ∷ row n_mem 4096 ∷ []) ∷ [])) ∷ []) [] [] [] ∷ [];
+  lines = line Fine [] [] (to_agent n_a1 (Hello 1 0) ∷ []) None ∷
+      line Fine [] [] [] None ∷
+      line Fine [] [] (from_agent n_a1 (Report 1 1 [] (row n_cpus 4 ∷ row n_mem 4096 ∷ [])) ∷ []) None ∷
+      line Fine [] [] [] None ∷
+      line Fine [] [] (CallSent ∷ []) None ∷
+      line Fine (told (id 1 1) (Subscribed (id 1 1)) ∷ []) [] [] None ∷
+      line Fine (told (id 1 1) (Offers (made n_a1 (id 1 1) (id 1 1) (row n_cpus 4 ∷ row n_mem 4096 ∷ []) ∷ [])) ∷ []) [] [] None ∷
+      line Fine [] [] (CallSent ∷ []) None ∷
+      line Fine [] [] [] None ∷
+      line Fine [] [] [] None ∷
+      line Fine [] [] (CallSent ∷ []) None ∷
+      line Fine [] [] [] None ∷
+      line Fine (told (id 1 1) (Offers (made n_a1 (id 1 2) (id 1 1) (row n_cpus 4 ∷ row n_mem 4096 ∷ []) ∷ [])) ∷ []) [] [] None ∷ [];
   ends = ending n_a1 (row n_cpus 4 ∷ row n_mem 4096 ∷ []) [] ∷ [];
 }

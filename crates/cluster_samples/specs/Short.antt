@@ -15,8 +15,10 @@ use Rattle.mails.specs.declared.record.Durable.{Durable}
 use Rattle.mails.specs.declared.record.RecordedTask.{RecordedTask}
 use Rattle.cluster_model.specs.Sides.{offer_rows}
 use Rattle.cluster_model.specs.Channels.{Channel}
-use Rattle.cluster_model.specs.Events.{Event, MadeOffer, Told}
-use Rattle.cluster_histories.specs.Clusters.{Cluster, Entry}
+use Rattle.scheduler_events.specs.declared.event.Event.{Event}
+use Rattle.scheduler_events.specs.declared.offer.Offer.{Offer}
+use Rattle.scheduler_events.specs.declared.stream_event.StreamEvent.{StreamEvent}
+use Rattle.cluster_histories.specs.Clusters.{Cluster, Outputs}
 use Rattle.cluster_steps.specs.declared.step.Step.{Step}
 use Rattle.cluster_steps.specs.declared.fault.ClusterFault.{ClusterFault}
 use Rattle.cluster_steps.specs.declared.verdict.Verdict.{Verdict}
@@ -36,8 +38,8 @@ job key framework name resources = record { key = key; framework = framework; na
 abbrev pub booked : Job → Bool → ℕ → TaskState → Booked
 booked job ended heard state = record { job = job; ended = ended; heard = heard; state = state }
 
-abbrev pub made : List ℕ → Numbered → Numbered → List Row → MadeOffer
-made agent id framework resources = record { agent = agent; offer = record { id = id; framework = framework; resources = resources } }
+abbrev pub made : List ℕ → Numbered → Numbered → List Row → Offer
+made agent id framework resources = record { id = id; framework = framework; agent = agent; resources = resources }
 
 abbrev pub wanted : List ℕ → List ℕ → List Row → TaskInfo
 wanted name agent resources = record { name = name; agent = agent; resources = resources }
@@ -48,7 +50,7 @@ asked name agent = record { name = name; agent = agent }
 abbrev pub uuid : Numbered → ℕ → Update
 uuid key k = record { key = key; k = k }
 
-abbrev pub told : Numbered → Event → Told
+abbrev pub told : Numbered → Event → StreamEvent
 told stream event = record { stream = stream; event = event }
 
 abbrev pub to_agent : List ℕ → MasterMail → Sent
@@ -65,11 +67,11 @@ durable name total session run tasks = record { name = name; total = total; sess
 
 -- what a step answers
 pub data Line : Type 0 where
-  Entered : (entry : Entry) → Line
+  Entered : (verdict : Verdict) → (outputs : Outputs) → Line
   Refused : (refusal : ClusterFault) → Line
 
-abbrev pub line : Verdict → List Told → List Numbered → List Sent → List Told → Line
-line verdict events closed sent taken = Entered (record { verdict = verdict; outs = record { events = events; closed = closed; sent = sent; taken = taken } })
+abbrev pub line : Verdict → List StreamEvent → List Numbered → List Sent → Option StreamEvent → Line
+line verdict events closed sent taken = Entered verdict (record { events = events; closed = closed; sent = sent; taken = taken })
 
 -- of each agent, what is offered of it and the tasks of its record
 pub record Ending : Type 0 where
@@ -89,7 +91,7 @@ pub record Run : Type 0 where
   pub state : Cluster
 
 abbrev pub run_by : Run → Result Done ClusterFault → Run
-run_by r (Ok d) = record { lines = r.lines ++ Entered d.entry ∷ []; state = d.after }
+run_by r (Ok d) = record { lines = r.lines ++ Entered d.verdict d.outputs ∷ []; state = d.after }
 run_by r (Err refusal) = record { lines = r.lines ++ Refused refusal ∷ []; state = r.state }
 
 abbrev pub run_all : Run → List Marked → Run
@@ -97,7 +99,7 @@ run_all r [] = r
 run_all r (s ∷ ss) = run_all (run_by r (step_marked r.state s)) ss
 
 abbrev pub begun : Done → Run
-begun d = record { lines = Entered d.entry ∷ []; state = d.after }
+begun d = record { lines = Entered d.verdict d.outputs ∷ []; state = d.after }
 
 abbrev pub run_marked : ℕ → List Durable → List Marked → Run
 run_marked number records steps = run_all (begun (open_cluster (unweighted number) records)) steps

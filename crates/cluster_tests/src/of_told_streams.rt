@@ -2,9 +2,8 @@
 
 ghost use Rattle.std.specs.Prelude.{◌<◌};
 
-use event_json::Event;
-use master_state::StreamEvent;
 use names_core::{OfferId, StreamId};
+use scheduler_events::{Event, StreamEvent};
 use std::alloc::Global;
 use told_streams::Streams;
 

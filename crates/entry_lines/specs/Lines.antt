@@ -4,7 +4,7 @@ use Rattle.std.specs.List.{flat_map}
 use Rattle.names_core.specs.Ids.{Numbered, id_text}
 use Rattle.event_json.specs.Events.{event_text}
 use Rattle.mail_text.specs.Mails.{to_agent_form, to_master_form}
-use Rattle.master_state.specs.declared.state.StreamEvent.{StreamEvent}
+use Rattle.scheduler_events.specs.declared.stream_event.StreamEvent.{StreamEvent}
 use Rattle.cluster_steps.specs.declared.verdict.Sent.{Sent}
 use Rattle.cluster_steps.specs.declared.verdict.Sent.TheVariants.{Call, ToAgent, ToMaster}
 use Rattle.cluster_entries.specs.declared.entry.Outputs.{Outputs}

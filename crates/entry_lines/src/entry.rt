@@ -10,8 +10,8 @@ use cluster_entries::{Entry, Outputs};
 use cluster_steps::{ClusterFault, Sent, Step};
 use event_json::write_event;
 use mail_text::{to_agent_text, to_master_text};
-use master_state::StreamEvent;
 use names_core::StreamId;
+use scheduler_events::StreamEvent;
 use shared_value::Shared;
 use std::alloc::{AllocError, Global};
 

@@ -23,9 +23,9 @@ use Rattle.event_json.specs.Bounds.{longest, IsName, IsOffer, AreOffers, IsEvent
 use Rattle.event_json.specs.Events.{event_data, event_text}
 use Rattle.event_json.specs.Offers.{row_data, offer_data}
 use Rattle.event_json.specs.Statuses.{status_object}
-use Rattle.event_json.specs.declared.event.Event.{Event}
-use Rattle.event_json.specs.declared.event.Event.TheVariants.{Subscribed, Offers, Rescind, Update, Failure, Error, Heartbeat}
-use Rattle.event_json.specs.declared.offer.Offer.{Offer}
+use Rattle.scheduler_events.specs.declared.event.Event.{Event}
+use Rattle.scheduler_events.specs.declared.event.Event.TheVariants.{Subscribed, Offers, Rescind, Update, Failure, Error, Heartbeat}
+use Rattle.scheduler_events.specs.declared.offer.Offer.{Offer}
 
 -- ---- strings
 

@@ -4,10 +4,10 @@ use Rattle.std.specs.List.{AllByRecursion}
 use Rattle.names_core.specs.Ids.{InRange}
 use Rattle.names_core.specs.Names.{is_name}
 use Rattle.quantity.specs.Rows.{AreRows}
-use Rattle.event_json.specs.declared.offer.Offer.{Offer}
-use Rattle.event_json.specs.declared.status.TaskStatus.{TaskStatus}
-use Rattle.event_json.specs.declared.event.Event.{Event}
-use Rattle.event_json.specs.declared.event.Event.TheVariants.{Subscribed, Offers, Rescind, Update, Failure, Error, Heartbeat}
+use Rattle.scheduler_events.specs.declared.offer.Offer.{Offer}
+use Rattle.scheduler_events.specs.declared.status.TaskStatus.{TaskStatus}
+use Rattle.scheduler_events.specs.declared.event.Event.{Event}
+use Rattle.scheduler_events.specs.declared.event.Event.TheVariants.{Subscribed, Offers, Rescind, Update, Failure, Error, Heartbeat}
 
 -- no event's text has more bytes, so each fits a record of the event stream
 abbrev pub longest : ℕ

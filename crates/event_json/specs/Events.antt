@@ -6,8 +6,8 @@ use Rattle.serde_json.specs.Written.{compact_text}
 use Rattle.event_json.specs.Ids.{only, id_data, framework_data, offer_id_data}
 use Rattle.event_json.specs.Offers.{offer_data}
 use Rattle.event_json.specs.Statuses.{status_data}
-use Rattle.event_json.specs.declared.event.Event.{Event}
-use Rattle.event_json.specs.declared.event.Event.TheVariants.{Subscribed, Offers, Rescind, Update, Failure, Error, Heartbeat}
+use Rattle.scheduler_events.specs.declared.event.Event.{Event}
+use Rattle.scheduler_events.specs.declared.event.Event.TheVariants.{Subscribed, Offers, Rescind, Update, Failure, Error, Heartbeat}
 
 -- a type
 abbrev pub type_data : List ℕ → Data

@@ -1,6 +1,5 @@
-//! An offer.
+//! Offers.
 
-ghost use Rattle.std.proofs.Common.{rules};
 ghost use Rattle.std.specs.Prelude.{◌≡◌, [], map, IfOk, OnOk};
 ghost use Rattle.serde_json.specs.Data.{array, object};
 ghost use Rattle.serde_json.specs.View.{view, items_of, members_view};
@@ -8,28 +7,10 @@ ghost use Rattle.event_json.specs.Bounds.{IsOffer};
 ghost use Rattle.event_json.specs.Offers.{row_data, hosted, offer_data};
 
 use crate::object::{framework_value, id_value, offer_id_value, only, put_text};
-use names_core::{AgentName, FrameworkId, OfferId};
-use plain_data::Plain;
-use quantity::{Resources, Row};
+use quantity::Row;
+use scheduler_events::Offer;
 use serde_json::{Map, Value, put};
 use std::alloc::{AllocError, Global};
-
-/// Resources of an agent that a framework may use.
-#[derive(Clone, Drop, PartialEq)]
-pub struct Offer {
-    pub id: OfferId,
-    pub framework: FrameworkId,
-    pub agent: AgentName,
-    pub resources: Resources,
-}
-
-impl Plain for Offer {
-    ghost use Rattle.quantity.specs.contracts.resources.ResourcesPlain.TheImpl.Laws.{decided-law as resources_decided};
-
-    ghost cloned = { Prim.search rules };
-
-    ghost decided = { Prim.search (rules, resources_decided) };
-}
 
 /// Puts the members of an amount into an empty object.
 #[tactic(auto, unfolding(crate::specs::Offers::row_data))]

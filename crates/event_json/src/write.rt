@@ -9,12 +9,11 @@ ghost use Rattle.event_json.specs.Bounds.{IsEvent, IsOffer, IsStatus, longest};
 ghost use Rattle.event_json.specs.Events.{event_data, event_text};
 ghost use Rattle.event_json.specs.Ids.{pair};
 
-use crate::event::Event;
 use crate::object::{framework_value, id_value, offer_id_value, only, pair};
-use crate::offer::Offer;
 use crate::offers::offers_value;
-use crate::status::{TaskStatus, status_value};
+use crate::status::status_value;
 use names_core::{FrameworkId, OfferId};
+use scheduler_events::{Event, Offer, TaskStatus};
 use serde_json::Value;
 use std::alloc::{AllocError, Global};
 

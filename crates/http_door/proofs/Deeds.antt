@@ -2,7 +2,7 @@
 use Rattle.std.proofs.Common.{◌≡◌, ℕ, ◌<◌, List, [], ◌∷◌, ◌++◌, Some, Ok, ◌⊎◌, inl, inr, sym, ap, ◌∙◌, subst, refl, arith, append_assoc, append-nil}
 use Rattle.std.proofs.lemmas.List.{length-append}
 use Rattle.names_core.specs.Ids.{Numbered}
-use Rattle.event_json.specs.declared.event.Event.{Event}
+use Rattle.scheduler_events.specs.declared.event.Event.{Event}
 use Rattle.event_json.specs.Events.{event_text}
 use Rattle.http_text.specs.Responses.{event_chunk}
 use Rattle.http_door.specs.Deeds.{Deed, nexts, Chain, TurnsSpent, taken}

@@ -1,7 +1,7 @@
 -- The events of a stream, sent one after another.
 use Rattle.std.proofs.Common.{◌≡◌, ℕ, ◌+◌, List, [], ◌∷◌, ◌++◌, length, take, None, Result, Ok, Err, sym, ap, ◌∙◌, refl, append_assoc, append-nil}
 use Rattle.names_core.specs.Ids.{Numbered}
-use Rattle.event_json.specs.declared.event.Event.{Event}
+use Rattle.scheduler_events.specs.declared.event.Event.{Event}
 use Rattle.event_json.specs.Events.{event_text}
 use Rattle.http_text.specs.Responses.{subscribed_response, event_chunk, last_chunk}
 use Rattle.http_request.specs.declared.fault.LinkFault.{LinkFault}

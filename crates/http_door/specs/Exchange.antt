@@ -7,7 +7,7 @@ use Rattle.httparse.specs.Grammar.{RequestHead}
 use Rattle.mails.specs.declared.call.Call.{Call}
 use Rattle.call_members.specs.declared.fault.CallFault.TheVariants as faults
 use Rattle.call_json.specs.Calls.{read_call}
-use Rattle.event_json.specs.declared.event.Event.{Event}
+use Rattle.scheduler_events.specs.declared.event.Event.{Event}
 use Rattle.event_json.specs.Events.{event_text}
 use Rattle.http_text.specs.Responses.{accepted_response, continue_response, subscribed_response, event_chunk, last_chunk}
 use Rattle.http_head.specs.declared.fault.RequestFault.{RequestFault}

@@ -4,9 +4,9 @@ ghost use Rattle.std.specs.Prelude.{Option, Result, List};
 ghost use Rattle.http_door.specs.Deeds.{Deed, calls, nexts, hangs_up};
 
 use crate::refusal::BenchFault;
-use event_json::Event;
 use mails::Call;
 use names_core::StreamId;
+use scheduler_events::Event;
 use std::alloc::AllocError;
 
 /// What became of a call.

@@ -9,9 +9,10 @@ ghost use Rattle.http_door.specs.Turns.{Sends};
 
 use crate::outlet::Outlet;
 use crate::refusal::Refusal;
-use event_json::{Event, write_event};
+use event_json::write_event;
 use http_request::LinkFault;
 use http_text::{refusal_response, size_lines};
+use scheduler_events::Event;
 use std::alloc::Global;
 
 /// Writes a text whole.

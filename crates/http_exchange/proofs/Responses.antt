@@ -5,7 +5,7 @@ use Rattle.mails.specs.declared.call.Call.{Call}
 use Rattle.call_members.specs.declared.fault.CallFault.TheVariants as faults
 use Rattle.call_members.specs.declared.fault.Refusal as causes
 use Rattle.call_json.specs.Calls.{read_call}
-use Rattle.event_json.specs.declared.event.Event.{Event}
+use Rattle.scheduler_events.specs.declared.event.Event.{Event}
 use Rattle.http_text.specs.Responses.{accepted_response}
 use Rattle.http_head.specs.declared.plan.Plan.{Plan}
 use Rattle.http_door.specs.declared.bench.Answer.{Answer}

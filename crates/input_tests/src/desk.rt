@@ -1,10 +1,10 @@
 //! A bench over a master.
 
-use event_json::Event;
 use http_door::{Answer, Bench, BenchFault, LinkFault, NoGate, Sink, Source, serve_conn};
 use mails::Call;
-use master_core::{Config, Master, MasterFault, StreamEvent};
+use master_core::{Config, Master, MasterFault};
 use names_core::{Run, StreamId};
+use scheduler_events::{Event, StreamEvent};
 use std::alloc::{AllocError, Global};
 
 /// A master, and what it told its streams that wasn't taken yet.

@@ -1,9 +1,9 @@
 ghost use Rattle.std.specs.Prelude.{◌<◌};
 
-use event_json::Event;
 use http_door::{Answer, Bench, BenchFault, LinkFault, NoGate, Sink, Source, serve_conn};
 use mails::{Call, MasterRefusal};
 use names_core::{FrameworkId, StreamId};
+use scheduler_events::Event;
 use std::alloc::{AllocError, Global};
 
 const ACCEPTED: &str = "HTTP/1.1 202 Accepted\r\nContent-Length: 0\r\n\r\n";

@@ -12,7 +12,6 @@ use Rattle.mails.specs.declared.call.TaskInfo.{TaskInfo}
 use Rattle.mails.specs.declared.task.Job.{Job}
 use Rattle.mails.specs.declared.task.Booked.{Booked}
 use Rattle.mails.specs.declared.mail.ToAgent.{ToAgent}
-use Rattle.cluster_model.specs.Events.{Told}
 use Rattle.mails.specs.declared.framework.Framework.{Framework}
 use Rattle.mails.specs.declared.refusal.MasterRefusal.{MasterRefusal}
 use Rattle.mails.specs.declared.refusal.MasterRefusal.TheVariants.{LimitExceeded}
@@ -30,9 +29,9 @@ use Rattle.agent_sides.specs.Looks.{all_placed, at_name, withdrawing}
 use Rattle.agent_sides.specs.Own.{good_offers, sum_on}
 use Rattle.agent_sides.specs.declared.own.GoodOffers.{GoodOffers}
 use Rattle.master_state.specs.declared.state.State.{State}
-use Rattle.master_state.specs.declared.state.StreamEvent.{StreamEvent}
+use Rattle.scheduler_events.specs.declared.stream_event.StreamEvent.{StreamEvent}
 use Rattle.master_state.specs.States.{without_offers}
-use Rattle.master_state.specs.Works.{Work, admission, admission_of, done, master_of, registers_of, run_of, work_of, written}
+use Rattle.master_state.specs.Works.{Work, admission, admission_of, done, master_of, registers_of, run_of, work_of}
 use Rattle.master_state.proofs.Admissions.{Admitted, admits}
 use Rattle.master_state.proofs.Doings.{none_more}
 use Rattle.master_state.proofs.Moves.{all_withdrawn, itself, moved_so}
@@ -64,14 +63,14 @@ none_so : (s : State) (f : Framework) (caller : Caller) (ids : List Numbered) (t
     → work_of (accepted_none caller ids tasks s) ≡ done (accepted_as (master_of s) f ids seconds None (accepts_all (master_of s) f None tasks)) (work_of s)
 none_so s f caller ids tasks seconds id e names =
     ap (λ (u : State). work_of (without_offers (is_named caller.framework ids) u)) (ap (λ es. fold (accepts.loses_one caller) (with_raw s es) tasks) (sym (none_more s.outs.events)) ∙ lost_all s f caller tasks start id e refl)
-    ∙ ap (λ x. told_work s x (s.outs.events ++ map written told)) (sym (all_withdrawn (is_named caller.framework ids) s.sides (run_of s) s.outs.mails names))
-    ∙ ap (λ i. told_work s (move_all (withdraws (is_named i ids) (master_of s)) (moved_so (run_of s) s.sides s.outs.mails)) (s.outs.events ++ map written told)) (sym id)
+    ∙ ap (λ x. told_work s x (s.outs.events ++ told)) (sym (all_withdrawn (is_named caller.framework ids) s.sides (run_of s) s.outs.mails names))
+    ∙ ap (λ i. told_work s (move_all (withdraws (is_named i ids) (master_of s)) (moved_so (run_of s) s.sides s.outs.mails)) (s.outs.events ++ told)) (sym id)
     ∙ rw (none_more s.outs.opened, none_more s.outs.closed) refl
   where
     start : Accepting
     start = record { booked = all_booked (master_of s); jobs = []; used = []; next = record { run = s.run; n = suc s.last_key }; events = [] }
 
-    told : List Told
+    told : List StreamEvent
     told = (accepts_all (master_of s) f None tasks).events
 
 -- offers that are good
@@ -128,7 +127,7 @@ good_so s f caller ids tasks seconds t p =
     rest = rest_after g x
 
     events : List StreamEvent
-    events = s.outs.events ++ map written x.events
+    events = s.outs.events ++ x.events
 
     taken : accepted_so caller t.name ids seconds b ≡ parts caller.framework f.id t.name ids seconds rest (map just_booked x.jobs) (with_events s x.events)
     taken =

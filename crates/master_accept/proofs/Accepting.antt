@@ -16,16 +16,16 @@ use Rattle.mails.specs.declared.call.TaskInfo.{TaskInfo}
 use Rattle.mails.specs.declared.framework.Framework.{Framework}
 use Rattle.cluster_model.specs.Ids.{following, is_empty}
 use Rattle.cluster_model.specs.Sides.{Side, just_booked}
-use Rattle.cluster_model.specs.Events.{Event, Told, UPDATE}
+use Rattle.cluster_model.specs.Events.{Event, update_event}
 use Rattle.cluster_model.specs.Masters.{Master, Placed, all_booked, first_placed, held_among, is_task_of, on_stream}
 use Rattle.cluster_model.specs.Calls as model
 use Rattle.cluster_model.specs.Calls.{Accepting, Given, accepts_all, accepts_as, accepts_one, answering, answers, job_of, launching}
 use Rattle.offer_book.specs.Held.{first_at, is_of_name, place}
 use Rattle.agent_sides.specs.Looks.{all_placed}
 use Rattle.master_state.specs.declared.state.State.{State}
-use Rattle.master_state.specs.declared.state.StreamEvent.{StreamEvent}
+use Rattle.scheduler_events.specs.declared.stream_event.StreamEvent.{StreamEvent}
 use Rattle.master_state.specs.States.{told_of_task}
-use Rattle.master_state.specs.Works.{master_of, written}
+use Rattle.master_state.specs.Works.{master_of}
 use Rattle.master_accept.specs.Accepts.{Bench, Caller, HeldTask, Progress, bench, held_so, held_task, is_covered, launches, loses_as, loses_one, new_task, no_progress, takes_as, takes_one}
 
 -- held tasks
@@ -116,24 +116,24 @@ pub map_more : {A B : Type 0} (f : A → B) (xs : List A) (y : A) → map f (xs 
 map_more f [] y = refl
 map_more f (x ∷ xs) y = ap (λ us. f x ∷ us) (map_more f xs y)
 
-abbrev pub with_events : State → List Told → State
-with_events s ts = record s { outs = record s.outs { events = s.outs.events ++ map written ts } }
+abbrev pub with_events : State → List StreamEvent → State
+with_events s ts = record s { outs = record s.outs { events = s.outs.events ++ ts } }
 
 abbrev with_raw_events : State → List StreamEvent → State
 with_raw_events s es = record s { outs = record s.outs { events = es } }
 
-one_more : (s : State) (ts : List Told) (t : Told) → with_raw_events s ((s.outs.events ++ map written ts) ++ written t ∷ []) ≡ with_events s (ts ++ t ∷ [])
-one_more s ts t = ap (with_raw_events s) (append_twice s.outs.events (map written ts) (written t) ∙ ap (λ us. s.outs.events ++ us) (sym (map_more written ts t)))
+one_more : (s : State) (ts : List StreamEvent) (t : StreamEvent) → with_raw_events s ((s.outs.events ++ ts) ++ t ∷ []) ≡ with_events s (ts ++ t ∷ [])
+one_more s ts t = ap (with_raw_events s) (append_twice s.outs.events ts t)
 
-tells : (s : State) (ts : List Told) (stream : Numbered) (f : Framework) (task : List ℕ) (state : TaskState) (agent : Option (List ℕ)) → f.stream ≡ Some stream
+tells : (s : State) (ts : List StreamEvent) (stream : Numbered) (f : Framework) (task : List ℕ) (state : TaskState) (agent : Option (List ℕ)) → f.stream ≡ Some stream
     → told_of_task stream task state agent (with_events s ts) ≡ with_events s (ts ++ answers f task state agent)
-tells s ts stream f task state agent e = one_more s ts (record { stream = stream; event = model_update }) ∙ ap (λ o. with_events s (ts ++ told_on o)) (sym e)
+tells s ts stream f task state agent e = one_more s ts (record { stream = stream; event = update }) ∙ ap (λ o. with_events s (ts ++ told_on o)) (sym e)
   where
-    model_update : Event
-    model_update = UPDATE task state agent None
+    update : Event
+    update = update_event task state agent None
 
-    told_on : Option Numbered → List Told
-    told_on o = on_stream o model_update
+    told_on : Option Numbered → List StreamEvent
+    told_on o = on_stream o update
 
 -- jobs with keys in order from the next one on, each covered beside those before
 

@@ -10,7 +10,7 @@ use Rattle.mails.specs.declared.mail.Command.{Command}
 use Rattle.mails.specs.declared.refusal.MasterRefusal.{MasterRefusal}
 use Rattle.mails.specs.declared.refusal.MasterRefusal.TheVariants.{LimitExceeded}
 use Rattle.cluster_model.specs.Sides.{SendKill, Side, SideStep, issue, sends_nothing, side_step}
-use Rattle.cluster_model.specs.Events.{UPDATE}
+use Rattle.cluster_model.specs.Events.{update_event}
 use Rattle.cluster_model.specs.Masters.{AtSide, Doing, Master, Moved, Placed, held, keeping, may_have_numbers, moving, on_stream, refused, saying, sending_more, side_of, with_framework}
 use Rattle.cluster_model.specs.Calls.{by_framework, called, commanding, on_acknowledge, on_kill}
 use Rattle.frameworks.specs.Frameworks.{KeepsId, are_ordered, changed}
@@ -71,9 +71,9 @@ commanded_so s name command step same has =
 -- KILL and ACKNOWLEDGE
 
 kills_is : (m : Master) (task : List ℕ) (agent : Option (List ℕ)) (f : Framework) (stream : Numbered) → f.stream ≡ Some stream → (o : Option Placed) → on_kill m task agent f o ≡ kills m stream task agent (option_map held_task o)
-kills_is m task agent f stream e None = ap (λ s. saying m (on_stream s (UPDATE task Lost agent None))) e
+kills_is m task agent f stream e None = ap (λ s. saying m (on_stream s (update_event task Lost agent None))) e
 kills_is m task agent f stream e (Some p) =
-    ap (λ s. if p.booked.ended then saying m (on_stream s (UPDATE p.booked.job.name p.booked.state (Some p.agent) None)) else commanding m (side_of m p.agent) (AtSide p.agent (SendKill p.booked.job.key))) e
+    ap (λ s. if p.booked.ended then saying m (on_stream s (update_event p.booked.job.name p.booked.state (Some p.agent) None)) else commanding m (side_of m p.agent) (AtSide p.agent (SendKill p.booked.job.key))) e
 
 pub killed : (m : Master) (given : Option Numbered) (framework stream : Numbered) (task : List ℕ) (agent : Option (List ℕ)) (h : Option HeldTask) → admission m given framework ≡ Ok stream → h ≡ option_map held_task (held m framework task)
     → kills m stream task agent h ≡ called m given (calls.Kill framework task agent)

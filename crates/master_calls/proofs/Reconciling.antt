@@ -2,7 +2,7 @@
 use Rattle.std.proofs.Common.{◌≡◌, ℕ, Bool, true, false, cond, List, [], ◌∷◌, ◌++◌, map, filter, flat_map, fold, Option, Some, None, option_map, Ok, refl, sym, ap, ◌∙◌, subst}
 use Rattle.std.specs.BTreeMap.{insert_entry}
 use Rattle.std.specs.Map.{values_of}
-use Rattle.std.proofs.lemmas.List.{append_assoc, map-append}
+use Rattle.std.proofs.lemmas.List.{append_assoc}
 use Rattle.std.proofs.lemmas.List.Folds.{fold-map}
 use Rattle.std.proofs.lemmas.List.Sums.{fold-append}
 use Rattle.names_core.specs.Ids.{Numbered}
@@ -12,15 +12,15 @@ use Rattle.mails.specs.declared.call.Call.TheVariants as calls
 use Rattle.mails.specs.declared.call.ReconciledTask.{ReconciledTask}
 use Rattle.mails.specs.declared.framework.Framework.{Framework}
 use Rattle.cluster_model.specs.Sides.{Side}
-use Rattle.cluster_model.specs.Events.{Event, Told, UPDATE}
+use Rattle.cluster_model.specs.Events.{Event, update_event}
 use Rattle.cluster_model.specs.Masters.{Master, Placed, all_booked, held, on_stream, placed_on, put_placed, saying}
 use Rattle.cluster_model.specs.Calls.{answers, answers_held, called, is_awaited, is_live_of, on_reconcile, reconciles, reconciles_as}
 use Rattle.offer_book.specs.Held.{place}
 use Rattle.agent_sides.specs.Own.{holding}
 use Rattle.master_state.specs.declared.state.State.{State}
-use Rattle.master_state.specs.declared.state.StreamEvent.{StreamEvent}
+use Rattle.scheduler_events.specs.declared.stream_event.StreamEvent.{StreamEvent}
 use Rattle.master_state.specs.States.{told_of_task}
-use Rattle.master_state.specs.Works.{admission, done, master_of, work_of, written}
+use Rattle.master_state.specs.Works.{admission, done, master_of, work_of}
 use Rattle.master_state.proofs.Admissions.{Admitted, admits}
 use Rattle.master_state.proofs.Doings.{none_more, says}
 use Rattle.master_calls.specs.Tasks.{HeldTask, held_task}
@@ -32,25 +32,25 @@ use Rattle.master_calls.proofs.Placing.{IsInOrder, keyed, put_entry, put_in_orde
 abbrev with_raw_events : State → List StreamEvent → State
 with_raw_events s es = record s { outs = record s.outs { events = es } }
 
-abbrev telling : State → List Told → State
-telling s ts = with_raw_events s (s.outs.events ++ map written ts)
+abbrev telling : State → List StreamEvent → State
+telling s ts = with_raw_events s (s.outs.events ++ ts)
 
-one_more : (s : State) (ts : List Told) (t : Told) → with_raw_events s ((s.outs.events ++ map written ts) ++ written t ∷ []) ≡ telling s (ts ++ t ∷ [])
-one_more s ts t = ap (with_raw_events s) (append_assoc s.outs.events (map written ts) (written t ∷ []) ∙ ap (λ us. s.outs.events ++ us) (sym (map-append written ts (t ∷ []))))
+one_more : (s : State) (ts : List StreamEvent) (t : StreamEvent) → with_raw_events s ((s.outs.events ++ ts) ++ t ∷ []) ≡ telling s (ts ++ t ∷ [])
+one_more s ts t = ap (with_raw_events s) (append_assoc s.outs.events ts (t ∷ []))
 
-tells : (s : State) (ts : List Told) (stream : Numbered) (f : Framework) (task : List ℕ) (state : TaskState) (agent : Option (List ℕ)) → f.stream ≡ Some stream
+tells : (s : State) (ts : List StreamEvent) (stream : Numbered) (f : Framework) (task : List ℕ) (state : TaskState) (agent : Option (List ℕ)) → f.stream ≡ Some stream
     → told_of_task stream task state agent (telling s ts) ≡ telling s (ts ++ answers f task state agent)
-tells s ts stream f task state agent e = one_more s ts (record { stream = stream; event = model_update }) ∙ ap (λ o. telling s (ts ++ told_on o)) (sym e)
+tells s ts stream f task state agent e = one_more s ts (record { stream = stream; event = update }) ∙ ap (λ o. telling s (ts ++ told_on o)) (sym e)
   where
-    model_update : Event
-    model_update = UPDATE task state agent None
+    update : Event
+    update = update_event task state agent None
 
-    told_on : Option Numbered → List Told
-    told_on o = on_stream o model_update
+    told_on : Option Numbered → List StreamEvent
+    told_on o = on_stream o update
 
 -- the tasks asked for
 
-tells_as : (s : State) (ts : List Told) (stream : Numbered) (f : Framework) (asked : ReconciledTask) → f.stream ≡ Some stream → (o : Option Placed)
+tells_as : (s : State) (ts : List StreamEvent) (stream : Numbered) (f : Framework) (asked : ReconciledTask) → f.stream ≡ Some stream → (o : Option Placed)
     → reconciled_as stream asked (telling s ts) (option_map held_task o) ≡ telling s (ts ++ reconciles_as (master_of s) f asked o)
 tells_as s ts stream f asked e (Some p) = tells s ts stream f p.booked.job.name p.booked.state (Some p.agent) e
 tells_as s ts stream f asked e None = by (is_awaited (master_of s) asked.agent)
@@ -59,7 +59,7 @@ tells_as s ts stream f asked e None = by (is_awaited (master_of s) asked.agent)
     by true = ap (telling s) (sym (none_more ts))
     by false = tells s ts stream f asked.name Lost asked.agent e
 
-tells_each : (s : State) (ts : List Told) (stream : Numbered) (f : Framework) (asked : List ReconciledTask) → f.stream ≡ Some stream
+tells_each : (s : State) (ts : List StreamEvent) (stream : Numbered) (f : Framework) (asked : List ReconciledTask) → f.stream ≡ Some stream
     → fold (reconciled_one f.id stream) (telling s ts) asked ≡ telling s (ts ++ flat_map (reconciles (master_of s) f) asked)
 tells_each s ts stream f [] e = ap (telling s) (sym (none_more ts))
 tells_each s ts stream f (a ∷ asked) e =
@@ -69,7 +69,7 @@ tells_each s ts stream f (a ∷ asked) e =
 
 -- all live tasks
 
-tells_live : (s : State) (ts : List Told) (stream : Numbered) (f : Framework) (ps : List Placed) → f.stream ≡ Some stream
+tells_live : (s : State) (ts : List StreamEvent) (stream : Numbered) (f : Framework) (ps : List Placed) → f.stream ≡ Some stream
     → fold (tells_held stream) (telling s ts) (map held_task ps) ≡ telling s (ts ++ flat_map (answers_held f) ps)
 tells_live s ts stream f [] e = ap (telling s) (sym (none_more ts))
 tells_live s ts stream f (p ∷ ps) e =
@@ -110,7 +110,7 @@ live_is framework s = ap values_of (gathered_sides framework [] s.sides ∙ gath
 
 -- all
 
-abbrev events_of : Master → Framework → List ReconciledTask → List Told
+abbrev events_of : Master → Framework → List ReconciledTask → List StreamEvent
 events_of m f asked = (on_reconcile m asked f).events
 
 tells_nothing : (s : State) → s ≡ telling s []

@@ -2,15 +2,15 @@
 use Rattle.std.proofs.Common.{◌≡◌, ℕ, suc, List, [], ◌∷◌, ◌++◌, map, Option, Some, None, option_map, refl, sym, ap, ◌∙◌, true}
 use Rattle.names_core.specs.Ids.{Numbered}
 use Rattle.mails.specs.declared.framework.Framework.{Framework}
-use Rattle.cluster_model.specs.Events.{FAILED_OVER, SUBSCRIBED}
+use Rattle.cluster_model.specs.Events.{Subscribed, failover_error}
 use Rattle.cluster_model.specs.Masters.{Master, Moved, is_of, move_all, on_stream, with_framework, withdraws}
 use Rattle.cluster_model.specs.Calls.{new_stream, resubscribed, subscriber}
 use Rattle.agent_sides.specs.Configs.{are_ordered}
 use Rattle.agent_sides.specs.Joined.{side_names}
 use Rattle.agent_sides.specs.Looks.{withdrawing}
 use Rattle.master_state.specs.declared.state.State.{State}
-use Rattle.master_state.specs.declared.state.StreamEvent.{StreamEvent}
-use Rattle.master_state.specs.Works.{Work, done, master_of, registers_of, run_of, work_of, written}
+use Rattle.scheduler_events.specs.declared.stream_event.StreamEvent.{StreamEvent}
+use Rattle.master_state.specs.Works.{Work, done, master_of, registers_of, run_of, work_of}
 use Rattle.master_state.proofs.Doings.{none_more}
 use Rattle.master_state.proofs.Moves.{all_withdrawn, moved_so}
 use Rattle.master_calls.specs.Streams.{entered, left, resubscribed_as, subscribed_on}
@@ -32,7 +32,7 @@ withdrawn_so : (s : State) (id : Numbered) → are_ordered (side_names s.sides) 
 withdrawn_so s id ordered = sym (all_withdrawn (is_of id) s.sides (run_of s) s.outs.mails ordered)
 
 abbrev news : State → Numbered → Option Numbered → List StreamEvent
-news s id known = s.outs.events ++ map written (on_stream known FAILED_OVER ++ on_stream (Some (new_stream (master_of s))) (SUBSCRIBED id))
+news s id known = s.outs.events ++ (on_stream known failover_error ++ on_stream (Some (new_stream (master_of s))) (Subscribed id))
 
 pub entered_so : (s : State) (id : Numbered) (role : List ℕ) (known : Option Numbered) → are_ordered (side_names s.sides) ≡ true
     → work_of (entered id role (left known s)) ≡ done (subscribed_on (master_of s) (registers_of s) id role known) (work_of s)
@@ -44,10 +44,10 @@ entered_so s id role (Some stream) ordered =
     ∙ ap (λ es. entered_work s id role (move_all (withdraws (is_of id) (master_of s)) (moved_so (run_of s) s.sides s.outs.mails)) es (s.outs.closed ++ stream ∷ [])) (append_twice s.outs.events first second)
   where
     first : StreamEvent
-    first = written (record { stream = stream; event = FAILED_OVER })
+    first = record { stream = stream; event = failover_error }
 
     second : StreamEvent
-    second = written (record { stream = new_stream (master_of s); event = SUBSCRIBED id })
+    second = record { stream = new_stream (master_of s); event = Subscribed id }
 
 pub resubscribed_is : (m : Master) (id : Numbered) (role : List ℕ) (known : Option Framework) → resubscribed_as m id role (option_map (λ f. f.stream) known) ≡ resubscribed m id role known
 resubscribed_is m id role None = refl

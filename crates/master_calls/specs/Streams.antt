@@ -1,9 +1,8 @@
 -- Streams that open and close.
-use Rattle.std.specs.Prelude.{ℕ, suc, nat_le, if◌then◌else◌, length, List, [], ◌∷◌, ◌++◌, codes, Option, Some, None}
+use Rattle.std.specs.Prelude.{ℕ, suc, nat_le, if◌then◌else◌, length, List, [], ◌∷◌, ◌++◌, Option, Some, None}
 use Rattle.names_core.specs.Ids.{Numbered}
 use Rattle.mails.specs.declared.refusal.MasterRefusal.TheVariants.{LimitExceeded}
-use Rattle.event_json.specs.declared.event.Event.TheVariants as events
-use Rattle.cluster_model.specs.Events.{FAILED_OVER, SUBSCRIBED}
+use Rattle.cluster_model.specs.Events.{Subscribed, failover_error}
 use Rattle.cluster_model.specs.Masters.{Doing, Master, Registers, is_of, on_stream, put_framework, refused, with_framework, withdraws}
 use Rattle.cluster_model.specs.Calls.{frameworks_limit, new_stream, subscriber, to_list}
 use Rattle.frameworks.specs.Frameworks as frameworks
@@ -15,7 +14,7 @@ abbrev pub subscribed_on : Master → Registers → Numbered → List ℕ → Op
 subscribed_on m r id role known = record {
   refusal = None;
   moves = withdraws (is_of id) m;
-  events = on_stream known FAILED_OVER ++ on_stream (Some (new_stream m)) (SUBSCRIBED id);
+  events = on_stream known failover_error ++ on_stream (Some (new_stream m)) (Subscribed id);
   opens = new_stream m ∷ [];
   closes = to_list known;
   registers = record (with_framework r (subscriber m id role)) { last_stream = suc r.last_stream };
@@ -32,7 +31,7 @@ resubscribed_as m id role (Some stream) = subscribed_on m m.registers id role st
 
 abbrev pub failed_over : Numbered → State → State
 failed_over stream s =
-    states.closed stream (states.told stream (events.Error (codes "Framework failed over")) s)
+    states.closed stream (states.told stream failover_error s)
 
 abbrev pub left : Option Numbered → State → State
 left None s = s
@@ -47,6 +46,6 @@ with_subscriber id role stream s =
 
 abbrev pub entered : Numbered → List ℕ → State → State
 entered id role s =
-    states.told (states.new_stream s) (events.Subscribed id)
+    states.told (states.new_stream s) (Subscribed id)
     (with_subscriber id role (states.new_stream s)
     (states.without_offers (is_of id) (states.opened s)))

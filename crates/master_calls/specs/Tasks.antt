@@ -4,7 +4,7 @@ use Rattle.names_core.specs.Ids.{Numbered}
 use Rattle.names_core.specs.declared.state.TaskState.{TaskState}
 use Rattle.names_core.specs.declared.state.TaskState.TheVariants.{Lost}
 use Rattle.cluster_model.specs.Sides.{SendAck, SendKill}
-use Rattle.cluster_model.specs.Events.{Told, UPDATE}
+use Rattle.cluster_model.specs.Events.{StreamEvent, update_event}
 use Rattle.cluster_model.specs.Masters.{AtSide, Doing, Master, Placed, nothing, on_stream, saying, side_of}
 use Rattle.cluster_model.specs.Calls.{commanding}
 pub use Rattle.master_calls.specs.declared.on_kill.HeldTask.{HeldTask}
@@ -20,8 +20,8 @@ held_task p =
     }
 
 -- the state of a task on a stream, without an id that has to be acknowledged
-abbrev pub tells_task : Numbered → List ℕ → TaskState → Option (List ℕ) → List Told
-tells_task stream task state agent = on_stream (Some stream) (UPDATE task state agent None)
+abbrev pub tells_task : Numbered → List ℕ → TaskState → Option (List ℕ) → List StreamEvent
+tells_task stream task state agent = on_stream (Some stream) (update_event task state agent None)
 
 -- KILL of a held task, or of none, by a framework on its stream
 abbrev pub kills : Master → Numbered → List ℕ → Option (List ℕ) → Option HeldTask → Doing

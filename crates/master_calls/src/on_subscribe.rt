@@ -7,10 +7,10 @@ ghost use Rattle.cluster_model.specs.Calls.{called, frameworks_limit, is_unheard
 ghost use Rattle.master_state.specs.Works.{Gave, done, master_of, registers_of, work_of};
 ghost use Rattle.master_calls.specs.Streams.{entered, failed_over, left, resubscribed_as, subscribed_on};
 
-use event_json::{Event, Message};
 use mails::MasterRefusal;
 use master_state::{MasterFault, State};
 use names_core::{FrameworkId, RoleName, StreamId};
+use scheduler_events::{Event, Message};
 use std::alloc::{AllocError, Global};
 
 /// As many frameworks as may be known in one run.

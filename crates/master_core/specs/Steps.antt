@@ -17,7 +17,7 @@ use Rattle.master_state.specs.declared.fault.MasterFault.TheVariants.{OutOfMemor
 use Rattle.master_state.specs.declared.state.Outs.{Outs}
 use Rattle.master_state.specs.declared.state.State.{State}
 use Rattle.master_state.specs.States.{cleared, no_outs}
-use Rattle.master_state.specs.Works.{master_of, run_of, written}
+use Rattle.master_state.specs.Works.{master_of, run_of}
 use Rattle.agent_sides.specs.Named.{mailed_by}
 use Rattle.side_fits.specs.Fits.{SidesFit}
 pub use Rattle.master_core.specs.declared.master.HeardMail.{HeardMail}
@@ -26,7 +26,7 @@ pub use Rattle.master_core.specs.declared.master.HeardMail.{HeardMail}
 abbrev pub outs_of : Master → Doing → Outs
 outs_of m d =
     record {
-      events = map written d.events;
+      events = d.events;
       opened = d.opens;
       closed = d.closes;
       mails = (moved m d.moves).sent;

@@ -10,5 +10,5 @@ mod settle;
 
 pub use agent_sides::{Config, ConfigFault};
 pub use master::{HeardMail, Master};
-pub use master_state::{MasterFault, Outs, StreamEvent};
+pub use master_state::{MasterFault, Outs};
 pub use refusal::refusal_text;

@@ -15,7 +15,7 @@ use Rattle.agent_sides.specs.Configs.{are_ordered}
 use Rattle.agent_sides.specs.Joined.{side_names}
 use Rattle.agent_sides.specs.Looks.{withdrawing}
 use Rattle.master_state.specs.declared.state.State.{State}
-use Rattle.master_state.specs.declared.state.StreamEvent.{StreamEvent}
+use Rattle.scheduler_events.specs.declared.stream_event.StreamEvent.{StreamEvent}
 use Rattle.master_state.specs.States.{closed, without_offers}
 use Rattle.master_state.specs.Works.{Work, done, master_of, run_of, work_of}
 use Rattle.master_state.proofs.Doings.{none_more}

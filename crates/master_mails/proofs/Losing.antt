@@ -1,16 +1,15 @@
 -- What an agent's loss makes of what a master holds.
 use Rattle.std.proofs.Common.{◌≡◌, ℕ, Bool, true, false, List, [], ◌∷◌, ◌++◌, map, append_assoc, Option, Some, None, refl, sym, ap, ◌∙◌, subst}
-use Rattle.std.proofs.lemmas.List.{map-append}
 use Rattle.std.proofs.lemmas.Bool.{true≢false}
-use Rattle.cluster_model.specs.Events.{FAILURE, Told}
+use Rattle.cluster_model.specs.Events.{Failure}
 use Rattle.cluster_model.specs.Mails.{agent_lost, loses, rescinds}
 use Rattle.cluster_model.specs.Masters.{AtSide, Doing, Master, Move, nothing, tells_all, without_filters_on}
 use Rattle.cluster_model.specs.Sides.{Lose, SendHello, Side, lost}
 use Rattle.names_core.specs.Ids.{Numbered}
 use Rattle.agent_sides.specs.Looks.{told_of}
 use Rattle.master_state.specs.declared.state.State.{State}
-use Rattle.master_state.specs.declared.state.StreamEvent.{StreamEvent}
-use Rattle.master_state.specs.Works.{Work, done, master_of, registers_of, work_of, written}
+use Rattle.scheduler_events.specs.declared.stream_event.StreamEvent.{StreamEvent}
+use Rattle.master_state.specs.Works.{Work, done, master_of, registers_of, work_of}
 use Rattle.master_state.proofs.Doings.{none_more, nothing_done, with_moves}
 use Rattle.master_state.proofs.Greeting.{changes_silently, greets}
 use Rattle.master_mails.specs.Steps.{left, rescinded, with_failures, with_losses, with_lost, with_told, without_filters}
@@ -18,14 +17,11 @@ use Rattle.agent_sides.specs.Named.{lost_by}
 use Rattle.master_mails.proofs.Naming.{found_in, found_named, told_as, told_in}
 
 -- events that are told one list after the other
-pub told_both : (es : List StreamEvent) (as_ bs : List Told) → (es ++ map written as_) ++ map written bs ≡ es ++ map written (as_ ++ bs)
-told_both es as_ bs = append_assoc es (map written as_) (map written bs) ∙ ap (λ xs. es ++ xs) (sym (map-append written as_ bs))
-
 abbrev lost_doing : Master → Side → Doing
 lost_doing m t = record {
   refusal = None;
   moves = AtSide t.name Lose ∷ AtSide t.name SendHello ∷ [];
-  events = rescinds m t.offers ++ loses m t.name t.booked ++ tells_all m.registers.frameworks (FAILURE t.name);
+  events = rescinds m t.offers ++ loses m t.name t.booked ++ tells_all m.registers.frameworks (Failure t.name);
   opens = [];
   closes = [];
   registers = without_filters_on t.name m.registers;
@@ -46,8 +42,8 @@ lost_so : (s : State) (t : Side) → found_in t.name s.sides ≡ Some t → work
 lost_so s t is =
     moves_so t.name s
     ∙ ap (λ es. left_work s t.name es s.outs.opened s.outs.closed) events
-    ∙ ap (λ os. left_work s t.name (s.outs.events ++ map written (lost_doing (master_of s) t).events) os s.outs.closed) (sym (none_more s.outs.opened))
-    ∙ ap (λ cs. left_work s t.name (s.outs.events ++ map written (lost_doing (master_of s) t).events) (s.outs.opened ++ []) cs) (sym (none_more s.outs.closed))
+    ∙ ap (λ os. left_work s t.name (s.outs.events ++ (lost_doing (master_of s) t).events) os s.outs.closed) (sym (none_more s.outs.opened))
+    ∙ ap (λ cs. left_work s t.name (s.outs.events ++ (lost_doing (master_of s) t).events) (s.outs.opened ++ []) cs) (sym (none_more s.outs.closed))
   where
     offers : told_of t.name (λ x. x.offers) [] s.sides ≡ t.offers
     offers = told_as t.name (λ x. x.offers) [] s.sides (Some t) is
@@ -55,12 +51,12 @@ lost_so s t is =
     booked : told_of t.name (λ x. x.booked) [] s.sides ≡ t.booked
     booked = told_as t.name (λ x. x.booked) [] s.sides (Some t) is
 
-    events : (work_of (before_loss t.name s)).events ≡ s.outs.events ++ map written (lost_doing (master_of s) t).events
+    events : (work_of (before_loss t.name s)).events ≡ s.outs.events ++ (lost_doing (master_of s) t).events
     events =
-        ap (λ os. ((s.outs.events ++ map written (rescinds (master_of s) os)) ++ map written (loses (master_of s) t.name (told_of t.name (λ x. x.booked) [] s.sides))) ++ map written (tells_all s.frameworks (FAILURE t.name))) offers
-        ∙ ap (λ bs. ((s.outs.events ++ map written (rescinds (master_of s) t.offers)) ++ map written (loses (master_of s) t.name bs)) ++ map written (tells_all s.frameworks (FAILURE t.name))) booked
-        ∙ ap (λ es. es ++ map written (tells_all s.frameworks (FAILURE t.name))) (told_both s.outs.events (rescinds (master_of s) t.offers) (loses (master_of s) t.name t.booked))
-        ∙ told_both s.outs.events (rescinds (master_of s) t.offers ++ loses (master_of s) t.name t.booked) (tells_all s.frameworks (FAILURE t.name))
+        ap (λ os. ((s.outs.events ++ (rescinds (master_of s) os)) ++ (loses (master_of s) t.name (told_of t.name (λ x. x.booked) [] s.sides))) ++ tells_all s.frameworks (Failure t.name)) offers
+        ∙ ap (λ bs. ((s.outs.events ++ (rescinds (master_of s) t.offers)) ++ (loses (master_of s) t.name bs)) ++ tells_all s.frameworks (Failure t.name)) booked
+        ∙ ap (λ es. es ++ tells_all s.frameworks (Failure t.name)) (append_assoc s.outs.events (rescinds (master_of s) t.offers) (loses (master_of s) t.name t.booked))
+        ∙ append_assoc s.outs.events (rescinds (master_of s) t.offers ++ loses (master_of s) t.name t.booked) (tells_all s.frameworks (Failure t.name))
 
 pub open_lost : (s : State) (name : List ℕ) → told_of name (λ t. t.is_open) false s.sides ≡ true → work_of (left name s) ≡ done (lost_by (master_of s) name) (work_of s)
 open_lost s name h = by (found_in name s.sides) refl

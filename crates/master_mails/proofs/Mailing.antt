@@ -10,7 +10,7 @@ use Rattle.mails.specs.declared.refusal.MasterRefusal.TheVariants.{OtherRun, Old
 use Rattle.quantity.specs.declared.rows.Row.{Row}
 use Rattle.mails.specs.declared.task.Booked.{Booked}
 use Rattle.booked_tasks.specs.declared.tasks.Heard.{Heard}
-use Rattle.cluster_model.specs.Events.{Told}
+use Rattle.cluster_model.specs.Events.{StreamEvent}
 use Rattle.cluster_model.specs.Mails.{goes_with, hear_at, in_session, judged, judged_session, mailed, mailed_as, session_opens}
 use Rattle.cluster_model.specs.Masters.{AtSide, Doing, Master, nothing, saying}
 use Rattle.cluster_model.specs.Sides.{Run, SendHello, Side, heard, opened, opens}
@@ -157,13 +157,13 @@ answered_away (Err x) s after name mail r h is e = tt
 
 -- an update
 
-told_so : (s : State) (name : List ℕ) (mail : AgentMail) (ts : List Told) → mailed_by (master_of s) name mail ≡ saying (master_of s) ts → AnsweredSo s (sides_heard name mail (with_told ts s)) name mail None
+told_so : (s : State) (name : List ℕ) (mail : AgentMail) (ts : List StreamEvent) → mailed_by (master_of s) name mail ≡ saying (master_of s) ts → AnsweredSo s (sides_heard name mail (with_told ts s)) name mail None
 told_so s name mail ts doing = (
   sym (ap (λ d. d.refusal) doing),
   says (sides_heard name mail s) ts ∙ ap (done (saying (master_of s) ts)) (hears_work s name mail) ∙ sym (ap (λ d. done d (having_heard name mail (work_of s))) doing),
 )
 
-abbrev pub news_at : List ℕ → Heard → State → List Told
+abbrev pub news_at : List ℕ → Heard → State → List StreamEvent
 news_at name u s = flat_map (news s.frameworks name u) (told_of name (λ t. t.booked) [] s.sides)
 
 pub updated_so : (s : State) (name : List ℕ) (session : ℕ) (u : Heard) → told_of name (λ t. in_session t session) None s.sides ≡ None

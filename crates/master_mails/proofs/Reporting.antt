@@ -1,5 +1,5 @@
 -- A Report that opens a session.
-use Rattle.std.proofs.Common.{◌≡◌, ℕ, Bool, true, false, not, ◌&&◌, cond, List, [], ◌∷◌, ◌++◌, map, filter, flat_map, fold, Option, Some, None, Result, Ok, Err, refl, sym, ap, ◌∙◌, subst}
+use Rattle.std.proofs.Common.{◌≡◌, ℕ, Bool, true, false, not, ◌&&◌, cond, List, [], ◌∷◌, ◌++◌, append_assoc, map, filter, flat_map, fold, Option, Some, None, Result, Ok, Err, refl, sym, ap, ◌∙◌, subst}
 use Rattle.std.specs.Prelude.{if◌then◌else◌}
 use Rattle.std.specs.List.{list_all, list_any}
 use Rattle.std.proofs.lemmas.Bool.{and_from}
@@ -11,7 +11,6 @@ use Rattle.mails.specs.declared.mail.Command.TheVariants.{EndFramework}
 use Rattle.mails.specs.declared.refusal.MasterRefusal.{MasterRefusal}
 use Rattle.quantity.specs.declared.rows.Row.{Row}
 use Rattle.mails.specs.declared.task.Booked.{Booked}
-use Rattle.cluster_model.specs.Events.{Told}
 use Rattle.cluster_model.specs.Ids.{is_among, same}
 use Rattle.cluster_model.specs.Mails.{is_reported, is_to_end, loses, rescinds, session_opens}
 use Rattle.cluster_model.specs.Masters.{AtSide, Master, Move, Moved, sending_more, tells, without_filters_on}
@@ -19,14 +18,13 @@ use Rattle.cluster_model.specs.Sides.{SendEnd, Side, heard, issue, sends_nothing
 use Rattle.roster.specs.Sessions.{with_command}
 use Rattle.agent_sides.specs.Looks.{at_name, next_command, told_of}
 use Rattle.master_state.specs.declared.state.State.{State}
-use Rattle.master_state.specs.declared.state.StreamEvent.{StreamEvent}
+use Rattle.scheduler_events.specs.declared.stream_event.StreamEvent.{StreamEvent}
 use Rattle.master_state.specs.States.{ordered_as}
-use Rattle.master_state.specs.Works.{Work, done, master_of, registers_of, run_of, work_of, written}
+use Rattle.master_state.specs.Works.{Work, done, master_of, registers_of, run_of, work_of}
 use Rattle.master_state.proofs.Doings.{none_more, with_moves}
 use Rattle.master_state.proofs.Moves.{commanded, mails_of, moved_so}
 use Rattle.master_mails.specs.Steps.{ending, ends_of, having_heard, rescinded, session_opened, with_losses, with_report, without_filters}
-use Rattle.master_mails.specs.Tells.{loss_of, lost_task}
-use Rattle.master_mails.proofs.Losing.{told_both}
+use Rattle.master_mails.specs.Tells.{loss_of, lost_event}
 use Rattle.master_mails.proofs.Mailing.{AnsweredSo, report_doing, reports}
 use Rattle.master_mails.proofs.Naming.{found_in, found_named, hears_at, told_as}
 
@@ -82,7 +80,7 @@ moves_alike name (f ∷ fs) = ap (λ ms. AtSide name (SendEnd f.id) ∷ ms) (mov
 
 -- events
 
-none_either : (b : Bool) → ◌≡◌ {A = List Told} (if b then [] else []) []
+none_either : (b : Bool) → ◌≡◌ {A = List StreamEvent} (if b then [] else []) []
 none_either true = refl
 none_either false = refl
 
@@ -90,14 +88,14 @@ losses_alike : (m : Master) (name : List ℕ) (tasks bs : List Booked) → flat_
 losses_alike m name tasks [] = refl
 losses_alike m name tasks (b ∷ bs) = by (is_reported tasks b) (losses_alike m name tasks bs)
   where
-    told : List Told
-    told = tells m b.job.framework (lost_task name b)
+    told : List StreamEvent
+    told = tells m b.job.framework (lost_event name b)
 
     by : (r : Bool) → flat_map (loss_of m.registers.frameworks name tasks) bs ≡ loses m name (filter (λ x. not (is_reported tasks x)) bs)
-        → (if b.ended then [] else (if r then [] else tells m b.job.framework (lost_task name b))) ++ flat_map (loss_of m.registers.frameworks name tasks) bs
+        → (if b.ended then [] else (if r then [] else tells m b.job.framework (lost_event name b))) ++ flat_map (loss_of m.registers.frameworks name tasks) bs
         ≡ loses m name (cond (not r) (b ∷ filter (λ x. not (is_reported tasks x)) bs) (filter (λ x. not (is_reported tasks x)) bs))
     by true ih = ap (λ ts. ts ++ flat_map (loss_of m.registers.frameworks name tasks) bs) (none_either b.ended) ∙ ih
-    by false ih = ap (λ ts. (if b.ended then [] else tells m b.job.framework (lost_task name b)) ++ ts) ih
+    by false ih = ap (λ ts. (if b.ended then [] else tells m b.job.framework (lost_event name b)) ++ ts) ih
 
 -- the whole
 
@@ -114,8 +112,8 @@ opened_of s session number tasks total t is =
     ∙ ap (λ ss. reported_work s t.name ss (ends t.name (ends_of tasks s)) (work_of (before_ends t.name session number tasks total s)).events s.outs.opened s.outs.closed) (sym (hears_at t.name (run_of s) (Report session number tasks total) s.sides))
     ∙ ap (λ ms. reported_work s t.name sides ms (work_of (before_ends t.name session number tasks total s)).events s.outs.opened s.outs.closed) (moves_alike t.name (filter (is_to_end (master_of s) tasks) s.frameworks))
     ∙ ap (λ es. reported_work s t.name sides moves es s.outs.opened s.outs.closed) events
-    ∙ ap (λ os. reported_work s t.name sides moves (s.outs.events ++ map written (session_opens (master_of s) t tasks).events) os s.outs.closed) (sym (none_more s.outs.opened))
-    ∙ ap (λ cs. reported_work s t.name sides moves (s.outs.events ++ map written (session_opens (master_of s) t tasks).events) (s.outs.opened ++ []) cs) (sym (none_more s.outs.closed))
+    ∙ ap (λ os. reported_work s t.name sides moves (s.outs.events ++ (session_opens (master_of s) t tasks).events) os s.outs.closed) (sym (none_more s.outs.opened))
+    ∙ ap (λ cs. reported_work s t.name sides moves (s.outs.events ++ (session_opens (master_of s) t tasks).events) (s.outs.opened ++ []) cs) (sym (none_more s.outs.closed))
   where
     sides : List Side
     sides = (having_heard t.name (Report session number tasks total) (work_of s)).moved.sides
@@ -123,12 +121,12 @@ opened_of s session number tasks total t is =
     moves : List Move
     moves = (session_opens (master_of s) t tasks).moves
 
-    events : (work_of (before_ends t.name session number tasks total s)).events ≡ s.outs.events ++ map written (session_opens (master_of s) t tasks).events
+    events : (work_of (before_ends t.name session number tasks total s)).events ≡ s.outs.events ++ (session_opens (master_of s) t tasks).events
     events =
-        ap (λ os. (s.outs.events ++ map written (rescinds (master_of s) os)) ++ map written (flat_map (loss_of s.frameworks t.name tasks) (told_of t.name (λ x. x.booked) [] s.sides))) (told_as t.name (λ x. x.offers) [] s.sides (Some t) is)
-        ∙ ap (λ bs. (s.outs.events ++ map written (rescinds (master_of s) t.offers)) ++ map written (flat_map (loss_of s.frameworks t.name tasks) bs)) (told_as t.name (λ x. x.booked) [] s.sides (Some t) is)
-        ∙ ap (λ ts. (s.outs.events ++ map written (rescinds (master_of s) t.offers)) ++ map written ts) (losses_alike (master_of s) t.name tasks t.booked)
-        ∙ told_both s.outs.events (rescinds (master_of s) t.offers) (loses (master_of s) t.name (filter (λ b. not (is_reported tasks b)) t.booked))
+        ap (λ os. (s.outs.events ++ (rescinds (master_of s) os)) ++ flat_map (loss_of s.frameworks t.name tasks) (told_of t.name (λ x. x.booked) [] s.sides)) (told_as t.name (λ x. x.offers) [] s.sides (Some t) is)
+        ∙ ap (λ bs. (s.outs.events ++ (rescinds (master_of s) t.offers)) ++ flat_map (loss_of s.frameworks t.name tasks) bs) (told_as t.name (λ x. x.booked) [] s.sides (Some t) is)
+        ∙ ap (λ ts. (s.outs.events ++ (rescinds (master_of s) t.offers)) ++ ts) (losses_alike (master_of s) t.name tasks t.booked)
+        ∙ append_assoc s.outs.events (rescinds (master_of s) t.offers) (loses (master_of s) t.name (filter (λ b. not (is_reported tasks b)) t.booked))
 
 pub opened_so : (s : State) (name : List ℕ) (session number : ℕ) (tasks : List Booked) (total : List Row) → told_of name (reports s session number) (Ok false) s.sides ≡ Ok true → AnsweredSo s (session_opened name session number tasks total s) name (Report session number tasks total) None
 opened_so s name session number tasks total h = by (found_in name s.sides) refl

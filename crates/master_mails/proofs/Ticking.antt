@@ -18,8 +18,8 @@ use Rattle.agent_sides.specs.Configs.{are_ordered}
 use Rattle.agent_sides.specs.Joined.{side_names}
 use Rattle.agent_sides.specs.Told.{addressed, again_of, mails_at_tick, oldest_of}
 use Rattle.master_state.specs.declared.state.State.{State}
-use Rattle.master_state.specs.declared.state.StreamEvent.{StreamEvent}
-use Rattle.master_state.specs.Works.{Work, done, master_of, run_of, work_of, written}
+use Rattle.scheduler_events.specs.declared.stream_event.StreamEvent.{StreamEvent}
+use Rattle.master_state.specs.Works.{Work, done, master_of, run_of, work_of}
 use Rattle.master_state.proofs.Doings.{none_more}
 use Rattle.master_state.proofs.Moves.{before_differs, moved_so}
 
@@ -97,7 +97,7 @@ ticked_work s now fs es x opens closes = record {
 }
 
 abbrev pub ticked_events : State → ℕ → List StreamEvent
-ticked_events s now = s.outs.events ++ map written (flat_map (beats now) s.frameworks)
+ticked_events s now = s.outs.events ++ flat_map (beats now) s.frameworks
 
 pub ticked_so : (s : State) (now : ℕ) → are_ordered (side_names s.sides) ≡ true
     → ticked_work s now (map (beaten now) s.frameworks) (ticked_events s now) (moved_so (run_of s) s.sides (s.outs.mails ++ flat_map (mails_at_tick s.run) s.sides)) s.outs.opened s.outs.closed

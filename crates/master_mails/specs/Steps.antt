@@ -9,7 +9,7 @@ use Rattle.quantity.specs.declared.rows.Row.{Row}
 use Rattle.mails.specs.declared.task.Booked.{Booked}
 use Rattle.mails.specs.declared.refusal.MasterRefusal.{MasterRefusal}
 use Rattle.mails.specs.declared.refusal.MasterRefusal.TheVariants.{OtherRun}
-use Rattle.cluster_model.specs.Events.{Told, FAILURE}
+use Rattle.cluster_model.specs.Events.{StreamEvent, Failure}
 use Rattle.cluster_model.specs.Masters.{Doing, Master, clear_on, nothing, tells_all}
 use Rattle.cluster_model.specs.Mails.{agent_lost, hear_at, is_to_end, mailed}
 use Rattle.cluster_model.specs.Sides.{lost}
@@ -19,7 +19,7 @@ use Rattle.agent_sides.specs.Named.{mailed_by}
 use Rattle.master_state.specs.Greetings.{greeted}
 use Rattle.master_state.specs.declared.state.State.{State}
 use Rattle.master_state.specs.States.{ordered}
-use Rattle.master_state.specs.Works.{Work, done, master_of, work_of, written}
+use Rattle.master_state.specs.Works.{Work, done, master_of, work_of}
 use Rattle.master_mails.specs.Tells.{loss_of, rescind_of}
 
 -- what a master holds, once the side of an agent has heard a mail
@@ -39,8 +39,8 @@ Answered (Err e) before after agent mail = ⊤
 
 -- small steps
 
-abbrev pub with_told : List Told → State → State
-with_told ts s = record s { outs = record s.outs { events = s.outs.events ++ map written ts } }
+abbrev pub with_told : List StreamEvent → State → State
+with_told ts s = record s { outs = record s.outs { events = s.outs.events ++ ts } }
 
 abbrev pub without_filters : List ℕ → State → State
 without_filters agent s = record s { frameworks = map (clear_on agent) s.frameworks }
@@ -59,7 +59,7 @@ with_losses agent reported s =
     (told_of agent (λ t. t.booked) [] s.sides)) s
 
 abbrev pub with_failures : List ℕ → State → State
-with_failures agent s = with_told (tells_all s.frameworks (FAILURE agent)) s
+with_failures agent s = with_told (tells_all s.frameworks (Failure agent)) s
 
 abbrev pub left : List ℕ → State → State
 left agent s =

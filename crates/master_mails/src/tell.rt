@@ -2,23 +2,20 @@
 
 ghost use Rattle.std.specs.Prelude.{◌≡◌, ◌<◌, ◌&&◌, ◌++◌, map, flat_map, suc, nat_le, IfOk, OnOk};
 ghost use Rattle.cluster_model.specs.Ids.{same};
-ghost use Rattle.cluster_model.specs.Events.{FAILURE, RESCIND};
 ghost use Rattle.cluster_model.specs.Mails.{beats, is_reported};
 ghost use Rattle.cluster_model.specs.Masters.{on_stream, stream_of, tells_all};
 ghost use Rattle.frameworks.specs.Frameworks.{with_id};
 ghost use Rattle.stream_core.specs.Updates.{most_updates};
-ghost use Rattle.master_state.specs.Works.{written};
 ghost use Rattle.master_mails.specs.Tells.{loss_of, lost_event, news, rescind_of, updated_event};
 
 use crate::reported::Reported;
 use booked_tasks::Heard;
-use event_json::{Event, TaskStatus};
 use frameworks::{Frameworks, is_due};
 use listed::Listed;
 use mails::{Booked, Framework, Offer};
-use master_state::StreamEvent;
 use names_core::{AgentName, FrameworkId, LaunchKey, StreamId, TaskState, UpdateId};
 use plain_data::Plain;
+use scheduler_events::{Event, StreamEvent, TaskStatus};
 use std::alloc::{AllocError, Global};
 
 fn open_stream_of(frameworks: &Frameworks, framework: FrameworkId) -> Option<StreamId>
@@ -36,7 +33,7 @@ fn tell_rescind(
     events: &mut Listed<StreamEvent>,
 ) -> Result<(), AllocError>
     ensures { OnOk result (events.new ≡ events.old
-        ++ map written (rescind_of frameworks.now offer.now)) }
+        ++ rescind_of frameworks.now offer.now) }
 {
     match open_stream_of(frameworks, offer.framework) {
         None => Ok(()),
@@ -54,7 +51,7 @@ pub fn tell_rescinds(
     events: &mut Listed<StreamEvent>,
 ) -> Result<(), AllocError>
     ensures { OnOk result (events.new ≡ events.old
-        ++ map written (flat_map (rescind_of frameworks.now) offers.now)) }
+        ++ flat_map (rescind_of frameworks.now) offers.now) }
 {
     for offer in offers {
         tell_rescind(frameworks, offer, events)?;
@@ -96,7 +93,7 @@ fn tell_loss(
     events: &mut Listed<StreamEvent>,
 ) -> Result<(), AllocError>
     ensures { OnOk result (events.new ≡ events.old
-        ++ map written (loss_of frameworks.now agent.now reported.now task.now)) }
+        ++ loss_of frameworks.now agent.now reported.now task.now) }
 {
     if task.ended || is_reported(reported, task) {
         return Ok(());
@@ -121,7 +118,7 @@ pub fn tell_losses(
     events: &mut Listed<StreamEvent>,
 ) -> Result<(), AllocError>
     ensures { OnOk result (events.new ≡ events.old
-        ++ map written (flat_map (loss_of frameworks.now agent.now reported.now) tasks.now)) }
+        ++ flat_map (loss_of frameworks.now agent.now reported.now) tasks.now) }
 {
     for task in tasks {
         tell_loss(alloc, frameworks, agent, reported, task, events)?;
@@ -136,7 +133,7 @@ fn tell_failure(
     events: &mut Listed<StreamEvent>,
 ) -> Result<(), AllocError>
     ensures { OnOk result (events.new ≡ events.old
-        ++ map written (on_stream framework.now.stream (FAILURE agent.now))) }
+        ++ on_stream framework.now.stream (Event.Failure agent.now)) }
 {
     match framework.stream {
         None => Ok(()),
@@ -158,7 +155,7 @@ pub fn tell_failures(
     events: &mut Listed<StreamEvent>,
 ) -> Result<(), AllocError>
     ensures { OnOk result (events.new ≡ events.old
-        ++ map written (tells_all frameworks.now (FAILURE agent.now))) }
+        ++ tells_all frameworks.now (Event.Failure agent.now)) }
 {
     for framework in frameworks {
         tell_failure(alloc, agent, framework, events)?;
@@ -171,7 +168,7 @@ fn tell_beat(
     framework: &Framework,
     events: &mut Listed<StreamEvent>,
 ) -> Result<(), AllocError>
-    ensures { OnOk result (events.new ≡ events.old ++ map written (beats now framework.now)) }
+    ensures { OnOk result (events.new ≡ events.old ++ beats now framework.now) }
 {
     if !is_due(framework, now) {
         return Ok(());
@@ -192,7 +189,7 @@ pub fn tell_beats(
     events: &mut Listed<StreamEvent>,
 ) -> Result<(), AllocError>
     ensures { OnOk result (events.new ≡ events.old
-        ++ map written (flat_map (beats now) frameworks.now)) }
+        ++ flat_map (beats now) frameworks.now) }
 {
     for framework in frameworks {
         tell_beat(now, framework, events)?;
@@ -237,7 +234,7 @@ fn tell_news_of(
 ) -> Result<(), AllocError>
     requires { update.now.k < most_updates }
     ensures { OnOk result (events.new ≡ events.old
-        ++ map written (news frameworks.now agent.now update.now task.now)) }
+        ++ news frameworks.now agent.now update.now task.now) }
 {
     if !is_news(task, update) {
         return Ok(());
@@ -262,7 +259,7 @@ pub fn tell_news(
 ) -> Result<(), AllocError>
     requires { update.now.k < most_updates }
     ensures { OnOk result (events.new ≡ events.old
-        ++ map written (flat_map (news frameworks.now agent.now update.now) tasks.now)) }
+        ++ flat_map (news frameworks.now agent.now update.now) tasks.now) }
 {
     for task in tasks {
         tell_news_of(alloc, frameworks, agent, update, task, events)?;

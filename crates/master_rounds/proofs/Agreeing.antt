@@ -5,7 +5,7 @@ use Rattle.names_core.specs.Ids.{Numbered}
 use Rattle.quantity.specs.declared.rows.Row.{Row}
 use Rattle.cluster_model.specs.Ids.{following, last_number}
 use Rattle.cluster_model.specs.Sides.{Side}
-use Rattle.cluster_model.specs.Events.{MadeOffer}
+use Rattle.cluster_model.specs.Events.{MadeOffer, offer_of}
 use Rattle.cluster_model.specs.Masters.{Master}
 use Rattle.cluster_model.specs.Rounds as rounds
 use Rattle.role_weights.specs.Weights.{RoleWeight}
@@ -17,7 +17,6 @@ use Rattle.round_shares.specs.Gifts.{holds, made_gift, shares_of, shares_with}
 use Rattle.round_shares.specs.Laws.{CanBeSummed}
 use Rattle.round_shares.specs.Picks.{picked}
 use Rattle.round_shares.proofs.Picking.{picks_alike}
-use Rattle.master_state.specs.Works.{offer_of}
 use Rattle.master_rounds.specs.Visits.{Progress, goes_to, offers_free, visits, visits_part}
 use Rattle.master_rounds.proofs.Bounds.{HaveRows, Within, can_be_summed, visited, within_next}
 

@@ -11,7 +11,7 @@ use Rattle.mails.specs.declared.task.Offer.{Offer}
 use Rattle.mails.specs.declared.mail.ToAgent.{ToAgent}
 use Rattle.cluster_model.specs.Ids.{before, bytes_before, following, same}
 use Rattle.cluster_model.specs.Sides.{MakeOffer, Run, Side, may_offer, offered, sends_nothing, taken}
-use Rattle.cluster_model.specs.Events.{MadeOffer}
+use Rattle.cluster_model.specs.Events.{MadeOffer, offer_of}
 use Rattle.cluster_model.specs.Masters.{AtSide, Move, Moved, at_side, at_this_side, move, move_all, past_side, sending_more}
 use Rattle.role_weights.specs.Weights.{RoleWeight}
 use Rattle.cluster_model.specs.Rounds.{Client, Round, entered, free, visits}
@@ -22,7 +22,6 @@ use Rattle.agent_sides.specs.Looks.{at_name}
 use Rattle.side_fits.specs.Fits.{AllFitTotals, FitsTotal, OffersBefore}
 use Rattle.side_fits.proofs.Numbering.{Goes, sides_later}
 use Rattle.round_shares.proofs.Rows.{same_itself}
-use Rattle.master_state.specs.Works.{offer_of}
 use Rattle.master_state.proofs.Doings.{none_more}
 use Rattle.master_state.proofs.Moves.{before_differs, both_true, itself, moved_so}
 use Rattle.master_rounds.specs.News.{offers_all, offers_at}

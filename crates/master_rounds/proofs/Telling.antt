@@ -4,8 +4,8 @@ use Rattle.names_core.specs.Ids.{Numbered}
 use Rattle.mails.specs.declared.framework.Framework.{Framework}
 use Rattle.cluster_model.specs.Ids.{same}
 use Rattle.cluster_model.specs.Sides.{Side}
-use Rattle.cluster_model.specs.Events.{MadeOffer, Told}
-use Rattle.cluster_model.specs.Masters.{Moved, move_all, moved}
+use Rattle.cluster_model.specs.Events.{MadeOffer, Offers, offer_of}
+use Rattle.cluster_model.specs.Masters.{Moved, move_all, moved, on_stream}
 use Rattle.role_weights.specs.Weights.{RoleWeight}
 use Rattle.cluster_model.specs.Rounds as rounds
 use Rattle.cluster_model.specs.Rounds.{Round, allocated, clients_of, entered, making, offers_of, round, tells_offers, totals_of}
@@ -14,8 +14,8 @@ use Rattle.agent_sides.specs.Configs.{are_ordered}
 use Rattle.agent_sides.specs.Joined.{side_names}
 use Rattle.side_fits.specs.Fits.{SidesFit}
 use Rattle.master_state.specs.declared.state.State.{State}
-use Rattle.master_state.specs.declared.state.StreamEvent.{StreamEvent}
-use Rattle.master_state.specs.Works.{Work, done, master_of, offer_of, registers_of, run_of, work_of, written}
+use Rattle.scheduler_events.specs.declared.stream_event.StreamEvent.{StreamEvent}
+use Rattle.master_state.specs.Works.{Work, done, master_of, registers_of, run_of, work_of}
 use Rattle.master_state.proofs.Doings.{none_more}
 use Rattle.master_state.proofs.Moves.{moved_so}
 use Rattle.master_rounds.specs.News.{event_on, news_of, offers_all}
@@ -36,12 +36,7 @@ for_one id (g ∷ made) = by (same g.offer.framework id) (for_one id made)
     by true ih = ap (λ os. offer_of g ∷ os) ih
     by false ih = ih
 
-abbrev tells_on : Option Numbered → List MadeOffer → List Told
-tells_on None gs = []
-tells_on (Some stream) [] = []
-tells_on (Some stream) (g ∷ gs) = record { stream = stream; event = Rattle.cluster_model.specs.Events.OFFERS (g ∷ gs) } ∷ []
-
-told_so : (f : Framework) (gs : List MadeOffer) → map written (tells_offers f gs) ≡ event_on f.stream (map offer_of gs)
+told_so : (f : Framework) (gs : List MadeOffer) → tells_offers f gs ≡ event_on f.stream (map offer_of gs)
 told_so f [] = by f.stream
   where
     by : (o : Option Numbered) → [] ≡ event_on o []
@@ -49,21 +44,16 @@ told_so f [] = by f.stream
     by (Some stream) = refl
 told_so f (g ∷ gs) = by f.stream
   where
-    by : (o : Option Numbered) → map written (Rattle.cluster_model.specs.Masters.on_stream o (Rattle.cluster_model.specs.Events.OFFERS (g ∷ gs))) ≡ event_on o (map offer_of (g ∷ gs))
+    by : (o : Option Numbered) → on_stream o (Offers (map offer_of (g ∷ gs))) ≡ event_on o (map offer_of (g ∷ gs))
     by None = refl
     by (Some stream) = refl
 
-map_append : (xs ys : List Told) → map written (xs ++ ys) ≡ map written xs ++ map written ys
-map_append [] ys = refl
-map_append (x ∷ xs) ys = ap (λ es. written x ∷ es) (map_append xs ys)
-
-pub told_all : (made : List MadeOffer) (fs : List Framework) → flat_map (news_of (map offer_of made)) fs ≡ map written (flat_map (offers_of made) fs)
+pub told_all : (made : List MadeOffer) (fs : List Framework) → flat_map (news_of (map offer_of made)) fs ≡ flat_map (offers_of made) fs
 told_all made [] = refl
 told_all made (f ∷ fs) =
     ap (λ os. event_on f.stream os ++ flat_map (news_of (map offer_of made)) fs) (for_one f.id made)
     ∙ ap (λ es. es ++ flat_map (news_of (map offer_of made)) fs) (sym (told_so f (filter (λ g. same g.offer.framework f.id) made)))
-    ∙ ap (λ es. map written (offers_of made f) ++ es) (told_all made fs)
-    ∙ sym (map_append (offers_of made f) (flat_map (offers_of made) fs))
+    ∙ ap (λ es. offers_of made f ++ es) (told_all made fs)
 
 -- a round of a master
 
@@ -114,7 +104,7 @@ abbrev with_opens : List RoleWeight → State → List Numbered → List Numbere
 with_opens ws s opens closes = record {
   moved = move_all (making ws (master_of s)) (moved_so (run_of s) s.sides s.outs.mails);
   registers = registers_of s;
-  events = s.outs.events ++ map written (allocated ws (master_of s)).events;
+  events = s.outs.events ++ (allocated ws (master_of s)).events;
   opens = opens;
   closes = closes;
 }
@@ -126,7 +116,7 @@ allocated_so ws s h =
     ∙ ap (λ id. with_moved s (moved_so (with_next id (run_of s)) k.news s.outs.mails) (s.outs.events ++ flat_map (news_of (map offer_of k.gs)) s.frameworks)) (sym a.next)
     ∙ ap (λ x. with_moved s x (s.outs.events ++ flat_map (news_of (map offer_of k.gs)) s.frameworks)) (sym (k.moves (run_of s) s.outs.mails refl))
     ∙ ap (λ gs. with_moved s (move_all (map offer_move gs) (moved_so (run_of s) s.sides s.outs.mails)) (s.outs.events ++ flat_map (news_of (map offer_of k.gs)) s.frameworks)) (sym k.made)
-    ∙ ap (λ es. with_moved s (move_all (making ws (master_of s)) (moved_so (run_of s) s.sides s.outs.mails)) (s.outs.events ++ es)) (told_all k.gs s.frameworks ∙ ap (λ gs. map written (flat_map (offers_of gs) s.frameworks)) (sym all_entered))
+    ∙ ap (λ es. with_moved s (move_all (making ws (master_of s)) (moved_so (run_of s) s.sides s.outs.mails)) (s.outs.events ++ es)) (told_all k.gs s.frameworks ∙ ap (λ gs. flat_map (offers_of gs) s.frameworks) (sym all_entered))
     ∙ ap (λ opens. with_opens ws s opens s.outs.closed) (sym (none_more s.outs.opened))
     ∙ ap (with_opens ws s (s.outs.opened ++ [])) (sym (none_more s.outs.closed))
   where

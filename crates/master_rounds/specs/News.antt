@@ -3,13 +3,13 @@ use Rattle.std.specs.Prelude.{List, [], ◌∷◌, filter, fold, Option, Some, N
 use Rattle.names_core.specs.Ids.{Numbered}
 use Rattle.mails.specs.declared.framework.Framework.{Framework}
 use Rattle.mails.specs.declared.task.Offer as mails_offer
-use Rattle.event_json.specs.declared.event.Event.TheVariants as events
-use Rattle.event_json.specs.declared.offer.Offer as json_offer
+use Rattle.scheduler_events.specs.declared.event.Event.TheVariants as events
+use Rattle.scheduler_events.specs.declared.offer.Offer as json_offer
 use Rattle.cluster_model.specs.Ids.{same}
 use Rattle.cluster_model.specs.Sides.{Side}
 use Rattle.agent_sides.specs.Changes.{offering}
 use Rattle.agent_sides.specs.Looks.{at_name}
-use Rattle.master_state.specs.declared.state.StreamEvent.{StreamEvent}
+use Rattle.scheduler_events.specs.declared.stream_event.StreamEvent.{StreamEvent}
 
 abbrev pub plain : json_offer.Offer → mails_offer.Offer
 plain o = record { id = o.id; framework = o.framework; resources = o.resources }

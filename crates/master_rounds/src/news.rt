@@ -5,12 +5,11 @@ ghost use Rattle.cluster_model.specs.Ids.{same};
 ghost use Rattle.master_rounds.specs.News.{news_of, offers_all, offers_at, offers_event, plain};
 
 use agent_sides::Sides;
-use event_json::{Event, Offer, Offers};
 use listed::Listed;
 use mails::Framework;
-use master_state::StreamEvent;
 use names_core::{FrameworkId, StreamId};
 use plain_data::Plain;
+use scheduler_events::{Event, Offer, Offers, StreamEvent};
 use std::alloc::{AllocError, Global};
 
 fn plain(offer: &Offer) -> Result<mails::Offer, AllocError>

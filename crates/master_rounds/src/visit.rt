@@ -9,7 +9,6 @@ ghost use Rattle.master_rounds.specs.Visits.{goes_to, offers_free, round_of, vis
 
 use agent_sides::Sides;
 use drf_pick::Shares;
-use event_json::Offer;
 use listed::Listed;
 use mails::Framework;
 use master_state::State;
@@ -18,6 +17,7 @@ use plain_data::Plain;
 use quantity::Resources;
 use role_weights::Weights;
 use round_shares::{picked, shares_of};
+use scheduler_events::Offer;
 use std::alloc::{AllocError, Global};
 
 /// The last number of an offer.

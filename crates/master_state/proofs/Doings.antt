@@ -1,10 +1,10 @@
 -- What a step of the model makes of what a master holds, by what there is in it.
-use Rattle.std.proofs.Common.{◌≡◌, List, [], ◌∷◌, ◌++◌, map, refl, ap, ◌∙◌}
+use Rattle.std.proofs.Common.{◌≡◌, List, [], ◌∷◌, ◌++◌, refl, ap, ◌∙◌}
 use Rattle.names_core.specs.Ids.{Numbered}
-use Rattle.cluster_model.specs.Events.{Told}
+use Rattle.cluster_model.specs.Events.{StreamEvent}
 use Rattle.cluster_model.specs.Masters.{Doing, Master, Move, Registers, keeping, move_all, moving, nothing, saying}
-use Rattle.master_state.specs.States.{State, StreamEvent}
-use Rattle.master_state.specs.Works.{Work, done, master_of, work_of, written}
+use Rattle.master_state.specs.States.{State}
+use Rattle.master_state.specs.Works.{Work, done, master_of, work_of}
 
 pub none_more : {A : Type 0} (xs : List A) → xs ++ [] ≡ xs
 none_more [] = refl
@@ -19,7 +19,7 @@ with_events events w = record { moved = w.moved; registers = w.registers; events
 pub keeps : (registers : Registers) (w : Work) → with_registers registers w ≡ done (keeping registers) w
 keeps registers w = rw (none_more w.events, none_more w.opens, none_more w.closes) refl
 
-pub says : (s : State) (events : List Told) → with_events (s.outs.events ++ map written events) (work_of s) ≡ done (saying (master_of s) events) (work_of s)
+pub says : (s : State) (events : List StreamEvent) → with_events (s.outs.events ++ events) (work_of s) ≡ done (saying (master_of s) events) (work_of s)
 says s events = rw (none_more s.outs.opened, none_more s.outs.closed) refl
 
 abbrev pub with_moves : List Move → Work → Work

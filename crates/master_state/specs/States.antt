@@ -6,14 +6,13 @@ use Rattle.mails.specs.declared.task.Offer.{Offer}
 use Rattle.mails.specs.declared.mail.Command.{Command}
 use Rattle.mails.specs.declared.mail.MasterMail.TheVariants.{Issued}
 use Rattle.mails.specs.declared.mail.ToAgent.{ToAgent}
-use Rattle.event_json.specs.declared.event.Event.{Event}
-use Rattle.event_json.specs.declared.event.Event.TheVariants as events
-use Rattle.event_json.specs.declared.status.TaskStatus.{TaskStatus}
+use Rattle.scheduler_events.specs.declared.event.Event.{Event}
+use Rattle.cluster_model.specs.Events.{update_event}
 use Rattle.roster.specs.Sessions.{with_command}
 use Rattle.agent_sides.specs.declared.config.ConfiguredAgent.{ConfiguredAgent}
 use Rattle.agent_sides.specs.Changes.{side_of}
 use Rattle.agent_sides.specs.Looks.{at_name, next_command, told_of, withdrawing}
-pub use Rattle.master_state.specs.declared.state.StreamEvent.{StreamEvent}
+pub use Rattle.scheduler_events.specs.declared.stream_event.StreamEvent.{StreamEvent}
 pub use Rattle.master_state.specs.declared.state.Outs.{Outs}
 pub use Rattle.master_state.specs.declared.state.State.{State}
 
@@ -50,11 +49,8 @@ told stream event s =
       };
     }
 
-abbrev pub status : List ℕ → TaskState → Option (List ℕ) → TaskStatus
-status task state agent = record { task = task; state = state; agent = agent; update = None }
-
 abbrev pub told_of_task : Numbered → List ℕ → TaskState → Option (List ℕ) → State → State
-told_of_task stream task state agent s = told stream (events.Update (status task state agent)) s
+told_of_task stream task state agent s = told stream (update_event task state agent None) s
 
 abbrev pub closed : Numbered → State → State
 closed stream s = record s { outs = record s.outs { closed = s.outs.closed ++ stream ∷ [] } }

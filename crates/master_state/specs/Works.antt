@@ -1,49 +1,14 @@
 -- What a master holds, as the model of it has it, and what the model's steps make of that.
-use Rattle.std.specs.Prelude.{◌≡◌, ℕ, suc, Bool, true, if◌then◌else◌, List, [], ◌∷◌, ◌++◌, map, codes, Option, Some, None, option_map, Result, Ok, Err}
+use Rattle.std.specs.Prelude.{◌≡◌, suc, Bool, true, if◌then◌else◌, List, ◌++◌, Option, Some, None, option_map, Result, Ok, Err}
 use Rattle.names_core.specs.Ids.{Numbered}
-use Rattle.names_core.specs.Updates as updates
-use Rattle.names_core.specs.declared.state.TaskState.{TaskState}
 use Rattle.mails.specs.declared.refusal.MasterRefusal.{MasterRefusal}
 use Rattle.mails.specs.declared.refusal.MasterRefusal.TheVariants.{NotSubscribed, WrongStream, NoSuchFramework}
-use Rattle.event_json.specs.declared.event.Event as json
-use Rattle.event_json.specs.declared.event.Event.TheVariants as events
-use Rattle.event_json.specs.declared.offer.Offer as json_offer
-use Rattle.event_json.specs.declared.status.TaskStatus.{TaskStatus}
 use Rattle.cluster_model.specs.Sides.{Run}
-use Rattle.cluster_model.specs.Events.{Event, MadeOffer, Told, SUBSCRIBED, OFFERS, RESCIND, UPDATE, FAILURE, FAILED_OVER, REMOVED, HEARTBEAT}
 use Rattle.cluster_model.specs.Masters.{Doing, Master, Moved, Registers, framework_of, is_torn, move_all}
 use Rattle.cluster_model.specs.Calls.{is_stream}
 use Rattle.master_state.specs.declared.fault.MasterFault.{MasterFault}
 use Rattle.master_state.specs.declared.fault.MasterFault.TheVariants.{OutOfMemory, Refused}
 use Rattle.master_state.specs.States.{State, StreamEvent}
-
--- events, as they are written
-
-abbrev pub offer_of : MadeOffer → json_offer.Offer
-offer_of made =
-    record {
-      id = made.offer.id;
-      framework = made.offer.framework;
-      agent = made.agent;
-      resources = made.offer.resources;
-    }
-
-abbrev pub status_of : List ℕ → TaskState → Option (List ℕ) → Option updates.Update → TaskStatus
-status_of task state agent uuid =
-    record { task = task; state = state; agent = agent; update = uuid }
-
-abbrev pub event_of : Event → json.Event
-event_of (SUBSCRIBED framework) = events.Subscribed framework
-event_of (OFFERS offers) = events.Offers (map offer_of offers)
-event_of (RESCIND offer) = events.Rescind offer
-event_of (UPDATE task state agent uuid) = events.Update (status_of task state agent uuid)
-event_of (FAILURE agent) = events.Failure agent
-event_of FAILED_OVER = events.Error (codes "Framework failed over")
-event_of REMOVED = events.Error (codes "Framework has been removed")
-event_of HEARTBEAT = events.Heartbeat
-
-abbrev pub written : Told → StreamEvent
-written t = record { stream = t.stream; event = event_of t.event }
 
 -- the master of the model
 
@@ -92,7 +57,7 @@ abbrev pub done : Doing → Work → Work
 done d w = record {
   moved = move_all d.moves w.moved;
   registers = d.registers;
-  events = w.events ++ map written d.events;
+  events = w.events ++ d.events;
   opens = w.opens ++ d.opens;
   closes = w.closes ++ d.closes;
 }

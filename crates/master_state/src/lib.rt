@@ -10,4 +10,4 @@ mod state;
 mod tell;
 
 pub use fault::MasterFault;
-pub use state::{Outs, State, StreamEvent};
+pub use state::{Outs, State};

@@ -1,33 +1,16 @@
 //! What the master knows.
 
-ghost use Rattle.std.proofs.Common.{rules};
 ghost use Rattle.std.specs.Prelude.{◌≡◌, IfOk};
 ghost use Rattle.master_state.specs.States.{cleared, fresh, no_outs};
 
 use agent_sides::{Config, Sides};
-use event_json::Event;
 use frameworks::Frameworks;
 use listed::Listed;
 use mails::ToAgent;
 use names_core::{FrameworkId, Run, StreamId};
-use plain_data::Plain;
+use scheduler_events::StreamEvent;
 use std::alloc::{AllocError, Global};
 use std::mem;
-
-/// An event on a stream.
-#[derive(Clone, Drop, PartialEq)]
-pub struct StreamEvent {
-    pub stream: StreamId,
-    pub event: Event,
-}
-
-impl Plain for StreamEvent {
-    ghost use Rattle.event_json.specs.contracts.event.EventPlain.TheImpl.Laws.{decided-law as event_decided};
-
-    ghost cloned = { Prim.search rules };
-
-    ghost decided = { Prim.search (rules, event_decided) };
-}
 
 /// What a step brings out.
 #[derive(Drop)]

@@ -2,13 +2,12 @@
 
 ghost use Rattle.std.specs.Prelude.{◌≡◌, ◌<◌, IfOk, OnOk, None};
 ghost use Rattle.cluster_model.specs.Ids.{last_number};
-ghost use Rattle.cluster_model.specs.Events.{UPDATE};
 ghost use Rattle.master_state.specs.States.{closed, new_stream, opened, sent, told, told_of_task};
 
-use crate::state::{State, StreamEvent};
-use event_json::{Event, TaskStatus};
+use crate::state::State;
 use mails::ToAgent;
 use names_core::{AgentName, StreamId, TaskName, TaskState};
+use scheduler_events::{Event, StreamEvent, TaskStatus};
 use std::alloc::{AllocError, Global};
 
 impl State {

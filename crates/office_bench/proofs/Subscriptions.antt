@@ -6,7 +6,7 @@ use Rattle.mails.specs.declared.call.Call.TheVariants.{Subscribe}
 use Rattle.mails.specs.declared.refusal.MasterRefusal.{MasterRefusal}
 use Rattle.mails.specs.declared.refusal.MasterRefusal.TheVariants.{NoSuchFramework, LimitExceeded}
 use Rattle.cluster_model.specs.Calls.{called, frameworks_limit, is_unheard_of, new_stream, removed, resubscribed, subscribed}
-use Rattle.cluster_model.specs.Events.{Event, SUBSCRIBED, FAILED_OVER, REMOVED}
+use Rattle.cluster_model.specs.Events.{Event, Subscribed, failover_error, removal_error}
 use Rattle.cluster_model.specs.Ids.{last_number}
 use Rattle.cluster_model.specs.Masters.{Doing, Framework, Master, Registers, framework_of, is_torn, on_stream, refused, stream_of}
 use Rattle.office_bench.specs.Answers.{EndsOnOpened, last_of}
@@ -20,10 +20,10 @@ unless true m refusal d ends h = absurd (let clash : Some refusal ≡ None = h i
 unless false m refusal d ends h = ends h
 
 subscribed_ends : (m : Master) (r : Registers) (id : Numbered) (role : List ℕ) (known : Option Framework) → EndsOnOpened (subscribed m r id role known)
-subscribed_ends m r id role known = (record { stream = new_stream m; event = SUBSCRIBED id }, ends_with (stream_of known) FAILED_OVER (new_stream m) (SUBSCRIBED id), refl)
+subscribed_ends m r id role known = (record { stream = new_stream m; event = Subscribed id }, ends_with (stream_of known) failover_error (new_stream m) (Subscribed id), refl)
 
 removed_ends : (m : Master) → EndsOnOpened (removed m)
-removed_ends m = (record { stream = new_stream m; event = REMOVED }, refl, refl)
+removed_ends m = (record { stream = new_stream m; event = removal_error }, refl, refl)
 
 resubscribed_ends : (m : Master) (id : Numbered) (role : List ℕ) (known : Option Framework) → (resubscribed m id role known).refusal ≡ None → EndsOnOpened (resubscribed m id role known)
 resubscribed_ends m id role None h =

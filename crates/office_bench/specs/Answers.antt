@@ -3,9 +3,8 @@ use Rattle.std.specs.Prelude.{◌≡◌, ◌-◌, ℕ, Bool, true, false, nat_lt
 use Rattle.names_core.specs.Ids.{Numbered}
 use Rattle.mails.specs.declared.call.Call.{Call}
 use Rattle.mails.specs.declared.call.Call.TheVariants.{Subscribe, Teardown, Accept, Decline, Revive, Suppress, Kill, Acknowledge, Reconcile}
-use Rattle.master_state.specs.declared.state.StreamEvent.{StreamEvent}
+use Rattle.scheduler_events.specs.declared.stream_event.StreamEvent.{StreamEvent}
 use Rattle.cluster_histories.specs.Clusters.{Cluster}
-use Rattle.cluster_model.specs.Events.{Told}
 use Rattle.cluster_model.specs.Masters.{Doing}
 use Rattle.cluster_entries.specs.declared.entry.Entry.{Entry}
 use Rattle.cluster_steps.specs.declared.verdict.Verdict.{Verdict}
@@ -98,4 +97,4 @@ turn_on stream c = turn_of (waiting_in stream c) (is_open_in stream c)
 
 -- a call of the model opened one stream, and its last event stands on it
 abbrev pub EndsOnOpened : Doing → Type 0
-EndsOnOpened d = (told : Told) × (last_of d.events ≡ Some told) × (d.opens ≡ told.stream ∷ [])
+EndsOnOpened d = (told : StreamEvent) × (last_of d.events ≡ Some told) × (d.opens ≡ told.stream ∷ [])

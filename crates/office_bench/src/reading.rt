@@ -10,12 +10,11 @@ ghost use Rattle.office_bench.specs.Answers.{EndsOnOpened, accepted, answer_of, 
 
 use cluster_core::{Entry, RecordedCluster, Verdict};
 use desk_lock::Turn;
-use event_json::Event;
 use http_door::{Answer, BenchFault};
 use mails::Call;
-use master_state::StreamEvent;
 use names_core::StreamId;
 use plain_data::Plain;
+use scheduler_events::{Event, StreamEvent};
 use std::alloc::AllocError;
 
 pub(crate) fn is_subscribe(call: &Call) -> bool

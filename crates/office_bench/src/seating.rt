@@ -6,10 +6,10 @@ ghost use Rattle.office_bench.specs.Seated.{SeatingDoes, pass_of};
 use crate::bench::SeatBench;
 use cluster_core::KeptEntry;
 use desk_lock::Pass;
-use event_json::Event;
 use http_door::{Answer, Bench, BenchFault};
 use mails::Call;
 use names_core::StreamId;
+use scheduler_events::Event;
 use std::alloc::AllocError;
 use std::sync::{Wait, ledger};
 

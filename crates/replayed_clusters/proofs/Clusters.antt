@@ -12,14 +12,13 @@ use Rattle.post_rules.specs.Numbers.{is_number}
 use Rattle.cluster_model.specs.Channels.{Channel}
 use Rattle.cluster_histories.specs.Clusters.{master_of}
 use Rattle.cluster_steps.specs.declared.fault.ClusterFault.{ClusterFault}
-use Rattle.cluster_histories.specs.Steps.{Done, Marked, open_cluster, step_marked, unmarked}
+use Rattle.cluster_histories.specs.Steps.{Done, Marked, entry_of, marked_of, open_cluster, step_marked, unmarked}
 use Rattle.master_core.specs.Steps.{offered_on}
 use Rattle.cluster_laws.specs.Parts.{parts_of}
 use Rattle.cluster_entries.specs.declared.entry.Entry.{Entry}
 use Rattle.cluster_entries.specs.declared.entry.Outputs.{Outputs}
 use Rattle.cluster_steps.specs.declared.fault.ClusterFault.TheVariants as faults
 use Rattle.cluster_steps.specs.declared.step.Step.{Step}
-use Rattle.cluster_entries.specs.Entries.{entry_of, marked_of, outputs_of}
 use Rattle.cluster_steps.specs.Verdicts.{fell}
 use Rattle.cluster_parts.specs.Agents.{recorded}
 use Rattle.cluster_core.specs.Keeping.{IsRefused, IsTaken, WithheldFrom, offered_in}
@@ -30,7 +29,7 @@ use Rattle.replayed_clusters.specs.Stories.{due, entry_in, entry_or_fault, greet
 
 -- ---- the opening
 
-pub greetings_there : (s : Story) (outputs : Outputs) → outputs ≡ outputs_of (open_cluster s.setup s.records).entry.outs → outputs.sent ≡ greetings s
+pub greetings_there : (s : Story) (outputs : Outputs) → outputs ≡ (open_cluster s.setup s.records).outputs → outputs.sent ≡ greetings s
 unfolding greetings
 greetings_there s outputs e = ap (λ (o : Outputs). o.sent) e
 
@@ -73,7 +72,7 @@ no_sum_there s agent e = no_sum_in (state_of s).world.run.serves (offered_on (ma
 same_mark : (step : Step) (entry : Entry) → entry.step ≡ step → fell entry.verdict ≡ false → marked_of entry ≡ unmarked step
 same_mark step entry is stands = rw (is, stands) refl
 
-taken_so : (answer : Marked → Result Done ClusterFault) (step : Step) (entry : Entry) (d : Done) → answer (marked_of entry) ≡ Ok d → entry ≡ entry_of step d.entry → fell entry.verdict ≡ false
+taken_so : (answer : Marked → Result Done ClusterFault) (step : Step) (entry : Entry) (d : Done) → answer (marked_of entry) ≡ Ok d → entry ≡ entry_of step d → fell entry.verdict ≡ false
     → entry_or_fault step (answer (unmarked step)) ≡ Ok entry
 taken_so answer step entry d answers makes stands =
     let mark : marked_of entry ≡ unmarked step = same_mark step entry (ap (λ (e : Entry). e.step) makes) stands in

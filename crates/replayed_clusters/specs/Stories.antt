@@ -7,11 +7,10 @@ use Rattle.role_weights.specs.Weights.{RoleWeight}
 use Rattle.master_core.specs.Steps.{offered_on}
 use Rattle.cluster_histories.specs.Clusters.{master_of}
 use Rattle.cluster_steps.specs.declared.fault.ClusterFault.{ClusterFault}
-use Rattle.cluster_histories.specs.Steps.{Done, open_cluster, step_marked, unmarked}
+use Rattle.cluster_histories.specs.Steps.{Done, entry_of, open_cluster, step_marked, unmarked}
 use Rattle.cluster_entries.specs.declared.entry.Entry.{Entry}
 use Rattle.cluster_steps.specs.declared.verdict.Sent.{Sent}
 use Rattle.cluster_steps.specs.declared.step.Step.{Step}
-use Rattle.cluster_entries.specs.Entries.{entry_of}
 use Rattle.cluster_openings.specs.Fresh.{fresh_records}
 use Rattle.cluster_core.specs.declared.taken.Taken.{Taken}
 use Rattle.cluster_core.specs.Stories.{Story, state_of}
@@ -27,13 +26,13 @@ fresh_story agents weights =
 
 -- the mails that the opening sends
 unfoldable pub greetings : Story → List Sent
-greetings s = (open_cluster s.setup s.records).entry.outs.sent
+greetings s = (open_cluster s.setup s.records).outputs.sent
 
 abbrev pub entry_in : Taken → Entry
 entry_in taken = taken.entry
 
 abbrev pub entry_or_fault : Step → Result Done ClusterFault → Result Entry ClusterFault
-entry_or_fault step (Ok d) = Ok (entry_of step d.entry)
+entry_or_fault step (Ok d) = Ok (entry_of step d)
 entry_or_fault step (Err refusal) = Err refusal
 
 -- the entry that a step makes, or why it is refused

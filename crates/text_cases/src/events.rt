@@ -1,8 +1,9 @@
 //! Events of which a replay has no text.
 
-use event_json::{Event, Message, Offer, Offers, TaskStatus, write_event};
+use event_json::write_event;
 use names_core::{AgentName, FrameworkId, NameFault, OfferId, TaskName, TaskState, UpdateId};
 use quantity::Resources;
+use scheduler_events::{Event, Message, Offer, Offers, TaskStatus};
 use std::alloc::{AllocError, Global};
 
 /// The event's text.

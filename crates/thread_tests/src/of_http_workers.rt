@@ -1,10 +1,10 @@
 ghost use Rattle.std.specs.Prelude.{◌≡◌, ◌<◌, [], ⊤};
 
-use event_json::Event;
 use http_door::{Answer, Bench, Gate, Inlet, NoGate, Outlet, Sink, Source};
 use http_workers::{Arrivals, HttpFault, serve_all};
 use mails::Call;
 use names_core::{FrameworkId, StreamId};
+use scheduler_events::Event;
 use std::alloc::{AllocError, Global};
 use std::io::{Read, Write};
 use std::net::{Net, SocketAddr, TcpListener, TcpStream};

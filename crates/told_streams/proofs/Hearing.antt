@@ -7,10 +7,11 @@ use Rattle.std.proofs.lemmas.List.{append_assoc, map-append, take_more}
 use Rattle.std.proofs.lemmas.List.Quantifiers.{position-Some}
 use Rattle.names_core.specs.Ids.{Numbered}
 use Rattle.cluster_model.specs.Ids.{same, before}
+use Rattle.cluster_histories.specs.Steps.{told_on}
 use Rattle.cluster_laws.specs.Runs.{AreRising}
-use Rattle.event_json.specs.declared.event.Event.{Event}
-use Rattle.master_state.specs.declared.state.StreamEvent.{StreamEvent}
-use Rattle.told_streams.specs.Streams.{KeptStream, kept_ids, is_kept_as, events_on, hearing, opened_stream, heard, taking, taken}
+use Rattle.scheduler_events.specs.declared.event.Event.{Event}
+use Rattle.scheduler_events.specs.declared.stream_event.StreamEvent.{StreamEvent}
+use Rattle.told_streams.specs.Streams.{KeptStream, kept_ids, is_kept_as, hearing, opened_stream, heard, taking, taken}
 use Rattle.told_streams.proofs.Standing.{LeavesOthers, each_at, earlier_differs, others, others_stay, none_at, stands_at}
 
 turned : (a b : Numbered) (answer : Bool) → same a b ≡ answer → same b a ≡ answer
@@ -30,7 +31,7 @@ pub takes_elsewhere : (id : Numbered) → LeavesOthers id (taking id)
 takes_elsewhere id s h = rw h refl
 
 hears_more_on : (es : List StreamEvent) (e : StreamEvent) (s : KeptStream) → hearing (e ∷ []) (hearing es s) ≡ hearing (es ++ e ∷ []) s
-hears_more_on es e s = ap (with_events s) (append_assoc s.waiting (events_on s.id es) (events_on s.id (e ∷ [])) ∙ ap (λ (xs : List Event). s.waiting ++ xs) (sym (flat_map-append _ es (e ∷ []))))
+hears_more_on es e s = ap (with_events s) (append_assoc s.waiting (told_on s.id es) (told_on s.id (e ∷ [])) ∙ ap (λ (xs : List Event). s.waiting ++ xs) (sym (flat_map-append _ es (e ∷ []))))
 
 pub hears_more : (es : List StreamEvent) (e : StreamEvent) (ss : List KeptStream) → map (hearing (e ∷ [])) (map (hearing es) ss) ≡ map (hearing (es ++ e ∷ [])) ss
 hears_more es e [] = refl

@@ -11,7 +11,7 @@ use Rattle.mails.specs.declared.refusal.AgentRefusal.TheVariants.{NotForMe}
 use Rattle.cluster_model.specs.Ids.{last_number, last_run}
 use Rattle.cluster_model.specs.Agents.{Draft, hears_mail, next_of}
 use Rattle.cluster_model.specs.Channels.{Channel, AgentStep, Draw, DrawMail, Adopt, StopWithout, StopWith, Hear, ByAgent, At, Restart, Halt}
-use Rattle.cluster_model.specs.Events.{Event, Told}
+use Rattle.cluster_model.specs.Events.{Event, StreamEvent}
 use Rattle.cluster_model.specs.Masters.{new_registers}
 use Rattle.cluster_model.specs.Calls.{called}
 use Rattle.cluster_model.specs.Mails.{mailed, ticked, agent_lost, hung_up}
@@ -158,13 +158,13 @@ step_keeps c s = by_test c (nat_le last_number c.entries) (Err HistoryFull) (if 
 
 -- histories
 
-extend_more : (h : History) (ss : List Marked) (s : Marked) → extend_all h (ss ++ s ∷ []) ≡ extended (extend_all h ss) (step_marked (extend_all h ss).state s)
+extend_more : (h : History) (ss : List Marked) (s : Marked) → extend_all h (ss ++ s ∷ []) ≡ extended (extend_all h ss) s.step (step_marked (extend_all h ss).state s)
 extend_more h [] s = refl
-extend_more h (x ∷ ss) s = extend_more (extended h (step_marked h.state x)) ss s
+extend_more h (x ∷ ss) s = extend_more (extended h x.step (step_marked h.state x)) ss s
 
-extended_keeps : (h : History) (r : Result Done ClusterFault) → Keeps h.state r → AreRising (ids_of h.state.streams) → AreWithin h.state.streams → AreWithin (extended h r).state.streams
-extended_keeps h (Ok d) f rising within = f rising within
-extended_keeps h (Err refusal) f rising within = within
+extended_keeps : (h : History) (step : Step) (r : Result Done ClusterFault) → Keeps h.state r → AreRising (ids_of h.state.streams) → AreWithin h.state.streams → AreWithin (extended h step r).state.streams
+extended_keeps h step (Ok d) f rising within = f rising within
+extended_keeps h step (Err refusal) f rising within = within
 
 abbrev WithinAfter : Setup → List Durable → List Marked → Type 0
 WithinAfter setup records steps = AreWithin (history setup records steps).state.streams
@@ -173,17 +173,17 @@ grown : (setup : Setup) (records : List Durable) (past rest : List Marked) → W
 grown setup records past [] h = subst (WithinAfter setup records) (sym (append-nil past)) h
 grown setup records past (s ∷ rest) h =
     let old = history setup records past in
-    let one = extended_keeps old (step_marked old.state s) (step_keeps old.state s) (history_streams setup records past) h in
+    let one = extended_keeps old s.step (step_marked old.state s) (step_keeps old.state s) (history_streams setup records past) h in
     let next : WithinAfter setup records (past ++ s ∷ []) = subst (λ (x : History). AreWithin x.state.streams) (sym (extend_more (opening setup records) past s)) one in
     subst (WithinAfter setup records) (append_assoc past (s ∷ []) rest) (grown setup records (past ++ s ∷ []) rest next)
 
 pub never_more : (setup : Setup) (records : List Durable) (steps : List Marked) → WithinAfter setup records steps
 never_more setup records steps = grown setup records [] steps tt
 
-pub may_open : (setup : Setup) (records : List Durable) (steps : List Marked) (s : Marked) (d : Done) (opens : List Numbered) (told : List Told) → step_marked (history setup records steps).state s ≡ Ok d
+pub may_open : (setup : Setup) (records : List Durable) (steps : List Marked) (s : Marked) (d : Done) (opens : List Numbered) (told : List StreamEvent) → step_marked (history setup records steps).state s ≡ Ok d
     → d.after.streams ≡ streams_after (history setup records steps).state.streams opens told → AreRising (kept_ids (kept_streams (history setup records steps).state.streams) ++ opens)
 may_open setup records steps s d opens told step is =
     let old = history setup records steps in
-    let next : history setup records (steps ++ s ∷ []) ≡ extended old (Ok d) = extend_more (opening setup records) steps s ∙ ap (extended old) step in
+    let next : history setup records (steps ++ s ∷ []) ≡ extended old s.step (Ok d) = extend_more (opening setup records) steps s ∙ ap (extended old s.step) step in
     let rising : AreRising (ids_of d.after.streams) = subst (λ (h : History). AreRising (ids_of h.state.streams)) next (history_streams setup records (steps ++ s ∷ [])) in
     subst AreRising (ap (λ (ss : List Stream). ids_of ss) is ∙ ids_kept old.state.streams opens told) rising

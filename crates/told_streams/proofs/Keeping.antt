@@ -6,39 +6,24 @@ use Rattle.std.proofs.lemmas.Bool.{cond_both}
 use Rattle.std.proofs.lemmas.List.{map-append, drop-append-le, length-append}
 use Rattle.std.proofs.lemmas.Option.{slice_get_within}
 use Rattle.names_core.specs.Ids.{Numbered}
-use Rattle.event_json.specs.declared.event.Event as json
-use Rattle.master_state.specs.Works.{event_of, written}
 use Rattle.cluster_model.specs.Ids.{same, before}
-use Rattle.cluster_model.specs.Events.{Event, Told}
+use Rattle.cluster_model.specs.Events.{Event, StreamEvent}
 use Rattle.cluster_histories.specs.Clusters.{Cluster, Stream}
 use Rattle.cluster_steps.specs.declared.step.Step.TheVariants.{Take}
 use Rattle.cluster_histories.specs.Steps.{answer, hears, new_stream, stream_at, streams_after, takes, takes_event, takes_one, told_on}
 use Rattle.cluster_laws.specs.Runs.{AreRising, ids_of}
-use Rattle.told_streams.specs.Streams.{KeptStream, events_on, first_waiting, heard, hearing, is_kept_as, kept_ids, next_on, opened_stream, taken, taking}
+use Rattle.told_streams.specs.Streams.{KeptStream, first_waiting, heard, hearing, is_kept_as, kept_ids, next_on, opened_stream, taken, taking}
 use Rattle.told_streams.specs.Kept.{AreWithin, kept_stream, kept_streams, untaken, untaken_of}
 use Rattle.told_streams.proofs.Standing.{later_differs}
 
 -- hearing
 
-written_on : (id : Numbered) (told : List Told) → map event_of (told_on id told) ≡ events_on id (map written told)
-written_on id [] = refl
-written_on id (t ∷ ts) = by (same t.stream id) (written_on id ts)
-  where
-    by : (b : Bool) → map event_of (told_on id ts) ≡ events_on id (map written ts)
-        → map event_of (cond b (t.event ∷ []) [] ++ told_on id ts) ≡ cond b (event_of t.event ∷ []) [] ++ events_on id (map written ts)
-    by true e = ap (λ (es : List json.Event). event_of t.event ∷ es) e
-    by false e = e
+hears_kept : (told : List StreamEvent) (s : Stream) → s.taken ≤ length s.events → kept_stream (hears told s) ≡ hearing told (kept_stream s)
+hears_kept told s within = ap (λ (es : List Event). record { id = s.id; waiting = es }) (drop-append-le s.taken s.events (told_on s.id told) within)
 
-hears_kept : (told : List Told) (s : Stream) → s.taken ≤ length s.events → kept_stream (hears told s) ≡ hearing (map written told) (kept_stream s)
-hears_kept told s within =
-    ap (λ (es : List json.Event). record { id = s.id; waiting = es })
-    (ap (λ (es : List Event). map event_of es) (drop-append-le s.taken s.events (told_on s.id told) within)
-    ∙ (map-append event_of (drop s.taken s.events) (told_on s.id told)
-    ∙ ap (λ (es : List json.Event). map event_of (drop s.taken s.events) ++ es) (written_on s.id told)))
-
-all_hear : (told : List Told) (ss : List Stream) → AreWithin ss → kept_streams (map (hears told) ss) ≡ map (hearing (map written told)) (kept_streams ss)
+all_hear : (told : List StreamEvent) (ss : List Stream) → AreWithin ss → kept_streams (map (hears told) ss) ≡ map (hearing told) (kept_streams ss)
 all_hear told [] h = refl
-all_hear told (s ∷ ss) h = rw (hears_kept told s h.0) (ap (λ (ks : List KeptStream). hearing (map written told) (kept_stream s) ∷ ks) (all_hear told ss h.1))
+all_hear told (s ∷ ss) h = rw (hears_kept told s h.0) (ap (λ (ks : List KeptStream). hearing told (kept_stream s) ∷ ks) (all_hear told ss h.1))
 
 kept_new : (opens : List Numbered) → kept_streams (map new_stream opens) ≡ map opened_stream opens
 kept_new [] = refl
@@ -52,21 +37,21 @@ both_within : (ss more : List Stream) → AreWithin ss → AreWithin more → Ar
 both_within [] more h k = k
 both_within (s ∷ ss) more h k = (h.0, both_within ss more h.1 k)
 
-pub kept_after : (ss : List Stream) (opens : List Numbered) (told : List Told) → AreWithin ss → kept_streams (streams_after ss opens told) ≡ heard opens (map written told) (kept_streams ss)
+pub kept_after : (ss : List Stream) (opens : List Numbered) (told : List StreamEvent) → AreWithin ss → kept_streams (streams_after ss opens told) ≡ heard opens told (kept_streams ss)
 kept_after ss opens told h =
     all_hear told (ss ++ map new_stream opens) (both_within ss (map new_stream opens) h (new_within opens))
-    ∙ ap (λ (ks : List KeptStream). map (hearing (map written told)) ks) (map-append kept_stream ss (map new_stream opens) ∙ ap (λ (ks : List KeptStream). kept_streams ss ++ ks) (kept_new opens))
+    ∙ ap (λ (ks : List KeptStream). map (hearing told) ks) (map-append kept_stream ss (map new_stream opens) ∙ ap (λ (ks : List KeptStream). kept_streams ss ++ ks) (kept_new opens))
 
-heard_within : (told : List Told) (ss : List Stream) → AreWithin ss → AreWithin (map (hears told) ss)
+heard_within : (told : List StreamEvent) (ss : List Stream) → AreWithin ss → AreWithin (map (hears told) ss)
 heard_within told [] h = tt
 heard_within told (s ∷ ss) h = (let count = length-append s.events (told_on s.id told) in omega (arith, h.0), heard_within told ss h.1)
 
-pub after_within : (ss : List Stream) (opens : List Numbered) (told : List Told) → AreWithin ss → AreWithin (streams_after ss opens told)
+pub after_within : (ss : List Stream) (opens : List Numbered) (told : List StreamEvent) → AreWithin ss → AreWithin (streams_after ss opens told)
 after_within ss opens told h = heard_within told (ss ++ map new_stream opens) (both_within ss (map new_stream opens) h (new_within opens))
 
 -- ids
 
-heard_ids : (told : List Told) (ss : List Stream) → ids_of (map (hears told) ss) ≡ ids_of ss
+heard_ids : (told : List StreamEvent) (ss : List Stream) → ids_of (map (hears told) ss) ≡ ids_of ss
 heard_ids told [] = refl
 heard_ids told (s ∷ ss) = ap (λ (ids : List Numbered). s.id ∷ ids) (heard_ids told ss)
 
@@ -78,18 +63,13 @@ kept_have_ids : (ss : List Stream) → ids_of ss ≡ kept_ids (kept_streams ss)
 kept_have_ids [] = refl
 kept_have_ids (s ∷ ss) = ap (λ (ids : List Numbered). s.id ∷ ids) (kept_have_ids ss)
 
-pub ids_kept : (ss : List Stream) (opens : List Numbered) (told : List Told) → ids_of (streams_after ss opens told) ≡ kept_ids (kept_streams ss) ++ opens
+pub ids_kept : (ss : List Stream) (opens : List Numbered) (told : List StreamEvent) → ids_of (streams_after ss opens told) ≡ kept_ids (kept_streams ss) ++ opens
 ids_kept ss opens told =
     heard_ids told (ss ++ map new_stream opens)
     ∙ (map-append (λ (s : Stream). s.id) ss (map new_stream opens)
     ∙ (ap (λ (ids : List Numbered). ids_of ss ++ ids) (new_ids opens) ∙ ap (λ (ids : List Numbered). ids ++ opens) (kept_have_ids ss)))
 
 -- taking
-
-drop_mapped : {A B : Type 0} (f : A → B) (n : ℕ) (xs : List A) → map f (drop n xs) ≡ drop n (map f xs)
-drop_mapped f zero xs = refl
-drop_mapped f (suc n) [] = refl
-drop_mapped f (suc n) (x ∷ xs) = drop_mapped f n xs
 
 drop_twice : {A : Type 0} (n : ℕ) (xs : List A) → drop (suc n) xs ≡ drop 1 (drop n xs)
 drop_twice zero [] = refl
@@ -98,7 +78,7 @@ drop_twice zero (x ∷ xs) = refl
 drop_twice (suc n) (x ∷ xs) = drop_twice n xs
 
 takes_kept : (id : Numbered) (s : Stream) (b : Bool) → same s.id id ≡ b → kept_stream (takes_one id s) ≡ taking id (kept_stream s)
-takes_kept id s true e = rw e (ap (λ (es : List json.Event). record { id = s.id; waiting = es }) (ap (λ (es : List Event). map event_of es) (drop_twice s.taken s.events) ∙ drop_mapped event_of 1 (drop s.taken s.events)))
+takes_kept id s true e = rw e (ap (λ (es : List Event). record { id = s.id; waiting = es }) (drop_twice s.taken s.events))
 takes_kept id s false e = rw e refl
 
 pub all_take : (id : Numbered) (ss : List Stream) → kept_streams (map (takes_one id) ss) ≡ taken id (kept_streams ss)
@@ -116,17 +96,17 @@ found_kept id (s ∷ ss) = by (same s.id id) (found_kept id ss)
     by true e = refl
     by false e = e
 
-first_dropped : (es : List Event) (n : ℕ) → slice_get (map event_of (drop n es)) 0 ≡ option_map event_of (slice_get es n)
+first_dropped : (es : List Event) (n : ℕ) → slice_get (drop n es) 0 ≡ slice_get es n
 first_dropped [] zero = refl
 first_dropped [] (suc n) = refl
 first_dropped (e ∷ es) zero = refl
 first_dropped (e ∷ es) (suc n) = first_dropped es n
 
-first_kept : (s : Option Stream) → first_waiting (option_map kept_stream s) ≡ option_map event_of (untaken_of s)
+first_kept : (s : Option Stream) → first_waiting (option_map kept_stream s) ≡ untaken_of s
 first_kept None = refl
 first_kept (Some s) = first_dropped s.events s.taken
 
-pub next_kept : (c : Cluster) (id : Numbered) → next_on id (kept_streams c.streams) ≡ option_map event_of (untaken c id)
+pub next_kept : (c : Cluster) (id : Numbered) → next_on id (kept_streams c.streams) ≡ untaken c id
 next_kept c id = ap first_waiting (found_kept id c.streams) ∙ first_kept (stream_at c id)
 
 takes_untaken : (c : Cluster) (id : Numbered) (s : Option Stream) → takes c id s ≡ takes_event c id (untaken_of s)

@@ -5,12 +5,11 @@ use Rattle.names_core.specs.Ids.{Numbered}
 use Rattle.cluster_model.specs.Events.{Event}
 use Rattle.cluster_histories.specs.Clusters.{Cluster, Stream}
 use Rattle.cluster_histories.specs.Steps.{stream_at}
-use Rattle.master_state.specs.Works.{event_of}
 use Rattle.told_streams.specs.Streams.{KeptStream}
 
--- the events that nobody took yet, as they are written
+-- the events that nobody took yet
 abbrev pub kept_stream : Stream → KeptStream
-kept_stream s = record { id = s.id; waiting = map event_of (drop s.taken s.events) }
+kept_stream s = record { id = s.id; waiting = drop s.taken s.events }
 
 abbrev pub kept_streams : List Stream → List KeptStream
 kept_streams streams = map kept_stream streams

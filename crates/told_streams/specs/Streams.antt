@@ -1,10 +1,11 @@
 -- Streams, and the events on them that nobody took yet.
 use Rattle.std.specs.Prelude.{ℕ, Bool, List, [], ◌∷◌, ◌++◌, map, drop, slice_get, length, if◌then◌else◌, Option, Some, None, option_map}
-use Rattle.std.specs.List.{find, flat_map}
+use Rattle.std.specs.List.{find}
 use Rattle.names_core.specs.Ids.{Numbered}
 use Rattle.cluster_model.specs.Ids.{same}
-use Rattle.event_json.specs.declared.event.Event.{Event}
-use Rattle.master_state.specs.declared.state.StreamEvent.{StreamEvent}
+use Rattle.cluster_histories.specs.Steps.{told_on}
+use Rattle.scheduler_events.specs.declared.event.Event.{Event}
+use Rattle.scheduler_events.specs.declared.stream_event.StreamEvent.{StreamEvent}
 pub use Rattle.told_streams.specs.declared.kept.KeptStream.{KeptStream}
 
 abbrev pub kept_ids : List KeptStream → List Numbered
@@ -15,12 +16,8 @@ is_kept_as id s = same s.id id
 
 -- hearing
 
--- those of the events that are on a stream, in order
-abbrev pub events_on : Numbered → List StreamEvent → List Event
-events_on id events = flat_map (λ e. if same e.stream id then e.event ∷ [] else []) events
-
 abbrev pub hearing : List StreamEvent → KeptStream → KeptStream
-hearing events s = record { id = s.id; waiting = s.waiting ++ events_on s.id events }
+hearing events s = record { id = s.id; waiting = s.waiting ++ told_on s.id events }
 
 abbrev pub opened_stream : Numbered → KeptStream
 opened_stream id = record { id = id; waiting = [] }

@@ -2,11 +2,11 @@
 
 ghost use Rattle.std.specs.Prelude.{◌≡◌, ◌++◌, ◌∷◌, [], drop, length, slice_get, List, OnOk, OnErr};
 ghost use Rattle.std.specs.Option.{option_copied};
-ghost use Rattle.event_json.specs.declared.event.Event.{Event};
+ghost use Rattle.scheduler_events.specs.declared.event.Event.{Event};
 ghost use Rattle.told_streams.specs.Streams.{opened_stream, is_kept_as};
 
-use event_json::Event;
 use names_core::StreamId;
+use scheduler_events::Event;
 use std::alloc::{AllocError, Global};
 use std::collections::VecDeque;
 use std::marker::Model;
@@ -19,7 +19,7 @@ pub struct Waiting {
 
 impl Model for Waiting {
     ghost use Rattle.std.specs.Prelude.{List};
-    ghost use Rattle.event_json.specs.declared.event.Event.{Event};
+    ghost use Rattle.scheduler_events.specs.declared.event.Event.{Event};
 
     ghost Value = { List Event };
 

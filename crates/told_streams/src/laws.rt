@@ -4,10 +4,9 @@ ghost use Rattle.std.specs.Prelude.{◌≡◌, ◌++◌, List, map, option_map, 
 ghost use Rattle.cluster_laws.specs.Runs.{AreRising, ids_of};
 ghost use Rattle.cluster_histories.specs.Clusters.{Cluster, Stream};
 ghost use Rattle.cluster_steps.specs.declared.step.Step.TheVariants.{Take};
-ghost use Rattle.cluster_model.specs.Events.{Event, Told};
+ghost use Rattle.cluster_model.specs.Events.{Event, StreamEvent};
 ghost use Rattle.cluster_histories.specs.Steps.{Setup, Done, Marked, answer, history, step_marked, stream_at, streams_after, takes_event, takes_one};
 ghost use Rattle.mails.specs.declared.record.Durable.{Durable};
-ghost use Rattle.master_state.specs.Works.{event_of, written};
 ghost use Rattle.names_core.specs.Ids.{Numbered};
 ghost use Rattle.told_streams.specs.Kept.{AreWithin, kept_stream, kept_streams, untaken};
 ghost use Rattle.told_streams.specs.Streams.{heard, kept_ids, next_on, stream_kept, taken};
@@ -15,12 +14,12 @@ ghost use Rattle.told_streams.specs.Streams.{heard, kept_ids, next_on, stream_ke
 /// What a step of the model makes of its streams is what `hear` and
 /// `take` make of those that are kept of them.
 pub fn kept_streams_follow()
-    ensures hears { (streams : List Stream) (opens : List Numbered) (told : List Told)
+    ensures hears { (streams : List Stream) (opens : List Numbered) (told : List StreamEvent)
         → AreWithin streams → kept_streams (streams_after streams opens told)
-        ≡ heard opens (map written told) (kept_streams streams) }
+        ≡ heard opens told (kept_streams streams) }
     ensures takes { (streams : List Stream) (id : Numbered)
         → kept_streams (map (takes_one id) streams) ≡ taken id (kept_streams streams) }
-    ensures ids { (streams : List Stream) (opens : List Numbered) (told : List Told)
+    ensures ids { (streams : List Stream) (opens : List Numbered) (told : List StreamEvent)
         → ids_of (streams_after streams opens told) ≡ kept_ids (kept_streams streams) ++ opens }
 {}
 
@@ -30,14 +29,14 @@ pub fn kept_streams_are_found()
     ensures streams { (c : Cluster) (id : Numbered)
         → stream_kept id (kept_streams c.streams) ≡ option_map kept_stream (stream_at c id) }
     ensures next { (c : Cluster) (id : Numbered)
-        → next_on id (kept_streams c.streams) ≡ option_map event_of (untaken c id) }
+        → next_on id (kept_streams c.streams) ≡ untaken c id }
     ensures answers { (c : Cluster) (id : Numbered)
         → answer c (Take id) ≡ takes_event c id (untaken c id) }
 {}
 
 /// Never is more taken than there is.
 pub fn no_more_is_taken()
-    ensures hears { (streams : List Stream) (opens : List Numbered) (told : List Told)
+    ensures hears { (streams : List Stream) (opens : List Numbered) (told : List StreamEvent)
         → AreWithin streams → AreWithin (streams_after streams opens told) }
     ensures takes { (c : Cluster) (id : Numbered) (event : Event) → AreRising (ids_of c.streams)
         → AreWithin c.streams → untaken c id ≡ Some event
@@ -48,6 +47,6 @@ pub fn no_more_is_taken()
 
 /// The streams that a step opens rise above those that stand.
 pub fn opened_streams_rise()
-    ensures { (setup : Setup) (records : List Durable) (steps : List Marked) (s : Marked) (d : Done) (opens : List Numbered) (told : List Told) → step_marked (history setup records steps).state s ≡ Ok d →
+    ensures { (setup : Setup) (records : List Durable) (steps : List Marked) (s : Marked) (d : Done) (opens : List Numbered) (told : List StreamEvent) → step_marked (history setup records steps).state s ≡ Ok d →
         d.after.streams ≡ streams_after (history setup records steps).state.streams opens told → AreRising (kept_ids (kept_streams (history setup records steps).state.streams) ++ opens) }
 {}

@@ -8,10 +8,9 @@ ghost use Rattle.cluster_model.specs.Ids.{before};
 ghost use Rattle.told_streams.specs.Streams.{KeptStream as Kept, heard, hearing, is_kept_as, kept_ids, next_on, opened_stream, stream_kept, taken};
 
 use crate::kept::KeptStream;
-use event_json::Event;
-use master_state::StreamEvent;
 use names_core::StreamId;
 use plain_data::Plain;
+use scheduler_events::{Event, StreamEvent};
 use std::alloc::{AllocError, Global};
 
 /// Ids stand by run, and then by number.

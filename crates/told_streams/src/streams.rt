@@ -7,9 +7,8 @@ ghost use Rattle.told_streams.specs.Streams.{count_on, heard, kept_ids, next_on,
 
 use crate::kept::KeptStream;
 use crate::places::{hear_in, stream_at, take_in};
-use event_json::Event;
-use master_state::StreamEvent;
 use names_core::StreamId;
+use scheduler_events::{Event, StreamEvent};
 use std::alloc::{AllocError, Global};
 use std::marker::Model;
 

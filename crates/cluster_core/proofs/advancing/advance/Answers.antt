@@ -1,7 +1,7 @@
 use Rattle.std.proofs.Common.{rules, ◌≡◌, ◌<◌, ◌∙◌, ap, drop, length, map, refl, sym, subst}
 use Rattle.std.specs.Prelude.{fold, IfErr}
 use Rattle.std.proofs.lemmas.Result.{IfErr-weaker}
-use Rattle.cluster_entries.specs.Entries.{marked_of}
+use Rattle.cluster_histories.specs.Steps.{marked_of}
 use Rattle.cluster_entries.specs.declared.entry.Outputs.{Outputs}
 use Rattle.agent_sides.specs.Configs.{names_of}
 use Rattle.cluster_laws.specs.Parts.{AreAgentsOf}

@@ -1,5 +1,5 @@
 use Rattle.std.proofs.Common.{map}
-use Rattle.cluster_entries.specs.Entries.{marked_of}
+use Rattle.cluster_histories.specs.Steps.{marked_of}
 use Rattle.cluster_core.proofs.SafeStories.{acknowledge_theirs}
 use Rattle.cluster_core.proofs.safety.stories_are_safe.Goals as goal
 

@@ -1,7 +1,7 @@
 use Rattle.std.proofs.Common.{◌<◌, ◌∙◌, ℕ, List, ap, map}
 use Rattle.mails.specs.declared.record.Durable.{Durable}
 use Rattle.cluster_model.specs.Openings.{GoodOpening}
-use Rattle.cluster_entries.specs.Entries.{marked_of}
+use Rattle.cluster_histories.specs.Steps.{marked_of}
 use Rattle.cluster_openings.specs.Records.{in_order}
 use Rattle.cluster_core.specs.Stopping.{AreFound, live_of}
 use Rattle.cluster_core.specs.Stories.{IsLegal, Story, opened_over, state_of}

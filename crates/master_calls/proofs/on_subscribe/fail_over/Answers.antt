@@ -1,5 +1,5 @@
 use Rattle.std.proofs.Common.{ap, ◌∙◌}
-use Rattle.event_json.specs.declared.event.Event.TheVariants as events
+use Rattle.scheduler_events.specs.declared.event.Event.TheVariants as events
 use Rattle.master_state.specs.States.{closed, told}
 use Rattle.master_calls.proofs.on_subscribe.fail_over.Goals as goal
 

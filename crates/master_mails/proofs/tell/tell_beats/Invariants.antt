@@ -1,7 +1,6 @@
 use Rattle.std.proofs.Common.{◌≡◌, ◌++◌, take, map, flat_map}
 use Rattle.cluster_model.specs.Mails.{beats}
-use Rattle.master_state.specs.Works.{written}
 use Rattle.master_mails.proofs.tell.tell_beats.Given as goal
 
 abbrev pub invariant-loop-framework : goal.invariant-loop-framework
-invariant-loop-framework l = l.events ≡ l.fn.events ++ map written (flat_map (beats l.now) (take l.framework-index l.frameworks))
+invariant-loop-framework l = l.events ≡ l.fn.events ++ flat_map (beats l.now) (take l.framework-index l.frameworks)

@@ -1,7 +1,6 @@
 use Rattle.std.proofs.Common.{◌≡◌, ◌++◌, take, map, flat_map}
-use Rattle.master_state.specs.Works.{written}
 use Rattle.master_mails.specs.Tells.{news}
 use Rattle.master_mails.proofs.tell.tell_news.Given as goal
 
 abbrev pub invariant-loop-task : goal.invariant-loop-task
-invariant-loop-task l = l.events ≡ l.fn.events ++ map written (flat_map (news l.frameworks l.agent l.update) (take l.task-index l.tasks))
+invariant-loop-task l = l.events ≡ l.fn.events ++ flat_map (news l.frameworks l.agent l.update) (take l.task-index l.tasks)

@@ -1,7 +1,6 @@
 use Rattle.std.proofs.Common.{◌≡◌, ◌++◌, take, map, flat_map}
-use Rattle.master_state.specs.Works.{written}
 use Rattle.master_mails.specs.Tells.{rescind_of}
 use Rattle.master_mails.proofs.tell.tell_rescinds.Given as goal
 
 abbrev pub invariant-loop-offer : goal.invariant-loop-offer
-invariant-loop-offer l = l.events ≡ l.fn.events ++ map written (flat_map (rescind_of l.frameworks) (take l.offer-index l.offers))
+invariant-loop-offer l = l.events ≡ l.fn.events ++ flat_map (rescind_of l.frameworks) (take l.offer-index l.offers)

@@ -1,6 +1,6 @@
 use Rattle.std.proofs.Common.{◌∙◌, List, set, ap, sym, subst}
 use Rattle.cluster_laws.specs.Runs.{AreRising}
-use Rattle.event_json.specs.declared.event.Event.{Event}
+use Rattle.scheduler_events.specs.declared.event.Event.{Event}
 use Rattle.told_streams.specs.Streams.{KeptStream, first_waiting, taking}
 use Rattle.told_streams.proofs.Standing.{stands_at, none_at, changes_there, changes_nowhere}
 use Rattle.told_streams.proofs.Hearing.{takes_elsewhere, takes_here, set_ids}

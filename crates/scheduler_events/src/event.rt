@@ -28,10 +28,10 @@ pub enum Event {
 }
 
 impl Plain for Event {
-    ghost use Rattle.event_json.specs.contracts.message.MessagePlain.TheImpl.Laws.{decided-law as message_decided};
-    ghost use Rattle.event_json.specs.contracts.offers.OffersPlain.TheImpl.Laws.{decided-law as offers_decided};
-    ghost use Rattle.event_json.specs.contracts.status.TaskStatusPlain.TheImpl.Laws.{decided-law as status_decided};
-    ghost use Rattle.event_json.specs.declared.event.Event.TheVariants.{Error, Failure, Heartbeat, Offers, Rescind, Subscribed, Update};
+    ghost use Rattle.scheduler_events.specs.contracts.message.MessagePlain.TheImpl.Laws.{decided-law as message_decided};
+    ghost use Rattle.scheduler_events.specs.contracts.offers.OffersPlain.TheImpl.Laws.{decided-law as offers_decided};
+    ghost use Rattle.scheduler_events.specs.contracts.status.TaskStatusPlain.TheImpl.Laws.{decided-law as status_decided};
+    ghost use Rattle.scheduler_events.specs.declared.event.Event.TheVariants.{Error, Failure, Heartbeat, Offers, Rescind, Subscribed, Update};
 
     ghost cloned = { Prim.search rules };
 

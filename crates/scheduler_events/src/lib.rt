@@ -1,0 +1,16 @@
+//! The events of the Mesos scheduler HTTP API: plain data.
+#![tactic(auto)]
+
+mod event;
+mod message;
+mod offer;
+mod offers;
+mod status;
+mod stream_event;
+
+pub use event::Event;
+pub use message::Message;
+pub use offer::Offer;
+pub use offers::Offers;
+pub use status::TaskStatus;
+pub use stream_event::StreamEvent;
