@@ -5,9 +5,11 @@ pub mod Places
 pub mod Picks
 pub mod Once
 pub mod OnceRoles
+pub mod FoundRoles
 pub mod UpTo
 pub mod Weights
 pub mod Picked
 pub mod KeptShares
 pub mod ChangedShares
 pub mod ByFractions
+pub mod Restarting

@@ -51,7 +51,7 @@ head_none name g rs none = by_case (is_role name g) refl none
     by_case true e n = absurd (cc)
     by_case false e n = (e, n)
 
-push_once : (rs : List RoleSum) (r : RoleSum) → RolesOnce rs → find (is_role r.role) rs ≡ None → RolesOnce (rs ++ r ∷ [])
+pub push_once : (rs : List RoleSum) (r : RoleSum) → RolesOnce rs → find (is_role r.role) rs ≡ None → RolesOnce (rs ++ r ∷ [])
 push_once [] r once none = (refl, tt)
 push_once (g ∷ rs) r once none =
     let n = head_none r.role g rs none in
@@ -77,7 +77,7 @@ find_none_changed f t change keeps (g ∷ rs) none =
     by_case true other n ih = rw (ap (λ (name : List ℕ). bytes_eq name f) (keeps g) ∙ other) n
     by_case false other n ih = rw other ih
 
-changed_once : (t : List ℕ) (change : RoleSum → RoleSum) → ((r : RoleSum) → (change r).role ≡ r.role) → (rs : List RoleSum) → RolesOnce rs → RolesOnce (at_first (is_role t) change rs)
+pub changed_once : (t : List ℕ) (change : RoleSum → RoleSum) → ((r : RoleSum) → (change r).role ≡ r.role) → (rs : List RoleSum) → RolesOnce rs → RolesOnce (at_first (is_role t) change rs)
 changed_once t change keeps [] once = once
 changed_once t change keeps (g ∷ rs) once = by_case (is_role t g) (changed_once t change keeps rs once.1)
   where

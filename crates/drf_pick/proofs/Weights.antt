@@ -4,7 +4,7 @@ use Rattle.std.specs.List.{find}
 use Rattle.quantity.specs.declared.rows.Row.{Row}
 use Rattle.drf_pick.specs.Shares.{AreWeighed, Holder, RoleSum, is_role, at_first, given_roles, returned_roles, role_holding, role_returning, role_sum_of, roles_with, weighed_roles, weighing}
 
-changed_weighed : (t : List ℕ) (change : RoleSum → RoleSum) → ((r : RoleSum) → 0 < r.weight → 0 < (change r).weight) → (rs : List RoleSum) → AreWeighed rs → AreWeighed (at_first (is_role t) change rs)
+pub changed_weighed : (t : List ℕ) (change : RoleSum → RoleSum) → ((r : RoleSum) → 0 < r.weight → 0 < (change r).weight) → (rs : List RoleSum) → AreWeighed rs → AreWeighed (at_first (is_role t) change rs)
 changed_weighed t change keeps [] all = all
 changed_weighed t change keeps (r ∷ rs) all = by_case (is_role t r) (changed_weighed t change keeps rs all.1)
   where
@@ -12,7 +12,7 @@ changed_weighed t change keeps (r ∷ rs) all = by_case (is_role t r) (changed_w
     by_case true ih = (keeps r all.0, all.1)
     by_case false ih = (all.0, ih)
 
-push_weighed : (rs : List RoleSum) (r : RoleSum) → AreWeighed rs → 0 < r.weight → AreWeighed (rs ++ r ∷ [])
+pub push_weighed : (rs : List RoleSum) (r : RoleSum) → AreWeighed rs → 0 < r.weight → AreWeighed (rs ++ r ∷ [])
 push_weighed [] r all some = (some, tt)
 push_weighed (q ∷ rs) r all some = (all.0, push_weighed rs r all.1 some)
 

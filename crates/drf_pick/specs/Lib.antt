@@ -1,5 +1,6 @@
 pub mod Shares
 pub mod Fractions
+pub mod Places
 pub mod Least
 pub mod Orders
 pub mod Laws

@@ -1,9 +1,10 @@
 -- What frameworks and roles hold, and what all agents own.
-use Rattle.std.specs.Prelude.{◌≡◌, ◌<◌, ⊤, ℕ, Bool, true, false, ◌&&◌, if◌then◌else◌, List, [], ◌∷◌, ◌++◌, Option, Some, None, bytes_eq}
+use Rattle.std.specs.Prelude.{◌≡◌, ◌<◌, ⊤, ℕ, Bool, true, false, ◌&&◌, if◌then◌else◌, List, [], ◌∷◌, ◌++◌, map, Option, Some, None, bytes_eq}
 use Rattle.std.specs.List.{AllByRecursion, find}
 use Rattle.names_core.specs.Ids.{Numbered}
 use Rattle.quantity.specs.declared.rows.Row.{Row}
 use Rattle.quantity.specs.Rows.{covers, rest_of}
+use Rattle.role_weights.specs.Weights.{RoleWeight, weight_of}
 use Rattle.cluster_model.specs.Ids.{before, same}
 use Rattle.share_sums.specs.Sums.{summed}
 pub use Rattle.drf_pick.specs.declared.holder.Holder.{Holder}
@@ -120,6 +121,22 @@ abbrev pub returned : Numbered → List Row → Tally → Tally
 returned framework rows t = record t {
   holders = returned_holders framework rows t.holders;
   roles = returned_roles rows (find (is_holder framework) t.holders) t.roles;
+}
+
+-- shares that start anew
+
+abbrev pub emptied : Holder → Holder
+emptied h = record h { held = [] }
+
+abbrev pub reweighed : List RoleWeight → RoleSum → RoleSum
+reweighed weights r = record r { held = []; weight = weight_of weights r.role }
+
+-- those that are known hold nothing, agents own this together, and each role has its weight
+abbrev pub restarted : List RoleWeight → List Row → Tally → Tally
+restarted weights totals t = record {
+  totals = totals;
+  holders = map emptied t.holders;
+  roles = map (reweighed weights) t.roles;
 }
 
 -- no framework stands twice

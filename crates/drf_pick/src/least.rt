@@ -9,7 +9,7 @@ ghost use Rattle.drf_pick.specs.Shares.{AreWeighed};
 ghost use Rattle.drf_pick.specs.Least.{IsPicked, better_client, comes_before, comes_by_role, comes_within_role, held_by, holder_for, role_share};
 
 use crate::holder::{Client, is_before};
-use crate::shares::{Shares, guess_at, holder_near, role_place};
+use crate::shares::{Shares, guess_at, holder_near};
 use names_core::{FrameworkId, RoleName};
 use share_sums::Fraction;
 
@@ -37,8 +37,9 @@ fn weighed_fraction_of(shares: &Shares, guess: usize, role: &RoleName) -> (Fract
         result.0 }
     ensures weight { result.1 ≡ (role_share shares.now.roles role.now).weight }
 {
-    match role_place(&shares.roles, guess, role) {
-        Some(place) => (shares.role_fractions[place], shares.roles[place].weight),
+    let sums = shares.roles.as_slice();
+    match shares.roles.place(guess, role) {
+        Some(place) => (shares.role_fractions[place], sums[place].weight),
         None => (Fraction::nothing(), 1),
     }
 }
@@ -150,6 +151,7 @@ fn are_sound(shares: &Shares)
     ensures weighed { AreWeighed shares.now.roles }
 {
     let _totals = shares.totals.rows();
+    let _roles = shares.roles.as_slice();
 }
 
 /// The client that stands least: its role stands at most at each other's, ties by the roles' names,

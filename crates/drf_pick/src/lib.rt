@@ -5,6 +5,7 @@ mod fractions;
 mod holder;
 mod laws;
 mod least;
+mod roles;
 mod shares;
 
 pub use holder::{Client, Holder, RoleSum};

@@ -1,17 +1,19 @@
 //! What frameworks and roles hold, and what all agents own.
 
-ghost use Rattle.std.specs.Prelude.{◌≡◌, ◌++◌, ◌∷◌, [], ℕ, List, true, false, Some, Err, OnOk, OnErr, IfErr, is_some};
+ghost use Rattle.std.specs.Prelude.{◌≡◌, ◌++◌, ◌∷◌, [], ℕ, List, map, true, false, Some, Err, OnOk, OnErr, IfErr, is_some};
 ghost use Rattle.std.specs.List.{find, position};
 ghost use Rattle.std.specs.Option.{option_copied};
 ghost use Rattle.role_weights.specs.Weights.{IsWeight};
 ghost use Rattle.drf_pick.specs.Fractions.{OfHolders, OfOthers, OfOtherRoles, OfRoles, OfRolesBut};
-ghost use Rattle.drf_pick.specs.Shares.{AreUpTo, Holder, HoldersOnce, RolesOnce, is_behind, is_holder, is_role, at_first, role_holding, given_holders, given_roles, entered, given, holder_of, role_sum_of, roles_with, weighed, weighing, with_role, can_leave, departed, role_has, holder_has, can_back, role_returning, returned_holders, returned_roles, returned};
+ghost use Rattle.drf_pick.specs.Shares.{AreUpTo, Holder, HoldersOnce, emptied, restarted, is_behind, is_holder, is_role, given_holders, given_roles, entered, given, holder_of, roles_with, weighed, with_role, can_leave, departed, holder_has, can_back, returned_holders, returned_roles, returned};
 
 use crate::fractions::{keep_nothing, renew_all};
-use crate::holder::{Holder, RoleSum, is_before};
+use crate::holder::{Holder, is_before};
+use crate::roles::Roles;
 use names_core::{FrameworkId, RoleName};
 use plain_data::Plain;
 use quantity::Resources;
+use role_weights::Weights;
 use share_sums::{Fraction, SharesFault, Sum};
 use std::alloc::{AllocError, Global};
 use std::marker::Model;
@@ -25,7 +27,7 @@ pub struct Shares {
     pub(crate) fractions: Vec<Fraction>,
     /// The last of the holders' frameworks, by their ids: one behind it is none of them.
     last: Option<FrameworkId>,
-    pub(crate) roles: Vec<RoleSum>,
+    pub(crate) roles: Roles,
     /// The same for each role.
     pub(crate) role_fractions: Vec<Fraction>,
     /// For each holder the place of its role. It is tried first; no answer hangs on it.
@@ -34,15 +36,15 @@ pub struct Shares {
 
 impl Model for Shares {
     ghost use Rattle.drf_pick.specs.Fractions.{OfHolders, OfRoles};
-    ghost use Rattle.drf_pick.specs.Shares.{AreUpTo, AreWeighed, Tally, HoldersOnce, RolesOnce};
+    ghost use Rattle.drf_pick.specs.Shares.{AreUpTo, Tally, HoldersOnce};
 
     ghost Value = { Tally };
 
-    ghost view = { λ s. record { totals = s.totals; holders = s.holders.items; roles = s.roles.items } };
+    ghost view = { λ s. record { totals = s.totals; holders = s.holders.items; roles = s.roles } };
 
-    ghost invariant = { λ s. ((((OfHolders s.totals s.holders.items s.fractions.items
-        × OfRoles s.totals s.roles.items s.role_fractions.items) × AreWeighed s.roles.items)
-        × AreUpTo s.last s.holders.items) × RolesOnce s.roles.items) × HoldersOnce s.holders.items };
+    ghost invariant = { λ s. ((OfHolders s.totals s.holders.items s.fractions.items
+        × OfRoles s.totals s.roles s.role_fractions.items) × AreUpTo s.last s.holders.items)
+        × HoldersOnce s.holders.items };
 }
 
 /// The place of a framework's holder.
@@ -66,17 +68,6 @@ fn is_behind(last: Option<FrameworkId>, framework: FrameworkId) -> bool
         None => true,
         Some(last) => is_before(last, framework),
     }
-}
-
-/// The place of a role's sum. It is found at once where the guess is right.
-pub(crate) fn role_place(roles: &[RoleSum], guess: usize, role: &RoleName) -> Option<usize>
-    requires { RolesOnce roles.now }
-    ensures { result ≡ position (is_role role.now) roles.now }
-{
-    if guess < roles.len() && roles[guess].is_of(role) {
-        return Some(guess);
-    }
-    roles.iter().position(|sum| sum.is_of(role))
 }
 
 /// The place of a framework's holder. It is found at once where the guess is right.
@@ -130,112 +121,62 @@ pub(crate) fn guess_at(role_places: &[usize], place: usize) -> usize {
     role_places.get(place).copied().unwrap_or(0)
 }
 
-fn give_role(
-    roles: &mut Vec<RoleSum>,
-    alloc: Global,
-    guess: usize,
-    role: &RoleName,
-    resources: &Resources,
-) -> Result<(), AllocError>
-    requires { RolesOnce roles.old.items }
-    ensures ok { OnOk result (roles.new.items
-        ≡ at_first (is_role role.now) (role_holding resources.now) roles.old.items) }
-    ensures err { OnErr result (roles.new.items ≡ roles.old.items) }
-{
-    let Some(place) = role_place(roles, guess, role) else {
-        return Ok(());
-    };
-    let held = roles[place].held.plus(alloc, resources)?;
-    roles[place].held = held;
-    Ok(())
-}
-
 fn give_in(
     holders: &mut Vec<Holder>,
-    roles: &mut Vec<RoleSum>,
+    roles: &mut Roles,
     role_places: &[usize],
     alloc: Global,
     framework: FrameworkId,
     resources: &Resources,
 ) -> Result<(), AllocError>
-    requires holders { HoldersOnce holders.old.items }
-    requires roles { RolesOnce roles.old.items }
+    requires { HoldersOnce holders.old.items }
     ensures holders { OnOk result (holders.new.items
         ≡ given_holders framework resources.now holders.old.items) }
-    ensures roles { OnOk result (roles.new.items
+    ensures roles { OnOk result (roles.new
         ≡ given_roles resources.now (find (is_holder framework) holders.old.items)
-        roles.old.items) }
+        roles.old) }
     ensures err { OnErr result ((holders.new.items ≡ holders.old.items)
-        × (roles.new.items ≡ roles.old.items)) }
+        × (roles.new ≡ roles.old)) }
 {
     let Some(place) = holder_place(holders, framework) else {
         return Ok(());
     };
     let guess = guess_at(role_places, place);
     let held = holders[place].held.plus(alloc, resources)?;
-    give_role(roles, alloc, guess, &holders[place].role, resources)?;
+    roles.give(alloc, guess, &holders[place].role, resources)?;
     holders[place].held = held;
     Ok(())
 }
 
-fn back_role(
-    roles: &mut Vec<RoleSum>,
-    alloc: Global,
-    guess: usize,
-    role: &RoleName,
-    resources: &Resources,
-) -> Result<(), SharesFault>
-    requires { RolesOnce roles.old.items }
-    ensures ok { OnOk result (roles.new.items
-        ≡ at_first (is_role role.now) (role_returning resources.now) roles.old.items) }
-    ensures covered { OnOk result (role_has resources.now (find (is_role role.now) roles.old.items)
-        ≡ true) }
-    ensures refused { result ≡ Err SharesFault.NotHeld
-        → role_has resources.now (find (is_role role.now) roles.old.items) ≡ false }
-    ensures err { OnErr result (roles.new.items ≡ roles.old.items) }
-{
-    let Some(place) = role_place(roles, guess, role) else {
-        return Err(SharesFault::NotHeld);
-    };
-    match roles[place].held.minus(alloc, resources) {
-        Ok(held) => {
-            roles[place].held = held;
-            Ok(())
-        }
-        Err(fault) => Err(fault),
-    }
-}
-
 fn back_in(
     holders: &mut Vec<Holder>,
-    roles: &mut Vec<RoleSum>,
+    roles: &mut Roles,
     role_places: &[usize],
     alloc: Global,
     framework: FrameworkId,
     resources: &Resources,
 ) -> Result<(), SharesFault>
-    requires holders { HoldersOnce holders.old.items }
-    requires roles { RolesOnce roles.old.items }
+    requires { HoldersOnce holders.old.items }
     ensures holders { OnOk result (holders.new.items
         ≡ returned_holders framework resources.now holders.old.items) }
-    ensures roles { OnOk result (roles.new.items
+    ensures roles { OnOk result (roles.new
         ≡ returned_roles resources.now (find (is_holder framework) holders.old.items)
-        roles.old.items) }
+        roles.old) }
     ensures covered { OnOk result
-        (holder_has resources.now roles.old.items (find (is_holder framework) holders.old.items)
+        (holder_has resources.now roles.old (find (is_holder framework) holders.old.items)
         ≡ true) }
     ensures refused { result ≡ Err SharesFault.NotHeld
-        → holder_has resources.now roles.old.items (find (is_holder framework) holders.old.items)
+        → holder_has resources.now roles.old (find (is_holder framework) holders.old.items)
         ≡ false }
     ensures err { OnErr result ((holders.new.items ≡ holders.old.items)
-        × (roles.new.items ≡ roles.old.items)) }
+        × (roles.new ≡ roles.old)) }
 {
     let Some(place) = holder_place(holders, framework) else {
         return Err(SharesFault::NotHeld);
     };
     let guess = guess_at(role_places, place);
     match holders[place].held.minus(alloc, resources) {
-        Ok(held) => match back_role(roles, alloc, guess, &holders[place].role, resources) {
+        Ok(held) => match roles.back(alloc, guess, &holders[place].role, resources) {
             Ok(()) => {
                 holders[place].held = held;
                 Ok(())
@@ -250,18 +191,18 @@ fn back_in(
 fn renew_role(
     fractions: &mut Vec<Fraction>,
     totals: &Sum,
-    roles: &[RoleSum],
+    roles: &Roles,
     guess: usize,
     role: &RoleName,
 )
-    requires once { RolesOnce roles.now }
-    requires others { OfOtherRoles role.now totals.now roles.now fractions.old.items }
+    requires { OfOtherRoles role.now totals.now roles.now fractions.old.items }
     ensures { OfRoles totals.now roles.now fractions.new.items }
 {
-    let Some(place) = role_place(roles, guess, role) else {
+    let Some(place) = roles.place(guess, role) else {
         return;
     };
-    fractions[place] = Fraction::dominant(totals, &roles[place].held);
+    let sums = roles.as_slice();
+    fractions[place] = Fraction::dominant(totals, &sums[place].held);
 }
 
 /// A framework's fraction and its role's are made anew.
@@ -270,12 +211,11 @@ fn renew_of(
     role_fractions: &mut Vec<Fraction>,
     totals: &Sum,
     holders: &[Holder],
-    roles: &[RoleSum],
+    roles: &Roles,
     role_places: &[usize],
     framework: FrameworkId,
 )
-    requires holders_once { HoldersOnce holders.now }
-    requires roles_once { RolesOnce roles.now }
+    requires once { HoldersOnce holders.now }
     requires holders { OfOthers framework totals.now holders.now fractions.old.items }
     requires roles { OfRolesBut (find (is_holder framework) holders.now) totals.now roles.now
         role_fractions.old.items }
@@ -291,44 +231,18 @@ fn renew_of(
     renew_role(role_fractions, totals, roles, guess, &holder.role);
 }
 
-fn push_role(roles: &mut Vec<RoleSum>, alloc: Global, role: &RoleName) -> Result<(), AllocError>
-    ensures ok { OnOk result (roles.new.items ≡ roles.old.items ++ role_sum_of role.now ∷ []) }
-    ensures err { OnErr result (roles.new.items ≡ roles.old.items) }
+fn empty_one(holder: &mut Holder, alloc: Global)
+    ensures { holder.new ≡ emptied holder.old }
 {
-    roles.push(RoleSum::new(alloc, role.copy()?))?;
-    Ok(())
+    holder.held = Sum::new(alloc);
 }
 
-/// A role has this weight, where it is known.
-fn weigh_in(roles: &mut Vec<RoleSum>, guess: usize, role: &RoleName, weight: u16)
-    requires { RolesOnce roles.old.items }
-    ensures { roles.new.items ≡ at_first (is_role role.now) (weighing weight) roles.old.items }
+fn empty_all(holders: &mut Vec<Holder>, alloc: Global)
+    ensures { holders.new.items ≡ map emptied holders.old.items }
 {
-    let Some(place) = role_place(roles, guess, role) else {
-        return;
-    };
-    roles[place].weight = weight;
-}
-
-/// The place of a role's sum, which is added where there is none.
-/// It is found at once where the guess is right.
-fn add_role(
-    roles: &mut Vec<RoleSum>,
-    alloc: Global,
-    guess: usize,
-    role: &RoleName,
-) -> Result<usize, AllocError>
-    requires { RolesOnce roles.old.items }
-    ensures ok { OnOk result (roles.new.items
-        ≡ roles_with role.now roles.old.items (find (is_role role.now) roles.old.items)) }
-    ensures err { OnErr result (roles.new.items ≡ roles.old.items) }
-{
-    if let Some(place) = role_place(roles, guess, role) {
-        return Ok(place);
+    for place in 0..holders.len() {
+        empty_one(&mut holders[place], alloc);
     }
-    let count = roles.len();
-    push_role(roles, alloc, role)?;
-    Ok(count)
 }
 
 /// Where the role of the last holder is likely to stand.
@@ -352,25 +266,24 @@ fn keep_place(role_places: &mut Vec<usize>, holder: usize, place: usize) {
 
 fn add_holder(
     holders: &mut Vec<Holder>,
-    roles: &mut Vec<RoleSum>,
+    roles: &mut Roles,
     role_places: &mut Vec<usize>,
     alloc: Global,
     framework: FrameworkId,
     role: &RoleName,
 ) -> Result<(), AllocError>
-    requires { RolesOnce roles.old.items }
     ensures holders { OnOk result (holders.new.items ≡ holders.old.items
         ++ holder_of framework role.now ∷ []) }
-    ensures roles { OnOk result (roles.new.items
-        ≡ roles_with role.now roles.old.items (find (is_role role.now) roles.old.items)) }
+    ensures roles { OnOk result (roles.new
+        ≡ roles_with role.now roles.old (find (is_role role.now) roles.old)) }
     ensures err { OnErr result ((holders.new.items ≡ holders.old.items)
-        × (roles.new.items ≡ roles.old.items)) }
+        × (roles.new ≡ roles.old)) }
 {
     let count = holders.len();
     let guess = last_place(role_places);
     make_room(role_places, count)?;
     holders.push(Holder::new(alloc, framework, role.copy()?))?;
-    match add_role(roles, alloc, guess, role) {
+    match roles.add(alloc, guess, role) {
         Ok(place) => {
             keep_place(role_places, count, place);
             Ok(())
@@ -392,10 +305,27 @@ impl Shares {
             holders: Vec::new(alloc),
             fractions: Vec::new(alloc),
             last: None,
-            roles: Vec::new(alloc),
+            roles: Roles::new(alloc),
             role_fractions: Vec::new(alloc),
             role_places: Vec::new(alloc),
         }
+    }
+
+    /// Nobody holds anything any more, agents own this together, and each role has its weight among
+    /// these. The frameworks stay known. It takes no memory.
+    pub fn restart(&mut self, alloc: Global, totals: Sum, weights: &Weights)
+        ensures { self.new ≡ restarted weights.now totals self.old }
+    {
+        empty_all(&mut self.holders, alloc);
+        self.roles.restart(alloc, weights);
+        renew_all(
+            &mut self.fractions,
+            &mut self.role_fractions,
+            &totals,
+            &self.holders,
+            self.roles.as_slice(),
+        );
+        self.totals = totals;
     }
 
     /// An agent owns this. `P2 OutOfMemory` changes nothing.
@@ -410,7 +340,7 @@ impl Shares {
             &mut self.role_fractions,
             &totals,
             &self.holders,
-            &self.roles,
+            self.roles.as_slice(),
         );
         self.totals = totals;
         Ok(())
@@ -455,8 +385,8 @@ impl Shares {
     {
         let guess = last_place(&self.role_places);
         keep_nothing(&mut self.role_fractions, self.roles.len())?;
-        let place = add_role(&mut self.roles, alloc, guess, role)?;
-        weigh_in(&mut self.roles, place, role, weight);
+        let place = self.roles.add(alloc, guess, role)?;
+        self.roles.weigh(place, role, weight);
         Ok(())
     }
 
@@ -507,7 +437,7 @@ impl Shares {
                     &mut self.role_fractions,
                     &rest,
                     &self.holders,
-                    &self.roles,
+                    self.roles.as_slice(),
                 );
                 self.totals = rest;
                 Ok(())

@@ -7,4 +7,4 @@ pub returns-clause-positive : goal.returns-clause-positive
 returns-clause-positive c = subst ArePositive (ap (λ (t : Tally). t.totals) c.shares.view_is) c.rows-totals.ensures.sum.positive
 
 pub returns-clause-weighed : goal.returns-clause-weighed
-returns-clause-weighed c = subst AreWeighed (ap (λ (t : Tally). t.roles) c.shares.view_is) c.shares.invariant.0.0.0.1
+returns-clause-weighed c = subst AreWeighed (ap (λ (t : Tally). t.roles) c.shares.view_is) c.as_slice-roles.ensures.weighed

@@ -15,7 +15,7 @@ index-requires c =
     let s = c.shares.inside in
     let at : position (is_holder c.args.framework) s.holders.items ≡ Some c.in-Some.place = sym (rw c.deref.ensures.value at c.holder_near.ensures) ∙ c.in-Some.is in
     let found = stands (is_holder c.args.framework) s.holders.items c.in-Some.place at in
-    omega (arith, found.within, room holder_held s.totals s.holders.items s.fractions.items c.shares.invariant.0.0.0.0.0, s.fractions.ok.0)
+    omega (arith, found.within, room holder_held s.totals s.holders.items s.fractions.items c.shares.invariant.0.0.0, s.fractions.ok.0)
 
 pub returns-in-Some : goal.returns-in-Some
 returns-in-Some c =
@@ -24,7 +24,7 @@ returns-in-Some c =
     let f = c.args.framework in
     let at : position (is_holder f) hs ≡ Some c.in-Some.place = sym (rw c.deref.ensures.value at c.holder_near.ensures) ∙ c.in-Some.is in
     let found = stands (is_holder f) hs c.in-Some.place at in
-    let its = beside holder_held s.totals hs s.fractions.items c.in-Some.place found.item c.index.result.now c.shares.invariant.0.0.0.0.0 found.within found.is c.index.ensures in
+    let its = beside holder_held s.totals hs s.fractions.items c.in-Some.place found.item c.index.result.now c.shares.invariant.0.0.0 found.within found.is c.index.ensures in
     subst (λ (t : Tally). IsDominant t.totals (held_by t f) c.index.result.now) c.shares.view_is (subst (λ (rows : List Row). IsDominant s.totals rows c.index.result.now) (sym (ap held_of found.found)) its)
 
 pub returns-in-None : goal.returns-in-None

@@ -9,8 +9,8 @@ use Rattle.drf_pick.proofs.shares.back_in.Goals as goal
 pub returns-in_default-clause-refused : goal.returns-in_default-clause-refused
 returns-in_default-clause-refused c = λ e. rw (none_at (is_holder c.args.framework) c.args.holders.now.items (sym (rw c.deref.ensures.value at c.holder_place.ensures) ∙ c.in_default.is)) refl
 
-pub returns-in-Ok-back_role-clause-holders : goal.returns-in-Ok-back_role-clause-holders
-returns-in-Ok-back_role-clause-holders c =
+pub returns-in-Ok-back-clause-holders : goal.returns-in-Ok-back-clause-holders
+returns-in-Ok-back-clause-holders c =
     let read = first_at (is_holder c.args.framework) c.args.holders.now.items c.in-Some.place c.index.result.now (sym (rw c.deref.ensures.value at c.holder_place.ensures) ∙ c.in-Some.is) c.index.ensures in
     let first = first_at (is_holder c.args.framework) c.args.holders.now.items c.in-Some.place c.index_mut.result.now (sym (rw c.deref.ensures.value at c.holder_place.ensures) ∙ c.in-Some.is) c.index_mut.ensures.value in
     let same : c.index.result.now ≡ c.index_mut.result.now = cc (read.found, first.found) in
@@ -18,26 +18,26 @@ returns-in-Ok-back_role-clause-holders c =
     c.in-Ok.ensures.ok ∙ ap (λ (h : Holder). rest_of h.held c.args.resources.now) same in
     rw held (sym (first.changed (returning c.args.resources.now)))
 
-pub returns-in-Ok-back_role-clause-roles : goal.returns-in-Ok-back_role-clause-roles
-returns-in-Ok-back_role-clause-roles c =
+pub returns-in-Ok-back-clause-roles : goal.returns-in-Ok-back-clause-roles
+returns-in-Ok-back-clause-roles c =
     let again = first_at (is_holder c.args.framework) c.args.holders.now.items c.in-Some.place c.index-in-Ok.result.now (sym (rw c.deref.ensures.value at c.holder_place.ensures) ∙ c.in-Some.is) c.index-in-Ok.ensures in
-    rw again.found c.in-Ok-back_role.ensures.ok
+    rw again.found c.in-Ok-back.ensures.ok
 
-pub returns-in-Ok-back_role-clause-covered : goal.returns-in-Ok-back_role-clause-covered
-returns-in-Ok-back_role-clause-covered c =
+pub returns-in-Ok-back-clause-covered : goal.returns-in-Ok-back-clause-covered
+returns-in-Ok-back-clause-covered c =
     let read = first_at (is_holder c.args.framework) c.args.holders.now.items c.in-Some.place c.index.result.now (sym (rw c.deref.ensures.value at c.holder_place.ensures) ∙ c.in-Some.is) c.index.ensures in
     let again = first_at (is_holder c.args.framework) c.args.holders.now.items c.in-Some.place c.index-in-Ok.result.now (sym (rw c.deref.ensures.value at c.holder_place.ensures) ∙ c.in-Some.is) c.index-in-Ok.ensures in
     let same : c.index-in-Ok.result.now ≡ c.index.result.now = cc (read.found, again.found) in
     let covered : covers c.index-in-Ok.result.now.held c.args.resources.now ≡ true = ap (λ (h : Holder). covers h.held c.args.resources.now) same ∙ c.in-Ok.ensures.covered in
-    rw (again.found, covered) c.in-Ok-back_role.ensures.covered
+    rw (again.found, covered) c.in-Ok-back.ensures.covered
 
-pub returns-in-Err-back_role-clause-refused : goal.returns-in-Err-back_role-clause-refused
-returns-in-Err-back_role-clause-refused c = λ e.
+pub returns-in-Err-back-clause-refused : goal.returns-in-Err-back-clause-refused
+returns-in-Err-back-clause-refused c = λ e.
     let read = first_at (is_holder c.args.framework) c.args.holders.now.items c.in-Some.place c.index.result.now (sym (rw c.deref.ensures.value at c.holder_place.ensures) ∙ c.in-Some.is) c.index.ensures in
     let again = first_at (is_holder c.args.framework) c.args.holders.now.items c.in-Some.place c.index-in-Ok.result.now (sym (rw c.deref.ensures.value at c.holder_place.ensures) ∙ c.in-Some.is) c.index-in-Ok.ensures in
     let same : c.index-in-Ok.result.now ≡ c.index.result.now = cc (read.found, again.found) in
     let covered : covers c.index-in-Ok.result.now.held c.args.resources.now ≡ true = ap (λ (h : Holder). covers h.held c.args.resources.now) same ∙ c.in-Ok.ensures.covered in
-    rw (again.found, covered) (c.in-Err-back_role.ensures.refused e)
+    rw (again.found, covered) (c.in-Err-back.ensures.refused e)
 
 pub returns-in-Err-clause-refused : goal.returns-in-Err-clause-refused
 returns-in-Err-clause-refused c = λ e.

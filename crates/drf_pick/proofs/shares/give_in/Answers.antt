@@ -26,4 +26,4 @@ returns-clause-holders c =
 pub returns-clause-roles : goal.returns-clause-roles
 returns-clause-roles c =
     let read = first_at (is_holder c.args.framework) c.args.holders.now.items c.in-Some.place c.index-2.result.now (sym (rw c.deref.ensures.value at c.holder_place.ensures) ∙ c.in-Some.is) c.index-2.ensures in
-    rw read.found c.in_ok-give_role.ensures.ok
+    rw read.found c.in_ok-give.ensures.ok

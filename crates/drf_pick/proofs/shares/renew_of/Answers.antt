@@ -25,8 +25,8 @@ index_mut-requires c =
     let p = position-Some test hs c.in-Some.place c.index-holders-place.result at in
     omega (arith, p.0, room_but holder_held test c.args.totals.now hs c.args.fractions.now.items c.requires.holders, c.args.fractions.now.ok.0)
 
-pub renew_role-requires-clause-others : goal.renew_role-requires-clause-others
-renew_role-requires-clause-others c =
+pub renew_role-requires : goal.renew_role-requires
+renew_role-requires c =
     let test = is_holder c.args.framework in
     let first = first_at test c.args.holders.now c.in-Some.place c.index-holders-place.result (sym c.holder_place.ensures ∙ c.in-Some.is) c.index-holders-place.is in
     subst (λ (o : Option Holder). OfRolesBut o c.args.totals.now c.args.roles.now c.args.role_fractions.now.items) first.found c.requires.roles

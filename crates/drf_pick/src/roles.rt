@@ -1,0 +1,239 @@
+//! Roles, found by their names, with what their frameworks hold.
+
+ghost use Rattle.std.specs.Prelude.{◌≡◌, ◌<◌, ◌++◌, ◌∷◌, [], None, true, false, length, map, Some, Err, OnOk, OnErr};
+ghost use Rattle.std.specs.List.{find, position};
+ghost use Rattle.role_weights.specs.Weights.{IsWeight};
+ghost use Rattle.drf_pick.specs.Shares.{AreWeighed, RolesOnce, is_role, at_first, reweighed, role_holding, role_sum_of, roles_with, weighing, role_has, role_returning};
+
+use crate::holder::RoleSum;
+use names_core::RoleName;
+use plain_data::Plain;
+use quantity::Resources;
+use role_weights::Weights;
+use share_sums::{SharesFault, Sum};
+use std::alloc::{AllocError, Global};
+use std::collections::BTreeMap;
+use std::marker::Model;
+
+/// Sums of roles of which none stands twice. A role is found by its name in logarithmic time.
+#[derive(Drop)]
+pub(crate) struct Roles {
+    sums: Vec<RoleSum>,
+    /// The place of each role, by its name.
+    places: BTreeMap<String, usize>,
+}
+
+impl Model for Roles {
+    ghost use Rattle.std.specs.Prelude.{List};
+    ghost use Rattle.std.specs.BTreeMap.{get_by_text};
+    ghost use Rattle.drf_pick.specs.Shares.{AreWeighed, RoleSum, RolesOnce};
+    ghost use Rattle.drf_pick.specs.Places.{AreFoundBy};
+
+    ghost Value = { List RoleSum };
+
+    ghost view = { λ roles. roles.sums.items };
+
+    ghost invariant = { λ roles. (RolesOnce roles.sums.items × AreWeighed roles.sums.items)
+        × AreFoundBy (get_by_text roles.places) roles.sums.items };
+}
+
+fn give_at(
+    sums: &mut Vec<RoleSum>,
+    alloc: Global,
+    place: usize,
+    role: &RoleName,
+    resources: &Resources,
+) -> Result<(), AllocError>
+    requires { position (is_role role.now) sums.old.items ≡ Some place }
+    ensures ok { OnOk result (sums.new.items
+        ≡ at_first (is_role role.now) (role_holding resources.now) sums.old.items) }
+    ensures err { OnErr result (sums.new.items ≡ sums.old.items) }
+{
+    let held = sums[place].held.plus(alloc, resources)?;
+    sums[place].held = held;
+    Ok(())
+}
+
+fn back_at(
+    sums: &mut Vec<RoleSum>,
+    alloc: Global,
+    place: usize,
+    role: &RoleName,
+    resources: &Resources,
+) -> Result<(), SharesFault>
+    requires { position (is_role role.now) sums.old.items ≡ Some place }
+    ensures ok { OnOk result (sums.new.items
+        ≡ at_first (is_role role.now) (role_returning resources.now) sums.old.items) }
+    ensures covered { OnOk result (role_has resources.now (find (is_role role.now) sums.old.items)
+        ≡ true) }
+    ensures refused { result ≡ Err SharesFault.NotHeld
+        → role_has resources.now (find (is_role role.now) sums.old.items) ≡ false }
+    ensures err { OnErr result (sums.new.items ≡ sums.old.items) }
+{
+    match sums[place].held.minus(alloc, resources) {
+        Ok(held) => {
+            sums[place].held = held;
+            Ok(())
+        }
+        Err(fault) => Err(fault),
+    }
+}
+
+fn weigh_at(sums: &mut Vec<RoleSum>, place: usize, role: &RoleName, weight: u16)
+    requires { position (is_role role.now) sums.old.items ≡ Some place }
+    ensures { sums.new.items ≡ at_first (is_role role.now) (weighing weight) sums.old.items }
+{
+    sums[place].weight = weight;
+}
+
+fn push_sum(sums: &mut Vec<RoleSum>, alloc: Global, role: &RoleName) -> Result<(), AllocError>
+    ensures ok { OnOk result (sums.new.items ≡ sums.old.items ++ role_sum_of role.now ∷ []) }
+    ensures err { OnErr result (sums.new.items ≡ sums.old.items) }
+{
+    sums.push(RoleSum::new(alloc, role.copy()?))?;
+    Ok(())
+}
+
+fn reweigh_one(sum: &mut RoleSum, alloc: Global, weights: &Weights)
+    ensures sum { sum.new ≡ reweighed weights.now sum.old }
+    ensures some { 0 < sum.new.weight }
+{
+    sum.held = Sum::new(alloc);
+    sum.weight = weights.of(&sum.role);
+}
+
+fn reweigh_all(sums: &mut Vec<RoleSum>, alloc: Global, weights: &Weights)
+    requires { AreWeighed sums.old.items }
+    ensures sums { sums.new.items ≡ map (reweighed weights.now) sums.old.items }
+    ensures weighed { AreWeighed sums.new.items }
+{
+    for place in 0..sums.len() {
+        reweigh_one(&mut sums[place], alloc, weights);
+    }
+}
+
+impl Roles {
+    /// No role is known. It takes no memory.
+    pub fn new(alloc: Global) -> Roles
+        ensures { result ≡ [] }
+    {
+        Roles {
+            sums: Vec::new(alloc),
+            places: BTreeMap::new(alloc),
+        }
+    }
+
+    pub fn len(&self) -> usize
+        ensures { result ≡ length self.now }
+    {
+        self.sums.len()
+    }
+
+    pub fn as_slice(&self) -> &[RoleSum]
+        ensures sums { result.now ≡ self.now }
+        ensures once { RolesOnce self.now }
+        ensures weighed { AreWeighed self.now }
+    {
+        self.sums.as_slice()
+    }
+
+    /// The place of a role's sum. It is found at once where the guess is right.
+    pub fn place(&self, guess: usize, role: &RoleName) -> Option<usize>
+        ensures { result ≡ position (is_role role.now) self.now }
+    {
+        let sums = self.as_slice();
+        if guess < sums.len() && sums[guess].is_of(role) {
+            return Some(guess);
+        }
+        self.places.get(role.as_text()).copied()
+    }
+
+    pub fn give(
+        &mut self,
+        alloc: Global,
+        guess: usize,
+        role: &RoleName,
+        resources: &Resources,
+    ) -> Result<(), AllocError>
+        ensures ok { OnOk result (self.new
+            ≡ at_first (is_role role.now) (role_holding resources.now) self.old) }
+        ensures err { OnErr result (self.new ≡ self.old) }
+    {
+        let Some(place) = self.place(guess, role) else {
+            return Ok(());
+        };
+        give_at(&mut self.sums, alloc, place, role, resources)
+    }
+
+    pub fn back(
+        &mut self,
+        alloc: Global,
+        guess: usize,
+        role: &RoleName,
+        resources: &Resources,
+    ) -> Result<(), SharesFault>
+        ensures ok { OnOk result (self.new
+            ≡ at_first (is_role role.now) (role_returning resources.now) self.old) }
+        ensures covered { OnOk result (role_has resources.now (find (is_role role.now) self.old)
+            ≡ true) }
+        ensures refused { result ≡ Err SharesFault.NotHeld
+            → role_has resources.now (find (is_role role.now) self.old) ≡ false }
+        ensures err { OnErr result (self.new ≡ self.old) }
+    {
+        let Some(place) = self.place(guess, role) else {
+            return Err(SharesFault::NotHeld);
+        };
+        back_at(&mut self.sums, alloc, place, role, resources)
+    }
+
+    /// A role has this weight, where it is known.
+    pub fn weigh(&mut self, guess: usize, role: &RoleName, weight: u16)
+        requires { IsWeight weight }
+        ensures { self.new ≡ at_first (is_role role.now) (weighing weight) self.old }
+    {
+        let Some(place) = self.place(guess, role) else {
+            return;
+        };
+        weigh_at(&mut self.sums, place, role, weight);
+    }
+
+    /// Nothing is held, and each role has its weight among these. It takes no memory.
+    pub fn restart(&mut self, alloc: Global, weights: &Weights)
+        ensures { self.new ≡ map (reweighed weights.now) self.old }
+    {
+        reweigh_all(&mut self.sums, alloc, weights);
+    }
+
+    /// One that isn't known is added.
+    fn push(&mut self, alloc: Global, role: &RoleName) -> Result<(), AllocError>
+        requires { find (is_role role.now) self.old ≡ None }
+        ensures ok { OnOk result (self.new ≡ self.old ++ role_sum_of role.now ∷ []) }
+        ensures err { OnErr result (self.new ≡ self.old) }
+    {
+        let count = self.sums.len();
+        let name = String::from_str(alloc, role.as_text())?;
+        push_sum(&mut self.sums, alloc, role)?;
+        match self.places.insert(name, count) {
+            Ok(_) => Ok(()),
+            Err(_) => {
+                self.sums.truncate(count);
+                Err(AllocError)
+            }
+        }
+    }
+
+    /// The place of a role's sum, which is added where there is none.
+    /// It is found at once where the guess is right.
+    pub fn add(&mut self, alloc: Global, guess: usize, role: &RoleName) -> Result<usize, AllocError>
+        ensures ok { OnOk result (self.new
+            ≡ roles_with role.now self.old (find (is_role role.now) self.old)) }
+        ensures err { OnErr result (self.new ≡ self.old) }
+    {
+        if let Some(place) = self.place(guess, role) {
+            return Ok(place);
+        }
+        let count = self.sums.len();
+        self.push(alloc, role)?;
+        Ok(count)
+    }
+}
