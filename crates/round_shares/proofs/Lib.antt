@@ -2,3 +2,4 @@ pub mod Rows
 pub mod Shown
 pub mod Picking
 pub mod Parts
+pub mod Remembered

@@ -25,11 +25,11 @@ use Rattle.drf_pick.specs.Orders.{Among}
 use Rattle.share_sums.specs.Sums.{IsSum, summed}
 use Rattle.drf_pick.proofs.Standing.{amounts_decide}
 use Rattle.share_sums.proofs.Summing.{no_sum, sum_is}
-use Rattle.round_shares.specs.Gifts.{Gift, gifts_of, gifts_with, job_gift, made_gift, offer_gift, role_rows, rows_to, shares_with, side_gifts}
+use Rattle.round_shares.specs.Gifts.{Gift, enters_row, gifts_of, gifts_with, job_gift, made_gift, offer_gift, role_rows, rows_to, shares_with, side_gifts}
 use Rattle.round_shares.specs.Laws.{AddUp, PicksAlike}
 use Rattle.round_shares.specs.Picks.{better, better_eligible, framework_holder}
 use Rattle.round_shares.proofs.Rows.{find_own, to-append}
-use Rattle.round_shares.proofs.Shown.{Alike, Shows, TallyShows, entered_amounts, enters_row, found_alike, is_known, owned_rows, shares_show}
+use Rattle.round_shares.proofs.Shown.{Alike, Shows, TallyShows, entered_amounts, found_alike, is_known, owned_rows, shares_show}
 
 -- the model's rows are those of what is held
 

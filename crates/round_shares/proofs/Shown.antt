@@ -19,7 +19,8 @@ use Rattle.drf_pick.specs.Shares.{Tally, at_first, entered, given_holders, given
 use Rattle.drf_pick.specs.Least.{role_share, share_of_sum}
 use Rattle.share_sums.specs.Sums.{summed}
 use Rattle.share_sums.proofs.Summing.{sums_add}
-use Rattle.round_shares.specs.Gifts.{Gift, all_rows, enters, gifts_of, holds, knows, no_shares, role_rows, rows_to, shares_of}
+use Rattle.round_shares.specs.Gifts.{Gift, all_rows, enters, enters_row, gifts_of, holds, knows, no_shares, role_rows, rows_to, shares_of}
+use Rattle.round_shares.specs.Kept.{owning}
 use Rattle.round_shares.specs.Laws.{AddUp}
 use Rattle.round_shares.proofs.Rows.{NoneOf, all-one, both_true, none_behind, part, role-append, role-one, role_all, role_part, same_back, to-more, to_all}
 
@@ -524,17 +525,11 @@ none_at_start (f ∷ fs) = (refl, none_at_start fs)
 
 -- what the agents own
 
-abbrev owned : List Row → Tally
-owned totals = record { totals = totals; holders = []; roles = [] }
-
-abbrev pub enters_row : List Row → Side → List Row
-enters_row totals s = cond s.is_open (summed totals s.total) totals
-
-enters_is : (ss : List Side) (totals : List Row) → fold enters (owned totals) ss ≡ owned (fold enters_row totals ss)
+pub enters_is : (ss : List Side) (totals : List Row) → fold enters (owning totals) ss ≡ owning (fold enters_row totals ss)
 enters_is [] totals = refl
 enters_is (s ∷ ss) totals = ap (λ t. fold enters t ss) (by s.is_open) ∙ enters_is ss (enters_row totals s)
   where
-    by : (b : Bool) → cond b (entered s.total (owned totals)) (owned totals) ≡ owned (cond b (summed totals s.total) totals)
+    by : (b : Bool) → cond b (entered s.total (owning totals)) (owning totals) ≡ owning (cond b (summed totals s.total) totals)
     by true = refl
     by false = refl
 

@@ -11,6 +11,7 @@ use Rattle.cluster_model.specs.Ids.{same}
 use Rattle.cluster_model.specs.Sides.{Side, unended}
 use Rattle.cluster_model.specs.Events.{MadeOffer}
 use Rattle.cluster_model.specs.Masters.{Master}
+use Rattle.share_sums.specs.Sums.{summed}
 use Rattle.drf_pick.specs.Shares.{Tally, entered, given, weighed, with_role}
 
 -- resources that a framework holds
@@ -59,6 +60,10 @@ no_shares = record { totals = []; holders = []; roles = [] }
 
 abbrev pub enters : Tally → Side → Tally
 enters t s = if s.is_open then entered s.total t else t
+
+-- what agents own, with one that has an open session
+abbrev pub enters_row : List Row → Side → List Row
+enters_row totals s = if s.is_open then summed totals s.total else totals
 
 -- a framework is known with its role, and the role has its weight
 abbrev pub knows : List RoleWeight → Tally → Framework → Tally

@@ -1,53 +1,51 @@
 //! What agents own, and what frameworks hold of it.
 
-ghost use Rattle.std.specs.Prelude.{◌≡◌, fold, map, flat_map, OnOk, IfOk};
+ghost use Rattle.std.specs.Prelude.{◌≡◌, [], fold, map, flat_map, OnOk};
 ghost use Rattle.agent_sides.specs.Joined.{join, joined};
 ghost use Rattle.cluster_model.specs.Sides.{unended};
 ghost use Rattle.role_weights.specs.Weights.{weight_of};
-ghost use Rattle.drf_pick.specs.Shares.{weighed, with_role};
-ghost use Rattle.round_shares.specs.Gifts.{enters, gifts_of, gifts_on, holds, job_gift, knows, offer_gift, shares_of};
+ghost use Rattle.drf_pick.specs.Shares.{restarted, weighed, with_role};
+ghost use Rattle.round_shares.specs.Gifts.{enters_row, gifts_of, gifts_on, holds, job_gift, knows, offer_gift};
 
 use agent_sides::Sides;
 use drf_pick::Shares;
-use frameworks::Frameworks;
 use mails::{Booked, Framework, Offer};
 use names_core::{FrameworkId, RoleName};
 use offer_book::Account;
 use quantity::Resources;
 use role_weights::Weights;
 use roster::RosterEntry;
+use share_sums::Sum;
 use std::alloc::{AllocError, Global};
 
-fn enter(
-    shares: &mut Shares,
+fn add_total(
+    totals: &mut Sum,
     alloc: Global,
     entry: &RosterEntry,
     account: &Account,
 ) -> Result<(), AllocError>
-    ensures { OnOk result (shares.new ≡ enters shares.old (join entry.now account.now)) }
+    ensures { OnOk result (totals.new ≡ enters_row totals.old (join entry.now account.now)) }
 {
-    if !entry.is_open() {
-        return Ok(());
+    if entry.is_open() {
+        *totals = totals.plus(alloc, &account.total)?;
     }
-    match shares.enter(alloc, &account.total) {
-        Ok(()) => Ok(()),
-        Err(_) => Err(AllocError),
-    }
+    Ok(())
 }
 
-fn enter_all(
-    shares: &mut Shares,
+fn add_all(
+    totals: &mut Sum,
     alloc: Global,
     entries: &[RosterEntry],
     accounts: &[Account],
 ) -> Result<(), AllocError>
-    ensures { OnOk result (shares.new ≡ fold enters shares.old (joined entries.now accounts.now)) }
+    ensures { OnOk result (totals.new ≡ fold enters_row totals.old
+        (joined entries.now accounts.now)) }
 {
     for i in 0..entries.len() {
         if i >= accounts.len() {
             return Ok(());
         }
-        enter(shares, alloc, &entries[i], &accounts[i])?;
+        add_total(totals, alloc, &entries[i], &accounts[i])?;
     }
     Ok(())
 }
@@ -155,36 +153,23 @@ fn give_all(shares: &mut Shares, alloc: Global, accounts: &[Account]) -> Result<
     Ok(())
 }
 
-/// What agents own, the frameworks, and what these hold are counted in shares.
-fn count_in(
+/// Shares start anew by what agents own. More frameworks are told of, and what all hold is counted.
+pub(crate) fn fill(
     shares: &mut Shares,
     alloc: Global,
     weights: &Weights,
     sides: &Sides,
-    frameworks: &Frameworks,
+    more: &[Framework],
 ) -> Result<(), AllocError>
-    ensures { OnOk result (shares.new
-        ≡ fold holds (fold (knows weights.now) (fold enters shares.old sides.now) frameworks.now) (gifts_of sides.now)) }
+    ensures { OnOk result (shares.new ≡ fold holds (fold (knows weights.now)
+        (restarted weights.now (fold enters_row [] sides.now) shares.old) more.now)
+        (gifts_of sides.now)) }
 {
     let (entries, accounts) = sides.parts();
-    enter_all(shares, alloc, entries, accounts)?;
-    know_all(shares, alloc, weights, frameworks.as_slice())?;
+    let mut totals = Sum::new(alloc);
+    add_all(&mut totals, alloc, entries, accounts)?;
+    shares.restart(alloc, totals, weights);
+    know_all(shares, alloc, weights, more)?;
     give_all(shares, alloc, accounts)?;
     Ok(())
-}
-
-/// The shares of a round: what the agents with an open session own, the frameworks with their roles
-/// and the weights of these, and their current offers and booked tasks that haven't ended, on every
-/// agent.
-pub fn shares_of(
-    alloc: Global,
-    weights: &Weights,
-    sides: &Sides,
-    frameworks: &Frameworks,
-) -> Result<Shares, AllocError>
-    ensures { IfOk result (λ shares. shares ≡ shares_of weights.now sides.now frameworks.now) }
-{
-    let mut shares = Shares::new(alloc);
-    count_in(&mut shares, alloc, weights, sides, frameworks)?;
-    Ok(shares)
 }

@@ -3,9 +3,10 @@
 #![tactic(auto)]
 
 mod fill;
+mod kept;
 mod laws;
 mod pick;
 
-pub use fill::shares_of;
+pub use kept::KeptShares;
 pub use laws::picks_alike;
 pub use pick::picked;
