@@ -1,7 +1,6 @@
 -- Where an agent is lost nothing is refused.
-use Rattle.std.proofs.Common.{◌≡◌, ℕ, Bool, true, false, List, [], ◌∷◌, Option, None, refl, bytes_eq}
-use Rattle.std.specs.Prelude.{if◌then◌else◌, cond}
-use Rattle.mails.specs.declared.refusal.MasterRefusal.{MasterRefusal}
+use Rattle.std.proofs.Common.{◌≡◌, ℕ, Bool, true, false, List, [], ◌∷◌, None, refl, bytes_eq}
+use Rattle.std.specs.Prelude.{if◌then◌else◌}
 use Rattle.cluster_model.specs.Sides.{Side}
 use Rattle.cluster_model.specs.Masters.{Doing, Master, nothing}
 use Rattle.cluster_model.specs.Mails.{agent_lost}

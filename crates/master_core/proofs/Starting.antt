@@ -1,7 +1,6 @@
 -- A master that begins a run: what is taken fits, and every agent is greeted.
-use Rattle.std.proofs.Common.{◌≡◌, ℕ, suc, ◌≤◌, ◌<◌, true, List, [], ◌∷◌, ◌++◌, length, map, flat_map, refl, sym, ap, ◌∙◌, subst, arith, zero-le}
+use Rattle.std.proofs.Common.{◌≡◌, ℕ, suc, ◌≤◌, true, List, [], ◌∷◌, length, map, flat_map, refl, sym, ap, ◌∙◌, subst, arith, zero-le}
 use Rattle.std.specs.List.{AllByRecursion}
-use Rattle.mails.specs.declared.mail.ToAgent.{ToAgent}
 use Rattle.cluster_model.specs.Sides.{Side, SendHello}
 use Rattle.cluster_model.specs.Masters.{AtSide, Move, Moved, move_all, moved}
 use Rattle.cluster_model.specs.Mails.{ticks}

@@ -4,7 +4,6 @@ use Rattle.std.specs.Prelude.{◌≡◌, ⊤, ℕ, Bool, false, List, [], map, O
 use Rattle.std.specs.List.{list_any}
 use Rattle.names_core.specs.Ids.{Numbered}
 use Rattle.mails.specs.declared.mail.AgentMail.{AgentMail}
-use Rattle.mails.specs.declared.refusal.MasterRefusal.{MasterRefusal}
 use Rattle.quantity.specs.declared.rows.Row.{Row}
 use Rattle.quantity.specs.Rows.{plus_rows}
 use Rattle.cluster_model.specs.Sides.{SendHello, offer_rows}
@@ -17,7 +16,7 @@ use Rattle.master_state.specs.declared.fault.MasterFault.TheVariants.{OutOfMemor
 use Rattle.master_state.specs.declared.state.Outs.{Outs}
 use Rattle.master_state.specs.declared.state.State.{State}
 use Rattle.master_state.specs.States.{cleared, no_outs}
-use Rattle.master_state.specs.Works.{master_of, run_of}
+use Rattle.master_state.specs.Works.{run_of}
 use Rattle.agent_sides.specs.Named.{mailed_by}
 use Rattle.side_fits.specs.Fits.{SidesFit}
 pub use Rattle.master_core.specs.declared.master.HeardMail.{HeardMail}

@@ -23,6 +23,7 @@ use master_state::{MasterFault, Outs, State};
 use names_core::{AgentName, FrameworkId, Run, StreamId};
 use quantity::Resources;
 use role_weights::Weights;
+use round_shares::KeptShares;
 use side_fits::{hearing_keeps_fits, moves_keep_fits};
 use std::alloc::{AllocError, Global};
 use std::marker::Model;
@@ -32,6 +33,8 @@ use std::marker::Model;
 #[derive(Drop)]
 pub struct Master {
     state: Option<State>,
+    /// The shares of the round before, for the next one.
+    kept: KeptShares,
 }
 
 impl Model for Master {
@@ -89,7 +92,11 @@ impl Master {
         let run = state.run;
         state.sides.send_again(alloc, run, &mut state.outs.mails)?;
         let outs = state.take_outs(alloc);
-        Ok((Master { state: Some(state) }, outs))
+        let master = Master {
+            state: Some(state),
+            kept: KeptShares::new(alloc),
+        };
+        Ok((master, outs))
     }
 
     /// The open stream of a framework.
@@ -148,7 +155,7 @@ impl Master {
         let Some(state) = &mut self.state else {
             return Err(MasterFault::OutOfMemory);
         };
-        let done = of_memory(allocate(state, alloc, weights));
+        let done = of_memory(allocate(state, alloc, weights, &mut self.kept));
         settle(&mut self.state, alloc, done)
     }
 

@@ -4,3 +4,4 @@ pub mod Agreeing
 pub mod Making
 pub mod Telling
 pub mod Starting
+pub mod Keeping

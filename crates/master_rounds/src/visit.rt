@@ -1,10 +1,11 @@
 //! A round visits the agents, in order.
 
-ghost use Rattle.std.specs.Prelude.{◌≡◌, ◌≤◌, ◌<◌, None, Some, fold, OnOk, IfOk};
+ghost use Rattle.std.specs.Prelude.{◌≡◌, ◌≤◌, ◌<◌, None, Some, fold, map, OnOk, IfOk};
 ghost use Rattle.cluster_model.specs.Ids.{is_empty, last_number};
 ghost use Rattle.drf_pick.specs.Shares.{given};
 ghost use Rattle.roster.specs.Places.{told_at};
 ghost use Rattle.agent_sides.specs.Free.{open_part};
+ghost use Rattle.round_shares.specs.Kept.{client_of};
 ghost use Rattle.master_rounds.specs.Visits.{goes_to, offers_free, round_of, visits, visits_part};
 
 use agent_sides::Sides;
@@ -16,7 +17,7 @@ use names_core::{AgentName, FrameworkId, OfferId, Run};
 use plain_data::Plain;
 use quantity::Resources;
 use role_weights::Weights;
-use round_shares::{picked, shares_of};
+use round_shares::{KeptShares, picked};
 use scheduler_events::Offer;
 use std::alloc::{AllocError, Global};
 
@@ -144,14 +145,20 @@ fn visit_all(
 
 /// The offers of a round: each agent's whole free part goes to the eligible framework that
 /// stands least, counted before the next agent is visited.
-pub fn round_of(state: &State, alloc: Global, weights: &Weights) -> Result<Progress, AllocError>
+pub fn round_of(
+    state: &State,
+    alloc: Global,
+    weights: &Weights,
+    kept: &mut KeptShares,
+) -> Result<Progress, AllocError>
     requires { 0 < state.now.next_offer }
-    ensures { IfOk result (λ progress. progress ≡ round_of weights.now state.now) }
+    ensures progress { IfOk result (λ progress. progress ≡ round_of weights.now state.now) }
+    ensures told { OnOk result (kept.new ≡ map client_of state.now.frameworks) }
 {
     let mut progress = Progress {
         made: Listed::new(alloc),
         next: state.next_offer,
-        shares: shares_of(alloc, weights, &state.sides, &state.frameworks)?,
+        shares: kept.shares_of(alloc, weights, &state.sides, &state.frameworks)?,
     };
     visit_all(
         &mut progress,

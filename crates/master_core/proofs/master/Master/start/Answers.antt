@@ -8,8 +8,8 @@ use Rattle.master_core.proofs.master.Master.start.Goals as goal
 abbrev with_mails : List ToAgent → Outs
 with_mails mails = record { events = []; opened = []; closed = []; mails = mails }
 
-pub invariant_of-result : goal.invariant_of-result
-invariant_of-result c = rw (c.take_outs-outs.ensures.state, c.in_ok-state.ensures) (refl, fresh_fits c.args.run c.args.config.now c.agents-agents.ensures.few)
+pub invariant_of-master : goal.invariant_of-master
+invariant_of-master c = rw (c.take_outs-outs.ensures.state, c.in_ok-state.ensures) (refl, fresh_fits c.args.run c.args.config.now c.agents-agents.ensures.few)
 
 pub returns-clause-outs : goal.returns-clause-outs
 returns-clause-outs c =
