@@ -1,2 +1,3 @@
-pub mod Within
+pub mod Rising
+pub mod Spans
 pub mod Sums

@@ -1,5 +1,5 @@
 -- What booked tasks use together, task by task.
-use Rattle.std.proofs.Common.{◌≡◌, ℕ, suc, ◌<◌, ◌+◌, ◌-◌, Bool, true, false, not, cond, ◌||◌, ◌&&◌, List, [], ◌∷◌, ◌++◌, length, take, get_or, filter, flat_map, map, Option, None, Some, IfSome, refl, sym, ap, ◌∙◌, subst, arith}
+use Rattle.std.proofs.Common.{◌≡◌, ℕ, suc, ◌<◌, ◌+◌, Bool, true, false, not, cond, ◌||◌, ◌&&◌, List, [], ◌∷◌, ◌++◌, length, take, get_or, filter, flat_map, map, Option, None, Some, IfSome, refl, sym, ap, ◌∙◌, subst, arith}
 use Rattle.std.specs.Prelude.{◌==◌}
 use Rattle.std.specs.List.{list_any}
 use Rattle.std.proofs.lemmas.Bool.{true≢false}
@@ -138,6 +138,9 @@ module _ (name : List ℕ) where
       commands_used commands (forget command bs) parts.1 ∙ forget_used command bs parts.0
 
 -- sums
+
+pub other_frees_none : (key : Numbered) (b : Booked) → has_key key b ≡ false → freed_rows key b ≡ []
+other_frees_none key b other = rw other refl
 
 pub sum_more : (sum more : List Row) (bs : List Booked) (b : Booked) → IsSum sum bs → IsPlus more sum (unended_rows b) → IsSum more (bs ++ b ∷ [])
 sum_more sum more bs b is plus name = omega (arith, is name, plus name, used_more name bs b)

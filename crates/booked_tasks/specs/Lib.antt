@@ -1,3 +1,3 @@
 pub mod Tasks
-pub mod Bounds
+pub mod Spans
 pub mod Used

@@ -1,5 +1,5 @@
 -- Booked tasks, by their launch keys.
-use Rattle.std.specs.Prelude.{ℕ, suc, Bool, true, ◌&&◌, ◌==◌, if◌then◌else◌, List}
+use Rattle.std.specs.Prelude.{ℕ, suc, Bool, true, ◌&&◌, ◌==◌, if◌then◌else◌, List, Option, None, Some}
 use Rattle.std.specs.List.{list_any}
 use Rattle.names_core.specs.Ids.{Numbered}
 use Rattle.names_core.specs.States.{is_terminal}
@@ -16,6 +16,11 @@ has_key key b = same b.job.key key
 -- and the last update that was heard of is this one and terminal
 abbrev pub is_acknowledged : Numbered → ℕ → Booked → Bool
 is_acknowledged key k b = b.ended && same b.job.key key && b.heard == suc k && is_terminal b.state
+
+-- it is the task of this key, and its end is acknowledged where that is asked for
+abbrev pub is_gone : Numbered → Option ℕ → Booked → Bool
+is_gone key None b = has_key key b
+is_gone key (Some k) b = is_acknowledged key k b
 
 -- a task with this key has ended
 abbrev pub ended : Numbered → Booked → Booked

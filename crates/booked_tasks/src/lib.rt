@@ -2,8 +2,8 @@
 //! and what an update and an applied command make of them.
 #![tactic(auto)]
 
-mod bound;
 mod ids;
+mod span;
 mod tasks;
 mod used;
 

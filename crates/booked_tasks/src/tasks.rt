@@ -5,11 +5,13 @@ ghost use Rattle.cluster_model.specs.Sides.{heard_update, forget, forget_all};
 ghost use Rattle.std.specs.List.{find, list_any};
 ghost use Rattle.std.specs.Option.{option_copied};
 ghost use Rattle.cluster_model.specs.Ids.{same};
-ghost use Rattle.booked_tasks.specs.Tasks.{has_tasks_of, has_key, ended, is_acknowledged};
+ghost use Rattle.booked_tasks.specs.Tasks.{has_tasks_of, has_key, ended, is_acknowledged, is_gone};
+ghost use Rattle.booked_tasks.specs.Spans.{AreRisingIfTold, IsSpan};
 ghost use Rattle.booked_tasks.specs.Used.{IsSum};
 
 use crate::ids::{is_same_framework, is_same_launch};
-use crate::{bound, used};
+use crate::span::{Span, are_rising, goes_on_rising, span_of};
+use crate::used;
 use listed::Listed;
 use mails::{Booked, Command};
 use names_core::{FrameworkId, LaunchKey, TaskState};
@@ -23,14 +25,15 @@ pub struct Tasks {
     items: Vec<Booked>,
     /// The sum of what the tasks use that haven't ended, where it is known.
     sum: Option<Resources>,
-    /// No task has a key above this one.
-    bound: Option<LaunchKey>,
+    /// Whether it is known that keys rise from task to task, as they do where each was booked
+    /// after the one before.
+    are_rising: bool,
 }
 
 impl Model for Tasks {
     ghost use Rattle.std.specs.Prelude.{List};
     ghost use Rattle.mails.specs.declared.task.Booked.{Booked};
-    ghost use Rattle.booked_tasks.specs.Bounds.{AreWithin};
+    ghost use Rattle.booked_tasks.specs.Spans.{AreRisingIfTold};
     ghost use Rattle.booked_tasks.specs.Used.{IsSumIfKnown};
 
     ghost Value = { List Booked };
@@ -38,7 +41,7 @@ impl Model for Tasks {
     ghost view = { λ tasks. tasks.items.items };
 
     ghost invariant = { λ tasks. IsSumIfKnown tasks.sum tasks.items.items
-        × AreWithin tasks.bound tasks.items.items };
+        × AreRisingIfTold tasks.are_rising tasks.items.items };
 }
 
 fn has_key(task: &Booked, key: LaunchKey) -> bool
@@ -75,10 +78,11 @@ fn end_one(task: &mut Booked, key: LaunchKey)
     }
 }
 
-fn end_in(tasks: &mut Vec<Booked>, key: LaunchKey)
+fn end_in(tasks: &mut Vec<Booked>, span: Span, key: LaunchKey)
+    requires { IsSpan (has_key key) tasks.old.items span.from span.to }
     ensures { tasks.new.items ≡ map (ended key) tasks.old.items }
 {
-    for i in 0..tasks.len() {
+    for i in span.from..span.to {
         end_one(&mut tasks[i], key);
     }
 }
@@ -111,13 +115,14 @@ fn hear_one(task: &mut Booked, update: &Heard)
     }
 }
 
-fn hear_in(tasks: &mut Vec<Booked>, update: &Heard)
-    requires { update.now.k < 4294967295 }
+fn hear_in(tasks: &mut Vec<Booked>, span: Span, update: &Heard)
+    requires counted { update.now.k < 4294967295 }
+    requires span { IsSpan (has_key update.now.key) tasks.old.items span.from span.to }
     ensures { tasks.new.items
         ≡ map (heard_update update.now.key update.now.k update.now.state update.now.ended)
         tasks.old.items }
 {
-    for i in 0..tasks.len() {
+    for i in span.from..span.to {
         hear_one(&mut tasks[i], update);
     }
 }
@@ -129,10 +134,27 @@ fn is_acknowledged(task: &Booked, key: LaunchKey, k: u32) -> bool
     task.ended && has_key(task, key) && is_last && task.state.is_terminal()
 }
 
-fn forget_acknowledged(tasks: &mut Vec<Booked>, key: LaunchKey, k: u32)
-    ensures { tasks.new.items ≡ filter (λ b. not (is_acknowledged key k b)) tasks.old.items }
+fn is_gone(task: &Booked, key: LaunchKey, acknowledged: Option<u32>) -> bool
+    ensures { result ≡ is_gone key acknowledged task.now }
 {
-    tasks.retain(|task| !is_acknowledged(task, key, k));
+    match acknowledged {
+        None => has_key(task, key),
+        Some(k) => is_acknowledged(task, key, k),
+    }
+}
+
+/// Takes out the task of this key, or only if its end is acknowledged by an update's number.
+fn take_out(tasks: &mut Vec<Booked>, span: Span, key: LaunchKey, acknowledged: Option<u32>)
+    requires { IsSpan (has_key key) tasks.old.items span.from span.to }
+    ensures { tasks.new.items ≡ filter (λ b. not (is_gone key acknowledged b)) tasks.old.items }
+{
+    let mut i = span.to;
+    while i > span.from {
+        i -= 1;
+        if is_gone(&tasks[i], key, acknowledged) {
+            tasks.remove(i);
+        }
+    }
 }
 
 fn forget_of(tasks: &mut Vec<Booked>, framework: FrameworkId)
@@ -141,27 +163,28 @@ fn forget_of(tasks: &mut Vec<Booked>, framework: FrameworkId)
     tasks.retain(|task| !is_same_framework(task.job.framework, framework));
 }
 
-fn forget_key(tasks: &mut Vec<Booked>, key: LaunchKey)
-    ensures { tasks.new.items ≡ filter (λ b. not (has_key key b)) tasks.old.items }
-{
-    tasks.retain(|task| !has_key(task, key));
-}
-
-fn forget_by(tasks: &mut Vec<Booked>, command: &Command)
-    ensures { tasks.new.items ≡ forget command.now tasks.old.items }
+fn forget_by(tasks: &mut Vec<Booked>, are_rising: bool, command: &Command)
+    requires { AreRisingIfTold are_rising tasks.old.items }
+    ensures forgotten { tasks.new.items ≡ forget command.now tasks.old.items }
+    ensures rising { AreRisingIfTold are_rising tasks.new.items }
 {
     match command {
         Command::Launch(..) | Command::Kill(_) => {}
-        Command::Ack(key, k) => forget_acknowledged(tasks, *key, *k),
+        Command::Ack(key, k) => {
+            let span = span_of(tasks, are_rising, *key);
+            take_out(tasks, span, *key, Some(*k));
+        }
         Command::EndFramework(framework) => forget_of(tasks, *framework),
     }
 }
 
-fn forget_all(tasks: &mut Vec<Booked>, commands: &[Command])
-    ensures { tasks.new.items ≡ forget_all commands.now tasks.old.items }
+fn forget_all(tasks: &mut Vec<Booked>, are_rising: bool, commands: &[Command])
+    requires { AreRisingIfTold are_rising tasks.old.items }
+    ensures forgotten { tasks.new.items ≡ forget_all commands.now tasks.old.items }
+    ensures rising { AreRisingIfTold are_rising tasks.new.items }
 {
     for command in commands {
-        forget_by(tasks, command);
+        forget_by(tasks, are_rising, command);
     }
 }
 
@@ -173,7 +196,7 @@ impl Tasks {
         Tasks {
             items: Vec::new(alloc),
             sum: Some(Resources::new(alloc)),
-            bound: None,
+            are_rising: true,
         }
     }
 
@@ -182,11 +205,11 @@ impl Tasks {
         ensures { result ≡ tasks }
     {
         let sum = used::sum_of(alloc, tasks.as_slice());
-        let bound = bound::bound_of(tasks.as_slice());
+        let are_rising = are_rising(tasks.as_slice());
         Tasks {
             items: tasks.into_vec(),
             sum,
-            bound,
+            are_rising,
         }
     }
 
@@ -205,19 +228,29 @@ impl Tasks {
         self.sum.as_ref()
     }
 
+    /// The tasks at the places outside of which none has this key.
+    fn part(&self, key: LaunchKey) -> &[Booked]
+        ensures found { find (has_key key) result.now ≡ find (has_key key) self.now }
+        ensures any { list_any (has_key key) result.now ≡ list_any (has_key key) self.now }
+    {
+        let span = span_of(&self.items, self.are_rising, key);
+        &self.items[span.from..span.to]
+    }
+
     /// The task of this key, if it is booked here.
+    /// Where keys rise from task to task, it is found by halving.
     pub fn find(&self, key: LaunchKey) -> Option<&Booked>
         ensures { option_copied result ≡ find (has_key key) self.now }
     {
-        find_in(&self.items, key)
+        find_in(self.part(key), key)
     }
 
     /// Whether a task of this key is booked here.
-    /// For a key above all that were booked it doesn't go over the tasks.
+    /// Where keys rise from task to task, it is found by halving.
     pub fn is_booked(&self, key: LaunchKey) -> bool
         ensures { result ≡ list_any (has_key key) self.now }
     {
-        bound::is_within(self.bound, key) && is_booked(&self.items, key)
+        is_booked(self.part(key), key)
     }
 
     /// Whether a task of the framework is booked here, ended or not.
@@ -234,10 +267,10 @@ impl Tasks {
     {
         let known = self.sum.take();
         let sum = used::sum_with(alloc, known, &self.items, &task);
-        let bound = bound::raised(self.bound, &task);
+        let are_rising = goes_on_rising(&self.items, self.are_rising, &task);
         self.items.push(task)?;
         self.sum = sum;
-        self.bound = bound;
+        self.are_rising = are_rising;
         Ok(())
     }
 
@@ -245,16 +278,18 @@ impl Tasks {
     pub fn end(&mut self, key: LaunchKey)
         ensures { self.new ≡ map (ended key) self.old }
     {
-        self.sum = used::without_key(self.sum.take(), &self.items, key);
-        end_in(&mut self.items, key);
+        let span = span_of(&self.items, self.are_rising, key);
+        self.sum = used::without_key(self.sum.take(), &self.items, span, key);
+        end_in(&mut self.items, span, key);
     }
 
     /// The task of this key isn't booked here any more. It takes no memory.
     pub fn forget(&mut self, key: LaunchKey)
         ensures { self.new ≡ filter (λ b. not (has_key key b)) self.old }
     {
-        self.sum = used::without_key(self.sum.take(), &self.items, key);
-        forget_key(&mut self.items, key);
+        let span = span_of(&self.items, self.are_rising, key);
+        self.sum = used::without_key(self.sum.take(), &self.items, span, key);
+        take_out(&mut self.items, span, key, None);
     }
 
     /// An update of the task of its launch key is heard. It takes no memory.
@@ -264,8 +299,9 @@ impl Tasks {
             ≡ map (heard_update update.now.key update.now.k update.now.state update.now.ended)
             self.old }
     {
-        self.sum = used::after_update(self.sum.take(), &self.items, update);
-        hear_in(&mut self.items, update);
+        let span = span_of(&self.items, self.are_rising, update.key);
+        self.sum = used::after_update(self.sum.take(), &self.items, span, update);
+        hear_in(&mut self.items, span, update);
     }
 
     /// The agent has applied these commands: a task is let go whose end is acknowledged by one,
@@ -274,6 +310,6 @@ impl Tasks {
         ensures { self.new ≡ forget_all commands.now self.old }
     {
         self.sum = used::after_commands(self.sum.take(), commands);
-        forget_all(&mut self.items, commands);
+        forget_all(&mut self.items, self.are_rising, commands);
     }
 }

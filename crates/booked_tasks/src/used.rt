@@ -6,9 +6,11 @@ ghost use Rattle.mails.specs.declared.task.Booked.{Booked};
 ghost use Rattle.names_core.specs.declared.state.TaskState.{TaskState};
 ghost use Rattle.cluster_model.specs.Sides.{heard_update, forget_all};
 ghost use Rattle.booked_tasks.specs.Tasks.{has_key, ended};
+ghost use Rattle.booked_tasks.specs.Spans.{IsSpan};
 ghost use Rattle.booked_tasks.specs.Used.{unended_rows, freed_rows, ends_framework, IsPlus, IsMinus, IsSumIfKnown};
 
 use crate::ids::is_same_launch;
+use crate::span::Span;
 use crate::tasks::Heard;
 use mails::{Booked, Command};
 use names_core::LaunchKey;
@@ -90,9 +92,11 @@ fn give_back(sum: &mut Resources, tasks: &[Booked], key: LaunchKey)
 pub(crate) fn without_key(
     sum: Option<Resources>,
     tasks: &[Booked],
+    span: Span,
     key: LaunchKey,
 ) -> Option<Resources>
-    requires { IsSumIfKnown sum tasks.now }
+    requires sum { IsSumIfKnown sum tasks.now }
+    requires span { IsSpan (has_key key) tasks.now span.from span.to }
     ensures ended { IsSumIfKnown result (map (ended key) tasks.now) }
     ensures heard { (k : ℕ) (state : TaskState)
         → IsSumIfKnown result (map (heard_update key k state true) tasks.now) }
@@ -102,7 +106,7 @@ pub(crate) fn without_key(
         return None;
     };
     let mut rest = known;
-    give_back(&mut rest, tasks, key);
+    give_back(&mut rest, &tasks[span.from..span.to], key);
     Some(rest)
 }
 
@@ -110,14 +114,16 @@ pub(crate) fn without_key(
 pub(crate) fn after_update(
     sum: Option<Resources>,
     tasks: &[Booked],
+    span: Span,
     update: &Heard,
 ) -> Option<Resources>
-    requires { IsSumIfKnown sum tasks.now }
+    requires sum { IsSumIfKnown sum tasks.now }
+    requires span { IsSpan (has_key update.now.key) tasks.now span.from span.to }
     ensures { let u = update.now in
         IsSumIfKnown result (map (heard_update u.key u.k u.state u.ended) tasks.now) }
 {
     if update.ended {
-        without_key(sum, tasks, update.key)
+        without_key(sum, tasks, span, update.key)
     } else {
         sum
     }

@@ -6,4 +6,4 @@ pub mod Holding
 pub mod Adding
 pub mod Named
 pub mod Refusing
-pub mod Within
+pub mod Withdrawing

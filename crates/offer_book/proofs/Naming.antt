@@ -13,7 +13,7 @@ ids os = map (λ o. o.id) os
 same_itself : (i : Numbered) → same i i ≡ true
 same_itself i = grind (arith, nat_tests)
 
-same_back : (i j : Numbered) → same i j ≡ same j i
+pub same_back : (i j : Numbered) → same i j ≡ same j i
 same_back i j = grind (arith, nat_tests)
 
 or_true : (a b : Bool) → b ≡ true → (a || b) ≡ true

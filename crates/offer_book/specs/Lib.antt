@@ -4,5 +4,6 @@ pub mod Held
 pub mod Found
 pub mod Faults
 pub mod Laws
-pub mod Within
+pub mod Offers
+pub mod Withdrawals
 pub mod Named

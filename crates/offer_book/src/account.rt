@@ -56,7 +56,7 @@ impl Account {
     }
 
     /// The total less current offers and booked tasks that haven't ended.
-    /// Where the sum of the booked tasks is known it doesn't go over them.
+    /// Where the sums of the offers and of the booked tasks are known it doesn't go over them.
     pub fn free(&self, alloc: Global) -> Result<Resources, AllocError>
         ensures rest { IfOk result (λ rest. rest ≡ free self.now) }
         ensures less { IfOk result (λ rest. (name : List ℕ)
@@ -64,13 +64,13 @@ impl Account {
     {
         let _ordered = self.total.rows();
         let mut rest = self.total.copy()?;
-        rest::take_offers(&mut rest, self.offers.as_slice());
+        rest::take_offered(&mut rest, &self.offers);
         rest::take_booked(&mut rest, &self.booked);
         Ok(rest)
     }
 
     /// Whether the total has room for more resources beside what is taken of it.
-    /// Where the sum of the booked tasks is known it doesn't go over them.
+    /// Where the sums of the offers and of the booked tasks are known it doesn't go over them.
     pub fn fits(&self, alloc: Global, more: &Resources) -> Result<bool, AllocError>
         ensures { IfOk result (λ is_within. is_within ≡ fits self.now more.now) }
     {
@@ -79,7 +79,7 @@ impl Account {
         if !rest::cover_part(&mut rest, more) {
             return Ok(false);
         }
-        if !rest::cover_offers(&mut rest, self.offers.as_slice()) {
+        if !rest::cover_offered(&mut rest, &self.offers) {
             return Ok(false);
         }
         Ok(rest::cover_booked(&mut rest, &self.booked))

@@ -131,7 +131,7 @@ fn offer_in(
     if !accounts[place].fits(alloc, &offer.resources)? {
         return Err(BookFault::NoRoom);
     }
-    accounts[place].offers.push(offer)?;
+    accounts[place].offers.push(alloc, offer)?;
     Ok(())
 }
 

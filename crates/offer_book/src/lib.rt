@@ -3,14 +3,15 @@
 
 mod account;
 mod book;
-mod bound;
 mod fault;
 mod held;
 mod ids;
 mod laws;
 mod names;
+mod offered;
 mod offers;
 mod rest;
+mod span;
 mod sum;
 
 pub use account::Account;

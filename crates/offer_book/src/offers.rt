@@ -1,17 +1,23 @@
 //! The current offers on one agent.
 
-ghost use Rattle.std.specs.Prelude.{◌≡◌, ◌++◌, ◌∷◌, [], not, filter, OnOk, OnErr};
-ghost use Rattle.std.specs.List.{find, list_all, list_any};
+ghost use Rattle.std.specs.Prelude.{◌≡◌, ◌<◌, ◌++◌, ◌∷◌, [], not, length, filter, OnOk, OnErr, IfSome};
+ghost use Rattle.std.specs.List.{find, list_all, list_any, remove};
 ghost use Rattle.std.specs.Option.{option_copied};
+ghost use Rattle.booked_tasks.specs.Spans.{IsSpan};
 ghost use Rattle.cluster_model.specs.Sides.{is_named};
 ghost use Rattle.cluster_model.specs.Masters.{is_of};
 ghost use Rattle.offer_book.specs.Accounts.{has_offer, are_good, is_offered_as};
+ghost use Rattle.offer_book.specs.Offers.{IsOffered};
+ghost use Rattle.offer_book.specs.Withdrawals.{is_withdrawn};
+ghost use Rattle.offer_book.specs.declared.offers.Withdrawn.TheVariants.{Named};
 
-use crate::bound;
 use crate::ids::{is_among, is_repeated, is_same_offer};
+use crate::offered;
+use crate::span::{Span, goes_on_rising, span_of};
 use booked_tasks::is_same_framework;
 use mails::Offer;
 use names_core::{FrameworkId, OfferId};
+use quantity::Resources;
 use std::alloc::{AllocError, Global};
 use std::marker::Model;
 
@@ -19,20 +25,34 @@ use std::marker::Model;
 #[derive(Drop)]
 pub struct Offers {
     items: Vec<Offer>,
-    /// No offer has an id above this one.
-    bound: Option<OfferId>,
+    /// The sum of what the offers have, where it is known.
+    sum: Option<Resources>,
+    /// Whether it is known that ids rise from offer to offer.
+    are_rising: bool,
 }
 
 impl Model for Offers {
     ghost use Rattle.std.specs.Prelude.{List};
     ghost use Rattle.mails.specs.declared.task.Offer.{Offer};
-    ghost use Rattle.offer_book.specs.Within.{AreWithin};
+    ghost use Rattle.offer_book.specs.Offers.{IsOfferedIfKnown, AreRisingIfTold};
 
     ghost Value = { List Offer };
 
     ghost view = { λ offers. offers.items.items };
 
-    ghost invariant = { λ offers. AreWithin offers.bound offers.items.items };
+    ghost invariant = { λ offers. IsOfferedIfKnown offers.sum offers.items.items
+        × AreRisingIfTold offers.are_rising offers.items.items };
+}
+
+/// What offers are withdrawn.
+#[derive(Drop)]
+pub(crate) enum Withdrawn {
+    /// The one of this id.
+    WithId(OfferId),
+    /// All to this framework.
+    Of(FrameworkId),
+    /// The one to this framework that has this id.
+    Named(FrameworkId, OfferId),
 }
 
 fn is_of(offer: &Offer, framework: FrameworkId) -> bool
@@ -47,6 +67,18 @@ pub(crate) fn is_named(offer: &Offer, framework: FrameworkId, ids: &[OfferId]) -
     is_of(offer, framework) && is_among(ids, offer.id)
 }
 
+fn is_withdrawn(offer: &Offer, withdrawn: &Withdrawn) -> bool
+    ensures { result ≡ is_withdrawn withdrawn.now offer.now }
+{
+    match withdrawn {
+        Withdrawn::WithId(id) => is_same_offer(offer.id, *id),
+        Withdrawn::Of(framework) => is_of(offer, *framework),
+        Withdrawn::Named(framework, id) => {
+            is_of(offer, *framework) && is_same_offer(offer.id, *id)
+        }
+    }
+}
+
 fn has_offer(offers: &[Offer], framework: FrameworkId, id: OfferId) -> bool
     ensures { result ≡ has_offer offers.now framework id }
 {
@@ -57,24 +89,6 @@ fn has_all(offers: &[Offer], framework: FrameworkId, ids: &[OfferId]) -> bool
     ensures { result ≡ list_all (has_offer offers.now framework) ids.now }
 {
     ids.iter().all(|id| has_offer(offers, framework, *id))
-}
-
-fn keep_others_of(offers: &mut Vec<Offer>, framework: FrameworkId)
-    ensures { offers.new.items ≡ filter (λ o. not (is_of framework o)) offers.old.items }
-{
-    offers.retain(|offer| !is_of(offer, framework));
-}
-
-fn keep_not_named(offers: &mut Vec<Offer>, framework: FrameworkId, ids: &[OfferId])
-    ensures { offers.new.items ≡ filter (λ o. not (is_named framework ids.now o)) offers.old.items }
-{
-    offers.retain(|offer| !is_named(offer, framework, ids));
-}
-
-fn keep_others(offers: &mut Vec<Offer>, id: OfferId)
-    ensures { offers.new.items ≡ filter (λ o. not (is_offered_as id o)) offers.old.items }
-{
-    offers.retain(|offer| !is_same_offer(offer.id, id));
 }
 
 fn find_in(offers: &[Offer], id: OfferId) -> Option<&Offer>
@@ -96,7 +110,8 @@ impl Offers {
     {
         Offers {
             items: Vec::new(alloc),
-            bound: None,
+            sum: Some(Resources::new(alloc)),
+            are_rising: true,
         }
     }
 
@@ -106,19 +121,38 @@ impl Offers {
         self.items.as_slice()
     }
 
+    /// The sum of what the offers have. `None` from where memory was refused for it
+    /// until an offer is made.
+    pub(crate) fn sum(&self) -> Option<&Resources>
+        ensures { IfSome result (λ sum. IsOffered sum.now self.now) }
+    {
+        self.sum.as_ref()
+    }
+
+    /// The offers at the places outside of which none has this id.
+    fn part(&self, id: OfferId) -> &[Offer]
+        ensures found { find (is_offered_as id) result.now ≡ find (is_offered_as id) self.now }
+        ensures any { list_any (is_offered_as id) result.now
+            ≡ list_any (is_offered_as id) self.now }
+    {
+        let span = span_of(&self.items, self.are_rising, id);
+        &self.items[span.from..span.to]
+    }
+
     /// The offer of this id, if it is current here.
+    /// Where ids rise from offer to offer, it is found by halving.
     pub fn find(&self, id: OfferId) -> Option<&Offer>
         ensures { option_copied result ≡ find (is_offered_as id) self.now }
     {
-        find_in(&self.items, id)
+        find_in(self.part(id), id)
     }
 
     /// Whether an offer of this id is current here.
-    /// For an id above all that were offered it doesn't go over the offers.
+    /// Where ids rise from offer to offer, it is found by halving.
     pub fn is_offered(&self, id: OfferId) -> bool
         ensures { result ≡ list_any (is_offered_as id) self.now }
     {
-        bound::is_within(self.bound, id) && is_offered(&self.items, id)
+        is_offered(self.part(id), id)
     }
 
     /// Whether a framework may use the offers of these ids together: there are some,
@@ -132,31 +166,70 @@ impl Offers {
         !is_repeated(ids)
     }
 
-    pub(crate) fn push(&mut self, offer: Offer) -> Result<(), AllocError>
+    pub(crate) fn push(&mut self, alloc: Global, offer: Offer) -> Result<(), AllocError>
         ensures ok { OnOk result (self.new ≡ self.old ++ offer ∷ []) }
         ensures err { OnErr result (self.new ≡ self.old) }
     {
-        let bound = bound::raised(self.bound, offer.id);
+        let known = self.sum.take();
+        let sum = offered::sum_with(alloc, known, &self.items, &offer);
+        let are_rising = goes_on_rising(&self.items, self.are_rising, &offer);
         self.items.push(offer)?;
-        self.bound = bound;
+        self.sum = sum;
+        self.are_rising = are_rising;
         Ok(())
+    }
+
+    /// One offer less; the sum has it no more.
+    fn remove(&mut self, i: usize)
+        requires { i < length self.old }
+        ensures { self.new ≡ remove self.old i }
+    {
+        let offer = self.items.remove(i);
+        self.sum = offered::without(self.sum.take(), &offer);
+    }
+
+    fn take_out(&mut self, span: Span, withdrawn: &Withdrawn)
+        requires { IsSpan (is_withdrawn withdrawn.now) self.old span.from span.to }
+        ensures { self.new ≡ filter (λ o. not (is_withdrawn withdrawn.now o)) self.old }
+    {
+        let mut i = span.to;
+        while i > span.from {
+            i -= 1;
+            if is_withdrawn(&self.as_slice()[i], withdrawn) {
+                self.remove(i);
+            }
+        }
     }
 
     pub(crate) fn withdraw(&mut self, id: OfferId)
         ensures { self.new ≡ filter (λ o. not (is_offered_as id o)) self.old }
     {
-        keep_others(&mut self.items, id);
+        let span = span_of(&self.items, self.are_rising, id);
+        self.take_out(span, &Withdrawn::WithId(id));
     }
 
     pub(crate) fn withdraw_of(&mut self, framework: FrameworkId)
         ensures { self.new ≡ filter (λ o. not (is_of framework o)) self.old }
     {
-        keep_others_of(&mut self.items, framework);
+        let span = Span {
+            from: 0,
+            to: self.items.len(),
+        };
+        self.take_out(span, &Withdrawn::Of(framework));
+    }
+
+    fn withdraw_one(&mut self, framework: FrameworkId, id: OfferId)
+        ensures { self.new ≡ filter (λ o. not (is_withdrawn (Named framework id) o)) self.old }
+    {
+        let span = span_of(&self.items, self.are_rising, id);
+        self.take_out(span, &Withdrawn::Named(framework, id));
     }
 
     pub(crate) fn withdraw_named(&mut self, framework: FrameworkId, ids: &[OfferId])
         ensures { self.new ≡ filter (λ o. not (is_named framework ids.now o)) self.old }
     {
-        keep_not_named(&mut self.items, framework, ids);
+        for id in ids {
+            self.withdraw_one(framework, *id);
+        }
     }
 }

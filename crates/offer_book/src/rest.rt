@@ -6,18 +6,31 @@ ghost use Rattle.quantity.specs.Rows.{covers, rest_of, AreRows};
 ghost use Rattle.cluster_model.specs.Sides.{offer_rows, job_rows, unended};
 ghost use Rattle.offer_book.specs.Accounts.{unended_rows};
 
+use crate::offers::Offers;
 use booked_tasks::Tasks;
 use mails::{Booked, Offer};
 use quantity::Resources;
 
 /// Takes away what offers have.
-pub(crate) fn take_offers(rest: &mut Resources, offers: &[Offer])
+fn take_offers(rest: &mut Resources, offers: &[Offer])
     requires { AreRows rest.old }
     ensures rest { rest.new ≡ rest_of rest.old (offer_rows offers.now) }
     ensures rows { AreRows rest.new }
 {
     for offer in offers {
         rest.reduce_by(&offer.resources);
+    }
+}
+
+/// The same, by their sum where it is known.
+pub(crate) fn take_offered(rest: &mut Resources, offers: &Offers)
+    requires { AreRows rest.old }
+    ensures rest { rest.new ≡ rest_of rest.old (offer_rows offers.now) }
+    ensures rows { AreRows rest.new }
+{
+    match offers.sum() {
+        Some(sum) => rest.reduce_by(sum),
+        None => take_offers(rest, offers.as_slice()),
     }
 }
 
@@ -68,7 +81,7 @@ pub(crate) fn cover_part(rest: &mut Resources, part: &Resources) -> bool
 }
 
 /// Takes away what offers have, or tells that there is less.
-pub(crate) fn cover_offers(rest: &mut Resources, offers: &[Offer]) -> bool
+fn cover_offers(rest: &mut Resources, offers: &[Offer]) -> bool
     requires { AreRows rest.old }
     ensures covered { result ≡ covers rest.old (offer_rows offers.now) }
     ensures rest { OnTrue result (rest.new ≡ rest_of rest.old (offer_rows offers.now)) }
@@ -80,6 +93,19 @@ pub(crate) fn cover_offers(rest: &mut Resources, offers: &[Offer]) -> bool
         }
     }
     true
+}
+
+/// The same, by their sum where it is known.
+pub(crate) fn cover_offered(rest: &mut Resources, offers: &Offers) -> bool
+    requires { AreRows rest.old }
+    ensures covered { result ≡ covers rest.old (offer_rows offers.now) }
+    ensures rest { OnTrue result (rest.new ≡ rest_of rest.old (offer_rows offers.now)) }
+    ensures rows { AreRows rest.new }
+{
+    match offers.sum() {
+        Some(sum) => cover_part(rest, sum),
+        None => cover_offers(rest, offers.as_slice()),
+    }
 }
 
 fn cover_task(rest: &mut Resources, task: &Booked) -> bool

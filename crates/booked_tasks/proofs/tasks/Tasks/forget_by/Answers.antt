@@ -1,10 +1,9 @@
 use Rattle.std.proofs.Common.{subst, sym}
 use Rattle.booked_tasks.specs.Used.{IsSumIfKnown}
-use Rattle.booked_tasks.proofs.Within.{within_after}
 use Rattle.booked_tasks.proofs.tasks.Tasks.forget_by.Goals as goal
 
 pub invariant_of-self : goal.invariant_of-self
-invariant_of-self c = rw c.forget_all.ensures (
-  c.after_commands.ensures c.self.inside.items.items (subst (λ sum. IsSumIfKnown sum c.self.inside.items.items) (sym c.take.ensures.value) c.self.invariant.0),
-  within_after c.self.inside.bound c.args.commands.now c.self.inside.items.items c.self.invariant.1,
+invariant_of-self c = (
+  rw c.forget_all.ensures.forgotten (c.after_commands.ensures c.self.inside.items.items (subst (λ sum. IsSumIfKnown sum c.self.inside.items.items) (sym c.take.ensures.value) c.self.invariant.0)),
+  c.forget_all.ensures.rising,
 )

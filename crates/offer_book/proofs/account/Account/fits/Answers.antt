@@ -11,13 +11,13 @@ returns-then-not-cover_part c =
     let fails : false ≡ covers a.total c.args.more.now = rw c.in_ok-rest.ensures at c.if-not-cover_part.ensures.covered in
     first_fails a.total c.args.more.now (taken a) c.rows-ordered.ensures.ordered fails
 
-pub returns-then-not-cover_offers : goal.returns-then-not-cover_offers
-returns-then-not-cover_offers c =
+pub returns-then-not-cover_offered : goal.returns-then-not-cover_offered
+returns-then-not-cover_offered c =
     let a = c.args.self.now in
     let rest = c.cover_part.new.rest in
     let covered : true ≡ covers a.total c.args.more.now = rw c.in_ok-rest.ensures at c.if-not-cover_part.ensures.covered in
     let rest_is : rest ≡ rest_of a.total c.args.more.now = rw c.in_ok-rest.ensures at c.if-not-cover_part.ensures.rest in
-    let fails : false ≡ covers rest (offer_rows a.offers) = rw c.as_slice.ensures at c.if-not-cover_offers.ensures.covered in
+    let fails : false ≡ covers rest (offer_rows a.offers) = c.if-not-cover_offered.ensures.covered in
     first_fails rest (offer_rows a.offers) (job_rows (unended a.booked)) c.if-not-cover_part.ensures.rows fails
     ∙ second_decides a.total c.args.more.now (taken a) rest c.rows-ordered.ensures.ordered covered rest_is
 
@@ -25,11 +25,11 @@ pub returns : goal.returns
 returns c =
     let a = c.args.self.now in
     let rest = c.cover_part.new.rest in
-    let behind = c.cover_offers.new.rest in
+    let behind = c.cover_offered.new.rest in
     let covered : true ≡ covers a.total c.args.more.now = rw c.in_ok-rest.ensures at c.if-not-cover_part.ensures.covered in
     let rest_is : rest ≡ rest_of a.total c.args.more.now = rw c.in_ok-rest.ensures at c.if-not-cover_part.ensures.rest in
-    let covered_too : true ≡ covers rest (offer_rows a.offers) = rw c.as_slice.ensures at c.if-not-cover_offers.ensures.covered in
-    let behind_is : behind ≡ rest_of rest (offer_rows a.offers) = rw c.as_slice.ensures at c.if-not-cover_offers.ensures.rest in
+    let covered_too : true ≡ covers rest (offer_rows a.offers) = c.if-not-cover_offered.ensures.covered in
+    let behind_is : behind ≡ rest_of rest (offer_rows a.offers) = c.if-not-cover_offered.ensures.rest in
     let last : c.cover_booked.result ≡ covers behind (job_rows (unended a.booked)) = c.cover_booked.ensures in
     last
     ∙ (second_decides rest (offer_rows a.offers) (job_rows (unended a.booked)) behind c.if-not-cover_part.ensures.rows covered_too behind_is

@@ -10,5 +10,5 @@ returns c =
     let a = c.args.self.now in
     let rest : c.take_booked.new.rest ≡ free a =
     c.take_booked.ensures
-    ∙ rw (c.take_offers.ensures.rest, c.as_slice.ensures, c.in_ok-rest.ensures) (rests_join a.total (offer_rows a.offers) (job_rows (unended a.booked))) in
+    ∙ rw (c.take_offered.ensures.rest, c.in_ok-rest.ensures) (rests_join a.total (offer_rows a.offers) (job_rows (unended a.booked))) in
     record { rest = rest; less = λ name. ap (amount name) rest ∙ amount-rest a.total (taken a) c.rows-ordered.ensures.ordered.ordered name }

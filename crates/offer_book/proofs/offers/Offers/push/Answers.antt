@@ -1,5 +1,4 @@
-use Rattle.offer_book.proofs.Within.{within_more, within_wider}
 use Rattle.offer_book.proofs.offers.Offers.push.Goals as goal
 
 pub invariant_of-self-2 : goal.invariant_of-self-2
-invariant_of-self-2 c = rw c.in_ok-push.ensures.items (within_more c.raised-bound.result c.self.inside.items.items c.args.offer (within_wider c.self.inside.bound c.raised-bound.result c.raised-bound.ensures.kept c.self.inside.items.items c.self.invariant) c.raised-bound.ensures.within)
+invariant_of-self-2 c = rw c.in_ok-push.ensures.items (rw c.deref.ensures.value at c.sum_with-sum.ensures, rw c.deref-2.ensures.value at c.goes_on_rising-are_rising.ensures)
