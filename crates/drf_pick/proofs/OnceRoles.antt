@@ -1,11 +1,10 @@
 -- Sums of roles of which none stands twice.
-use Rattle.std.proofs.Common.{◌≡◌, ℕ, zero, suc, ◌<◌, Bool, true, false, cond, List, [], ◌∷◌, ◌++◌, length, get_or, Option, Some, None, refl, sym, ap, ◌∙◌, arith, bytes_eq}
+use Rattle.std.proofs.Common.{◌≡◌, ℕ, zero, suc, ◌<◌, Bool, true, false, cond, List, [], ◌∷◌, ◌++◌, length, get_or, Some, None, refl, sym, ap, ◌∙◌, arith, bytes_eq}
 use Rattle.std.specs.List.{position, position_or_len, find}
 use Rattle.std.proofs.lemmas.List.Sums.{position_or_len_is}
 use Rattle.std.proofs.lemmas.Bool.{true≢false, lt-ltb}
 use Rattle.std.proofs.lemmas.Slice.Eq.{bytes_eq-Decides}
-use Rattle.quantity.specs.declared.rows.Row.{Row}
-use Rattle.drf_pick.specs.Shares.{Holder, RoleSum, RolesOnce, is_role, at_first, given_roles, returned_roles, role_holding, role_returning, role_sum_of, roles_with, weighed_roles, weighing}
+use Rattle.drf_pick.specs.Shares.{RoleSum, RolesOnce, is_role, at_first}
 use Rattle.drf_pick.proofs.Once.{none_here}
 
 same_name : (a b name : List ℕ) → bytes_eq a name ≡ true → bytes_eq b name ≡ true → bytes_eq b a ≡ true
@@ -57,13 +56,6 @@ push_once (g ∷ rs) r once none =
     let n = head_none r.role g rs none in
     (find_none_push g.role rs r once.0 (not_same_name r.role g.role n.0), push_once rs r once.1 n.1)
 
-pub with_once : (name : List ℕ) (rs : List RoleSum) → RolesOnce rs → RolesOnce (roles_with name rs (find (is_role name) rs))
-with_once name rs once = by_case (find (is_role name) rs) refl
-  where
-    by_case : (o : Option RoleSum) → find (is_role name) rs ≡ o → RolesOnce (roles_with name rs o)
-    by_case None e = push_once rs (role_sum_of name) once e
-    by_case (Some r) e = once
-
 -- one of them holds another amount
 
 find_none_changed : (f t : List ℕ) (change : RoleSum → RoleSum) → ((r : RoleSum) → (change r).role ≡ r.role) → (rs : List RoleSum) → find (is_role f) rs ≡ None → find (is_role f) (at_first (is_role t) change rs) ≡ None
@@ -84,14 +76,3 @@ changed_once t change keeps (g ∷ rs) once = by_case (is_role t g) (changed_onc
     by_case : (b : Bool) → RolesOnce (at_first (is_role t) change rs) → RolesOnce (cond b (change g ∷ rs) (g ∷ at_first (is_role t) change rs))
     by_case true ih = (ap (λ (name : List ℕ). find (is_role name) rs) (keeps g) ∙ once.0, once.1)
     by_case false ih = (find_none_changed g.role t change keeps rs once.0, ih)
-
-pub given_once : (rows : List Row) (o : Option Holder) (rs : List RoleSum) → RolesOnce rs → RolesOnce (given_roles rows o rs)
-given_once rows None rs once = once
-given_once rows (Some h) rs once = changed_once h.role (role_holding rows) (λ r. refl) rs once
-
-pub returned_once : (rows : List Row) (o : Option Holder) (rs : List RoleSum) → RolesOnce rs → RolesOnce (returned_roles rows o rs)
-returned_once rows None rs once = once
-returned_once rows (Some h) rs once = changed_once h.role (role_returning rows) (λ r. refl) rs once
-
-pub weighed_once : (name : List ℕ) (weight : ℕ) (rs : List RoleSum) → RolesOnce rs → RolesOnce (weighed_roles name weight rs)
-weighed_once name weight rs once = changed_once name (weighing weight) (λ r. refl) (roles_with name rs (find (is_role name) rs)) (with_once name rs once)

@@ -1,15 +1,14 @@
 -- What is picked stands least of the clients.
 use Rattle.std.proofs.Common.{◌≡◌, Bool, true, false, not, ◌&&◌, ◌||◌, cond, List, [], ◌∷◌, map, Option, Some, None, refl, sym, ap, ◌∙◌, subst, inl, inr, ◌⊎◌}
-use Rattle.std.specs.Prelude.{IfNone, IfSome, MatchBool, MatchOption, bytes_eq, option_map}
+use Rattle.std.specs.Prelude.{MatchBool, MatchOption, bytes_eq, option_map}
 use Rattle.std.specs.List.{fold}
 use Rattle.std.proofs.lemmas.Bool.{false≢true, true≢false}
 use Rattle.cluster_model.specs.Ids.{before, bytes_before}
 use Rattle.cluster_model.specs.Rounds.{Share, share, stands_at_most_at, stands_first}
 use Rattle.quantity.specs.declared.rows.Row.{Row}
-use Rattle.names_core.specs.Ids.{Numbered}
-use Rattle.drf_pick.specs.Shares.{AreWeighed, Holder, Tally}
+use Rattle.drf_pick.specs.Shares.{Holder, Tally}
 use Rattle.drf_pick.specs.Least.{Client, IsPicked, StandsBy, StandsLeast, better, better_client, client_holder, comes_before, role_share}
-use Rattle.drf_pick.specs.Laws.{ArePositive, IsLeast}
+use Rattle.drf_pick.specs.Laws.{IsLeast}
 use Rattle.drf_pick.specs.Orders.{Among}
 use Rattle.drf_pick.proofs.Picks.{Sound, alone, of_role, picks_least}
 use Rattle.drf_pick.proofs.Standing.{standing_is_order}

@@ -1,6 +1,6 @@
 -- Shares that start anew.
-use Rattle.std.proofs.Common.{◌≡◌, ℕ, zero, suc, ◌+◌, ◌<◌, Bool, true, false, cond, not, List, [], ◌∷◌, map, length, set, Option, Some, None, refl, ap, ◌∙◌, arith, bytes_eq}
-use Rattle.std.specs.List.{AllByRecursion, find, position, position_or_len}
+use Rattle.std.proofs.Common.{◌≡◌, ℕ, zero, suc, ◌+◌, ◌<◌, Bool, true, false, cond, not, List, [], ◌∷◌, map, length, set, Option, Some, None, refl, ap}
+use Rattle.std.specs.List.{AllByRecursion, find, position_or_len}
 use Rattle.names_core.specs.Ids.{Numbered}
 use Rattle.role_weights.specs.Weights.{RoleWeight}
 use Rattle.cluster_model.specs.Ids.{before}

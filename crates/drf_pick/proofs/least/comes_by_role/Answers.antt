@@ -1,4 +1,4 @@
-use Rattle.std.proofs.Common.{◌≡◌, true, false, not, ap, sym, subst, ◌∙◌}
+use Rattle.std.proofs.Common.{◌≡◌, not, ap, sym, subst, ◌∙◌}
 use Rattle.cluster_model.specs.Ids.{bytes_before}
 use Rattle.cluster_model.specs.Rounds.{Share}
 use Rattle.share_sums.specs.Dominant.{is_at_most}

@@ -1,4 +1,4 @@
-use Rattle.std.proofs.Common.{◌≡◌, ap, sym, ◌∙◌, refl, Err}
+use Rattle.std.proofs.Common.{◌≡◌, ap, sym, ◌∙◌, Err}
 use Rattle.quantity.specs.Rows.{rest_of}
 use Rattle.drf_pick.specs.Shares.{RoleSum, is_role, role_returning}
 use Rattle.share_sums.specs.declared.fault.SharesFault.{SharesFault}

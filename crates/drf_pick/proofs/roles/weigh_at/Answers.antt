@@ -1,4 +1,4 @@
-use Rattle.std.proofs.Common.{sym, ◌∙◌}
+use Rattle.std.proofs.Common.{sym}
 use Rattle.drf_pick.specs.Shares.{is_role, weighing}
 use Rattle.drf_pick.proofs.Places.{first_at}
 use Rattle.drf_pick.proofs.roles.weigh_at.Goals as goal

@@ -1,5 +1,5 @@
-use Rattle.std.proofs.Common.{◌≤◌, List, length, map, ap, sym, subst, ◌∙◌, refl, arith}
-use Rattle.drf_pick.specs.Shares.{AreUpTo, Holder, HoldersOnce, RoleSum, emptied, reweighed}
+use Rattle.std.proofs.Common.{◌≤◌, List, length, sym, subst, ◌∙◌, arith}
+use Rattle.drf_pick.specs.Shares.{AreUpTo, Holder, HoldersOnce, RoleSum}
 use Rattle.drf_pick.specs.Fractions.{OfHolders, OfRoles, holder_held, role_held}
 use Rattle.drf_pick.proofs.KeptShares.{room}
 use Rattle.drf_pick.proofs.Restarting.{emptied_once, emptied_up_to, same_many, same_many_roles}

@@ -1,4 +1,4 @@
-use Rattle.std.proofs.Common.{◌≡◌, ℕ, List, length, subst, sym, arith}
+use Rattle.std.proofs.Common.{◌≡◌, ℕ, List, length, subst, sym}
 use Rattle.drf_pick.specs.Shares.{RoleSum, weighed_roles}
 use Rattle.drf_pick.specs.Fractions.{OfRoles, role_held}
 use Rattle.drf_pick.proofs.KeptShares.{cut_to, kept_to}
