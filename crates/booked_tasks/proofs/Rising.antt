@@ -1,9 +1,10 @@
 -- Lists whose ids rise.
 use Rattle.std.proofs.Common.{◌≡◌, ℕ, zero, suc, ◌<◌, ◌≤◌, ◌+◌, ◌-◌, Bool, true, false, cond, ◌&&◌, nat_lt, List, [], ◌∷◌, ◌++◌, length, get_or, filter, map, Option, None, Some, refl, sym, ap, ◌∙◌, subst, arith}
 use Rattle.std.specs.Prelude.{◌==◌}
-use Rattle.std.specs.List.{AllByRecursion}
+use Rattle.std.specs.List.{AllByRecursion, list_any}
 use Rattle.std.specs.List.Sorted.{IsPartitionedBy, IsPartitionPoint}
 use Rattle.std.proofs.lemmas.Bool.Decides.{nat_tests}
+use Rattle.std.proofs.lemmas.List.{drop_all, take_all}
 use Rattle.names_core.specs.Ids.{Numbered}
 use Rattle.names_core.specs.States.{is_terminal}
 use Rattle.names_core.specs.declared.state.TaskState.{TaskState}
@@ -76,6 +77,19 @@ module _ {X : Type 0} (id : X → Numbered) where
       let back : last ≡ get_or (y ∷ xs) (length (y ∷ xs) - 1) last = subst (λ n. last ≡ get_or (x ∷ y ∷ xs) n last) e is in
       let rest : AllBefore id (y ∷ xs) this = all_before (y ∷ xs) this last are.1 (omega arith) back least in
       (before_trans (id x) (id y) this are.0.0 rest.0, rest)
+
+  none_among : (this : Numbered) (xs : List X) → AllBefore id xs this → list_any (λ x. same (id x) this) xs ≡ false
+  none_among this [] all = refl
+  none_among this (x ∷ xs) all = rw (earlier_differs (id x) this all.0) (none_among this xs all.1)
+
+  -- behind the last one none has this id
+  pub spans_none : (this : Numbered) (xs : List X) (n : ℕ) → AllBefore id xs this → n ≡ length xs → IsSpan (λ x. same (id x) this) xs n n
+  spans_none this xs n all is = record {
+    rises = omega arith;
+    within = omega (arith, is);
+    none_before = ap (list_any (λ x. same (id x) this)) (take_all n xs (omega (arith, is))) ∙ none_among this xs all;
+    none_behind = ap (list_any (λ x. same (id x) this)) (drop_all n xs (omega (arith, is)));
+  }
 
   behind_more : (first : Numbered) (xs : List X) (x : X) → AllBehind first xs → before first (id x) ≡ true → AllBehind first (xs ++ x ∷ [])
   behind_more first [] x are is = (is, tt)

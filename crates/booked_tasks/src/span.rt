@@ -1,7 +1,7 @@
 //! Where the tasks of a launch key stand.
 
-ghost use Rattle.std.specs.Prelude.{◌++◌, ◌∷◌, []};
-ghost use Rattle.booked_tasks.specs.Spans.{AreRisingBy, AreRisingIfTold, IsSpan, key_of};
+ghost use Rattle.std.specs.Prelude.{◌≡◌, ◌++◌, ◌∷◌, [], true};
+ghost use Rattle.booked_tasks.specs.Spans.{AllBefore, AreRisingBy, AreRisingIfTold, IsSpan, key_of};
 ghost use Rattle.booked_tasks.specs.Tasks.{has_key};
 
 use crate::ids::is_before;
@@ -13,6 +13,17 @@ use names_core::LaunchKey;
 pub(crate) struct Span {
     pub from: usize,
     pub to: usize,
+}
+
+/// Whether each task's key is before this one, as it is where that is new.
+fn is_behind_all(tasks: &[Booked], key: LaunchKey) -> bool
+    requires { AreRisingBy key_of tasks.now }
+    ensures { result ≡ true → AllBefore key_of tasks.now key }
+{
+    match tasks.last() {
+        None => true,
+        Some(last) => is_before(last.job.key, key),
+    }
 }
 
 fn found_by_halving(tasks: &[Booked], key: LaunchKey) -> Span
@@ -29,14 +40,14 @@ pub(crate) fn span_of(tasks: &[Booked], are_rising: bool, key: LaunchKey) -> Spa
     requires { AreRisingIfTold are_rising tasks.now }
     ensures { IsSpan (has_key key) tasks.now result.from result.to }
 {
-    if are_rising {
-        found_by_halving(tasks, key)
-    } else {
-        Span {
-            from: 0,
-            to: tasks.len(),
-        }
+    let len = tasks.len();
+    if !are_rising {
+        return Span { from: 0, to: len };
     }
+    if is_behind_all(tasks, key) {
+        return Span { from: len, to: len };
+    }
+    found_by_halving(tasks, key)
 }
 
 /// Whether it is known that keys rise with one task more, the last.

@@ -5,9 +5,9 @@ use Rattle.std.specs.List.{find}
 use Rattle.names_core.specs.Ids.{Numbered}
 use Rattle.quantity.specs.declared.rows.Row.{Row}
 use Rattle.share_sums.specs.Dominant.{Part, nothing}
-use Rattle.drf_pick.specs.Shares.{Holder, RoleSum, given_holders, given_roles, holding, is_holder, is_role, returned_holders, returned_roles, returning, role_holding, role_returning, role_sum_of, roles_with, weighed_roles, weighing}
+use Rattle.drf_pick.specs.Shares.{Holder, RoleSum, Tally, given_holders, given_roles, holder_of, holding, is_holder, is_role, returned_holders, returned_roles, returning, role_holding, role_returning, role_sum_of, roles_with, weighed_roles, weighing, with_holder, with_role}
 use Rattle.drf_pick.specs.Fractions.{OfHolders, OfOthers, OfRoles, OfRolesBut, holder_held, role_held}
-use Rattle.drf_pick.proofs.KeptShares.{found_changed, held_same, kept, one_more, others}
+use Rattle.drf_pick.proofs.KeptShares.{found_changed, held_same, kept, kept_to, more_to, one_more, others}
 
 pub given_others : (f : Numbered) (rows t : List Row) (hs : List Holder) (fs : List Part) → OfHolders t hs fs → OfOthers f t (given_holders f rows hs) fs
 given_others f rows t hs fs all = others holder_held (is_holder f) (holding rows) t (λ h. refl) hs fs all
@@ -52,3 +52,19 @@ with_fraction_to name t rs fs now n all is have =
 pub weighed_fraction_to : (name : List ℕ) (weight : ℕ) (t : List Row) (rs : List RoleSum) (fs now : List Part) (n : ℕ) → n ≡ length rs → now ≡ take n fs ++ nothing ∷ [] → OfRoles t rs fs → OfRoles t (weighed_roles name weight rs) now
 weighed_fraction_to name weight t rs fs now n all is have =
     subst (OfRoles t (weighed_roles name weight rs)) (sym (is ∙ ap (λ (k : ℕ). take k fs ++ nothing ∷ []) all)) (weighed_fraction name weight t rs fs have)
+
+-- a framework's role is told: it is known already, or holds nothing
+
+pub known_holders : (f : Numbered) (role : List ℕ) (t : Tally) (fs now : List Part) (n : ℕ) → n ≡ length t.holders → now ≡ take n fs ++ nothing ∷ [] → OfHolders t.totals t.holders fs → OfHolders (with_role f role t).totals (with_role f role t).holders now
+known_holders f role t fs now n all is have = by_case (find (is_holder f) t.holders)
+  where
+    by_case : (o : Option Holder) → OfHolders (with_holder f role t o).totals (with_holder f role t o).holders now
+    by_case None = more_to holder_held t.totals t.holders (holder_of f role) fs now n refl all is have
+    by_case (Some h) = kept_to holder_held t.totals t.holders fs now n all is have
+
+pub known_roles : (f : Numbered) (role : List ℕ) (t : Tally) (fs now : List Part) (n : ℕ) → n ≡ length t.roles → now ≡ take n fs ++ nothing ∷ [] → OfRoles t.totals t.roles fs → OfRoles (with_role f role t).totals (with_role f role t).roles now
+known_roles f role t fs now n all is have = by_case (find (is_holder f) t.holders)
+  where
+    by_case : (o : Option Holder) → OfRoles (with_holder f role t o).totals (with_holder f role t o).roles now
+    by_case None = with_fraction_to role t.totals t.roles fs now n all is have
+    by_case (Some h) = kept_to role_held t.totals t.roles fs now n all is have

@@ -156,6 +156,6 @@ table_pushed place_of now name rs count all none is table = (
 )
 
 -- behind a step that may fail and then changes nothing
-pub either : {T E : Type 0} (r : Result T E) (P : List RoleSum → Type 0) (before after changed : List RoleSum) → OnOk r (after ≡ changed) → OnErr r (after ≡ before) → P before → P changed → P after
+pub either : {X T E : Type 0} (r : Result T E) (P : List X → Type 0) (before after changed : List X) → OnOk r (after ≡ changed) → OnErr r (after ≡ before) → P before → P changed → P after
 either (Ok x) P before after changed ok err old new = subst P (sym ok) new
 either (Err e) P before after changed ok err old new = subst P (sym err) old

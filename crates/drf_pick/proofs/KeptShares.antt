@@ -51,13 +51,14 @@ stands {X} test xs i at = by_item (found_at test xs i at)
           earlier = λ k below. (position-Some test xs i (get_or xs i x.0) at).2 k below;
         }
 
--- each made anew, one after another
-pub renewed : {X : Type 0} (held : X → List Row) (t : List Row) (xs : List X) (fs : List Part) (i : ℕ) (x : X) (f : Part) → AreDominant held t (take i xs) fs → i < length xs → length xs ≤ length fs → x ≡ get_or xs i x → IsDominant t (held x) f
-    → AreDominant held t (take (suc i) xs) (set fs i f)
-renewed held t [] fs i x f all within fits is d = absurd (omega arith)
-renewed held t (y ∷ ys) [] i x f all within fits is d = absurd (omega arith)
-renewed {X} held t (y ∷ ys) (g ∷ gs) zero x f all within fits is d = (subst (λ (z : X). IsDominant t (held z) f) is d, tt)
-renewed held t (y ∷ ys) (g ∷ gs) (suc i) x f all within fits is d = (all.0, renewed held t ys gs i x f all.1 (omega arith) (omega arith) is d)
+-- the one behind those so far
+pub pushed : {X : Type 0} (held : X → List Row) (t : List Row) (xs : List X) (fs : List Part) (i : ℕ) (x : X) (f : Part) → AreDominant held t (take i xs) fs → length fs ≡ i → i < length xs → x ≡ get_or xs i x → IsDominant t (held x) f
+    → AreDominant held t (take (suc i) xs) (fs ++ f ∷ [])
+pushed held t [] fs i x f all count within is d = absurd (omega arith)
+pushed {X} held t (y ∷ ys) [] zero x f all count within is d = (subst (λ (z : X). IsDominant t (held z) f) is d, tt)
+pushed held t (y ∷ ys) (g ∷ gs) zero x f all count within is d = absurd (omega (arith, count))
+pushed held t (y ∷ ys) [] (suc i) x f all count within is d = absurd (omega (arith, count))
+pushed held t (y ∷ ys) (g ∷ gs) (suc i) x f all count within is d = (all.0, pushed held t ys gs i x f all.1 (omega (arith, count)) (omega arith) is d)
 
 -- one more that holds nothing
 

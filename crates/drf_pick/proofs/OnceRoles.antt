@@ -1,11 +1,14 @@
 -- Sums of roles of which none stands twice.
-use Rattle.std.proofs.Common.{◌≡◌, ℕ, zero, suc, ◌<◌, Bool, true, false, cond, List, [], ◌∷◌, ◌++◌, length, get_or, Some, None, refl, sym, ap, ◌∙◌, arith, bytes_eq}
+use Rattle.std.proofs.Common.{◌≡◌, ℕ, zero, suc, ◌<◌, Bool, true, false, cond, nat_eq, List, [], ◌∷◌, ◌++◌, length, get_or, Some, None, refl, sym, ap, ◌∙◌, arith, bytes_eq}
 use Rattle.std.specs.List.{position, position_or_len, find}
+use Rattle.std.proofs.lemmas.List.Quantifiers.{position-Some}
 use Rattle.std.proofs.lemmas.List.Sums.{position_or_len_is}
 use Rattle.std.proofs.lemmas.Bool.{true≢false, lt-ltb}
+use Rattle.std.proofs.lemmas.Bool.Decides.{nat_tests}
 use Rattle.std.proofs.lemmas.Slice.Eq.{bytes_eq-Decides}
 use Rattle.drf_pick.specs.Shares.{RoleSum, RolesOnce, is_role, at_first}
 use Rattle.drf_pick.proofs.Once.{none_here}
+use Rattle.drf_pick.proofs.Places.{found_at}
 
 same_name : (a b name : List ℕ) → bytes_eq a name ≡ true → bytes_eq b name ≡ true → bytes_eq b a ≡ true
 same_name a b name h k = (bytes_eq-Decides b a).1 ((bytes_eq-Decides b name).0 k ∙ sym ((bytes_eq-Decides a name).0 h))
@@ -25,6 +28,29 @@ pub placed_role : (name : List ℕ) (rs : List RoleSum) (i : ℕ) (r : RoleSum) 
 placed_role name rs i r once within is passes =
     let at : position_or_len (is_role name) rs ≡ i = position_or_len_is (is_role name) rs i r (omega arith) (earlier name rs i r once within is passes) (λ w. ap (is_role name) (sym is) ∙ passes) in
     rw (at, lt-ltb i (length rs) within) refl
+
+is_same : (i j : ℕ) → nat_eq i j ≡ true → i ≡ j
+is_same i j e = grind (arith, nat_tests, e)
+
+itself : (i : ℕ) → nat_eq i i ≡ true
+itself i = grind (arith, nat_tests)
+
+-- two names have one place just if they are one
+pub same_place : (name other : List ℕ) (rs : List RoleSum) (i j : ℕ) → position (is_role name) rs ≡ Some i → position (is_role other) rs ≡ Some j → nat_eq i j ≡ bytes_eq name other
+same_place name other rs i j at its = by_case (nat_eq i j) refl (bytes_eq name other) refl
+  where
+    by_case : (b : Bool) → nat_eq i j ≡ b → (d : Bool) → bytes_eq name other ≡ d → b ≡ d
+    by_case true e true h = refl
+    by_case false e false h = refl
+    by_case true e false h =
+        let found = found_at (is_role name) rs i at in
+        let p = position-Some (is_role name) rs i found.0 at in
+        let q = position-Some (is_role other) rs j found.0 its in
+        let here : is_role other (get_or rs i found.0) ≡ true = ap (λ (n : ℕ). is_role other (get_or rs n found.0)) (is_same i j e) ∙ q.1 in
+        absurd (true≢false (sym ((bytes_eq-Decides name other).1 (sym ((bytes_eq-Decides (get_or rs i found.0).role name).0 p.1) ∙ (bytes_eq-Decides (get_or rs i found.0).role other).0 here)) ∙ h))
+    by_case false e true h =
+        let same : Some i ≡ Some j = sym at ∙ (ap (λ (n : List ℕ). position (is_role n) rs) ((bytes_eq-Decides name other).0 h) ∙ its) in
+        absurd (true≢false (sym (itself i) ∙ (ap (nat_eq i) (cc same) ∙ e)))
 
 -- one more
 

@@ -4,3 +4,4 @@ pub mod Places
 pub mod Least
 pub mod Orders
 pub mod Laws
+pub mod ClientShares

@@ -32,6 +32,10 @@ holding rows h = record h { held = summed h.held rows }
 abbrev pub role_holding : List Row → RoleSum → RoleSum
 role_holding rows r = record r { held = summed r.held rows }
 
+-- agents own this together
+abbrev pub with_totals : List Row → Tally → Tally
+with_totals totals t = record t { totals = totals }
+
 abbrev pub entered : List Row → Tally → Tally
 entered total t = record t { totals = summed t.totals total }
 

@@ -1,15 +1,18 @@
 //! The framework that stands least.
 
-ghost use Rattle.std.specs.Prelude.{◌≡◌, [], None, fold, IfNone, IfSome};
+ghost use Rattle.std.specs.Prelude.{◌≡◌, [], None, fold, IfNone, IfSome, bytes_eq};
+ghost use Rattle.std.specs.List.{position};
 ghost use Rattle.std.specs.Option.{option_copied};
 ghost use Rattle.cluster_model.specs.Ids.{bytes_before};
 ghost use Rattle.share_sums.specs.Dominant.{IsDominant};
 ghost use Rattle.drf_pick.specs.Laws.{ArePositive};
-ghost use Rattle.drf_pick.specs.Shares.{AreWeighed};
-ghost use Rattle.drf_pick.specs.Least.{IsPicked, better_client, comes_before, comes_by_role, comes_within_role, held_by, holder_for, role_share};
+ghost use Rattle.drf_pick.specs.Shares.{AreWeighed, is_role};
+ghost use Rattle.drf_pick.specs.Least.{IsPicked, better_client, comes_before, comes_by_role, comes_within_role, held_by, holder_for};
+ghost use Rattle.drf_pick.specs.ClientShares.{IsRoleShare, IsClientShare};
 
+use crate::client_share::{ClientShare, RoleShare};
 use crate::holder::{Client, is_before};
-use crate::shares::{Shares, guess_at, holder_near};
+use crate::shares::Shares;
 use names_core::{FrameworkId, RoleName};
 use share_sums::Fraction;
 
@@ -19,115 +22,123 @@ fn is_name_before(name: &RoleName, other: &RoleName) -> bool
     name.as_text().cmp(other.as_text()).is_lt()
 }
 
-/// A framework's fraction; nothing where no role was told of it.
-/// It is likely to stand at this place.
-fn fraction_of(shares: &Shares, guess: usize, framework: FrameworkId) -> Fraction
-    ensures { IsDominant shares.now.totals (held_by shares.now framework) result }
-{
-    match holder_near(&shares.holders, guess, framework) {
-        Some(place) => shares.fractions[place],
-        None => Fraction::nothing(),
-    }
-}
-
-/// A role's fraction, and its weight; nothing and 1 where it isn't known.
-/// It is likely to stand at this place.
-fn weighed_fraction_of(shares: &Shares, guess: usize, role: &RoleName) -> (Fraction, u16)
-    ensures fraction { IsDominant shares.now.totals (role_share shares.now.roles role.now).held
-        result.0 }
-    ensures weight { result.1 ≡ (role_share shares.now.roles role.now).weight }
-{
-    let sums = shares.roles.as_slice();
-    match shares.roles.place(guess, role) {
-        Some(place) => (shares.role_fractions[place], sums[place].weight),
-        None => (Fraction::nothing(), 1),
-    }
-}
-
 /// Whether the first framework is served rather than the second, which is of the same role.
 fn comes_within_role(
     shares: &Shares,
     first: FrameworkId,
-    first_place: usize,
+    one: Fraction,
     second: FrameworkId,
-    second_place: usize,
+    other: Fraction,
 ) -> bool
+    requires one { IsDominant shares.now.totals (held_by shares.now first) one }
+    requires other { IsDominant shares.now.totals (held_by shares.now second) other }
     ensures { result ≡ comes_within_role shares.now first second }
 {
-    let _ordered = shares.totals.rows();
-    let one = fraction_of(shares, first_place, first);
-    let other = fraction_of(shares, second_place, second);
+    let _ordered = shares.holdings.totals().rows();
     one.is_at_most(1, other, 1) && (!other.is_at_most(1, one, 1) || is_before(first, second))
 }
 
 /// Whether the frameworks of the first role are served rather than those of the second,
-/// which is another. The roles are likely to stand at these places.
+/// which is another.
 fn comes_by_role(
     shares: &Shares,
     first: &RoleName,
-    first_guess: usize,
+    one: RoleShare,
     second: &RoleName,
-    second_guess: usize,
+    other: RoleShare,
 ) -> bool
+    requires one { IsRoleShare shares.now first.now one }
+    requires other { IsRoleShare shares.now second.now other }
     ensures { result ≡ comes_by_role shares.now first.now second.now }
 {
-    let _ordered = shares.totals.rows();
-    let (one, weight) = weighed_fraction_of(shares, first_guess, first);
-    let (other, other_weight) = weighed_fraction_of(shares, second_guess, second);
-    one.is_at_most(weight, other, other_weight)
-        && (!other.is_at_most(other_weight, one, weight) || is_name_before(first, second))
+    let _ordered = shares.holdings.totals().rows();
+    one.fraction
+        .is_at_most(one.weight, other.fraction, other.weight)
+        && (!other
+            .fraction
+            .is_at_most(other.weight, one.fraction, one.weight)
+            || is_name_before(first, second))
+}
+
+/// Whether two roles are one, where each has its place among these if it is known.
+fn is_same_role(
+    shares: &Shares,
+    first: &RoleName,
+    one: Option<usize>,
+    second: &RoleName,
+    other: Option<usize>,
+) -> bool
+    requires one { one ≡ position (is_role first.now) shares.now.roles }
+    requires other { other ≡ position (is_role second.now) shares.now.roles }
+    ensures { result ≡ bytes_eq first.now second.now }
+{
+    if let Some(place) = one {
+        if let Some(other_place) = other {
+            return place == other_place;
+        }
+    }
+    first.is(second)
 }
 
 /// Whether the first framework is served rather than the second, each of its role: by their roles,
-/// and within a role by themselves. `first_place` and `second_place` say where they are likely to
-/// stand among those that a role was told of, in that order, from 0; it goes faster where they do,
-/// and no answer hangs on it. It takes no memory.
+/// and within a role by themselves. `one` and `other` are their shares. It takes no memory.
 pub fn comes_before(
     shares: &Shares,
     first: FrameworkId,
     first_role: &RoleName,
-    first_place: usize,
+    one: &ClientShare,
     second: FrameworkId,
     second_role: &RoleName,
-    second_place: usize,
+    other: &ClientShare,
 ) -> bool
+    requires one { IsClientShare shares.now first first_role.now one.now }
+    requires other { IsClientShare shares.now second second_role.now other.now }
     ensures { result ≡ comes_before shares.now (holder_for shares.now first first_role.now)
         (holder_for shares.now second second_role.now) }
 {
-    if first_role.is(second_role) {
-        return comes_within_role(shares, first, first_place, second, second_place);
+    if is_same_role(
+        shares,
+        first_role,
+        one.role.place,
+        second_role,
+        other.role.place,
+    ) {
+        return comes_within_role(shares, first, one.own, second, other.own);
     }
-    let first_guess = guess_at(&shares.role_places, first_place);
-    let second_guess = guess_at(&shares.role_places, second_place);
-    comes_by_role(shares, first_role, first_guess, second_role, second_guess)
+    comes_by_role(shares, first_role, one.role, second_role, other.role)
 }
 
-/// The better one of the best so far and a client.
-/// `best_place` and `place` say where the two are likely to stand.
+/// The better one of the best so far and a client, with its shares.
+/// `place` says where the client is likely to stand.
 fn better_client<'a>(
     shares: &Shares,
     best: Option<&'a Client>,
-    best_place: &mut usize,
+    best_share: &mut ClientShare,
     client: &'a Client,
     place: usize,
 ) -> Option<&'a Client>
-    ensures { option_copied result ≡ better_client shares.now (option_copied best.entry)
+    requires { IfSome (option_copied best) (λ b. IsClientShare shares.now b.framework b.role
+        best_share.old) }
+    ensures better { option_copied result ≡ better_client shares.now (option_copied best.entry)
         client.entry.now }
+    ensures share { IfSome (option_copied result) (λ b. IsClientShare shares.now b.framework b.role
+        best_share.new) }
 {
+    let share = ClientShare::of(shares, client.framework, &client.role, place);
     let Some(other) = best else {
-        *best_place = place;
+        *best_share = share;
         return Some(client);
     };
     if comes_before(
         shares,
         client.framework,
         &client.role,
-        place,
+        &share,
         other.framework,
         &other.role,
-        *best_place,
+        best_share,
     ) {
-        *best_place = place;
+        *best_share = share;
         Some(client)
     } else {
         best
@@ -138,9 +149,9 @@ fn best_of<'a>(shares: &Shares, clients: &'a [Client]) -> Option<&'a Client>
     ensures { option_copied result ≡ fold (better_client shares.now) None clients.entry.now }
 {
     let mut best = None;
-    let mut best_place = 0;
+    let mut share = ClientShare::nothing();
     for place in 0..clients.len() {
-        best = better_client(shares, best, &mut best_place, &clients[place], place);
+        best = better_client(shares, best, &mut share, &clients[place], place);
     }
     best
 }
@@ -150,8 +161,8 @@ fn are_sound(shares: &Shares)
     ensures positive { ArePositive shares.now.totals }
     ensures weighed { AreWeighed shares.now.roles }
 {
-    let _totals = shares.totals.rows();
-    let _roles = shares.roles.as_slice();
+    let _totals = shares.holdings.totals().rows();
+    let _roles = shares.holdings.roles().as_slice();
 }
 
 /// The client that stands least: its role stands at most at each other's, ties by the roles' names,

@@ -1,14 +1,18 @@
 //! Which framework stands least, by dominant shares (DRF paper, section 4).
 #![tactic(auto)]
 
+mod client_share;
 mod fractions;
 mod holder;
+mod holdings;
 mod laws;
 mod least;
 mod roles;
 mod shares;
 
+pub use client_share::ClientShare;
 pub use holder::{Client, Holder, RoleSum};
+pub use holdings::Holdings;
 pub use laws::{amounts_decide, picks_least, standing_is_order, sums_add, test_is_relation};
 pub use least::{comes_before, pick};
 pub use share_sums::{SharesFault, Sum};

@@ -49,6 +49,10 @@ fn give_at(
         ≡ at_first (is_role role.now) (role_holding resources.now) sums.old.items) }
     ensures err { OnErr result (sums.new.items ≡ sums.old.items) }
 {
+    if sums[place].held.has_names_of(resources) {
+        sums[place].held.add(resources);
+        return Ok(());
+    }
     let held = sums[place].held.plus(alloc, resources)?;
     sums[place].held = held;
     Ok(())

@@ -1,298 +1,75 @@
-//! What frameworks and roles hold, and what all agents own.
+//! Dominant shares of what frameworks and roles hold.
 
-ghost use Rattle.std.specs.Prelude.{◌≡◌, ◌++◌, ◌∷◌, [], ℕ, List, map, true, false, Some, Err, OnOk, OnErr, IfErr, is_some};
-ghost use Rattle.std.specs.List.{find, position};
-ghost use Rattle.std.specs.Option.{option_copied};
+ghost use Rattle.std.specs.Prelude.{◌≡◌, [], true, false, Err, OnOk, OnErr, IfOk, IfErr};
+ghost use Rattle.std.specs.List.{find};
 ghost use Rattle.role_weights.specs.Weights.{IsWeight};
 ghost use Rattle.drf_pick.specs.Fractions.{OfHolders, OfOthers, OfOtherRoles, OfRoles, OfRolesBut};
-ghost use Rattle.drf_pick.specs.Shares.{AreUpTo, Holder, HoldersOnce, emptied, restarted, is_behind, is_holder, is_role, given_holders, given_roles, entered, given, holder_of, roles_with, weighed, with_role, can_leave, departed, holder_has, can_back, returned_holders, returned_roles, returned};
+ghost use Rattle.drf_pick.specs.Shares.{is_holder, entered, given, with_totals, weighed, with_role, can_leave, departed, can_back, returned};
 
-use crate::fractions::{keep_nothing, renew_all};
-use crate::holder::{Holder, is_before};
-use crate::roles::Roles;
+use crate::fractions::{keep_nothing, of_holders, of_roles};
+use crate::holdings::Holdings;
 use names_core::{FrameworkId, RoleName};
-use plain_data::Plain;
 use quantity::Resources;
-use role_weights::Weights;
 use share_sums::{Fraction, SharesFault, Sum};
 use std::alloc::{AllocError, Global};
 use std::marker::Model;
 
-/// The sum of what agents own, and the sums of what frameworks and roles hold of it.
+/// The sum of what agents own, and the sums of what frameworks and roles hold of it,
+/// with their dominant shares.
 #[derive(Drop)]
 pub struct Shares {
-    pub(crate) totals: Sum,
-    pub(crate) holders: Vec<Holder>,
+    pub(crate) holdings: Holdings,
     /// For each holder, at its place, its dominant share; there may be more behind them.
     pub(crate) fractions: Vec<Fraction>,
-    /// The last of the holders' frameworks, by their ids: one behind it is none of them.
-    last: Option<FrameworkId>,
-    pub(crate) roles: Roles,
     /// The same for each role.
     pub(crate) role_fractions: Vec<Fraction>,
-    /// For each holder the place of its role. It is tried first; no answer hangs on it.
-    pub(crate) role_places: Vec<usize>,
 }
 
 impl Model for Shares {
     ghost use Rattle.drf_pick.specs.Fractions.{OfHolders, OfRoles};
-    ghost use Rattle.drf_pick.specs.Shares.{AreUpTo, Tally, HoldersOnce};
+    ghost use Rattle.drf_pick.specs.Shares.{Tally};
 
     ghost Value = { Tally };
 
-    ghost view = { λ s. record { totals = s.totals; holders = s.holders.items; roles = s.roles } };
+    ghost view = { λ s. s.holdings };
 
-    ghost invariant = { λ s. ((OfHolders s.totals s.holders.items s.fractions.items
-        × OfRoles s.totals s.roles s.role_fractions.items) × AreUpTo s.last s.holders.items)
-        × HoldersOnce s.holders.items };
+    ghost invariant = { λ s. OfHolders s.holdings.totals s.holdings.holders s.fractions.items
+        × OfRoles s.holdings.totals s.holdings.roles s.role_fractions.items };
 }
 
-/// The place of a framework's holder.
-/// It is found at once where the holders stand in the order of their frameworks' ids.
-fn holder_place(holders: &[Holder], framework: FrameworkId) -> Option<usize>
-    requires { HoldersOnce holders.now }
-    ensures { result ≡ position (is_holder framework) holders.now }
+/// A role's fraction is made anew. It is likely to be that of the holder at a place.
+fn renew_role(fractions: &mut Vec<Fraction>, holdings: &Holdings, holder: usize, role: &RoleName)
+    requires { OfOtherRoles role.now holdings.now.totals holdings.now.roles fractions.old.items }
+    ensures { OfRoles holdings.now.totals holdings.now.roles fractions.new.items }
 {
-    let place = holders.partition_point(|holder| is_before(holder.framework, framework));
-    if place < holders.len() && holders[place].is_of(framework) {
-        return Some(place);
-    }
-    holders.iter().position(|holder| holder.is_of(framework))
-}
-
-/// Whether a framework is behind the last one.
-fn is_behind(last: Option<FrameworkId>, framework: FrameworkId) -> bool
-    ensures { result ≡ is_behind last framework }
-{
-    match last {
-        None => true,
-        Some(last) => is_before(last, framework),
-    }
-}
-
-/// The place of a framework's holder. It is found at once where the guess is right.
-pub(crate) fn holder_near(holders: &[Holder], guess: usize, framework: FrameworkId) -> Option<usize>
-    requires { HoldersOnce holders.now }
-    ensures { result ≡ position (is_holder framework) holders.now }
-{
-    if guess < holders.len() && holders[guess].is_of(framework) {
-        return Some(guess);
-    }
-    holder_place(holders, framework)
-}
-
-fn find_holder(holders: &[Holder], guess: usize, framework: FrameworkId) -> Option<&Holder>
-    requires { HoldersOnce holders.now }
-    ensures { option_copied result ≡ find (is_holder framework) holders.now }
-{
-    let place = holder_near(holders, guess, framework)?;
-    Some(&holders[place])
-}
-
-/// Whether one of these holders is the framework's. No holder is behind the last one.
-fn is_known(holders: &[Holder], last: Option<FrameworkId>, framework: FrameworkId) -> bool
-    requires once { HoldersOnce holders.now }
-    requires up_to { AreUpTo last holders.now }
-    ensures { result ≡ is_some (find (is_holder framework) holders.now) }
-{
-    if is_behind(last, framework) {
-        return false;
-    }
-    find_holder(holders, holders.len(), framework).is_some()
-}
-
-/// The last one, where this framework comes.
-fn later(last: Option<FrameworkId>, framework: FrameworkId) -> FrameworkId
-    ensures { (hs : List Holder) (role : List ℕ) → AreUpTo last hs
-        → AreUpTo (Some result) (hs ++ holder_of framework role ∷ []) }
-{
-    let Some(last) = last else {
-        return framework;
-    };
-    if is_before(last, framework) {
-        framework
-    } else {
-        last
-    }
-}
-
-/// Where the role of the holder at a place is likely to stand.
-pub(crate) fn guess_at(role_places: &[usize], place: usize) -> usize {
-    role_places.get(place).copied().unwrap_or(0)
-}
-
-fn give_in(
-    holders: &mut Vec<Holder>,
-    roles: &mut Roles,
-    role_places: &[usize],
-    alloc: Global,
-    framework: FrameworkId,
-    resources: &Resources,
-) -> Result<(), AllocError>
-    requires { HoldersOnce holders.old.items }
-    ensures holders { OnOk result (holders.new.items
-        ≡ given_holders framework resources.now holders.old.items) }
-    ensures roles { OnOk result (roles.new
-        ≡ given_roles resources.now (find (is_holder framework) holders.old.items)
-        roles.old) }
-    ensures err { OnErr result ((holders.new.items ≡ holders.old.items)
-        × (roles.new ≡ roles.old)) }
-{
-    let Some(place) = holder_place(holders, framework) else {
-        return Ok(());
-    };
-    let guess = guess_at(role_places, place);
-    let held = holders[place].held.plus(alloc, resources)?;
-    roles.give(alloc, guess, &holders[place].role, resources)?;
-    holders[place].held = held;
-    Ok(())
-}
-
-fn back_in(
-    holders: &mut Vec<Holder>,
-    roles: &mut Roles,
-    role_places: &[usize],
-    alloc: Global,
-    framework: FrameworkId,
-    resources: &Resources,
-) -> Result<(), SharesFault>
-    requires { HoldersOnce holders.old.items }
-    ensures holders { OnOk result (holders.new.items
-        ≡ returned_holders framework resources.now holders.old.items) }
-    ensures roles { OnOk result (roles.new
-        ≡ returned_roles resources.now (find (is_holder framework) holders.old.items)
-        roles.old) }
-    ensures covered { OnOk result
-        (holder_has resources.now roles.old (find (is_holder framework) holders.old.items)
-        ≡ true) }
-    ensures refused { result ≡ Err SharesFault.NotHeld
-        → holder_has resources.now roles.old (find (is_holder framework) holders.old.items)
-        ≡ false }
-    ensures err { OnErr result ((holders.new.items ≡ holders.old.items)
-        × (roles.new ≡ roles.old)) }
-{
-    let Some(place) = holder_place(holders, framework) else {
-        return Err(SharesFault::NotHeld);
-    };
-    let guess = guess_at(role_places, place);
-    match holders[place].held.minus(alloc, resources) {
-        Ok(held) => match roles.back(alloc, guess, &holders[place].role, resources) {
-            Ok(()) => {
-                holders[place].held = held;
-                Ok(())
-            }
-            Err(fault) => Err(fault),
-        },
-        Err(fault) => Err(fault),
-    }
-}
-
-/// A role's fraction is made anew.
-fn renew_role(
-    fractions: &mut Vec<Fraction>,
-    totals: &Sum,
-    roles: &Roles,
-    guess: usize,
-    role: &RoleName,
-)
-    requires { OfOtherRoles role.now totals.now roles.now fractions.old.items }
-    ensures { OfRoles totals.now roles.now fractions.new.items }
-{
-    let Some(place) = roles.place(guess, role) else {
+    let Some(place) = holdings.role_place(holder, role) else {
         return;
     };
-    let sums = roles.as_slice();
-    fractions[place] = Fraction::dominant(totals, &sums[place].held);
+    let sums = holdings.roles().as_slice();
+    fractions[place] = Fraction::dominant(holdings.totals(), &sums[place].held);
 }
 
 /// A framework's fraction and its role's are made anew.
 fn renew_of(
     fractions: &mut Vec<Fraction>,
     role_fractions: &mut Vec<Fraction>,
-    totals: &Sum,
-    holders: &[Holder],
-    roles: &Roles,
-    role_places: &[usize],
+    holdings: &Holdings,
     framework: FrameworkId,
 )
-    requires once { HoldersOnce holders.now }
-    requires holders { OfOthers framework totals.now holders.now fractions.old.items }
-    requires roles { OfRolesBut (find (is_holder framework) holders.now) totals.now roles.now
-        role_fractions.old.items }
-    ensures holders { OfHolders totals.now holders.now fractions.new.items }
-    ensures roles { OfRoles totals.now roles.now role_fractions.new.items }
+    requires holders { OfOthers framework holdings.now.totals holdings.now.holders
+        fractions.old.items }
+    requires roles { OfRolesBut (find (is_holder framework) holdings.now.holders)
+        holdings.now.totals holdings.now.roles role_fractions.old.items }
+    ensures holders { OfHolders holdings.now.totals holdings.now.holders fractions.new.items }
+    ensures roles { OfRoles holdings.now.totals holdings.now.roles role_fractions.new.items }
 {
-    let Some(place) = holder_place(holders, framework) else {
+    let holders = holdings.holders();
+    let Some(place) = holdings.place(holders.len(), framework) else {
         return;
     };
     let holder = &holders[place];
-    fractions[place] = Fraction::dominant(totals, &holder.held);
-    let guess = guess_at(role_places, place);
-    renew_role(role_fractions, totals, roles, guess, &holder.role);
-}
-
-fn empty_one(holder: &mut Holder, alloc: Global)
-    ensures { holder.new ≡ emptied holder.old }
-{
-    holder.held = Sum::new(alloc);
-}
-
-fn empty_all(holders: &mut Vec<Holder>, alloc: Global)
-    ensures { holders.new.items ≡ map emptied holders.old.items }
-{
-    for place in 0..holders.len() {
-        empty_one(&mut holders[place], alloc);
-    }
-}
-
-/// Where the role of the last holder is likely to stand.
-fn last_place(role_places: &[usize]) -> usize {
-    role_places.last().copied().unwrap_or(0)
-}
-
-/// There is room for the place of the role of the holder that comes next.
-fn make_room(role_places: &mut Vec<usize>, count: usize) -> Result<(), AllocError> {
-    if role_places.len() <= count {
-        role_places.push(0)?;
-    }
-    Ok(())
-}
-
-fn keep_place(role_places: &mut Vec<usize>, holder: usize, place: usize) {
-    if let Some(kept) = role_places.get_mut(holder) {
-        *kept = place;
-    }
-}
-
-fn add_holder(
-    holders: &mut Vec<Holder>,
-    roles: &mut Roles,
-    role_places: &mut Vec<usize>,
-    alloc: Global,
-    framework: FrameworkId,
-    role: &RoleName,
-) -> Result<(), AllocError>
-    ensures holders { OnOk result (holders.new.items ≡ holders.old.items
-        ++ holder_of framework role.now ∷ []) }
-    ensures roles { OnOk result (roles.new
-        ≡ roles_with role.now roles.old (find (is_role role.now) roles.old)) }
-    ensures err { OnErr result ((holders.new.items ≡ holders.old.items)
-        × (roles.new ≡ roles.old)) }
-{
-    let count = holders.len();
-    let guess = last_place(role_places);
-    make_room(role_places, count)?;
-    holders.push(Holder::new(alloc, framework, role.copy()?))?;
-    match roles.add(alloc, guess, role) {
-        Ok(place) => {
-            keep_place(role_places, count, place);
-            Ok(())
-        }
-        Err(fault) => {
-            holders.truncate(count);
-            Err(fault)
-        }
-    }
+    fractions[place] = Fraction::dominant(holdings.totals(), &holder.held);
+    renew_role(role_fractions, holdings, place, &holder.role);
 }
 
 impl Shares {
@@ -301,31 +78,44 @@ impl Shares {
         ensures { result ≡ record { totals = []; holders = []; roles = [] } }
     {
         Shares {
-            totals: Sum::new(alloc),
-            holders: Vec::new(alloc),
+            holdings: Holdings::new(alloc),
             fractions: Vec::new(alloc),
-            last: None,
-            roles: Roles::new(alloc),
             role_fractions: Vec::new(alloc),
-            role_places: Vec::new(alloc),
         }
     }
 
-    /// Nobody holds anything any more, agents own this together, and each role has its weight among
-    /// these. The frameworks stay known. It takes no memory.
-    pub fn restart(&mut self, alloc: Global, totals: Sum, weights: &Weights)
-        ensures { self.new ≡ restarted weights.now totals self.old }
+    /// The shares of what is held.
+    pub fn of(alloc: Global, holdings: Holdings) -> Result<Shares, AllocError>
+        ensures { IfOk result (λ shares. shares ≡ holdings) }
     {
-        empty_all(&mut self.holders, alloc);
-        self.roles.restart(alloc, weights);
-        renew_all(
-            &mut self.fractions,
-            &mut self.role_fractions,
-            &totals,
-            &self.holders,
-            self.roles.as_slice(),
-        );
-        self.totals = totals;
+        let totals = holdings.totals();
+        let fractions = of_holders(alloc, totals, holdings.holders())?;
+        let role_fractions = of_roles(alloc, totals, holdings.roles().as_slice())?;
+        Ok(Shares {
+            holdings,
+            fractions,
+            role_fractions,
+        })
+    }
+
+    /// What is held, without shares.
+    pub fn into_holdings(self) -> Holdings
+        ensures { result ≡ self }
+    {
+        self.holdings
+    }
+
+    /// Agents own this together. A refusal changes nothing.
+    fn own(&mut self, alloc: Global, totals: Sum) -> Result<(), AllocError>
+        ensures ok { OnOk result (self.new ≡ with_totals totals self.old) }
+        ensures err { OnErr result (self.new ≡ self.old) }
+    {
+        let fractions = of_holders(alloc, &totals, self.holdings.holders())?;
+        let roles = self.holdings.roles().as_slice();
+        self.role_fractions = of_roles(alloc, &totals, roles)?;
+        self.fractions = fractions;
+        self.holdings.own(totals);
+        Ok(())
     }
 
     /// An agent owns this. `P2 OutOfMemory` changes nothing.
@@ -334,15 +124,8 @@ impl Shares {
         ensures err { OnErr result (self.new ≡ self.old) }
         ensures memory { IfErr result (λ fault. fault ≡ SharesFault.OutOfMemory) }
     {
-        let totals = self.totals.plus(alloc, total)?;
-        renew_all(
-            &mut self.fractions,
-            &mut self.role_fractions,
-            &totals,
-            &self.holders,
-            self.roles.as_slice(),
-        );
-        self.totals = totals;
+        let totals = self.holdings.totals().plus(alloc, total)?;
+        self.own(alloc, totals)?;
         Ok(())
     }
 
@@ -358,20 +141,9 @@ impl Shares {
         ensures err { OnErr result (self.new ≡ self.old) }
         ensures memory { IfErr result (λ fault. fault ≡ SharesFault.OutOfMemory) }
     {
-        if is_known(&self.holders, self.last, framework) {
-            return Ok(());
-        }
-        keep_nothing(&mut self.fractions, self.holders.len())?;
-        keep_nothing(&mut self.role_fractions, self.roles.len())?;
-        add_holder(
-            &mut self.holders,
-            &mut self.roles,
-            &mut self.role_places,
-            alloc,
-            framework,
-            role,
-        )?;
-        self.last = Some(later(self.last, framework));
+        keep_nothing(&mut self.fractions, self.holdings.holders().len())?;
+        keep_nothing(&mut self.role_fractions, self.holdings.roles().len())?;
+        self.holdings.role(alloc, framework, role)?;
         Ok(())
     }
 
@@ -383,10 +155,8 @@ impl Shares {
         ensures err { OnErr result (self.new ≡ self.old) }
         ensures memory { IfErr result (λ fault. fault ≡ SharesFault.OutOfMemory) }
     {
-        let guess = last_place(&self.role_places);
-        keep_nothing(&mut self.role_fractions, self.roles.len())?;
-        let place = self.roles.add(alloc, guess, role)?;
-        self.roles.weigh(place, role, weight);
+        keep_nothing(&mut self.role_fractions, self.holdings.roles().len())?;
+        self.holdings.weigh(alloc, role, weight)?;
         Ok(())
     }
 
@@ -402,21 +172,11 @@ impl Shares {
         ensures err { OnErr result (self.new ≡ self.old) }
         ensures memory { IfErr result (λ fault. fault ≡ SharesFault.OutOfMemory) }
     {
-        give_in(
-            &mut self.holders,
-            &mut self.roles,
-            &self.role_places,
-            alloc,
-            framework,
-            resources,
-        )?;
+        self.holdings.give(alloc, framework, resources)?;
         renew_of(
             &mut self.fractions,
             &mut self.role_fractions,
-            &self.totals,
-            &self.holders,
-            &self.roles,
-            &self.role_places,
+            &self.holdings,
             framework,
         );
         Ok(())
@@ -430,16 +190,9 @@ impl Shares {
         ensures refused { result ≡ Err SharesFault.NotHeld → can_leave total.now self.old ≡ false }
         ensures err { OnErr result (self.new ≡ self.old) }
     {
-        match self.totals.minus(alloc, total) {
+        match self.holdings.totals().minus(alloc, total) {
             Ok(rest) => {
-                renew_all(
-                    &mut self.fractions,
-                    &mut self.role_fractions,
-                    &rest,
-                    &self.holders,
-                    self.roles.as_slice(),
-                );
-                self.totals = rest;
+                self.own(alloc, rest)?;
                 Ok(())
             }
             Err(fault) => Err(fault),
@@ -460,22 +213,12 @@ impl Shares {
             → can_back framework resources.now self.old ≡ false }
         ensures err { OnErr result (self.new ≡ self.old) }
     {
-        match back_in(
-            &mut self.holders,
-            &mut self.roles,
-            &self.role_places,
-            alloc,
-            framework,
-            resources,
-        ) {
+        match self.holdings.back(alloc, framework, resources) {
             Ok(()) => {
                 renew_of(
                     &mut self.fractions,
                     &mut self.role_fractions,
-                    &self.totals,
-                    &self.holders,
-                    &self.roles,
-                    &self.role_places,
+                    &self.holdings,
                     framework,
                 );
                 Ok(())

@@ -8,7 +8,7 @@ ghost use Rattle.drf_pick.specs.Shares.{restarted, weighed, with_role};
 ghost use Rattle.round_shares.specs.Gifts.{enters_row, gifts_of, gifts_on, holds, job_gift, knows, offer_gift};
 
 use agent_sides::Sides;
-use drf_pick::Shares;
+use drf_pick::Holdings;
 use mails::{Booked, Framework, Offer};
 use names_core::{FrameworkId, RoleName};
 use offer_book::Account;
@@ -50,126 +50,121 @@ fn add_all(
     Ok(())
 }
 
-fn enter_role(shares: &mut Shares, alloc: Global, framework: &Framework) -> Result<(), AllocError>
-    ensures { OnOk result (shares.new ≡ with_role framework.now.id framework.now.role shares.old) }
+fn enter_role(
+    holdings: &mut Holdings,
+    alloc: Global,
+    framework: &Framework,
+) -> Result<(), AllocError>
+    ensures { OnOk result (holdings.new ≡ with_role framework.now.id framework.now.role holdings.old) }
 {
-    match shares.role(alloc, framework.id, &framework.role) {
-        Ok(()) => Ok(()),
-        Err(_) => Err(AllocError),
-    }
+    holdings.role(alloc, framework.id, &framework.role)
 }
 
 fn weigh(
-    shares: &mut Shares,
+    holdings: &mut Holdings,
     alloc: Global,
     weights: &Weights,
     role: &RoleName,
 ) -> Result<(), AllocError>
-    ensures { OnOk result (shares.new
-        ≡ weighed role.now (weight_of weights.now role.now) shares.old) }
+    ensures { OnOk result (holdings.new
+        ≡ weighed role.now (weight_of weights.now role.now) holdings.old) }
 {
-    match shares.weigh(alloc, role, weights.of(role)) {
-        Ok(()) => Ok(()),
-        Err(_) => Err(AllocError),
-    }
+    holdings.weigh(alloc, role, weights.of(role))
 }
 
 fn know(
-    shares: &mut Shares,
+    holdings: &mut Holdings,
     alloc: Global,
     weights: &Weights,
     framework: &Framework,
 ) -> Result<(), AllocError>
-    ensures { OnOk result (shares.new ≡ knows weights.now shares.old framework.now) }
+    ensures { OnOk result (holdings.new ≡ knows weights.now holdings.old framework.now) }
 {
-    enter_role(shares, alloc, framework)?;
-    weigh(shares, alloc, weights, &framework.role)
+    enter_role(holdings, alloc, framework)?;
+    weigh(holdings, alloc, weights, &framework.role)
 }
 
 fn know_all(
-    shares: &mut Shares,
+    holdings: &mut Holdings,
     alloc: Global,
     weights: &Weights,
     frameworks: &[Framework],
 ) -> Result<(), AllocError>
-    ensures { OnOk result (shares.new ≡ fold (knows weights.now) shares.old frameworks.now) }
+    ensures { OnOk result (holdings.new ≡ fold (knows weights.now) holdings.old frameworks.now) }
 {
     for framework in frameworks {
-        know(shares, alloc, weights, framework)?;
+        know(holdings, alloc, weights, framework)?;
     }
     Ok(())
 }
 
 fn give(
-    shares: &mut Shares,
+    holdings: &mut Holdings,
     alloc: Global,
     framework: FrameworkId,
     resources: &Resources,
 ) -> Result<(), AllocError>
-    ensures { OnOk result (shares.new ≡ holds shares.old
+    ensures { OnOk result (holdings.new ≡ holds holdings.old
         (record { framework = framework; resources = resources.now })) }
 {
-    match shares.give(alloc, framework, resources) {
-        Ok(()) => Ok(()),
-        Err(_) => Err(AllocError),
-    }
+    holdings.give(alloc, framework, resources)
 }
 
-fn give_offers(shares: &mut Shares, alloc: Global, offers: &[Offer]) -> Result<(), AllocError>
-    ensures { OnOk result (shares.new ≡ fold holds shares.old (map offer_gift offers.now)) }
+fn give_offers(holdings: &mut Holdings, alloc: Global, offers: &[Offer]) -> Result<(), AllocError>
+    ensures { OnOk result (holdings.new ≡ fold holds holdings.old (map offer_gift offers.now)) }
 {
     for offer in offers {
-        give(shares, alloc, offer.framework, &offer.resources)?;
+        give(holdings, alloc, offer.framework, &offer.resources)?;
     }
     Ok(())
 }
 
-fn give_tasks(shares: &mut Shares, alloc: Global, tasks: &[Booked]) -> Result<(), AllocError>
-    ensures { OnOk result (shares.new ≡ fold holds shares.old (map job_gift (unended tasks.now))) }
+fn give_tasks(holdings: &mut Holdings, alloc: Global, tasks: &[Booked]) -> Result<(), AllocError>
+    ensures { OnOk result (holdings.new ≡ fold holds holdings.old (map job_gift (unended tasks.now))) }
 {
     for task in tasks {
         if !task.ended {
-            give(shares, alloc, task.job.framework, &task.job.resources)?;
+            give(holdings, alloc, task.job.framework, &task.job.resources)?;
         }
     }
     Ok(())
 }
 
-fn give_account(shares: &mut Shares, alloc: Global, account: &Account) -> Result<(), AllocError>
-    ensures { OnOk result (shares.new ≡ fold holds shares.old
+fn give_account(holdings: &mut Holdings, alloc: Global, account: &Account) -> Result<(), AllocError>
+    ensures { OnOk result (holdings.new ≡ fold holds holdings.old
         (gifts_on account.now.offers account.now.booked)) }
 {
-    give_offers(shares, alloc, account.offers.as_slice())?;
-    give_tasks(shares, alloc, account.booked.as_slice())
+    give_offers(holdings, alloc, account.offers.as_slice())?;
+    give_tasks(holdings, alloc, account.booked.as_slice())
 }
 
-fn give_all(shares: &mut Shares, alloc: Global, accounts: &[Account]) -> Result<(), AllocError>
-    ensures { OnOk result (shares.new ≡ fold holds shares.old
+fn give_all(holdings: &mut Holdings, alloc: Global, accounts: &[Account]) -> Result<(), AllocError>
+    ensures { OnOk result (holdings.new ≡ fold holds holdings.old
         (flat_map (λ a. gifts_on a.offers a.booked) accounts.now)) }
 {
     for account in accounts {
-        give_account(shares, alloc, account)?;
+        give_account(holdings, alloc, account)?;
     }
     Ok(())
 }
 
-/// Shares start anew by what agents own. More frameworks are told of, and what all hold is counted.
+/// What is held is counted anew, by what agents own. More frameworks are told of.
 pub(crate) fn fill(
-    shares: &mut Shares,
+    holdings: &mut Holdings,
     alloc: Global,
     weights: &Weights,
     sides: &Sides,
     more: &[Framework],
 ) -> Result<(), AllocError>
-    ensures { OnOk result (shares.new ≡ fold holds (fold (knows weights.now)
-        (restarted weights.now (fold enters_row [] sides.now) shares.old) more.now)
+    ensures { OnOk result (holdings.new ≡ fold holds (fold (knows weights.now)
+        (restarted weights.now (fold enters_row [] sides.now) holdings.old) more.now)
         (gifts_of sides.now)) }
 {
     let (entries, accounts) = sides.parts();
     let mut totals = Sum::new(alloc);
     add_all(&mut totals, alloc, entries, accounts)?;
-    shares.restart(alloc, totals, weights);
-    know_all(shares, alloc, weights, more)?;
-    give_all(shares, alloc, accounts)?;
+    holdings.restart(alloc, totals, weights);
+    know_all(holdings, alloc, weights, more)?;
+    give_all(holdings, alloc, accounts)?;
     Ok(())
 }

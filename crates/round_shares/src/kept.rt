@@ -6,7 +6,7 @@ ghost use Rattle.round_shares.specs.Kept.{Remembers, begin_with, client_of, is_c
 
 use crate::fill::fill;
 use agent_sides::Sides;
-use drf_pick::{Client, Shares};
+use drf_pick::{Client, Holdings, Shares};
 use frameworks::Frameworks;
 use mails::Framework;
 use plain_data::Plain;
@@ -21,7 +21,7 @@ pub struct KeptShares {
     /// The frameworks that they know, with their roles, in the order told.
     told: Vec<Client>,
     /// None where a round has them.
-    shares: Option<Shares>,
+    holdings: Option<Holdings>,
 }
 
 impl Model for KeptShares {
@@ -33,7 +33,7 @@ impl Model for KeptShares {
 
     ghost view = { λ kept. kept.told.items };
 
-    ghost invariant = { λ kept. IfSome kept.shares (Remembers kept.told.items) };
+    ghost invariant = { λ kept. IfSome kept.holdings (Remembers kept.told.items) };
 }
 
 fn is_client(client: &Client, framework: &Framework) -> bool
@@ -70,13 +70,14 @@ fn push_clients(told: &mut Vec<Client>, frameworks: &[Framework]) -> Result<(), 
     Ok(())
 }
 
-/// Shares, and which of the first of these frameworks they know: those kept, if they know no other.
+/// What is held, and which of the first of these frameworks are known: what was kept, if it knows
+/// no other.
 fn known_of(
     told: &mut Vec<Client>,
-    kept: Option<Shares>,
+    kept: Option<Holdings>,
     alloc: Global,
     frameworks: &[Framework],
-) -> Shares
+) -> Holdings
     requires { IfSome kept (Remembers told.old.items) }
     ensures known { Remembers told.new.items result }
     ensures told { told.new.items
@@ -84,12 +85,12 @@ fn known_of(
     ensures few { length told.new.items ≤ length frameworks.now }
 {
     if begin_with(told, frameworks) {
-        if let Some(shares) = kept {
-            return shares;
+        if let Some(holdings) = kept {
+            return holdings;
         }
     }
     told.clear();
-    Shares::new(alloc)
+    Holdings::new(alloc)
 }
 
 impl KeptShares {
@@ -99,7 +100,7 @@ impl KeptShares {
     {
         KeptShares {
             told: Vec::new(alloc),
-            shares: None,
+            holdings: None,
         }
     }
 
@@ -118,11 +119,12 @@ impl KeptShares {
         ensures told { OnOk result (self.new ≡ map client_of frameworks.now) }
     {
         let all = frameworks.as_slice();
-        let kept = mem::replace(&mut self.shares, None);
-        let mut shares = known_of(&mut self.told, kept, alloc, all);
+        let kept = mem::replace(&mut self.holdings, None);
+        let mut holdings = known_of(&mut self.told, kept, alloc, all);
         let new = &all[self.told.len()..];
-        fill(&mut shares, alloc, weights, sides, new)?;
+        fill(&mut holdings, alloc, weights, sides, new)?;
         push_clients(&mut self.told, new)?;
+        let shares = Shares::of(alloc, holdings)?;
         Ok(shares)
     }
 
@@ -131,6 +133,6 @@ impl KeptShares {
         requires { Remembers self.old shares }
         ensures { self.new ≡ self.old }
     {
-        self.shares = Some(shares);
+        self.holdings = Some(shares.into_holdings());
     }
 }

@@ -1,41 +1,47 @@
 //! The eligible framework that stands least.
 
-ghost use Rattle.std.specs.Prelude.{◌≡◌, None, fold};
+ghost use Rattle.std.specs.Prelude.{◌≡◌, None, fold, IfSome};
 ghost use Rattle.std.specs.Option.{option_copied};
+ghost use Rattle.drf_pick.specs.ClientShares.{IsClientShare};
 ghost use Rattle.round_shares.specs.Picks.{better, better_eligible, picked};
 
-use drf_pick::{Shares, comes_before};
+use drf_pick::{ClientShare, Shares, comes_before};
 use frameworks::is_eligible;
 use mails::Framework;
 use names_core::{AgentName, FrameworkId};
 use quantity::Resources;
 
-/// The better one of the best so far and a framework.
-/// `best_place` and `place` say where the two stand among all frameworks.
+/// The better one of the best so far and a framework, with its shares.
+/// `place` says where the framework stands among all frameworks.
 fn better<'a>(
     shares: &Shares,
     best: Option<&'a Framework>,
-    best_place: &mut usize,
+    best_share: &mut ClientShare,
     framework: &'a Framework,
     place: usize,
 ) -> Option<&'a Framework>
-    ensures { option_copied result ≡ better shares.now (option_copied best.entry)
+    requires { IfSome (option_copied best) (λ f. IsClientShare shares.now f.id f.role
+        best_share.old) }
+    ensures better { option_copied result ≡ better shares.now (option_copied best.entry)
         framework.entry.now }
+    ensures share { IfSome (option_copied result) (λ f. IsClientShare shares.now f.id f.role
+        best_share.new) }
 {
+    let share = ClientShare::of(shares, framework.id, &framework.role, place);
     let Some(other) = best else {
-        *best_place = place;
+        *best_share = share;
         return Some(framework);
     };
     if comes_before(
         shares,
         framework.id,
         &framework.role,
-        place,
+        &share,
         other.id,
         &other.role,
-        *best_place,
+        best_share,
     ) {
-        *best_place = place;
+        *best_share = share;
         Some(framework)
     } else {
         best
@@ -53,11 +59,11 @@ fn best_of<'a>(
         frameworks.entry.now }
 {
     let mut best = None;
-    let mut best_place = 0;
+    let mut share = ClientShare::nothing();
     for place in 0..frameworks.len() {
         let framework = &frameworks[place];
         if is_eligible(framework, now, agent, free) {
-            best = better(shares, best, &mut best_place, framework, place);
+            best = better(shares, best, &mut share, framework, place);
         }
     }
     best

@@ -1,3 +1,4 @@
 pub mod Lists
 pub mod Summing
 pub mod Dominating
+pub mod Reaching

@@ -1,6 +1,6 @@
 -- Sums of amounts by name: of any number of names, and of amounts up to 2^48.
-use Rattle.std.specs.Prelude.{◌≡◌, ℕ, ◌+◌, ◌<◌, ◌≤◌, nat_eq, nat_lt, if◌then◌else◌, List, [], ◌∷◌, fold}
-use Rattle.std.specs.List.{AllByRecursion}
+use Rattle.std.specs.Prelude.{◌≡◌, ℕ, ◌+◌, ◌<◌, ◌≤◌, Bool, true, false, nat_eq, nat_lt, if◌then◌else◌, List, [], ◌∷◌, fold}
+use Rattle.std.specs.List.{AllByRecursion, list_all}
 use Rattle.std.specs.List.Sorted.{IsStrictlySortedBy}
 use Rattle.std.specs.Ordering.{nat_cmp, match_ordering}
 use Rattle.std.specs.Cmp.Lexicographic.{pointwise, slice_cmp}
@@ -27,6 +27,20 @@ with_more name n (r ∷ rows) =
 -- a sum with more rows
 abbrev pub summed : List Row → List Row → List Row
 summed rows more = fold (λ sum r. with_more r.name r.amount sum) rows more
+
+-- a sum has some of this name
+abbrev pub has_some : List Row → List ℕ → Bool
+has_some sum name = nat_lt 0 (amount name sum)
+
+-- a sum has some of each name of these rows
+abbrev pub has_names_of : List Row → List Row → Bool
+has_names_of sum more = list_all (λ r. has_some sum r.name) more
+
+-- a row of this name comes before each of a later name
+abbrev pub is_reached : List ℕ → List Row → Bool
+is_reached name [] = false
+is_reached name (r ∷ rows) =
+    match_ordering (slice_cmp nat_cmp name r.name) false true (is_reached name rows)
 
 -- what the first row of a name has
 abbrev pub first_amount : List ℕ → List Row → ℕ

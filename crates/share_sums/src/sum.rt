@@ -1,8 +1,9 @@
 //! Sums of amounts by name.
 
 ghost use Rattle.std.specs.Prelude.{◌≡◌, ◌+◌, ◌≤◌, [], true, false, Err, OnOk, IfOk};
+ghost use Rattle.std.specs.List.{AllByRecursion};
 ghost use Rattle.quantity.specs.Rows.{amount, covers, rest_of};
-ghost use Rattle.share_sums.specs.Sums.{capped, first_amount, greatest_sum, summed, with_more, IsSum};
+ghost use Rattle.share_sums.specs.Sums.{capped, first_amount, greatest_sum, has_names_of, has_some, is_reached, summed, with_more, IsSum};
 
 use crate::fault::SharesFault;
 use plain_data::{Plain, push_copies};
@@ -65,6 +66,28 @@ fn raise(rows: &mut Vec<Row>, more: &Row) -> Result<(), AllocError>
     Ok(())
 }
 
+/// The row of this name has more.
+fn raise_known(rows: &mut Vec<Row>, more: &Row)
+    requires { is_reached more.now.name rows.old.items ≡ true }
+    ensures { rows.new.items ≡ with_more more.now.name more.now.amount rows.old.items }
+{
+    for i in 0..rows.len() {
+        if rows[i].name.as_str() == more.name.as_str() {
+            rows[i].amount = capped(rows[i].amount, more.amount);
+            return;
+        }
+    }
+}
+
+fn raise_all(rows: &mut Vec<Row>, more: &[Row])
+    requires { AllByRecursion (λ r. is_reached r.name rows.old.items ≡ true) more.now }
+    ensures { rows.new.items ≡ summed rows.old.items more.now }
+{
+    for row in more {
+        raise_known(rows, row);
+    }
+}
+
 fn with_rows(alloc: Global, rows: &[Row], more: &[Row]) -> Result<Vec<Row>, AllocError>
     ensures { IfOk result (λ sum. sum.items ≡ summed rows.now more.now) }
 {
@@ -98,6 +121,12 @@ fn covers(sum: &Sum, less: &Resources) -> bool
         }
     }
     true
+}
+
+fn has_some(sum: &Sum, row: &Row) -> bool
+    ensures { result ≡ has_some sum.now row.now.name }
+{
+    sum.amount(row.name.as_str()) > 0
 }
 
 fn without(alloc: Global, rows: &[Row], less: &Resources) -> Result<Vec<Row>, AllocError>
@@ -148,6 +177,21 @@ impl Sum {
     {
         let rows = with_rows(alloc, &self.rows, more.rows())?;
         Ok(Sum { rows })
+    }
+
+    /// Whether there is some of each of these names. It takes no memory.
+    pub fn has_names_of(&self, more: &Resources) -> bool
+        ensures { result ≡ has_names_of self.now more.now }
+    {
+        more.rows().iter().all(|row| has_some(self, row))
+    }
+
+    /// There is more of names of which there is some. It takes no memory.
+    pub fn add(&mut self, more: &Resources)
+        requires { has_names_of self.old more.now ≡ true }
+        ensures { self.new ≡ summed self.old more.now }
+    {
+        raise_all(&mut self.rows, more.rows());
     }
 
     /// The sum without some resources; `P1 NotHeld` where there is less of some name.

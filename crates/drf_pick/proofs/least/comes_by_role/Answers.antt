@@ -13,14 +13,14 @@ returns-then-not-is_at_most c =
     let t : Tally = c.args.shares.now in
     let a : Share = role_share t.roles c.args.first.now in
     let b : Share = role_share t.roles c.args.second.now in
-    let one = c.weighed_fraction_of-one in
-    let other = c.weighed_fraction_of-other in
-    let f = one.result.0 in
-    let g = other.result.0 in
-    let sum : IsSum t.totals = subst IsSum (ap (λ (x : Tally). x.totals) c.shares.view_is) c.rows-ordered.ensures.sum in
-    let two : Compared t.totals a b f g = record { sum = sum; one = one.ensures.fraction; other = other.ensures.fraction } in
-    let forth : c.is_at_most.result ≡ is_at_most f a.weight g b.weight = c.is_at_most.ensures ∙ by_weights f one.result.1 a.weight g other.result.1 b.weight one.ensures.weight other.ensures.weight in
-    let back : c.is_at_most-then-is_at_most.result ≡ is_at_most g b.weight f a.weight = c.is_at_most-then-is_at_most.ensures ∙ by_weights g other.result.1 b.weight f one.result.1 a.weight other.ensures.weight one.ensures.weight in
+    let one = c.requires.one in
+    let other = c.requires.other in
+    let f = c.args.one.fraction in
+    let g = c.args.other.fraction in
+    let sum : IsSum t.totals = subst IsSum (c.totals.ensures ∙ ap (λ (x : Tally). x.totals) c.shares.view_is) c.rows-ordered.ensures.sum in
+    let two : Compared t.totals a b f g = record { sum = sum; one = one.fraction; other = other.fraction } in
+    let forth : c.is_at_most.result ≡ is_at_most f a.weight g b.weight = c.is_at_most.ensures ∙ by_weights f c.args.one.weight a.weight g c.args.other.weight b.weight one.weight other.weight in
+    let back : c.is_at_most-then-is_at_most.result ≡ is_at_most g b.weight f a.weight = c.is_at_most-then-is_at_most.ensures ∙ by_weights g c.args.other.weight b.weight f c.args.one.weight a.weight other.weight one.weight in
     let above = sym back ∙ c.if-not-is_at_most.true in
     ap not c.if-not-is_at_most.true ∙ sym (is_first t.totals a b f g (bytes_before c.args.first.now c.args.second.now) two (sym forth ∙ c.if-is_at_most.true) above)
 
@@ -29,14 +29,14 @@ returns-else-not-is_at_most c =
     let t : Tally = c.args.shares.now in
     let a : Share = role_share t.roles c.args.first.now in
     let b : Share = role_share t.roles c.args.second.now in
-    let one = c.weighed_fraction_of-one in
-    let other = c.weighed_fraction_of-other in
-    let f = one.result.0 in
-    let g = other.result.0 in
-    let sum : IsSum t.totals = subst IsSum (ap (λ (x : Tally). x.totals) c.shares.view_is) c.rows-ordered.ensures.sum in
-    let two : Compared t.totals a b f g = record { sum = sum; one = one.ensures.fraction; other = other.ensures.fraction } in
-    let forth : c.is_at_most.result ≡ is_at_most f a.weight g b.weight = c.is_at_most.ensures ∙ by_weights f one.result.1 a.weight g other.result.1 b.weight one.ensures.weight other.ensures.weight in
-    let back : c.is_at_most-then-is_at_most.result ≡ is_at_most g b.weight f a.weight = c.is_at_most-then-is_at_most.ensures ∙ by_weights g other.result.1 b.weight f one.result.1 a.weight other.ensures.weight one.ensures.weight in
+    let one = c.requires.one in
+    let other = c.requires.other in
+    let f = c.args.one.fraction in
+    let g = c.args.other.fraction in
+    let sum : IsSum t.totals = subst IsSum (c.totals.ensures ∙ ap (λ (x : Tally). x.totals) c.shares.view_is) c.rows-ordered.ensures.sum in
+    let two : Compared t.totals a b f g = record { sum = sum; one = one.fraction; other = other.fraction } in
+    let forth : c.is_at_most.result ≡ is_at_most f a.weight g b.weight = c.is_at_most.ensures ∙ by_weights f c.args.one.weight a.weight g c.args.other.weight b.weight one.weight other.weight in
+    let back : c.is_at_most-then-is_at_most.result ≡ is_at_most g b.weight f a.weight = c.is_at_most-then-is_at_most.ensures ∙ by_weights g c.args.other.weight b.weight f c.args.one.weight a.weight other.weight one.weight in
     let also = sym back ∙ c.if-not-is_at_most.false in
     c.is_name_before.ensures ∙ sym (is_tied t.totals a b f g (bytes_before c.args.first.now c.args.second.now) two (sym forth ∙ c.if-is_at_most.true) also)
 
@@ -45,11 +45,11 @@ returns-else-is_at_most c =
     let t : Tally = c.args.shares.now in
     let a : Share = role_share t.roles c.args.first.now in
     let b : Share = role_share t.roles c.args.second.now in
-    let one = c.weighed_fraction_of-one in
-    let other = c.weighed_fraction_of-other in
-    let f = one.result.0 in
-    let g = other.result.0 in
-    let sum : IsSum t.totals = subst IsSum (ap (λ (x : Tally). x.totals) c.shares.view_is) c.rows-ordered.ensures.sum in
-    let two : Compared t.totals a b f g = record { sum = sum; one = one.ensures.fraction; other = other.ensures.fraction } in
-    let forth : c.is_at_most.result ≡ is_at_most f a.weight g b.weight = c.is_at_most.ensures ∙ by_weights f one.result.1 a.weight g other.result.1 b.weight one.ensures.weight other.ensures.weight in
+    let one = c.requires.one in
+    let other = c.requires.other in
+    let f = c.args.one.fraction in
+    let g = c.args.other.fraction in
+    let sum : IsSum t.totals = subst IsSum (c.totals.ensures ∙ ap (λ (x : Tally). x.totals) c.shares.view_is) c.rows-ordered.ensures.sum in
+    let two : Compared t.totals a b f g = record { sum = sum; one = one.fraction; other = other.fraction } in
+    let forth : c.is_at_most.result ≡ is_at_most f a.weight g b.weight = c.is_at_most.ensures ∙ by_weights f c.args.one.weight a.weight g c.args.other.weight b.weight one.weight other.weight in
     c.if-is_at_most.false ∙ sym (is_later t.totals a b f g (bytes_before c.args.first.now c.args.second.now) two (sym forth ∙ c.if-is_at_most.false))

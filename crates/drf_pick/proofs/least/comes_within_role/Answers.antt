@@ -13,10 +13,10 @@ returns-then-not-is_at_most c =
     let t : Tally = c.args.shares.now in
     let a : Share = share (held_by t c.args.first) 1 in
     let b : Share = share (held_by t c.args.second) 1 in
-    let f = c.fraction_of-one.result in
-    let g = c.fraction_of-other.result in
-    let sum : IsSum t.totals = subst IsSum (ap (λ (x : Tally). x.totals) c.shares.view_is) c.rows-ordered.ensures.sum in
-    let two : Compared t.totals a b f g = record { sum = sum; one = c.fraction_of-one.ensures; other = c.fraction_of-other.ensures } in
+    let f = c.args.one in
+    let g = c.args.other in
+    let sum : IsSum t.totals = subst IsSum (c.totals.ensures ∙ ap (λ (x : Tally). x.totals) c.shares.view_is) c.rows-ordered.ensures.sum in
+    let two : Compared t.totals a b f g = record { sum = sum; one = c.requires.one; other = c.requires.other } in
     let under : is_at_most f 1 g 1 ≡ true = sym c.is_at_most.ensures ∙ c.if-is_at_most.true in
     let above : is_at_most g 1 f 1 ≡ false = sym c.is_at_most-then-is_at_most.ensures ∙ c.if-not-is_at_most.true in
     ap not c.if-not-is_at_most.true ∙ sym (is_first t.totals a b f g (before c.args.first c.args.second) two under above)
@@ -26,10 +26,10 @@ returns-else-not-is_at_most c =
     let t : Tally = c.args.shares.now in
     let a : Share = share (held_by t c.args.first) 1 in
     let b : Share = share (held_by t c.args.second) 1 in
-    let f = c.fraction_of-one.result in
-    let g = c.fraction_of-other.result in
-    let sum : IsSum t.totals = subst IsSum (ap (λ (x : Tally). x.totals) c.shares.view_is) c.rows-ordered.ensures.sum in
-    let two : Compared t.totals a b f g = record { sum = sum; one = c.fraction_of-one.ensures; other = c.fraction_of-other.ensures } in
+    let f = c.args.one in
+    let g = c.args.other in
+    let sum : IsSum t.totals = subst IsSum (c.totals.ensures ∙ ap (λ (x : Tally). x.totals) c.shares.view_is) c.rows-ordered.ensures.sum in
+    let two : Compared t.totals a b f g = record { sum = sum; one = c.requires.one; other = c.requires.other } in
     let under : is_at_most f 1 g 1 ≡ true = sym c.is_at_most.ensures ∙ c.if-is_at_most.true in
     let also : is_at_most g 1 f 1 ≡ true = sym c.is_at_most-then-is_at_most.ensures ∙ c.if-not-is_at_most.false in
     c.is_before.ensures ∙ sym (is_tied t.totals a b f g (before c.args.first c.args.second) two under also)
@@ -39,9 +39,9 @@ returns-else-is_at_most c =
     let t : Tally = c.args.shares.now in
     let a : Share = share (held_by t c.args.first) 1 in
     let b : Share = share (held_by t c.args.second) 1 in
-    let f = c.fraction_of-one.result in
-    let g = c.fraction_of-other.result in
-    let sum : IsSum t.totals = subst IsSum (ap (λ (x : Tally). x.totals) c.shares.view_is) c.rows-ordered.ensures.sum in
-    let two : Compared t.totals a b f g = record { sum = sum; one = c.fraction_of-one.ensures; other = c.fraction_of-other.ensures } in
+    let f = c.args.one in
+    let g = c.args.other in
+    let sum : IsSum t.totals = subst IsSum (c.totals.ensures ∙ ap (λ (x : Tally). x.totals) c.shares.view_is) c.rows-ordered.ensures.sum in
+    let two : Compared t.totals a b f g = record { sum = sum; one = c.requires.one; other = c.requires.other } in
     let above : is_at_most f 1 g 1 ≡ false = sym c.is_at_most.ensures ∙ c.if-is_at_most.false in
     c.if-is_at_most.false ∙ sym (is_later t.totals a b f g (before c.args.first c.args.second) two above)

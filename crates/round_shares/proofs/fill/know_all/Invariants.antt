@@ -3,4 +3,4 @@ use Rattle.round_shares.specs.Gifts.{knows}
 use Rattle.round_shares.proofs.fill.know_all.Given as goal
 
 abbrev pub invariant-loop-framework : goal.invariant-loop-framework
-invariant-loop-framework l = l.shares ≡ fold (knows l.weights) l.fn.shares (take l.framework-index l.frameworks)
+invariant-loop-framework l = l.holdings ≡ fold (knows l.weights) l.fn.holdings (take l.framework-index l.frameworks)

@@ -1,7 +1,11 @@
-use Rattle.std.proofs.Common.{◌≡◌, None, take, fold}
+use Rattle.std.proofs.Common.{◌≡◌, None, fold, take, IfSome}
 use Rattle.std.specs.Option.{option_copied}
+use Rattle.drf_pick.specs.ClientShares.{IsClientShare}
 use Rattle.round_shares.specs.Picks.{better_eligible}
 use Rattle.round_shares.proofs.pick.best_of.Given as goal
 
 abbrev pub invariant-loop-place : goal.invariant-loop-place
-invariant-loop-place l = option_copied l.best ≡ fold (better_eligible l.now l.agent l.free l.shares) None (take l.place l.frameworks)
+invariant-loop-place l = record {
+  best : option_copied l.best ≡ fold (better_eligible l.now l.agent l.free l.shares) None (take l.place l.frameworks);
+  share : IfSome (option_copied l.best) (λ f. IsClientShare l.shares f.id f.role l.share);
+}

@@ -10,20 +10,20 @@ pub returns-clause-shares : goal.returns-clause-shares
 returns-clause-shares c =
     let ws = c.args.weights.now in
     let ss = c.args.sides.now in
-    let cs = c.known_of-shares.new.told.items in
+    let cs = c.known_of-holdings.new.told.items in
     let all = c.as_slice-all.result.now in
     let n : ℕ = c.len.result in
-    let count : n ≡ length cs = omega (arith, c.len.ensures, c.known_of-shares.new.told.ok.0) in
-    let told = subst (λ (k : ℕ). cs ≡ map client_of (take k all)) (sym count) c.known_of-shares.ensures.told in
+    let count : n ≡ length cs = omega (arith, c.len.ensures, c.known_of-holdings.new.told.ok.0) in
+    let told = subst (λ (k : ℕ). cs ≡ map client_of (take k all)) (sym count) c.known_of-holdings.ensures.told in
     let rest : take (length all - n) (drop n all) ≡ drop n all = take_all (length all - n) (drop n all) (omega (arith, length-drop n all)) in
-    (rw rest at c.in_ok-fill.ensures) ∙ refilled ws ss all n cs c.known_of-shares.result c.known_of-shares.ensures.known told ∙ ap (shares_of ws ss) c.as_slice-all.ensures.items
+    c.in_ok-shares.ensures ∙ (rw rest at c.in_ok-fill.ensures) ∙ refilled ws ss all n cs c.known_of-holdings.result c.known_of-holdings.ensures.known told ∙ ap (shares_of ws ss) c.as_slice-all.ensures.items
 
 pub returns-clause-told : goal.returns-clause-told
 returns-clause-told c =
-    let cs = c.known_of-shares.new.told.items in
+    let cs = c.known_of-holdings.new.told.items in
     let all = c.as_slice-all.result.now in
     let n : ℕ = c.len.result in
-    let count : n ≡ length cs = omega (arith, c.len.ensures, c.known_of-shares.new.told.ok.0) in
-    let told = subst (λ (k : ℕ). cs ≡ map client_of (take k all)) (sym count) c.known_of-shares.ensures.told in
+    let count : n ≡ length cs = omega (arith, c.len.ensures, c.known_of-holdings.new.told.ok.0) in
+    let told = subst (λ (k : ℕ). cs ≡ map client_of (take k all)) (sym count) c.known_of-holdings.ensures.told in
     let rest : take (length all - n) (drop n all) ≡ drop n all = take_all (length all - n) (drop n all) (omega (arith, length-drop n all)) in
     (rw rest at c.in_ok-push_clients.ensures) ∙ ap (λ (ks : List Client). ks ++ map client_of (drop n all)) told ∙ all_told n all ∙ ap (map client_of) c.as_slice-all.ensures.items

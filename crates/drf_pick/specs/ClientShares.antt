@@ -1,0 +1,20 @@
+-- The dominant shares of frameworks and roles.
+use Rattle.std.specs.Prelude.{◌≡◌, ℕ, List}
+use Rattle.std.specs.List.{position}
+use Rattle.names_core.specs.Ids.{Numbered}
+use Rattle.share_sums.specs.Dominant.{IsDominant}
+use Rattle.drf_pick.specs.Shares.{Tally, is_role}
+use Rattle.drf_pick.specs.Least.{held_by, role_share}
+use Rattle.drf_pick.specs.declared.client_share.RoleShare.{RoleShare}
+use Rattle.drf_pick.specs.declared.client_share.ClientShare.{ClientShare}
+
+-- a role's place, its dominant share, and its weight
+pub record IsRoleShare (t : Tally) (role : List ℕ) (s : RoleShare) : Type 0 where
+  pub place : s.place ≡ position (is_role role) t.roles
+  pub fraction : IsDominant t.totals (role_share t.roles role).held s.fraction
+  pub weight : s.weight ≡ (role_share t.roles role).weight
+
+-- a framework's dominant share, and its role's
+pub record IsClientShare (t : Tally) (f : Numbered) (role : List ℕ) (s : ClientShare) : Type 0 where
+  pub own : IsDominant t.totals (held_by t f) s.own
+  pub by_role : IsRoleShare t role s.role

@@ -1,0 +1,398 @@
+//! What frameworks and roles hold, and what all agents own.
+
+ghost use Rattle.std.specs.Prelude.{◌≡◌, ◌++◌, ◌∷◌, [], ℕ, List, map, true, false, Some, Err, OnOk, OnErr, is_some};
+ghost use Rattle.std.specs.List.{find, position};
+ghost use Rattle.std.specs.Option.{option_copied};
+ghost use Rattle.role_weights.specs.Weights.{IsWeight};
+ghost use Rattle.drf_pick.specs.Shares.{AreUpTo, Holder, HoldersOnce, emptied, restarted, is_behind, is_holder, is_role, given_holders, given_roles, given, holder_of, with_totals, roles_with, weighed, with_role, holder_has, can_back, returned_holders, returned_roles, returned};
+
+use crate::holder::{Holder, is_before};
+use crate::roles::Roles;
+use names_core::{FrameworkId, RoleName};
+use plain_data::Plain;
+use quantity::Resources;
+use role_weights::Weights;
+use share_sums::{SharesFault, Sum};
+use std::alloc::{AllocError, Global};
+use std::marker::Model;
+
+/// The sum of what agents own, and the sums of what frameworks and roles hold of it.
+/// No dominant share is known while it is counted.
+#[derive(Drop)]
+pub struct Holdings {
+    totals: Sum,
+    holders: Vec<Holder>,
+    /// The last of the holders' frameworks, by their ids: one behind it is none of them.
+    last: Option<FrameworkId>,
+    roles: Roles,
+    /// For each holder the place of its role. It is tried first; no answer hangs on it.
+    role_places: Vec<usize>,
+}
+
+impl Model for Holdings {
+    ghost use Rattle.drf_pick.specs.Shares.{AreUpTo, Tally, HoldersOnce};
+
+    ghost Value = { Tally };
+
+    ghost view = { λ s. record { totals = s.totals; holders = s.holders.items; roles = s.roles } };
+
+    ghost invariant = { λ s. AreUpTo s.last s.holders.items × HoldersOnce s.holders.items };
+}
+
+/// The place of a framework's holder.
+/// It is found at once where the holders stand in the order of their frameworks' ids.
+fn holder_place(holders: &[Holder], framework: FrameworkId) -> Option<usize>
+    requires { HoldersOnce holders.now }
+    ensures { result ≡ position (is_holder framework) holders.now }
+{
+    let place = holders.partition_point(|holder| is_before(holder.framework, framework));
+    if place < holders.len() && holders[place].is_of(framework) {
+        return Some(place);
+    }
+    holders.iter().position(|holder| holder.is_of(framework))
+}
+
+/// Whether a framework is behind the last one.
+fn is_behind(last: Option<FrameworkId>, framework: FrameworkId) -> bool
+    ensures { result ≡ is_behind last framework }
+{
+    match last {
+        None => true,
+        Some(last) => is_before(last, framework),
+    }
+}
+
+/// The place of a framework's holder. It is found at once where the guess is right.
+fn holder_near(holders: &[Holder], guess: usize, framework: FrameworkId) -> Option<usize>
+    requires { HoldersOnce holders.now }
+    ensures { result ≡ position (is_holder framework) holders.now }
+{
+    if guess < holders.len() && holders[guess].is_of(framework) {
+        return Some(guess);
+    }
+    holder_place(holders, framework)
+}
+
+fn find_holder(holders: &[Holder], guess: usize, framework: FrameworkId) -> Option<&Holder>
+    requires { HoldersOnce holders.now }
+    ensures { option_copied result ≡ find (is_holder framework) holders.now }
+{
+    let place = holder_near(holders, guess, framework)?;
+    Some(&holders[place])
+}
+
+/// Whether one of these holders is the framework's. No holder is behind the last one.
+fn is_known(holders: &[Holder], last: Option<FrameworkId>, framework: FrameworkId) -> bool
+    requires once { HoldersOnce holders.now }
+    requires up_to { AreUpTo last holders.now }
+    ensures { result ≡ is_some (find (is_holder framework) holders.now) }
+{
+    if is_behind(last, framework) {
+        return false;
+    }
+    find_holder(holders, holders.len(), framework).is_some()
+}
+
+/// The last one, where this framework comes.
+fn later(last: Option<FrameworkId>, framework: FrameworkId) -> FrameworkId
+    ensures { (hs : List Holder) (role : List ℕ) → AreUpTo last hs
+        → AreUpTo (Some result) (hs ++ holder_of framework role ∷ []) }
+{
+    let Some(last) = last else {
+        return framework;
+    };
+    if is_before(last, framework) {
+        framework
+    } else {
+        last
+    }
+}
+
+/// Where the role of the holder at a place is likely to stand.
+fn guess_at(role_places: &[usize], place: usize) -> usize {
+    role_places.get(place).copied().unwrap_or(0)
+}
+
+fn give_in(
+    holders: &mut Vec<Holder>,
+    roles: &mut Roles,
+    role_places: &[usize],
+    alloc: Global,
+    framework: FrameworkId,
+    resources: &Resources,
+) -> Result<(), AllocError>
+    requires { HoldersOnce holders.old.items }
+    ensures holders { OnOk result (holders.new.items
+        ≡ given_holders framework resources.now holders.old.items) }
+    ensures roles { OnOk result (roles.new
+        ≡ given_roles resources.now (find (is_holder framework) holders.old.items)
+        roles.old) }
+    ensures same_holders { OnErr result (holders.new.items ≡ holders.old.items) }
+    ensures same_roles { OnErr result (roles.new ≡ roles.old) }
+{
+    let Some(place) = holder_place(holders, framework) else {
+        return Ok(());
+    };
+    let guess = guess_at(role_places, place);
+    if holders[place].held.has_names_of(resources) {
+        roles.give(alloc, guess, &holders[place].role, resources)?;
+        holders[place].held.add(resources);
+        return Ok(());
+    }
+    let held = holders[place].held.plus(alloc, resources)?;
+    roles.give(alloc, guess, &holders[place].role, resources)?;
+    holders[place].held = held;
+    Ok(())
+}
+
+fn back_in(
+    holders: &mut Vec<Holder>,
+    roles: &mut Roles,
+    role_places: &[usize],
+    alloc: Global,
+    framework: FrameworkId,
+    resources: &Resources,
+) -> Result<(), SharesFault>
+    requires { HoldersOnce holders.old.items }
+    ensures holders { OnOk result (holders.new.items
+        ≡ returned_holders framework resources.now holders.old.items) }
+    ensures roles { OnOk result (roles.new
+        ≡ returned_roles resources.now (find (is_holder framework) holders.old.items)
+        roles.old) }
+    ensures covered { OnOk result
+        (holder_has resources.now roles.old (find (is_holder framework) holders.old.items)
+        ≡ true) }
+    ensures refused { result ≡ Err SharesFault.NotHeld
+        → holder_has resources.now roles.old (find (is_holder framework) holders.old.items)
+        ≡ false }
+    ensures same_holders { OnErr result (holders.new.items ≡ holders.old.items) }
+    ensures same_roles { OnErr result (roles.new ≡ roles.old) }
+{
+    let Some(place) = holder_place(holders, framework) else {
+        return Err(SharesFault::NotHeld);
+    };
+    let guess = guess_at(role_places, place);
+    match holders[place].held.minus(alloc, resources) {
+        Ok(held) => match roles.back(alloc, guess, &holders[place].role, resources) {
+            Ok(()) => {
+                holders[place].held = held;
+                Ok(())
+            }
+            Err(fault) => Err(fault),
+        },
+        Err(fault) => Err(fault),
+    }
+}
+
+fn empty_one(holder: &mut Holder, alloc: Global)
+    ensures { holder.new ≡ emptied holder.old }
+{
+    holder.held = Sum::new(alloc);
+}
+
+fn empty_all(holders: &mut Vec<Holder>, alloc: Global)
+    ensures { holders.new.items ≡ map emptied holders.old.items }
+{
+    for place in 0..holders.len() {
+        empty_one(&mut holders[place], alloc);
+    }
+}
+
+/// Where the role of the last holder is likely to stand.
+fn last_place(role_places: &[usize]) -> usize {
+    role_places.last().copied().unwrap_or(0)
+}
+
+/// There is room for the place of the role of the holder that comes next.
+fn make_room(role_places: &mut Vec<usize>, count: usize) -> Result<(), AllocError> {
+    if role_places.len() <= count {
+        role_places.push(0)?;
+    }
+    Ok(())
+}
+
+fn keep_place(role_places: &mut Vec<usize>, holder: usize, place: usize) {
+    if let Some(kept) = role_places.get_mut(holder) {
+        *kept = place;
+    }
+}
+
+fn add_holder(
+    holders: &mut Vec<Holder>,
+    roles: &mut Roles,
+    role_places: &mut Vec<usize>,
+    alloc: Global,
+    framework: FrameworkId,
+    role: &RoleName,
+) -> Result<(), AllocError>
+    ensures holders { OnOk result (holders.new.items ≡ holders.old.items
+        ++ holder_of framework role.now ∷ []) }
+    ensures roles { OnOk result (roles.new
+        ≡ roles_with role.now roles.old (find (is_role role.now) roles.old)) }
+    ensures err { OnErr result ((holders.new.items ≡ holders.old.items)
+        × (roles.new ≡ roles.old)) }
+{
+    let count = holders.len();
+    let guess = last_place(role_places);
+    make_room(role_places, count)?;
+    holders.push(Holder::new(alloc, framework, role.copy()?))?;
+    match roles.add(alloc, guess, role) {
+        Ok(place) => {
+            keep_place(role_places, count, place);
+            Ok(())
+        }
+        Err(fault) => {
+            holders.truncate(count);
+            Err(fault)
+        }
+    }
+}
+
+impl Holdings {
+    /// Nothing is owned, and nobody holds anything. It takes no memory.
+    pub fn new(alloc: Global) -> Holdings
+        ensures { result ≡ record { totals = []; holders = []; roles = [] } }
+    {
+        Holdings {
+            totals: Sum::new(alloc),
+            holders: Vec::new(alloc),
+            last: None,
+            roles: Roles::new(alloc),
+            role_places: Vec::new(alloc),
+        }
+    }
+
+    pub(crate) fn totals(&self) -> &Sum
+        ensures { result.now ≡ self.now.totals }
+    {
+        &self.totals
+    }
+
+    pub(crate) fn holders(&self) -> &[Holder]
+        ensures { result.now ≡ self.now.holders }
+    {
+        self.holders.as_slice()
+    }
+
+    pub(crate) fn roles(&self) -> &Roles
+        ensures { result.now ≡ self.now.roles }
+    {
+        &self.roles
+    }
+
+    /// The place of a framework's holder. It is found at once where the guess is right.
+    pub(crate) fn place(&self, guess: usize, framework: FrameworkId) -> Option<usize>
+        ensures { result ≡ position (is_holder framework) self.now.holders }
+    {
+        holder_near(&self.holders, guess, framework)
+    }
+
+    /// The place of a role. It is found at once where it is that of the holder at a place.
+    pub(crate) fn role_place(&self, holder: usize, role: &RoleName) -> Option<usize>
+        ensures { result ≡ position (is_role role.now) self.now.roles }
+    {
+        self.roles.place(guess_at(&self.role_places, holder), role)
+    }
+
+    /// Nobody holds anything any more, agents own this together, and each role has its weight among
+    /// these. The frameworks stay known. It takes no memory.
+    pub fn restart(&mut self, alloc: Global, totals: Sum, weights: &Weights)
+        ensures { self.new ≡ restarted weights.now totals self.old }
+    {
+        empty_all(&mut self.holders, alloc);
+        self.roles.restart(alloc, weights);
+        self.totals = totals;
+    }
+
+    /// Agents own this together.
+    pub(crate) fn own(&mut self, totals: Sum)
+        ensures { self.new ≡ with_totals totals self.old }
+    {
+        self.totals = totals;
+    }
+
+    /// A framework has this role; it holds nothing yet. Of several roles that are told of a
+    /// framework the first counts. It fails for want of memory alone, and then changes nothing.
+    pub fn role(
+        &mut self,
+        alloc: Global,
+        framework: FrameworkId,
+        role: &RoleName,
+    ) -> Result<(), AllocError>
+        ensures ok { OnOk result (self.new ≡ with_role framework role.now self.old) }
+        ensures err { OnErr result (self.new ≡ self.old) }
+    {
+        if is_known(&self.holders, self.last, framework) {
+            return Ok(());
+        }
+        add_holder(
+            &mut self.holders,
+            &mut self.roles,
+            &mut self.role_places,
+            alloc,
+            framework,
+            role,
+        )?;
+        self.last = Some(later(self.last, framework));
+        Ok(())
+    }
+
+    /// A role has this weight from now on, 1 to 1,000; one that was given none has 1.
+    /// It fails for want of memory alone, and then changes nothing.
+    pub fn weigh(&mut self, alloc: Global, role: &RoleName, weight: u16) -> Result<(), AllocError>
+        requires { IsWeight weight }
+        ensures ok { OnOk result (self.new ≡ weighed role.now weight self.old) }
+        ensures err { OnErr result (self.new ≡ self.old) }
+    {
+        let guess = last_place(&self.role_places);
+        let place = self.roles.add(alloc, guess, role)?;
+        self.roles.weigh(place, role, weight);
+        Ok(())
+    }
+
+    /// A framework holds more, and so does its role; what a framework holds that no role was told
+    /// of counts for nobody. It takes no memory where both hold some of each name.
+    /// It fails for want of memory alone, and then changes nothing.
+    pub fn give(
+        &mut self,
+        alloc: Global,
+        framework: FrameworkId,
+        resources: &Resources,
+    ) -> Result<(), AllocError>
+        ensures ok { OnOk result (self.new ≡ given framework resources.now self.old) }
+        ensures err { OnErr result (self.new ≡ self.old) }
+    {
+        give_in(
+            &mut self.holders,
+            &mut self.roles,
+            &self.role_places,
+            alloc,
+            framework,
+            resources,
+        )
+    }
+
+    /// A framework and its role hold less. `P1 NotHeld` where no role was told of the framework,
+    /// or where it or its role holds less of some name; a refusal changes nothing.
+    pub(crate) fn back(
+        &mut self,
+        alloc: Global,
+        framework: FrameworkId,
+        resources: &Resources,
+    ) -> Result<(), SharesFault>
+        ensures ok { OnOk result (self.new ≡ returned framework resources.now self.old) }
+        ensures covered { OnOk result (can_back framework resources.now self.old ≡ true) }
+        ensures refused { result ≡ Err SharesFault.NotHeld
+            → can_back framework resources.now self.old ≡ false }
+        ensures err { OnErr result (self.new ≡ self.old) }
+    {
+        back_in(
+            &mut self.holders,
+            &mut self.roles,
+            &self.role_places,
+            alloc,
+            framework,
+            resources,
+        )
+    }
+}

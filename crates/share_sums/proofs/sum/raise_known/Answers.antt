@@ -1,0 +1,41 @@
+use Rattle.std.proofs.Common.{◌≡◌, ℕ, suc, ◌+◌, ◌<◌, ◌++◌, true, false, nat_eq, List, length, get_or, set, take, drop, ap, sym, subst, ◌∙◌, arith}
+use Rattle.std.specs.Ordering.{nat_cmp}
+use Rattle.std.specs.Cmp.Lexicographic.{pointwise, slice_cmp}
+use Rattle.std.specs.declared.cmp.Ordering.TheVariants.{Equal}
+use Rattle.std.proofs.lemmas.List.{get_or_default}
+use Rattle.quantity.specs.declared.rows.Row.{Row}
+use Rattle.quantity.specs.Rows.{row}
+use Rattle.share_sums.specs.Sums.{capped, is_reached, with_more}
+use Rattle.share_sums.proofs.Summing.{more_here}
+use Rattle.share_sums.proofs.Reaching.{level, walked}
+use Rattle.share_sums.proofs.sum.raise_known.Goals as goal
+
+pub returns-then-eq : goal.returns-then-eq
+returns-then-eq c =
+    let xs = c.loop-i.rows.items in
+    let i = c.loop-i.i in
+    let name : List ℕ = c.args.more.now.name in
+    let n : ℕ = c.args.more.now.amount in
+    let r : Row = c.index_mut.result.now in
+    let within : i < length xs = omega (arith, c.len-i-end.ensures, ap (λ (ys : List Row). length ys) c.loop-i.invariant.0.0) in
+    let compared : c.index.result.now ≡ r = c.index.ensures ∙ (get_or_default xs i c.index.result.now r within ∙ sym c.index_mut.ensures.value) in
+    let read : c.index-then-eq.result.now ≡ r = c.index-then-eq.ensures ∙ (get_or_default xs i c.index-then-eq.result.now r within ∙ sym c.index_mut.ensures.value) in
+    let alike : pointwise nat_eq c.index.result.now.name name ≡ true = sym (rw (c.as_str.ensures, c.as_str-in-loop-i.ensures) at c.eq.ensures) ∙ c.if-eq.true in
+    let equal : slice_cmp nat_cmp name r.name ≡ Equal = level r.name name (ap (λ (x : Row). pointwise nat_eq x.name name) (sym compared) ∙ alike) in
+    ap (λ m. set xs i (row r.name m)) (c.capped.ensures ∙ ap (λ (x : Row). capped (x.amount + n)) read)
+    ∙ (more_here name n xs i r within c.index_mut.ensures.value equal
+    ∙ (ap (λ (ys : List Row). take i ys ++ with_more name n (drop i ys)) c.loop-i.invariant.0.0 ∙ c.loop-i.invariant.0.1))
+
+pub loop-i-preserved : goal.loop-i-preserved
+loop-i-preserved c =
+    let rows = c.args.rows.now.items in
+    let i : ℕ = c.loop-i.i in
+    let name : List ℕ = c.args.more.now.name in
+    let n : ℕ = c.args.more.now.amount in
+    let r : Row = c.index.result.now in
+    let within : i < length rows = omega (arith, c.len-i-end.ensures) in
+    let is = subst (λ (ys : List Row). r ≡ get_or ys i r) c.loop-i.invariant.0.0 c.index.ensures in
+    let other : pointwise nat_eq r.name name ≡ false = sym (rw (c.as_str.ensures, c.as_str-in-loop-i.ensures) at c.eq.ensures) ∙ c.if-eq.false in
+    let step = walked name n rows i r within is c.loop-i.invariant.1 other in
+    let next : suc i ≡ i + 1 = omega arith in
+    ((c.loop-i.invariant.0.0, subst (λ k. take k rows ++ with_more name n (drop k rows) ≡ with_more name n rows) next (step.0 ∙ c.loop-i.invariant.0.1)), subst (λ k. is_reached name (drop k rows) ≡ true) next step.1)
