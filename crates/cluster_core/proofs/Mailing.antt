@@ -26,7 +26,7 @@ use Rattle.post_rules.specs.Numbers.{handed_out_was_put}
 use Rattle.post_rules.specs.Queueing.{IsFirstWaiting, direction_in, hands_out, is_next, nothing_waits, same_queue}
 use Rattle.post_rules.specs.Queueing as queue
 use Rattle.post_rules.proofs.Lists.{each_passes}
-use Rattle.cluster_parts.proofs.Finding.{bytes_same}
+use Rattle.cluster_agents.proofs.Finding.{bytes_same}
 use Rattle.cluster_core.specs.Keeping.{IsKept}
 use Rattle.cluster_core.specs.Putting.{ArePut, direction_of, place_in, place_or_end}
 use Rattle.cluster_core.specs.Reading.{IsNextFrom, IsNextTo, NoneFrom, NoneTo}

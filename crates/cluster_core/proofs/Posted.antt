@@ -14,7 +14,7 @@ use Rattle.cluster_model.specs.Ids.{last_number}
 use Rattle.cluster_histories.specs.Steps.{Done, answer, at_channel, by_draft, channel_of, delivers, draws_mail, if_up, is_fallen, post_at, prepares, without_draft}
 use Rattle.cluster_laws.specs.Items.{StandIn, item_of}
 use Rattle.cluster_laws.specs.declared.item.Item.{Item}
-use Rattle.cluster_parts.specs.Handing.{handed}
+use Rattle.cluster_agents.specs.Handing.{handed}
 use Rattle.cluster_core.specs.Keeping.{WithheldFrom}
 
 -- ---- what a taken step hands out was sent

@@ -18,17 +18,17 @@ use Rattle.cluster_entries.specs.declared.entry.Entry.{Entry}
 use Rattle.cluster_entries.specs.declared.entry.Outputs.{Outputs}
 use Rattle.cluster_steps.specs.declared.fault.ClusterFault.TheVariants as faults
 use Rattle.cluster_steps.specs.declared.step.Step.{Step}
-use Rattle.cluster_parts.specs.Handing.{MayRefuse}
+use Rattle.cluster_agents.specs.Handing.{MayRefuse}
 use Rattle.cluster_core.specs.Keeping.{IsKept, IsRefused, IsRefusedFirst, IsTaken, entry_made, taken_made}
 use Rattle.post_rules.specs.declared.direction.Direction.{Direction}
-use Rattle.cluster_parts.specs.Moves.{Reached}
+use Rattle.cluster_agents.specs.Moves.{Reached}
 use Rattle.cluster_parts.specs.Parts.{AreParts, ArePartsBy, PartsOf, Same, Stands, Takes, record_of}
 use Rattle.cluster_core.specs.Putting.{ArePut}
 use Rattle.cluster_core.specs.Stories.{IsLegal, Legal, Story, history_of, state_of, with_entry}
-use Rattle.cluster_parts.specs.declared.masters.Made.{Made}
+use Rattle.cluster_agents.specs.declared.outcomes.Made.{Made}
 use Rattle.cluster_parts.specs.declared.parts.Parts.{Parts}
 use Rattle.cluster_core.proofs.Puttings.{ItemsLaw, put_still, puts_on, stand_alike}
-use Rattle.cluster_parts.proofs.Committing.{if_it_is_down, if_it_is_up}
+use Rattle.cluster_agents.proofs.Committing.{if_it_is_down, if_it_is_up}
 use Rattle.cluster_parts.proofs.Mastering.{extended_more}
 
 -- ---- how many entries there are

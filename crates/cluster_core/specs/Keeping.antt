@@ -12,12 +12,12 @@ use Rattle.cluster_entries.specs.declared.entry.Outputs.{Outputs}
 use Rattle.cluster_steps.specs.declared.fault.ClusterFault.{ClusterFault}
 use Rattle.cluster_steps.specs.declared.fault.ClusterFault.TheVariants.{HistoryFull, NoSuchMail, OutOfMemory}
 use Rattle.cluster_steps.specs.declared.step.Step.{Step}
-use Rattle.cluster_parts.specs.Handing.{handed}
-use Rattle.cluster_parts.specs.Moves.{kept_agents}
+use Rattle.cluster_agents.specs.Handing.{handed}
+use Rattle.cluster_agents.specs.Moves.{kept_agents}
 use Rattle.cluster_parts.specs.Parts.{Stands, record_of}
 use Rattle.cluster_core.specs.Putting.{ArePut, way_of, with_handed}
 use Rattle.cluster_core.specs.Stories.{IsLegal, Story, state_of, with_entry}
-use Rattle.cluster_parts.specs.declared.masters.Made.{Made}
+use Rattle.cluster_agents.specs.declared.outcomes.Made.{Made}
 use Rattle.cluster_parts.specs.declared.parts.Parts.{Parts}
 use Rattle.cluster_core.specs.declared.taken.History.{History}
 use Rattle.cluster_core.specs.declared.taken.Taken.{Taken}

@@ -8,7 +8,7 @@ use Rattle.cluster_steps.specs.declared.step.Step.{Step}
 use Rattle.cluster_core.specs.Keeping.{IsRefused, IsTaken, Known, known_after}
 use Rattle.cluster_core.specs.Safety.{Safe}
 use Rattle.cluster_core.specs.Stories.{IsLegal, state_of}
-use Rattle.cluster_parts.specs.Handing.{IsGiven}
+use Rattle.cluster_agents.specs.Handing.{IsGiven}
 use Rattle.desk_seats.specs.declared.fault.FaultKind.{FaultKind}
 use Rattle.desk_seats.specs.declared.fault.FaultKind.TheVariants as kinds
 use Rattle.post_rules.specs.Queueing.{Post, hands_out, with_given, with_put}

@@ -4,7 +4,7 @@ ghost use Rattle.std.specs.Prelude.{◌≡◌, ◌<◌, ◌≤◌, ◌+◌, drop
 ghost use Rattle.cluster_core.specs.Keeping.{IsKept, IsRefused, IsRefusedFirst, IsTaken, entry_made, known_after, story_of, taken_made};
 ghost use Rattle.cluster_core.specs.Putting.{ArePut, direction_of, place_in, place_or_end, with_handed};
 ghost use Rattle.cluster_core.specs.Stories.{state_of, with_entry};
-ghost use Rattle.cluster_parts.specs.Handing.{IsGiven, handed};
+ghost use Rattle.cluster_agents.specs.Handing.{IsGiven, handed};
 
 use crate::taken::{History, KeptEntry, Taken};
 use agent_sides::ConfiguredAgent;

@@ -47,16 +47,17 @@ use Rattle.side_fits.specs.Fits.{MailFitsAt}
 use Rattle.told_streams.specs.Kept.{AreWithin, kept_streams}
 use Rattle.told_streams.specs.declared.kept.KeptStream.{KeptStream}
 use Rattle.told_streams.specs.Streams.{heard, kept_ids}
-use Rattle.cluster_parts.specs.Causes.{item_at}
+use Rattle.cluster_agents.specs.Causes.{item_at}
 use Rattle.cluster_parts.specs.Hearing.{IsForMaster, IsNotForMaster, SettlesHeard, with_refusal}
-use Rattle.cluster_parts.specs.Masters.{MasterMakes, StandsFor, ends_with, item_to, kept_master, tells}
-use Rattle.cluster_parts.specs.Moves.{Reached, Refuses, sending}
-use Rattle.cluster_parts.specs.declared.masters.Made.{Made}
-use Rattle.cluster_parts.proofs.Committing.{if_it_is_down, if_it_is_up}
-use Rattle.cluster_parts.proofs.Making.{append_nothing, items_by, quiet_streams}
+use Rattle.cluster_agents.specs.Outcomes.{ends_with}
+use Rattle.cluster_parts.specs.Masters.{MasterMakes, StandsFor, item_to, kept_master, tells}
+use Rattle.cluster_agents.specs.Moves.{Reached, Refuses, sending}
+use Rattle.cluster_agents.specs.declared.outcomes.Made.{Made}
+use Rattle.cluster_agents.proofs.Committing.{if_it_is_down, if_it_is_up}
+use Rattle.cluster_agents.proofs.Making.{append_nothing, items_by, quiet_streams}
 use Rattle.cluster_parts.proofs.Mastering.{MasterLaws, serves_if, state_then}
 use Rattle.cluster_parts.proofs.Outgoing.{kept_so, not_serving, serving, sides_send_nothing, told_so}
-use Rattle.cluster_parts.proofs.Preparing.{item_behind}
+use Rattle.cluster_agents.proofs.Preparing.{item_behind}
 
 pub record HearLaws : Type 0 where
   pub more : MasterLaws

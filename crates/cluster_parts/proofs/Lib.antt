@@ -1,8 +1,3 @@
-pub mod Finding
-pub mod Making
-pub mod Stopping
-pub mod Committing
-pub mod Preparing
 pub mod Mastering
 pub mod StepsDone
 pub mod StepsServed

@@ -30,10 +30,11 @@ use Rattle.scheduler_events.specs.declared.stream_event.StreamEvent.{StreamEvent
 use Rattle.told_streams.specs.Kept.{AreWithin, kept_streams}
 use Rattle.told_streams.specs.declared.kept.KeptStream.{KeptStream}
 use Rattle.told_streams.specs.Streams.{heard, kept_ids}
-use Rattle.cluster_parts.specs.Masters.{Does, Falls, MasterMakes, Settles, ends_with, item_to, kept_master, sent_to, tells}
-use Rattle.cluster_parts.specs.declared.masters.Made.{Made}
-use Rattle.cluster_parts.specs.Moves.{Reached, sending}
-use Rattle.cluster_parts.proofs.Making.{ItemsStand, append_nothing, items_by, marked, quiet_streams}
+use Rattle.cluster_agents.specs.Outcomes.{ends_with}
+use Rattle.cluster_parts.specs.Masters.{Does, Falls, MasterMakes, Settles, item_to, kept_master, sent_to, tells}
+use Rattle.cluster_agents.specs.declared.outcomes.Made.{Made}
+use Rattle.cluster_agents.specs.Moves.{Reached, sending}
+use Rattle.cluster_agents.proofs.Making.{ItemsStand, append_nothing, items_by, marked, quiet_streams}
 
 pub record MasterLaws : Type 0 where
   pub stand : ItemsStand

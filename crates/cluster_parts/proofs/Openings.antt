@@ -22,10 +22,11 @@ use Rattle.master_state.specs.declared.fault.MasterFault.TheVariants as fault
 use Rattle.master_state.specs.declared.state.Outs.{Outs}
 use Rattle.told_streams.specs.declared.kept.KeptStream.{KeptStream}
 use Rattle.told_streams.specs.Streams.{heard, kept_ids}
-use Rattle.cluster_parts.specs.Masters.{Settles, StandsFor, Tells, ends_with, item_to, kept_master, tells}
-use Rattle.cluster_parts.specs.Moves.{kept_agents, kept_part, sending}
+use Rattle.cluster_agents.specs.Outcomes.{ends_with}
+use Rattle.cluster_parts.specs.Masters.{Settles, StandsFor, Tells, item_to, kept_master, tells}
+use Rattle.cluster_agents.specs.Moves.{kept_agents, kept_part, sending}
 use Rattle.cluster_parts.specs.Opening.{Starts, new_master, up_over}
-use Rattle.cluster_parts.specs.declared.masters.Made.{Made}
+use Rattle.cluster_agents.specs.declared.outcomes.Made.{Made}
 use Rattle.cluster_parts.proofs.Greeting.{GreetLaws, greeted_master, greeting_mails}
 use Rattle.cluster_parts.proofs.Outgoing.{kept_so, told_so}
 

@@ -10,7 +10,7 @@ use Rattle.cluster_laws.specs.declared.item.Item.{Item}
 use Rattle.cluster_laws.specs.Items.{items_sent}
 use Rattle.cluster_steps.specs.declared.verdict.Sent as code
 use Rattle.cluster_parts.specs.Masters.{item_to, kept_master, sent_to}
-use Rattle.cluster_parts.proofs.Committing.{if_it_is_down, if_it_is_up}
+use Rattle.cluster_agents.proofs.Committing.{if_it_is_down, if_it_is_up}
 
 pub told_so : (mails : List ToAgent) → map MailToAgent mails ≡ map sent_to mails
 told_so [] = refl

@@ -18,14 +18,14 @@ use Rattle.cluster_laws.specs.Items.{StandIn}
 use Rattle.cluster_laws.specs.Parts.{Part, parts_of}
 use Rattle.cluster_laws.specs.declared.item.Item.{Item}
 use Rattle.cluster_laws.specs.declared.item.Item.TheVariants as items
-use Rattle.cluster_parts.specs.Agents.{KeptAgent, place_in}
+use Rattle.cluster_agents.specs.Agents.{KeptAgent, place_in}
 use Rattle.cluster_parts.specs.Masters.{MasterMakes, kept_master}
-use Rattle.cluster_parts.specs.Moves.{ComeInOrder, Makes, kept_agents, kept_part}
+use Rattle.cluster_agents.specs.Moves.{ComeInOrder, Makes, kept_agents, kept_part}
 use Rattle.cluster_parts.specs.Parts.{AreParts, PartsOf, Takes, record_of}
 use Rattle.cluster_parts.specs.Restarting.{Restarts}
-use Rattle.cluster_parts.specs.declared.masters.Made.{Made}
+use Rattle.cluster_agents.specs.declared.outcomes.Made.{Made}
 use Rattle.cluster_parts.specs.declared.parts.Parts.{Parts}
-use Rattle.cluster_parts.proofs.Preparing.{at_kept}
+use Rattle.cluster_agents.proofs.Preparing.{at_kept}
 use Rattle.told_streams.specs.Kept.{AreWithin, kept_streams}
 
 -- the agents stay where their parts do and the same are down

@@ -32,14 +32,15 @@ use Rattle.master_state.specs.declared.state.Outs.{Outs}
 use Rattle.told_streams.specs.Kept.{AreWithin, kept_streams}
 use Rattle.told_streams.specs.declared.kept.KeptStream.{KeptStream}
 use Rattle.told_streams.specs.Streams.{heard, kept_ids}
-use Rattle.cluster_parts.specs.Masters.{Falls, Settles, StandsFor, ends_with, item_to, kept_master, tells}
-use Rattle.cluster_parts.specs.Moves.{Reached, sending}
+use Rattle.cluster_agents.specs.Outcomes.{ends_with}
+use Rattle.cluster_parts.specs.Masters.{Falls, Settles, StandsFor, item_to, kept_master, tells}
+use Rattle.cluster_agents.specs.Moves.{Reached, sending}
 use Rattle.cluster_parts.specs.Opening.{Starts, new_master}
 use Rattle.cluster_parts.specs.Restarting.{Restarts, run_behind}
-use Rattle.cluster_parts.specs.declared.masters.Made.{Made}
-use Rattle.cluster_parts.proofs.Committing.{if_it_is_down, if_it_is_up}
+use Rattle.cluster_agents.specs.declared.outcomes.Made.{Made}
+use Rattle.cluster_agents.proofs.Committing.{if_it_is_down, if_it_is_up}
 use Rattle.cluster_parts.proofs.Greeting.{GreetLaws, greeted_master, greeting_mails}
-use Rattle.cluster_parts.proofs.Making.{ItemsStand, append_nothing, items_by, quiet_streams}
+use Rattle.cluster_agents.proofs.Making.{ItemsStand, append_nothing, items_by, quiet_streams}
 use Rattle.cluster_parts.proofs.Outgoing.{kept_so, sides_send_nothing, told_so}
 
 pub record StopLaws : Type 0 where

@@ -1,5 +1,5 @@
 -- Calls are sent, and events are taken.
-use Rattle.std.proofs.Common.{◌≡◌, suc, Bool, false, List, [], ◌∷◌, ◌++◌, map, Option, Some, None, option_map, Ok, Err, refl, sym, ap, ◌∙◌, subst}
+use Rattle.std.proofs.Common.{◌≡◌, suc, Bool, false, List, [], ◌∷◌, ◌++◌, map, Option, Some, None, Ok, Err, refl, sym, ap, ◌∙◌, subst}
 use Rattle.mails.specs.declared.call.Call.{Call}
 use Rattle.mails.specs.declared.record.Durable.{Durable}
 use Rattle.names_core.specs.Ids.{Numbered}
@@ -22,13 +22,13 @@ use Rattle.cluster_steps.specs.declared.verdict.Verdict.TheVariants as verdicts
 use Rattle.told_streams.specs.Kept.{AreWithin, kept_streams, untaken}
 use Rattle.told_streams.specs.Streams.{next_on, taken}
 use Rattle.told_streams.specs.declared.kept.KeptStream.{KeptStream}
-use Rattle.cluster_parts.specs.Agents.{KeptAgent}
+use Rattle.cluster_agents.specs.Agents.{KeptAgent}
 use Rattle.cluster_parts.specs.Masters.{MasterMakes, StandsFor, taking, taking_out}
-use Rattle.cluster_parts.specs.Moves.{Makes, Reached, kept_agents, sending}
+use Rattle.cluster_agents.specs.Moves.{Makes, Reached, kept_agents, sending}
 use Rattle.cluster_parts.specs.Parts.{PartsOf, Takes}
-use Rattle.cluster_parts.specs.declared.masters.Made.{Made}
+use Rattle.cluster_agents.specs.declared.outcomes.Made.{Made}
 use Rattle.cluster_parts.specs.declared.parts.Parts.{Parts}
-use Rattle.cluster_parts.proofs.Making.{ItemsStand, append_nothing, items_by}
+use Rattle.cluster_agents.proofs.Making.{ItemsStand, append_nothing, items_by}
 use Rattle.cluster_parts.proofs.Parting.{agent_takes, master_takes}
 
 abbrev marks_so : Bool → Step → Marked

@@ -17,7 +17,7 @@ use Rattle.cluster_model.specs.Sides.{Side}
 use Rattle.cluster_histories.specs.Steps.{Done, at_channel, channel_of, delivers, hangs_up, loses_agent, master_does, post_at, stream_at, ticks_at, with_master, with_tick}
 use Rattle.cluster_laws.specs.Runs.{KeepsRun, RefusesAlone}
 use Rattle.cluster_parts.specs.Masters.{Does}
-use Rattle.cluster_parts.proofs.Committing.{if_it_is_down, if_it_is_up}
+use Rattle.cluster_agents.proofs.Committing.{if_it_is_down, if_it_is_up}
 
 pub record DoingLaws : Type 0 where
   pub calls : (c : Cluster) (stream : Option Numbered) (call : Call) → KeepsRun c (called (master_of c) stream call)

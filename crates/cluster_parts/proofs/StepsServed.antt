@@ -25,17 +25,17 @@ use Rattle.master_state.specs.declared.state.Outs.{Outs}
 use Rattle.told_streams.specs.Kept.{AreWithin, kept_stream, kept_streams}
 use Rattle.told_streams.specs.declared.kept.KeptStream.{KeptStream}
 use Rattle.told_streams.specs.Streams.{kept_ids, stream_kept}
-use Rattle.cluster_parts.specs.Causes.{item_at}
-use Rattle.cluster_parts.specs.Handing.{MayRefuse}
+use Rattle.cluster_agents.specs.Causes.{item_at}
+use Rattle.cluster_agents.specs.Handing.{MayRefuse}
 use Rattle.cluster_parts.specs.Masters.{Does, MasterMakes, Settles, StandsFor, kept_master}
-use Rattle.cluster_parts.specs.Moves.{Reached, kept_agents}
-use Rattle.cluster_parts.specs.Agents.{KeptAgent, place_in}
-use Rattle.cluster_parts.proofs.Finding.{found, not_found}
+use Rattle.cluster_agents.specs.Moves.{Reached, kept_agents}
+use Rattle.cluster_agents.specs.Agents.{KeptAgent, place_in}
+use Rattle.cluster_agents.proofs.Finding.{found, not_found}
 use Rattle.cluster_parts.specs.Parts.{PartsOf, Takes, record_of}
-use Rattle.cluster_parts.specs.declared.masters.Made.{Made}
+use Rattle.cluster_agents.specs.declared.outcomes.Made.{Made}
 use Rattle.cluster_parts.specs.declared.parts.Parts.{Parts}
-use Rattle.cluster_parts.proofs.Committing.{if_it_is_down, if_it_is_up}
-use Rattle.cluster_parts.proofs.Preparing.{item_behind}
+use Rattle.cluster_agents.proofs.Committing.{if_it_is_down, if_it_is_up}
+use Rattle.cluster_agents.proofs.Preparing.{item_behind}
 use Rattle.cluster_parts.proofs.Mastering.{none_serves, serves_if}
 use Rattle.cluster_parts.proofs.Parting.{master_takes}
 

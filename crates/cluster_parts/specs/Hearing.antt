@@ -15,7 +15,7 @@ use Rattle.told_streams.specs.declared.kept.KeptStream.{KeptStream}
 use Rattle.cluster_parts.specs.Masters.{Settles}
 use Rattle.cluster_parts.specs.declared.delivering.ForMaster.{ForMaster}
 use Rattle.cluster_parts.specs.declared.delivering.ForMaster.TheVariants as for_master
-use Rattle.cluster_parts.specs.declared.masters.Made.{Made}
+use Rattle.cluster_agents.specs.declared.outcomes.Made.{Made}
 
 -- what was sent and isn't for the master, or wasn't sent
 abbrev pub IsNotForMaster : Option Item → Type 0

@@ -1,10 +1,6 @@
-pub mod Agents
-pub mod Causes
-pub mod Moves
-pub mod Sending
+pub mod Taking
 pub mod Masters
 pub mod Posts
-pub mod Handing
 pub mod Hearing
 pub mod Restarting
 pub mod Opening

@@ -16,7 +16,6 @@ use Rattle.cluster_laws.specs.Runs.{KeepsRun, RefusesAlone}
 use Rattle.cluster_entries.specs.declared.entry.Outputs.{Outputs}
 use Rattle.cluster_steps.specs.declared.verdict.Sent.{Sent}
 use Rattle.cluster_steps.specs.declared.verdict.Sent.TheVariants as sent
-use Rattle.cluster_steps.specs.declared.verdict.Verdict.{Verdict}
 use Rattle.cluster_steps.specs.declared.verdict.Verdict.TheVariants as verdicts
 use Rattle.cluster_steps.specs.Verdicts.{fell}
 use Rattle.master_state.specs.declared.fault.MasterFault.{MasterFault}
@@ -25,8 +24,8 @@ use Rattle.master_state.specs.declared.state.Outs.{Outs}
 use Rattle.told_streams.specs.Kept.{AreWithin, kept_streams}
 use Rattle.told_streams.specs.declared.kept.KeptStream.{KeptStream}
 use Rattle.told_streams.specs.Streams.{heard}
-use Rattle.cluster_parts.specs.Moves.{sending}
-use Rattle.cluster_parts.specs.declared.masters.Made.{Made}
+use Rattle.cluster_agents.specs.Outcomes.{ends_with}
+use Rattle.cluster_agents.specs.declared.outcomes.Made.{Made}
 
 -- the master, where it serves
 abbrev pub kept_master : Master → Option (Option Master)
@@ -78,9 +77,6 @@ told_by outs =
       sent = map sent_to outs.mails;
       taken = None;
     }
-
-abbrev pub ends_with : Verdict → Made
-ends_with verdict = record { verdict = verdict; outputs = sending []; durable = None }
 
 abbrev pub tells : Outs → Made
 tells outs = record { verdict = verdicts.Ok; outputs = told_by outs; durable = None }

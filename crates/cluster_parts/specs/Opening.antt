@@ -11,9 +11,9 @@ use Rattle.master_state.specs.Works.{master_of}
 use Rattle.master_state.specs.declared.fault.MasterFault.{MasterFault}
 use Rattle.master_state.specs.declared.fault.MasterFault.TheVariants as fault
 use Rattle.master_state.specs.declared.state.Outs.{Outs}
-use Rattle.cluster_parts.specs.Agents.{KeptAgent}
+use Rattle.cluster_agents.specs.Agents.{KeptAgent}
 use Rattle.cluster_parts.specs.Masters.{StandsFor}
-use Rattle.cluster_parts.specs.Moves.{kept_agents}
+use Rattle.cluster_agents.specs.Moves.{kept_agents}
 use Rattle.cluster_parts.specs.declared.opening.Opened.{Opened}
 
 -- an agent that came up over its record

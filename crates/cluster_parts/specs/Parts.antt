@@ -10,12 +10,12 @@ use Rattle.cluster_laws.specs.Parts.{AreAgentsOf}
 use Rattle.cluster_steps.specs.Verdicts.{fell}
 use Rattle.cluster_steps.specs.declared.verdict.Verdict.{Verdict}
 use Rattle.cluster_steps.specs.declared.fault.ClusterFault.{ClusterFault}
-use Rattle.cluster_parts.specs.Agents.{KeptAgent}
-use Rattle.cluster_parts.specs.Causes.{record_prepared}
-use Rattle.cluster_parts.specs.Handing.{MayRefuse}
+use Rattle.cluster_agents.specs.Agents.{KeptAgent}
+use Rattle.cluster_agents.specs.Causes.{record_prepared}
+use Rattle.cluster_agents.specs.Handing.{MayRefuse}
 use Rattle.cluster_parts.specs.Masters.{StandsFor}
-use Rattle.cluster_parts.specs.Moves.{Reached, Refuses, kept_agents}
-use Rattle.cluster_parts.specs.declared.masters.Made.{Made}
+use Rattle.cluster_agents.specs.Moves.{Reached, Refuses, kept_agents}
+use Rattle.cluster_agents.specs.declared.outcomes.Made.{Made}
 use Rattle.cluster_parts.specs.declared.parts.Parts.{Parts}
 
 -- the parts stand for a state

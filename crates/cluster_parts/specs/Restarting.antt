@@ -10,7 +10,7 @@ use Rattle.cluster_laws.specs.declared.item.Item.{Item}
 use Rattle.cluster_steps.specs.Verdicts.{fell}
 use Rattle.told_streams.specs.declared.kept.KeptStream.{KeptStream}
 use Rattle.cluster_parts.specs.Masters.{StandsFor}
-use Rattle.cluster_parts.specs.declared.masters.Made.{Made}
+use Rattle.cluster_agents.specs.declared.outcomes.Made.{Made}
 
 -- the run behind this one; none behind the last one
 abbrev pub run_behind : ℕ → Option ℕ

@@ -1,13 +1,13 @@
 //! What was sent to the master comes to it.
 
 ghost use Rattle.std.specs.Prelude.{◌≡◌, ◌+◌, ◌++◌, true, length, is_some, Some, Err, IfOk, IfErr, IfSome, OnErr, List, Option, Result, ℕ};
-ghost use Rattle.cluster_parts.specs.Causes.{item_at};
+ghost use Rattle.cluster_agents.specs.Causes.{item_at};
 ghost use Rattle.cluster_parts.specs.Hearing.{IsForMaster, SettlesHeard, with_refusal};
 ghost use Rattle.cluster_parts.specs.Masters.{MasterMakes, StandsFor};
-ghost use Rattle.cluster_parts.specs.Moves.{Reached, Refuses};
+ghost use Rattle.cluster_agents.specs.Moves.{Reached, Refuses};
 ghost use Rattle.cluster_parts.specs.Parts.{AllMayRefuse, AllRefuse, AllTake, AreParts, Same};
 ghost use Rattle.cluster_parts.specs.Posts.{Grows};
-ghost use Rattle.cluster_parts.specs.declared.masters.Made.{Made as MadeSo};
+ghost use Rattle.cluster_agents.specs.declared.outcomes.Made.{Made as MadeSo};
 ghost use Rattle.cluster_laws.specs.Runs.{AreRising};
 ghost use Rattle.cluster_laws.specs.declared.item.Item.TheVariants as sent;
 ghost use Rattle.cluster_laws.specs.declared.item.Item.{Item as SentItem};
@@ -24,10 +24,9 @@ ghost use Rattle.side_fits.specs.Fits.{MailFitsAt};
 ghost use Rattle.told_streams.specs.Streams.{kept_ids};
 ghost use Rattle.told_streams.specs.declared.kept.KeptStream.{KeptStream};
 
-use crate::causes::item_at;
-use crate::items::Items;
-use crate::masters::{Made, settle};
+use crate::masters::settle;
 use crate::parts::Parts;
+use cluster_agents::{Items, Made, item_at};
 use cluster_laws::{
     Item, fallen_masters_do_not_serve, items_are_posts, mails_of_agents_fit, masters_leave_agents,
     masters_stay_in_their_run, named_agents_are_found, sent_items_stand, streams_rise,

@@ -3,13 +3,9 @@
 //! model's, or it is refused and they stay as they were.
 #![tactic(auto)]
 
-mod agents;
-mod causes;
 mod commits;
 mod delivering;
 mod doings;
-mod items;
-mod laws;
 mod master_laws;
 mod masters;
 mod opening;
@@ -20,8 +16,6 @@ mod sends;
 mod serving;
 mod stops;
 
-pub use agents::{ClusterAgent, place_of};
-pub use items::Items;
-pub use masters::Made;
+pub use cluster_agents::{ClusterAgent, Items, Made, place_of};
 pub use opening::{Opened, open_parts};
 pub use parts::Parts;

@@ -2,8 +2,8 @@
 
 ghost use Rattle.std.specs.Prelude.{◌≡◌, ◌++◌, true, IfOk, List, Option, Some, Result, ℕ};
 ghost use Rattle.cluster_parts.specs.Masters.{Does, MasterMakes, Settles};
-ghost use Rattle.cluster_parts.specs.Moves.{Reached};
-ghost use Rattle.cluster_parts.specs.declared.masters.Made.{Made};
+ghost use Rattle.cluster_agents.specs.Moves.{Reached};
+ghost use Rattle.cluster_agents.specs.declared.outcomes.Made.{Made};
 ghost use Rattle.cluster_laws.specs.Items.{StandIn};
 ghost use Rattle.cluster_laws.specs.Runs.{AreRising};
 ghost use Rattle.cluster_laws.specs.declared.item.Item.{Item};

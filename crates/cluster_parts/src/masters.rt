@@ -1,15 +1,12 @@
 //! What the master brings out is kept and told.
 
 ghost use Rattle.std.specs.Prelude.{◌≡◌, ◌+◌, ◌≤◌, ◌++◌, length, map, IfOk, OnOk, OnErr};
-ghost use Rattle.cluster_parts.specs.Masters.{Settles, ends_with, item_to, sent_to, tells};
-ghost use Rattle.cluster_parts.specs.Moves.{sending};
+ghost use Rattle.cluster_parts.specs.Masters.{Settles, item_to, sent_to, tells};
 ghost use Rattle.cluster_parts.specs.Posts.{Grows};
 ghost use Rattle.cluster_laws.specs.Runs.{AreRising};
-ghost use Rattle.cluster_steps.specs.declared.verdict.Verdict.TheVariants as verdicts;
 ghost use Rattle.told_streams.specs.Streams.{heard, kept_ids};
 
-use crate::items::Items;
-use agent_core::Record;
+use cluster_agents::{Items, Made, Outgoing, ends_with};
 use cluster_entries::Outputs;
 use cluster_laws::Item;
 use cluster_steps::{Sent, Verdict};
@@ -23,56 +20,6 @@ use scheduler_events::StreamEvent;
 use shared_value::Shared;
 use std::alloc::{AllocError, Global};
 use told_streams::Streams;
-
-/// How a step ended and what it brought out: its entry, but for the step.
-#[derive(Drop)]
-pub struct Made {
-    pub verdict: Verdict,
-    pub outputs: Outputs,
-    /// A copy of the record of the draft that the step opened.
-    pub durable: Option<Record>,
-}
-
-/// Mails, as an entry tells them and as they are kept. Each stands once.
-#[derive(Drop)]
-pub(crate) struct Outgoing {
-    pub sent: Listed<Sent>,
-    pub items: Listed<Item>,
-}
-
-/// What a step brings out that only sends.
-pub fn sending(alloc: Global, sent: Listed<Sent>) -> Outputs
-    ensures { result ≡ sending sent }
-{
-    Outputs {
-        events: Listed::new(alloc),
-        closed: Listed::new(alloc),
-        sent,
-        taken: None,
-    }
-}
-
-/// A step that was taken and only sends.
-pub fn made_sending(alloc: Global, sent: Listed<Sent>) -> Made
-    ensures { result ≡ record { verdict = verdicts.Ok; outputs = sending sent; durable = None } }
-{
-    Made {
-        verdict: Verdict::Ok,
-        outputs: sending(alloc, sent),
-        durable: None,
-    }
-}
-
-/// A step that ended in this way and brings out nothing.
-pub fn ends_with(alloc: Global, verdict: Verdict) -> Made
-    ensures { result ≡ ends_with verdict }
-{
-    Made {
-        verdict,
-        outputs: sending(alloc, Listed::new(alloc)),
-        durable: None,
-    }
-}
 
 /// The master's mails, as they are told and kept.
 fn outgoing_to(alloc: Global, mails: &[ToAgent]) -> Result<Outgoing, AllocError>

@@ -2,9 +2,9 @@
 
 ghost use Rattle.std.specs.Prelude.{◌≡◌, ◌≤◌, ◌++◌, [], length, List, Option, Result, map, IfOk, IfErr, ℕ};
 ghost use Rattle.cluster_parts.specs.Masters.{Settles, StandsFor};
-ghost use Rattle.cluster_parts.specs.Moves.{kept_agents};
+ghost use Rattle.cluster_agents.specs.Moves.{kept_agents};
 ghost use Rattle.cluster_parts.specs.Opening.{Opens, Starts, up_over};
-ghost use Rattle.cluster_parts.specs.declared.masters.Made.{Made as MadeSo};
+ghost use Rattle.cluster_agents.specs.declared.outcomes.Made.{Made as MadeSo};
 ghost use Rattle.agent_sides.specs.declared.config.ConfiguredAgent.{ConfiguredAgent};
 ghost use Rattle.cluster_laws.specs.Parts.{AreAgentsOf};
 ghost use Rattle.cluster_laws.specs.Runs.{AreRising};
@@ -21,10 +21,9 @@ ghost use Rattle.master_state.specs.declared.state.Outs.{Outs as OutsSo};
 ghost use Rattle.told_streams.specs.Streams.{kept_ids};
 ghost use Rattle.told_streams.specs.declared.kept.KeptStream.{KeptStream};
 
-use crate::agents::ClusterAgent;
-use crate::items::Items;
 use crate::masters::settle;
 use agent_core::Record;
+use cluster_agents::{ClusterAgent, Items};
 use cluster_entries::Outputs;
 use cluster_laws::{
     fresh_masters_open, masters_begin_with_greetings, masters_leave_agents, opening_items_stand,

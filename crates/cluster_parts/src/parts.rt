@@ -1,13 +1,11 @@
 //! The parts of a cluster, and the step that each makes of them.
 
 ghost use Rattle.std.specs.Prelude.{◌≡◌, length, IfOk, IfErr, OnErr};
-ghost use Rattle.cluster_parts.specs.Handing.{IsGiven};
+ghost use Rattle.cluster_agents.specs.Handing.{IsGiven};
 ghost use Rattle.cluster_parts.specs.Parts.{AllMayRefuse, AllTakeBy, AreParts, ArePartsBy, Same};
 ghost use Rattle.cluster_parts.specs.Posts.{Grows};
 
-use crate::agents::ClusterAgent;
-use crate::items::Items;
-use crate::masters::Made;
+use cluster_agents::{ClusterAgent, Items, Made};
 use cluster_steps::{ClusterFault, Keep, Step};
 use master_core::{Config, Master};
 use names_core::Run;

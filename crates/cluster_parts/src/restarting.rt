@@ -1,13 +1,14 @@
 //! The master stops, and a new one begins the next run.
 
 ghost use Rattle.std.specs.Prelude.{◌≡◌, ◌+◌, ◌++◌, length, true, false, nat_lt, List, Option, None, Result, IfOk, ℕ};
-ghost use Rattle.cluster_parts.specs.Masters.{Settles, StandsFor, ends_with};
-ghost use Rattle.cluster_parts.specs.Moves.{Reached};
+ghost use Rattle.cluster_agents.specs.Outcomes.{ends_with};
+ghost use Rattle.cluster_parts.specs.Masters.{Settles, StandsFor};
+ghost use Rattle.cluster_agents.specs.Moves.{Reached};
 ghost use Rattle.cluster_parts.specs.Opening.{Starts};
 ghost use Rattle.cluster_parts.specs.Parts.{AllTake, AreParts};
 ghost use Rattle.cluster_parts.specs.Posts.{Grows};
 ghost use Rattle.cluster_parts.specs.Restarting.{Restarts, run_behind};
-ghost use Rattle.cluster_parts.specs.declared.masters.Made.{Made as MadeSo};
+ghost use Rattle.cluster_agents.specs.declared.outcomes.Made.{Made as MadeSo};
 ghost use Rattle.agent_sides.specs.declared.config.ConfiguredAgent.{ConfiguredAgent};
 ghost use Rattle.cluster_laws.specs.Parts.{AreAgentsOf};
 ghost use Rattle.cluster_laws.specs.Runs.{AreRising};
@@ -22,9 +23,10 @@ ghost use Rattle.master_state.specs.declared.state.Outs.{Outs};
 ghost use Rattle.told_streams.specs.Streams.{kept_ids};
 ghost use Rattle.told_streams.specs.declared.kept.KeptStream.{KeptStream};
 
-use crate::masters::{Made, ends_with, settle};
+use crate::masters::settle;
 use crate::opening::start_in;
 use crate::parts::Parts;
+use cluster_agents::{Made, ends_with};
 use cluster_laws::{
     fresh_masters_open, masters_begin_with_greetings, masters_leave_agents, sent_items_stand,
     streams_rise,

@@ -2,10 +2,10 @@
 
 ghost use Rattle.std.specs.Prelude.{◌≡◌, ◌+◌, ◌++◌, ◌∷◌, [], length, List, Option, Some, None, IfOk, IfErr, OnErr};
 ghost use Rattle.cluster_parts.specs.Masters.{MasterMakes, StandsFor, taking, taking_out};
-ghost use Rattle.cluster_parts.specs.Moves.{Makes, Reached, Refuses, kept_agents, sending};
+ghost use Rattle.cluster_agents.specs.Moves.{Makes, Reached, Refuses, kept_agents, sending};
 ghost use Rattle.cluster_parts.specs.Parts.{AllRefuse, AllTake, Same};
 ghost use Rattle.cluster_parts.specs.Posts.{Grows};
-ghost use Rattle.cluster_parts.specs.Sending.{MayLackEvent};
+ghost use Rattle.cluster_parts.specs.Taking.{MayLackEvent};
 ghost use Rattle.cluster_laws.specs.Items.{StandIn};
 ghost use Rattle.cluster_laws.specs.declared.item.Item.{Item};
 ghost use Rattle.cluster_laws.specs.declared.item.Item.TheVariants as items;
@@ -21,8 +21,8 @@ ghost use Rattle.names_core.specs.Ids.{Numbered};
 ghost use Rattle.told_streams.specs.Kept.{kept_streams};
 ghost use Rattle.told_streams.specs.Streams.{next_on, taken};
 
-use crate::masters::{Made, made_sending};
 use crate::parts::Parts;
+use cluster_agents::{Made, made_sending};
 use cluster_entries::Outputs;
 use cluster_laws::{Item, sent_items_stand, streams_rise};
 use cluster_steps::{ClusterFault, Sent, Verdict};

@@ -1,18 +1,18 @@
 //! The steps that a serving master takes.
 
 ghost use Rattle.std.specs.Prelude.{◌≡◌, is_some, length, Some, IfOk, IfErr, OnErr};
-ghost use Rattle.cluster_parts.specs.Agents.{place_in};
-ghost use Rattle.cluster_parts.specs.Causes.{item_at};
+ghost use Rattle.cluster_agents.specs.Agents.{place_in};
+ghost use Rattle.cluster_agents.specs.Causes.{item_at};
 ghost use Rattle.cluster_parts.specs.Parts.{AllRefuse, AllTake, AllTakeBy, AreParts, ArePartsBy, Same};
 ghost use Rattle.cluster_parts.specs.Posts.{Grows};
 ghost use Rattle.cluster_laws.specs.declared.item.Item.TheVariants as sent;
 ghost use Rattle.cluster_steps.specs.declared.step.Step.TheVariants.{Allocate, Deliver, HangUp, LoseAgent, Tick};
 
-use crate::agents::{ClusterAgent, place_of};
 use crate::doings::masters_do_their_steps;
 use crate::master_laws::answers_are_made;
-use crate::masters::{Made, settle};
+use crate::masters::settle;
 use crate::parts::Parts;
+use cluster_agents::{ClusterAgent, Made, place_of};
 use cluster_laws::items_are_posts;
 use cluster_steps::ClusterFault;
 use mails::Call;

@@ -1,32 +1,15 @@
 //! Agents stop, and are up again.
 
-ghost use Rattle.std.specs.Prelude.{◌≡◌, ◌<◌, length, Some, None, IfOk, IfErr, OnErr};
-ghost use Rattle.cluster_parts.specs.Agents.{place_in};
+ghost use Rattle.std.specs.Prelude.{◌≡◌, length, IfOk, IfErr, OnErr};
 ghost use Rattle.cluster_parts.specs.Parts.{AllRefuse, AllTake, Same};
 ghost use Rattle.cluster_steps.specs.declared.step.Step.TheVariants.{StopAgent};
 ghost use Rattle.cluster_steps.specs.declared.step.Keep.TheVariants.{After, Before};
-ghost use Rattle.cluster_steps.specs.declared.fault.ClusterFault.TheVariants.{NoSuchAgent};
 
-use crate::agents::{ClusterAgent, place_of};
-use crate::laws::stops_are_made;
-use crate::masters::{Made, ends_with};
 use crate::parts::Parts;
+use cluster_agents::{Made, ends_with, found, stops_are_made};
 use cluster_steps::{ClusterFault, Verdict};
 use names_core::AgentName;
 use std::alloc::Global;
-
-/// Where the agent of a name stands, or `C8 NoSuchAgent`.
-pub fn found(agents: &[ClusterAgent], name: &AgentName) -> Result<usize, ClusterFault>
-    ensures place { IfOk result (λ place. place_in name.now agents.now ≡ Some place) }
-    ensures within { IfOk result (λ place. place < length agents.now) }
-    ensures none { IfErr result (λ fault. (place_in name.now agents.now ≡ None)
-        × (fault ≡ NoSuchAgent)) }
-{
-    match place_of(agents, name) {
-        Some(place) => Ok(place),
-        None => Err(ClusterFault::NoSuchAgent),
-    }
-}
 
 impl Parts {
     /// The agent stops, and is up again over its record; an open draft is gone.

@@ -20,9 +20,9 @@ use Rattle.cluster_entries.specs.declared.entry.Outputs.{Outputs}
 use Rattle.cluster_steps.specs.declared.fault.ClusterFault.TheVariants as faults
 use Rattle.cluster_steps.specs.declared.step.Step.{Step}
 use Rattle.cluster_steps.specs.Verdicts.{fell}
-use Rattle.cluster_parts.specs.Agents.{recorded}
+use Rattle.cluster_agents.specs.Agents.{recorded}
 use Rattle.cluster_core.specs.Keeping.{IsRefused, IsTaken, WithheldFrom, offered_in}
-use Rattle.cluster_parts.specs.Moves.{kept_agents, kept_part}
+use Rattle.cluster_agents.specs.Moves.{kept_agents, kept_part}
 use Rattle.cluster_core.specs.Stories.{Story, state_of, with_entry}
 use Rattle.cluster_core.specs.declared.taken.Taken.{Taken}
 use Rattle.replayed_clusters.specs.Stories.{due, entry_in, entry_or_fault, greetings, offered_now, records_now}

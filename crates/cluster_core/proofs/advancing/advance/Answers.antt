@@ -5,7 +5,7 @@ use Rattle.cluster_histories.specs.Steps.{marked_of}
 use Rattle.cluster_entries.specs.declared.entry.Outputs.{Outputs}
 use Rattle.agent_sides.specs.Configs.{names_of}
 use Rattle.cluster_laws.specs.Parts.{AreAgentsOf}
-use Rattle.cluster_parts.specs.Handing.{handed}
+use Rattle.cluster_agents.specs.Handing.{handed}
 use Rattle.cluster_parts.specs.Parts.{ArePartsBy}
 use Rattle.cluster_core.specs.Putting.{direction_of, with_handed}
 use Rattle.cluster_core.specs.Keeping.{IsKept, IsRefused, IsRefusedFirst, IsTaken, entry_made, story_of, taken_made}

@@ -1,7 +1,7 @@
 use Rattle.std.proofs.Common.{◌∙◌, refl, sym}
 use Rattle.cluster_steps.specs.declared.step.Step.TheVariants.{Commit}
-use Rattle.cluster_parts.specs.Moves.{kept_agents}
-use Rattle.cluster_parts.proofs.Committing.{commit_so}
+use Rattle.cluster_agents.specs.Moves.{kept_agents}
+use Rattle.cluster_agents.proofs.Committing.{commit_so}
 use Rattle.cluster_parts.proofs.Parting.{here, one_takes}
 use Rattle.cluster_parts.proofs.parts.Parts.commit.Goals as goal
 

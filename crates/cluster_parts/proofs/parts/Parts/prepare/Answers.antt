@@ -9,13 +9,13 @@ use Rattle.cluster_entries.specs.declared.entry.Outputs.{Outputs}
 use Rattle.cluster_steps.specs.declared.verdict.Verdict.TheVariants.{AgentRefused}
 use Rattle.cluster_steps.specs.declared.fault.ClusterFault.{ClusterFault}
 use Rattle.cluster_steps.specs.declared.fault.ClusterFault.TheVariants.{NoSuchAgent}
-use Rattle.cluster_parts.specs.Agents.{KeptAgent, place_in}
-use Rattle.cluster_parts.specs.Causes.{Causes, cause_due}
-use Rattle.cluster_parts.specs.Handing.{MayRefuse}
-use Rattle.cluster_parts.specs.Moves.{ComeInOrder, Makes, kept_agents, sending}
+use Rattle.cluster_agents.specs.Agents.{KeptAgent, place_in}
+use Rattle.cluster_agents.specs.Causes.{Causes, cause_due}
+use Rattle.cluster_agents.specs.Handing.{MayRefuse}
+use Rattle.cluster_agents.specs.Moves.{ComeInOrder, Makes, kept_agents, sending}
 use Rattle.cluster_parts.specs.Parts.{AllMayRefuse}
 use Rattle.cluster_parts.proofs.Parting.{at_place, come_in_order, here, one_takes}
-use Rattle.cluster_parts.proofs.Preparing.{in_order_at, none_open, record_so, set_found, set_same}
+use Rattle.cluster_agents.proofs.Preparing.{in_order_at, none_open, record_so, set_found, set_same}
 use Rattle.cluster_parts.proofs.parts.Parts.prepare.Goals as goal
 
 pub returns-in_err-place-clause-refused : goal.returns-in_err-place-clause-refused

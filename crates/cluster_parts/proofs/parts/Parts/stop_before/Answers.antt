@@ -3,8 +3,8 @@ use Rattle.std.specs.Prelude.{slice_set}
 use Rattle.cluster_steps.specs.declared.step.Step.TheVariants.{StopAgent}
 use Rattle.cluster_steps.specs.declared.step.Keep.TheVariants.{Before}
 use Rattle.cluster_steps.specs.declared.verdict.Verdict.TheVariants as verdicts
-use Rattle.cluster_parts.specs.Agents.{KeptAgent}
-use Rattle.cluster_parts.specs.Moves.{Makes, kept_agents, sending}
+use Rattle.cluster_agents.specs.Agents.{KeptAgent}
+use Rattle.cluster_agents.specs.Moves.{Makes, kept_agents, sending}
 use Rattle.cluster_parts.proofs.Parting.{here, one_takes}
 use Rattle.cluster_parts.proofs.parts.Parts.stop_before.Goals as goal
 

@@ -1,10 +1,10 @@
 use Rattle.std.proofs.Common.{◌≡◌, ◌+◌, ℕ, true, false, None, nat_lt, refl, sym, ap, ◌∙◌, subst}
 use Rattle.cluster_model.specs.Ids.{last_run}
 use Rattle.cluster_steps.specs.declared.verdict.Verdict.TheVariants as verdicts
-use Rattle.cluster_parts.specs.Masters.{ends_with}
+use Rattle.cluster_agents.specs.Outcomes.{ends_with}
 use Rattle.cluster_parts.specs.Opening.{Starts}
 use Rattle.cluster_parts.specs.Restarting.{Restarts}
-use Rattle.cluster_parts.specs.declared.masters.Made.{Made}
+use Rattle.cluster_agents.specs.declared.outcomes.Made.{Made}
 use Rattle.cluster_parts.proofs.Parting.{restart_takes}
 use Rattle.cluster_parts.proofs.Restarts.{behind_so, none_behind}
 use Rattle.cluster_parts.proofs.parts.Parts.stop_master.Goals as goal

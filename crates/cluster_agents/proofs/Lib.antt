@@ -1,0 +1,5 @@
+pub mod Finding
+pub mod Making
+pub mod Stopping
+pub mod Committing
+pub mod Preparing

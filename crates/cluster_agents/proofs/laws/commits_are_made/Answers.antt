@@ -1,0 +1,20 @@
+use Rattle.cluster_agents.proofs.Making.{Laws}
+use Rattle.cluster_agents.proofs.Committing.{commit_down, commit_made, commit_unknown, commit_without_draft}
+use Rattle.cluster_agents.proofs.laws.commits_are_made.Goals as goal
+
+pub returns : goal.returns
+returns c =
+    let laws : Laws = record {
+      once = c.agents_keep_their_names.ensures.once;
+      stand = c.sent_items_stand.ensures;
+      master = c.agents_leave_the_others.ensures.master;
+      one = c.agents_leave_the_others.ensures.agents;
+      silent = c.commits_send_drafts.ensures.silent;
+      commits = c.commits_send_drafts.ensures.commits;
+      draws = c.steps_move_agents.ensures.draws;
+      draws_mail = c.steps_move_agents.ensures.draws_mail;
+      adopts = c.steps_move_agents.ensures.adopts;
+      stops_without = c.steps_move_agents.ensures.stops_without;
+      stops_with = c.steps_move_agents.ensures.stops_with;
+    } in
+    record { made = commit_made laws; unknown = commit_unknown; down = commit_down; without = commit_without_draft }

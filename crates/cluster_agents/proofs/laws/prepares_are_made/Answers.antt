@@ -1,0 +1,28 @@
+use Rattle.cluster_agents.proofs.Making.{Laws}
+use Rattle.cluster_agents.proofs.Preparing.{MoreLaws, prepare_astray, prepare_down, prepare_made, prepare_opened, prepare_refused, prepare_unknown, prepare_withheld}
+use Rattle.cluster_agents.proofs.laws.prepares_are_made.Goals as goal
+
+pub returns : goal.returns
+returns c =
+    let laws : Laws = record {
+      once = c.agents_keep_their_names.ensures.once;
+      stand = c.sent_items_stand.ensures;
+      master = c.agents_leave_the_others.ensures.master;
+      one = c.agents_leave_the_others.ensures.agents;
+      silent = c.commits_send_drafts.ensures.silent;
+      commits = c.commits_send_drafts.ensures.commits;
+      draws = c.steps_move_agents.ensures.draws;
+      draws_mail = c.steps_move_agents.ensures.draws_mail;
+      adopts = c.steps_move_agents.ensures.adopts;
+      stops_without = c.steps_move_agents.ensures.stops_without;
+      stops_with = c.steps_move_agents.ensures.stops_with;
+    } in
+    let more : MoreLaws = record {
+      laws = laws;
+      recorded = c.agents_keep_their_names.ensures.recorded;
+      calls = c.items_are_posts.ensures.calls;
+      to_agents = c.items_are_posts.ensures.to_agents;
+      to_master = c.items_are_posts.ensures.to_master;
+      none = c.items_are_posts.ensures.none;
+    } in
+    record { made = prepare_made more; astray = prepare_astray more; unknown = prepare_unknown; down = prepare_down; opened = prepare_opened; refused = prepare_refused more; withheld = prepare_withheld }

@@ -1,0 +1,63 @@
+//! How a step ends, and what it brings out.
+
+ghost use Rattle.std.specs.Prelude.{◌≡◌};
+ghost use Rattle.cluster_agents.specs.Moves.{sending};
+ghost use Rattle.cluster_agents.specs.Outcomes.{ends_with};
+ghost use Rattle.cluster_steps.specs.declared.verdict.Verdict.TheVariants as verdicts;
+
+use agent_core::Record;
+use cluster_entries::Outputs;
+use cluster_laws::Item;
+use cluster_steps::{Sent, Verdict};
+use listed::Listed;
+use std::alloc::Global;
+
+/// How a step ended and what it brought out: its entry, but for the step.
+#[derive(Drop)]
+pub struct Made {
+    pub verdict: Verdict,
+    pub outputs: Outputs,
+    /// A copy of the record of the draft that the step opened.
+    pub durable: Option<Record>,
+}
+
+/// Mails, as an entry tells them and as they are kept. Each stands once.
+#[derive(Drop)]
+pub struct Outgoing {
+    pub sent: Listed<Sent>,
+    pub items: Listed<Item>,
+}
+
+/// What a step brings out that only sends.
+pub fn sending(alloc: Global, sent: Listed<Sent>) -> Outputs
+    ensures { result ≡ sending sent }
+{
+    Outputs {
+        events: Listed::new(alloc),
+        closed: Listed::new(alloc),
+        sent,
+        taken: None,
+    }
+}
+
+/// A step that was taken and only sends.
+pub fn made_sending(alloc: Global, sent: Listed<Sent>) -> Made
+    ensures { result ≡ record { verdict = verdicts.Ok; outputs = sending sent; durable = None } }
+{
+    Made {
+        verdict: Verdict::Ok,
+        outputs: sending(alloc, sent),
+        durable: None,
+    }
+}
+
+/// A step that ended in this way and brings out nothing.
+pub fn ends_with(alloc: Global, verdict: Verdict) -> Made
+    ensures { result ≡ ends_with verdict }
+{
+    Made {
+        verdict,
+        outputs: sending(alloc, Listed::new(alloc)),
+        durable: None,
+    }
+}
