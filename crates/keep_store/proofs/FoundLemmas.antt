@@ -15,11 +15,13 @@ use Rattle.sqlite_rules.proofs.ProbeLemmas.{has_mapped, mapped_has}
 use Rattle.mails.specs.declared.record.RecordedTask.{RecordedTask}
 use Rattle.agent_core.specs.Records.{keys_rise}
 use Rattle.record_text.specs.Reading.{◌>>=◌, where_true, task_in}
-use Rattle.keep_store.specs.Kept.{AreTold, ArePut, AreSeen, IsPlaced, IsPut, Knows, Tells, TellsTask, told}
+use Rattle.record_saves.specs.Kept.{ArePut, AreSeen, IsPut, Knows, Tells, TellsTask, told}
+use Rattle.keep_store.specs.Kept.{AreTold, IsPlaced}
 use Rattle.keep_rows.specs.Columns.{number_at, text_at}
 use Rattle.keep_rows.specs.Tables.{task_shown}
 use Rattle.keep_rows.proofs.QueryLemmas.{has_permuted}
-use Rattle.keep_store.proofs.LoadLemmas.{put_are_tasks, rises, row_of_task, same_told, task_of_row}
+use Rattle.record_saves.proofs.RiseLemmas.{put_are_tasks, rises}
+use Rattle.keep_store.proofs.LoadLemmas.{row_of_task, same_told, task_of_row}
 
 -- ---- what a row that tells a task has
 

@@ -1,9 +1,5 @@
 pub mod MoveLemmas
 pub mod OpenLemmas
-pub mod TaskLemmas
-pub mod ToldLemmas
 pub mod LoadLemmas
-pub mod SaveLemmas
-pub mod SeenLemmas
 pub mod FoundLemmas
 pub mod HeadLemmas

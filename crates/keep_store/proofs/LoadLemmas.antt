@@ -1,37 +1,35 @@
 -- What rows tell, as queries show them, is what the tables keep.
-use Rattle.std.proofs.Common.{◌≡◌, ◌≢◌, ◌⊎◌, ◌<◌, ◌+◌, ◌^◌, inl, inr, ℕ, List, [], ◌∷◌, ◌++◌, length, map, take, get_or, Bool, true, false, nat_lt, Some, None, Option, refl, sym, ap, subst, ◌∙◌, arith, ◌==◌, ◌&&◌, ◌||◌}
+use Rattle.std.proofs.Common.{◌≡◌, ◌≢◌, ◌<◌, ◌+◌, inl, inr, ℕ, List, [], ◌∷◌, ◌++◌, length, map, take, get_or, true, false, Some, None, Option, refl, sym, ap, subst, ◌∙◌, arith}
 use Rattle.std.specs.List.{AllByRecursion}
 use Rattle.std.specs.List.Sorted.{IsPermutation}
 use Rattle.std.proofs.lemmas.List.Sorted.{length_permutation, IsPermutation-sym}
 use Rattle.std.proofs.lemmas.List.{take_more}
-use Rattle.std.proofs.lemmas.Bool.{and_parts}
-use Rattle.std.proofs.lemmas.Bool.Decides.{nat_tests}
 use Rattle.std.proofs.Common.{Err}
 use Rattle.sqlite.specs.declared.types.Value.{Value}
 use Rattle.sqlite.specs.declared.types.Value.TheVariants.{Null, Text}
 use Rattle.sqlite.specs.Order.{Row, column}
 use Rattle.sqlite.specs.Tree.{Trees}
 use Rattle.sqlite_rules.specs.Lists.{Has}
-use Rattle.sqlite_rules.proofs.ListLemmas.{has_at, all_from, all_has}
+use Rattle.sqlite_rules.proofs.ListLemmas.{has_at}
 use Rattle.sqlite_rules.proofs.ProbeLemmas.{has_mapped, mapped_has}
-use Rattle.names_core.specs.Ids.{Numbered}
-use Rattle.cluster_model.specs.Ids.{before}
 use Rattle.mails.specs.declared.record.Durable.{Durable}
 use Rattle.mails.specs.declared.record.RecordedTask.{RecordedTask}
-use Rattle.agent_core.specs.Records.{is_record, keys_rise, rise_behind}
+use Rattle.agent_core.specs.Records.{is_record, keys_rise}
 use Rattle.record_text.specs.Texts.{record_form}
 use Rattle.record_text.specs.Written.{IsTask, IsDurable, IsWritten}
 use Rattle.record_text.specs.Reading.{◌>>=◌}
 use Rattle.record_text.proofs.Again.{one_record, one_written}
-use Rattle.keep_rows.specs.Tables.{place_of}
-use Rattle.keep_store.specs.Kept.{AreTold, SomeUntold, IsDamaged, IsLoaded, IsRecordText, HoldsText, IsPut, Rise, Tells, body_in, head_told, kept_in, told, tasks_in, text_of, with_tasks, value_in, shown_body}
+use Rattle.record_saves.specs.Kept.{IsPut, Rise, Tells, body_in, head_told, kept_in, told, tasks_in, text_of, with_tasks}
+use Rattle.keep_store.specs.Kept.{AreTold, SomeUntold, IsDamaged, HoldsText, shown_body}
 use Rattle.keep_rows.specs.Columns.{Gives}
 use Rattle.keep_rows.specs.Tables.{Shows, amount_shown, head_of, task_shown}
 use Rattle.keep_rows.specs.declared.fault.KeepFault.{KeepFault}
 use Rattle.keep_rows.specs.declared.fault.KeepFault.TheVariants as fault
 use Rattle.keep_rows.proofs.QueryLemmas.{has_permuted}
 use Rattle.keep_store.proofs.MoveLemmas.{no_amount_shown}
-use Rattle.keep_store.proofs.TaskLemmas.{tells_all}
+use Rattle.record_saves.proofs.TaskLemmas.{tells_all}
+use Rattle.record_saves.proofs.HeadLemmas.{with_head}
+use Rattle.record_saves.proofs.RiseLemmas.{rises}
 
 -- ---- the loop over the rows
 
@@ -70,12 +68,12 @@ same_told row = refl
 
 absent : (rows : List Row) (r : Row) → Has rows r → told r ≡ None → tasks_in rows ≡ None
 absent [] r at none = absurd at
-absent (x ∷ rows) r (inl same) none = ap (λ (o : Option RecordedTask). o >>= λ task. tasks_in rows >>= λ tasks. Some (Rattle.keep_store.specs.Kept.put_task task tasks)) (ap told (sym same) ∙ none)
+absent (x ∷ rows) r (inl same) none = ap (λ (o : Option RecordedTask). o >>= λ task. tasks_in rows >>= λ tasks. Some (Rattle.record_saves.specs.Kept.put_task task tasks)) (ap told (sym same) ∙ none)
 absent (x ∷ rows) r (inr at) none = go (told x) (absent rows r at none)
   where
-    go : (o : Option RecordedTask) → tasks_in rows ≡ None → (o >>= λ task. tasks_in rows >>= λ tasks. Some (Rattle.keep_store.specs.Kept.put_task task tasks)) ≡ None
+    go : (o : Option RecordedTask) → tasks_in rows ≡ None → (o >>= λ task. tasks_in rows >>= λ tasks. Some (Rattle.record_saves.specs.Kept.put_task task tasks)) ≡ None
     go None later = refl
-    go (Some task) later = ap (λ (o : Option (List RecordedTask)). o >>= λ tasks. Some (Rattle.keep_store.specs.Kept.put_task task tasks)) later
+    go (Some task) later = ap (λ (o : Option (List RecordedTask)). o >>= λ tasks. Some (Rattle.record_saves.specs.Kept.put_task task tasks)) later
 
 pub row_of_task : (rows : List Row) (ts : List RecordedTask) (t : RecordedTask) → AreTold rows ts → Has ts t → (r : Row) × Has rows r × (told r ≡ Some t)
 row_of_task [] [] t h at = absurd at
@@ -89,45 +87,6 @@ task_of_row [] ts r h at = absurd at
 task_of_row (x ∷ rows) [] r h at = absurd h
 task_of_row (x ∷ rows) (t ∷ ts) r h (inl same) = (t, inl refl, ap told same ∙ h.0)
 task_of_row (x ∷ rows) (t ∷ ts) r h (inr at) = let it = task_of_row rows ts r h.1 at in (it.0, inr it.1, it.2)
-
--- ---- the order of tasks
-
-before_place : (a b : Numbered) → a.n < 2 ^ 32 → before a b ≡ true → place_of a < place_of b
-before_place a b small h = go (either (nat_lt a.run b.run) (a.run == b.run && nat_lt a.n b.n) h)
-  where
-    either : (x y : Bool) → (x || y) ≡ true → (x ≡ true) ⊎ (y ≡ true)
-    either true y h = inl refl
-    either false y h = inr h
-
-    go : (nat_lt a.run b.run ≡ true) ⊎ ((a.run == b.run && nat_lt a.n b.n) ≡ true) → place_of a < place_of b
-    go (inl lower) =
-        let l : a.run < b.run = grind (arith, nat_tests) in
-        omega (arith, l, small)
-    go (inr behind) =
-        let parts = and_parts (a.run == b.run) (nat_lt a.n b.n) behind in
-        let tied : (a.run == b.run) ≡ true = parts.0 in
-        let less : nat_lt a.n b.n ≡ true = parts.1 in
-        let e : a.run ≡ b.run = grind (arith, nat_tests) in
-        let l : a.n < b.n = grind (arith, nat_tests) in
-        omega (arith, e, l)
-
-rise_all : (t : RecordedTask) (ts : List RecordedTask) → IsTask t → AllByRecursion IsTask ts → rise_behind (Some t.job.key) ts ≡ true
-    → AllByRecursion (λ s. place_of t.job.key < place_of s.job.key) ts × Rise ts
-rise_all t [] is all h = (tt, tt)
-rise_all t (s ∷ ts) is all h =
-    let parts = and_parts (before t.job.key s.job.key) (rise_behind (Some s.job.key) ts) h in
-    let first = before_place t.job.key s.job.key is.key.n_fits parts.0 in
-    let more = rise_all s ts all.0 all.1 parts.1 in
-    ((first, all_from (λ x. place_of t.job.key < place_of x.job.key) ts (λ x at. omega (arith, first, all_has (λ x. place_of s.job.key < place_of x.job.key) ts x more.0 at))), more)
-
--- launch keys that rise are places that rise
-pub rises : (ts : List RecordedTask) → AllByRecursion IsTask ts → keys_rise ts ≡ true → Rise ts
-rises [] all h = tt
-rises (t ∷ ts) all h = rise_all t ts all.0 all.1 h
-
-pub put_are_tasks : (ts : List RecordedTask) → AllByRecursion IsPut ts → AllByRecursion IsTask ts
-put_are_tasks [] all = tt
-put_are_tasks (t ∷ ts) all = (all.0.is_task, put_are_tasks ts all.1)
 
 -- ---- what the shown rows are, the tables keep
 
@@ -240,10 +199,6 @@ both_damaged db records heads tasks amounts head more shows is some =
 
 abbrev told_by : Trees → Row → Option Durable
 told_by db head = tasks_in (db 3) >>= λ told. head_told head (map amount_shown (db 5)) >>= λ d. Some (with_tasks told d)
-
-pub with_head : (old heads ts amounts : List Row) (h : Row) (hs : List Row) → old ≡ [] → heads ≡ h ∷ hs
-    → body_in old heads ts amounts ≡ Some (text_of (tasks_in ts >>= λ told. head_told (head_of h) (map amount_shown amounts) >>= λ d. Some (with_tasks told d)))
-with_head old heads ts amounts h hs none is = rw (none, is) refl
 
 headed : (db : Trees) (records heads tasks amounts : List Row) (head : Row) (more : List Row) → Shows db records heads tasks amounts → heads ≡ head ∷ more → length records ≡ 0 → (kept_in db).body ≡ Some (text_of (told_by db head))
 headed db records heads tasks amounts head more shows is none =

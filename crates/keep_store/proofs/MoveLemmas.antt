@@ -5,7 +5,8 @@ use Rattle.std.proofs.lemmas.List.Sorted.{length_permutation}
 use Rattle.sqlite.specs.Order.{Row}
 use Rattle.sqlite.specs.Tree.{Trees}
 use Rattle.keep_rows.specs.Tables.{AddsTables, AddsTotals, HasNoRow, amount_shown, task_shown, values_of}
-use Rattle.keep_store.specs.Kept.{body_in, first_kept, kept_in, last_in, nothing, second_kept, shown_body, shown_last, value_in}
+use Rattle.record_saves.specs.Kept.{body_in, kept_in, last_in}
+use Rattle.keep_store.specs.Kept.{first_kept, nothing, second_kept, shown_body, shown_last, value_in}
 
 body_first : (rows : List Row) → body_in rows [] [] [] ≡ value_in rows
 body_first [] = refl

@@ -3,16 +3,17 @@
 ghost use Rattle.std.specs.Prelude.{◌≡◌, ◌≢◌, length, IsTrue, IfOk, IfErr, OnOk};
 ghost use Rattle.sqlite.specs.State.{HasCleanDisk};
 ghost use Rattle.sqlite.specs.Held.{state};
-ghost use Rattle.keep_store.specs.Kept.{first_kept, kept_in, nothing, second_kept};
+ghost use Rattle.record_saves.specs.Kept.{kept_in};
+ghost use Rattle.keep_store.specs.Kept.{first_kept, nothing, second_kept};
 ghost use Rattle.keep_rows.specs.Tables.{IsReady, IsLone, HasNoRow, first_schema, second_schema, no_schema};
 
-use crate::fault::fault_of;
 use keep_rows::KeepFault;
 use keep_rows::statements::{
     make_first_tables, make_task_tables, make_total_table, read_amounts, read_head_ids,
     read_record_ids, read_run_ids, read_tasks,
 };
 use keep_tables::{is_first, is_new, is_ours, is_second};
+use record_saves::fault::fault_of;
 use sqlite::{Alter, Connection, Row};
 
 /// At most one row, which begins with 1.

@@ -9,29 +9,27 @@ ghost use Rattle.mails.specs.declared.record.Durable.{Durable};
 ghost use Rattle.agent_core.specs.Records.{is_record};
 ghost use Rattle.record_text.specs.Texts.{record_form};
 ghost use Rattle.record_text.specs.Written.{IsDurable};
-ghost use Rattle.keep_store.specs.Kept.{Kept, first_kept, kept_in, nothing, second_kept, with_last, with_record, with_run, HoldsText, IsDamaged, IsLoaded, TellsRun, TellsNoRun, run_in, shown_body, shown_last};
-ghost use Rattle.keep_store.specs.Stops.{LeavesEither, Stands};
+ghost use Rattle.record_saves.specs.Kept.{kept_in, with_record};
+ghost use Rattle.keep_store.specs.Kept.{first_kept, nothing, second_kept, with_run, HoldsText, IsDamaged, IsLoaded, TellsRun, TellsNoRun, run_in, shown_body, shown_last};
+ghost use Rattle.record_saves.specs.Stops.{LeavesEither, Stands};
 ghost use Rattle.keep_rows.specs.Tables.{IsReady, Stays, first_schema, second_schema, no_schema};
 ghost use Rattle.keep_rows.specs.declared.fault.KeepFault.TheVariants as faults;
 
 use crate::check::prepare;
-use crate::fault::fault_of;
-use crate::save::{head_seen, save_record};
 use crate::seen::seen_in;
 use crate::told::record_shown;
 use agent_core::Record;
-use keep_rows::statements::{read_lasts, write_last};
+use keep_rows::statements::read_lasts;
 use keep_rows::{KeepFault, read_rows};
 use listed::Listed;
 use mails::{Durable, RecordedTask};
+use record_saves::fault::fault_of;
+use record_saves::{head_seen, run_behind, save_record};
 use shared_value::Shared;
 use sqlite::{Alter, Connection, Error, ErrorCode, Row};
 use std::alloc::Global;
 use std::marker::Model;
 use std::mem;
-
-/// The last run that is given out.
-const LAST_RUN: u32 = 65_535;
 
 /// A store of an agent's record and of the master's last run, over any store of SQLite.
 /// After a refusal by K1 or K4 of a save or of a next run it is opened again.
@@ -49,7 +47,7 @@ impl<S: Alter> Model for Keeper<S> {
     ghost use Rattle.std.specs.Prelude.{IsTrue};
     ghost use Rattle.sqlite.specs.Held.{Held, held_code, state};
     ghost use Rattle.sqlite.specs.State.{HasCleanDisk};
-    ghost use Rattle.keep_store.specs.Kept.{AreSeen, IsHeadSeen, Knows, KnowsHead};
+    ghost use Rattle.record_saves.specs.Kept.{AreSeen, IsHeadSeen, Knows, KnowsHead};
     ghost use Rattle.keep_rows.specs.Tables.{IsReady};
 
     ghost Value = { Held S };
@@ -112,29 +110,6 @@ fn last_run<S: Alter>(conn: &mut Connection<S>) -> Result<u32, KeepFault>
 {
     let rows = read_lasts(conn).map_err(fault_of)?;
     first_number(rows.as_slice())
-}
-
-/// Gives out the run behind this one, which was the last; it is committed before it is answered.
-fn run_behind<S: Alter>(conn: &mut Connection<S>, last: u32) -> Result<u32, KeepFault>
-    ensures clean { HasCleanDisk (state S.Store conn.new) → HasCleanDisk (state S.Store conn.old) }
-    ensures given { IsReady (state S.Store conn.old) → HasCleanDisk (state S.Store conn.new)
-        → IfOk result (λ n. IsReady (state S.Store conn.new) × (n ≡ last + 1)
-        × (kept_in (state S.Store conn.new).now.trees
-        ≡ with_last (last + 1) (kept_in (state S.Store conn.old).now.trees))) }
-    ensures few { IfOk result (λ n. n ≤ 65535) }
-    ensures failed { IsReady (state S.Store conn.old) → HasCleanDisk (state S.Store conn.new)
-        → OnErr result (Stays (state S.Store conn.old) (state S.Store conn.new)) }
-    ensures stop { IsReady (state S.Store conn.old)
-        → LeavesEither (state S.Store conn.old) (state S.Store conn.new) (with_last (last + 1)) }
-    ensures stands { Stands (state S.Store conn.new) }
-    ensures undamaged { IfErr result (λ e. e ≢ KeepFault.Damaged) }
-    ensures spent { IsErrOf result KeepFault.RunsSpent → 65535 ≤ last }
-{
-    if last >= LAST_RUN {
-        return Err(KeepFault::RunsSpent);
-    }
-    write_last(conn, last + 1).map_err(fault_of)?;
-    Ok(last + 1)
 }
 
 impl<S: Alter + Drop> Keeper<S> {

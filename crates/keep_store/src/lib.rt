@@ -2,12 +2,10 @@
 #![tactic(auto)]
 
 mod check;
-mod fault;
 mod files;
 mod keeper;
 mod open;
 mod record;
-mod save;
 mod seen;
 mod told;
 

@@ -6,13 +6,14 @@ ghost use Rattle.sqlite.specs.State.{HasCleanDisk};
 ghost use Rattle.sqlite.specs.Files.{file_state, HoldsDatabase};
 ghost use Rattle.sqlite.specs.WalFiles.{image_at};
 ghost use Rattle.sqlite_catalog.specs.Listing.{IsSound};
-ghost use Rattle.keep_store.specs.Kept.{first_kept, kept_in, second_kept};
+ghost use Rattle.record_saves.specs.Kept.{kept_in};
+ghost use Rattle.keep_store.specs.Kept.{first_kept, second_kept};
 ghost use Rattle.keep_rows.specs.Tables.{IsReady, first_schema, second_schema, keeper_schema, no_schema};
 
-use crate::fault::fault_of;
 use crate::files::connect;
 use crate::keeper::Keeper;
 use keep_rows::KeepFault;
+use record_saves::fault::fault_of;
 use sqlite::{Alter, Connection, Error, FileFrom, FileStore, Start, Unknown};
 
 /// The keeper over a connection, where it was opened.

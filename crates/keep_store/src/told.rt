@@ -12,7 +12,8 @@ ghost use Rattle.quantity.specs.Rows.{AreRows};
 ghost use Rattle.record_text.specs.Reading.{task_in, total_in, where_true};
 ghost use Rattle.keep_rows.specs.Columns.{Gives, number_at, text_at};
 ghost use Rattle.record_text.specs.Written.{IsTask, IsDurable};
-ghost use Rattle.keep_store.specs.Kept.{IsDamaged, IsLoaded, IsPut, HoldsText, AreTold, SomeUntold, kept_in, told, own_told, total_by, head_told, with_tasks};
+ghost use Rattle.record_saves.specs.Kept.{IsPut, kept_in, told, own_told, total_by, head_told, with_tasks};
+ghost use Rattle.keep_store.specs.Kept.{IsDamaged, IsLoaded, HoldsText, AreTold, SomeUntold};
 ghost use Rattle.keep_rows.specs.Tables.{Shows};
 ghost use Rattle.keep_rows.specs.declared.fault.KeepFault.TheVariants as faults;
 
@@ -41,7 +42,7 @@ fn task_of(alloc: Global, text: &str) -> Result<Shared<RecordedTask>, KeepFault>
 }
 
 /// The task of a row of rowid, run, number and body.
-#[tactic(auto, unfolding(crate::specs::Kept::told))]
+#[tactic(auto, unfolding(record_saves::specs::Kept::told))]
 fn task_in(alloc: Global, row: &Row) -> Result<Shared<RecordedTask>, KeepFault>
     ensures told { Gives (λ t. t) result (told row.now) }
     ensures is_put { IfOk result IsPut }
@@ -81,7 +82,7 @@ fn name_of(alloc: Global, text: &str) -> Result<AgentName, KeepFault>
 
 /// The record of a head's row of name, run, session, total and version,
 /// with its own total and no tasks yet.
-#[tactic(auto, unfolding(crate::specs::Kept::own_told))]
+#[tactic(auto, unfolding(record_saves::specs::Kept::own_told))]
 fn own_told(alloc: Global, head: &Row) -> Result<Durable, KeepFault>
     ensures told { Gives (λ d. d) result (own_told head.now) }
     ensures durable { IfOk result IsDurable }

@@ -3,7 +3,8 @@ use Rattle.sqlite.specs.Effect.{Database}
 use Rattle.sqlite.specs.Held.{state}
 use Rattle.sqlite.specs.State.{HasCleanDisk}
 use Rattle.keep_rows.specs.Tables.{HasNoRow, IsReady, amount_shown, task_shown}
-use Rattle.keep_store.specs.Kept.{kept_in, nothing}
+use Rattle.record_saves.specs.Kept.{kept_in}
+use Rattle.keep_store.specs.Kept.{nothing}
 use Rattle.keep_store.proofs.MoveLemmas.{no_amount_shown, no_task_shown, nothing_kept}
 use Rattle.keep_store.proofs.check.check_new.Goals as goal
 

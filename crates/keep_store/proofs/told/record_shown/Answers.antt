@@ -5,11 +5,13 @@ use Rattle.sqlite.specs.declared.types.Value.{Value}
 use Rattle.record_text.specs.Texts.{record_form}
 use Rattle.std.specs.List.{AllByRecursion}
 use Rattle.std.proofs.lemmas.List.Sorted.{IsPermutation-refl}
-use Rattle.keep_store.specs.Kept.{AreTold, IsLoaded, IsPut, kept_in, with_tasks}
+use Rattle.record_saves.specs.Kept.{IsPut, kept_in, with_tasks}
+use Rattle.keep_store.specs.Kept.{AreTold, IsLoaded}
 use Rattle.keep_rows.specs.declared.fault.KeepFault.{KeepFault}
 use Rattle.keep_rows.specs.declared.fault.KeepFault.TheVariants.{Damaged}
 use Rattle.keep_rows.specs.Tables.{amount_shown}
-use Rattle.keep_store.proofs.LoadLemmas.{put_are_tasks, untold_damaged, headless_damaged, headless_total, old_form, unheaded_damaged, text_kept, misfit_damaged, only_text, none_at, front}
+use Rattle.record_saves.proofs.RiseLemmas.{put_are_tasks}
+use Rattle.keep_store.proofs.LoadLemmas.{untold_damaged, headless_damaged, headless_total, old_form, unheaded_damaged, text_kept, misfit_damaged, only_text, none_at, front}
 use Rattle.keep_store.proofs.told.record_shown.Goals as goal
 
 then : {X Y : Type 0} (r : Result X Y) {P Q : X → Type 0} → IfOk r P → ((x : X) → P x → Q x) → IfOk r Q

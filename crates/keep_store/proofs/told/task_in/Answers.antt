@@ -1,6 +1,6 @@
 use Rattle.std.proofs.Common.{◌≡◌, Some}
 use Rattle.record_text.specs.Reading.{task_in}
-use Rattle.keep_store.proofs.ToldLemmas.{told_from}
+use Rattle.record_saves.proofs.ToldLemmas.{told_from}
 use Rattle.keep_store.proofs.told.task_in.Goals as goal
 
 pub returns-clause-told : goal.returns-clause-told

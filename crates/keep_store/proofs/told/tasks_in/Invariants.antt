@@ -1,6 +1,7 @@
 use Rattle.std.proofs.Common.{take}
 use Rattle.std.specs.List.{AllByRecursion}
-use Rattle.keep_store.specs.Kept.{AreTold, IsPut}
+use Rattle.record_saves.specs.Kept.{IsPut}
+use Rattle.keep_store.specs.Kept.{AreTold}
 use Rattle.keep_store.proofs.told.tasks_in.Given as goal
 
 abbrev pub invariant-loop-row : goal.invariant-loop-row

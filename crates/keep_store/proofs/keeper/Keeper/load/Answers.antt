@@ -2,7 +2,7 @@ use Rattle.std.proofs.Common.{rules, ◌≡◌, IsTrue, subst, sym}
 use Rattle.sqlite.specs.Effect.{Database}
 use Rattle.sqlite.specs.Held.{state}
 use Rattle.sqlite.specs.State.{HasCleanDisk}
-use Rattle.keep_store.specs.Kept.{Knows}
+use Rattle.record_saves.specs.Kept.{Knows}
 use Rattle.keep_rows.specs.Tables.{Shows}
 use Rattle.keep_rows.specs.Tables.{IsReady}
 use Rattle.keep_store.proofs.keeper.Keeper.load.Goals as goal

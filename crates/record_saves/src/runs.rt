@@ -1,0 +1,39 @@
+//! The runs of the master, given out one after another.
+
+ghost use Rattle.std.specs.Prelude.{◌≡◌, ◌≢◌, ◌≤◌, ◌+◌, IfOk, IfErr, OnErr, IsErrOf};
+ghost use Rattle.sqlite.specs.State.{HasCleanDisk};
+ghost use Rattle.sqlite.specs.Held.{state};
+ghost use Rattle.record_saves.specs.Kept.{kept_in, with_last};
+ghost use Rattle.record_saves.specs.Stops.{LeavesEither, Stands};
+ghost use Rattle.keep_rows.specs.Tables.{IsReady, Stays};
+
+use crate::fault::fault_of;
+use keep_rows::KeepFault;
+use keep_rows::statements::write_last;
+use sqlite::{Alter, Connection};
+
+/// The last run that is given out.
+const LAST_RUN: u32 = 65_535;
+
+/// Gives out the run behind this one, which was the last; it is committed before it is answered.
+pub fn run_behind<S: Alter>(conn: &mut Connection<S>, last: u32) -> Result<u32, KeepFault>
+    ensures clean { HasCleanDisk (state S.Store conn.new) → HasCleanDisk (state S.Store conn.old) }
+    ensures given { IsReady (state S.Store conn.old) → HasCleanDisk (state S.Store conn.new)
+        → IfOk result (λ n. IsReady (state S.Store conn.new) × (n ≡ last + 1)
+        × (kept_in (state S.Store conn.new).now.trees
+        ≡ with_last (last + 1) (kept_in (state S.Store conn.old).now.trees))) }
+    ensures few { IfOk result (λ n. n ≤ 65535) }
+    ensures failed { IsReady (state S.Store conn.old) → HasCleanDisk (state S.Store conn.new)
+        → OnErr result (Stays (state S.Store conn.old) (state S.Store conn.new)) }
+    ensures stop { IsReady (state S.Store conn.old)
+        → LeavesEither (state S.Store conn.old) (state S.Store conn.new) (with_last (last + 1)) }
+    ensures stands { Stands (state S.Store conn.new) }
+    ensures undamaged { IfErr result (λ e. e ≢ KeepFault.Damaged) }
+    ensures spent { IsErrOf result KeepFault.RunsSpent → 65535 ≤ last }
+{
+    if last >= LAST_RUN {
+        return Err(KeepFault::RunsSpent);
+    }
+    write_last(conn, last + 1).map_err(fault_of)?;
+    Ok(last + 1)
+}
