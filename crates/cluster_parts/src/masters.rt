@@ -1,6 +1,8 @@
 //! What the master brings out is kept and told.
 
-ghost use Rattle.std.specs.Prelude.{◌≡◌, ◌+◌, ◌≤◌, ◌++◌, length, map, IfOk, OnOk, OnErr};
+ghost use Rattle.std.specs.Prelude.{◌≡◌, ◌+◌, ◌≤◌, ◌++◌, None, length, map, IfOk, OnOk, OnErr};
+ghost use Rattle.cluster_agents.specs.Outcomes.{ends_with};
+ghost use Rattle.cluster_steps.specs.declared.verdict.Verdict.TheVariants as verdicts;
 ghost use Rattle.cluster_parts.specs.Masters.{Settles, item_to, sent_to, tells};
 ghost use Rattle.cluster_parts.specs.Posts.{Grows};
 ghost use Rattle.cluster_laws.specs.Runs.{AreRising};
@@ -100,6 +102,15 @@ fn tell<P: Post>(
     })
 }
 
+/// The master falls, for want of memory.
+pub(crate) fn fall(master: &mut Option<Master>, alloc: Global) -> Made
+    ensures made { result ≡ ends_with verdicts.OutOfMemory }
+    ensures down { master.new ≡ None }
+{
+    *master = None;
+    ends_with(alloc, Verdict::OutOfMemory)
+}
+
 /// Keeps and tells what the master's answer brought out.
 /// Where memory was refused the master has fallen, and nothing else changes.
 pub fn settle<P: Post>(
@@ -119,15 +130,9 @@ pub fn settle<P: Post>(
     match answer {
         Ok(outs) => match tell(items, streams, post, alloc, outs) {
             Ok(made) => made,
-            Err(_) => {
-                *master = None;
-                ends_with(alloc, Verdict::OutOfMemory)
-            }
+            Err(_) => fall(master, alloc),
         },
         Err(MasterFault::Refused(refusal)) => ends_with(alloc, Verdict::MasterRefused(refusal)),
-        Err(MasterFault::OutOfMemory) => {
-            *master = None;
-            ends_with(alloc, Verdict::OutOfMemory)
-        }
+        Err(MasterFault::OutOfMemory) => fall(master, alloc),
     }
 }

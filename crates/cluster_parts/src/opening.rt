@@ -1,6 +1,6 @@
 //! A cluster opens.
 
-ghost use Rattle.std.specs.Prelude.{◌≡◌, ◌≤◌, ◌++◌, [], length, List, Option, Result, map, IfOk, IfErr, ℕ};
+ghost use Rattle.std.specs.Prelude.{◌≡◌, ◌≤◌, ◌++◌, [], length, List, Option, Result, map, IfOk, IfErr, OnOk, ℕ};
 ghost use Rattle.cluster_parts.specs.Masters.{Settles, StandsFor};
 ghost use Rattle.cluster_agents.specs.Moves.{kept_agents};
 ghost use Rattle.cluster_parts.specs.Opening.{Opens, Starts, up_over};
@@ -30,6 +30,7 @@ use cluster_laws::{
 };
 use cluster_safe::masters_step_alone;
 use cluster_steps::{ClusterFault, Verdict};
+use listed::Listed;
 use master_core::{Config, Master, MasterFault, Outs};
 use names_core::Run;
 use plain_data::Plain;
@@ -97,6 +98,63 @@ fn recover_all(alloc: Global, records: &[Record]) -> Result<Vec<ClusterAgent>, A
     Ok(agents)
 }
 
+/// No agent, no master, and nothing that was sent.
+fn nothing(alloc: Global) -> Opened
+    ensures items { result.items ≡ [] }
+    ensures streams { result.streams ≡ [] }
+{
+    Opened {
+        master: None,
+        agents: Vec::new(alloc),
+        items: Items::new(alloc),
+        streams: Streams::new(alloc),
+        outputs: Outputs {
+            events: Listed::new(alloc),
+            closed: Listed::new(alloc),
+            sent: Listed::new(alloc),
+            taken: None,
+        },
+    }
+}
+
+/// Agents come up over copies of these records, the first master begins this run and greets each.
+fn open_over<P: Post>(
+    opened: &mut Opened,
+    post: &mut P,
+    alloc: Global,
+    config: &Config,
+    records: &[Record],
+    run: Run,
+) -> Result<(), ClusterFault>
+    requires items { opened.old.items ≡ [] }
+    requires streams { opened.old.streams ≡ [] }
+    requires good { GoodOpening run records.now }
+    requires agents { AreAgentsOf config.now records.now }
+    ensures opens { (weights : List RoleWeight) → OnOk result
+        (Opens (record { run = run; weights = weights }) records.now opened.new) }
+    ensures refused { IfErr result (λ fault. fault ≡ OutOfMemory) }
+    ensures post { P.known post.new ≡ P.known post.old }
+    ensures room { OnOk result (length opened.new.items ≤ P.room post.new) }
+{
+    openings_are_made();
+    let agents = recover_all(alloc, records)?;
+    opened.agents = agents;
+    let answer = start_in(&mut opened.master, alloc, config, run);
+    let made = settle(
+        &mut opened.master,
+        &mut opened.items,
+        &mut opened.streams,
+        post,
+        alloc,
+        answer,
+    );
+    opened.outputs = made.outputs;
+    match made.verdict {
+        Verdict::Ok => Ok(()),
+        _ => Err(ClusterFault::OutOfMemory),
+    }
+}
+
 /// What a cluster of these agents has at its opening: they come up over copies of the records, and
 /// the first master begins this run and greets each. The post has room for the greetings. Of its
 /// faults there is `C9 OutOfMemory` alone.
@@ -115,21 +173,7 @@ pub fn open_parts<P: Post>(
     ensures post { P.known post.new ≡ P.known post.old }
     ensures room { IfOk result (λ opened. length opened.items ≤ P.room post.new) }
 {
-    openings_are_made();
-    let agents = recover_all(alloc, records)?;
-    let mut master = None;
-    let mut items = Items::new(alloc);
-    let mut streams = Streams::new(alloc);
-    let answer = start_in(&mut master, alloc, config, run);
-    let made = settle(&mut master, &mut items, &mut streams, post, alloc, answer);
-    match made.verdict {
-        Verdict::Ok => Ok(Opened {
-            master,
-            agents,
-            items,
-            streams,
-            outputs: made.outputs,
-        }),
-        _ => Err(ClusterFault::OutOfMemory),
-    }
+    let mut opened = nothing(alloc);
+    open_over(&mut opened, post, alloc, config, records, run)?;
+    Ok(opened)
 }
