@@ -58,6 +58,23 @@ fn pass(cluster: &mut Cluster<EverSent>, alloc: Global, step: &Step) -> Result<(
     unless_memory(&taken)
 }
 
+/// Takes steps one after another; one that is refused is passed over.
+fn pass_all(
+    cluster: &mut Cluster<EverSent>,
+    alloc: Global,
+    steps: &[Step],
+) -> Result<(), ClusterFault>
+    requires { cluster.old.story.entries ≡ [] }
+    ensures ran { OnOk result (Ran cluster.old.story.setup cluster.old.story.records steps.now
+        cluster.new.story) }
+    ensures memory { IfErr result (λ fault. fault ≡ OutOfMemory) }
+{
+    for step in steps {
+        pass(cluster, alloc, step)?;
+    }
+    Ok(())
+}
+
 /// Runs steps over agents that never ran, in run 1, with these weights of roles.
 /// A refused step is passed over. Of the faults there is `C9 OutOfMemory` alone.
 pub fn run(
@@ -72,9 +89,7 @@ pub fn run(
     ensures memory { IfErr result (λ fault. fault ≡ OutOfMemory) }
 {
     let mut cluster = open_fresh(alloc, config, weights)?;
-    for step in steps {
-        pass(&mut cluster, alloc, step)?;
-    }
+    pass_all(&mut cluster, alloc, steps)?;
     cluster.is_safe();
     Ok(cluster)
 }
