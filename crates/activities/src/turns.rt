@@ -115,6 +115,31 @@ impl<'a, L: ledger::Ledger, R: Wait + Clock> Worker<'a, L, R> {
             None => Ok(()),
         }
     }
+
+    /// Goes on until the office is finished or until nothing more can be done, and tells why it
+    /// ends if that is a fault. Where something is left for later it waits for a second.
+    #[tactic(auto, using(crate::proofs::Saves::keeps_itself, crate::proofs::Saves::keeps_then))]
+    fn go_on_until_end<C: Cabinet>(
+        &self,
+        pass: &mut Pass<KeptEntry, L>,
+        opened: &mut Option<Record>,
+        own: &mut Option<Record>,
+        cabinet: &mut C,
+        executors: &mut Executors,
+    ) -> Option<ActivityFault<C::Fault>>
+        requires { IsOpen self.now.agent.now opened.old pass.old }
+        ensures { Keeps (C.saved cabinet.old) (C.saved cabinet.new) pass.old pass.new }
+    {
+        for _ in self.rt.forever() {
+            match self.go_on(pass, opened, own, cabinet, executors) {
+                Ok(()) => {}
+                Err(Stop::Later) if self.pause(pass) => {}
+                Err(Stop::Later | Stop::Ended) => return None,
+                Err(Stop::Failed(fault)) => return Some(fault),
+            }
+        }
+        unreachable!()
+    }
 }
 
 /// Keeps an agent going until the office is finished: it takes the mails to the agent, tells what
@@ -149,16 +174,9 @@ pub fn activity<L: ledger::Ledger, R: Wait + Clock, C: Cabinet>(
     let mut executors = Executors::new(alloc, pace);
     let mut opened = None;
     let mut own = None;
-    for _ in rt.forever() {
-        match worker.go_on(&mut pass, &mut opened, &mut own, cabinet, &mut executors) {
-            Ok(()) => {}
-            Err(Stop::Later) if worker.pause(&pass) => {}
-            Err(Stop::Later | Stop::Ended) => return (pass, None),
-            Err(Stop::Failed(fault)) => {
-                office.finish(rt);
-                return (pass, Some(fault));
-            }
-        }
+    let fault = worker.go_on_until_end(&mut pass, &mut opened, &mut own, cabinet, &mut executors);
+    if fault.is_some() {
+        office.finish(rt);
     }
-    unreachable!()
+    (pass, fault)
 }

@@ -1,5 +1,0 @@
-use Rattle.activities.specs.Saved.{IsOpen, Keeps}
-use Rattle.activities.proofs.turns.activity.Given as goal
-
-abbrev pub invariant-loop : goal.invariant-loop
-invariant-loop g l = Keeps (g.C.Cabinet.saved l.fn.cabinet) (g.C.Cabinet.saved l.cabinet) l.fn.pass l.pass × IsOpen l.fn.agent l.opened l.pass
