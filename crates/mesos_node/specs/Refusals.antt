@@ -1,7 +1,7 @@
 -- Why a cluster isn't served.
 use Rattle.std.specs.Prelude.{Bool, true, false}
 use Rattle.agents_file.specs.declared.fault.AgentsFault.TheVariants.{Lines, Config}
-use Rattle.serving.specs.declared.folder_fault.FolderFault.TheVariants.{TotalDiffers}
+use Rattle.record_folder.specs.declared.folder_fault.FolderFault.TheVariants.{TotalDiffers}
 use Rattle.mesos_node.specs.declared.fault.ServeFault.{ServeFault}
 use Rattle.mesos_node.specs.declared.fault.ServeFault.TheVariants.{Agents, Folder}
 

@@ -5,7 +5,8 @@ ghost use Rattle.mesos_node.specs.Refusals.{is_refusal};
 ghost use Rattle.mesos_node.specs.declared.fault.ServeFault.TheVariants.{Agents, Folder, Memory};
 
 use agents_file::AgentsFault;
-use serving::{FolderFault, ServingFault};
+use record_folder::FolderFault;
+use serving::ServingFault;
 use std::alloc::AllocError;
 use std::{fmt, io};
 

@@ -4,7 +4,6 @@ ghost use Rattle.std.specs.Fn.{FnReturnsAt};
 ghost use Rattle.std.specs.Prelude.{◌≡◌, [], IfOk, Ok};
 ghost use Rattle.cluster_core.specs.Recording.{IsSound};
 
-use crate::cabinet::RecordFile;
 use crate::fault::ServingFault;
 use crate::staff::{Leaver, Pace, start_all};
 use cluster_core::{Cluster, KeptEntry, RecordedCluster};
@@ -13,6 +12,7 @@ use http_door::NoGate;
 use http_workers::{HttpFault, serve_all};
 use office_bench::TcpArrivals;
 use post_rules::Queues;
+use record_folder::RecordFile;
 use std::alloc::Global;
 use std::net::TcpListener;
 use std::sync::ledger::Blank;

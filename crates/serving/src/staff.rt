@@ -2,7 +2,6 @@
 
 ghost use Rattle.std.specs.Prelude.{◌≡◌, []};
 
-use crate::cabinet::RecordFile;
 use crate::fault::ServingFault;
 use activities::{ActivityFault, activity, ticker};
 use cluster_core::{KeptEntry, RecordedCluster};
@@ -10,6 +9,7 @@ use desk_lock::{Office, Pass};
 use http_workers::HttpFault;
 use keep_store::KeepFault;
 use names_core::AgentName;
+use record_folder::RecordFile;
 use std::alloc::Global;
 use std::sync::{Wait, ledger};
 use std::thread::{JoinHandle, Scope, Threads};

@@ -2,9 +2,9 @@
 use Rattle.std.specs.Prelude.{List}
 use Rattle.std.specs.List.{Contains}
 use Rattle.agent_sides.specs.declared.config.ConfiguredAgent.{ConfiguredAgent}
-use Rattle.serving.specs.Refusals.{IsFileRefusal, IsFolderRefusal}
-use Rattle.serving.specs.declared.folder_fault.FolderFault.{FolderFault}
-use Rattle.serving.specs.declared.folder_fault.FolderFault.TheVariants.{Store, TotalDiffers, NoCluster, OutOfMemory}
+use Rattle.record_folder.specs.Refusals.{IsFileRefusal, IsFolderRefusal}
+use Rattle.record_folder.specs.declared.folder_fault.FolderFault.{FolderFault}
+use Rattle.record_folder.specs.declared.folder_fault.FolderFault.TheVariants.{Store, TotalDiffers, NoCluster, OutOfMemory}
 
 pub file_refused : (agents : List ConfiguredAgent) (a : ConfiguredAgent) (fault : FolderFault) → Contains agents a → IsFileRefusal a fault → IsFolderRefusal agents fault
 file_refused agents a (Store path fault) among h = tt

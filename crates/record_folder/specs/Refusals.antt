@@ -4,8 +4,8 @@ use Rattle.std.specs.List.{Contains}
 use Rattle.agent_sides.specs.declared.config.ConfiguredAgent.{ConfiguredAgent}
 use Rattle.mails.specs.declared.record.Durable.{Durable}
 use Rattle.quantity.specs.Rows.{covers}
-use Rattle.serving.specs.declared.folder_fault.FolderFault.{FolderFault}
-use Rattle.serving.specs.declared.folder_fault.FolderFault.TheVariants.{TotalDiffers, NoCluster, OutOfMemory}
+use Rattle.record_folder.specs.declared.folder_fault.FolderFault.{FolderFault}
+use Rattle.record_folder.specs.declared.folder_fault.FolderFault.TheVariants.{TotalDiffers, NoCluster, OutOfMemory}
 
 -- there is no record of an agent:
 -- one was found that the agent's total doesn't cover, or memory was refused

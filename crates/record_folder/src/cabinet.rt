@@ -33,18 +33,14 @@ impl<'a> RecordFile<'a> {
             total,
             place,
         } = self;
-        let keeper = None;
-        (agent, total, PlaceCabinet { place, keeper })
+        (agent, total, FileCabinet::new(place))
     }
 }
-
-/// The store of an agent's record, over the file at a path.
-pub type FileCabinet<'a> = PlaceCabinet<FilePlace<'a>>;
 
 /// The store of an agent's record at a place. It is opened when it is first needed,
 /// and again after it failed.
 #[derive(Drop)]
-pub struct PlaceCabinet<P: Place> {
+struct PlaceCabinet<P: Place> {
     place: P,
     keeper: Option<Keeper<P::Store>>,
 }
@@ -101,5 +97,38 @@ impl<P: Place> Cabinet for PlaceCabinet<P> {
         let (keeper, record) = loaded(self.place.open()?, alloc)?;
         self.keeper = Some(keeper);
         Ok(record)
+    }
+}
+
+/// The store of an agent's record, over the file at a path. Who uses it sees neither the place nor
+/// the store.
+#[derive(Drop)]
+pub struct FileCabinet<'a> {
+    at: PlaceCabinet<FilePlace<'a>>,
+}
+
+impl<'a> FileCabinet<'a> {
+    fn new(place: FilePlace<'a>) -> FileCabinet<'a> {
+        let keeper = None;
+        FileCabinet {
+            at: PlaceCabinet { place, keeper },
+        }
+    }
+}
+
+impl<'a> Cabinet for FileCabinet<'a> {
+    ghost use Rattle.std.specs.Prelude.{true};
+
+    type Fault = KeepFault;
+
+    // As of a store at any place.
+    ghost saved = { λ _ _. true };
+
+    fn save(&mut self, alloc: Global, durable: &Record) -> Result<(), KeepFault> {
+        self.at.save(alloc, durable)
+    }
+
+    fn reopen(&mut self, alloc: Global) -> Result<Option<Record>, KeepFault> {
+        self.at.reopen(alloc)
     }
 }

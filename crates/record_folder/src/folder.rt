@@ -5,8 +5,8 @@ ghost use Rattle.quantity.specs.Rows.{covers};
 ghost use Rattle.cluster_openings.specs.Records.{AreRecordsOf};
 ghost use Rattle.cluster_model.specs.Agents as agents;
 ghost use Rattle.cluster_model.specs.Openings.{GoodOpening};
-ghost use Rattle.serving.specs.Refusals.{IsFileRefusal, IsFolderRefusal, IsRecordRefusal, IsStoreRefusal};
-ghost use Rattle.serving.specs.declared.folder_fault.FolderFault.TheVariants.{NoCluster};
+ghost use Rattle.record_folder.specs.Refusals.{IsFileRefusal, IsFolderRefusal, IsRecordRefusal, IsStoreRefusal};
+ghost use Rattle.record_folder.specs.declared.folder_fault.FolderFault.TheVariants.{NoCluster};
 
 use crate::cabinet::RecordFile;
 use crate::folder_fault::FolderFault;

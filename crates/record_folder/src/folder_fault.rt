@@ -1,7 +1,7 @@
 //! Why a folder isn't opened.
 
 ghost use Rattle.std.specs.Prelude.{◌≡◌};
-ghost use Rattle.serving.specs.declared.folder_fault.FolderFault.TheVariants.{OutOfMemory};
+ghost use Rattle.record_folder.specs.declared.folder_fault.FolderFault.TheVariants.{OutOfMemory};
 
 use keep_store::KeepFault;
 use std::alloc::{AllocError, AllocFailed};

@@ -1,10 +1,10 @@
 use Rattle.std.proofs.Common.{rules, ◌<◌, List, arith, length, subst, sym}
 use Rattle.std.specs.List.{Contains}
 use Rattle.agent_sides.specs.declared.config.ConfiguredAgent.{ConfiguredAgent}
-use Rattle.serving.specs.Refusals.{IsFileRefusal, IsFolderRefusal}
-use Rattle.serving.specs.declared.folder_fault.FolderFault.{FolderFault}
-use Rattle.serving.proofs.Refused.{file_refused}
-use Rattle.serving.proofs.folder.open_folder.Goals as goal
+use Rattle.record_folder.specs.Refusals.{IsFileRefusal, IsFolderRefusal}
+use Rattle.record_folder.specs.declared.folder_fault.FolderFault.{FolderFault}
+use Rattle.record_folder.proofs.Refused.{file_refused}
+use Rattle.record_folder.proofs.folder.open_folder.Goals as goal
 
 pub returns-in_err-record-clause-refused : goal.returns-in_err-record-clause-refused
 returns-in_err-record-clause-refused c =

@@ -1,0 +1,12 @@
+//! What a folder keeps of a cluster: the record of each agent and the number of the master's last
+//! run, each in a SQLite store of its own.
+#![tactic(auto)]
+
+mod cabinet;
+mod folder;
+mod folder_fault;
+mod stores;
+
+pub use cabinet::{FileCabinet, RecordFile};
+pub use folder::{Folder, open_folder};
+pub use folder_fault::FolderFault;
