@@ -1,8 +1,8 @@
 -- The dominant shares of frameworks and roles.
-use Rattle.std.specs.Prelude.{◌≡◌, ℕ, List}
+use Rattle.std.specs.Prelude.{◌≡◌, ℕ, List, None}
 use Rattle.std.specs.List.{position}
 use Rattle.names_core.specs.Ids.{Numbered}
-use Rattle.share_sums.specs.Dominant.{IsDominant}
+use Rattle.share_sums.specs.Dominant.{IsDominant, nothing}
 use Rattle.drf_pick.specs.Shares.{Tally, is_role}
 use Rattle.drf_pick.specs.Least.{held_by, role_share}
 use Rattle.drf_pick.specs.declared.client_share.RoleShare.{RoleShare}
@@ -18,3 +18,8 @@ pub record IsRoleShare (t : Tally) (role : List ℕ) (s : RoleShare) : Type 0 wh
 pub record IsClientShare (t : Tally) (f : Numbered) (role : List ℕ) (s : ClientShare) : Type 0 where
   pub own : IsDominant t.totals (held_by t f) s.own
   pub by_role : IsRoleShare t role s.role
+
+-- the shares of one that holds nothing, whose role isn't known
+abbrev pub no_share : ClientShare
+no_share =
+    record { own = nothing; role = record { place = None; fraction = nothing; weight = 1 } }

@@ -3,7 +3,7 @@
 ghost use Rattle.std.specs.Prelude.{◌≡◌};
 ghost use Rattle.share_sums.specs.Dominant.{IsDominant};
 ghost use Rattle.drf_pick.specs.Least.{held_by};
-ghost use Rattle.drf_pick.specs.ClientShares.{IsRoleShare, IsClientShare};
+ghost use Rattle.drf_pick.specs.ClientShares.{IsRoleShare, IsClientShare, no_share};
 
 use crate::shares::Shares;
 use names_core::{FrameworkId, RoleName};
@@ -58,7 +58,9 @@ fn role_share_of(shares: &Shares, holder: usize, role: &RoleName) -> RoleShare
 
 impl ClientShare {
     /// Of one that holds nothing, of a role that isn't known.
-    pub fn nothing() -> ClientShare {
+    pub fn nothing() -> ClientShare
+        ensures { result ≡ no_share }
+    {
         ClientShare {
             own: Fraction::nothing(),
             role: RoleShare {
