@@ -1,5 +1,5 @@
 -- A command more in the open session keeps the facts.
-use Rattle.std.proofs.Common.{◌≡◌, ◌≢◌, ℕ, le_trans, le_of_eq, suc, ◌≤◌, ◌<◌, Bool, true, false, cond, eqb, List, [], ◌∷◌, ◌++◌, length, length-append, length-drop, drop, take, slice_get, Some, map, refl, sym, ap, ◌∙◌, subst, inl, inr, arith, append_assoc, ◌+◌}
+use Rattle.std.proofs.Common.{◌≡◌, ◌≢◌, ℕ, le_trans, le_of_eq, suc, ◌≤◌, Bool, true, false, cond, eqb, List, [], ◌∷◌, ◌++◌, length, length-append, length-drop, drop, take, slice_get, Some, map, refl, sym, ap, ◌∙◌, subst, inl, inr, arith, append_assoc, ◌+◌}
 use Rattle.std.specs.List.{AllByRecursion as Each}
 use Rattle.std.proofs.lemmas.Bool.{cond_both, cases_Bool, cond-true}
 use Rattle.std.proofs.lemmas.Bool.Decides.{Decides-eqb}

@@ -1,5 +1,5 @@
 -- A launch that comes to an agent always finds room.
-use Rattle.std.proofs.Common.{◌≡◌, ℕ, suc, ◌+◌, true, false, not, ◌&&◌, ◌||◌, max, eqb, nat_lt, nat_le, List, [], ◌∷◌, ◌++◌, drop, Some, Result, Ok, Err, map, slice_get, refl, ap, subst, inl, inr, arith}
+use Rattle.std.proofs.Common.{◌≡◌, ℕ, suc, ◌+◌, true, false, not, ◌&&◌, ◌||◌, max, eqb, nat_lt, nat_le, List, [], ◌∷◌, ◌++◌, drop, Some, Result, Ok, Err, map, slice_get, refl, subst, inl, inr, arith}
 use Rattle.std.specs.Prelude.{if◌then◌else◌, ◌==◌}
 use Rattle.std.specs.List.{list_all}
 use Rattle.std.proofs.lemmas.Bool.{cond_both, cases_Bool}

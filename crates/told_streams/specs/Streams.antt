@@ -1,5 +1,5 @@
 -- Streams, and the events on them that nobody took yet.
-use Rattle.std.specs.Prelude.{ℕ, Bool, List, [], ◌∷◌, ◌++◌, map, drop, slice_get, length, if◌then◌else◌, Option, Some, None, option_map}
+use Rattle.std.specs.Prelude.{ℕ, Bool, List, [], ◌++◌, map, drop, slice_get, length, if◌then◌else◌, Option, Some, None, option_map}
 use Rattle.std.specs.List.{find}
 use Rattle.names_core.specs.Ids.{Numbered}
 use Rattle.cluster_model.specs.Ids.{same}

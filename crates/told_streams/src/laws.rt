@@ -1,6 +1,6 @@
 //! The streams that are kept are those of the model.
 
-ghost use Rattle.std.specs.Prelude.{◌≡◌, ◌++◌, List, map, option_map, Some, Ok, ℕ};
+ghost use Rattle.std.specs.Prelude.{◌≡◌, ◌++◌, List, map, option_map, Some, Ok};
 ghost use Rattle.cluster_laws.specs.Runs.{AreRising, ids_of};
 ghost use Rattle.cluster_histories.specs.Clusters.{Cluster, Stream};
 ghost use Rattle.cluster_steps.specs.declared.step.Step.TheVariants.{Take};
