@@ -115,7 +115,8 @@ impl State {
 
     /// A room that is left once a command is applied; None where there is none for it.
     fn room_after(&self, alloc: Global, command: &Command) -> Result<Option<Resources>, AllocError>
-        ensures some { IfOk result (λ room. is_some room ≡ has_room (agent_of self.now) command.now) }
+        ensures some { IfOk result
+            (λ room. is_some room ≡ has_room (agent_of self.now) command.now) }
         ensures left { IfOk result (λ room. IfSome room (λ rest. HasRoom rest
             (with_other_tasks self.now.durable
             (tasks_after command.now self.now.durable.tasks)))) }

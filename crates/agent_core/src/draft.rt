@@ -33,9 +33,14 @@ impl Model for Draft {
 
     ghost Value = { Prepared };
 
-    ghost view = { λ d. record { before = with_tasks (former_of d.before) (spliced d.from d.to d.after.durable.tasks d.before.durable.tasks) d.before.link; draft = record { after = agent_of d.after; mails = d.mails.items } } };
+    ghost view = { λ d. record {
+      before = with_tasks (former_of d.before)
+          (spliced d.from d.to d.after.durable.tasks d.before.durable.tasks) d.before.link;
+      draft = record { after = agent_of d.after; mails = d.mails.items };
+    } };
 
-    ghost invariant = { λ d. (d.from ≤ d.to) × (d.to ≤ length d.after.durable.tasks) × (is_with_run (agent_of d.after) ≡ true) };
+    ghost invariant = { λ d. (d.from ≤ d.to) × (d.to ≤ length d.after.durable.tasks)
+        × (is_with_run (agent_of d.after) ≡ true) };
 }
 
 impl Draft {

@@ -66,7 +66,8 @@ impl Model for Config {
 
     ghost view = { λ config. config.agents.items };
 
-    ghost invariant = { λ config. (are_ordered (names_of config.agents.items) ≡ true) × (length config.agents.items ≤ most_agents) };
+    ghost invariant = { λ config. (are_ordered (names_of config.agents.items) ≡ true)
+        × (length config.agents.items ≤ most_agents) };
 }
 
 fn is_before(name: &AgentName, other: &AgentName) -> bool

@@ -1,6 +1,6 @@
 //! A whole input: frames of calls in, frames of events out.
 
-ghost use Rattle.std.specs.Prelude.{◌≡◌, ◌<◌, ◌++◌, length, vec_len, List, ℕ, Option, None, Some, IfOk, IfSome, OnOk, OnErr};
+ghost use Rattle.std.specs.Prelude.{◌≡◌, ◌<◌, length, vec_len, List, ℕ, Option, None, Some, IfOk, IfSome, OnErr};
 ghost use Rattle.std.specs.Io.KnownBytes.{Appends};
 ghost use Rattle.device_io.specs.Writes.{AppendsFront};
 ghost use Rattle.frame_record.specs.declared.fault.FrameFault.{FrameFault};
@@ -57,10 +57,12 @@ fn answer_input<R: Read, W: Write>(
 ) -> Result<Option<FrameFault>, Stop>
     requires buffer { 0 < length buffer.old }
     requires master { master.old ≡ first_master }
-    ensures ok { IfOk result (λ fault. IfSome (R.remaining reader.old) (λ input.
-        (text : List ℕ) × IsAnswer input text fault × Appends (W.contents writer.old) (W.contents writer.new) text)) }
-    ensures err { OnErr result (IfSome (R.remaining reader.old) (λ input. (text : List ℕ) (fault : Option FrameFault)
-        → IsAnswer input text fault → AppendsFront (W.contents writer.old) (W.contents writer.new) text)) }
+    ensures ok { IfOk result (λ fault. IfSome (R.remaining reader.old)
+        (λ input. (text : List ℕ) × IsAnswer input text fault
+        × Appends (W.contents writer.old) (W.contents writer.new) text)) }
+    ensures err { OnErr result (IfSome (R.remaining reader.old)
+        (λ input. (text : List ℕ) (fault : Option FrameFault) → IsAnswer input text fault
+        → AppendsFront (W.contents writer.old) (W.contents writer.new) text)) }
 {
     first_records_stay();
     fault_stays();
@@ -100,11 +102,13 @@ pub fn calls<R: Read, W: Write>(
     writer: &mut W,
 ) -> Result<Option<FrameFault>, Stop>
     // What is written is the answer to the input,
-    ensures ok { IfOk result (λ fault. IfSome (R.remaining reader.old) (λ input.
-        (text : List ℕ) × IsAnswer input text fault × Appends (W.contents writer.old) (W.contents writer.new) text)) }
+    ensures ok { IfOk result (λ fault. IfSome (R.remaining reader.old)
+        (λ input. (text : List ℕ) × IsAnswer input text fault
+        × Appends (W.contents writer.old) (W.contents writer.new) text)) }
     // or a beginning of it, where memory, the reader or the writer fail.
-    ensures err { OnErr result (IfSome (R.remaining reader.old) (λ input. (text : List ℕ) (fault : Option FrameFault)
-        → IsAnswer input text fault → AppendsFront (W.contents writer.old) (W.contents writer.new) text)) }
+    ensures err { OnErr result (IfSome (R.remaining reader.old)
+        (λ input. (text : List ℕ) (fault : Option FrameFault) → IsAnswer input text fault
+        → AppendsFront (W.contents writer.old) (W.contents writer.new) text)) }
 {
     let mut buffer = match new_buffer(alloc) {
         Ok(buffer) => buffer,

@@ -15,7 +15,7 @@ use Rattle.cluster_laws.specs.Parts.{Part, from_agent, part_of}
 use Rattle.cluster_steps.specs.declared.verdict.Sent as code
 use Rattle.cluster_steps.specs.declared.verdict.Verdict.TheVariants as verdicts
 use Rattle.cluster_agents.specs.Agents.{AdoptsOne, KeptAgent, place_in, with_part}
-use Rattle.cluster_agents.specs.Moves.{Makes, Reached, kept_agents, kept_part, sending}
+use Rattle.cluster_agents.specs.Moves.{Makes, Reached, kept_agents, kept_part, sending, StandsAt}
 use Rattle.cluster_agents.specs.Sending.{BringsOut, item_from, sent_from}
 use Rattle.cluster_agents.specs.declared.outcomes.Outgoing.{Outgoing}
 use Rattle.cluster_agents.proofs.Finding.{Found, found, not_found, kept_at}
@@ -97,7 +97,7 @@ commit_without_draft c name place a e at is_up none = by (found c name place e)
 -- ---- what was sent and what was adopted make the commit
 
 abbrev pub CommitLaw : Type 0
-CommitLaw = (c : Cluster) (name : List ℕ) (place : ℕ) (a : KeptAgent) (d : Draft) (sent : List Item) → Reached c → StandIn c sent → place_in name (kept_agents c) ≡ Some place → slice_get (kept_agents c) place ≡ Some a → a.is_down ≡ false → a.part.draft ≡ Some d →
+CommitLaw = (c : Cluster) (name : List ℕ) (place : ℕ) (a : KeptAgent) (d : Draft) (sent : List Item) → Reached c → StandIn c sent → StandsAt c name place a → a.is_down ≡ false → a.part.draft ≡ Some d →
     Makes c (Commit name) verdicts.Ok (sending (map (sent_from name) d.mails)) (slice_set (kept_agents c) place (with_part d.after None a)) (sent ++ map (item_from name) d.mails)
 
 pub commit_so : CommitLaw → (c : Cluster) (name : List ℕ) (place : ℕ) (as_ : List KeptAgent) (a new : KeptAgent) (out : Outgoing) (mails : Option (List AgentMail)) (items js : List Item) → Reached c → as_ ≡ kept_agents c → StandIn c items →
@@ -108,7 +108,7 @@ commit_so law c name place as_ a new out mails items js r same stand e at is_up 
     by None f b h = absurd b
     by (Some d) f b h =
         let made : Makes c (Commit name) verdicts.Ok (sending (map (sent_from name) d.mails)) (slice_set (kept_agents c) place (with_part d.after None a)) (items ++ map (item_from name) d.mails) =
-        law c name place a d items r stand (subst (λ (xs : List KeptAgent). place_in name xs ≡ Some place) same e) (subst (λ (xs : List KeptAgent). slice_get xs place ≡ Some a) same at) is_up f in
+        law c name place a d items r stand (subst (λ (xs : List KeptAgent). place_in name xs ≡ Some place) same e, subst (λ (xs : List KeptAgent). slice_get xs place ≡ Some a) same at) is_up f in
         let kept : js ≡ items ++ map (item_from name) d.mails = more ∙ ap (λ (xs : List Item). items ++ xs) b.1 in
         let agents : slice_set as_ place new ≡ slice_set (kept_agents c) place (with_part d.after None a) = ap (λ (xs : List KeptAgent). slice_set xs place new) same ∙ ap (slice_set (kept_agents c) place) h.1 in
         subst (λ (xs : List code.Sent). Makes c (Commit name) verdicts.Ok (sending xs) (slice_set as_ place new) js) (sym b.0)

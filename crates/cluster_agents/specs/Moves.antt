@@ -21,7 +21,7 @@ use Rattle.cluster_steps.specs.declared.verdict.Sent.{Sent}
 use Rattle.cluster_steps.specs.declared.verdict.Verdict.{Verdict}
 use Rattle.cluster_steps.specs.declared.fault.ClusterFault.{ClusterFault}
 use Rattle.cluster_steps.specs.Verdicts.{fell}
-use Rattle.cluster_agents.specs.Agents.{KeptAgent}
+use Rattle.cluster_agents.specs.Agents.{KeptAgent, place_in}
 
 -- a state that is reached from a good opening, where the history has room for one more entry
 pub record Reached (c : Cluster) : Type 0 where
@@ -39,6 +39,11 @@ kept_part fallen p = record { part = p; is_down = list_any (bytes_eq p.name) fal
 
 abbrev pub kept_agents : Cluster → List KeptAgent
 kept_agents c = map (kept_part c.fallen) (parts_of c.world.channels)
+
+-- the agent of a name stands at a place
+abbrev pub StandsAt : Cluster → List ℕ → ℕ → KeptAgent → Type 0
+StandsAt c name place a =
+    (place_in name (kept_agents c) ≡ Some place) × (slice_get (kept_agents c) place ≡ Some a)
 
 -- no mail that was sent launches again on an agent
 abbrev pub ComeInOrder : List KeptAgent → List Item → Type 0

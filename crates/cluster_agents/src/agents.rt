@@ -30,7 +30,14 @@ impl Model for ClusterAgent {
 
     ghost Value = { KeptAgent };
 
-    ghost view = { λ a. record { part = record { name = a.name; agent = a.agent; draft = option_map (λ d. d.draft) a.draft }; is_down = a.is_down } };
+    ghost view = { λ a. record {
+      part = record {
+        name = a.name;
+        agent = a.agent;
+        draft = option_map (λ d. d.draft) a.draft;
+      };
+      is_down = a.is_down;
+    } };
 
     ghost invariant = { λ a. IsCurrent a.agent a.draft };
 }

@@ -54,7 +54,8 @@ impl<P: Post + Drop> Model for Cluster<P> {
 
     ghost view = { λ c. record { story = story_of c.history; post = c.post } };
 
-    ghost invariant = { λ c. IsKept (story_of c.history) c.history.opened c.parts (P.count (P.known c.post)) (P.direction_at (P.known c.post)) };
+    ghost invariant = { λ c. IsKept (story_of c.history) c.history.opened c.parts
+        (P.count (P.known c.post)) (P.direction_at (P.known c.post)) };
 }
 
 impl<P: Post + Drop> Cluster<P> {
@@ -155,9 +156,11 @@ impl<P: Post + Drop> Cluster<P> {
         ensures records { (agents : List ConfiguredAgent) (found : List Record)
             → AreAgentsOf agents self.now.story.records → AreCovered agents found
             → AreFound (state_of self.now.story) found → AreRecordsOf agents found }
-        ensures live { (later : Setup) (agents : List ConfiguredAgent) (found : List Record) → AreAgentsOf agents self.now.story.records →
-            (state_of self.now.story).world.run.number < later.run →
-            (f : AreFound (state_of self.now.story) found) → live_in (state_of (opened_over later agents found)) ≡ live_of f.by_agent }
+        ensures live { (later : Setup) (agents : List ConfiguredAgent) (found : List Record)
+            → AreAgentsOf agents self.now.story.records
+            → (state_of self.now.story).world.run.number < later.run
+            → (f : AreFound (state_of self.now.story) found)
+            → live_in (state_of (opened_over later agents found)) ≡ live_of f.by_agent }
     {
         stopped_stories_open_again();
         let _ = &self.history;

@@ -22,10 +22,10 @@ pub(crate) fn stopped_stories_open_again()
     ensures records { (s : Story) (agents : List ConfiguredAgent) (found : List Record) → IsLegal s
         → AreAgentsOf agents s.records → AreCovered agents found → AreFound (state_of s) found
         → AreRecordsOf agents found }
-    ensures live { (s : Story) (later : Setup) (agents : List ConfiguredAgent) (found : List Record) → IsLegal s → AreAgentsOf agents s.records →
-        (state_of s).world.run.number < later.run → (f : AreFound (state_of s) found) →
-        live_in (state_of (opened_over later agents found))
-        ≡ live_of f.by_agent }
+    ensures live { (s : Story) (later : Setup) (agents : List ConfiguredAgent)
+        (found : List Record) → IsLegal s → AreAgentsOf agents s.records
+        → (state_of s).world.run.number < later.run → (f : AreFound (state_of s) found)
+        → live_in (state_of (opened_over later agents found)) ≡ live_of f.by_agent }
 {
     found_records_open_again();
     masters_leave_agents();

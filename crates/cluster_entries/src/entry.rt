@@ -32,7 +32,15 @@ impl Plain for Outputs {
 
     ghost cloned = { Prim.search rules };
 
-    ghost decided = { λ x y. (let taken : Decides (⟦<Option<Shared<StreamEvent>> as PartialEq>⟧.eq x.taken y.taken) (x.taken ≡ y.taken) = Prim.search (rules, event_decided) in (let d = and_decides (pointwise_decides event_decided x.events y.events) (and_decides (pointwise_decides stream_decided x.closed y.closed) (and_decides (pointwise_decides sent_decided x.sent y.sent) (taken))) in ((λ h. let e = d.0 h in Prim.search rules), (λ e. d.1 (Prim.search rules))))) };
+    ghost decided = { λ x y. (let taken : Decides (⟦<Option<Shared<StreamEvent>> as PartialEq>⟧.eq
+        x.taken y.taken) (x.taken ≡ y.taken) = Prim.search (rules, event_decided) in
+        (let d = and_decides (pointwise_decides event_decided x.events y.events) (and_decides
+        (pointwise_decides stream_decided x.closed y.closed) (and_decides (pointwise_decides
+        sent_decided x.sent y.sent) (taken))) in (
+          (λ h. let e = d.0 h in
+              Prim.search rules),
+          (λ e. d.1 (Prim.search rules)),
+        ))) };
 }
 
 /// A step of a history, with how it ended and what it brought out.
@@ -49,7 +57,11 @@ impl Plain for Entry {
     ghost use Rattle.cluster_steps.specs.contracts.step.StepPlain.TheImpl.Laws.{cloned-law as step_cloned, decided-law as step_decided};
     ghost use Rattle.plain_data.specs.Deciding.{and_decides};
 
-    ghost cloned = { λ x y c. (let step = step_cloned x.step y.step c.0 in (let verdict = verdict_cloned x.verdict y.verdict c.1.0 in (let outputs = outputs_cloned x.outputs y.outputs c.1.1 in Prim.search rules))) };
+    ghost cloned = { λ x y c. (let step = step_cloned x.step y.step c.0 in
+        (let verdict = verdict_cloned x.verdict y.verdict c.1.0 in
+        (let outputs = outputs_cloned x.outputs y.outputs c.1.1 in Prim.search rules))) };
 
-    ghost decided = { λ x y. (let d = and_decides (step_decided x.step y.step) (and_decides (verdict_decided x.verdict y.verdict) (outputs_decided x.outputs y.outputs)) in ((λ h. let e = d.0 h in Prim.search rules), (λ e. d.1 (Prim.search rules)))) };
+    ghost decided = { λ x y. (let d = and_decides (step_decided x.step y.step) (and_decides
+        (verdict_decided x.verdict y.verdict) (outputs_decided x.outputs y.outputs)) in
+        ((λ h. let e = d.0 h in Prim.search rules), (λ e. d.1 (Prim.search rules)))) };
 }

@@ -43,8 +43,11 @@ pub fn opening_items_stand()
 /// Where items stand for all posts, they stand so after each step,
 /// with the items that it sends behind them.
 pub fn sent_items_stand()
-    ensures { (setup : Setup) (records : List Durable) (steps : List Marked) (s : Marked) (d : Done) (sent : List Item) → GoodOpening setup.run records →
-        step_marked (history setup records steps).state s ≡ Ok d → StandIn (history setup records steps).state sent → StandIn d.after (sent ++ new_items s.step d) }
+    ensures { (setup : Setup) (records : List Durable) (steps : List Marked) (s : Marked)
+        (d : Done) (sent : List Item) → GoodOpening setup.run records
+        → step_marked (history setup records steps).state s ≡ Ok d
+        → StandIn (history setup records steps).state sent
+        → StandIn d.after (sent ++ new_items s.step d) }
 {}
 
 /// From an item at its place, which is its number less 1, to its post,
@@ -65,10 +68,16 @@ pub fn items_are_posts()
 /// where the records of the opening have updates as their type allows, and the tasks that it
 /// reports fit the total that it tells.
 pub fn mails_of_agents_fit()
-    ensures number { (setup : Setup) (records : List Durable) (steps : List Marked) (sent : List Item) (n : ℕ) (to : ToMaster) → AreRecorded records →
-        StandIn (history setup records steps).state sent → slice_get sent n ≡ Some (items.ToMaster to) → FitsRecord to.mail }
-    ensures fits { (setup : Setup) (records : List Durable) (steps : List Marked) (sent : List Item) (n : ℕ) (to : ToMaster) → GoodOpening setup.run records →
-        StandIn (history setup records steps).state sent → slice_get sent n ≡ Some (items.ToMaster to) → MailFitsAt to.agent to.mail (sides_of (history setup records steps).state.world.channels) }
+    ensures number { (setup : Setup) (records : List Durable) (steps : List Marked)
+        (sent : List Item) (n : ℕ) (to : ToMaster) → AreRecorded records
+        → StandIn (history setup records steps).state sent
+        → slice_get sent n ≡ Some (items.ToMaster to) → FitsRecord to.mail }
+    ensures fits { (setup : Setup) (records : List Durable) (steps : List Marked)
+        (sent : List Item) (n : ℕ) (to : ToMaster) → GoodOpening setup.run records
+        → StandIn (history setup records steps).state sent
+        → slice_get sent n ≡ Some (items.ToMaster to)
+        → MailFitsAt to.agent to.mail
+        (sides_of (history setup records steps).state.world.channels) }
 {
     mails_meet_their_premises();
 }
@@ -76,8 +85,12 @@ pub fn mails_of_agents_fit()
 /// Each mail to an agent that was ever sent comes in order: a Hello tells a run above 0, and a
 /// Launch that is next has a key behind all those of the record of the agent that it is handed to.
 pub fn mails_to_agents_come_in_order()
-    ensures { (setup : Setup) (records : List Durable) (steps : List Marked) (sent : List Item) (n : ℕ) (to : ToAgent) → GoodOpening setup.run records →
-        StandIn (history setup records steps).state sent → slice_get sent n ≡ Some (items.ToAgent to) → Each (λ x. is_in_order x.agent (Mail to) ≡ true) (history setup records steps).state.world.channels }
+    ensures { (setup : Setup) (records : List Durable) (steps : List Marked)
+        (sent : List Item) (n : ℕ) (to : ToAgent) → GoodOpening setup.run records
+        → StandIn (history setup records steps).state sent
+        → slice_get sent n ≡ Some (items.ToAgent to)
+        → Each (λ x. is_in_order x.agent (Mail to) ≡ true)
+        (history setup records steps).state.world.channels }
 {
     mails_meet_their_premises();
 }

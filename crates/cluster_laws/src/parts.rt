@@ -1,6 +1,6 @@
 //! What a step leaves of the parts that it doesn't move.
 
-ghost use Rattle.std.specs.Prelude.{◌≡◌, true, false, List, [], ◌∷◌, map, nat_lt, slice_get, slice_set, Option, Some, None, Ok, ℕ};
+ghost use Rattle.std.specs.Prelude.{◌≡◌, true, false, List, [], ◌∷◌, map, nat_lt, slice_get, slice_set, Some, None, Ok, ℕ};
 ghost use Rattle.cluster_laws.specs.Items.{names_of};
 ghost use Rattle.cluster_laws.specs.Parts.{IsSilent, anew, from_agent, greeting, next_master, part_of, parts_of, recovered_part};
 ghost use Rattle.cluster_model.specs.Agents.{Draft, hears_mail, next_of, recovered};
@@ -41,8 +41,12 @@ pub fn agents_leave_the_others()
         ≡ master_of c }
     ensures falls { (c : Cluster) (agent : List ℕ) (step : AgentStep)
         → master_of (agent_falls c agent step).after ≡ master_of c }
-    ensures agents { (c : Cluster) (verdict : Verdict) (agent : List ℕ) (step : AgentStep) (place : ℕ) (x : Channel) → NamesOnce (names_of c.world.channels) → slice_get c.world.channels place ≡ Some x → x.side.name ≡ agent →
-        parts_of (done c (happening c verdict (At agent (ByAgent step) ∷ []))).after.world.channels ≡ slice_set (parts_of c.world.channels) place (part_of (agent_step x step)) }
+    ensures agents { (c : Cluster) (verdict : Verdict) (agent : List ℕ) (step : AgentStep)
+        (place : ℕ) (x : Channel) → NamesOnce (names_of c.world.channels)
+        → slice_get c.world.channels place ≡ Some x → x.side.name ≡ agent
+        → parts_of
+        (done c (happening c verdict (At agent (ByAgent step) ∷ []))).after.world.channels
+        ≡ slice_set (parts_of c.world.channels) place (part_of (agent_step x step)) }
 {}
 
 /// An agent's step sends nothing, but for a commit, which sends the draft's mails.
@@ -50,8 +54,11 @@ pub fn commits_send_drafts()
     ensures silent { (c : Cluster) (verdict : Verdict) (agent : List ℕ) (step : AgentStep)
         → IsSilent step
         → (done c (happening c verdict (At agent (ByAgent step) ∷ []))).outputs.sent ≡ [] }
-    ensures commits { (c : Cluster) (verdict : Verdict) (agent : List ℕ) (place : ℕ) (x : Channel) (d : Draft) → NamesOnce (names_of c.world.channels) → slice_get c.world.channels place ≡ Some x → x.side.name ≡ agent → x.draft ≡ Some d →
-        (done c (happening c verdict (At agent (ByAgent Adopt) ∷ []))).outputs.sent ≡ map (from_agent agent) d.mails }
+    ensures commits { (c : Cluster) (verdict : Verdict) (agent : List ℕ) (place : ℕ) (x : Channel)
+        (d : Draft) → NamesOnce (names_of c.world.channels)
+        → slice_get c.world.channels place ≡ Some x → x.side.name ≡ agent → x.draft ≡ Some d
+        → (done c (happening c verdict (At agent (ByAgent Adopt) ∷ []))).outputs.sent
+        ≡ map (from_agent agent) d.mails }
 {}
 
 /// What each step of an agent makes of it and of its draft.
@@ -59,8 +66,11 @@ pub fn steps_move_agents()
     ensures draws { (x : Channel) (cause : Cause) (d : Draft) → is_own cause ≡ true → x.draft ≡ None
         → next_of x.agent cause ≡ Ok d → part_of (agent_step x (Draw cause))
         ≡ record { name = x.side.name; agent = x.agent; draft = Some d } }
-    ensures draws_mail { (x : Channel) (place : ℕ) (mail : MasterMail) (d : Draft) → slice_get x.to_agent place ≡ Some mail → x.draft ≡ None → hears_mail x.agent mail ≡ Ok d →
-        part_of (agent_step x (DrawMail place)) ≡ record { name = x.side.name; agent = x.agent; draft = Some d } }
+    ensures draws_mail { (x : Channel) (place : ℕ) (mail : MasterMail) (d : Draft)
+        → slice_get x.to_agent place ≡ Some mail → x.draft ≡ None
+        → hears_mail x.agent mail ≡ Ok d
+        → part_of (agent_step x (DrawMail place))
+        ≡ record { name = x.side.name; agent = x.agent; draft = Some d } }
     ensures adopts { (x : Channel) (d : Draft) → x.draft ≡ Some d
         → part_of (agent_step x Adopt)
         ≡ record { name = x.side.name; agent = d.after; draft = None } }

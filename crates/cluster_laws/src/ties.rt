@@ -34,8 +34,9 @@ pub fn named_agents_are_found()
 /// A master that begins a run over the agents of records, whatever they are configured to own,
 /// is the one that the opening has before it greets them.
 pub fn fresh_masters_open()
-    ensures { (setup : Setup) (agents : List ConfiguredAgent) (records : List Durable) →
-        AreAgentsOf agents records → master_in (fresh setup.run agents) ≡ master_of (opened_over setup records) }
+    ensures { (setup : Setup) (agents : List ConfiguredAgent) (records : List Durable)
+        → AreAgentsOf agents records
+        → master_in (fresh setup.run agents) ≡ master_of (opened_over setup records) }
 {}
 
 /// What a master refuses, but for a mail, it refuses alone: nothing moves, nothing is told,

@@ -2,16 +2,15 @@
 //! what holds after every list of steps, over every good opening.
 #![tactic(auto)]
 
-ghost use Rattle.cluster_model.specs.Channels.{open_world};
 ghost use Rattle.cluster_model.specs.Openings.{GoodOpening, recorded_jobs};
 ghost use Rattle.cluster_histories.specs.Steps.{Setup, Marked, history};
 ghost use Rattle.cluster_origin.specs.Acks.{AcksAreOwners};
 ghost use Rattle.cluster_origin.specs.Entries.{moments};
 ghost use Rattle.cluster_origin.specs.Launches.{Origin};
 ghost use Rattle.cluster_origin.specs.Sources.{HaveSources, Traced};
-ghost use Rattle.cluster_safe.specs.Origin.{jobs_of, trail};
+ghost use Rattle.cluster_safe.specs.Origin.{jobs_of, trail_after};
 ghost use Rattle.mails.specs.declared.record.Durable.{Durable};
-ghost use Rattle.std.specs.Prelude.{[], ◌++◌, List, ℕ};
+ghost use Rattle.std.specs.Prelude.{◌++◌, List};
 
 /// Origin. For each live task exactly one entry issued, and not only sent again, a Launch with its
 /// key. That entry delivered, with verdict ok, an ACCEPT of the task's framework that lists its
@@ -21,30 +20,36 @@ ghost use Rattle.std.specs.Prelude.{[], ◌++◌, List, ℕ};
 /// sum. Tasks recorded at the opening are excepted. And no offer is used by two entries, whether
 /// their ACCEPTs are good or not.
 pub fn each_task_has_its_origin()
-    ensures { (setup : Setup) (records : List Durable) (steps : List Marked) → GoodOpening setup.run records →
-        Origin records (history setup records steps).state.world (moments setup records steps) }
+    ensures { (setup : Setup) (records : List Durable) (steps : List Marked)
+        → GoodOpening setup.run records
+        → Origin records (history setup records steps).state.world
+        (moments setup records steps) }
 {}
 
 /// Each offer that was ever made stands in an OFFERS event of the entry that made it, on its
 /// framework's stream; and each use of offers is the delivery of an ACCEPT of their framework,
 /// which names them, lists what is launched, and is taken while they are current.
 pub fn marks_come_from_entries()
-    ensures { (setup : Setup) (records : List Durable) (steps : List Marked) →
-        Traced (moments setup records steps) (trail (history setup records steps).happenings (open_world setup.run records) []) }
+    ensures { (setup : Setup) (records : List Durable) (steps : List Marked)
+        → Traced (moments setup records steps) (trail_after setup records steps) }
 {}
 
 /// Each task was launched by an entry that delivered an ACCEPT of its framework,
 /// out of offers that older entries told that framework, or stood in a record at the opening.
 pub fn tasks_come_from_accepts()
-    ensures { (setup : Setup) (records : List Durable) (steps : List Marked) → GoodOpening setup.run records →
-        HaveSources records (history setup records steps).state.world (moments setup records steps) }
+    ensures { (setup : Setup) (records : List Durable) (steps : List Marked)
+        → GoodOpening setup.run records
+        → HaveSources records (history setup records steps).state.world
+        (moments setup records steps) }
 {}
 
 /// Each Ack that was ever sent to an agent is of an update that the task's own framework
 /// acknowledged by a call that was sent before, or that a record of the opening counts: also the
 /// Ack that takes a task out of its record.
 pub fn acks_come_from_owners()
-    ensures { (setup : Setup) (records : List Durable) (steps : List Marked) → GoodOpening setup.run records →
-        AcksAreOwners records (jobs_of (trail (history setup records steps).happenings (open_world setup.run records) []) ++ recorded_jobs records)
+    ensures { (setup : Setup) (records : List Durable) (steps : List Marked)
+        → GoodOpening setup.run records
+        → AcksAreOwners records
+        (jobs_of (trail_after setup records steps) ++ recorded_jobs records)
         (history setup records steps).state.world (history setup records steps).state.posts }
 {}

@@ -1,7 +1,9 @@
 -- What is delivered to the master,
 -- and how it ends where the master refuses a mail that it has heard.
-use Rattle.std.specs.Prelude.{◌≡◌, List, Option, Some, None, Result, Ok, Err, ⊤}
+use Rattle.std.specs.Prelude.{◌≡◌, ℕ, List, Option, Some, None, Result, Ok, Err, ⊤}
+use Rattle.mails.specs.declared.mail.ToMaster.{ToMaster}
 use Rattle.mails.specs.declared.refusal.MasterRefusal.{MasterRefusal}
+use Rattle.cluster_histories.specs.Clusters.{Cluster}
 use Rattle.cluster_model.specs.Masters.{Master}
 use Rattle.cluster_laws.specs.declared.item.Item.{Item}
 use Rattle.cluster_laws.specs.declared.item.Item.TheVariants as items
@@ -12,7 +14,9 @@ use Rattle.cluster_steps.specs.declared.fault.ClusterFault.TheVariants.{NoSuchMa
 use Rattle.master_core.specs.declared.master.HeardMail.{HeardMail}
 use Rattle.master_state.specs.declared.fault.MasterFault.{MasterFault}
 use Rattle.told_streams.specs.declared.kept.KeptStream.{KeptStream}
-use Rattle.cluster_parts.specs.Masters.{Settles}
+use Rattle.cluster_agents.specs.Causes.{item_at}
+use Rattle.cluster_agents.specs.Moves.{Reached}
+use Rattle.cluster_parts.specs.Masters.{Settles, StandsFor}
 use Rattle.cluster_parts.specs.declared.delivering.ForMaster.{ForMaster}
 use Rattle.cluster_parts.specs.declared.delivering.ForMaster.TheVariants as for_master
 use Rattle.cluster_agents.specs.declared.outcomes.Made.{Made}
@@ -37,6 +41,13 @@ IsForMaster (Err HistoryFull) sent = ⊥
 IsForMaster (Err TimeBack) sent = ⊥
 IsForMaster (Err NoSuchAgent) sent = ⊥
 IsForMaster (Err OutOfMemory) sent = ⊤
+
+-- in a state that is reached, and for which these stand, a mail to the master has this number
+pub record HasMail (c : Cluster) (number : ℕ) (to : ToMaster) (master : Option (Option Master))
+    (items_sent : List Item) (streams : List KeptStream) : Type 0 where
+  pub reached : Reached c
+  pub stands : StandsFor c master items_sent streams
+  pub item : item_at number items_sent ≡ Some (items.ToMaster to)
 
 -- a step that was done is one that the master refused; any other end stays
 abbrev pub refusing : MasterRefusal → Verdict → Verdict

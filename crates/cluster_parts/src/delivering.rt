@@ -2,9 +2,9 @@
 
 ghost use Rattle.std.specs.Prelude.{◌≡◌, ◌+◌, ◌++◌, true, length, is_some, Some, Err, IfOk, IfErr, IfSome, OnErr, List, Option, Result, ℕ};
 ghost use Rattle.cluster_agents.specs.Causes.{item_at};
-ghost use Rattle.cluster_parts.specs.Hearing.{IsForMaster, SettlesHeard, with_refusal};
+ghost use Rattle.cluster_parts.specs.Hearing.{IsForMaster, SettlesHeard, with_refusal, HasMail};
 ghost use Rattle.cluster_parts.specs.Masters.{MasterMakes, StandsFor};
-ghost use Rattle.cluster_agents.specs.Moves.{Reached, Refuses};
+ghost use Rattle.cluster_agents.specs.Moves.{Refuses};
 ghost use Rattle.cluster_parts.specs.Parts.{AllMayRefuse, AllRefuse, AllTake, AreParts, Same};
 ghost use Rattle.cluster_parts.specs.Posts.{Grows};
 ghost use Rattle.cluster_agents.specs.declared.outcomes.Made.{Made as MadeSo};
@@ -51,16 +51,29 @@ enum ForMaster {
 /// A mail of an agent that was sent is one that the master may hear,
 /// and what it makes of it is the step's.
 fn mails_are_heard()
-    ensures made { (c : Cluster) (number : ℕ) (to : SentMail) (before after : Option ModelMaster) (answered : Result HeardSo Fault) (made : MadeSo) (n : Option (Option ModelMaster)) (items js : List SentItem) (ss ts : List KeptStream) →
-        Reached c → StandsFor c (Some before) items ss → item_at number items ≡ Some (sent.ToMaster to) → Hears answered before after to.agent to.mail → SettlesHeard answered made (Some after) n items js ss ts → MasterMakes c (Deliver number) c.last_tick made n js ts }
-    ensures rise { (c : Cluster) (number : ℕ) (to : SentMail) (before after : Option ModelMaster) (answered : Result HeardSo Fault) (items : List SentItem) (ss : List KeptStream) →
-        Reached c → StandsFor c (Some before) items ss → item_at number items ≡ Some (sent.ToMaster to) → Hears answered before after to.agent to.mail → IfOk answered (λ heard. AreRising (kept_ids ss ++ heard.outs.opened)) }
-    ensures number { (c : Cluster) (number : ℕ) (to : SentMail) (master : Option (Option ModelMaster)) (items : List SentItem) (ss : List KeptStream) →
-        Reached c → StandsFor c master items ss → item_at number items ≡ Some (sent.ToMaster to) → FitsRecord to.mail }
-    ensures fits { (c : Cluster) (number : ℕ) (to : SentMail) (before : Option ModelMaster) (items : List SentItem) (ss : List KeptStream) →
-        Reached c → StandsFor c (Some before) items ss → item_at number items ≡ Some (sent.ToMaster to) → IfSome before (λ m. MailFitsAt to.agent to.mail m.sides) }
-    ensures refused { (c : Cluster) (number : ℕ) (fault : ClusterFaultSo) (master : Option (Option ModelMaster)) (items : List SentItem) (ss : List KeptStream) →
-        StandsFor c master items ss → is_some master ≡ true → IsForMaster (Err fault) (item_at number items) → Refuses c (Deliver number) fault }
+    ensures made { (c : Cluster) (number : ℕ) (to : SentMail) (before after : Option ModelMaster)
+        (answered : Result HeardSo Fault) (made : MadeSo) (n : Option (Option ModelMaster))
+        (items js : List SentItem) (ss ts : List KeptStream)
+        → HasMail c number to (Some before) items ss
+        → Hears answered before after to.agent to.mail
+        → SettlesHeard answered made (Some after) n items js ss ts
+        → MasterMakes c (Deliver number) c.last_tick made n js ts }
+    ensures rise { (c : Cluster) (number : ℕ) (to : SentMail) (before after : Option ModelMaster)
+        (answered : Result HeardSo Fault) (items : List SentItem) (ss : List KeptStream)
+        → HasMail c number to (Some before) items ss
+        → Hears answered before after to.agent to.mail
+        → IfOk answered (λ heard. AreRising (kept_ids ss ++ heard.outs.opened)) }
+    ensures number { (c : Cluster) (number : ℕ) (to : SentMail)
+        (master : Option (Option ModelMaster)) (items : List SentItem) (ss : List KeptStream)
+        → HasMail c number to master items ss → FitsRecord to.mail }
+    ensures fits { (c : Cluster) (number : ℕ) (to : SentMail) (before : Option ModelMaster)
+        (items : List SentItem) (ss : List KeptStream)
+        → HasMail c number to (Some before) items ss
+        → IfSome before (λ m. MailFitsAt to.agent to.mail m.sides) }
+    ensures refused { (c : Cluster) (number : ℕ) (fault : ClusterFaultSo)
+        (master : Option (Option ModelMaster)) (items : List SentItem) (ss : List KeptStream)
+        → StandsFor c master items ss → is_some master ≡ true
+        → IsForMaster (Err fault) (item_at number items) → Refuses c (Deliver number) fault }
 {
     fallen_masters_do_not_serve();
     items_are_posts();

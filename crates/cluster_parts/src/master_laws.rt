@@ -26,10 +26,19 @@ use told_streams::{kept_streams_follow, no_more_is_taken};
 /// A step of the master is made as its answer is settled;
 /// the streams that it opens stand behind all others.
 pub fn answers_are_made()
-    ensures made { (c : Cluster) (s : Step) (moment : ℕ) (doing : Master → Doing) (answered : Result Outs MasterFault) (after : Option Master) (made : Made) (n : Option (Option Master)) (items js : List Item) (ts : List KeptStream) →
-        Reached c → AreWithin c.streams → StandIn c items → c.world.run.serves ≡ true → Does c s moment (doing (master_of c)) → Answers answered (Some (master_of c)) after doing → Settles answered made (Some after) n items js (kept_streams c.streams) ts → MasterMakes c s moment made n js ts }
-    ensures rise { (c : Cluster) (s : Step) (moment : ℕ) (doing : Master → Doing) (answered : Result Outs MasterFault) (after : Option Master) → Reached c → Does c s moment (doing (master_of c)) → Answers answered (Some (master_of c)) after doing →
-        IfOk answered (λ outs. AreRising (kept_ids (kept_streams c.streams) ++ outs.opened)) }
+    ensures made { (c : Cluster) (s : Step) (moment : ℕ) (doing : Master → Doing)
+        (answered : Result Outs MasterFault) (after : Option Master) (made : Made)
+        (n : Option (Option Master)) (items js : List Item) (ts : List KeptStream)
+        → Reached c → AreWithin c.streams → StandIn c items → c.world.run.serves ≡ true
+        → Does c s moment (doing (master_of c))
+        → Answers answered (Some (master_of c)) after doing
+        → Settles answered made (Some after) n items js (kept_streams c.streams) ts
+        → MasterMakes c s moment made n js ts }
+    ensures rise { (c : Cluster) (s : Step) (moment : ℕ) (doing : Master → Doing)
+        (answered : Result Outs MasterFault) (after : Option Master)
+        → Reached c → Does c s moment (doing (master_of c))
+        → Answers answered (Some (master_of c)) after doing
+        → IfOk answered (λ outs. AreRising (kept_ids (kept_streams c.streams) ++ outs.opened)) }
 {
     fallen_masters_do_not_serve();
     kept_streams_follow();

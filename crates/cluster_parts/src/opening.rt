@@ -51,8 +51,14 @@ pub struct Opened {
 /// A new master that greets every agent stands for the opening,
 /// and so do agents that come up over their records.
 fn openings_are_made()
-    ensures made { (setup : Setup) (agents : List ConfiguredAgent) (records : List Record) (answered : Result OutsSo Fault) (made : MadeSo) (started n : Option (Option ModelMaster)) (js : List Item) (ts : List KeptStream) →
-        AreAgentsOf agents records → GoodOpening setup.run records → Starts answered started setup.run agents → Settles answered made started n [] js [] ts → made.verdict ≡ verdicts.Ok → StandsFor (opening setup records).state n js ts × (made.outputs ≡ (open_cluster setup records).outputs) }
+    ensures made { (setup : Setup) (agents : List ConfiguredAgent) (records : List Record)
+        (answered : Result OutsSo Fault) (made : MadeSo) (started n : Option (Option ModelMaster))
+        (js : List Item) (ts : List KeptStream)
+        → AreAgentsOf agents records → GoodOpening setup.run records
+        → Starts answered started setup.run agents
+        → Settles answered made started n [] js [] ts → made.verdict ≡ verdicts.Ok
+        → StandsFor (opening setup records).state n js ts
+        × (made.outputs ≡ (open_cluster setup records).outputs) }
     ensures runs { (setup : Setup) (records : List Record) →
         (opening setup records).state.world.run.number ≡ setup.run }
     ensures agents { (setup : Setup) (records : List Record) →

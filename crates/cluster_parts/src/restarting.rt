@@ -44,12 +44,25 @@ const LAST_RUN: u16 = 65_535;
 /// A new master of the next run that greets every agent stands for the state behind a
 /// stop of the master; behind the last run none does.
 fn restarts_are_made()
-    ensures anew { (c : Cluster) (r : Reached c) (agents : List ConfiguredAgent) (answered : Result Outs Fault) (made : MadeSo) (master started n : Option (Option ModelMaster)) (items js : List Item) (ss ts : List KeptStream) →
-        AreAgentsOf agents r.records → StandsFor c master items ss → nat_lt c.world.run.number last_run ≡ true → Starts answered started (1 + c.world.run.number) agents → Settles answered made started n items js ss ts → Restarts c made (1 + c.world.run.number) n js ts }
-    ensures last { (c : Cluster) (master : Option (Option ModelMaster)) (items : List Item) (ss : List KeptStream) →
-        Reached c → StandsFor c master items ss → nat_lt c.world.run.number last_run ≡ false → Restarts c (ends_with verdicts.Ok) c.world.run.number None items ss }
-    ensures rise { (c : Cluster) (r : Reached c) (agents : List ConfiguredAgent) (answered : Result Outs Fault) (master started : Option (Option ModelMaster)) (items : List Item) (ss : List KeptStream) (run : ℕ) →
-        AreAgentsOf agents r.records → StandsFor c master items ss → Starts answered started run agents → IfOk answered (λ outs. AreRising (kept_ids ss ++ outs.opened)) }
+    ensures anew { (c : Cluster) (r : Reached c) (agents : List ConfiguredAgent)
+        (answered : Result Outs Fault) (made : MadeSo)
+        (master started n : Option (Option ModelMaster)) (items js : List Item)
+        (ss ts : List KeptStream)
+        → AreAgentsOf agents r.records → StandsFor c master items ss
+        → nat_lt c.world.run.number last_run ≡ true
+        → Starts answered started (1 + c.world.run.number) agents
+        → Settles answered made started n items js ss ts
+        → Restarts c made (1 + c.world.run.number) n js ts }
+    ensures last { (c : Cluster) (master : Option (Option ModelMaster)) (items : List Item)
+        (ss : List KeptStream) → Reached c → StandsFor c master items ss
+        → nat_lt c.world.run.number last_run ≡ false
+        → Restarts c (ends_with verdicts.Ok) c.world.run.number None items ss }
+    ensures rise { (c : Cluster) (r : Reached c) (agents : List ConfiguredAgent)
+        (answered : Result Outs Fault) (master started : Option (Option ModelMaster))
+        (items : List Item) (ss : List KeptStream) (run : ℕ)
+        → AreAgentsOf agents r.records → StandsFor c master items ss
+        → Starts answered started run agents
+        → IfOk answered (λ outs. AreRising (kept_ids ss ++ outs.opened)) }
 {
     fresh_masters_open();
     kept_streams_follow();

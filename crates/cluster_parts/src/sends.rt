@@ -38,16 +38,22 @@ use told_streams::{Streams, kept_streams_are_found, kept_streams_follow, no_more
 
 /// A call is sent, and the agents are as they were.
 fn sends_are_made()
-    ensures { (c : Cluster) (stream : Option Numbered) (call : Call) (sent : List Item) → Reached c → StandIn c sent →
-        Makes c (Send stream call) verdicts.Ok (sending (entries.Call ∷ [])) (kept_agents c) (sent ++ items.Call stream call ∷ []) }
+    ensures { (c : Cluster) (stream : Option Numbered) (call : Call) (sent : List Item)
+        → Reached c → StandIn c sent
+        → Makes c (Send stream call) verdicts.Ok (sending (entries.Call ∷ [])) (kept_agents c)
+        (sent ++ items.Call stream call ∷ []) }
 {
     sent_items_stand();
 }
 
 /// The first event that waits on a stream is taken; where none waits the step is refused.
 fn takes_are_made()
-    ensures made { (c : Cluster) (id : Numbered) (event : told.Event) (master : Option (Option Master)) (sent : List Item) → Reached c → StandsFor c master sent (kept_streams c.streams) → next_on id (kept_streams c.streams) ≡ Some event →
-        MasterMakes c (Take id) c.last_tick (taking id event) master sent (taken id (kept_streams c.streams)) }
+    ensures made { (c : Cluster) (id : Numbered) (event : told.Event)
+        (master : Option (Option Master)) (sent : List Item)
+        → Reached c → StandsFor c master sent (kept_streams c.streams)
+        → next_on id (kept_streams c.streams) ≡ Some event
+        → MasterMakes c (Take id) c.last_tick (taking id event) master sent
+        (taken id (kept_streams c.streams)) }
     ensures refused { (c : Cluster) (id : Numbered) → next_on id (kept_streams c.streams) ≡ None
         → Refuses c (Take id) NoSuchMail }
 {

@@ -8,9 +8,10 @@ use Rattle.mails.specs.declared.task.Offer.{Offer}
 use Rattle.mails.specs.declared.record.Durable.{Durable}
 use Rattle.cluster_model.specs.Ids.{is_among, is_empty}
 use Rattle.cluster_model.specs.Sides.{Run, Side, SideStep, MakeOffer, LaunchFrom, Launching, launch_one, may_launch, may_offer, is_good, used_offers, without_used, sends_nothing, offer_rows, job_rows}
-use Rattle.cluster_model.specs.Channels.{Channel, ChannelStep, ByMaster, World, Happening, At, after}
+use Rattle.cluster_model.specs.Channels.{Channel, ChannelStep, ByMaster, World, Happening, At, after, open_world}
 use Rattle.cluster_model.specs.Events.{MadeOffer}
 use Rattle.cluster_model.specs.Openings.{KeysOnce, recorded_jobs}
+use Rattle.cluster_histories.specs.Steps.{Setup, Marked, history}
 use Rattle.cluster_safe.specs.Facts.{AtMost}
 
 -- an ACCEPT of good offers: the offers that it used, and the jobs that it launched
@@ -70,6 +71,11 @@ marks_by w h = []
 abbrev pub trail : List Happening → World → List Mark → List Mark
 trail [] w marks = marks
 trail (h ∷ hs) w marks = trail hs (after w h) (marks_by w h ++ marks)
+
+-- the trail of a list of steps, from an opening
+abbrev pub trail_after : Setup → List Durable → List Marked → List Mark
+trail_after setup records steps =
+    trail (history setup records steps).happenings (open_world setup.run records) []
 
 -- what stands in a trail
 

@@ -7,10 +7,10 @@ use Rattle.names_core.specs.Updates as updates
 use Rattle.mails.specs.declared.record.Durable.{Durable}
 use Rattle.mails.specs.declared.record.RecordedTask.{RecordedTask}
 use Rattle.cluster_model.specs.Ids.{same}
-use Rattle.cluster_model.specs.Channels.{Channel, World, Happening, after}
+use Rattle.cluster_model.specs.Channels.{Channel, World, Happening, after, open_world}
 use Rattle.cluster_model.specs.Events.{Event, StreamEvent, Update}
 use Rattle.cluster_histories.specs.Clusters.{Entry}
-use Rattle.cluster_histories.specs.Steps.{History}
+use Rattle.cluster_histories.specs.Steps.{History, Setup, Marked, history}
 use Rattle.cluster_safe.specs.Acknowledged.{recorded_tasks}
 
 abbrev pub longer : List TaskState → List TaskState → List TaskState
@@ -38,6 +38,11 @@ updates_over key (h ∷ hs) w before =
 -- so the most that ever stood there are all of them
 abbrev pub updates_of : Numbered → List Happening → World → List TaskState
 updates_of key hs start = updates_over key hs start (recorded_states key start)
+
+-- the updates of a key over a list of steps, from an opening
+abbrev pub updates_after : Numbered → Setup → List Durable → List Marked → List TaskState
+updates_after key setup records steps =
+    updates_of key (history setup records steps).happenings (open_world setup.run records)
 
 -- the states that stand in the record of one agent for a key
 abbrev pub states_on : List ℕ → Numbered → List Channel → List TaskState

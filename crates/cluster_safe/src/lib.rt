@@ -19,10 +19,10 @@ ghost use Rattle.cluster_safe.specs.Growth.{OnlyGrow};
 ghost use Rattle.cluster_safe.specs.Honest.{Honest, IsBeginningOf, IsKeyOf, acknowledged_by};
 ghost use Rattle.cluster_safe.specs.Listed.{MoveFrom, MoveWithout};
 ghost use Rattle.cluster_safe.specs.Offered.{IsTold};
-ghost use Rattle.cluster_safe.specs.Origin.{From, HasOrigin, jobs_of, launched, trail};
+ghost use Rattle.cluster_safe.specs.Origin.{From, HasOrigin, jobs_of, launched, trail_after};
 ghost use Rattle.cluster_safe.specs.Premises.{MeetsPremises};
 ghost use Rattle.cluster_safe.specs.Saved.{IsFound};
-ghost use Rattle.cluster_safe.specs.Updates.{AcknowledgeTheirs, HandsUpdates, HaveAllUpdates, TellsUpdates, updates_of, updates_on};
+ghost use Rattle.cluster_safe.specs.Updates.{AcknowledgeTheirs, HandsUpdates, HaveAllUpdates, TellsUpdates, updates_on, updates_after};
 ghost use Rattle.cluster_safe.specs.Safe.{NeverLacksRoom};
 ghost use Rattle.mails.specs.declared.call.Call.{Call};
 ghost use Rattle.mails.specs.declared.call.TaskInfo.{TaskInfo};
@@ -49,24 +49,31 @@ pub fn agents_have_room()
 /// Each task was launched by exactly one ACCEPT of its framework, out of offers of its agent that
 /// were made before and that no other ACCEPT uses, or it stood in a record at the opening.
 pub fn tasks_have_their_origin()
-    ensures { (setup : Setup) (records : List Durable) (steps : List Marked) → GoodOpening setup.run records →
-        HasOrigin records (history setup records steps).state.world (trail (history setup records steps).happenings (open_world setup.run records) []) }
+    ensures { (setup : Setup) (records : List Durable) (steps : List Marked)
+        → GoodOpening setup.run records
+        → HasOrigin records (history setup records steps).state.world
+        (trail_after setup records steps) }
 {}
 
 /// Each update that an agent's record counts as acknowledged was named by an ACKNOWLEDGE that the
 /// task's own framework sent before, or was counted in a record at the opening.
 pub fn acknowledged_by_the_owner()
-    ensures { (setup : Setup) (records : List Durable) (steps : List Marked) → GoodOpening setup.run records →
-        AcknowledgedByOwner records (history setup records steps).state.world (history setup records steps).state.posts }
+    ensures { (setup : Setup) (records : List Durable) (steps : List Marked)
+        → GoodOpening setup.run records
+        → AcknowledgedByOwner records (history setup records steps).state.world
+        (history setup records steps).state.posts }
 {}
 
 /// What a framework has acknowledged of a task of its own, if it acknowledges only updates that
 /// were handed out before, is a beginning of the task's updates over the whole history: 0, 1, 2 and
 /// so on without gap.
 pub fn acknowledgements_are_prefixes()
-    ensures { (setup : Setup) (records : List Durable) (steps : List Marked) (framework key : Numbered) → GoodOpening setup.run records → AcknowledgeTheirs records → Honest framework (opening setup records) steps →
-        IsKeyOf framework key (jobs_of (trail (history setup records steps).happenings (open_world setup.run records) []) ++ recorded_jobs records) →
-        IsBeginningOf (updates_of key (history setup records steps).happenings (open_world setup.run records)) (acknowledged_by records framework key (history setup records steps).state.posts) }
+    ensures { (setup : Setup) (records : List Durable) (steps : List Marked)
+        (framework key : Numbered) → GoodOpening setup.run records → AcknowledgeTheirs records
+        → Honest framework (opening setup records) steps
+        → IsKeyOf framework key (jobs_of (trail_after setup records steps) ++ recorded_jobs records)
+        → IsBeginningOf (updates_after key setup records steps)
+        (acknowledged_by records framework key (history setup records steps).state.posts) }
 {}
 
 /// The updates of a task only grow at their end,
@@ -99,23 +106,30 @@ pub fn records_have_all_updates()
 /// All updates of a launch key stand in the record of the agent on which the task was launched,
 /// or stood at the opening.
 pub fn updates_stand_with_their_agent()
-    ensures { (setup : Setup) (records : List Durable) (steps : List Marked) (agent : List ℕ) (j : Job) → GoodOpening setup.run records →
-        From records agent (trail (history setup records steps).happenings (open_world setup.run records) []) j →
-        updates_of j.key (history setup records steps).happenings (open_world setup.run records) ≡ updates_on agent j.key (history setup records steps).happenings (open_world setup.run records) }
+    ensures { (setup : Setup) (records : List Durable) (steps : List Marked)
+        (agent : List ℕ) (j : Job) → GoodOpening setup.run records
+        → From records agent (trail_after setup records steps) j
+        → updates_after j.key setup records steps
+        ≡ updates_on agent j.key (history setup records steps).happenings
+        (open_world setup.run records) }
 {}
 
 /// Whatever is found of the agents' records after a stop,
 /// each the record before or the record of an open draft, is a good opening for any later run.
 pub fn found_records_open_again()
-    ensures { (setup : Setup) (records : List Durable) (steps : List Marked) (later : ℕ) (found : List Durable) → GoodOpening setup.run records →
-        (history setup records steps).state.world.run.number < later → IsFound (history setup records steps).state.world.channels found → GoodOpening later found }
+    ensures { (setup : Setup) (records : List Durable) (steps : List Marked)
+        (later : ℕ) (found : List Durable) → GoodOpening setup.run records
+        → (history setup records steps).state.world.run.number < later
+        → IsFound (history setup records steps).state.world.channels found
+        → GoodOpening later found }
 {}
 
 /// Of every mail ever sent: a Launch that is next has a key behind all those of its agent's record,
 /// a Hello tells a run above 0, and the tasks of a Report fit the total that it tells.
 pub fn mails_meet_their_premises()
-    ensures { (setup : Setup) (records : List Durable) (steps : List Marked) → GoodOpening setup.run records →
-        Each MeetsPremises (history setup records steps).state.world.channels }
+    ensures { (setup : Setup) (records : List Durable) (steps : List Marked)
+        → GoodOpening setup.run records
+        → Each MeetsPremises (history setup records steps).state.world.channels }
 {}
 
 /// The master of a cluster after a step, and the mails of the entry,
@@ -127,16 +141,20 @@ pub fn masters_step_alone()
         → (done c (effect_of [] d)).outputs.sent
         ≡ map MailToAgent (moved (master_of c) d.moves).sent }
     // At an agent's mail its side hears it first.
-    ensures hears { (c : Cluster) (agent : List ℕ) (place : ℕ) (x : Channel) (mail : AgentMail) (d : Doing) → channel_of c agent ≡ Some x → slice_get x.to_master place ≡ Some mail →
-        (master_of (done c (effect_of (At agent (Hear place) ∷ []) d)).after ≡ after_doing (having_heard (master_of c) agent mail) d) ×
-        ((done c (effect_of (At agent (Hear place) ∷ []) d)).outputs.sent ≡ map MailToAgent (moved (having_heard (master_of c) agent mail) d.moves).sent) }
+    ensures hears { (c : Cluster) (agent : List ℕ) (place : ℕ) (x : Channel) (mail : AgentMail)
+        (d : Doing) → channel_of c agent ≡ Some x → slice_get x.to_master place ≡ Some mail
+        → (master_of (done c (effect_of (At agent (Hear place) ∷ []) d)).after
+        ≡ after_doing (having_heard (master_of c) agent mail) d)
+        × ((done c (effect_of (At agent (Hear place) ∷ []) d)).outputs.sent
+        ≡ map MailToAgent (moved (having_heard (master_of c) agent mail) d.moves).sent) }
 {}
 
 /// Each offer that enters the current ones in a round is told in an OFFERS event,
 /// on the stream of its framework, which is subscribed.
 pub fn entered_offers_are_told()
-    ensures { (weights : List RoleWeight) (m : Master) →
-        Each (IsTold m.registers.frameworks (allocated weights m).events) (entered m.sides (moved m (allocated weights m).moves).sides) }
+    ensures { (weights : List RoleWeight) (m : Master)
+        → Each (IsTold m.registers.frameworks (allocated weights m).events)
+        (entered m.sides (moved m (allocated weights m).moves).sides) }
 {}
 
 /// A launch comes from an ACCEPT alone: of its framework, with the offers that it names,
@@ -157,6 +175,9 @@ pub fn launches_come_from_accepts()
 /// An ACCEPT of good offers launches each task for which it answers nothing:
 /// no launch is passed over unseen.
 pub fn accepts_launch_what_they_do_not_answer()
-    ensures { (m : Master) (f : Framework) (g : Given) (ids : List Numbered) (tasks : List TaskInfo) (s : Side) →
-        launched f.id ids g.budget (accepts_all m f (Some g) tasks).jobs (record { used = []; sending = sends_nothing m.run s }) ≡ (accepts_all m f (Some g) tasks).jobs }
+    ensures { (m : Master) (f : Framework) (g : Given) (ids : List Numbered)
+        (tasks : List TaskInfo) (s : Side)
+        → launched f.id ids g.budget (accepts_all m f (Some g) tasks).jobs
+        (record { used = []; sending = sends_nothing m.run s })
+        ≡ (accepts_all m f (Some g) tasks).jobs }
 {}

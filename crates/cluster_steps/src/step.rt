@@ -101,15 +101,37 @@ impl Plain for Step {
     ghost cloned = { Prim.search rules };
 
     ghost decided = { elim [
-      | Send s c ↦ elim [ Send t d ↦ (let stream : Decides (⟦<Option<StreamId> as PartialEq>⟧.eq s t) (s ≡ t) = Prim.search rules in (let d = and_decides (stream) (call_decided c d) in ((λ h. let e = d.0 h in Prim.search rules), (λ e. d.1 (Prim.search rules))))) | _ ↦ Prim.search rules ]
+      | Send s c ↦ elim [
+        | Send t d ↦ (let stream : Decides (⟦<Option<StreamId> as PartialEq>⟧.eq s
+            t) (s ≡ t) = Prim.search rules in (let d = and_decides (stream) (call_decided c d) in (
+              (λ h. let e = d.0 h in Prim.search rules),
+              (λ e. d.1 (Prim.search rules)),
+            )))
+        | _ ↦ Prim.search rules
+      ]
       | Deliver n ↦ elim [ Deliver m ↦ Prim.search rules | _ ↦ Prim.search rules ]
       | Allocate ↦ elim [ Allocate ↦ Prim.search rules | _ ↦ Prim.search rules ]
       | Tick n ↦ elim [ Tick m ↦ Prim.search rules | _ ↦ Prim.search rules ]
       | LoseAgent a ↦ elim [ LoseAgent b ↦ Prim.search rules | _ ↦ Prim.search rules ]
       | HangUp s ↦ elim [ HangUp t ↦ Prim.search rules | _ ↦ Prim.search rules ]
-      | Prepare a c ↦ elim [ Prepare b d ↦ (let d = and_decides (agent_decided a b) (cause_decided c d) in ((λ h. let e = d.0 h in Prim.search rules), (λ e. d.1 (Prim.search rules)))) | _ ↦ Prim.search rules ]
+      | Prepare a c ↦ elim [
+        | Prepare b d ↦ (let d = and_decides (agent_decided a b) (cause_decided c
+            d) in (
+              (λ h. let e = d.0 h in Prim.search rules),
+              (λ e. d.1 (Prim.search rules)),
+            ))
+        | _ ↦ Prim.search rules
+      ]
       | Commit a ↦ elim [ Commit b ↦ Prim.search rules | _ ↦ Prim.search rules ]
-      | StopAgent a k ↦ elim [ StopAgent b l ↦ (let d = and_decides (agent_decided a b) (keep_decided k l) in ((λ h. let e = d.0 h in Prim.search rules), (λ e. d.1 (Prim.search rules)))) | _ ↦ Prim.search rules ]
+      | StopAgent a k ↦ elim [
+        | StopAgent b l ↦ (let d = and_decides (agent_decided a b)
+            (keep_decided k l) in (
+              (λ h. let e = d.0 h in
+                  Prim.search rules),
+              (λ e. d.1 (Prim.search rules)),
+            ))
+        | _ ↦ Prim.search rules
+      ]
       | StopMaster ↦ elim [ StopMaster ↦ Prim.search rules | _ ↦ Prim.search rules ]
       | Take s ↦ elim [ Take t ↦ Prim.search rules | _ ↦ Prim.search rules ]
     ] };

@@ -40,7 +40,21 @@ impl Plain for Sent {
 
     ghost decided = { elim [
       | Call ↦ elim [ Call ↦ Prim.search rules | _ ↦ Prim.search rules ]
-      | ToAgent m ↦ elim [ ToAgent n ↦ (let d = agent_decided m n in ((λ h. let e = d.0 h in Prim.search rules), (λ e. d.1 (Prim.search rules)))) | _ ↦ Prim.search rules ]
-      | ToMaster m ↦ elim [ ToMaster n ↦ (let d = master_decided m n in ((λ h. let e = d.0 h in Prim.search rules), (λ e. d.1 (Prim.search rules)))) | _ ↦ Prim.search rules ]
+      | ToAgent m ↦ elim [
+        | ToAgent n ↦ (let d = agent_decided m n in (
+          (λ h. let e = d.0 h in
+              Prim.search rules),
+          (λ e. d.1 (Prim.search rules)),
+        ))
+        | _ ↦ Prim.search rules
+      ]
+      | ToMaster m ↦ elim [
+        | ToMaster n ↦ (let d = master_decided m n in (
+          (λ h. let e = d.0 h in
+              Prim.search rules),
+          (λ e. d.1 (Prim.search rules)),
+        ))
+        | _ ↦ Prim.search rules
+      ]
     ] };
 }

@@ -42,9 +42,16 @@ impl<C: Recorded, L: ledger::Ledger> Model for Desk<C, L> {
 
     ghost Value = { DeskState C };
 
-    ghost view = { λ d. record { recorded = d.recorded; seats = d.seats.items; opened = length d.counts.items; total = d.book.total; finished = d.finished } };
+    ghost view = { λ d. record {
+      recorded = d.recorded;
+      seats = d.seats.items;
+      opened = length d.counts.items;
+      total = d.book.total;
+      finished = d.finished;
+    } };
 
-    ghost invariant = { λ d. IsKept (length (C.history d.recorded)) d.seats.items d.counts.items d.book.total d.rest.parts };
+    ghost invariant = { λ d. IsKept (length (C.history d.recorded)) d.seats.items d.counts.items
+        d.book.total d.rest.parts };
 }
 
 /// What an office says of the fault of a refused step: O2, O3 or O4.

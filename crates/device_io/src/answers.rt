@@ -119,10 +119,12 @@ fn answer_end<T: Teller, W: Write>(
     writer: &mut W,
 ) -> Result<(), Stop>
     ensures ok { OnOk result (Appends (W.contents writer.old) (W.contents writer.new)
-        (told_all T.told T.after teller.old (last_line rest.now) ++ T.ending (after_all T.after teller.old (last_line rest.now)))) }
+        (told_all T.told T.after teller.old (last_line rest.now)
+        ++ T.ending (after_all T.after teller.old (last_line rest.now)))) }
     ensures after { OnOk result (teller.new ≡ after_all T.after teller.old (last_line rest.now)) }
     ensures err { OnErr result (AppendsFront (W.contents writer.old) (W.contents writer.new)
-        (told_all T.told T.after teller.old (last_line rest.now) ++ T.ending (after_all T.after teller.old (last_line rest.now)))) }
+        (told_all T.told T.after teller.old (last_line rest.now)
+        ++ T.ending (after_all T.after teller.old (last_line rest.now)))) }
 {
     if let Err(stop) = answer_last(alloc, teller, rest, writer) {
         return Err(stop);

@@ -37,7 +37,8 @@ impl Reader {
 
     /// Takes the next piece of the text, of any length, and gives the lines that it ends.
     pub fn feed(&mut self, alloc: Global, piece: &[u8]) -> Result<Vec<Vec<u8>>, AllocError>
-        ensures { IfOk result (λ lines. (text : List ℕ) (before : List (List ℕ)) → Reads text before self.old
+        ensures { IfOk result
+            (λ lines. (text : List ℕ) (before : List (List ℕ)) → Reads text before self.old
             → Reads (text ++ piece.now) (before ++ bodies lines.items) self.new) }
     {
         let mut lines = Vec::new(alloc);

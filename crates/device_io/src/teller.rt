@@ -33,8 +33,10 @@ pub trait Teller {
         ensures { IfOk result (λ text. text.items ≡ ending self.now) };
 
     /// Where it takes no further line, one tells nothing and changes nothing.
-    ghost stays: { (s : Self) (line : List ℕ) → goes_on s ≡ false → (told s line ≡ []) × (after s line ≡ s) };
+    ghost stays: { (s : Self) (line : List ℕ) → goes_on s ≡ false → (told s line ≡ [])
+        × (after s line ≡ s) };
 
     /// What is kept of a line is enough.
-    ghost enough: { (s : Self) (line : List ℕ) → (told s (kept line) ≡ told s line) × (after s (kept line) ≡ after s line) };
+    ghost enough: { (s : Self) (line : List ℕ) → (told s (kept line) ≡ told s line)
+        × (after s (kept line) ≡ after s line) };
 }

@@ -29,7 +29,8 @@ fn push_event(
 }
 
 fn push_events(alloc: Global, text: &mut Vec<u8>, events: &[StreamEvent]) -> Result<(), AllocError>
-    ensures { OnOk result (text.new.items ≡ text.old.items ++ flat_map (event_line (codes ">")) events.now) }
+    ensures { OnOk result
+        (text.new.items ≡ text.old.items ++ flat_map (event_line (codes ">")) events.now) }
 {
     for event in events {
         push_event(alloc, text, ">", event)?;

@@ -22,7 +22,8 @@ const HEARTBEAT_INTERVAL: u64 = 15;
 
 /// An object of a type.
 fn typed(alloc: Global, name: &str, body: Value, kind: &str) -> Result<Value, AllocError>
-    ensures { IfOk result (λ v. view v ≡ pair name.now (view body) (codes "type") (string kind.now)) }
+    ensures { IfOk result
+        (λ v. view v ≡ pair name.now (view body) (codes "type") (string kind.now)) }
 {
     let kind = Value::try_from_str(alloc, kind)?;
     pair(alloc, name, body, "type", kind)

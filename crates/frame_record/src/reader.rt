@@ -75,9 +75,10 @@ impl Reader {
     pub fn pull(&mut self, alloc: Global, piece: &[u8]) -> Result<Pulled, FrameFault>
         ensures taken { IfOk result (λ pulled. pulled.taken ≤ length piece.now) }
         // Over any pieces, the records are those of the whole text, and so is the fault.
-        ensures reads { IfOk result (λ pulled.
-            (text : List ℕ) (before : List (List ℕ)) → Reads text before self.old
-            → Reads (text ++ take pulled.taken piece.now) (before ++ item_of pulled.item) self.new) }
+        ensures reads { IfOk result
+            (λ pulled. (text : List ℕ) (before : List (List ℕ)) → Reads text before self.old
+            → Reads (text ++ take pulled.taken piece.now)
+            (before ++ item_of pulled.item) self.new) }
         // Nothing waits behind a record; a piece that brings neither record nor fault is taken whole.
         ensures whole { IfOk result (λ pulled.
             MatchOption pulled.item (pulled.fault ≡ None → pulled.taken ≡ length piece.now)
@@ -116,7 +117,8 @@ impl Reader {
     /// pieces are.
     pub fn feed(&mut self, alloc: Global, piece: &[u8]) -> Result<Fed, FrameFault>
         // Over any pieces, the records are those of the whole text, and so is the fault.
-        ensures reads { IfOk result (λ fed. (text : List ℕ) (before : List (List ℕ)) → Reads text before self.old
+        ensures reads { IfOk result
+            (λ fed. (text : List ℕ) (before : List (List ℕ)) → Reads text before self.old
             → Reads (text ++ piece.now) (before ++ bodies fed.records.items) self.new) }
         ensures fault { IfOk result (λ fed. fed.fault ≡ self.new.fault) }
         ensures stays { IfSome self.old.fault (λ f. self.new.fault ≡ Some f) }
@@ -152,7 +154,8 @@ impl Reader {
     /// Pulls until the piece gives no further record.
     fn pull_all(&mut self, alloc: Global, piece: &[u8]) -> Result<Vec<Vec<u8>>, FrameFault>
         requires { self.old.fault ≡ None }
-        ensures { IfOk result (λ records. (text : List ℕ) (before : List (List ℕ)) → Reads text before self.old
+        ensures { IfOk result
+            (λ records. (text : List ℕ) (before : List (List ℕ)) → Reads text before self.old
             → Reads (text ++ piece.now) (before ++ bodies records.items) self.new) }
     {
         let mut records = Vec::new(alloc);
@@ -188,7 +191,8 @@ pub fn what_waits_is_short()
 
 /// The records of the beginning of a stream are the first records of the whole stream.
 pub fn first_records_stay()
-    ensures { (text more : List ℕ) (records all : List (List ℕ)) (s t : State) → Reads text records s → Reads (text ++ more) all t
+    ensures { (text more : List ℕ) (records all : List (List ℕ)) (s t : State)
+        → Reads text records s → Reads (text ++ more) all t
         → (others : List (List ℕ)) × (all ≡ records ++ others) }
 {}
 

@@ -48,7 +48,8 @@ fn answer_call<O: Outlet, B: Bench, G: Gate>(
     call: Call,
 ) -> Result<bool, LinkFault>
     requires { O.faults outlet.old < u64.MAX }
-    ensures answered { (deeds : List Deed) × (sent : List ℕ) × Chain B.does bench.old deeds bench.new × O.writes outlet.old sent outlet.new
+    ensures answered { (deeds : List Deed) × (sent : List ℕ)
+        × Chain B.does bench.old deeds bench.new × O.writes outlet.old sent outlet.new
         × RespondsToCall result plan call deeds sent }
     ensures sound { OnOk result (O.faults outlet.new ≡ O.faults outlet.old) }
     ensures link { IsErrOf result Failed → (O.faults outlet.old < O.faults outlet.new)
@@ -80,7 +81,8 @@ fn answer_body<O: Outlet, B: Bench, G: Gate>(
     body: &[u8],
 ) -> Result<bool, LinkFault>
     requires { O.faults outlet.old < u64.MAX }
-    ensures answered { (deeds : List Deed) × (sent : List ℕ) × Chain B.does bench.old deeds bench.new × O.writes outlet.old sent outlet.new
+    ensures answered { (deeds : List Deed) × (sent : List ℕ)
+        × Chain B.does bench.old deeds bench.new × O.writes outlet.old sent outlet.new
         × RespondsTo result plan body.now deeds sent }
     ensures sound { OnOk result (O.faults outlet.new ≡ O.faults outlet.old) }
     ensures link { IsErrOf result Failed → (O.faults outlet.old < O.faults outlet.new)
@@ -119,13 +121,15 @@ fn answer_plan<I: Inlet, O: Outlet, B: Bench, G: Gate>(
     requires limit { IsWithinLimit plan.body }
     requires inlet_countable { I.faults inlet.old < u64.MAX }
     requires outlet_countable { O.faults outlet.old < u64.MAX }
-    ensures answered { (more : List ℕ) × (deeds : List Deed) × (sent : List ℕ) × I.reads inlet.old more inlet.new
-        × Chain B.does bench.old deeds bench.new × O.writes outlet.old sent outlet.new
-        × RespondsToPlan result plan (unread.old ++ more) (I.ended inlet.new) deeds sent unread.new }
+    ensures answered { (more : List ℕ) × (deeds : List Deed) × (sent : List ℕ)
+        × I.reads inlet.old more inlet.new × Chain B.does bench.old deeds bench.new
+        × O.writes outlet.old sent outlet.new
+        × RespondsToPlan result plan (unread.old ++ more) (I.ended inlet.new) deeds sent
+        unread.new }
     ensures sound { OnOk result ((I.faults inlet.new ≡ I.faults inlet.old)
         × (O.faults outlet.new ≡ O.faults outlet.old)) }
-    ensures link { IsErrOf result Failed → (I.faults inlet.old < I.faults inlet.new) ⊎ (O.faults outlet.old < O.faults outlet.new)
-        ⊎ TurnsSpent B.does bench.old bench.new }
+    ensures link { IsErrOf result Failed → (I.faults inlet.old < I.faults inlet.new)
+        ⊎ (O.faults outlet.old < O.faults outlet.new) ⊎ TurnsSpent B.does bench.old bench.new }
 {
     match send_interim(outlet, plan.expects) {
         Ok(()) => {}
@@ -149,13 +153,14 @@ fn turn<I: Inlet, O: Outlet, B: Bench, G: Gate>(
 ) -> Result<bool, LinkFault>
     requires inlet_countable { I.faults inlet.old < u64.MAX }
     requires outlet_countable { O.faults outlet.old < u64.MAX }
-    ensures turned { (more : List ℕ) × (deeds : List Deed) × (sent : List ℕ) × I.reads inlet.old more inlet.new
-        × Chain B.does bench.old deeds bench.new × O.writes outlet.old sent outlet.new
+    ensures turned { (more : List ℕ) × (deeds : List Deed) × (sent : List ℕ)
+        × I.reads inlet.old more inlet.new × Chain B.does bench.old deeds bench.new
+        × O.writes outlet.old sent outlet.new
         × Turns result (unread.old ++ more) (I.ended inlet.new) deeds sent unread.new }
     ensures sound { OnOk result ((I.faults inlet.new ≡ I.faults inlet.old)
         × (O.faults outlet.new ≡ O.faults outlet.old)) }
-    ensures link { IsErrOf result Failed → (I.faults inlet.old < I.faults inlet.new) ⊎ (O.faults outlet.old < O.faults outlet.new)
-        ⊎ TurnsSpent B.does bench.old bench.new }
+    ensures link { IsErrOf result Failed → (I.faults inlet.old < I.faults inlet.new)
+        ⊎ (O.faults outlet.old < O.faults outlet.new) ⊎ TurnsSpent B.does bench.old bench.new }
 {
     match next_head(inlet, unread) {
         Ok(Head::Planned(plan)) => answer_plan(alloc, inlet, outlet, bench, gate, unread, plan),
@@ -178,11 +183,12 @@ pub fn serve_conn<I: Inlet, O: Outlet, B: Bench, G: Gate>(
     requires inlet_countable { I.faults inlet.old < u64.MAX }
     requires outlet_countable { O.faults outlet.old < u64.MAX }
     // What was read, asked and written is an exchange, or, on an error, the beginning of one.
-    ensures exchange { (input : List ℕ) × (deeds : List Deed) × (sent : List ℕ) × I.reads inlet.old input inlet.new
-        × Chain B.does bench.old deeds bench.new × O.writes outlet.old sent outlet.new
+    ensures exchange { (input : List ℕ) × (deeds : List Deed) × (sent : List ℕ)
+        × I.reads inlet.old input inlet.new × Chain B.does bench.old deeds bench.new
+        × O.writes outlet.old sent outlet.new
         × Serving result input (I.ended inlet.new) deeds sent }
-    ensures link { IsErrOf result Failed → (I.faults inlet.old < I.faults inlet.new) ⊎ (O.faults outlet.old < O.faults outlet.new)
-        ⊎ TurnsSpent B.does bench.old bench.new }
+    ensures link { IsErrOf result Failed → (I.faults inlet.old < I.faults inlet.new)
+        ⊎ (O.faults outlet.old < O.faults outlet.new) ⊎ TurnsSpent B.does bench.old bench.new }
 {
     let mut unread = Unread::new(alloc);
     for _turn in 0..u64::MAX {

@@ -18,9 +18,11 @@ pub trait Outlet {
         ensures within { IfSome result (λ n. (0 < n) × (n ≤ length piece.now)) }
         ensures bytes { IfSome result (λ n. writes self.old (take n piece.now) self.new) }
         ensures sound { OnSome result (faults self.new ≡ faults self.old) }
-        ensures failed { IfNone result (writes self.old [] self.new × (faults self.old < faults self.new)) };
+        ensures failed { IfNone result
+            (writes self.old [] self.new × (faults self.old < faults self.new)) };
 
     ghost writes_nothing: { (s : Self) → writes s [] s };
 
-    ghost writes_more: { (a b c : Self) (x y : List ℕ) → writes a x b → writes b y c → writes a (x ++ y) c };
+    ghost writes_more: { (a b c : Self) (x y : List ℕ) → writes a x b → writes b y c
+        → writes a (x ++ y) c };
 }

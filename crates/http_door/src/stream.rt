@@ -21,8 +21,8 @@ fn send_next<O: Outlet, B: Bench>(
     stream: StreamId,
 ) -> Result<bool, LinkFault>
     requires { O.faults outlet.old < u64.MAX }
-    ensures sent { (deeds : List Deed) × (sent : List ℕ) × Chain B.does bench.old deeds bench.new × O.writes outlet.old sent outlet.new
-        × TakesEvent result stream deeds sent }
+    ensures sent { (deeds : List Deed) × (sent : List ℕ) × Chain B.does bench.old deeds bench.new
+        × O.writes outlet.old sent outlet.new × TakesEvent result stream deeds sent }
     ensures sound { OnOk result (O.faults outlet.new ≡ O.faults outlet.old) }
     ensures link { IsErrOf result Failed → O.faults outlet.old < O.faults outlet.new }
 {
@@ -44,8 +44,8 @@ fn send_events<O: Outlet, B: Bench>(
     stream: StreamId,
 ) -> Result<(), LinkFault>
     requires { O.faults outlet.old < u64.MAX }
-    ensures sent { (deeds : List Deed) × (sent : List ℕ) × Chain B.does bench.old deeds bench.new × O.writes outlet.old sent outlet.new
-        × SendsEvents result stream deeds sent }
+    ensures sent { (deeds : List Deed) × (sent : List ℕ) × Chain B.does bench.old deeds bench.new
+        × O.writes outlet.old sent outlet.new × SendsEvents result stream deeds sent }
     ensures sound { OnOk result (O.faults outlet.new ≡ O.faults outlet.old) }
     ensures link { IsErrOf result Failed → (O.faults outlet.old < O.faults outlet.new)
         ⊎ TurnsSpent B.does bench.old bench.new }
@@ -68,8 +68,8 @@ fn send_stream<O: Outlet, B: Bench>(
     stream: StreamId,
 ) -> Result<(), LinkFault>
     requires { O.faults outlet.old < u64.MAX }
-    ensures sent { (deeds : List Deed) × (sent : List ℕ) × Chain B.does bench.old deeds bench.new × O.writes outlet.old sent outlet.new
-        × Streams result stream deeds sent }
+    ensures sent { (deeds : List Deed) × (sent : List ℕ) × Chain B.does bench.old deeds bench.new
+        × O.writes outlet.old sent outlet.new × Streams result stream deeds sent }
     ensures sound { OnOk result (O.faults outlet.new ≡ O.faults outlet.old) }
     ensures link { IsErrOf result Failed → (O.faults outlet.old < O.faults outlet.new)
         ⊎ TurnsSpent B.does bench.old bench.new }
@@ -92,8 +92,8 @@ pub fn serve_stream<O: Outlet, B: Bench>(
     stream: StreamId,
 ) -> Result<(), LinkFault>
     requires { O.faults outlet.old < u64.MAX }
-    ensures sent { (deeds : List Deed) × (sent : List ℕ) × Chain B.does bench.old deeds bench.new × O.writes outlet.old sent outlet.new
-        × ServesStream result stream deeds sent }
+    ensures sent { (deeds : List Deed) × (sent : List ℕ) × Chain B.does bench.old deeds bench.new
+        × O.writes outlet.old sent outlet.new × ServesStream result stream deeds sent }
     ensures sound { OnOk result (O.faults outlet.new ≡ O.faults outlet.old) }
     ensures link { IsErrOf result Failed → (O.faults outlet.old < O.faults outlet.new)
         ⊎ TurnsSpent B.does bench.old bench.new }

@@ -5,7 +5,8 @@ use Rattle.std.specs.Char.{is_ascii_digit}
 use Rattle.std.specs.Str.{is_utf8}
 use Rattle.std.specs.Str.Parse.{digits_value}
 use Rattle.httparse.specs.Grammar.{RequestHead, ReadsRequest, trim_ows}
-use Rattle.httparse.specs.Spans.{name_and_value}
+use Rattle.httparse.specs.Spans.{header_bytes, name_and_value}
+use Rattle.httparse.specs.declared.spans.HeaderSpan.{HeaderSpan}
 use Rattle.http1.specs.Text.{eq_ignore_case}
 use Rattle.names_core.specs.Ids.{Numbered, id_of}
 use Rattle.http_head.specs.declared.fault.RequestFault.{RequestFault}
@@ -34,6 +35,10 @@ abbrev pub values_of : List ℕ → List (List ℕ × List ℕ) → List (List �
 values_of name [] = []
 values_of name (f ∷ fields) =
     if eq_ignore_case f.0 name then f.1 ∷ values_of name fields else values_of name fields
+
+-- those among the fields that stand in a buffer
+abbrev pub values_in : List ℕ → List HeaderSpan → List ℕ → List (List ℕ)
+values_in buf headers name = values_of name (map (header_bytes buf) headers)
 
 -- ---- the length fields
 

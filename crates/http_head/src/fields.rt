@@ -1,9 +1,9 @@
 //! The fields of a head.
 
-ghost use Rattle.std.specs.Prelude.{◌≡◌, ℕ, ◌+◌, ◌<◌, ◌≤◌, length, map, drop, All, List, IfOk, [], ◌∷◌, MatchOption, Ok, Err, codes, slice_index_or};
+ghost use Rattle.std.specs.Prelude.{◌≡◌, ◌+◌, ◌<◌, length, drop, All, IfOk, [], ◌∷◌, MatchOption, Ok, Err, codes, slice_index_or};
 ghost use Rattle.httparse.specs.Spans.{header_bytes, IsHeaderWithin};
 ghost use Rattle.http_head.specs.Spans.{header_none};
-ghost use Rattle.http_head.specs.Heads.{values_of, sized_by, coded_by, body_by, has_json, expects, closes, stream_in, IsWithinLimit};
+ghost use Rattle.http_head.specs.Heads.{values_in, sized_by, coded_by, body_by, has_json, expects, closes, stream_in, IsWithinLimit};
 
 use crate::fault::RequestFault;
 use crate::plan::Body;
@@ -16,10 +16,10 @@ use std::str;
 /// The first of the headers that has this name, without regard to case.
 fn first_named(buf: &[u8], headers: &[HeaderSpan], name: &[u8]) -> Option<usize>
     requires { All (IsHeaderWithin (length buf.now)) headers.now }
-    ensures { MatchOption result (values_of name.now (map (header_bytes buf.now) headers.now) ≡ [])
-        (λ i. (i < length headers.now) × (values_of name.now (map (header_bytes buf.now) headers.now)
+    ensures { MatchOption result (values_in buf.now headers.now name.now ≡ [])
+        (λ i. (i < length headers.now) × (values_in buf.now headers.now name.now
         ≡ (header_bytes buf.now (slice_index_or headers.now i header_none)).1
-        ∷ values_of name.now (map (header_bytes buf.now) (drop (i + 1) headers.now)))) }
+        ∷ values_in buf.now (drop (i + 1) headers.now) name.now)) }
 {
     for (i, header) in headers.iter().enumerate() {
         if eq_ignore_case(header.name.of(buf), name) {
@@ -63,8 +63,8 @@ fn coded_by(text: &[u8]) -> Result<Body, RequestFault>
 /// The body by its length fields: one at most (RFC 9112, section 6.3).
 pub fn body_by(buf: &[u8], headers: &[HeaderSpan]) -> Result<Body, RequestFault>
     requires { All (IsHeaderWithin (length buf.now)) headers.now }
-    ensures value { result ≡ body_by (values_of (codes "content-length") (map (header_bytes buf.now) headers.now))
-        (values_of (codes "transfer-encoding") (map (header_bytes buf.now) headers.now)) }
+    ensures value { result ≡ body_by (values_in buf.now headers.now (codes "content-length"))
+        (values_in buf.now headers.now (codes "transfer-encoding")) }
     ensures limit { IfOk result IsWithinLimit }
 {
     let length = first_named(buf, headers, b"content-length");
@@ -90,7 +90,7 @@ pub fn body_by(buf: &[u8], headers: &[HeaderSpan]) -> Result<Body, RequestFault>
 /// Whether the first media type is that of JSON.
 pub fn has_json(buf: &[u8], headers: &[HeaderSpan]) -> bool
     requires { All (IsHeaderWithin (length buf.now)) headers.now }
-    ensures { result ≡ has_json (values_of (codes "content-type") (map (header_bytes buf.now) headers.now)) }
+    ensures { result ≡ has_json (values_in buf.now headers.now (codes "content-type")) }
 {
     match first_named(buf, headers, b"content-type") {
         Some(i) => words::is_json(headers[i].value.of(buf)),
@@ -101,7 +101,7 @@ pub fn has_json(buf: &[u8], headers: &[HeaderSpan]) -> bool
 /// Whether the first expectation is `100-continue`.
 pub fn expects(buf: &[u8], headers: &[HeaderSpan]) -> bool
     requires { All (IsHeaderWithin (length buf.now)) headers.now }
-    ensures { result ≡ expects (values_of (codes "expect") (map (header_bytes buf.now) headers.now)) }
+    ensures { result ≡ expects (values_in buf.now headers.now (codes "expect")) }
 {
     match first_named(buf, headers, b"expect") {
         Some(i) => eq_ignore_case(headers[i].value.of(buf), b"100-continue"),
@@ -112,7 +112,7 @@ pub fn expects(buf: &[u8], headers: &[HeaderSpan]) -> bool
 /// Whether the first list of connection options has `close`.
 pub fn closes(buf: &[u8], headers: &[HeaderSpan]) -> bool
     requires { All (IsHeaderWithin (length buf.now)) headers.now }
-    ensures { result ≡ closes (values_of (codes "connection") (map (header_bytes buf.now) headers.now)) }
+    ensures { result ≡ closes (values_in buf.now headers.now (codes "connection")) }
 {
     match first_named(buf, headers, b"connection") {
         Some(i) => words::has_close(headers[i].value.of(buf)),
@@ -135,7 +135,7 @@ fn stream_by(text: &[u8]) -> Option<StreamId>
 /// The stream that the first stream id header names. One that doesn't read is as none.
 pub fn stream_in(buf: &[u8], headers: &[HeaderSpan]) -> Option<StreamId>
     requires { All (IsHeaderWithin (length buf.now)) headers.now }
-    ensures { result ≡ stream_in (values_of (codes "mesos-stream-id") (map (header_bytes buf.now) headers.now)) }
+    ensures { result ≡ stream_in (values_in buf.now headers.now (codes "mesos-stream-id")) }
 {
     match first_named(buf, headers, b"mesos-stream-id") {
         Some(i) => stream_by(headers[i].value.of(buf)),

@@ -31,7 +31,8 @@ pub fn take_exact<I: Inlet>(
     requires countable { I.faults inlet.old < u64.MAX }
     requires few { count ≤ 1048576 }
     ensures found { (more : List ℕ) × I.reads inlet.old more inlet.new
-        × FindsData result count (unread.old ++ more) (I.ended inlet.new) bytes.old.items bytes.new.items unread.new }
+        × FindsData result count (unread.old ++ more) (I.ended inlet.new)
+        bytes.old.items bytes.new.items unread.new }
     ensures sound { OnOk result (I.faults inlet.new ≡ I.faults inlet.old) }
     ensures link { IsErrOf result Failed → I.faults inlet.old < I.faults inlet.new }
 {

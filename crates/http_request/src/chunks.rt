@@ -1,8 +1,6 @@
 //! The chunks of a body (RFC 9112, section 7.1).
 
-ghost use Rattle.std.specs.Prelude.{◌≡◌, ◌≢◌, ◌<◌, ◌≤◌, ◌+◌, ℕ, List, ◌++◌, length, vec_len, take, true, false, Ok, OnOk, IsErrOf};
-ghost use Rattle.httparse.specs.Grammar.{ChunkLine, chunk_size};
-ghost use Rattle.http_request.specs.Bodies.{HasLine};
+ghost use Rattle.std.specs.Prelude.{◌≡◌, ◌<◌, ◌≤◌, ◌+◌, ℕ, List, ◌++◌, vec_len, true, false, Ok, OnOk, IsErrOf};
 ghost use Rattle.http_request.specs.Found.{FindsChunk, FindsLine, FindsLineEnd, FindsTrailers};
 ghost use Rattle.http_request.specs.declared.fault.LinkFault.TheVariants.{Failed};
 
@@ -100,7 +98,8 @@ pub fn next_chunk<I: Inlet>(
     requires countable { I.faults inlet.old < u64.MAX }
     requires within { vec_len body.old ≤ 1048576 }
     ensures found { (more : List ℕ) × I.reads inlet.old more inlet.new
-        × FindsChunk result (unread.old ++ more) (I.ended inlet.new) body.old.items body.new.items unread.new }
+        × FindsChunk result (unread.old ++ more) (I.ended inlet.new)
+        body.old.items body.new.items unread.new }
     ensures sound { OnOk result (I.faults inlet.new ≡ I.faults inlet.old) }
     ensures link { IsErrOf result Failed → I.faults inlet.old < I.faults inlet.new }
 {

@@ -22,9 +22,11 @@ pub trait Inlet {
         ensures bytes { IfSome result (λ n. reads self.old (take n piece.new) self.new) }
         ensures end { result ≡ Some 0 → ended self.new }
         ensures sound { OnSome result (faults self.new ≡ faults self.old) }
-        ensures failed { IfNone result (reads self.old [] self.new × (faults self.old < faults self.new)) };
+        ensures failed { IfNone result
+            (reads self.old [] self.new × (faults self.old < faults self.new)) };
 
     ghost reads_nothing: { (s : Self) → reads s [] s };
 
-    ghost reads_more: { (a b c : Self) (x y : List ℕ) → reads a x b → reads b y c → reads a (x ++ y) c };
+    ghost reads_more: { (a b c : Self) (x y : List ℕ) → reads a x b → reads b y c
+        → reads a (x ++ y) c };
 }

@@ -46,7 +46,8 @@ fn read_behind<I: Inlet>(inlet: &mut I, bytes: &mut [u8], front: usize) -> Optio
     ensures len { length bytes.new ≡ length bytes.old }
     ensures stays { take front bytes.new ≡ take front bytes.old }
     ensures within { IfSome result (λ n. front + n ≤ length bytes.new) }
-    ensures came { IfSome result (λ n. (more : List ℕ) × I.reads inlet.old more inlet.new × (length more ≡ n)
+    ensures came { IfSome result
+        (λ n. (more : List ℕ) × I.reads inlet.old more inlet.new × (length more ≡ n)
         × (take (front + n) bytes.new ≡ take front bytes.old ++ more)) }
     ensures end { result ≡ Some 0 → I.ended inlet.new }
     ensures sound { OnSome result (I.faults inlet.new ≡ I.faults inlet.old) }

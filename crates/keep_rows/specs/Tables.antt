@@ -1,12 +1,12 @@
 -- The tables of a store, what a database is that has them, and what statements on them do.
-use Rattle.std.specs.Prelude.{IsPermutation, IsTrue, true, false, ◌≡◌, ◌≢◌, ◌⊎◌, ◌+◌, ◌*◌, ◌^◌, ◌<◌, ⊤, [], ◌∷◌, List, ℕ, codes, pos, map}
+use Rattle.std.specs.Prelude.{IsPermutation, IsTrue, true, false, ◌≡◌, ◌≢◌, ◌⊎◌, ◌+◌, ◌*◌, ◌^◌, ◌<◌, ⊤, [], ◌∷◌, List, ℕ, Result, MatchResult, codes, pos, map}
 use Rattle.sqlite.specs.declared.types.Value.{Value}
 use Rattle.sqlite.specs.declared.types.Value.TheVariants.{Null, Int, Text}
 use Rattle.sqlite.specs.Order.{Row, column}
 use Rattle.sqlite.specs.Tree.{Trees, put_row, rowid}
 use Rattle.sqlite_rules.specs.Lists.{Has}
 use Rattle.sqlite.specs.Effect.{Database}
-use Rattle.sqlite.specs.State.{State}
+use Rattle.sqlite.specs.State.{HasCleanDisk, KeepsCommit, State}
 use Rattle.sqlite.specs.Schema.{Schema}
 use Rattle.sqlite.specs.declared.error.Error.{Error}
 use Rattle.sqlite.specs.declared.error.Error.TheVariants.{SqliteFailure}
@@ -129,6 +129,14 @@ pub record WritesOn (Changes : Trees → Trees → Type 0) (old new : State) : T
   pub writing : IsWriting new
   pub committed : new.committed ≡ old.committed
   pub changes : Changes old.now.trees new.now.trees
+
+-- in a transaction, where the disk stays clean: a statement that went well changed the tables so,
+-- and one that failed left what was committed
+abbrev pub WritesIfOk : {A E : Type 0} → (Trees → Trees → Type 0) → Result A E → State → State
+    → Type 0
+WritesIfOk Changes result old new =
+    IsWriting old → HasCleanDisk new
+    → MatchResult result (λ _. WritesOn Changes old new) (λ _. KeepsCommit old new)
 
 -- all tables but one are as they were
 abbrev pub SparesOthers : ℕ → Trees → Trees → Type 0

@@ -1,10 +1,9 @@
 //! The statements of a save, each within its transaction.
 
-ghost use Rattle.std.specs.Prelude.{◌≡◌, ◌≤◌, ◌^◌, ◌∷◌, [], pos, IfOk, MatchResult};
-ghost use Rattle.sqlite.specs.declared.types.Value.TheVariants.{Null, Int, Text};
-ghost use Rattle.sqlite.specs.State.{HasCleanDisk, KeepsCommit, Survives};
+ghost use Rattle.std.specs.Prelude.{◌≡◌, ◌≤◌, ◌^◌, [], pos, IfOk};
+ghost use Rattle.sqlite.specs.State.{HasCleanDisk, Survives};
 ghost use Rattle.sqlite.specs.Held.{state};
-ghost use Rattle.keep_rows.specs.Tables.{IsWriting, WritesOn, IsSame, AreIds, SparesOthers, Empties, Cuts, Puts, place_of, task_row, head_row, amount_row};
+ghost use Rattle.keep_rows.specs.Tables.{IsWriting, IsSame, AreIds, SparesOthers, Empties, Cuts, Puts, place_of, task_row, head_row, amount_row, WritesIfOk};
 
 use names_core::LaunchKey;
 use sqlite::{Alter, Error, Row, Transaction, params};
@@ -22,9 +21,8 @@ pub fn cut_task<S: Alter>(tx: &mut Transaction<'_, S>, key: LaunchKey) -> Result
     ensures same_reference { tx.new.conn.ghost_name ≡ tx.old.conn.ghost_name }
     ensures quiet { Survives (state S.Store tx.old.conn.now) (state S.Store tx.new.conn.now)
         (λ _. ⊥) }
-    ensures went { IsWriting (state S.Store tx.old.conn.now) → HasCleanDisk (state S.Store tx.new.conn.now)
-        → MatchResult result (λ _. WritesOn (Cuts (place_of key)) (state S.Store tx.old.conn.now) (state S.Store tx.new.conn.now))
-        (λ _. KeepsCommit (state S.Store tx.old.conn.now) (state S.Store tx.new.conn.now)) }
+    ensures went { WritesIfOk (Cuts (place_of key)) result (state S.Store tx.old.conn.now)
+        (state S.Store tx.new.conn.now) }
 {
     let place = place_of(key);
     tx.execute("DELETE FROM agent_task WHERE rowid = ?1", params![place])
@@ -39,9 +37,8 @@ pub fn put_task<S: Alter>(
     ensures same_reference { tx.new.conn.ghost_name ≡ tx.old.conn.ghost_name }
     ensures quiet { Survives (state S.Store tx.old.conn.now) (state S.Store tx.new.conn.now)
         (λ _. ⊥) }
-    ensures went { IsWriting (state S.Store tx.old.conn.now) → HasCleanDisk (state S.Store tx.new.conn.now)
-        → MatchResult result (λ _. WritesOn (Puts 3 (task_row key body.now)) (state S.Store tx.old.conn.now) (state S.Store tx.new.conn.now))
-        (λ _. KeepsCommit (state S.Store tx.old.conn.now) (state S.Store tx.new.conn.now)) }
+    ensures went { WritesIfOk (Puts 3 (task_row key body.now)) result
+        (state S.Store tx.old.conn.now) (state S.Store tx.new.conn.now) }
 {
     let place = place_of(key);
     tx.execute(
@@ -60,9 +57,8 @@ pub fn put_head<S: Alter>(
     ensures same_reference { tx.new.conn.ghost_name ≡ tx.old.conn.ghost_name }
     ensures quiet { Survives (state S.Store tx.old.conn.now) (state S.Store tx.new.conn.now)
         (λ _. ⊥) }
-    ensures went { IsWriting (state S.Store tx.old.conn.now) → HasCleanDisk (state S.Store tx.new.conn.now)
-        → MatchResult result (λ _. WritesOn (Puts 2 (head_row name.now run session)) (state S.Store tx.old.conn.now) (state S.Store tx.new.conn.now))
-        (λ _. KeepsCommit (state S.Store tx.old.conn.now) (state S.Store tx.new.conn.now)) }
+    ensures went { WritesIfOk (Puts 2 (head_row name.now run session)) result
+        (state S.Store tx.old.conn.now) (state S.Store tx.new.conn.now) }
 {
     tx.execute(
         "INSERT INTO agent_head (id, name, run, session, total, version) VALUES (1, ?1, ?2, ?3, '{}', 2)",
@@ -75,9 +71,8 @@ pub fn clear_heads<S: Alter>(tx: &mut Transaction<'_, S>) -> Result<usize, Error
     ensures same_reference { tx.new.conn.ghost_name ≡ tx.old.conn.ghost_name }
     ensures quiet { Survives (state S.Store tx.old.conn.now) (state S.Store tx.new.conn.now)
         (λ _. ⊥) }
-    ensures went { IsWriting (state S.Store tx.old.conn.now) → HasCleanDisk (state S.Store tx.new.conn.now)
-        → MatchResult result (λ _. WritesOn (Empties 2) (state S.Store tx.old.conn.now) (state S.Store tx.new.conn.now))
-        (λ _. KeepsCommit (state S.Store tx.old.conn.now) (state S.Store tx.new.conn.now)) }
+    ensures went { WritesIfOk (Empties 2) result (state S.Store tx.old.conn.now)
+        (state S.Store tx.new.conn.now) }
 {
     tx.execute("DELETE FROM agent_head", &[])
 }
@@ -87,9 +82,8 @@ pub fn clear_records<S: Alter>(tx: &mut Transaction<'_, S>) -> Result<usize, Err
     ensures same_reference { tx.new.conn.ghost_name ≡ tx.old.conn.ghost_name }
     ensures quiet { Survives (state S.Store tx.old.conn.now) (state S.Store tx.new.conn.now)
         (λ _. ⊥) }
-    ensures went { IsWriting (state S.Store tx.old.conn.now) → HasCleanDisk (state S.Store tx.new.conn.now)
-        → MatchResult result (λ _. WritesOn (Empties 0) (state S.Store tx.old.conn.now) (state S.Store tx.new.conn.now))
-        (λ _. KeepsCommit (state S.Store tx.old.conn.now) (state S.Store tx.new.conn.now)) }
+    ensures went { WritesIfOk (Empties 0) result (state S.Store tx.old.conn.now)
+        (state S.Store tx.new.conn.now) }
 {
     tx.execute("DELETE FROM agent_record", &[])
 }
@@ -99,9 +93,8 @@ pub fn clear_tasks<S: Alter>(tx: &mut Transaction<'_, S>) -> Result<usize, Error
     ensures same_reference { tx.new.conn.ghost_name ≡ tx.old.conn.ghost_name }
     ensures quiet { Survives (state S.Store tx.old.conn.now) (state S.Store tx.new.conn.now)
         (λ _. ⊥) }
-    ensures went { IsWriting (state S.Store tx.old.conn.now) → HasCleanDisk (state S.Store tx.new.conn.now)
-        → MatchResult result (λ _. WritesOn (SparesOthers 3) (state S.Store tx.old.conn.now) (state S.Store tx.new.conn.now))
-        (λ _. KeepsCommit (state S.Store tx.old.conn.now) (state S.Store tx.new.conn.now)) }
+    ensures went { WritesIfOk (SparesOthers 3) result (state S.Store tx.old.conn.now)
+        (state S.Store tx.new.conn.now) }
 {
     tx.execute("DELETE FROM agent_task", &[])
 }
@@ -114,9 +107,8 @@ pub fn read_places<S: Alter>(tx: &mut Transaction<'_, S>) -> Result<Vec<Row>, Er
     ensures rows { IsWriting (state S.Store tx.old.conn.now)
         → HasCleanDisk (state S.Store tx.new.conn.now)
         → IfOk result (λ rows. AreIds rows.items ((state S.Store tx.old.conn.now).now.trees 3)) }
-    ensures went { IsWriting (state S.Store tx.old.conn.now) → HasCleanDisk (state S.Store tx.new.conn.now)
-        → MatchResult result (λ _. WritesOn IsSame (state S.Store tx.old.conn.now) (state S.Store tx.new.conn.now))
-        (λ _. KeepsCommit (state S.Store tx.old.conn.now) (state S.Store tx.new.conn.now)) }
+    ensures went { WritesIfOk IsSame result (state S.Store tx.old.conn.now)
+        (state S.Store tx.new.conn.now) }
 {
     tx.query_all("SELECT rowid FROM agent_task", &[])
 }
@@ -132,12 +124,8 @@ pub fn put_amount<S: Alter>(
     ensures same_reference { tx.new.conn.ghost_name ≡ tx.old.conn.ghost_name }
     ensures quiet { Survives (state S.Store tx.old.conn.now) (state S.Store tx.new.conn.now)
         (λ _. ⊥) }
-    ensures went { IsWriting (state S.Store tx.old.conn.now)
-        → HasCleanDisk (state S.Store tx.new.conn.now)
-        → MatchResult result
-        (λ _. WritesOn (Puts 5 (amount_row place name.now amount))
-        (state S.Store tx.old.conn.now) (state S.Store tx.new.conn.now))
-        (λ _. KeepsCommit (state S.Store tx.old.conn.now) (state S.Store tx.new.conn.now)) }
+    ensures went { WritesIfOk (Puts 5 (amount_row place name.now amount)) result
+        (state S.Store tx.old.conn.now) (state S.Store tx.new.conn.now) }
 {
     tx.execute(
         "INSERT INTO agent_total (rowid, name, amount) VALUES (?1, ?2, ?3)",
@@ -150,12 +138,8 @@ pub fn clear_amounts<S: Alter>(tx: &mut Transaction<'_, S>) -> Result<usize, Err
     ensures same_reference { tx.new.conn.ghost_name ≡ tx.old.conn.ghost_name }
     ensures quiet { Survives (state S.Store tx.old.conn.now) (state S.Store tx.new.conn.now)
         (λ _. ⊥) }
-    ensures went { IsWriting (state S.Store tx.old.conn.now)
-        → HasCleanDisk (state S.Store tx.new.conn.now)
-        → MatchResult result
-        (λ _. WritesOn (SparesOthers 5) (state S.Store tx.old.conn.now)
-        (state S.Store tx.new.conn.now))
-        (λ _. KeepsCommit (state S.Store tx.old.conn.now) (state S.Store tx.new.conn.now)) }
+    ensures went { WritesIfOk (SparesOthers 5) result (state S.Store tx.old.conn.now)
+        (state S.Store tx.new.conn.now) }
 {
     tx.execute("DELETE FROM agent_total", &[])
 }
@@ -168,11 +152,8 @@ pub fn read_amount_places<S: Alter>(tx: &mut Transaction<'_, S>) -> Result<Vec<R
     ensures rows { IsWriting (state S.Store tx.old.conn.now)
         → HasCleanDisk (state S.Store tx.new.conn.now)
         → IfOk result (λ rows. AreIds rows.items ((state S.Store tx.old.conn.now).now.trees 5)) }
-    ensures went { IsWriting (state S.Store tx.old.conn.now)
-        → HasCleanDisk (state S.Store tx.new.conn.now)
-        → MatchResult result
-        (λ _. WritesOn IsSame (state S.Store tx.old.conn.now) (state S.Store tx.new.conn.now))
-        (λ _. KeepsCommit (state S.Store tx.old.conn.now) (state S.Store tx.new.conn.now)) }
+    ensures went { WritesIfOk IsSame result (state S.Store tx.old.conn.now)
+        (state S.Store tx.new.conn.now) }
 {
     tx.query_all("SELECT rowid FROM agent_total", &[])
 }

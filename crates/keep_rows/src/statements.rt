@@ -31,7 +31,8 @@ pub fn make_task_tables<S: Alter>(conn: &mut Connection<S>) -> Result<(), Error>
     ensures clean { HasCleanDisk (state S.Store conn.new) → HasCleanDisk (state S.Store conn.old) }
     ensures made { HasCleanDisk (state S.Store conn.new)
         → (state S.Store conn.old).now.schema ≡ first_schema
-        → OnOk result (IsCommitted second_schema AddsTables (state S.Store conn.old) (state S.Store conn.new)) }
+        → OnOk result (IsCommitted second_schema AddsTables (state S.Store conn.old)
+        (state S.Store conn.new)) }
 {
     let mut tx = conn.transaction();
     tx.execute(

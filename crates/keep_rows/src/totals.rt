@@ -1,14 +1,13 @@
 //! The rows of an agent's total.
 
-ghost use Rattle.std.specs.Prelude.{◌≡◌, ◌≢◌, ◌+◌, ◌≤◌, true, ℕ, List, None, Some, IfOk, IfErr, IsErrOf, IsPermutation, OnOk, MatchResult, length};
-ghost use Rattle.std.specs.List.{AllByRecursion};
+ghost use Rattle.std.specs.Prelude.{◌≡◌, ◌≢◌, ◌+◌, true, ℕ, List, None, Some, IfOk, IfErr, IsErrOf, IsPermutation, OnOk};
 ghost use Rattle.std.specs.Str.{is_utf8};
 ghost use Rattle.sqlite.specs.Order.{Row as Shown};
-ghost use Rattle.sqlite.specs.State.{HasCleanDisk, KeepsCommit, Survives};
+ghost use Rattle.sqlite.specs.State.{Survives};
 ghost use Rattle.sqlite.specs.Held.{state};
 ghost use Rattle.quantity.specs.declared.rows.Row.{Row as Amount};
 ghost use Rattle.quantity.specs.Rows.{AreRows, IsRow, amount, part_of};
-ghost use Rattle.keep_rows.specs.Tables.{AreIds, IsSame, IsWriting, Puts, SparesOthers, WritesOn, amount_row};
+ghost use Rattle.keep_rows.specs.Tables.{Puts, amount_row, WritesIfOk};
 ghost use Rattle.keep_rows.specs.Totals.{AreNamed, HasAmounts, HasNoAmount, PutsAmounts, amount_told, total_told};
 
 use crate::changes::{clear_amounts, put_amount, read_amount_places};
@@ -66,11 +65,8 @@ fn forget_amounts<S: Alter>(tx: &mut Transaction<'_, S>) -> Result<(), KeepFault
     ensures same_reference { tx.new.conn.ghost_name ≡ tx.old.conn.ghost_name }
     ensures quiet { Survives (state S.Store tx.old.conn.now) (state S.Store tx.new.conn.now)
         (λ _. ⊥) }
-    ensures went { IsWriting (state S.Store tx.old.conn.now)
-        → HasCleanDisk (state S.Store tx.new.conn.now)
-        → MatchResult result
-        (λ _. WritesOn HasNoAmount (state S.Store tx.old.conn.now) (state S.Store tx.new.conn.now))
-        (λ _. KeepsCommit (state S.Store tx.old.conn.now) (state S.Store tx.new.conn.now)) }
+    ensures went { WritesIfOk HasNoAmount result (state S.Store tx.old.conn.now)
+        (state S.Store tx.new.conn.now) }
     ensures undamaged { IfErr result (λ e. e ≢ KeepFault.Damaged) }
     ensures unspent { IfErr result (λ e. e ≢ KeepFault.RunsSpent) }
 {
@@ -93,12 +89,8 @@ fn add_row<S: Alter>(
     ensures same_reference { tx.new.conn.ghost_name ≡ tx.old.conn.ghost_name }
     ensures quiet { Survives (state S.Store tx.old.conn.now) (state S.Store tx.new.conn.now)
         (λ _. ⊥) }
-    ensures went { IsWriting (state S.Store tx.old.conn.now)
-        → HasCleanDisk (state S.Store tx.new.conn.now)
-        → MatchResult result
-        (λ _. WritesOn (Puts 5 (amount_row place row.now.name row.now.amount))
-        (state S.Store tx.old.conn.now) (state S.Store tx.new.conn.now))
-        (λ _. KeepsCommit (state S.Store tx.old.conn.now) (state S.Store tx.new.conn.now)) }
+    ensures went { WritesIfOk (Puts 5 (amount_row place row.now.name row.now.amount)) result
+        (state S.Store tx.old.conn.now) (state S.Store tx.new.conn.now) }
     ensures named { is_utf8 row.now.name ≡ true }
     ensures undamaged { IfErr result (λ e. e ≢ KeepFault.Damaged) }
     ensures unspent { IfErr result (λ e. e ≢ KeepFault.RunsSpent) }
@@ -115,12 +107,8 @@ fn add_rows<S: Alter>(tx: &mut Transaction<'_, S>, rows: &[quantity::Row]) -> Re
     ensures same_reference { tx.new.conn.ghost_name ≡ tx.old.conn.ghost_name }
     ensures quiet { Survives (state S.Store tx.old.conn.now) (state S.Store tx.new.conn.now)
         (λ _. ⊥) }
-    ensures went { IsWriting (state S.Store tx.old.conn.now)
-        → HasCleanDisk (state S.Store tx.new.conn.now)
-        → MatchResult result
-        (λ _. WritesOn (PutsAmounts rows.now) (state S.Store tx.old.conn.now)
-        (state S.Store tx.new.conn.now))
-        (λ _. KeepsCommit (state S.Store tx.old.conn.now) (state S.Store tx.new.conn.now)) }
+    ensures went { WritesIfOk (PutsAmounts rows.now) result (state S.Store tx.old.conn.now)
+        (state S.Store tx.new.conn.now) }
     ensures named { OnOk result (AreNamed rows.now) }
     ensures undamaged { IfErr result (λ e. e ≢ KeepFault.Damaged) }
     ensures unspent { IfErr result (λ e. e ≢ KeepFault.RunsSpent) }
@@ -142,12 +130,8 @@ pub fn write_total<S: Alter>(
     ensures same_reference { tx.new.conn.ghost_name ≡ tx.old.conn.ghost_name }
     ensures quiet { Survives (state S.Store tx.old.conn.now) (state S.Store tx.new.conn.now)
         (λ _. ⊥) }
-    ensures went { IsWriting (state S.Store tx.old.conn.now)
-        → HasCleanDisk (state S.Store tx.new.conn.now)
-        → MatchResult result
-        (λ _. WritesOn (HasAmounts total.now) (state S.Store tx.old.conn.now)
-        (state S.Store tx.new.conn.now))
-        (λ _. KeepsCommit (state S.Store tx.old.conn.now) (state S.Store tx.new.conn.now)) }
+    ensures went { WritesIfOk (HasAmounts total.now) result (state S.Store tx.old.conn.now)
+        (state S.Store tx.new.conn.now) }
     ensures rows { AreRows total.now }
     ensures named { OnOk result (AreNamed total.now) }
     ensures undamaged { IfErr result (λ e. e ≢ KeepFault.Damaged) }

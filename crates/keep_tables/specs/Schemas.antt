@@ -25,6 +25,10 @@ column_of name kind not_null =
       collation = Binary;
     }
 
+-- the column of an id
+abbrev pub id_column : Column
+id_column = column_of (codes "id") Integer false
+
 -- the id is 1
 abbrev pub id_check : List Term
 id_check = op2 (Compare Eq Binary) (col 1 0) (lit (Int (pos 1))) ∷ []
@@ -37,7 +41,7 @@ abbrev pub lone_table : List ℕ → ℕ → List Column → Table
 lone_table name tree columns = record {
   name = name;
   tree = tree;
-  columns = column_of (codes "id") Integer false ∷ columns;
+  columns = id_column ∷ columns;
   key = Some 0;
   primary = 0 ∷ [];
   uniques = [];

@@ -10,7 +10,7 @@ ghost use Rattle.sqlite.specs.declared.types.Value.TheVariants.{Int};
 ghost use Rattle.sqlite_sql.specs.declared.ops.BinaryOp.TheVariants.{Compare};
 ghost use Rattle.sqlite_sql.specs.declared.ops.CompareOp.TheVariants.{Eq};
 ghost use Rattle.sqlite.specs.Collation.TheVariants.{Binary};
-ghost use Rattle.keep_tables.specs.Schemas.{no_schema, first_schema, second_schema, keeper_schema, lone_table, record_table, run_table, head_table, task_table, task_index, total_table, total_index, head_columns, task_columns, total_columns, column_of, index_of, id_check, no_stamps};
+ghost use Rattle.keep_tables.specs.Schemas.{no_schema, first_schema, second_schema, keeper_schema, lone_table, record_table, run_table, head_table, task_table, task_index, total_table, total_index, head_columns, task_columns, total_columns, column_of, index_of, id_check, no_stamps, id_column};
 
 use sqlite_schema::code::{Op, Terms};
 use sqlite_schema::schema::{Column, Index, Kind, Schema, Stamps, Table};
@@ -71,7 +71,7 @@ fn is_plain(stamps: &Stamps) -> bool
 }
 
 fn are_columns(columns: &[Column], name: &[u8], kind: Kind) -> bool
-    ensures { IsTrue result → columns.now ≡ column_of (codes "id") Integer false ∷ column_of name.now kind true ∷ [] }
+    ensures { IsTrue result → columns.now ≡ id_column ∷ column_of name.now kind true ∷ [] }
 {
     columns.len() == 2
         && is_column(&columns[0], b"id", Kind::Integer, false)
@@ -79,7 +79,9 @@ fn are_columns(columns: &[Column], name: &[u8], kind: Kind) -> bool
 }
 
 fn are_first_of_head(id: &Column, name: &Column, run: &Column) -> bool
-    ensures { IsTrue result → (id.now ≡ column_of (codes "id") Integer false) × (name.now ≡ column_of (codes "name") Words true) × (run.now ≡ column_of (codes "run") Integer true) }
+    ensures { IsTrue result → (id.now ≡ id_column)
+        × (name.now ≡ column_of (codes "name") Words true)
+        × (run.now ≡ column_of (codes "run") Integer true) }
 {
     is_column(id, b"id", Kind::Integer, false)
         && is_column(name, b"name", Kind::Text, true)
@@ -87,7 +89,9 @@ fn are_first_of_head(id: &Column, name: &Column, run: &Column) -> bool
 }
 
 fn are_last_of_head(session: &Column, total: &Column, version: &Column) -> bool
-    ensures { IsTrue result → (session.now ≡ column_of (codes "session") Integer true) × (total.now ≡ column_of (codes "total") Words true) × (version.now ≡ column_of (codes "version") Integer true) }
+    ensures { IsTrue result → (session.now ≡ column_of (codes "session") Integer true)
+        × (total.now ≡ column_of (codes "total") Words true)
+        × (version.now ≡ column_of (codes "version") Integer true) }
 {
     is_column(session, b"session", Kind::Integer, true)
         && is_column(total, b"total", Kind::Text, true)
@@ -95,7 +99,7 @@ fn are_last_of_head(session: &Column, total: &Column, version: &Column) -> bool
 }
 
 fn are_head_columns(columns: &[Column]) -> bool
-    ensures { IsTrue result → columns.now ≡ column_of (codes "id") Integer false ∷ head_columns }
+    ensures { IsTrue result → columns.now ≡ id_column ∷ head_columns }
 {
     let [id, name, run, session, total, version] = columns else {
         return false;
@@ -125,7 +129,8 @@ fn is_simple(table: &Table) -> bool
 
 /// The table of an id, which is 1, and the columns that it has behind it.
 fn is_lone(table: &Table, name: &[u8], tree: u32) -> bool
-    ensures { (columns : List Column) → IsTrue result → table.now.columns ≡ column_of (codes "id") Integer false ∷ columns → table.now ≡ lone_table name.now tree columns }
+    ensures { (columns : List Column) → IsTrue result → table.now.columns ≡ id_column ∷ columns
+        → table.now ≡ lone_table name.now tree columns }
 {
     table.name.as_slice() == name
         && table.tree == tree

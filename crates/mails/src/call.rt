@@ -105,12 +105,39 @@ impl Plain for Call {
     ghost decided = { elim [
       | Subscribe f r ↦ elim [ Subscribe g s ↦ Prim.search rules | _ ↦ Prim.search rules ]
       | Teardown f ↦ elim [ Teardown g ↦ Prim.search rules | _ ↦ Prim.search rules ]
-      | Accept f o t n ↦ elim [ Accept g p u m ↦ (let d = and_decides (framework_decided f g) (and_decides (pointwise_decides offer_decided o p) (and_decides (pointwise_decides info_decided t u) (unsigned_Decides n m))) in ((λ h. let e = d.0 h in Prim.search rules), (λ e. d.1 (Prim.search rules)))) | _ ↦ Prim.search rules ]
-      | Decline f o n ↦ elim [ Decline g p m ↦ (let d = and_decides (framework_decided f g) (and_decides (pointwise_decides offer_decided o p) (unsigned_Decides n m)) in ((λ h. let e = d.0 h in Prim.search rules), (λ e. d.1 (Prim.search rules)))) | _ ↦ Prim.search rules ]
+      | Accept f o t n ↦ elim [
+        | Accept g p u m ↦ (let d = and_decides (framework_decided f g)
+            (and_decides (pointwise_decides offer_decided o p) (and_decides (pointwise_decides
+            info_decided t u) (unsigned_Decides n m))) in (
+              (λ h. let e = d.0 h in
+                  Prim.search rules),
+              (λ e. d.1 (Prim.search rules)),
+            ))
+        | _ ↦ Prim.search rules
+      ]
+      | Decline f o n ↦ elim [
+        | Decline g p m ↦ (let d = and_decides (framework_decided f g)
+            (and_decides (pointwise_decides offer_decided o p) (unsigned_Decides n m)) in (
+              (λ h. let e = d.0 h in Prim.search rules),
+              (λ e. d.1 (Prim.search rules)),
+            ))
+        | _ ↦ Prim.search rules
+      ]
       | Revive f ↦ elim [ Revive g ↦ Prim.search rules | _ ↦ Prim.search rules ]
       | Suppress f ↦ elim [ Suppress g ↦ Prim.search rules | _ ↦ Prim.search rules ]
       | Kill f t a ↦ elim [ Kill g u b ↦ Prim.search rules | _ ↦ Prim.search rules ]
-      | Acknowledge f a t k ↦ elim [ Acknowledge g b u l ↦ Prim.search rules | _ ↦ Prim.search rules ]
-      | Reconcile f t ↦ elim [ Reconcile g u ↦ (let d = and_decides (framework_decided f g) (pointwise_decides asked_decided t u) in ((λ h. let e = d.0 h in Prim.search rules), (λ e. d.1 (Prim.search rules)))) | _ ↦ Prim.search rules ]
+      | Acknowledge f a t k ↦ elim [
+        | Acknowledge g b u l ↦ Prim.search rules
+        | _ ↦ Prim.search rules
+      ]
+      | Reconcile f t ↦ elim [
+        | Reconcile g u ↦ (let d = and_decides (framework_decided f g)
+            (pointwise_decides asked_decided t u) in (
+              (λ h. let e = d.0 h in
+                  Prim.search rules),
+              (λ e. d.1 (Prim.search rules)),
+            ))
+        | _ ↦ Prim.search rules
+      ]
     ] };
 }

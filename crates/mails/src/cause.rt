@@ -31,7 +31,14 @@ impl Plain for Cause {
 
     ghost decided = { elim [
       | Start t ↦ elim [ Start u ↦ Prim.search (rules, resources_decided) | _ ↦ Prim.search rules ]
-      | Mail m ↦ elim [ Mail n ↦ (let d = mail_decided m n in ((λ h. let e = d.0 h in Prim.search rules), (λ e. d.1 (Prim.search rules)))) | _ ↦ Prim.search rules ]
+      | Mail m ↦ elim [
+        | Mail n ↦ (let d = mail_decided m n in (
+          (λ h. let e = d.0 h in
+              Prim.search rules),
+          (λ e. d.1 (Prim.search rules)),
+        ))
+        | _ ↦ Prim.search rules
+      ]
       | Executor k s ↦ elim [ Executor l t ↦ Prim.search rules | _ ↦ Prim.search rules ]
       | Again ↦ elim [ Again ↦ Prim.search rules | _ ↦ Prim.search rules ]
     ] };

@@ -31,7 +31,15 @@ impl Plain for Command {
     ghost cloned = { Prim.search rules };
 
     ghost decided = { elim [
-      | Launch j o ↦ elim [ Launch k p ↦ (let d = and_decides (job_decided j k) (pointwise_decides offer_decided o p) in ((λ h. let e = d.0 h in Prim.search rules), (λ e. d.1 (Prim.search rules)))) | _ ↦ Prim.search rules ]
+      | Launch j o ↦ elim [
+        | Launch k p ↦ (let d = and_decides (job_decided j k) (pointwise_decides
+            offer_decided o p) in (
+              (λ h. let e = d.0 h in
+                  Prim.search rules),
+              (λ e. d.1 (Prim.search rules)),
+            ))
+        | _ ↦ Prim.search rules
+      ]
       | Kill j ↦ elim [ Kill k ↦ Prim.search rules | _ ↦ Prim.search rules ]
       | Ack j m ↦ elim [ Ack k n ↦ Prim.search rules | _ ↦ Prim.search rules ]
       | EndFramework e ↦ elim [ EndFramework f ↦ Prim.search rules | _ ↦ Prim.search rules ]
@@ -65,7 +73,15 @@ impl Plain for MasterMail {
 
     ghost decided = { elim [
       | Hello r d ↦ elim [ Hello s e ↦ Prim.search rules | _ ↦ Prim.search rules ]
-      | Issued s n c ↦ elim [ Issued t m e ↦ (let d = and_decides (unsigned_Decides s t) (and_decides (unsigned_Decides n m) (command_decided c e)) in ((λ h. let e = d.0 h in Prim.search rules), (λ e. d.1 (Prim.search rules)))) | _ ↦ Prim.search rules ]
+      | Issued s n c ↦ elim [
+        | Issued t m e ↦ (let d = and_decides (unsigned_Decides s t)
+            (and_decides (unsigned_Decides n m) (command_decided c e)) in (
+              (λ h. let e = d.0 h in
+                  Prim.search rules),
+              (λ e. d.1 (Prim.search rules)),
+            ))
+        | _ ↦ Prim.search rules
+      ]
     ] };
 }
 
@@ -109,9 +125,26 @@ impl Plain for AgentMail {
     ghost cloned = { Prim.search rules };
 
     ghost decided = { elim [
-      | Report s r t o ↦ elim [ Report u v w p ↦ (let d = and_decides (unsigned_Decides s u) (and_decides (unsigned_Decides r v) (and_decides (pointwise_decides booked_decided t w) (resources_decided o p))) in ((λ h. let e = d.0 h in Prim.search rules), (λ e. d.1 (Prim.search rules)))) | _ ↦ Prim.search rules ]
+      | Report s r t o ↦ elim [
+        | Report u v w p ↦ (let d = and_decides (unsigned_Decides s u)
+            (and_decides (unsigned_Decides r v) (and_decides (pointwise_decides booked_decided t w)
+            (resources_decided o p))) in (
+              (λ h. let e = d.0 h in
+                  Prim.search rules),
+              (λ e. d.1 (Prim.search rules)),
+            ))
+        | _ ↦ Prim.search rules
+      ]
       | Applied s n ↦ elim [ Applied t m ↦ Prim.search rules | _ ↦ Prim.search rules ]
-      | Update s k n t e ↦ elim [ Update u l m v f ↦ (let d = and_decides (unsigned_Decides s u) (and_decides (key_decided k l) (and_decides (unsigned_Decides n m) (and_decides (state_decided t v) (booleans_Decides e f)))) in ((λ h. let e = d.0 h in Prim.search rules), (λ e. d.1 (Prim.search rules)))) | _ ↦ Prim.search rules ]
+      | Update s k n t e ↦ elim [
+        | Update u l m v f ↦
+            (let d = and_decides (unsigned_Decides s u) (and_decides (key_decided k l) (and_decides
+            (unsigned_Decides n m) (and_decides (state_decided t v) (booleans_Decides e f)))) in (
+              (λ h. let e = d.0 h in Prim.search rules),
+              (λ e. d.1 (Prim.search rules)),
+            ))
+        | _ ↦ Prim.search rules
+      ]
     ] };
 }
 

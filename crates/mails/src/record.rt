@@ -28,7 +28,9 @@ impl Plain for RecordedTask {
 
     ghost cloned = { Prim.search rules };
 
-    ghost decided = { λ x y. (let d = and_decides (job_decided x.job y.job) (and_decides (pointwise_decides offer_decided x.offers y.offers) (updates_decided x.updates y.updates)) in ((λ h. let e = d.0 h in Prim.search rules), (λ e. d.1 (Prim.search rules)))) };
+    ghost decided = { λ x y. (let d = and_decides (job_decided x.job y.job) (and_decides
+        (pointwise_decides offer_decided x.offers y.offers) (updates_decided x.updates y.updates))
+        in ((λ h. let e = d.0 h in Prim.search rules), (λ e. d.1 (Prim.search rules)))) };
 }
 
 /// What an agent keeps over a stop.
@@ -55,5 +57,11 @@ impl Plain for Durable {
 
     ghost cloned = { Prim.search rules };
 
-    ghost decided = { λ x y. (let d = and_decides (agent_decided x.name y.name) (and_decides (resources_decided x.total y.total) (and_decides (unsigned_Decides x.session y.session) (and_decides (unsigned_Decides x.run y.run) (pointwise_decides task_decided x.tasks y.tasks)))) in ((λ h. let e = d.0 h in Prim.search rules), (λ e. d.1 (Prim.search rules)))) };
+    ghost decided = { λ x y. (let d = and_decides (agent_decided x.name y.name) (and_decides
+        (resources_decided x.total y.total) (and_decides (unsigned_Decides x.session y.session)
+        (and_decides (unsigned_Decides x.run y.run) (pointwise_decides task_decided x.tasks
+        y.tasks)))) in (
+          (λ h. let e = d.0 h in Prim.search rules),
+          (λ e. d.1 (Prim.search rules)),
+        )) };
 }

@@ -59,5 +59,11 @@ impl Plain for Booked {
 
     ghost cloned = { Prim.search rules };
 
-    ghost decided = { λ x y. (let d = and_decides (job_decided x.job y.job) (and_decides (booleans_Decides x.ended y.ended) (and_decides (unsigned_Decides x.heard y.heard) (state_decided x.state y.state))) in ((λ h. let e = d.0 h in Prim.search rules), (λ e. d.1 (Prim.search rules)))) };
+    ghost decided = { λ x y. (let d = and_decides (job_decided x.job y.job) (and_decides
+        (booleans_Decides x.ended y.ended) (and_decides (unsigned_Decides x.heard y.heard)
+        (state_decided x.state y.state))) in (
+          (λ h. let e = d.0 h in
+              Prim.search rules),
+          (λ e. d.1 (Prim.search rules)),
+        )) };
 }

@@ -32,7 +32,8 @@ impl Model for Reported {
 
     ghost view = { λ r. r.tasks };
 
-    ghost invariant = { λ r. (r.keys.keys ≡ keys_of r.tasks) × (r.frameworks.keys ≡ frameworks_of r.tasks) };
+    ghost invariant = { λ r. (r.keys.keys ≡ keys_of r.tasks)
+        × (r.frameworks.keys ≡ frameworks_of r.tasks) };
 }
 
 fn insert_keys(keys: &mut BTreeSet<LaunchKey>, tasks: &[Booked]) -> Result<(), AllocError>

@@ -62,7 +62,13 @@ impl<'a, L: ledger::Ledger, R: Wait + Clock> Model for TcpArrivals<'a, L, R> {
 
     ghost Value = { ArrivalsState };
 
-    ghost view = { λ a. record { pass = a.pass; limit = a.limit; taken = a.taken; failures = a.failures; finished = a.finished } };
+    ghost view = { λ a. record {
+      pass = a.pass;
+      limit = a.limit;
+      taken = a.taken;
+      failures = a.failures;
+      finished = a.finished;
+    } };
 }
 
 impl<'a, L: ledger::Ledger, R: Wait + Clock> TcpArrivals<'a, L, R> {

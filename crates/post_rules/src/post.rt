@@ -54,7 +54,8 @@ pub trait Post {
             → gives (known self.new) n ≡ gives (known self.old) n }
         ensures newest { IfSome (direction_at (known self.new) (suc (count (known self.old))))
             (λ kept. kept ≡ direction) }
-        ensures directions { (n : ℕ) → n ≤ count (known self.old) → direction_at (known self.new) n ≡ direction_at (known self.old) n };
+        ensures directions { (n : ℕ) → n ≤ count (known self.old)
+            → direction_at (known self.new) n ≡ direction_at (known self.old) n };
 
     /// Whether this number can be handed out.
     fn can_give(&self, n: u64) -> bool
@@ -66,7 +67,8 @@ pub trait Post {
         ensures known { known self.new ≡ with_given (known self.old) n }
         ensures count { count (known self.new) ≡ count (known self.old) }
         ensures room { room self.new ≡ room self.old }
-        ensures directions { (n : ℕ) → direction_at (known self.new) n ≡ direction_at (known self.old) n };
+        ensures directions { (n : ℕ)
+            → direction_at (known self.new) n ≡ direction_at (known self.old) n };
 
     /// What can be handed out was put.
     ghost was_put: { (k : Self.Known) (n : ℕ) → gives k n ≡ true → (0 < n) × (n ≤ count k) };

@@ -52,9 +52,15 @@ impl Model for Stores {
 
     ghost Value = { Kept };
 
-    ghost view = { λ q. record { items = items_of q.sent.items; room = min (min (min (vec_capacity q.sent - length q.sent.items) (vec_capacity q.links - length q.links.items)) (spare q.lasts)) (numbers_left (length q.sent.items)) } };
+    ghost view = { λ q. record {
+      items = items_of q.sent.items;
+      room = min (min (min (vec_capacity q.sent - length q.sent.items)
+          (vec_capacity q.links - length q.links.items)) (spare q.lasts))
+          (numbers_left (length q.sent.items));
+    } };
 
-    ghost invariant = { λ q. AreInOrder q.sent.items × AreLasts q.sent.items q.lasts × AreLinked q.sent.items q.lasts q.links.items };
+    ghost invariant = { λ q. AreInOrder q.sent.items × AreLasts q.sent.items q.lasts
+        × AreLinked q.sent.items q.lasts q.links.items };
 }
 
 fn lasts_of(lasts: &HashMap<usize, Lasts>, agent: usize) -> Lasts

@@ -1,16 +1,16 @@
 //! A record's rows, written in one transaction.
 
-ghost use Rattle.std.specs.Prelude.{◌≡◌, ◌≢◌, ◌∷◌, [], true, false, Some, IsTrue, IfOk, IfErr, IfSome, OnOk, OnErr, MatchResult};
+ghost use Rattle.std.specs.Prelude.{◌≡◌, ◌≢◌, [], true, false, Some, IsTrue, IfOk, IfErr, IfSome, OnOk, OnErr};
 ghost use Rattle.std.specs.Str.{IsUtf8};
 ghost use Rattle.std.specs.List.{AllByRecursion};
-ghost use Rattle.sqlite.specs.State.{HasCleanDisk, KeepsCommit, Survives};
+ghost use Rattle.sqlite.specs.State.{HasCleanDisk, Survives};
 ghost use Rattle.sqlite.specs.Held.{state};
 ghost use Rattle.agent_core.specs.Records.{is_record, keys_rise};
 ghost use Rattle.record_text.specs.Texts.{record_form};
 ghost use Rattle.record_text.specs.Written.{IsDurable};
 ghost use Rattle.record_saves.specs.Kept.{ArePut, AreSeen, HasHead, HasRecord, HasTotal, IsHead, IsHeadSeen, IsPut, Knows, KnowsHead, kept_in, with_record, with_tasks};
 ghost use Rattle.record_saves.specs.Stops.{LeavesEither, Stands};
-ghost use Rattle.keep_rows.specs.Tables.{IsReady, IsWriting, IsCommitted, Stays, WritesOn, keeper_schema};
+ghost use Rattle.keep_rows.specs.Tables.{IsReady, IsCommitted, Stays, keeper_schema, WritesIfOk};
 ghost use Rattle.keep_rows.specs.Totals.{AreNamed};
 ghost use Rattle.quantity.specs.Rows.{AreRows};
 
@@ -60,12 +60,8 @@ fn write_amounts<S: Alter>(
     ensures same_reference { tx.new.conn.ghost_name ≡ tx.old.conn.ghost_name }
     ensures quiet { Survives (state S.Store tx.old.conn.now) (state S.Store tx.new.conn.now)
         (λ _. ⊥) }
-    ensures went { IsWriting (state S.Store tx.old.conn.now)
-        → HasCleanDisk (state S.Store tx.new.conn.now)
-        → MatchResult result
-        (λ _. WritesOn (HasTotal head.now total.now) (state S.Store tx.old.conn.now)
-        (state S.Store tx.new.conn.now))
-        (λ _. KeepsCommit (state S.Store tx.old.conn.now) (state S.Store tx.new.conn.now)) }
+    ensures went { WritesIfOk (HasTotal head.now total.now) result (state S.Store tx.old.conn.now)
+        (state S.Store tx.new.conn.now) }
     ensures rows { OnOk result (AreRows total.now) }
     ensures named { OnOk result (AreNamed total.now) }
     ensures undamaged { IfErr result (λ e. e ≢ KeepFault.Damaged) }
@@ -88,12 +84,8 @@ fn write_head<S: Alter>(
     ensures same_reference { tx.new.conn.ghost_name ≡ tx.old.conn.ghost_name }
     ensures quiet { Survives (state S.Store tx.old.conn.now) (state S.Store tx.new.conn.now)
         (λ _. ⊥) }
-    ensures went { IsWriting (state S.Store tx.old.conn.now)
-        → HasCleanDisk (state S.Store tx.new.conn.now)
-        → MatchResult result
-        (λ _. WritesOn (HasHead head.now durable.now) (state S.Store tx.old.conn.now)
-        (state S.Store tx.new.conn.now))
-        (λ _. KeepsCommit (state S.Store tx.old.conn.now) (state S.Store tx.new.conn.now)) }
+    ensures went { WritesIfOk (HasHead head.now durable.now) result (state S.Store tx.old.conn.now)
+        (state S.Store tx.new.conn.now) }
     ensures head { OnOk result (IsHead durable.now) }
     ensures undamaged { IfErr result (λ e. e ≢ KeepFault.Damaged) }
     ensures unspent { IfErr result (λ e. e ≢ KeepFault.RunsSpent) }
@@ -123,12 +115,8 @@ fn write_rows<S: Alter>(
     ensures same_reference { tx.new.conn.ghost_name ≡ tx.old.conn.ghost_name }
     ensures quiet { Survives (state S.Store tx.old.conn.now) (state S.Store tx.new.conn.now)
         (λ _. ⊥) }
-    ensures went { IsWriting (state S.Store tx.old.conn.now)
-        → HasCleanDisk (state S.Store tx.new.conn.now)
-        → MatchResult result
-        (λ _. WritesOn (HasRecord seen head.now durable.now) (state S.Store tx.old.conn.now)
-        (state S.Store tx.new.conn.now))
-        (λ _. KeepsCommit (state S.Store tx.old.conn.now) (state S.Store tx.new.conn.now)) }
+    ensures went { WritesIfOk (HasRecord seen head.now durable.now) result
+        (state S.Store tx.old.conn.now) (state S.Store tx.new.conn.now) }
     ensures tasks { IfOk result (λ tasks. (tasks ≡ durable.now.tasks)
         × AllByRecursion IsPut durable.now.tasks) }
     ensures head { OnOk result (IsHead durable.now) }

@@ -1,13 +1,13 @@
 //! The rows of tasks, where those that were seen last are known.
 
-ghost use Rattle.std.specs.Prelude.{◌≡◌, ◌≢◌, ◌⊎◌, ◌<◌, ◌≤◌, ◌+◌, ◌++◌, ◌∷◌, [], true, IsTrue, Some, None, IfOk, IfErr, OnOk, MatchResult, take, length, vec_len, insert, remove, slice_index_or};
+ghost use Rattle.std.specs.Prelude.{◌≡◌, ◌≢◌, ◌⊎◌, ◌<◌, ◌≤◌, ◌+◌, ◌++◌, ◌∷◌, [], true, IsTrue, Some, None, IfOk, IfErr, OnOk, MatchResult, take, length, vec_len, insert, remove};
 ghost use Rattle.std.specs.List.{AllByRecursion};
 ghost use Rattle.sqlite.specs.State.{HasCleanDisk, KeepsCommit, Survives};
 ghost use Rattle.sqlite.specs.Held.{state};
 ghost use Rattle.sqlite_rules.specs.Lists.{Has};
 ghost use Rattle.agent_core.specs.Records.{keys_rise};
-ghost use Rattle.record_saves.specs.Kept.{Adds, ArePut, AreSeen, HasNoTask, HasTasks, IsPut, Knows};
-ghost use Rattle.keep_rows.specs.Tables.{AreIds, Cuts, IsSame, IsWriting, WritesOn, place_of};
+ghost use Rattle.record_saves.specs.Kept.{Adds, ArePut, AreSeen, HasNoTask, HasTasks, IsPut};
+ghost use Rattle.keep_rows.specs.Tables.{IsWriting, WritesOn, place_of, WritesIfOk};
 
 use crate::fault::fault_of;
 use keep_rows::changes::{clear_tasks, cut_task, place_of, put_task, read_places};
@@ -25,11 +25,8 @@ fn forget_tasks<S: Alter>(tx: &mut Transaction<'_, S>) -> Result<(), KeepFault>
     ensures same_reference { tx.new.conn.ghost_name ≡ tx.old.conn.ghost_name }
     ensures quiet { Survives (state S.Store tx.old.conn.now) (state S.Store tx.new.conn.now)
         (λ _. ⊥) }
-    ensures went { IsWriting (state S.Store tx.old.conn.now)
-        → HasCleanDisk (state S.Store tx.new.conn.now)
-        → MatchResult result
-        (λ _. WritesOn (HasNoTask) (state S.Store tx.old.conn.now) (state S.Store tx.new.conn.now))
-        (λ _. KeepsCommit (state S.Store tx.old.conn.now) (state S.Store tx.new.conn.now)) }
+    ensures went { WritesIfOk (HasNoTask) result (state S.Store tx.old.conn.now)
+        (state S.Store tx.new.conn.now) }
     ensures undamaged { IfErr result (λ e. e ≢ KeepFault.Damaged) }
     ensures unspent { IfErr result (λ e. e ≢ KeepFault.RunsSpent) }
 {
@@ -110,12 +107,8 @@ fn cut_at<S: Alter>(
     ensures same_reference { tx.new.conn.ghost_name ≡ tx.old.conn.ghost_name }
     ensures quiet { Survives (state S.Store tx.old.conn.now) (state S.Store tx.new.conn.now)
         (λ _. ⊥) }
-    ensures went { IsWriting (state S.Store tx.old.conn.now)
-        → HasCleanDisk (state S.Store tx.new.conn.now)
-        → MatchResult result
-        (λ _. WritesOn (HasTasks (Some tasks.old.items) tasks.new.items)
-        (state S.Store tx.old.conn.now) (state S.Store tx.new.conn.now))
-        (λ _. KeepsCommit (state S.Store tx.old.conn.now) (state S.Store tx.new.conn.now)) }
+    ensures went { WritesIfOk (HasTasks (Some tasks.old.items) tasks.new.items) result
+        (state S.Store tx.old.conn.now) (state S.Store tx.new.conn.now) }
     ensures still_put { OnOk result (ArePut tasks.new.items) }
     ensures shorter { vec_len tasks.new + 1 ≡ vec_len tasks.old }
     ensures left { tasks.new.items ≡ remove tasks.old.items at }
@@ -140,12 +133,8 @@ fn cut_others<S: Alter>(
     ensures same_reference { tx.new.conn.ghost_name ≡ tx.old.conn.ghost_name }
     ensures quiet { Survives (state S.Store tx.old.conn.now) (state S.Store tx.new.conn.now)
         (λ _. ⊥) }
-    ensures went { IsWriting (state S.Store tx.old.conn.now)
-        → HasCleanDisk (state S.Store tx.new.conn.now)
-        → MatchResult result
-        (λ _. WritesOn (HasTasks (Some tasks.old.items) tasks.new.items)
-        (state S.Store tx.old.conn.now) (state S.Store tx.new.conn.now))
-        (λ _. KeepsCommit (state S.Store tx.old.conn.now) (state S.Store tx.new.conn.now)) }
+    ensures went { WritesIfOk (HasTasks (Some tasks.old.items) tasks.new.items) result
+        (state S.Store tx.old.conn.now) (state S.Store tx.new.conn.now) }
     ensures still_put { OnOk result (ArePut tasks.new.items) }
     ensures among { OnOk result (AllByRecursion (Has wanted.now) tasks.new.items) }
     ensures undamaged { IfErr result (λ e. e ≢ KeepFault.Damaged) }
@@ -171,12 +160,8 @@ fn add_task<S: Alter>(
     ensures same_reference { tx.new.conn.ghost_name ≡ tx.old.conn.ghost_name }
     ensures quiet { Survives (state S.Store tx.old.conn.now) (state S.Store tx.new.conn.now)
         (λ _. ⊥) }
-    ensures went { IsWriting (state S.Store tx.old.conn.now)
-        → HasCleanDisk (state S.Store tx.new.conn.now)
-        → MatchResult result
-        (λ _. WritesOn (Adds (task.now ∷ [])) (state S.Store tx.old.conn.now)
-        (state S.Store tx.new.conn.now))
-        (λ _. KeepsCommit (state S.Store tx.old.conn.now) (state S.Store tx.new.conn.now)) }
+    ensures went { WritesIfOk (Adds (task.now ∷ [])) result (state S.Store tx.old.conn.now)
+        (state S.Store tx.new.conn.now) }
     ensures is_put { OnOk result (IsPut task.now) }
     ensures undamaged { IfErr result (λ e. e ≢ KeepFault.Damaged) }
     ensures unspent { IfErr result (λ e. e ≢ KeepFault.RunsSpent) }
@@ -201,12 +186,8 @@ fn add_at<S: Alter>(
     ensures same_reference { tx.new.conn.ghost_name ≡ tx.old.conn.ghost_name }
     ensures quiet { Survives (state S.Store tx.old.conn.now) (state S.Store tx.new.conn.now)
         (λ _. ⊥) }
-    ensures went { IsWriting (state S.Store tx.old.conn.now)
-        → HasCleanDisk (state S.Store tx.new.conn.now)
-        → MatchResult result
-        (λ _. WritesOn (HasTasks (Some tasks.old.items) tasks.new.items)
-        (state S.Store tx.old.conn.now) (state S.Store tx.new.conn.now))
-        (λ _. KeepsCommit (state S.Store tx.old.conn.now) (state S.Store tx.new.conn.now)) }
+    ensures went { WritesIfOk (HasTasks (Some tasks.old.items) tasks.new.items) result
+        (state S.Store tx.old.conn.now) (state S.Store tx.new.conn.now) }
     ensures still_put { OnOk result (AllByRecursion IsPut tasks.new.items) }
     ensures front { OnOk result
         (take (at + 1) tasks.new.items ≡ take at tasks.old.items ++ task.now ∷ []) }
@@ -236,12 +217,8 @@ fn add_other<S: Alter>(
     ensures same_reference { tx.new.conn.ghost_name ≡ tx.old.conn.ghost_name }
     ensures quiet { Survives (state S.Store tx.old.conn.now) (state S.Store tx.new.conn.now)
         (λ _. ⊥) }
-    ensures went { IsWriting (state S.Store tx.old.conn.now)
-        → HasCleanDisk (state S.Store tx.new.conn.now)
-        → MatchResult result
-        (λ _. WritesOn (HasTasks (Some tasks.old.items) tasks.new.items)
-        (state S.Store tx.old.conn.now) (state S.Store tx.new.conn.now))
-        (λ _. KeepsCommit (state S.Store tx.old.conn.now) (state S.Store tx.new.conn.now)) }
+    ensures went { WritesIfOk (HasTasks (Some tasks.old.items) tasks.new.items) result
+        (state S.Store tx.old.conn.now) (state S.Store tx.new.conn.now) }
     ensures still_put { OnOk result (AllByRecursion IsPut tasks.new.items) }
     ensures front { OnOk result
         (take (at + 1) tasks.new.items ≡ take at tasks.old.items ++ task.now ∷ []) }
@@ -270,12 +247,8 @@ fn add_others<S: Alter>(
     ensures same_reference { tx.new.conn.ghost_name ≡ tx.old.conn.ghost_name }
     ensures quiet { Survives (state S.Store tx.old.conn.now) (state S.Store tx.new.conn.now)
         (λ _. ⊥) }
-    ensures went { IsWriting (state S.Store tx.old.conn.now)
-        → HasCleanDisk (state S.Store tx.new.conn.now)
-        → MatchResult result
-        (λ _. WritesOn (HasTasks (Some tasks.old.items) tasks.new.items)
-        (state S.Store tx.old.conn.now) (state S.Store tx.new.conn.now))
-        (λ _. KeepsCommit (state S.Store tx.old.conn.now) (state S.Store tx.new.conn.now)) }
+    ensures went { WritesIfOk (HasTasks (Some tasks.old.items) tasks.new.items) result
+        (state S.Store tx.old.conn.now) (state S.Store tx.new.conn.now) }
     ensures still_put { OnOk result (AllByRecursion IsPut tasks.new.items) }
     ensures front { OnOk result (take (length wanted.now) tasks.new.items ≡ wanted.now) }
     ensures undamaged { IfErr result (λ e. e ≢ KeepFault.Damaged) }
@@ -300,12 +273,8 @@ pub fn write_tasks<S: Alter>(
     ensures same_reference { tx.new.conn.ghost_name ≡ tx.old.conn.ghost_name }
     ensures quiet { Survives (state S.Store tx.old.conn.now) (state S.Store tx.new.conn.now)
         (λ _. ⊥) }
-    ensures went { IsWriting (state S.Store tx.old.conn.now)
-        → HasCleanDisk (state S.Store tx.new.conn.now)
-        → MatchResult result
-        (λ _. WritesOn (HasTasks seen wanted.now) (state S.Store tx.old.conn.now)
-        (state S.Store tx.new.conn.now))
-        (λ _. KeepsCommit (state S.Store tx.old.conn.now) (state S.Store tx.new.conn.now)) }
+    ensures went { WritesIfOk (HasTasks seen wanted.now) result (state S.Store tx.old.conn.now)
+        (state S.Store tx.new.conn.now) }
     ensures tasks { IfOk result (λ tasks. (tasks ≡ wanted.now) × AllByRecursion IsPut wanted.now) }
     ensures undamaged { IfErr result (λ e. e ≢ KeepFault.Damaged) }
     ensures unspent { IfErr result (λ e. e ≢ KeepFault.RunsSpent) }

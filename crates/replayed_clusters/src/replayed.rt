@@ -35,7 +35,8 @@ impl Model for Replayed {
 
 /// A cluster of all that was ever sent refuses a step only as it is due, or for want of memory.
 fn refuses_as_due(cluster: &Cluster<EverSent>)
-    ensures { (step : Step) (fault : ClusterFault) → IsRefused (state_of cluster.now.story) (is_number cluster.now.post.count) step fault
+    ensures { (step : Step) (fault : ClusterFault)
+        → IsRefused (state_of cluster.now.story) (is_number cluster.now.post.count) step fault
         → (fault ≡ OutOfMemory) ⊎ (due cluster.now.story step ≡ Err fault) }
 {
     cluster.withholds_nothing();

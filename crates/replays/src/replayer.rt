@@ -32,7 +32,13 @@ impl Model for Replayer {
 
     ghost Value = { Replay };
 
-    ghost view = { λ r. record { story = r.cluster; lines = r.lines; steps = r.steps; sent = r.sent; fault = r.fault } };
+    ghost view = { λ r. record {
+      story = r.cluster;
+      lines = r.lines;
+      steps = r.steps;
+      sent = r.sent;
+      fault = r.fault;
+    } };
 }
 
 fn is_blank(byte: u8) -> bool

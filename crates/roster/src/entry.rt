@@ -32,7 +32,17 @@ impl Model for RosterEntry {
 
     ghost Value = { Side };
 
-    ghost view = { λ e. record { name = e.name; total = []; is_open = e.is_open; session = e.session; closed = e.closed; waiting = e.link.waiting; known = e.link.known; offers = []; booked = [] } };
+    ghost view = { λ e. record {
+      name = e.name;
+      total = [];
+      is_open = e.is_open;
+      session = e.session;
+      closed = e.closed;
+      waiting = e.link.waiting;
+      known = e.link.known;
+      offers = [];
+      booked = [];
+    } };
 
     ghost invariant = { λ e. e.link.known + length e.link.waiting ≤ 4294967295 };
 }

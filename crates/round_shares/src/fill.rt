@@ -55,7 +55,8 @@ fn enter_role(
     alloc: Global,
     framework: &Framework,
 ) -> Result<(), AllocError>
-    ensures { OnOk result (holdings.new ≡ with_role framework.now.id framework.now.role holdings.old) }
+    ensures { OnOk result
+        (holdings.new ≡ with_role framework.now.id framework.now.role holdings.old) }
 {
     holdings.role(alloc, framework.id, &framework.role)
 }
@@ -120,7 +121,8 @@ fn give_offers(holdings: &mut Holdings, alloc: Global, offers: &[Offer]) -> Resu
 }
 
 fn give_tasks(holdings: &mut Holdings, alloc: Global, tasks: &[Booked]) -> Result<(), AllocError>
-    ensures { OnOk result (holdings.new ≡ fold holds holdings.old (map job_gift (unended tasks.now))) }
+    ensures { OnOk result
+        (holdings.new ≡ fold holds holdings.old (map job_gift (unended tasks.now))) }
 {
     for task in tasks {
         if !task.ended {

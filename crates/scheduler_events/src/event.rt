@@ -37,11 +37,32 @@ impl Plain for Event {
 
     ghost decided = { elim [
       | Subscribed f ↦ elim [ Subscribed g ↦ Prim.search rules | _ ↦ Prim.search rules ]
-      | Offers o ↦ elim [ Offers p ↦ (let d = offers_decided o p in ((λ h. let e = d.0 h in Prim.search rules), (λ e. d.1 (Prim.search rules)))) | _ ↦ Prim.search rules ]
+      | Offers o ↦ elim [
+        | Offers p ↦ (let d = offers_decided o p in (
+          (λ h. let e = d.0 h in
+              Prim.search rules),
+          (λ e. d.1 (Prim.search rules)),
+        ))
+        | _ ↦ Prim.search rules
+      ]
       | Rescind o ↦ elim [ Rescind p ↦ Prim.search rules | _ ↦ Prim.search rules ]
-      | Update s ↦ elim [ Update t ↦ (let d = status_decided s t in ((λ h. let e = d.0 h in Prim.search rules), (λ e. d.1 (Prim.search rules)))) | _ ↦ Prim.search rules ]
+      | Update s ↦ elim [
+        | Update t ↦ (let d = status_decided s t in (
+          (λ h. let e = d.0 h in
+              Prim.search rules),
+          (λ e. d.1 (Prim.search rules)),
+        ))
+        | _ ↦ Prim.search rules
+      ]
       | Failure a ↦ elim [ Failure b ↦ Prim.search rules | _ ↦ Prim.search rules ]
-      | Error m ↦ elim [ Error n ↦ (let d = message_decided m n in ((λ h. let e = d.0 h in Prim.search rules), (λ e. d.1 (Prim.search rules)))) | _ ↦ Prim.search rules ]
+      | Error m ↦ elim [
+        | Error n ↦ (let d = message_decided m n in (
+          (λ h. let e = d.0 h in
+              Prim.search rules),
+          (λ e. d.1 (Prim.search rules)),
+        ))
+        | _ ↦ Prim.search rules
+      ]
       | Heartbeat ↦ elim [ Heartbeat ↦ Prim.search rules | _ ↦ Prim.search rules ]
     ] };
 }

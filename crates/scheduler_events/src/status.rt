@@ -23,5 +23,10 @@ impl Plain for TaskStatus {
 
     ghost cloned = { Prim.search rules };
 
-    ghost decided = { λ x y. (let agent : Decides (⟦<Option<AgentName> as PartialEq>⟧.eq x.agent y.agent) (x.agent ≡ y.agent) = Prim.search rules in let update : Decides (⟦<Option<UpdateId> as PartialEq>⟧.eq x.update y.update) (x.update ≡ y.update) = Prim.search rules in let d = and_decides (task_decided x.task y.task) (and_decides (state_decided x.state y.state) (and_decides agent update)) in ((λ h. let e = d.0 h in Prim.search rules), (λ e. d.1 (Prim.search rules)))) };
+    ghost decided = { λ x y. (let agent : Decides (⟦<Option<AgentName> as PartialEq>⟧.eq x.agent
+        y.agent) (x.agent ≡ y.agent) = Prim.search rules in
+        let update : Decides (⟦<Option<UpdateId> as PartialEq>⟧.eq x.update y.update) (x.update
+        ≡ y.update) = Prim.search rules in let d = and_decides (task_decided x.task y.task)
+        (and_decides (state_decided x.state y.state) (and_decides agent update)) in
+        ((λ h. let e = d.0 h in Prim.search rules), (λ e. d.1 (Prim.search rules)))) };
 }

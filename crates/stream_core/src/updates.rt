@@ -182,9 +182,12 @@ impl PartialEq for Updates {
     ghost use Rattle.std.specs.Cmp.{unsigned_Decides};
     ghost use Rattle.std.specs.Cmp.Lexicographic.{pointwise, pointwise_decides};
 
-    ghost eq = { λ x y. pointwise ⟦<TaskState as PartialEq>⟧.eq x.states y.states && x.acknowledged == y.acknowledged };
+    ghost eq = { λ x y. pointwise ⟦<TaskState as PartialEq>⟧.eq x.states y.states
+        && x.acknowledged == y.acknowledged };
 
-    ghost laws = { per_from_decides (λ x y. let d = and_decides (pointwise_decides (Prim.search rules) x.states y.states) (unsigned_Decides x.acknowledged y.acknowledged) in ((λ h. let e = d.0 h in Prim.search rules), (λ e. d.1 (Prim.search rules)))) };
+    ghost laws = { per_from_decides (λ x y. let d = and_decides (pointwise_decides (Prim.search
+        rules) x.states y.states) (unsigned_Decides x.acknowledged y.acknowledged) in
+        ((λ h. let e = d.0 h in Prim.search rules), (λ e. d.1 (Prim.search rules)))) };
 
     fn eq(&self, other: &Updates) -> bool {
         self.states == other.states && self.acknowledged == other.acknowledged
@@ -199,5 +202,10 @@ impl Plain for Updates {
 
     ghost cloned = { λ _ _ same. same };
 
-    ghost decided = { λ x y. let d = and_decides (pointwise_decides (Prim.search rules) x.states y.states) (unsigned_Decides x.acknowledged y.acknowledged) in ((λ h. let e = d.0 h in Prim.search rules), (λ e. d.1 (Prim.search rules))) };
+    ghost decided = { λ x y. let d = and_decides (pointwise_decides (Prim.search rules) x.states
+        y.states) (unsigned_Decides x.acknowledged y.acknowledged) in (
+          (λ h. let e = d.0 h in
+              Prim.search rules),
+          (λ e. d.1 (Prim.search rules)),
+        ) };
 }

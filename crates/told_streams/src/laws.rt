@@ -47,6 +47,9 @@ pub fn no_more_is_taken()
 
 /// The streams that a step opens rise above those that stand.
 pub fn opened_streams_rise()
-    ensures { (setup : Setup) (records : List Durable) (steps : List Marked) (s : Marked) (d : Done) (opens : List Numbered) (told : List StreamEvent) → step_marked (history setup records steps).state s ≡ Ok d →
-        d.after.streams ≡ streams_after (history setup records steps).state.streams opens told → AreRising (kept_ids (kept_streams (history setup records steps).state.streams) ++ opens) }
+    ensures { (setup : Setup) (records : List Durable) (steps : List Marked) (s : Marked)
+        (d : Done) (opens : List Numbered) (told : List StreamEvent)
+        → step_marked (history setup records steps).state s ≡ Ok d
+        → d.after.streams ≡ streams_after (history setup records steps).state.streams opens told
+        → AreRising (kept_ids (kept_streams (history setup records steps).state.streams) ++ opens) }
 {}

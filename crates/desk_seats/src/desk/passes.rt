@@ -25,7 +25,10 @@ impl<E, L: ledger::Ledger> Model for Passes<E, L> {
 
     ghost view = { λ p. p.slips.items };
 
-    ghost invariant = { λ p. (unwrap_or (option_map (λ s. s.parts) p.share) 0 ≡ length p.slips.items) × (unwrap_or (option_map (λ s. s.amount) p.share) 0 ≡ sum_by (λ s. length s.receipts) p.slips.items) };
+    ghost invariant = { λ p.
+        (unwrap_or (option_map (λ s. s.parts) p.share) 0 ≡ length p.slips.items)
+        × (unwrap_or (option_map (λ s. s.amount) p.share) 0
+        ≡ sum_by (λ s. length s.receipts) p.slips.items) };
 }
 
 /// Two shares as one.

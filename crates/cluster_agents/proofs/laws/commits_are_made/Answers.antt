@@ -17,4 +17,9 @@ returns c =
       stops_without = c.steps_move_agents.ensures.stops_without;
       stops_with = c.steps_move_agents.ensures.stops_with;
     } in
-    record { made = commit_made laws; unknown = commit_unknown; down = commit_down; without = commit_without_draft }
+    record {
+      made = λ c name place a d sent reached stand there. commit_made laws c name place a d sent reached stand there.0 there.1;
+      unknown = commit_unknown;
+      down = λ c name place a there. commit_down c name place a there.0 there.1;
+      without = λ c name place a there. commit_without_draft c name place a there.0 there.1;
+    }

@@ -25,4 +25,12 @@ returns c =
       to_master = c.items_are_posts.ensures.to_master;
       none = c.items_are_posts.ensures.none;
     } in
-    record { made = prepare_made more; astray = prepare_astray more; unknown = prepare_unknown; down = prepare_down; opened = prepare_opened; refused = prepare_refused more; withheld = prepare_withheld }
+    record {
+      made = λ c name place a new cause given verdict sent reached stand there. prepare_made more c name place a new cause given verdict sent reached stand there.0 there.1;
+      astray = λ c name place a cause sent reached stand there. prepare_astray more c name place a cause sent reached stand there.0 there.1;
+      unknown = prepare_unknown;
+      down = λ c name place a asked there. prepare_down c name place a asked there.0 there.1;
+      opened = λ c name place a asked there. prepare_opened c name place a asked there.0 there.1;
+      refused = λ c name place a cause fault sent stand there. prepare_refused more c name place a cause fault sent stand there.0 there.1;
+      withheld = λ c name place a cause gives there. prepare_withheld c name place a cause gives there.0 there.1;
+    }

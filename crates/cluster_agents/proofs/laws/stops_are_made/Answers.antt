@@ -17,4 +17,9 @@ returns c =
       stops_without = c.steps_move_agents.ensures.stops_without;
       stops_with = c.steps_move_agents.ensures.stops_with;
     } in
-    record { before = stop_before laws; after = stop_after laws; unknown = stop_unknown; without = stop_without_draft }
+    record {
+      before = λ c name place a sent reached stand there. stop_before laws c name place a sent reached stand there.0 there.1;
+      after = λ c name place a d sent reached stand there. stop_after laws c name place a d sent reached stand there.0 there.1;
+      unknown = stop_unknown;
+      without = λ c name place a there. stop_without_draft c name place a there.0 there.1;
+    }

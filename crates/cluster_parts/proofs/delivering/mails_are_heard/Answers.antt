@@ -28,4 +28,10 @@ returns c =
       number = c.mails_of_agents_fit.ensures.number;
       fits = c.mails_of_agents_fit.ensures.fits;
     } in
-    record { made = hear_made laws; rise = hear_rise laws; number = hear_number laws; fits = hear_fits laws; refused = hear_refused laws }
+    record {
+      made = λ c number to before after answered made n items js ss ts mail. hear_made laws c number to before after answered made n items js ss ts mail.reached mail.stands mail.item;
+      rise = λ c number to before after answered items ss mail. hear_rise laws c number to before after answered items ss mail.reached mail.stands mail.item;
+      number = λ c number to master items ss mail. hear_number laws c number to master items ss mail.reached mail.stands mail.item;
+      fits = λ c number to before items ss mail. hear_fits laws c number to before items ss mail.reached mail.stands mail.item;
+      refused = hear_refused laws;
+    }

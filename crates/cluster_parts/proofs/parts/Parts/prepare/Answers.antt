@@ -36,7 +36,7 @@ returns-then-is_down-clause-refused g c = λ s of.
     let place = c.in_ok-place.place in
     let a = c.index_mut-agent.result.now in
     let at = here s p c.as_slice.result.now name place a of c.as_slice.ensures.value c.in_ok-place.ensures.place c.in_ok-place.ensures.within c.index_mut-agent.ensures.value in
-    inl (c.prepares_are_made.ensures.down s name place a c.args.cause.now at.0 at.1 (sym c.is_down.ensures ∙ c.if-is_down.true))
+    inl (c.prepares_are_made.ensures.down s name place a c.args.cause.now at (sym c.is_down.ensures ∙ c.if-is_down.true))
 
 pub returns-then-has_draft-clause-refused : goal.returns-then-has_draft-clause-refused
 returns-then-has_draft-clause-refused g c = λ s of.
@@ -45,7 +45,7 @@ returns-then-has_draft-clause-refused g c = λ s of.
     let place = c.in_ok-place.place in
     let a = c.index_mut-agent.result.now in
     let at = here s p c.as_slice.result.now name place a of c.as_slice.ensures.value c.in_ok-place.ensures.place c.in_ok-place.ensures.within c.index_mut-agent.ensures.value in
-    inl (c.prepares_are_made.ensures.opened s name place a c.args.cause.now at.0 at.1 (sym c.is_down.ensures ∙ c.if-is_down.false) (sym c.has_draft.ensures ∙ c.if-has_draft.true))
+    inl (c.prepares_are_made.ensures.opened s name place a c.args.cause.now at (sym c.is_down.ensures ∙ c.if-is_down.false) (sym c.has_draft.ensures ∙ c.if-has_draft.true))
 
 pub returns-then-is_withheld-clause-refused : goal.returns-then-is_withheld-clause-refused
 returns-then-is_withheld-clause-refused g c = λ s of.
@@ -54,7 +54,7 @@ returns-then-is_withheld-clause-refused g c = λ s of.
     let place = c.in_ok-place.place in
     let a = c.index_mut-agent.result.now in
     let at = here s p c.as_slice.result.now name place a of c.as_slice.ensures.value c.in_ok-place.ensures.place c.in_ok-place.ensures.within c.index_mut-agent.ensures.value in
-    c.prepares_are_made.ensures.withheld s name place a c.args.cause.now (g.P.Post.gives (g.P.Post.known c.args.post.now)) at.0 at.1
+    c.prepares_are_made.ensures.withheld s name place a c.args.cause.now (g.P.Post.gives (g.P.Post.known c.args.post.now)) at
     (sym c.is_down.ensures ∙ c.if-is_down.false) (none_open a.part.draft (sym c.has_draft.ensures ∙ c.if-has_draft.false)) (sym c.is_withheld.ensures ∙ c.if-is_withheld.true)
 
 pub draw-requires-clause-order : goal.draw-requires-clause-order
@@ -82,7 +82,7 @@ returns-in-Ok-Some-clause-made g c = λ s of.
     ap (λ (xs : List Item). cause_due xs name cause) (sym c.as_slice-2.ensures) ∙ ap (cause_due c.as_slice-2.result.now name) (sym c.in_ok-copy.ensures) ∙ c.in-Ok-Some.ensures ∙ ap Some c.in-Ok-Some.field-0-is in
     one_takes s (Prepare name cause) c.draw.result c.draw.result p _ place new of refl
     (subst (λ (o : Outputs). Makes s (Prepare name cause) verdict o (slice_set (kept_agents s) place new) p.items) (sym c.draw.ensures.quiet)
-    (c.prepares_are_made.ensures.made s name place a new cause c.in-Ok-Some.given verdict p.items of.reached of.stands.as_others.as_items at.0 at.1
+    (c.prepares_are_made.ensures.made s name place a new cause c.in-Ok-Some.given verdict p.items of.reached of.stands.as_others.as_items at
     (sym c.is_down.ensures ∙ c.if-is_down.false) (none_open a.part.draft (sym c.has_draft.ensures ∙ c.if-has_draft.false)) due c.draw.ensures.drawn))
     (c.draw.ensures.durable ∙ record_so verdict name (slice_set p.agents.items place new) new (set_found name p.agents.items place a new there.0 there.1 c.draw.ensures.name)) refl refl refl refl refl
 
@@ -98,7 +98,7 @@ returns-in-Ok-None-clause-made g c = λ s of.
     ap (λ (xs : List Item). cause_due xs name cause) (sym c.as_slice-2.ensures) ∙ ap (cause_due c.as_slice-2.result.now name) (sym c.in_ok-copy.ensures) ∙ c.in-Ok-None.ensures ∙ ap Some c.in-Ok-None.field-0-is in
     one_takes s (Prepare name cause) c.ends_with.result _ p _ place a of c.ends_with.ensures
     (subst (λ (xs : List KeptAgent). Makes s (Prepare name cause) (AgentRefused NotForMe) (sending []) xs p.items) (sym (set_same (kept_agents s) place a at.1))
-    (c.prepares_are_made.ensures.astray s name place a cause p.items of.reached of.stands.as_others.as_items at.0 at.1
+    (c.prepares_are_made.ensures.astray s name place a cause p.items of.reached of.stands.as_others.as_items at
     (sym c.is_down.ensures ∙ c.if-is_down.false) (none_open a.part.draft (sym c.has_draft.ensures ∙ c.if-has_draft.false)) due)) refl refl refl refl refl refl
 
 pub returns-in-Err-clause-refused : goal.returns-in-Err-clause-refused
@@ -111,5 +111,5 @@ returns-in-Err-clause-refused g c = λ s of.
     let at = here s p c.as_slice.result.now name place a of c.as_slice.ensures.value c.in_ok-place.ensures.place c.in_ok-place.ensures.within c.index_mut-agent.ensures.value in
     let due : cause_due p.items name cause ≡ cause_due c.as_slice-2.result.now name c.in_ok-copy.copy =
     ap (λ (xs : List Item). cause_due xs name cause) (sym c.as_slice-2.ensures) ∙ ap (cause_due c.as_slice-2.result.now name) (sym c.in_ok-copy.ensures) in
-    inl (c.prepares_are_made.ensures.refused s name place a cause c.in-Err.fault p.items of.stands.as_others.as_items at.0 at.1
+    inl (c.prepares_are_made.ensures.refused s name place a cause c.in-Err.fault p.items of.stands.as_others.as_items at
     (sym c.is_down.ensures ∙ c.if-is_down.false) (none_open a.part.draft (sym c.has_draft.ensures ∙ c.if-has_draft.false)) (subst (λ (o : Option (Option Cause)). Causes (Err c.in-Err.fault) o) (sym due) c.in-Err.ensures))

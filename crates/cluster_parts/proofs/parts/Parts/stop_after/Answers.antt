@@ -18,4 +18,4 @@ returns-clause-made c = λ s of.
     let draft = some_open a.part.draft (sym c.has_draft.ensures ∙ c.if-not-has_draft.false) in
     one_takes s (StopAgent name After) c.ends_with.result _ p _ place c.stop_after.new.self of c.ends_with.ensures
     (subst (λ (b : KeptAgent). Makes s (StopAgent name After) verdicts.Ok (sending []) (slice_set (kept_agents s) place b) p.items) (sym c.stop_after.ensures)
-    (c.stops_are_made.ensures.after s name place a draft.0 p.items of.reached of.stands.as_others.as_items at.0 at.1 draft.1)) refl refl refl refl refl refl
+    (c.stops_are_made.ensures.after s name place a draft.0 p.items of.reached of.stands.as_others.as_items at draft.1)) refl refl refl refl refl refl

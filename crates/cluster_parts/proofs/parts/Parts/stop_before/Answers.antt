@@ -17,4 +17,4 @@ returns-clause-made c = λ s of.
     let at = here s p c.as_slice.result.now name place a of c.as_slice.ensures.value c.in_ok-place.ensures.place c.in_ok-place.ensures.within c.index_mut-agent.ensures.value in
     one_takes s (StopAgent name Before) c.ends_with.result _ p _ place c.stop_before.new.self of c.ends_with.ensures
     (subst (λ (b : KeptAgent). Makes s (StopAgent name Before) verdicts.Ok (sending []) (slice_set (kept_agents s) place b) p.items) (sym c.stop_before.ensures)
-    (c.stops_are_made.ensures.before s name place a p.items of.reached of.stands.as_others.as_items at.0 at.1)) refl refl refl refl refl refl
+    (c.stops_are_made.ensures.before s name place a p.items of.reached of.stands.as_others.as_items at)) refl refl refl refl refl refl
