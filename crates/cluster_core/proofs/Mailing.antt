@@ -110,7 +110,7 @@ pub record Queued (c : Cluster) (agents : List ConfiguredAgent) (sent : List Ite
 abbrev pub NamesLaw : Type 0
 NamesLaw = (setup : Setup) (records : List Durable) (steps : List Marked) → names_of (history setup records steps).state.world.channels ≡ map (λ d. d.name) records
 
-pub queued_so : NamesLaw → (s : Story) (opened : Outputs) (p : Parts) (queued : List queue.Item) → IsKept s opened p (length queued) (direction_in queued) → Queued (state_of s) p.config p.items queued
+pub queued_so : {T : Type 0} → NamesLaw → (s : Story) (opened : Outputs) (p : Parts T) (queued : List queue.Item) → IsKept s opened p (length queued) (direction_in queued) → Queued (state_of s) p.config p.served.items queued
 queued_so law s opened p queued k = record {
   stand = k.stands.as_others.as_items;
   counted = k.counted;

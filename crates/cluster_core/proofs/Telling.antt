@@ -71,10 +71,10 @@ is_full law s l h = let e : (state_of s).entries ≡ suc (length s.entries) = st
 abbrev pub reached : CountLaw → (s : Story) → IsLegal s → length s.entries < 4294967294 → Reached (state_of s)
 reached law s l h = record { setup = s.setup; records = s.records; steps = map marked_of s.entries; good = l.good; recorded = l.recorded; is = refl; room = has_room law s l h }
 
-pub parts_of_story : CountLaw → (s : Story) (opened : Outputs) (p : Parts) (count : ℕ) (ways : ℕ → Option Direction) → IsKept s opened p count ways → length s.entries < 4294967294 → PartsOf (state_of s) p
+pub parts_of_story : {T : Type 0} → CountLaw → (s : Story) (opened : Outputs) (p : Parts T) (count : ℕ) (ways : ℕ → Option Direction) → IsKept s opened p count ways → length s.entries < 4294967294 → PartsOf (state_of s) p
 parts_of_story law s opened p count ways k h = record { reached = reached law s k.legal h; config = k.config; stands = k.stands }
 
-pub are_parts : CountLaw → (s : Story) (opened : Outputs) (p : Parts) (count : ℕ) (ways : ℕ → Option Direction) → IsKept s opened p count ways → length s.entries < 4294967294 → AreParts p
+pub are_parts : {T : Type 0} → CountLaw → (s : Story) (opened : Outputs) (p : Parts T) (count : ℕ) (ways : ℕ → Option Direction) → IsKept s opened p count ways → length s.entries < 4294967294 → AreParts p
 are_parts law s opened p count ways k h = (state_of s, parts_of_story law s opened p count ways k h)
 
 -- their rounds of offers go by the story's weights
@@ -82,7 +82,7 @@ are_parts law s opened p count ways k h = (state_of s, parts_of_story law s open
 abbrev pub WeightsLaw : Type 0
 WeightsLaw = (setup : Setup) (records : List Durable) (steps : List Marked) → (history setup records steps).state.weights ≡ setup.weights
 
-pub parts_by : CountLaw → WeightsLaw → (s : Story) (opened : Outputs) (p : Parts) (count : ℕ) (ways : ℕ → Option Direction) → IsKept s opened p count ways → length s.entries < 4294967294 → ArePartsBy s.setup.weights p
+pub parts_by : {T : Type 0} → CountLaw → WeightsLaw → (s : Story) (opened : Outputs) (p : Parts T) (count : ℕ) (ways : ℕ → Option Direction) → IsKept s opened p count ways → length s.entries < 4294967294 → ArePartsBy s.setup.weights p
 parts_by law weights s opened p count ways k h = (state_of s, parts_of_story law s opened p count ways k h, weights s.setup s.records (map marked_of s.entries))
 
 -- ---- refusals
@@ -116,7 +116,7 @@ refused_so c gives step faults.NoSuchAgent room (inl e) = marks c (unmarked step
 refused_so c gives step faults.NoSuchAgent room (inr w) = absurd (let clash : faults.NoSuchAgent ≡ faults.NoSuchMail = w.0 in cc)
 refused_so c gives step faults.OutOfMemory room h = tt
 
-pub step_refused : CountLaw → (s : Story) (opened : Outputs) (p : Parts) (count : ℕ) (ways : ℕ → Option Direction) (gives : ℕ → Bool) (step : Step) (fault : ClusterFault) → IsKept s opened p count ways → length s.entries < 4294967294 →
+pub step_refused : {T : Type 0} → CountLaw → (s : Story) (opened : Outputs) (p : Parts T) (count : ℕ) (ways : ℕ → Option Direction) (gives : ℕ → Bool) (step : Step) (fault : ClusterFault) → IsKept s opened p count ways → length s.entries < 4294967294 →
     ((c : Cluster) → PartsOf c p → MayRefuse c gives step fault) → IsRefused (state_of s) gives step fault
 step_refused law s opened p count ways gives step fault k h why = refused_so (state_of s) gives step fault (has_room law s k.legal h) (why (state_of s) (parts_of_story law s opened p count ways k h))
 
@@ -143,11 +143,11 @@ story_more s e d l step is = record {
   legal = subst (Legal (opening s.setup s.records).state (s.entries ++ e ∷ [])) (sym (state_more s e d step)) (legal_more (opening s.setup s.records).state s.entries e (state_of s) d l.legal step is);
 }
 
-made_marks : CountLaw → (s : Story) (step : Step) (made : Made) (q : Parts) → IsLegal s → length s.entries < 4294967294 → (t : Takes (state_of s) step made q) → step_marked (state_of s) (marked_of (entry_made step made)) ≡ Ok t.done
+made_marks : {T : Type 0} → CountLaw → (s : Story) (step : Step) (made : Made) (q : Parts T) → IsLegal s → length s.entries < 4294967294 → (t : Takes (state_of s) step made q) → step_marked (state_of s) (marked_of (entry_made step made)) ≡ Ok t.done
 made_marks law s step made q l h t = marks (state_of s) (marked_of (entry_made step made)) (has_room law s l h) ∙ t.answers
 
-pub keeps_on : CountLaw → ItemsLaw → (s : Story) (opened : Outputs) (p q : Parts) (count before more : ℕ) (ways between news : ℕ → Option Direction) (step : Step) (made : Made) → IsKept s opened p count ways → length s.entries < 4294967294 →
-    Takes (state_of s) step made q → q.config ≡ p.config → more ≡ length q.items → before ≡ length p.items → ((n : ℕ) → between n ≡ ways n) → ((n : ℕ) → n ≤ before → news n ≡ between n) → ArePut before q.config q.items news →
+pub keeps_on : {T : Type 0} → CountLaw → ItemsLaw → (s : Story) (opened : Outputs) (p q : Parts T) (count before more : ℕ) (ways between news : ℕ → Option Direction) (step : Step) (made : Made) → IsKept s opened p count ways → length s.entries < 4294967294 →
+    Takes (state_of s) step made q → q.config ≡ p.config → more ≡ length q.served.items → before ≡ length p.served.items → ((n : ℕ) → between n ≡ ways n) → ((n : ℕ) → n ≤ before → news n ≡ between n) → ArePut before q.config q.served.items news →
     IsKept (with_entry s (entry_made step made)) opened q more news
 keeps_on law items_law s opened p q count before more ways between news step made k h t config counted there same older behind =
     let e = entry_made step made in
@@ -161,13 +161,13 @@ keeps_on law items_law s opened p q count before more ways between news step mad
       stands = subst (λ (c : Cluster). Stands c q) (sym (state_more s e t.done step_is)) t.stands;
       counted = counted;
       put = (
-          let behind_all : StandIn t.done.after (p.items ++ new_items step t.done) = items_law s.setup s.records (map marked_of s.entries) (marked_of e) t.done p.items k.legal.good step_is k.stands.as_others.as_items in
-          let is : q.items ≡ p.items ++ new_items step t.done = stand_alike t.done.after q.items (p.items ++ new_items step t.done) t.stands.as_others.as_items behind_all in
-          puts_on p.config q.config p.items q.items (new_items step t.done) before ways between news config is there k.put same older behind
+          let behind_all : StandIn t.done.after (p.served.items ++ new_items step t.done) = items_law s.setup s.records (map marked_of s.entries) (marked_of e) t.done p.served.items k.legal.good step_is k.stands.as_others.as_items in
+          let is : q.served.items ≡ p.served.items ++ new_items step t.done = stand_alike t.done.after q.served.items (p.served.items ++ new_items step t.done) t.stands.as_others.as_items behind_all in
+          puts_on p.config q.config p.served.items q.served.items (new_items step t.done) before ways between news config is there k.put same older behind
           );
     }
 
-pub takes_on : CountLaw → (s : Story) (q : Parts) (step : Step) (made : Made) → IsLegal s → length s.entries < 4294967294 → Takes (state_of s) step made q → IsTaken s step (taken_made step made) (with_entry s (entry_made step made))
+pub takes_on : {T : Type 0} → CountLaw → (s : Story) (q : Parts T) (step : Step) (made : Made) → IsLegal s → length s.entries < 4294967294 → Takes (state_of s) step made q → IsTaken s step (taken_made step made) (with_entry s (entry_made step made))
 takes_on law s q step made l h t =
     record {
       done = t.done;
@@ -177,7 +177,7 @@ takes_on law s q step made l h t =
       tells = refl;
     }
 
-pub stays : (s : Story) (opened : Outputs) (p q : Parts) (count more : ℕ) (ways news : ℕ → Option Direction) → IsKept s opened p count ways → Same p q → more ≡ count → ((n : ℕ) → news n ≡ ways n) → IsKept s opened q more news
+pub stays : {T : Type 0} → (s : Story) (opened : Outputs) (p q : Parts T) (count more : ℕ) (ways news : ℕ → Option Direction) → IsKept s opened p count ways → Same p q → more ≡ count → ((n : ℕ) → news n ≡ ways n) → IsKept s opened q more news
 stays s opened p q count more ways news k same m alike = record {
   legal = k.legal;
   short = k.short;
@@ -195,13 +195,30 @@ stays s opened p q count more ways news k same m alike = record {
     as_run = k.stands.as_run ∙ sym same.run;
   };
   counted = m ∙ k.counted ∙ ap length (sym same.items_sent);
-  put = put_still p.config q.config p.items q.items ways news same.config same.items_sent alike k.put;
+  put = put_still p.config q.config p.served.items q.served.items ways news same.config same.items_sent alike k.put;
+}
+
+-- they stand so whatever the post has
+pub posted : {T : Type 0} → (s : Story) (opened : Outputs) (p : Parts T) (post : T) (count : ℕ) (ways : ℕ → Option Direction) → IsKept s opened p count ways → IsKept s opened (record p { served = record p.served { post = post } }) count ways
+posted s opened p post count ways k = record {
+  legal = k.legal;
+  short = k.short;
+  begins = k.begins;
+  config = k.config;
+  stands = record {
+    as_agents = k.stands.as_agents;
+    as_others = k.stands.as_others;
+    as_moment = k.stands.as_moment;
+    as_run = k.stands.as_run;
+  };
+  counted = k.counted;
+  put = k.put;
 }
 
 -- ---- the opening
 
-pub opens_so : (setup : Setup) (records : List Durable) (es : List Entry) (opened : Outputs) (p : Parts) (o : Opened) (count : ℕ) (ways : ℕ → Option Direction) → es ≡ [] → GoodOpening setup.run records → AreRecorded records → Opens setup records o → AreAgentsOf p.config records → p.agents.items ≡ o.agents.items →
-    p.master ≡ o.master → p.items ≡ o.items → p.streams ≡ o.streams → p.run ≡ setup.run → p.last_tick ≡ 0 → opened ≡ o.outputs → count ≡ length p.items → ArePut 0 p.config p.items ways → IsKept (record { setup = setup; records = records; entries = es }) opened p count ways
+pub opens_so : {T : Type 0} → (setup : Setup) (records : List Durable) (es : List Entry) (opened : Outputs) (p : Parts T) (o : Opened T) (count : ℕ) (ways : ℕ → Option Direction) → es ≡ [] → GoodOpening setup.run records → AreRecorded records → Opens setup records o → AreAgentsOf p.config records → p.agents.items ≡ o.agents.items →
+    p.served.master ≡ o.served.master → p.served.items ≡ o.served.items → p.served.streams ≡ o.served.streams → p.run ≡ setup.run → p.last_tick ≡ 0 → opened ≡ o.outputs → count ≡ length p.served.items → ArePut 0 p.config p.served.items ways → IsKept (record { setup = setup; records = records; entries = es }) opened p count ways
 opens_so setup records [] opened p o count ways none good recorded opens config agents master items streams in_run tick outputs counted put = record {
   legal = record { good = good; recorded = recorded; legal = refl };
   short = omega arith;

@@ -41,15 +41,15 @@ story_of h =
 
 -- its story is legal, its parts stand for the state in which the story ends,
 -- and the post has had all that was sent, each item in its direction
-pub record IsKept (s : Story) (opened : Outputs) (p : Parts) (count : ℕ)
+pub record IsKept {T : Type 0} (s : Story) (opened : Outputs) (p : Parts T) (count : ℕ)
     (directions : ℕ → Option Direction) : Type 0 where
   pub legal : IsLegal s
   pub short : length s.entries < 4294967295
   pub begins : opened ≡ (open_cluster s.setup s.records).outputs
   pub config : AreAgentsOf p.config s.records
   pub stands : Stands (state_of s) p
-  pub counted : count ≡ length p.items
-  pub put : ArePut 0 p.config p.items directions
+  pub counted : count ≡ length p.served.items
+  pub put : ArePut 0 p.config p.served.items directions
 
 -- a step was taken: its entry is the one that the model makes of it, and stands behind the others;
 -- with a Prepare goes the record of the draft that it opened

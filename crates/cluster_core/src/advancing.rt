@@ -10,7 +10,7 @@ use crate::taken::{History, KeptEntry, Taken};
 use agent_sides::ConfiguredAgent;
 use cluster_entries::Entry;
 use cluster_laws::{Item, sent_items_stand, states_count_entries, weights_stay};
-use cluster_parts::{Made, Parts};
+use cluster_parts::{Made, Parts, Served};
 use cluster_steps::{ClusterFault, Step, StepCause};
 use names_core::AgentName;
 use permanent_value::Place;
@@ -50,7 +50,7 @@ fn direction_of(agents: &[ConfiguredAgent], item: &Item) -> Direction
 }
 
 /// Puts all items into the post that were sent behind the first so many, which it has.
-pub fn put_all<P: Post>(post: &mut P, agents: &[ConfiguredAgent], items: &[Item], before: usize)
+fn put_all<P: Post>(post: &mut P, agents: &[ConfiguredAgent], items: &[Item], before: usize)
     requires counted { P.count (P.known post.old) ≡ before }
     requires within { before ≤ length items.now }
     requires room { length items.now ≤ before + P.room post.old }
@@ -69,6 +69,24 @@ pub fn put_all<P: Post>(post: &mut P, agents: &[ConfiguredAgent], items: &[Item]
     }
 }
 
+/// Puts all items into the post of a master's part that were sent behind the first so many.
+pub fn put_sent<P: Post>(served: &mut Served<P>, agents: &[ConfiguredAgent], before: usize)
+    requires counted { P.count (P.known served.old.post) ≡ before }
+    requires within { before ≤ length served.old.items }
+    requires room { length served.old.items ≤ before + P.room served.old.post }
+    ensures kept { served.new ≡ record served.old { post = served.new.post } }
+    ensures count { P.count (P.known served.new.post) ≡ length served.old.items }
+    ensures directions { (n : ℕ) → n ≤ before
+        → P.direction_at (P.known served.new.post) n
+        ≡ P.direction_at (P.known served.old.post) n }
+    ensures put { ArePut before agents.now served.old.items
+        (P.direction_at (P.known served.new.post)) }
+    ensures known { P.known served.new.post ≡ fold P.with_put (P.known served.old.post)
+        (map (direction_of agents.now) (drop before served.old.items)) }
+{
+    put_all(&mut served.post, agents, served.items.as_slice(), before);
+}
+
 /// The number of what a step hands out.
 fn handed(step: &Step) -> Option<u64>
     ensures { result ≡ handed step.now }
@@ -84,24 +102,27 @@ fn handed(step: &Step) -> Option<u64>
 }
 
 /// What a step hands out was handed out, and what it sent is put.
-fn hand_on<P: Post>(post: &mut P, parts: &Parts, before: usize, step: &Step)
-    requires counted { P.count (P.known post.old) ≡ before }
-    requires within { before ≤ length parts.now.items }
-    requires room { length parts.now.items ≤ before + P.room post.old }
-    requires given { IsGiven (P.gives (P.known post.old)) step.now }
-    ensures count { P.count (P.known post.new) ≡ length parts.now.items }
+fn hand_on<P: Post>(parts: &mut Parts<P>, before: usize, step: &Step)
+    requires counted { P.count (P.known parts.old.served.post) ≡ before }
+    requires within { before ≤ length parts.old.served.items }
+    requires room { length parts.old.served.items ≤ before + P.room parts.old.served.post }
+    requires given { IsGiven (P.gives (P.known parts.old.served.post)) step.now }
+    ensures kept { parts.new
+        ≡ record parts.old { served = record parts.old.served { post = parts.new.served.post } } }
+    ensures count { P.count (P.known parts.new.served.post) ≡ length parts.old.served.items }
     ensures directions { (n : ℕ) → n ≤ before
-        → P.direction_at (P.known post.new) n ≡ P.direction_at (P.known post.old) n }
-    ensures put { ArePut before parts.now.config parts.now.items
-        (P.direction_at (P.known post.new)) }
-    ensures known { P.known post.new ≡ fold P.with_put
-        (with_handed P.with_given (P.known post.old) (handed step.now))
-        (map (direction_of parts.now.config) (drop before parts.now.items)) }
+        → P.direction_at (P.known parts.new.served.post) n
+        ≡ P.direction_at (P.known parts.old.served.post) n }
+    ensures put { ArePut before parts.old.config parts.old.served.items
+        (P.direction_at (P.known parts.new.served.post)) }
+    ensures known { P.known parts.new.served.post ≡ fold P.with_put
+        (with_handed P.with_given (P.known parts.old.served.post) (handed step.now))
+        (map (direction_of parts.old.config) (drop before parts.old.served.items)) }
 {
     if let Some(number) = handed(step) {
-        post.given(number);
+        parts.served.post.given(number);
     }
-    put_all(post, parts.config.agents(), parts.items.as_slice(), before);
+    put_sent(&mut parts.served, parts.config.agents(), before);
 }
 
 /// Makes room for an entry more, in the history and on the heap.
@@ -144,34 +165,34 @@ fn write_down(history: &mut History, place: Place<Entry>, step: Step, made: Made
 /// order C6, C8, C2, C3, C4, C5, C1, C7; C9 may come before any but C6.
 pub fn advance<P: Post>(
     history: &mut History,
-    parts: &mut Parts,
-    post: &mut P,
+    parts: &mut Parts<P>,
     alloc: Global,
     step: Step,
 ) -> Result<Taken, ClusterFault>
     requires { IsKept (story_of history.old) history.old.opened parts.old
-        (P.count (P.known post.old)) (P.direction_at (P.known post.old)) }
+        (P.count (P.known parts.old.served.post)) (P.direction_at (P.known parts.old.served.post)) }
     ensures kept { IsKept (story_of history.new) history.new.opened parts.new
-        (P.count (P.known post.new)) (P.direction_at (P.known post.new)) }
+        (P.count (P.known parts.new.served.post)) (P.direction_at (P.known parts.new.served.post)) }
     ensures taken { IfOk result
         (λ taken. IsTaken (story_of history.old) step taken (story_of history.new)) }
-    ensures given { IfOk result (λ _. IsGiven (P.gives (P.known post.old)) step) }
-    ensures known { OnOk result (P.known post.new
+    ensures given { IfOk result (λ _. IsGiven (P.gives (P.known parts.old.served.post)) step) }
+    ensures known { OnOk result (P.known parts.new.served.post
         ≡ known_after P.with_given P.with_put (story_of history.old) step
-        (story_of history.new) (P.known post.old)) }
+        (story_of history.new) (P.known parts.old.served.post)) }
     ensures refused { IfErr result
-        (IsRefused (state_of (story_of history.old)) (P.gives (P.known post.old)) step) }
+        (IsRefused (state_of (story_of history.old))
+        (P.gives (P.known parts.old.served.post)) step) }
     ensures unchanged { OnErr result (story_of history.new ≡ story_of history.old) }
-    ensures post { OnErr result (P.known post.new ≡ P.known post.old) }
+    ensures post { OnErr result (P.known parts.new.served.post ≡ P.known parts.old.served.post) }
 {
     sent_items_stand();
     states_count_entries();
     weights_stay();
     let place = make_room(alloc, history)?;
-    let before = parts.items.as_slice().len();
-    match parts.take_step(post, alloc, &history.weights, &step) {
+    let before = parts.served.items.as_slice().len();
+    match parts.take_step(alloc, &history.weights, &step) {
         Ok(made) => {
-            hand_on(post, parts, before, &step);
+            hand_on(parts, before, &step);
             Ok(write_down(history, place, step, made))
         }
         Err(fault) => Err(fault),

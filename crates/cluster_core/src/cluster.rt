@@ -21,7 +21,7 @@ ghost use Rattle.mails.specs.declared.record.Durable.{Durable as Record};
 
 mod reading;
 
-use crate::advancing::{advance, put_all};
+use crate::advancing::{advance, put_sent};
 use crate::safety::stories_are_safe;
 use crate::stopping::stopped_stories_open_again;
 use crate::taken::{History, KeptEntry, Taken};
@@ -43,8 +43,7 @@ use std::marker::Model;
 #[derive(Drop)]
 pub struct Cluster<P: Post + Drop> {
     history: History,
-    parts: Parts,
-    post: P,
+    parts: Parts<P>,
 }
 
 impl<P: Post + Drop> Model for Cluster<P> {
@@ -52,10 +51,11 @@ impl<P: Post + Drop> Model for Cluster<P> {
 
     ghost Value = { Known P };
 
-    ghost view = { λ c. record { story = story_of c.history; post = c.post } };
+    ghost view = { λ c. record { story = story_of c.history; post = c.parts.served.post } };
 
     ghost invariant = { λ c. IsKept (story_of c.history) c.history.opened c.parts
-        (P.count (P.known c.post)) (P.direction_at (P.known c.post)) };
+        (P.count (P.known c.parts.served.post))
+        (P.direction_at (P.known c.parts.served.post)) };
 }
 
 impl<P: Post + Drop> Cluster<P> {
@@ -78,9 +78,8 @@ impl<P: Post + Drop> Cluster<P> {
     {
         let records = put_in_order(&config, records, run);
         records_are_recorded(records.as_slice());
-        let mut post = P::empty();
-        let opened = open_parts(&mut post, alloc, &config, records.as_slice(), run)?;
-        put_all(&mut post, config.agents(), opened.items.as_slice(), 0);
+        let mut opened = open_parts(alloc, &config, records.as_slice(), run)?;
+        put_sent(&mut opened.served, config.agents(), 0);
         Ok(Cluster {
             history: History {
                 run,
@@ -91,14 +90,11 @@ impl<P: Post + Drop> Cluster<P> {
             },
             parts: Parts {
                 config,
-                master: opened.master,
+                served: opened.served,
                 agents: opened.agents,
-                items: opened.items,
-                streams: opened.streams,
                 run,
                 last_tick: 0,
             },
-            post,
         })
     }
 
@@ -119,13 +115,7 @@ impl<P: Post + Drop> Cluster<P> {
         ensures kept { OnErr result (P.known self.new.post ≡ P.known self.old.post) }
         ensures safe { Safe self.new.story }
     {
-        let taken = advance(
-            &mut self.history,
-            &mut self.parts,
-            &mut self.post,
-            alloc,
-            step,
-        );
+        let taken = advance(&mut self.history, &mut self.parts, alloc, step);
         self.is_safe();
         taken
     }
@@ -254,7 +244,7 @@ impl<P: Post + Drop> Cluster<P> {
             (λ sum. sum ≡ offered_in name.now (master_of (state_of self.now.story))) }
         ensures memory { IfErr result (λ fault. fault ≡ OutOfMemory) }
     {
-        match &self.parts.master {
+        match &self.parts.served.master {
             Some(master) => match master.offered_on(alloc, name) {
                 Ok(sum) => Ok(Some(sum)),
                 Err(_) => Err(ClusterFault::OutOfMemory),

@@ -32,7 +32,7 @@ use Rattle.told_streams.specs.Kept.{AreWithin, kept_streams}
 agents_stay : (c d : Cluster) → parts_of d.world.channels ≡ parts_of c.world.channels → d.fallen ≡ c.fallen → kept_agents d ≡ kept_agents c
 agents_stay c d parts fallen = ap (λ (f : List (List ℕ)). map (kept_part f) (parts_of d.world.channels)) fallen ∙ ap (λ (ps : List Part). map (kept_part c.fallen) ps) parts
 
-pub master_takes : (c : Cluster) (s : Step) (moment : ℕ) (made : Made) (p q : Parts) → PartsOf c p → MasterMakes c s moment made q.master q.items q.streams → q.agents.items ≡ p.agents.items → q.run ≡ p.run → q.last_tick ≡ moment → None ≡ record_of s made.verdict q.agents.items → Takes c s made q
+pub master_takes : {T : Type 0} → (c : Cluster) (s : Step) (moment : ℕ) (made : Made) (p q : Parts T) → PartsOf c p → MasterMakes c s moment made q.served.master q.served.items q.served.streams → q.agents.items ≡ p.agents.items → q.run ≡ p.run → q.last_tick ≡ moment → None ≡ record_of s made.verdict q.agents.items → Takes c s made q
 master_takes c s moment made p q of m agents run tick none = record {
   done = m.done;
   answers = m.answers;
@@ -47,7 +47,7 @@ master_takes c s moment made p q of m agents run tick none = record {
   };
 }
 
-pub restart_takes : (c : Cluster) (made : Made) (p q : Parts) → PartsOf c p → Restarts c made q.run q.master q.items q.streams → q.agents.items ≡ p.agents.items → q.last_tick ≡ p.last_tick → Takes c StopMaster made q
+pub restart_takes : {T : Type 0} → (c : Cluster) (made : Made) (p q : Parts T) → PartsOf c p → Restarts c made q.run q.served.master q.served.items q.served.streams → q.agents.items ≡ p.agents.items → q.last_tick ≡ p.last_tick → Takes c StopMaster made q
 restart_takes c made p q of m agents tick = record {
   done = m.done;
   answers = m.answers;
@@ -62,8 +62,8 @@ restart_takes c made p q of m agents tick = record {
   };
 }
 
-pub agent_takes : (c : Cluster) (s : Step) (made : Made) (p q : Parts) → PartsOf c p → Makes c s made.verdict made.outputs q.agents.items q.items → made.durable ≡ record_of s made.verdict q.agents.items →
-    q.master ≡ p.master → q.streams ≡ p.streams → q.run ≡ p.run → q.last_tick ≡ p.last_tick → Takes c s made q
+pub agent_takes : {T : Type 0} → (c : Cluster) (s : Step) (made : Made) (p q : Parts T) → PartsOf c p → Makes c s made.verdict made.outputs q.agents.items q.served.items → made.durable ≡ record_of s made.verdict q.agents.items →
+    q.served.master ≡ p.served.master → q.served.streams ≡ p.served.streams → q.run ≡ p.run → q.last_tick ≡ p.last_tick → Takes c s made q
 agent_takes c s made p q of m drafts master streams run tick = record {
   done = m.done;
   answers = m.answers;
@@ -86,24 +86,24 @@ agent_takes c s made p q of m drafts master streams run tick = record {
 -- ---- a step of one agent
 
 -- the agent at a place stands there
-pub at_place : (p : Parts) (as_ : List KeptAgent) (name : List ℕ) (place : ℕ) (a : KeptAgent) → as_ ≡ p.agents.items → place_in name as_ ≡ Some place → place < length as_ → a ≡ get_or p.agents.items place a →
+pub at_place : {T : Type 0} → (p : Parts T) (as_ : List KeptAgent) (name : List ℕ) (place : ℕ) (a : KeptAgent) → as_ ≡ p.agents.items → place_in name as_ ≡ Some place → place < length as_ → a ≡ get_or p.agents.items place a →
     (place_in name p.agents.items ≡ Some place) × (slice_get p.agents.items place ≡ Some a)
 at_place p as_ name place a same found within at =
     (subst (λ (xs : List KeptAgent). place_in name xs ≡ Some place) same found, subst (λ (b : KeptAgent). slice_get p.agents.items place ≡ Some b) (sym at) (slice_get-get_or p.agents.items place a (subst (λ (xs : List KeptAgent). place < length xs) same within)))
 
 -- and in the state
-pub here : (c : Cluster) (p : Parts) (as_ : List KeptAgent) (name : List ℕ) (place : ℕ) (a : KeptAgent) → PartsOf c p → as_ ≡ p.agents.items → place_in name as_ ≡ Some place → place < length as_ → a ≡ get_or p.agents.items place a →
+pub here : {T : Type 0} → (c : Cluster) (p : Parts T) (as_ : List KeptAgent) (name : List ℕ) (place : ℕ) (a : KeptAgent) → PartsOf c p → as_ ≡ p.agents.items → place_in name as_ ≡ Some place → place < length as_ → a ≡ get_or p.agents.items place a →
     (place_in name (kept_agents c) ≡ Some place) × (slice_get (kept_agents c) place ≡ Some a)
 here c p as_ name place a of same found within at =
     let there = at_place p as_ name place a same found within at in
     at_kept c p.agents.items name place a of.stands.as_agents there.0 there.1
 
-pub one_takes : (c : Cluster) (s : Step) (made how : Made) (p q : Parts) (place : ℕ) (new : KeptAgent) → PartsOf c p → made ≡ how → Makes c s how.verdict how.outputs (slice_set (kept_agents c) place new) q.items → how.durable ≡ record_of s how.verdict q.agents.items →
-    q.agents.items ≡ slice_set p.agents.items place new → q.master ≡ p.master → q.streams ≡ p.streams → q.run ≡ p.run → q.last_tick ≡ p.last_tick → Takes c s made q
+pub one_takes : {T : Type 0} → (c : Cluster) (s : Step) (made how : Made) (p q : Parts T) (place : ℕ) (new : KeptAgent) → PartsOf c p → made ≡ how → Makes c s how.verdict how.outputs (slice_set (kept_agents c) place new) q.served.items → how.durable ≡ record_of s how.verdict q.agents.items →
+    q.agents.items ≡ slice_set p.agents.items place new → q.served.master ≡ p.served.master → q.served.streams ≡ p.served.streams → q.run ≡ p.run → q.last_tick ≡ p.last_tick → Takes c s made q
 one_takes c s made how p q place new of is m drafts agents master streams run tick =
     let set : q.agents.items ≡ slice_set (kept_agents c) place new = agents ∙ ap (λ (xs : List KeptAgent). slice_set xs place new) of.stands.as_agents in
     subst (λ (x : Made). Takes c s x q) (sym is)
-    (agent_takes c s how p q of (subst (λ (xs : List KeptAgent). Makes c s how.verdict how.outputs xs q.items) (sym set) m) drafts master streams run tick)
+    (agent_takes c s how p q of (subst (λ (xs : List KeptAgent). Makes c s how.verdict how.outputs xs q.served.items) (sym set) m) drafts master streams run tick)
 
 pub some_open : (o : Option Draft) → is_some o ≡ true → (d : Draft) × (o ≡ Some d)
 some_open None e = absurd (let clash : false ≡ true = e in cc)
@@ -119,9 +119,9 @@ abbrev pub OrderLaw : Type 0
 OrderLaw = (setup : Setup) (records : List Durable) (steps : List Marked) (sent : List Item) (n : ℕ) (to : ToAgent) → GoodOpening setup.run records →
     StandIn (history setup records steps).state sent → slice_get sent n ≡ Some (items.ToAgent to) → Each (λ x. is_in_order x.agent (Mail to) ≡ true) (history setup records steps).state.world.channels
 
-pub come_in_order : OrderLaw → (p : Parts) → AreParts p → ComeInOrder p.agents.items p.items
+pub come_in_order : {T : Type 0} → OrderLaw → (p : Parts T) → AreParts p → ComeInOrder p.agents.items p.served.items
 come_in_order law p (c, of) = λ n to e.
     let r = of.reached in
     let each : Each (λ x. is_in_order x.agent (Mail to) ≡ true) c.world.channels =
-    subst (λ (x : Cluster). Each (λ y. is_in_order y.agent (Mail to) ≡ true) x.world.channels) (sym r.is) (law r.setup r.records r.steps p.items n to r.good (subst (λ (x : Cluster). StandIn x p.items) r.is of.stands.as_others.as_items) e) in
+    subst (λ (x : Cluster). Each (λ y. is_in_order y.agent (Mail to) ≡ true) x.world.channels) (sym r.is) (law r.setup r.records r.steps p.served.items n to r.good (subst (λ (x : Cluster). StandIn x p.served.items) r.is of.stands.as_others.as_items) e) in
     subst (λ (as_ : List KeptAgent). Each (λ a. is_in_order a.part.agent (Mail to) ≡ true) as_) (sym of.stands.as_agents) (each_kept to c.fallen c.world.channels each)

@@ -47,19 +47,19 @@ abbrev pub RiseLaw : Type 0
 RiseLaw = (c : Cluster) (s : Step) (moment : ℕ) (doing : Master → Doing) (answered : Result Outs MasterFault) (after : Option Master) → Reached c → Does c s moment (doing (master_of c)) → Answers answered (Some (master_of c)) after doing →
     IfOk answered (λ outs. AreRising (kept_ids (kept_streams c.streams) ++ outs.opened))
 
-pub serve_takes : MadeLaw → (c : Cluster) (s : Step) (moment : ℕ) (doing : Master → Doing) (before after : Option Master) (answered : Result Outs MasterFault) (made : Made) (p q : Parts) →
-    PartsOf c p → p.master ≡ Some before → (c.world.run.serves ≡ true → Does c s moment (doing (master_of c))) → Answers answered before after doing → Settles answered made (Some after) q.master p.items q.items p.streams q.streams →
+pub serve_takes : {T : Type 0} → MadeLaw → (c : Cluster) (s : Step) (moment : ℕ) (doing : Master → Doing) (before after : Option Master) (answered : Result Outs MasterFault) (made : Made) (p q : Parts T) →
+    PartsOf c p → p.served.master ≡ Some before → (c.world.run.serves ≡ true → Does c s moment (doing (master_of c))) → Answers answered before after doing → Settles answered made (Some after) q.served.master p.served.items q.served.items p.served.streams q.served.streams →
     q.agents.items ≡ p.agents.items → q.run ≡ p.run → q.last_tick ≡ moment → None ≡ record_of s made.verdict q.agents.items → Takes c s made q
 serve_takes law c s moment doing before after answered made p q of is how a settles agents run tick none =
     let stands = of.stands.as_others in
     let up = serves_if (master_of c) before (sym is ∙ stands.as_master) in
     master_takes c s moment made p q of
-    (law c s moment doing answered after made q.master p.items q.items q.streams of.reached stands.within stands.as_items up.0 (how up.0)
+    (law c s moment doing answered after made q.served.master p.served.items q.served.items q.served.streams of.reached stands.within stands.as_items up.0 (how up.0)
     (subst (λ (m : Option Master). Answers answered m after doing) up.1 a)
-    (subst (λ (xs : List KeptStream). Settles answered made (Some after) q.master p.items q.items xs q.streams) stands.as_streams settles)) agents run tick none
+    (subst (λ (xs : List KeptStream). Settles answered made (Some after) q.served.master p.served.items q.served.items xs q.served.streams) stands.as_streams settles)) agents run tick none
 
-pub serve_rise : RiseLaw → (c : Cluster) (s : Step) (moment : ℕ) (doing : Master → Doing) (before after : Option Master) (answered : Result Outs MasterFault) (p : Parts) →
-    PartsOf c p → p.master ≡ Some before → (c.world.run.serves ≡ true → Does c s moment (doing (master_of c))) → Answers answered before after doing → IfOk answered (λ outs. AreRising (kept_ids p.streams ++ outs.opened))
+pub serve_rise : {T : Type 0} → RiseLaw → (c : Cluster) (s : Step) (moment : ℕ) (doing : Master → Doing) (before after : Option Master) (answered : Result Outs MasterFault) (p : Parts T) →
+    PartsOf c p → p.served.master ≡ Some before → (c.world.run.serves ≡ true → Does c s moment (doing (master_of c))) → Answers answered before after doing → IfOk answered (λ outs. AreRising (kept_ids p.served.streams ++ outs.opened))
 serve_rise law c s moment doing before after answered p of is how a =
     let stands = of.stands.as_others in
     let up = serves_if (master_of c) before (sym is ∙ stands.as_master) in
@@ -146,19 +146,19 @@ serves_where : (m : Master) (o : Option (Option Master)) → o ≡ kept_master m
 serves_where m None e h = absurd (let clash : true ≡ false = h in cc)
 serves_where m (Some o) e h = (serves_if m o e).0
 
-pub deliver_withheld : (c : Cluster) (p : Parts) (gives : ℕ → Bool) (n : ℕ) → PartsOf c p → is_none p.master ≡ false → gives n ≡ false → MayRefuse c gives (Deliver n) faults.NoSuchMail
+pub deliver_withheld : {T : Type 0} → (c : Cluster) (p : Parts T) (gives : ℕ → Bool) (n : ℕ) → PartsOf c p → is_none p.served.master ≡ false → gives n ≡ false → MayRefuse c gives (Deliver n) faults.NoSuchMail
 deliver_withheld c p gives n of up none = by (unsent_or_delivered c (post_at c n))
   where
     asked : answer c (Deliver n) ≡ delivers c (post_at c n)
-    asked = if_it_is_down c.world.run.serves (delivers c (post_at c n)) (Err MasterDown) (serves_where (master_of c) p.master of.stands.as_others.as_master up)
+    asked = if_it_is_down c.world.run.serves (delivers c (post_at c n)) (Err MasterDown) (serves_where (master_of c) p.served.master of.stands.as_others.as_master up)
 
     by : (delivers c (post_at c n) ≡ Err NoSuchMail) ⊎ ((d : Done) × (delivers c (post_at c n) ≡ Ok d)) → MayRefuse c gives (Deliver n) faults.NoSuchMail
     by (inl e) = inl (asked ∙ e)
     by (inr (d, e)) = inr (refl, (n, d, refl, none, asked ∙ e))
 
-pub deliver_down : (c : Cluster) (p : Parts) (n : ℕ) → PartsOf c p → is_none p.master ≡ true → answer c (Deliver n) ≡ Err MasterDown
-deliver_down c p n of down = no_master c (delivers c (post_at c n)) p.items p.streams (at p.master of.stands.as_others down)
+pub deliver_down : {T : Type 0} → (c : Cluster) (p : Parts T) (n : ℕ) → PartsOf c p → is_none p.served.master ≡ true → answer c (Deliver n) ≡ Err MasterDown
+deliver_down c p n of down = no_master c (delivers c (post_at c n)) p.served.items p.served.streams (at p.served.master of.stands.as_others down)
   where
-    at : (o : Option (Option Master)) → StandsFor c o p.items p.streams → is_none o ≡ true → StandsFor c None p.items p.streams
+    at : (o : Option (Option Master)) → StandsFor c o p.served.items p.served.streams → is_none o ≡ true → StandsFor c None p.served.items p.served.streams
     at None s h = s
     at (Some m) s h = absurd (let clash : false ≡ true = h in cc)

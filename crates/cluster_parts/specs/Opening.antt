@@ -34,8 +34,9 @@ Starts (Err fault.OutOfMemory) master run agents = ⊤
 Starts (Err (fault.Refused refusal)) master run agents = ⊥
 
 -- what stands for the opening, and what it brings out
-pub record Opens (setup : Setup) (records : List Durable) (opened : Opened) : Type 0 where
+pub record Opens {T : Type 0} (setup : Setup) (records : List Durable) (opened : Opened T) : Type 0 where
   pub agents : opened.agents.items ≡ kept_agents (opening setup records).state
-  pub stands : StandsFor (opening setup records).state opened.master opened.items opened.streams
+  pub stands : StandsFor (opening setup records).state opened.served.master opened.served.items
+      opened.served.streams
   pub in_run : (opening setup records).state.world.run.number ≡ setup.run
   pub outputs : opened.outputs ≡ (open_cluster setup records).outputs

@@ -19,32 +19,32 @@ use Rattle.cluster_agents.specs.declared.outcomes.Made.{Made}
 use Rattle.cluster_parts.specs.declared.parts.Parts.{Parts}
 
 -- the parts stand for a state
-pub record Stands (c : Cluster) (p : Parts) : Type 0 where
+pub record Stands {T : Type 0} (c : Cluster) (p : Parts T) : Type 0 where
   pub as_agents : p.agents.items ≡ kept_agents c
-  pub as_others : StandsFor c p.master p.items p.streams
+  pub as_others : StandsFor c p.served.master p.served.items p.served.streams
   pub as_moment : c.last_tick ≡ p.last_tick
   pub as_run : c.world.run.number ≡ p.run
 
 -- they stand for a state that is reached, with the agents of the opening's records
-pub record PartsOf (c : Cluster) (p : Parts) : Type 0 where
+pub record PartsOf {T : Type 0} (c : Cluster) (p : Parts T) : Type 0 where
   pub reached : Reached c
   pub config : AreAgentsOf p.config reached.records
   pub stands : Stands c p
 
-abbrev pub AreParts : Parts → Type 0
+abbrev pub AreParts : {T : Type 0} → Parts T → Type 0
 AreParts p = (c : Cluster) × PartsOf c p
 
 -- with these weights of roles
-abbrev pub ArePartsBy : List RoleWeight → Parts → Type 0
+abbrev pub ArePartsBy : {T : Type 0} → List RoleWeight → Parts T → Type 0
 ArePartsBy weights p = (c : Cluster) × PartsOf c p × (c.weights ≡ weights)
 
 -- nothing changed
-pub record Same (old new : Parts) : Type 0 where
+pub record Same {T : Type 0} (old new : Parts T) : Type 0 where
   pub config : new.config ≡ old.config
-  pub master : new.master ≡ old.master
+  pub master : new.served.master ≡ old.served.master
   pub agents : new.agents.items ≡ old.agents.items
-  pub items_sent : new.items ≡ old.items
-  pub streams : new.streams ≡ old.streams
+  pub items_sent : new.served.items ≡ old.served.items
+  pub streams : new.served.streams ≡ old.served.streams
   pub run : new.run ≡ old.run
   pub moment : new.last_tick ≡ old.last_tick
 
@@ -54,7 +54,7 @@ record_of (Prepare agent cause) verdict agents = record_prepared verdict agent a
 record_of step verdict agents = None
 
 -- a step was made: what it answers, and the parts that then stand for the state
-pub record Takes (c : Cluster) (step : Step) (made : Made) (p : Parts) : Type 0 where
+pub record Takes {T : Type 0} (c : Cluster) (step : Step) (made : Made) (p : Parts T) : Type 0 where
   pub done : Done
   pub answers : (if fell made.verdict then fallen_answer c step else answer c step) ≡ Ok done
   pub ends : made.verdict ≡ done.verdict
@@ -63,18 +63,19 @@ pub record Takes (c : Cluster) (step : Step) (made : Made) (p : Parts) : Type 0 
   pub stands : Stands done.after p
 
 -- each state that parts stand for takes the step so
-abbrev pub AllTake : Parts → Step → Parts → Made → Type 0
+abbrev pub AllTake : {T : Type 0} → Parts T → Step → Parts T → Made → Type 0
 AllTake old step new made = (c : Cluster) → PartsOf c old → Takes c step made new
 
 -- each of them that has these weights of roles does
-abbrev pub AllTakeBy : List RoleWeight → Parts → Step → Parts → Made → Type 0
+abbrev pub AllTakeBy : {T : Type 0} → List RoleWeight → Parts T → Step → Parts T → Made
+    → Type 0
 AllTakeBy weights old step new made =
     (c : Cluster) → PartsOf c old → c.weights ≡ weights → Takes c step made new
 
 -- each state that parts stand for refuses the step so, or memory was refused
-abbrev pub AllRefuse : Parts → Step → ClusterFault → Type 0
+abbrev pub AllRefuse : {T : Type 0} → Parts T → Step → ClusterFault → Type 0
 AllRefuse p step fault = (c : Cluster) → PartsOf c p → Refuses c step fault
 
 -- or what the step hands out is withheld
-abbrev pub AllMayRefuse : (ℕ → Bool) → Parts → Step → ClusterFault → Type 0
+abbrev pub AllMayRefuse : {T : Type 0} → (ℕ → Bool) → Parts T → Step → ClusterFault → Type 0
 AllMayRefuse gives p step fault = (c : Cluster) → PartsOf c p → MayRefuse c gives step fault

@@ -12,22 +12,18 @@ use names_core::AgentName;
 use post_rules::Post;
 use std::alloc::Global;
 
-impl Parts {
+impl<P: Post> Parts<P> {
     /// The agent's draft becomes its record, and its mails are sent, for which the post has room
     /// first. It is refused with `C8 NoSuchAgent`, `C3 AgentDown` or `C5 NoDraft`, of several the
     /// first in this order, and with `C9 OutOfMemory`.
-    pub(crate) fn commit<P: Post>(
-        &mut self,
-        post: &mut P,
-        alloc: Global,
-        name: &AgentName,
-    ) -> Result<Made, ClusterFault>
+    pub(crate) fn commit(&mut self, alloc: Global, name: &AgentName) -> Result<Made, ClusterFault>
         ensures made { IfOk result (AllTake self.old (Commit name.now) self.new) }
         ensures refused { IfErr result (AllRefuse self.old (Commit name.now)) }
         ensures unchanged { OnErr result (Same self.old self.new) }
         ensures config { self.new.config ≡ self.old.config }
-        ensures post { P.known post.new ≡ P.known post.old }
-        ensures room { Grows (length self.old.items) (length self.new.items) (P.room post.new) }
+        ensures post { P.known self.new.served.post ≡ P.known self.old.served.post }
+        ensures room { Grows (length self.old.served.items) (length self.new.served.items)
+            (P.room self.new.served.post) }
     {
         commits_are_made();
         let place = found(self.agents.as_slice(), name)?;
@@ -36,8 +32,8 @@ impl Parts {
             return Err(ClusterFault::AgentDown);
         }
         let out = draft_mails(alloc, agent, name)?;
-        post.reserve(alloc, out.items.len())?;
-        self.items.append(out.items)?;
+        self.served.post.reserve(alloc, out.items.len())?;
+        self.served.items.append(out.items)?;
         let _mails = agent.commit();
         Ok(made_sending(alloc, out.sent))
     }

@@ -24,9 +24,9 @@ ghost use Rattle.side_fits.specs.Fits.{MailFitsAt};
 ghost use Rattle.told_streams.specs.Streams.{kept_ids};
 ghost use Rattle.told_streams.specs.declared.kept.KeptStream.{KeptStream};
 
-use crate::masters::settle;
+use crate::masters::Served;
 use crate::parts::Parts;
-use cluster_agents::{Items, Made, item_at};
+use cluster_agents::{Made, item_at};
 use cluster_laws::{
     Item, fallen_masters_do_not_serve, items_are_posts, mails_of_agents_fit, masters_leave_agents,
     masters_stay_in_their_run, named_agents_are_found, sent_items_stand, streams_rise,
@@ -34,12 +34,12 @@ use cluster_laws::{
 use cluster_safe::masters_step_alone;
 use cluster_steps::{ClusterFault, Verdict};
 use mails::{Call as SentCall, MasterRefusal, ToMaster};
-use master_core::{HeardMail, Master, MasterFault};
+use master_core::{HeardMail, MasterFault};
 use names_core::StreamId;
 use plain_data::Plain;
 use post_rules::Post;
 use std::alloc::Global;
-use told_streams::{Streams, kept_streams_follow, no_more_is_taken};
+use told_streams::{kept_streams_follow, no_more_is_taken};
 
 /// What is for the master: a call with its stream, or a mail of an agent.
 #[derive(Drop)]
@@ -109,96 +109,80 @@ fn with_refusal(mut made: Made, refusal: Option<MasterRefusal>) -> Made
     made
 }
 
-/// Keeps and tells what a mail brought out, which it may have done though it was refused.
-fn settle_heard<P: Post>(
-    master: &mut Option<Master>,
-    items: &mut Items,
-    streams: &mut Streams,
-    post: &mut P,
-    alloc: Global,
-    heard: Result<HeardMail, MasterFault>,
-) -> Made
-    requires { IfOk heard (λ heard. AreRising (kept_ids streams.old ++ heard.outs.opened)) }
-    ensures settled { SettlesHeard heard result master.old master.new items.old items.new
-        streams.old streams.new }
-    ensures post { P.known post.new ≡ P.known post.old }
-    ensures room { Grows (length items.old) (length items.new) (P.room post.new) }
-{
-    match heard {
-        Ok(heard) => {
-            let made = settle(master, items, streams, post, alloc, Ok(heard.outs));
-            with_refusal(made, heard.refusal)
+impl<P: Post> Served<P> {
+    /// Keeps and tells what a mail brought out, which it may have done though it was refused.
+    fn settle_heard(&mut self, alloc: Global, heard: Result<HeardMail, MasterFault>) -> Made
+        requires { IfOk heard
+            (λ heard. AreRising (kept_ids self.old.streams ++ heard.outs.opened)) }
+        ensures settled { SettlesHeard heard result self.old.master self.new.master self.old.items
+            self.new.items self.old.streams self.new.streams }
+        ensures post { P.known self.new.post ≡ P.known self.old.post }
+        ensures room { Grows (length self.old.items) (length self.new.items)
+            (P.room self.new.post) }
+    {
+        match heard {
+            Ok(heard) => {
+                let made = self.settle(alloc, Ok(heard.outs));
+                with_refusal(made, heard.refusal)
+            }
+            Err(fault) => self.settle(alloc, Err(fault)),
         }
-        Err(fault) => settle(master, items, streams, post, alloc, Err(fault)),
     }
 }
 
-impl Parts {
+impl<P: Post> Parts<P> {
     /// A mail of an agent that was sent under a number comes to the master.
-    fn deliver_mail<P: Post>(
+    fn deliver_mail(
         &mut self,
-        post: &mut P,
         alloc: Global,
         number: u64,
         to: ToMaster,
     ) -> Result<Made, ClusterFault>
         requires parts { AreParts self.old }
-        requires sent { item_at number self.old.items ≡ Some (sent.ToMaster to) }
+        requires sent { item_at number self.old.served.items ≡ Some (sent.ToMaster to) }
         ensures made { IfOk result (AllTake self.old (Deliver number) self.new) }
         ensures refused { IfErr result (AllRefuse self.old (Deliver number)) }
         ensures unchanged { OnErr result (Same self.old self.new) }
         ensures config { self.new.config ≡ self.old.config }
-        ensures post { P.known post.new ≡ P.known post.old }
-        ensures room { Grows (length self.old.items) (length self.new.items) (P.room post.new) }
+        ensures post { P.known self.new.served.post ≡ P.known self.old.served.post }
+        ensures room { Grows (length self.old.served.items) (length self.new.served.items)
+            (P.room self.new.served.post) }
     {
         mails_are_heard();
-        let Some(serving) = &mut self.master else {
+        let Some(serving) = &mut self.served.master else {
             return Err(ClusterFault::MasterDown);
         };
         let ToMaster { agent, mail } = to;
         let heard = serving.mail(alloc, &agent, mail);
-        Ok(settle_heard(
-            &mut self.master,
-            &mut self.items,
-            &mut self.streams,
-            post,
-            alloc,
-            heard,
-        ))
+        Ok(self.served.settle_heard(alloc, heard))
     }
 
     /// A call or a mail that was sent under a number, from 1, comes to the master. It is refused
     /// with `C2 MasterDown` where no master serves, with `C1 NoSuchMail` where the post can't hand
     /// the number out, nothing was sent under it or it is a mail to an agent, and with
     /// `C9 OutOfMemory`. A master that runs out of memory in the step is down.
-    pub(crate) fn deliver<P: Post>(
-        &mut self,
-        post: &mut P,
-        alloc: Global,
-        number: u64,
-    ) -> Result<Made, ClusterFault>
+    pub(crate) fn deliver(&mut self, alloc: Global, number: u64) -> Result<Made, ClusterFault>
         requires { AreParts self.old }
         ensures made { IfOk result (AllTake self.old (Deliver number) self.new) }
         ensures refused { IfErr result
-            (AllMayRefuse (P.gives (P.known post.old)) self.old (Deliver number)) }
+            (AllMayRefuse (P.gives (P.known self.old.served.post)) self.old (Deliver number)) }
         ensures unchanged { OnErr result (Same self.old self.new) }
         ensures config { self.new.config ≡ self.old.config }
-        ensures post { P.known post.new ≡ P.known post.old }
-        ensures room { Grows (length self.old.items) (length self.new.items) (P.room post.new) }
-        ensures given { IfOk result (λ _. P.gives (P.known post.old) number ≡ true) }
+        ensures post { P.known self.new.served.post ≡ P.known self.old.served.post }
+        ensures room { Grows (length self.old.served.items) (length self.new.served.items)
+            (P.room self.new.served.post) }
+        ensures given { IfOk result (λ _. P.gives (P.known self.old.served.post) number ≡ true) }
     {
         mails_are_heard();
-        if self.master.is_none() {
+        if self.served.master.is_none() {
             return Err(ClusterFault::MasterDown);
         }
-        if !post.can_give(number) {
+        if !self.served.post.can_give(number) {
             return Err(ClusterFault::NoSuchMail);
         }
-        match for_master(self.items.as_slice(), number) {
-            Ok(ForMaster::Call(stream, call)) => {
-                self.deliver_call(post, alloc, number, stream, call)
-            }
-            Ok(ForMaster::Mail(to)) => self.deliver_mail(post, alloc, number, to),
+        match for_master(self.served.items.as_slice(), number) {
+            Ok(ForMaster::Call(stream, call)) => { self.deliver_call(alloc, number, stream, call) }
+            Ok(ForMaster::Mail(to)) => self.deliver_mail(alloc, number, to),
             Err(fault) => Err(fault),
         }
     }

@@ -1,6 +1,6 @@
-//! The parts of a cluster: its agents, its master, all that was sent and the streams; and each step
-//! that moves them, a method of `Parts`. At each state that the parts stand for a step is the
-//! model's, or it is refused and they stay as they were.
+//! The parts of a cluster: its agents, and its master with all that was sent, the streams and the
+//! post; and each step that moves them, a method of `Parts`. At each state that the parts stand for
+//! a step is the model's, or it is refused and they stay as they were.
 #![tactic(auto)]
 
 mod commits;
@@ -17,5 +17,6 @@ mod serving;
 mod stops;
 
 pub use cluster_agents::{ClusterAgent, Items, Made, place_of};
+pub use masters::Served;
 pub use opening::{Opened, open_parts};
 pub use parts::Parts;

@@ -38,101 +38,104 @@ fn outgoing_to(alloc: Global, mails: &[ToAgent]) -> Result<Outgoing, AllocError>
     Ok(Outgoing { sent, items })
 }
 
-/// Keeps what was sent and hears what was told, or neither where memory is refused.
-fn keep(
-    items: &mut Items,
-    streams: &mut Streams,
-    alloc: Global,
-    more: Listed<Item>,
-    opened: &[StreamId],
-    events: &[StreamEvent],
-) -> Result<(), AllocError>
-    requires { AreRising (kept_ids streams.old ++ opened.now) }
-    ensures items { OnOk result (items.new ≡ items.old ++ more) }
-    ensures streams { OnOk result (streams.new ≡ heard opened.now events.now streams.old) }
-    ensures unchanged { OnErr result ((items.new ≡ items.old) × (streams.new ≡ streams.old)) }
-{
-    let before = items.as_slice().len();
-    items.append(more)?;
-    match streams.hear(alloc, opened, events) {
-        Ok(()) => Ok(()),
-        Err(e) => {
-            items.cut(before);
-            Err(e)
+/// What the steps of a master move: the master, all that was sent, the streams,
+/// and the post that hands out what was sent.
+#[derive(Drop)]
+pub struct Served<P: Post> {
+    /// None where no master serves.
+    pub master: Option<Master>,
+    pub items: Items,
+    pub streams: Streams,
+    pub post: P,
+}
+
+impl<P: Post> Served<P> {
+    /// Keeps what was sent and hears what was told, or neither where memory is refused.
+    fn keep(
+        &mut self,
+        alloc: Global,
+        more: Listed<Item>,
+        opened: &[StreamId],
+        events: &[StreamEvent],
+    ) -> Result<(), AllocError>
+        requires { AreRising (kept_ids self.old.streams ++ opened.now) }
+        ensures kept { OnOk result (self.new ≡ record self.old {
+          items = self.old.items ++ more;
+          streams = heard opened.now events.now self.old.streams;
+        }) }
+        ensures unchanged { OnErr result (self.new ≡ self.old) }
+    {
+        let before = self.items.as_slice().len();
+        self.items.append(more)?;
+        match self.streams.hear(alloc, opened, events) {
+            Ok(()) => Ok(()),
+            Err(e) => {
+                self.items.cut(before);
+                Err(e)
+            }
         }
     }
-}
 
-/// What the master brought out, kept and told, once the post has room for its mails.
-fn tell<P: Post>(
-    items: &mut Items,
-    streams: &mut Streams,
-    post: &mut P,
-    alloc: Global,
-    outs: Outs,
-) -> Result<Made, AllocError>
-    requires { AreRising (kept_ids streams.old ++ outs.opened) }
-    ensures made { IfOk result (λ made. made ≡ tells outs) }
-    ensures items { OnOk result (items.new ≡ items.old ++ map item_to outs.mails) }
-    ensures streams { OnOk result (streams.new ≡ heard outs.opened outs.events streams.old) }
-    ensures unchanged { OnErr result ((items.new ≡ items.old) × (streams.new ≡ streams.old)) }
-    ensures post { P.known post.new ≡ P.known post.old }
-    ensures room { OnOk result (length outs.mails ≤ P.room post.new) }
-{
-    post.reserve(alloc, outs.mails.len())?;
-    let out = outgoing_to(alloc, outs.mails.as_slice())?;
-    let outputs = Outputs {
-        events: outs.events,
-        closed: outs.closed,
-        sent: out.sent,
-        taken: None,
-    };
-    keep(
-        items,
-        streams,
-        alloc,
-        out.items,
-        outs.opened.as_slice(),
-        outputs.events.as_slice(),
-    )?;
-    Ok(Made {
-        verdict: Verdict::Ok,
-        outputs,
-        durable: None,
-    })
-}
+    /// What the master brought out, kept and told, once the post has room for its mails.
+    fn tell(&mut self, alloc: Global, outs: Outs) -> Result<Made, AllocError>
+        requires { AreRising (kept_ids self.old.streams ++ outs.opened) }
+        ensures made { IfOk result (λ made. made ≡ tells outs) }
+        ensures kept { OnOk result (self.new ≡ record self.old {
+          items = self.old.items ++ map item_to outs.mails;
+          streams = heard outs.opened outs.events self.old.streams;
+          post = self.new.post;
+        }) }
+        ensures unchanged { OnErr result (self.new ≡ record self.old { post = self.new.post }) }
+        ensures post { P.known self.new.post ≡ P.known self.old.post }
+        ensures room { OnOk result (length outs.mails ≤ P.room self.new.post) }
+    {
+        self.post.reserve(alloc, outs.mails.len())?;
+        let out = outgoing_to(alloc, outs.mails.as_slice())?;
+        let outputs = Outputs {
+            events: outs.events,
+            closed: outs.closed,
+            sent: out.sent,
+            taken: None,
+        };
+        self.keep(
+            alloc,
+            out.items,
+            outs.opened.as_slice(),
+            outputs.events.as_slice(),
+        )?;
+        Ok(Made {
+            verdict: Verdict::Ok,
+            outputs,
+            durable: None,
+        })
+    }
 
-/// The master falls, for want of memory.
-pub(crate) fn fall(master: &mut Option<Master>, alloc: Global) -> Made
-    ensures made { result ≡ ends_with verdicts.OutOfMemory }
-    ensures down { master.new ≡ None }
-{
-    *master = None;
-    ends_with(alloc, Verdict::OutOfMemory)
-}
+    /// The master falls, for want of memory.
+    fn fall(&mut self, alloc: Global) -> Made
+        ensures made { result ≡ ends_with verdicts.OutOfMemory }
+        ensures down { self.new ≡ record self.old { master = None } }
+    {
+        self.master = None;
+        ends_with(alloc, Verdict::OutOfMemory)
+    }
 
-/// Keeps and tells what the master's answer brought out.
-/// Where memory was refused the master has fallen, and nothing else changes.
-pub fn settle<P: Post>(
-    master: &mut Option<Master>,
-    items: &mut Items,
-    streams: &mut Streams,
-    post: &mut P,
-    alloc: Global,
-    answer: Result<Outs, MasterFault>,
-) -> Made
-    requires { IfOk answer (λ outs. AreRising (kept_ids streams.old ++ outs.opened)) }
-    ensures settled { Settles answer result master.old master.new items.old items.new streams.old
-        streams.new }
-    ensures post { P.known post.new ≡ P.known post.old }
-    ensures room { Grows (length items.old) (length items.new) (P.room post.new) }
-{
-    match answer {
-        Ok(outs) => match tell(items, streams, post, alloc, outs) {
-            Ok(made) => made,
-            Err(_) => fall(master, alloc),
-        },
-        Err(MasterFault::Refused(refusal)) => ends_with(alloc, Verdict::MasterRefused(refusal)),
-        Err(MasterFault::OutOfMemory) => fall(master, alloc),
+    /// Keeps and tells what the master's answer brought out.
+    /// Where memory was refused the master has fallen, and nothing else changes.
+    pub(crate) fn settle(&mut self, alloc: Global, answer: Result<Outs, MasterFault>) -> Made
+        requires { IfOk answer (λ outs. AreRising (kept_ids self.old.streams ++ outs.opened)) }
+        ensures settled { Settles answer result self.old.master self.new.master self.old.items
+            self.new.items self.old.streams self.new.streams }
+        ensures post { P.known self.new.post ≡ P.known self.old.post }
+        ensures room { Grows (length self.old.items) (length self.new.items)
+            (P.room self.new.post) }
+    {
+        match answer {
+            Ok(outs) => match self.tell(alloc, outs) {
+                Ok(made) => made,
+                Err(_) => self.fall(alloc),
+            },
+            Err(MasterFault::Refused(refusal)) => ends_with(alloc, Verdict::MasterRefused(refusal)),
+            Err(MasterFault::OutOfMemory) => self.fall(alloc),
+        }
     }
 }

@@ -21,7 +21,7 @@ ghost use Rattle.master_state.specs.declared.state.Outs.{Outs as OutsSo};
 ghost use Rattle.told_streams.specs.Streams.{kept_ids};
 ghost use Rattle.told_streams.specs.declared.kept.KeptStream.{KeptStream};
 
-use crate::masters::settle;
+use crate::masters::Served;
 use agent_core::Record;
 use cluster_agents::{ClusterAgent, Items};
 use cluster_entries::Outputs;
@@ -40,11 +40,9 @@ use told_streams::Streams;
 
 /// What a cluster has at its opening, and what the opening brings out.
 #[derive(Drop)]
-pub struct Opened {
-    pub master: Option<Master>,
+pub struct Opened<P: Post> {
+    pub served: Served<P>,
     pub agents: Vec<ClusterAgent>,
-    pub items: Items,
-    pub streams: Streams,
     pub outputs: Outputs,
 }
 
@@ -105,15 +103,20 @@ fn recover_all(alloc: Global, records: &[Record]) -> Result<Vec<ClusterAgent>, A
 }
 
 /// No agent, no master, and nothing that was sent.
-fn nothing(alloc: Global) -> Opened
-    ensures items { result.items ≡ [] }
-    ensures streams { result.streams ≡ [] }
+fn nothing<P: Post>(alloc: Global) -> Opened<P>
+    ensures items { result.served.items ≡ [] }
+    ensures streams { result.served.streams ≡ [] }
+    ensures post { P.known result.served.post ≡ P.nothing }
+    ensures count { P.count P.nothing ≡ 0 }
 {
     Opened {
-        master: None,
+        served: Served {
+            master: None,
+            items: Items::new(alloc),
+            streams: Streams::new(alloc),
+            post: P::empty(),
+        },
         agents: Vec::new(alloc),
-        items: Items::new(alloc),
-        streams: Streams::new(alloc),
         outputs: Outputs {
             events: Listed::new(alloc),
             closed: Listed::new(alloc),
@@ -125,35 +128,28 @@ fn nothing(alloc: Global) -> Opened
 
 /// Agents come up over copies of these records, the first master begins this run and greets each.
 fn open_over<P: Post>(
-    opened: &mut Opened,
-    post: &mut P,
+    opened: &mut Opened<P>,
     alloc: Global,
     config: &Config,
     records: &[Record],
     run: Run,
 ) -> Result<(), ClusterFault>
-    requires items { opened.old.items ≡ [] }
-    requires streams { opened.old.streams ≡ [] }
+    requires items { opened.old.served.items ≡ [] }
+    requires streams { opened.old.served.streams ≡ [] }
     requires good { GoodOpening run records.now }
     requires agents { AreAgentsOf config.now records.now }
     ensures opens { (weights : List RoleWeight) → OnOk result
         (Opens (record { run = run; weights = weights }) records.now opened.new) }
     ensures refused { IfErr result (λ fault. fault ≡ OutOfMemory) }
-    ensures post { P.known post.new ≡ P.known post.old }
-    ensures room { OnOk result (length opened.new.items ≤ P.room post.new) }
+    ensures post { P.known opened.new.served.post ≡ P.known opened.old.served.post }
+    ensures room { OnOk result
+        (length opened.new.served.items ≤ P.room opened.new.served.post) }
 {
     openings_are_made();
     let agents = recover_all(alloc, records)?;
     opened.agents = agents;
-    let answer = start_in(&mut opened.master, alloc, config, run);
-    let made = settle(
-        &mut opened.master,
-        &mut opened.items,
-        &mut opened.streams,
-        post,
-        alloc,
-        answer,
-    );
+    let answer = start_in(&mut opened.served.master, alloc, config, run);
+    let made = opened.served.settle(alloc, answer);
     opened.outputs = made.outputs;
     match made.verdict {
         Verdict::Ok => Ok(()),
@@ -164,22 +160,23 @@ fn open_over<P: Post>(
 /// What a cluster of these agents has at its opening: they come up over copies of the records, and
 /// the first master begins this run and greets each. The post has room for the greetings. Of its
 /// faults there is `C9 OutOfMemory` alone.
-pub fn open_parts<P: Post>(
-    post: &mut P,
+pub fn open_parts<P: Post + Drop>(
     alloc: Global,
     config: &Config,
     records: &[Record],
     run: Run,
-) -> Result<Opened, ClusterFault>
+) -> Result<Opened<P>, ClusterFault>
     requires good { GoodOpening run records.now }
     requires agents { AreAgentsOf config.now records.now }
     ensures opens { (weights : List RoleWeight) →
         IfOk result (Opens (record { run = run; weights = weights }) records.now) }
     ensures refused { IfErr result (λ fault. fault ≡ OutOfMemory) }
-    ensures post { P.known post.new ≡ P.known post.old }
-    ensures room { IfOk result (λ opened. length opened.items ≤ P.room post.new) }
+    ensures post { IfOk result (λ opened. P.known opened.served.post ≡ P.nothing) }
+    ensures count { P.count P.nothing ≡ 0 }
+    ensures room { IfOk result
+        (λ opened. length opened.served.items ≤ P.room opened.served.post) }
 {
     let mut opened = nothing(alloc);
-    open_over(&mut opened, post, alloc, config, records, run)?;
+    open_over(&mut opened, alloc, config, records, run)?;
     Ok(opened)
 }

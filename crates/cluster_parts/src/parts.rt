@@ -5,38 +5,34 @@ ghost use Rattle.cluster_agents.specs.Handing.{IsGiven};
 ghost use Rattle.cluster_parts.specs.Parts.{AllMayRefuse, AllTakeBy, AreParts, ArePartsBy, Same};
 ghost use Rattle.cluster_parts.specs.Posts.{Grows};
 
-use cluster_agents::{ClusterAgent, Items, Made};
+use crate::masters::Served;
+use cluster_agents::{ClusterAgent, Made};
 use cluster_steps::{ClusterFault, Keep, Step};
-use master_core::{Config, Master};
+use master_core::Config;
 use names_core::Run;
 use post_rules::Post;
 use role_weights::Weights;
 use std::alloc::Global;
-use told_streams::Streams;
 
 /// What a cluster is made of at a time.
 #[derive(Drop)]
-pub struct Parts {
+pub struct Parts<P: Post> {
     /// The agents as the master is configured with them.
     pub config: Config,
-    /// None where no master serves.
-    pub master: Option<Master>,
+    pub served: Served<P>,
     pub agents: Vec<ClusterAgent>,
-    pub items: Items,
-    pub streams: Streams,
     /// The master's run, or the last one's where none serves.
     pub run: Run,
     /// The moment of the last Tick, in seconds; 0 before the first.
     pub last_tick: u32,
 }
 
-impl Parts {
+impl<P: Post> Parts<P> {
     /// Takes a step; a round of offers goes by these weights of roles. The post has room for what
     /// the step sends. Of several refusals the first is given in the order C8, C2, C3, C4, C5, C1,
     /// C7; C9, for want of memory, may come before any.
-    pub fn take_step<P: Post>(
+    pub fn take_step(
         &mut self,
-        post: &mut P,
         alloc: Global,
         weights: &Weights,
         step: &Step,
@@ -46,27 +42,29 @@ impl Parts {
         ensures made { IfOk result
             (AllTakeBy weights.now self.old step.now self.new) }
         ensures refused { IfErr result
-            (AllMayRefuse (P.gives (P.known post.old)) self.old step.now) }
+            (AllMayRefuse (P.gives (P.known self.old.served.post)) self.old step.now) }
         ensures unchanged { OnErr result (Same self.old self.new) }
         ensures config { self.new.config ≡ self.old.config }
-        ensures post { P.known post.new ≡ P.known post.old }
-        ensures room { Grows (length self.old.items) (length self.new.items) (P.room post.new) }
-        ensures given { IfOk result (λ _. IsGiven (P.gives (P.known post.old)) step.now) }
+        ensures post { P.known self.new.served.post ≡ P.known self.old.served.post }
+        ensures room { Grows (length self.old.served.items) (length self.new.served.items)
+            (P.room self.new.served.post) }
+        ensures given { IfOk result
+            (λ _. IsGiven (P.gives (P.known self.old.served.post)) step.now) }
     {
         match step {
-            Step::Send { stream, call } => self.send(post, alloc, *stream, call),
-            Step::Deliver(number) => self.deliver(post, alloc, *number),
-            Step::Allocate => self.allocate(post, alloc, weights),
-            Step::Tick(now) => self.tick(post, alloc, *now),
-            Step::LoseAgent(agent) => self.lose_agent(post, alloc, agent),
-            Step::HangUp(stream) => self.hang_up(post, alloc, *stream),
-            Step::Prepare { agent, cause } => self.prepare(post, alloc, agent, cause),
-            Step::Commit(agent) => self.commit(post, alloc, agent),
+            Step::Send { stream, call } => self.send(alloc, *stream, call),
+            Step::Deliver(number) => self.deliver(alloc, *number),
+            Step::Allocate => self.allocate(alloc, weights),
+            Step::Tick(now) => self.tick(alloc, *now),
+            Step::LoseAgent(agent) => self.lose_agent(alloc, agent),
+            Step::HangUp(stream) => self.hang_up(alloc, *stream),
+            Step::Prepare { agent, cause } => self.prepare(alloc, agent, cause),
+            Step::Commit(agent) => self.commit(alloc, agent),
             Step::StopAgent { agent, keep } => match keep {
                 Keep::Before => self.stop_before(alloc, agent),
                 Keep::After => self.stop_after(alloc, agent),
             },
-            Step::StopMaster => Ok(self.stop_master(post, alloc)),
+            Step::StopMaster => Ok(self.stop_master(alloc)),
             Step::Take(stream) => self.take(alloc, *stream),
         }
     }

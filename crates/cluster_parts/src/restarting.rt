@@ -23,7 +23,6 @@ ghost use Rattle.master_state.specs.declared.state.Outs.{Outs};
 ghost use Rattle.told_streams.specs.Streams.{kept_ids};
 ghost use Rattle.told_streams.specs.declared.kept.KeptStream.{KeptStream};
 
-use crate::masters::settle;
 use crate::opening::start_in;
 use crate::parts::Parts;
 use cluster_agents::{Made, ends_with};
@@ -84,33 +83,27 @@ fn run_behind(run: Run) -> Option<Run>
     }
 }
 
-impl Parts {
+impl<P: Post> Parts<P> {
     /// The master stops: every stream closes untold, and what waits on it can still be taken. A new
     /// one begins the next run, with the agents of the configuration, and greets each. Behind the
     /// last run, 65,535, none comes, and none where memory is refused. It is never refused.
-    pub(crate) fn stop_master<P: Post>(&mut self, post: &mut P, alloc: Global) -> Made
+    pub(crate) fn stop_master(&mut self, alloc: Global) -> Made
         requires { AreParts self.old }
         ensures made { AllTake self.old StopMaster self.new result }
         ensures config { self.new.config ≡ self.old.config }
-        ensures post { P.known post.new ≡ P.known post.old }
-        ensures room { Grows (length self.old.items) (length self.new.items) (P.room post.new) }
+        ensures post { P.known self.new.served.post ≡ P.known self.old.served.post }
+        ensures room { Grows (length self.old.served.items) (length self.new.served.items)
+            (P.room self.new.served.post) }
     {
         restarts_are_made();
         match run_behind(self.run) {
             Some(next) => {
                 self.run = next;
-                let answer = start_in(&mut self.master, alloc, &self.config, next);
-                settle(
-                    &mut self.master,
-                    &mut self.items,
-                    &mut self.streams,
-                    post,
-                    alloc,
-                    answer,
-                )
+                let answer = start_in(&mut self.served.master, alloc, &self.config, next);
+                self.served.settle(alloc, answer)
             }
             None => {
-                self.master = None;
+                self.served.master = None;
                 ends_with(alloc, Verdict::Ok)
             }
         }

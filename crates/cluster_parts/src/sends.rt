@@ -97,12 +97,11 @@ fn first_waiting(streams: &Streams, id: StreamId) -> Result<Event, ClusterFault>
     }
 }
 
-impl Parts {
+impl<P: Post> Parts<P> {
     /// A framework sends a call, on a stream or on none; the stream may be one that was never
     /// opened. The post has room for the call. It is refused with `C9 OutOfMemory` alone.
-    pub(crate) fn send<P: Post>(
+    pub(crate) fn send(
         &mut self,
-        post: &mut P,
         alloc: Global,
         stream: Option<StreamId>,
         call: &Shared<SentCall>,
@@ -111,14 +110,15 @@ impl Parts {
         ensures memory { IfErr result (λ fault. fault ≡ OutOfMemory) }
         ensures unchanged { OnErr result (Same self.old self.new) }
         ensures config { self.new.config ≡ self.old.config }
-        ensures post { P.known post.new ≡ P.known post.old }
-        ensures room { Grows (length self.old.items) (length self.new.items) (P.room post.new) }
+        ensures post { P.known self.new.served.post ≡ P.known self.old.served.post }
+        ensures room { Grows (length self.old.served.items) (length self.new.served.items)
+            (P.room self.new.served.post) }
     {
         sends_are_made();
         let more = list_of_one(alloc, Item::Call(stream, call.share()?))?;
         let sent = list_of_one(alloc, Sent::Call)?;
-        post.reserve(alloc, 1)?;
-        self.items.append(more)?;
+        self.served.post.reserve(alloc, 1)?;
+        self.served.items.append(more)?;
         Ok(made_sending(alloc, sent))
     }
 
@@ -129,12 +129,13 @@ impl Parts {
         ensures refused { IfErr result (AllRefuse self.old (Take id)) }
         ensures unchanged { OnErr result (Same self.old self.new) }
         ensures config { self.new.config ≡ self.old.config }
-        ensures items { length self.new.items ≡ length self.old.items }
+        ensures items { self.new.served.items ≡ self.old.served.items }
+        ensures post { self.new.served.post ≡ self.old.served.post }
     {
         takes_are_made();
-        let event = first_waiting(&self.streams, id)?;
+        let event = first_waiting(&self.served.streams, id)?;
         let outputs = taking(alloc, id, event)?;
-        match self.streams.take(id) {
+        match self.served.streams.take(id) {
             Some(_) => Ok(Made {
                 verdict: Verdict::Ok,
                 outputs,

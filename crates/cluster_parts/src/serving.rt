@@ -10,7 +10,6 @@ ghost use Rattle.cluster_steps.specs.declared.step.Step.TheVariants.{Allocate, D
 
 use crate::doings::masters_do_their_steps;
 use crate::master_laws::answers_are_made;
-use crate::masters::settle;
 use crate::parts::Parts;
 use cluster_agents::{ClusterAgent, Made, place_of};
 use cluster_laws::items_are_posts;
@@ -29,13 +28,12 @@ fn is_known(agents: &[ClusterAgent], name: &AgentName) -> bool
     place_of(agents, name).is_some()
 }
 
-impl Parts {
+impl<P: Post> Parts<P> {
     /// The master makes a round of offers by the weights of roles. It is refused with
     /// `C2 MasterDown` where no master serves. A master that runs out of memory in the step is
     /// down.
-    pub(crate) fn allocate<P: Post>(
+    pub(crate) fn allocate(
         &mut self,
-        post: &mut P,
         alloc: Global,
         weights: &Weights,
     ) -> Result<Made, ClusterFault>
@@ -44,45 +42,35 @@ impl Parts {
         ensures refused { IfErr result (AllRefuse self.old Allocate) }
         ensures unchanged { OnErr result (Same self.old self.new) }
         ensures config { self.new.config ≡ self.old.config }
-        ensures post { P.known post.new ≡ P.known post.old }
-        ensures room { Grows (length self.old.items) (length self.new.items) (P.room post.new) }
+        ensures post { P.known self.new.served.post ≡ P.known self.old.served.post }
+        ensures room { Grows (length self.old.served.items) (length self.new.served.items)
+            (P.room self.new.served.post) }
     {
         answers_are_made();
         masters_do_their_steps();
-        let Some(serving) = &mut self.master else {
+        let Some(serving) = &mut self.served.master else {
             return Err(ClusterFault::MasterDown);
         };
         let answer = serving.allocate(alloc, weights);
-        Ok(settle(
-            &mut self.master,
-            &mut self.items,
-            &mut self.streams,
-            post,
-            alloc,
-            answer,
-        ))
+        Ok(self.served.settle(alloc, answer))
     }
 
     /// The master's moment is this one, in seconds. It is refused with `C2 MasterDown` where no
     /// master serves, else with `C7 TimeBack` where it lies before the last one. A master that runs
     /// out of memory in the step is down.
-    pub(crate) fn tick<P: Post>(
-        &mut self,
-        post: &mut P,
-        alloc: Global,
-        now: u32,
-    ) -> Result<Made, ClusterFault>
+    pub(crate) fn tick(&mut self, alloc: Global, now: u32) -> Result<Made, ClusterFault>
         requires { AreParts self.old }
         ensures made { IfOk result (AllTake self.old (Tick now) self.new) }
         ensures refused { IfErr result (AllRefuse self.old (Tick now)) }
         ensures unchanged { OnErr result (Same self.old self.new) }
         ensures config { self.new.config ≡ self.old.config }
-        ensures post { P.known post.new ≡ P.known post.old }
-        ensures room { Grows (length self.old.items) (length self.new.items) (P.room post.new) }
+        ensures post { P.known self.new.served.post ≡ P.known self.old.served.post }
+        ensures room { Grows (length self.old.served.items) (length self.new.served.items)
+            (P.room self.new.served.post) }
     {
         answers_are_made();
         masters_do_their_steps();
-        let Some(serving) = &mut self.master else {
+        let Some(serving) = &mut self.served.master else {
             return Err(ClusterFault::MasterDown);
         };
         if now < self.last_tick {
@@ -90,94 +78,68 @@ impl Parts {
         }
         let answer = serving.tick(alloc, now);
         self.last_tick = now;
-        Ok(settle(
-            &mut self.master,
-            &mut self.items,
-            &mut self.streams,
-            post,
-            alloc,
-            answer,
-        ))
+        Ok(self.served.settle(alloc, answer))
     }
 
     /// A call that was sent under a number comes to the master.
-    pub(crate) fn deliver_call<P: Post>(
+    pub(crate) fn deliver_call(
         &mut self,
-        post: &mut P,
         alloc: Global,
         number: u64,
         stream: Option<StreamId>,
         call: Call,
     ) -> Result<Made, ClusterFault>
         requires parts { AreParts self.old }
-        requires sent { item_at number self.old.items ≡ Some (sent.Call stream call) }
+        requires sent { item_at number self.old.served.items ≡ Some (sent.Call stream call) }
         ensures made { IfOk result (AllTake self.old (Deliver number) self.new) }
         ensures refused { IfErr result (AllRefuse self.old (Deliver number)) }
         ensures unchanged { OnErr result (Same self.old self.new) }
         ensures config { self.new.config ≡ self.old.config }
-        ensures post { P.known post.new ≡ P.known post.old }
-        ensures room { Grows (length self.old.items) (length self.new.items) (P.room post.new) }
+        ensures post { P.known self.new.served.post ≡ P.known self.old.served.post }
+        ensures room { Grows (length self.old.served.items) (length self.new.served.items)
+            (P.room self.new.served.post) }
     {
         answers_are_made();
         items_are_posts();
         masters_do_their_steps();
-        let Some(serving) = &mut self.master else {
+        let Some(serving) = &mut self.served.master else {
             return Err(ClusterFault::MasterDown);
         };
         let answer = serving.call(alloc, stream, call);
-        Ok(settle(
-            &mut self.master,
-            &mut self.items,
-            &mut self.streams,
-            post,
-            alloc,
-            answer,
-        ))
+        Ok(self.served.settle(alloc, answer))
     }
 
     /// A framework hangs a stream up. It is refused with `C2 MasterDown` where no master serves,
     /// else with `C1 NoSuchMail` where the stream was never opened. A master that runs out of
     /// memory in the step is down.
-    pub(crate) fn hang_up<P: Post>(
-        &mut self,
-        post: &mut P,
-        alloc: Global,
-        id: StreamId,
-    ) -> Result<Made, ClusterFault>
+    pub(crate) fn hang_up(&mut self, alloc: Global, id: StreamId) -> Result<Made, ClusterFault>
         requires { AreParts self.old }
         ensures made { IfOk result (AllTake self.old (HangUp id) self.new) }
         ensures refused { IfErr result (AllRefuse self.old (HangUp id)) }
         ensures unchanged { OnErr result (Same self.old self.new) }
         ensures config { self.new.config ≡ self.old.config }
-        ensures post { P.known post.new ≡ P.known post.old }
-        ensures room { Grows (length self.old.items) (length self.new.items) (P.room post.new) }
+        ensures post { P.known self.new.served.post ≡ P.known self.old.served.post }
+        ensures room { Grows (length self.old.served.items) (length self.new.served.items)
+            (P.room self.new.served.post) }
     {
         answers_are_made();
         kept_streams_are_found();
         masters_do_their_steps();
-        let Some(serving) = &mut self.master else {
+        let Some(serving) = &mut self.served.master else {
             return Err(ClusterFault::MasterDown);
         };
-        if !self.streams.has(id) {
+        if !self.served.streams.has(id) {
             return Err(ClusterFault::NoSuchMail);
         }
         let answer = serving.hang_up(alloc, id);
-        Ok(settle(
-            &mut self.master,
-            &mut self.items,
-            &mut self.streams,
-            post,
-            alloc,
-            answer,
-        ))
+        Ok(self.served.settle(alloc, answer))
     }
 
     /// The master takes an agent for lost. It is refused with `C8 NoSuchAgent` where no agent of
     /// this name is configured, else with `C2 MasterDown` where no master serves. A master that
     /// runs out of memory in the step is down.
-    pub(crate) fn lose_agent<P: Post>(
+    pub(crate) fn lose_agent(
         &mut self,
-        post: &mut P,
         alloc: Global,
         name: &AgentName,
     ) -> Result<Made, ClusterFault>
@@ -186,25 +148,19 @@ impl Parts {
         ensures refused { IfErr result (AllRefuse self.old (LoseAgent name.now)) }
         ensures unchanged { OnErr result (Same self.old self.new) }
         ensures config { self.new.config ≡ self.old.config }
-        ensures post { P.known post.new ≡ P.known post.old }
-        ensures room { Grows (length self.old.items) (length self.new.items) (P.room post.new) }
+        ensures post { P.known self.new.served.post ≡ P.known self.old.served.post }
+        ensures room { Grows (length self.old.served.items) (length self.new.served.items)
+            (P.room self.new.served.post) }
     {
         answers_are_made();
         masters_do_their_steps();
         if !is_known(self.agents.as_slice(), name) {
             return Err(ClusterFault::NoSuchAgent);
         }
-        let Some(serving) = &mut self.master else {
+        let Some(serving) = &mut self.served.master else {
             return Err(ClusterFault::MasterDown);
         };
         let answer = serving.lose_agent(alloc, name);
-        Ok(settle(
-            &mut self.master,
-            &mut self.items,
-            &mut self.streams,
-            post,
-            alloc,
-            answer,
-        ))
+        Ok(self.served.settle(alloc, answer))
     }
 }

@@ -1,6 +1,6 @@
 //! Agents stop, and are up again.
 
-ghost use Rattle.std.specs.Prelude.{◌≡◌, length, IfOk, IfErr, OnErr};
+ghost use Rattle.std.specs.Prelude.{◌≡◌, IfOk, IfErr, OnErr};
 ghost use Rattle.cluster_parts.specs.Parts.{AllRefuse, AllTake, Same};
 ghost use Rattle.cluster_steps.specs.declared.step.Step.TheVariants.{StopAgent};
 ghost use Rattle.cluster_steps.specs.declared.step.Keep.TheVariants.{After, Before};
@@ -9,9 +9,10 @@ use crate::parts::Parts;
 use cluster_agents::{Made, ends_with, found, stops_are_made};
 use cluster_steps::{ClusterFault, Verdict};
 use names_core::AgentName;
+use post_rules::Post;
 use std::alloc::Global;
 
-impl Parts {
+impl<P: Post> Parts<P> {
     /// The agent stops, and is up again over its record; an open draft is gone.
     /// It is refused with `C8 NoSuchAgent` alone.
     pub(crate) fn stop_before(
@@ -23,7 +24,7 @@ impl Parts {
         ensures refused { IfErr result (AllRefuse self.old (StopAgent name.now Before)) }
         ensures unchanged { OnErr result (Same self.old self.new) }
         ensures config { self.new.config ≡ self.old.config }
-        ensures items { length self.new.items ≡ length self.old.items }
+        ensures served { self.new.served ≡ self.old.served }
     {
         stops_are_made();
         let place = found(self.agents.as_slice(), name)?;
@@ -43,7 +44,7 @@ impl Parts {
         ensures refused { IfErr result (AllRefuse self.old (StopAgent name.now After)) }
         ensures unchanged { OnErr result (Same self.old self.new) }
         ensures config { self.new.config ≡ self.old.config }
-        ensures items { length self.new.items ≡ length self.old.items }
+        ensures served { self.new.served ≡ self.old.served }
     {
         stops_are_made();
         let place = found(self.agents.as_slice(), name)?;

@@ -23,21 +23,21 @@ impl<P: Post + Drop> Cluster<P> {
     pub fn sent_count(&self) -> usize
         ensures { result ≡ length (state_of self.now.story).posts }
     {
-        self.parts.items.as_slice().len()
+        self.parts.served.items.as_slice().len()
     }
 
     /// How many events wait on a stream; None for one that was never opened.
     pub fn waiting_on(&self, stream: StreamId) -> Option<usize>
         ensures { result ≡ waiting_in stream (state_of self.now.story) }
     {
-        self.parts.streams.count(stream)
+        self.parts.served.streams.count(stream)
     }
 
     /// Whether a stream is a framework's open one.
     pub fn is_open(&self, stream: StreamId) -> bool
         ensures { result ≡ is_open_in stream (state_of self.now.story) }
     {
-        match &self.parts.master {
+        match &self.parts.served.master {
             Some(master) => master.is_open(stream),
             None => false,
         }
@@ -55,7 +55,10 @@ impl Cluster<Queues> {
         agents_keep_their_names();
         items_are_posts();
         let place = place_in(self.parts.config.agents(), agent)?;
-        self.post.first_waiting(Direction::ToAgent(place))
+        self.parts
+            .served
+            .post
+            .first_waiting(Direction::ToAgent(place))
     }
 
     /// The number of the first mail from an agent to the master that wasn't handed out,
@@ -69,6 +72,9 @@ impl Cluster<Queues> {
         agents_keep_their_names();
         items_are_posts();
         let place = place_in(self.parts.config.agents(), agent)?;
-        self.post.first_waiting(Direction::FromAgent(place))
+        self.parts
+            .served
+            .post
+            .first_waiting(Direction::FromAgent(place))
     }
 }

@@ -1,9 +1,10 @@
-use Rattle.std.proofs.Common.{◌≡◌, ◌∙◌, List, ap, length, refl, subst}
+use Rattle.std.proofs.Common.{◌≡◌, ◌∙◌, List, ap, length, refl, subst, sym}
 use Rattle.agent_sides.specs.declared.config.ConfiguredAgent.{ConfiguredAgent}
 use Rattle.cluster_laws.specs.Premises.{AreRecorded}
 use Rattle.cluster_laws.specs.declared.item.Item.{Item}
 use Rattle.cluster_histories.specs.Steps.{Setup}
 use Rattle.cluster_parts.specs.Opening.{Opens}
+use Rattle.cluster_parts.specs.declared.masters.Served.{Served}
 use Rattle.mails.specs.declared.record.Durable.{Durable}
 use Rattle.cluster_core.specs.Putting.{ArePut}
 use Rattle.cluster_core.proofs.Telling.{opens_so}
@@ -13,12 +14,14 @@ pub invariant_of-result : goal.invariant_of-result
 invariant_of-result g c =
     let records = c.put_in_order-records.result.items in
     let opened = c.in_ok-opened.opened in
-    let ways = g.P.Post.direction_at (g.P.Post.known c.put_all.new.post) in
+    let moved = c.put_sent.ensures.kept in
+    let ways = g.P.Post.direction_at (g.P.Post.known c.put_sent.new.served.post) in
     let recorded : AreRecorded records = subst AreRecorded c.as_slice.ensures.value c.records_are_recorded.ensures in
     let setup : Setup = record { run = c.args.run; weights = c.args.weights } in
     let opens : Opens setup records opened = subst (λ (rs : List Durable). Opens setup rs opened) c.as_slice-2.ensures.value (c.in_ok-opened.ensures.opens c.args.weights) in
-    let count : g.P.Post.count (g.P.Post.known c.put_all.new.post) ≡ length opened.items = c.put_all.ensures.count ∙ ap length c.as_slice-3.ensures in
-    let put : ArePut 0 c.args.config opened.items ways =
-    subst (λ (items : List Item). ArePut 0 c.args.config items ways) c.as_slice-3.ensures
-    (subst (λ (agents : List ConfiguredAgent). ArePut 0 agents c.as_slice-3.result.now ways) c.agents.ensures.agents c.put_all.ensures.put) in
-    opens_so setup records c.new.result.items _ _ opened _ _ c.new.ensures.items c.put_in_order-records.ensures.good recorded opens c.put_in_order-records.ensures.agents refl refl refl refl refl refl refl count put
+    let items : c.put_sent.new.served.items ≡ opened.served.items = ap (λ (x : Served _). x.items) moved in
+    let put : ArePut 0 c.args.config opened.served.items ways =
+    subst (λ (agents : List ConfiguredAgent). ArePut 0 agents opened.served.items ways) c.agents.ensures.agents c.put_sent.ensures.put in
+    opens_so setup records c.new.result.items _ _ opened _ _ c.new.ensures.items c.put_in_order-records.ensures.good recorded opens c.put_in_order-records.ensures.agents refl
+    (ap (λ (x : Served _). x.master) moved) items (ap (λ (x : Served _). x.streams) moved) refl refl refl (c.put_sent.ensures.count ∙ ap length (sym items))
+    (subst (λ (xs : List Item). ArePut 0 c.args.config xs ways) (sym items) put)

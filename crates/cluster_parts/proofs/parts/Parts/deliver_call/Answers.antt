@@ -9,10 +9,10 @@ settle-requires g c =
     let s = c.requires.parts.0 in
     let of = c.requires.parts.1 in
     serve_rise c.answers_are_made.ensures.rise s (Deliver c.args.number) s.last_tick (λ m. called m c.args.stream c.args.call) c.in-Some.serving c.call-answer.new.self c.call-answer.result c.args.self.now of c.in-Some.is
-    (λ serves. c.masters_do_their_steps.ensures.calls s c.args.number c.args.stream c.args.call serves (post_of_call c.items_are_posts.ensures.calls s c.args.self.now.items c.args.number c.args.stream c.args.call of.stands.as_others.as_items c.requires.sent)) c.call-answer.ensures
+    (λ serves. c.masters_do_their_steps.ensures.calls s c.args.number c.args.stream c.args.call serves (post_of_call c.items_are_posts.ensures.calls s c.args.self.now.served.items c.args.number c.args.stream c.args.call of.stands.as_others.as_items c.requires.sent)) c.call-answer.ensures
 
 pub returns-clause-made : goal.returns-clause-made
 returns-clause-made g c = λ s of.
     serve_takes c.answers_are_made.ensures.made s (Deliver c.args.number) s.last_tick (λ m. called m c.args.stream c.args.call) c.in-Some.serving c.call-answer.new.self c.call-answer.result c.settle.result c.args.self.now _ of c.in-Some.is
-    (λ serves. c.masters_do_their_steps.ensures.calls s c.args.number c.args.stream c.args.call serves (post_of_call c.items_are_posts.ensures.calls s c.args.self.now.items c.args.number c.args.stream c.args.call of.stands.as_others.as_items c.requires.sent))
+    (λ serves. c.masters_do_their_steps.ensures.calls s c.args.number c.args.stream c.args.call serves (post_of_call c.items_are_posts.ensures.calls s c.args.self.now.served.items c.args.number c.args.stream c.args.call of.stands.as_others.as_items c.requires.sent))
     c.call-answer.ensures c.settle.ensures.settled refl refl (sym of.stands.as_moment) refl

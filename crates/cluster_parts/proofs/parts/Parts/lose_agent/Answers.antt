@@ -12,9 +12,9 @@ returns-then-not-is_known-clause-refused g c = λ s of. unknown_agent s c.as_sli
 pub returns-in_default-clause-refused : goal.returns-in_default-clause-refused
 returns-in_default-clause-refused g c = λ s of.
     let p = c.args.self.now in
-    let none : p.master ≡ None = search rules in
+    let none : p.served.master ≡ None = search rules in
     let x = known_agent s c.as_slice.result.now c.args.name.now (c.as_slice.ensures.value ∙ of.stands.as_agents) (sym c.is_known.ensures ∙ c.if-not-is_known.false) in
-    loses_without_master s x.0 c.args.name.now p.items p.streams x.1 (subst (λ (m : Option (Option Master)). StandsFor s m p.items p.streams) none of.stands.as_others)
+    loses_without_master s x.0 c.args.name.now p.served.items p.served.streams x.1 (subst (λ (m : Option (Option Master)). StandsFor s m p.served.items p.served.streams) none of.stands.as_others)
 
 pub settle-requires : goal.settle-requires
 settle-requires g c =
