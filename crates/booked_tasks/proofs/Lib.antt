@@ -1,3 +1,2 @@
 pub mod Rising
-pub mod Spans
 pub mod Sums

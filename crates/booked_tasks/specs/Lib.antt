@@ -1,3 +1,2 @@
 pub mod Tasks
-pub mod Spans
 pub mod Used

@@ -12,6 +12,9 @@ has_tasks_of framework bs = list_any (λ b. same b.job.framework framework) bs
 abbrev pub has_key : Numbered → Booked → Bool
 has_key key b = same b.job.key key
 
+abbrev pub key_of : Booked → Numbered
+key_of b = b.job.key
+
 -- its end is acknowledged by this: it has ended,
 -- and the last update that was heard of is this one and terminal
 abbrev pub is_acknowledged : Numbered → ℕ → Booked → Bool

@@ -1,7 +1,7 @@
 //! Ids, compared.
 
 ghost use Rattle.std.specs.Prelude.{◌≡◌};
-ghost use Rattle.cluster_model.specs.Ids.{same, before};
+ghost use Rattle.cluster_model.specs.Ids.{same};
 
 use names_core::{FrameworkId, LaunchKey};
 
@@ -16,10 +16,4 @@ pub(crate) fn is_same_launch(key: LaunchKey, other: LaunchKey) -> bool
     ensures { result ≡ same key other }
 {
     key.number() == other.number() && key.run() == other.run()
-}
-
-pub(crate) fn is_before(key: LaunchKey, other: LaunchKey) -> bool
-    ensures { result ≡ before key other }
-{
-    key.run() < other.run() || (key.run() == other.run() && key.number() < other.number())
 }

@@ -3,7 +3,6 @@
 #![tactic(auto)]
 
 mod ids;
-mod span;
 mod tasks;
 mod used;
 

@@ -5,13 +5,13 @@ ghost use Rattle.cluster_model.specs.Sides.{heard_update, forget, forget_all};
 ghost use Rattle.std.specs.List.{find, list_any};
 ghost use Rattle.std.specs.Option.{option_copied};
 ghost use Rattle.cluster_model.specs.Ids.{same};
-ghost use Rattle.booked_tasks.specs.Tasks.{has_tasks_of, has_key, ended, is_acknowledged, is_gone};
-ghost use Rattle.booked_tasks.specs.Spans.{AreRisingIfTold, IsSpan};
+ghost use Rattle.id_spans.specs.Spans.{AreRisingIfTold, IsSpan};
+ghost use Rattle.booked_tasks.specs.Tasks.{has_tasks_of, has_key, key_of, ended, is_acknowledged, is_gone};
 ghost use Rattle.booked_tasks.specs.Used.{IsSum};
 
 use crate::ids::{is_same_framework, is_same_launch};
-use crate::span::{Span, are_rising, goes_on_rising, span_of};
 use crate::used;
+use id_spans::{Span, are_rising, goes_on_rising, span_of};
 use listed::Listed;
 use mails::{Booked, Command};
 use names_core::{FrameworkId, LaunchKey, TaskState};
@@ -33,7 +33,8 @@ pub struct Tasks {
 impl Model for Tasks {
     ghost use Rattle.std.specs.Prelude.{List};
     ghost use Rattle.mails.specs.declared.task.Booked.{Booked};
-    ghost use Rattle.booked_tasks.specs.Spans.{AreRisingIfTold};
+    ghost use Rattle.id_spans.specs.Spans.{AreRisingIfTold};
+    ghost use Rattle.booked_tasks.specs.Tasks.{key_of};
     ghost use Rattle.booked_tasks.specs.Used.{IsSumIfKnown};
 
     ghost Value = { List Booked };
@@ -41,7 +42,7 @@ impl Model for Tasks {
     ghost view = { λ tasks. tasks.items.items };
 
     ghost invariant = { λ tasks. IsSumIfKnown tasks.sum tasks.items.items
-        × AreRisingIfTold tasks.are_rising tasks.items.items };
+        × AreRisingIfTold key_of tasks.are_rising tasks.items.items };
 }
 
 fn has_key(task: &Booked, key: LaunchKey) -> bool
@@ -164,14 +165,14 @@ fn forget_of(tasks: &mut Vec<Booked>, framework: FrameworkId)
 }
 
 fn forget_by(tasks: &mut Vec<Booked>, are_rising: bool, command: &Command)
-    requires { AreRisingIfTold are_rising tasks.old.items }
+    requires { AreRisingIfTold key_of are_rising tasks.old.items }
     ensures forgotten { tasks.new.items ≡ forget command.now tasks.old.items }
-    ensures rising { AreRisingIfTold are_rising tasks.new.items }
+    ensures rising { AreRisingIfTold key_of are_rising tasks.new.items }
 {
     match command {
         Command::Launch(..) | Command::Kill(_) => {}
         Command::Ack(key, k) => {
-            let span = span_of(tasks, are_rising, *key);
+            let span = span_of(tasks, are_rising, key);
             take_out(tasks, span, *key, Some(*k));
         }
         Command::EndFramework(framework) => forget_of(tasks, *framework),
@@ -179,9 +180,9 @@ fn forget_by(tasks: &mut Vec<Booked>, are_rising: bool, command: &Command)
 }
 
 fn forget_all(tasks: &mut Vec<Booked>, are_rising: bool, commands: &[Command])
-    requires { AreRisingIfTold are_rising tasks.old.items }
+    requires { AreRisingIfTold key_of are_rising tasks.old.items }
     ensures forgotten { tasks.new.items ≡ forget_all commands.now tasks.old.items }
-    ensures rising { AreRisingIfTold are_rising tasks.new.items }
+    ensures rising { AreRisingIfTold key_of are_rising tasks.new.items }
 {
     for command in commands {
         forget_by(tasks, are_rising, command);
@@ -233,7 +234,7 @@ impl Tasks {
         ensures found { find (has_key key) result.now ≡ find (has_key key) self.now }
         ensures any { list_any (has_key key) result.now ≡ list_any (has_key key) self.now }
     {
-        let span = span_of(&self.items, self.are_rising, key);
+        let span = span_of(&self.items, self.are_rising, &key);
         &self.items[span.from..span.to]
     }
 
@@ -278,7 +279,7 @@ impl Tasks {
     pub fn end(&mut self, key: LaunchKey)
         ensures { self.new ≡ map (ended key) self.old }
     {
-        let span = span_of(&self.items, self.are_rising, key);
+        let span = span_of(&self.items, self.are_rising, &key);
         self.sum = used::without_key(self.sum.take(), &self.items, span, key);
         end_in(&mut self.items, span, key);
     }
@@ -287,7 +288,7 @@ impl Tasks {
     pub fn forget(&mut self, key: LaunchKey)
         ensures { self.new ≡ filter (λ b. not (has_key key b)) self.old }
     {
-        let span = span_of(&self.items, self.are_rising, key);
+        let span = span_of(&self.items, self.are_rising, &key);
         self.sum = used::without_key(self.sum.take(), &self.items, span, key);
         take_out(&mut self.items, span, key, None);
     }
@@ -299,7 +300,7 @@ impl Tasks {
             ≡ map (heard_update update.now.key update.now.k update.now.state update.now.ended)
             self.old }
     {
-        let span = span_of(&self.items, self.are_rising, update.key);
+        let span = span_of(&self.items, self.are_rising, &update.key);
         self.sum = used::after_update(self.sum.take(), &self.items, span, update);
         hear_in(&mut self.items, span, update);
     }

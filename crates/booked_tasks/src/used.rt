@@ -5,13 +5,13 @@ ghost use Rattle.std.specs.List.{list_any};
 ghost use Rattle.mails.specs.declared.task.Booked.{Booked};
 ghost use Rattle.names_core.specs.declared.state.TaskState.{TaskState};
 ghost use Rattle.cluster_model.specs.Sides.{heard_update, forget_all};
+ghost use Rattle.id_spans.specs.Spans.{IsSpan};
 ghost use Rattle.booked_tasks.specs.Tasks.{has_key, ended};
-ghost use Rattle.booked_tasks.specs.Spans.{IsSpan};
 ghost use Rattle.booked_tasks.specs.Used.{unended_rows, freed_rows, ends_framework, IsPlus, IsMinus, IsSumIfKnown};
 
 use crate::ids::is_same_launch;
-use crate::span::Span;
 use crate::tasks::Heard;
+use id_spans::Span;
 use mails::{Booked, Command};
 use names_core::LaunchKey;
 use quantity::Resources;

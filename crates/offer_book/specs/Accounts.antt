@@ -1,6 +1,5 @@
 -- What a book has of one agent (Mesos paper, section 3.1: offers).
-use Rattle.std.specs.Prelude.{ℕ, Bool, false, true, not, ◌&&◌, if◌then◌else◌, List, [], ◌∷◌, ◌++◌, map, filter}
-use Rattle.std.specs.List.{list_any, list_all}
+use Rattle.std.specs.Prelude.{ℕ, Bool, false, true, not, if◌then◌else◌, List, [], ◌∷◌, ◌++◌, map, filter}
 use Rattle.names_core.specs.Ids.{Numbered}
 use Rattle.names_core.specs.declared.state.TaskState.{TaskState}
 use Rattle.quantity.specs.declared.rows.Row.{Row}
@@ -8,12 +7,12 @@ use Rattle.quantity.specs.Rows.{covers, rest_of}
 use Rattle.mails.specs.declared.task.Offer.{Offer}
 use Rattle.mails.specs.declared.task.Booked.{Booked}
 use Rattle.mails.specs.declared.mail.Command.{Command}
-use Rattle.cluster_model.specs.Ids.{same, is_repeated, is_empty}
 use Rattle.cluster_model.specs.Sides.{unended, job_rows, offer_rows, heard_update, forget_all, is_named}
 use Rattle.cluster_model.specs.Masters.{is_of}
 pub use Rattle.offer_book.specs.declared.account.Account.{Account}
 pub use Rattle.booked_tasks.specs.Tasks.{ended, has_key, has_tasks_of}
 pub use Rattle.booked_tasks.specs.Used.{unended_rows}
+pub use Rattle.current_offers.specs.Offers.{has_offer, are_good, is_offered_as}
 
 -- an agent that has entered
 abbrev pub new_account : List ℕ → List Row → Account
@@ -37,15 +36,6 @@ fits a rows = covers a.total (rows ++ taken a)
 
 -- offers
 
--- a current offer of the framework has this id
-abbrev pub has_offer : List Offer → Numbered → Numbered → Bool
-has_offer os framework id = list_any (λ o. same o.framework framework && same o.id id) os
-
--- the ids are some, none twice, and each is that of a current offer of the framework
-abbrev pub are_good : List Offer → Numbered → List Numbered → Bool
-are_good os framework ids =
-    not (is_empty ids) && not (is_repeated ids) && list_all (has_offer os framework) ids
-
 -- what an offer has, if it is one of the framework's of these ids
 abbrev pub named_rows : Numbered → List Numbered → Offer → List Row
 named_rows framework ids o = if is_named framework ids o then o.resources else []
@@ -55,9 +45,6 @@ named_offers a framework ids = filter (is_named framework ids) a.offers
 
 abbrev pub with_offer : Offer → Account → Account
 with_offer o a = record a { offers = a.offers ++ o ∷ [] }
-
-abbrev pub is_offered_as : Numbered → Offer → Bool
-is_offered_as id o = same o.id id
 
 abbrev pub without_offer : Numbered → Account → Account
 without_offer id a = record a { offers = filter (λ o. not (is_offered_as id o)) a.offers }

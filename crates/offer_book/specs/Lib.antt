@@ -4,6 +4,4 @@ pub mod Held
 pub mod Found
 pub mod Faults
 pub mod Laws
-pub mod Offers
-pub mod Withdrawals
 pub mod Named

@@ -5,9 +5,9 @@ ghost use Rattle.quantity.specs.Rows.{amount};
 ghost use Rattle.offer_book.specs.Accounts.{new_account, dropped, taken, free, fits, reopened};
 ghost use Rattle.offer_book.specs.Books.{is_agent};
 
-use crate::offers::Offers;
 use crate::rest;
 use booked_tasks::Tasks;
+use current_offers::Offers;
 use listed::Listed;
 use mails::Booked;
 use names_core::AgentName;

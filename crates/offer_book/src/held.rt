@@ -1,30 +1,24 @@
 //! Looking for offers and booked tasks.
 
 ghost use Rattle.std.specs.Prelude.{◌≡◌, fold, option_map};
-ghost use Rattle.cluster_model.specs.Ids.{before};
 ghost use Rattle.cluster_model.specs.Masters.{stands_before, first_placed};
 ghost use Rattle.offer_book.specs.Held.{place, is_of_name, first_at, first_in, first_of};
 ghost use Rattle.offer_book.specs.Found.{made, offer_of, task_of};
 
 use crate::account::Account;
 use booked_tasks::is_same_framework;
+use id_spans::is_before;
 use mails::{Booked, Offer};
 use names_core::{AgentName, FrameworkId, LaunchKey, OfferId, TaskName};
-
-fn is_before(key: LaunchKey, other: LaunchKey) -> bool
-    ensures { result ≡ before key other }
-{
-    key.run() < other.run() || (key.run() == other.run() && key.number() < other.number())
-}
 
 /// Of two tasks, the one that hasn't ended, then the one with the least key.
 fn stands_before(agent: &AgentName, task: &Booked, other_agent: &AgentName, other: &Booked) -> bool
     ensures { result ≡ stands_before (place agent.now task.now) (place other_agent.now other.now) }
 {
     if task.ended {
-        other.ended && is_before(task.job.key, other.job.key)
+        other.ended && is_before(&task.job.key, &other.job.key)
     } else {
-        other.ended || is_before(task.job.key, other.job.key)
+        other.ended || is_before(&task.job.key, &other.job.key)
     }
 }
 

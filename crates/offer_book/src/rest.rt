@@ -6,8 +6,8 @@ ghost use Rattle.quantity.specs.Rows.{covers, rest_of, AreRows};
 ghost use Rattle.cluster_model.specs.Sides.{offer_rows, job_rows, unended};
 ghost use Rattle.offer_book.specs.Accounts.{unended_rows};
 
-use crate::offers::Offers;
 use booked_tasks::Tasks;
+use current_offers::Offers;
 use mails::{Booked, Offer};
 use quantity::Resources;
 

@@ -6,7 +6,7 @@ ghost use Rattle.cluster_model.specs.Sides.{offer_rows, is_named};
 ghost use Rattle.offer_book.specs.Accounts.{named_offers, named_rows};
 
 use crate::account::Account;
-use crate::offers::is_named;
+use current_offers::is_named;
 use mails::Offer;
 use names_core::{FrameworkId, OfferId};
 use quantity::Resources;

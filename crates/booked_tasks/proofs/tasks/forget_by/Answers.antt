@@ -1,6 +1,7 @@
 use Rattle.std.proofs.Common.{sym, subst}
-use Rattle.booked_tasks.specs.Spans.{AreRisingBy, key_of}
-use Rattle.booked_tasks.proofs.Rising.{rising_filter}
+use Rattle.id_spans.specs.Spans.{AreRisingBy}
+use Rattle.id_spans.proofs.Rising.{rising_filter}
+use Rattle.booked_tasks.specs.Tasks.{key_of}
 use Rattle.booked_tasks.proofs.tasks.forget_by.Goals as goal
 
 pub returns-in-Ack-clause-rising : goal.returns-in-Ack-clause-rising

@@ -1,8 +1,8 @@
 use Rattle.std.proofs.Common.{◌≡◌, ◌++◌, rules, arith, map, take, drop, ap, ◌∙◌}
 use Rattle.std.proofs.lemmas.List.Edits.{map_over_more}
 use Rattle.cluster_model.specs.Sides.{heard_update}
+use Rattle.id_spans.proofs.Spans.{changes_begin, changes_end}
 use Rattle.booked_tasks.specs.Tasks.{has_key}
-use Rattle.booked_tasks.proofs.Spans.{changes_begin, changes_end}
 use Rattle.booked_tasks.proofs.Rising.{heard_stays}
 use Rattle.booked_tasks.proofs.tasks.hear_in.Goals as goal
 

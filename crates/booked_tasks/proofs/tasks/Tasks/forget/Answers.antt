@@ -1,7 +1,6 @@
 use Rattle.std.proofs.Common.{not}
-use Rattle.booked_tasks.specs.Tasks.{has_key}
-use Rattle.booked_tasks.specs.Spans.{key_of}
-use Rattle.booked_tasks.proofs.Rising.{rising_filter}
+use Rattle.id_spans.proofs.Rising.{rising_filter}
+use Rattle.booked_tasks.specs.Tasks.{has_key, key_of}
 use Rattle.booked_tasks.proofs.tasks.Tasks.forget.Goals as goal
 
 pub invariant_of-self : goal.invariant_of-self

@@ -1,7 +1,7 @@
 use Rattle.std.proofs.Common.{sym, ap, ◌∙◌}
 use Rattle.std.specs.List.{find, list_any, slice_range}
+use Rattle.id_spans.proofs.Spans.{find_part, any_part}
 use Rattle.booked_tasks.specs.Tasks.{has_key}
-use Rattle.booked_tasks.proofs.Spans.{find_part, any_part}
 use Rattle.booked_tasks.proofs.tasks.Tasks.part.Goals as goal
 
 pub returns-clause-found : goal.returns-clause-found

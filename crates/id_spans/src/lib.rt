@@ -1,0 +1,9 @@
+//! Lists of what has an id, a number that is counted in each run: whether the ids rise,
+//! and where in the list an id stands.
+#![tactic(auto)]
+
+mod has_id;
+mod span;
+
+pub use has_id::{HasId, is_before};
+pub use span::{Span, are_rising, goes_on_rising, span_of};
