@@ -5,7 +5,7 @@ use Rattle.std.specs.List.{list_any}
 use Rattle.std.proofs.lemmas.Bool.{true≢false}
 use Rattle.std.proofs.lemmas.List.{take_more}
 use Rattle.quantity.specs.declared.rows.Row.{Row}
-use Rattle.quantity.specs.Rows.{amount}
+use Rattle.quantity.specs.Rows.{amount, IsPlus, IsMinus}
 use Rattle.quantity.proofs.Amounts.{amount-append}
 use Rattle.names_core.specs.Ids.{Numbered}
 use Rattle.names_core.specs.declared.state.TaskState.{TaskState}
@@ -16,7 +16,7 @@ use Rattle.names_core.specs.States.{is_terminal}
 use Rattle.cluster_model.specs.Ids.{same}
 use Rattle.cluster_model.specs.Sides.{heard_update, forget, forget_all}
 use Rattle.booked_tasks.specs.Tasks.{has_key, ended}
-use Rattle.booked_tasks.specs.Used.{unended_rows, freed_rows, used, freed, ends_framework, IsPlus, IsMinus, IsSum, IsSumIfKnown}
+use Rattle.booked_tasks.specs.Used.{unended_rows, freed_rows, used, freed, ends_framework, IsSum, IsSumIfKnown}
 
 zero_left : (n : ℕ) → n ≡ 0 + n
 zero_left n = omega arith

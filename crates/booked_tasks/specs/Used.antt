@@ -1,5 +1,5 @@
 -- What booked tasks use together.
-use Rattle.std.specs.Prelude.{◌≡◌, ℕ, ◌+◌, ◌-◌, Bool, true, false, if◌then◌else◌, List, [], flat_map, Option, IfSome}
+use Rattle.std.specs.Prelude.{◌≡◌, ℕ, Bool, true, false, if◌then◌else◌, List, [], flat_map, Option, IfSome}
 use Rattle.quantity.specs.declared.rows.Row.{Row}
 use Rattle.quantity.specs.Rows.{amount}
 use Rattle.names_core.specs.Ids.{Numbered}
@@ -20,15 +20,6 @@ freed_rows key b = if has_key key b then unended_rows b else []
 -- how much of a name the tasks use that haven't ended
 abbrev pub used : List ℕ → List Booked → ℕ
 used name bs = amount name (job_rows (unended bs))
-
--- the amounts of the first are those of both others together
-abbrev pub IsPlus : List Row → List Row → List Row → Type 0
-IsPlus sum rows others = (name : List ℕ) → amount name sum ≡ amount name rows + amount name others
-
--- the amounts of the first are those of the second, less those of the third
-abbrev pub IsMinus : List Row → List Row → List Row → Type 0
-IsMinus rest rows others =
-    (name : List ℕ) → amount name rest ≡ amount name rows - amount name others
 
 -- the sum of what the tasks use that haven't ended
 abbrev pub IsSum : List Row → List Booked → Type 0

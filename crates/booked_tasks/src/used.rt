@@ -2,12 +2,13 @@
 
 ghost use Rattle.std.specs.Prelude.{◌≡◌, ◌∷◌, ◌++◌, [], true, not, List, ℕ, map, flat_map, filter, IfSome};
 ghost use Rattle.std.specs.List.{list_any};
+ghost use Rattle.quantity.specs.Rows.{IsPlus, IsMinus};
 ghost use Rattle.mails.specs.declared.task.Booked.{Booked};
 ghost use Rattle.names_core.specs.declared.state.TaskState.{TaskState};
 ghost use Rattle.cluster_model.specs.Sides.{heard_update, forget_all};
 ghost use Rattle.id_spans.specs.Spans.{IsSpan};
 ghost use Rattle.booked_tasks.specs.Tasks.{has_key, ended};
-ghost use Rattle.booked_tasks.specs.Used.{unended_rows, freed_rows, ends_framework, IsPlus, IsMinus, IsSumIfKnown};
+ghost use Rattle.booked_tasks.specs.Used.{unended_rows, freed_rows, ends_framework, IsSumIfKnown};
 
 use crate::ids::is_same_launch;
 use crate::tasks::Heard;

@@ -1,21 +1,12 @@
 -- What the current offers on one agent have together, and their ids.
-use Rattle.std.specs.Prelude.{◌≡◌, ℕ, ◌+◌, ◌-◌, Bool, not, ◌&&◌, List, Option, None, Some, IfSome, IsSomeAnd}
+use Rattle.std.specs.Prelude.{◌≡◌, ℕ, Bool, not, ◌&&◌, List, Option, None, Some, IfSome, IsSomeAnd}
 use Rattle.std.specs.List.{list_any, list_all}
 use Rattle.quantity.specs.declared.rows.Row.{Row}
-use Rattle.quantity.specs.Rows.{amount}
+use Rattle.quantity.specs.Rows.{amount, IsMinus}
 use Rattle.names_core.specs.Ids.{Numbered}
 use Rattle.mails.specs.declared.task.Offer.{Offer}
 use Rattle.cluster_model.specs.Ids.{same, is_empty, is_repeated}
 use Rattle.cluster_model.specs.Sides.{offer_rows}
-
--- the amounts of the first are those of both others together
-abbrev pub IsPlus : List Row → List Row → List Row → Type 0
-IsPlus sum rows others = (name : List ℕ) → amount name sum ≡ amount name rows + amount name others
-
--- the amounts of the first are those of the second, less those of the third
-abbrev pub IsMinus : List Row → List Row → List Row → Type 0
-IsMinus rest rows others =
-    (name : List ℕ) → amount name rest ≡ amount name rows - amount name others
 
 -- the sum of what the offers have
 abbrev pub IsOffered : List Row → List Offer → Type 0

@@ -1,7 +1,8 @@
 //! The sum of what offers have.
 
 ghost use Rattle.std.specs.Prelude.{◌∷◌, ◌++◌, [], IfSome};
-ghost use Rattle.current_offers.specs.Offers.{IsPlus, IsOfferedIfKnown, IsLessIfKnown};
+ghost use Rattle.quantity.specs.Rows.{IsPlus};
+ghost use Rattle.current_offers.specs.Offers.{IsOfferedIfKnown, IsLessIfKnown};
 
 use mails::Offer;
 use quantity::Resources;

@@ -1,5 +1,5 @@
 -- Rows: amounts of named resources.
-use Rattle.std.specs.Prelude.{ℕ, ◌+◌, ◌-◌, ◌<◌, ◌≤◌, ◌^◌, Bool, ◌==◌, not, IsTrue, nat_eq, nat_lt, nat_le, if◌then◌else◌, List, [], ◌∷◌, length, map, filter, fold, sum_by, Result, Ok, Err}
+use Rattle.std.specs.Prelude.{◌≡◌, ℕ, ◌+◌, ◌-◌, ◌<◌, ◌≤◌, ◌^◌, Bool, ◌==◌, not, IsTrue, nat_eq, nat_lt, nat_le, if◌then◌else◌, List, [], ◌∷◌, length, map, filter, fold, sum_by, Result, Ok, Err}
 use Rattle.std.specs.List.{list_all, list_any, AllByRecursion}
 use Rattle.std.specs.List.Sorted.{IsStrictlySortedBy}
 use Rattle.std.specs.declared.cmp.Ordering.{Ordering}
@@ -17,6 +17,15 @@ part_of name r = if pointwise nat_eq r.name name then r.amount else 0
 -- how much of a name rows have: the sum over them
 abbrev pub amount : List ℕ → List Row → ℕ
 amount name rows = sum_by (part_of name) rows
+
+-- the amounts of the first are those of both others together
+abbrev pub IsPlus : List Row → List Row → List Row → Type 0
+IsPlus sum rows others = (name : List ℕ) → amount name sum ≡ amount name rows + amount name others
+
+-- the amounts of the first are those of the second, less those of the third
+abbrev pub IsMinus : List Row → List Row → List Row → Type 0
+IsMinus rest rows others =
+    (name : List ℕ) → amount name rest ≡ amount name rows - amount name others
 
 -- the first rows have at least as much of every name as the second
 abbrev pub covers : List Row → List Row → Bool

@@ -1,5 +1,6 @@
 use Rattle.std.proofs.Common.{take, flat_map}
-use Rattle.booked_tasks.specs.Used.{IsMinus, freed_rows}
+use Rattle.quantity.specs.Rows.{IsMinus}
+use Rattle.booked_tasks.specs.Used.{freed_rows}
 use Rattle.booked_tasks.proofs.used.give_back.Given as goal
 
 abbrev pub invariant-loop-task : goal.invariant-loop-task

@@ -1,7 +1,8 @@
 use Rattle.std.proofs.Common.{subst}
+use Rattle.quantity.specs.Rows.{IsMinus}
 use Rattle.id_spans.proofs.Spans.{flat_part}
 use Rattle.booked_tasks.specs.Tasks.{has_key}
-use Rattle.booked_tasks.specs.Used.{IsSum, IsMinus, IsSumIfKnown, freed_rows}
+use Rattle.booked_tasks.specs.Used.{IsSum, IsSumIfKnown, freed_rows}
 use Rattle.booked_tasks.proofs.Sums.{other_frees_none, sum_ended, sum_heard, sum_forgotten}
 use Rattle.booked_tasks.proofs.used.without_key.Goals as goal
 
