@@ -1,2 +1,2 @@
-pub mod Rising
+pub mod Keys
 pub mod Sums

@@ -2,7 +2,7 @@
 use Rattle.std.proofs.Common.{◌≡◌, ℕ, suc, ◌<◌, ◌+◌, Bool, true, false, not, cond, ◌||◌, ◌&&◌, List, [], ◌∷◌, ◌++◌, length, take, get_or, filter, flat_map, map, Option, None, Some, IfSome, refl, sym, ap, ◌∙◌, subst, arith}
 use Rattle.std.specs.Prelude.{◌==◌}
 use Rattle.std.specs.List.{list_any}
-use Rattle.std.proofs.lemmas.Bool.{true≢false}
+use Rattle.std.proofs.lemmas.Bool.{true≢false, or_parts}
 use Rattle.std.proofs.lemmas.List.{take_more}
 use Rattle.quantity.specs.declared.rows.Row.{Row}
 use Rattle.quantity.specs.Rows.{amount, IsPlus, IsMinus}
@@ -120,10 +120,6 @@ module _ (name : List ℕ) where
       by_case true is false passes behind = omega (arith, used_cons b others, used_cons b bs, behind)
       by_case false is true passes behind = absurd (true≢false (sym passes ∙ goes b is))
       by_case false is false passes behind = omega (arith, used_cons b others, used_cons b bs, behind)
-
-  or_parts : (a b : Bool) → (a || b) ≡ false → (a ≡ false) × (b ≡ false)
-  or_parts true b e = absurd cc
-  or_parts false b e = (refl, e)
 
   forget_used : (command : Command) (bs : List Booked) → ends_framework command ≡ false → used name (forget command bs) ≡ used name bs
   forget_used (Launch job offers) bs goes = refl

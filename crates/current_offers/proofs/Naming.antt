@@ -1,6 +1,6 @@
 -- Offers and their ids.
 use Rattle.std.proofs.Common.{◌≡◌, Bool, true, false, not, cond, ◌||◌, List, [], ◌∷◌, map, filter, refl, ap, ◌∙◌, arith}
-use Rattle.std.proofs.lemmas.Bool.{true≢false}
+use Rattle.std.proofs.lemmas.Bool.{or_parts}
 use Rattle.std.proofs.lemmas.Bool.Decides.{nat_tests}
 use Rattle.mails.specs.declared.task.Offer.{Offer}
 use Rattle.names_core.specs.Ids.{Numbered}
@@ -19,10 +19,6 @@ same_back i j = grind (arith, nat_tests)
 or_true : (a b : Bool) → b ≡ true → (a || b) ≡ true
 or_true true b e = refl
 or_true false b e = e
-
-or_parts : (a b : Bool) → (a || b) ≡ false → (a ≡ false) × (b ≡ false)
-or_parts true b e = absurd (true≢false e)
-or_parts false b e = (refl, e)
 
 -- an id that no offer has is none of those that pass
 none_among : (test : Offer → Bool) (os : List Offer) (id : Numbered) → is_among (ids os) id ≡ false → is_among (ids (filter test os)) id ≡ false

@@ -94,10 +94,6 @@ module _ {X : Type 0} (id : X → Numbered) where
   pub rising_with_last : (xs : List X) (x last : X) → AreRisingBy id xs → 0 < length xs → last ≡ get_or xs (length xs - 1) last → before (id last) (id x) ≡ true → AreRisingBy id (xs ++ x ∷ [])
   rising_with_last xs x last are some is least = rising_more xs x are (all_before xs (id x) last are some is least)
 
-  pub rising_alone : (xs : List X) (x : X) → length xs ≡ 0 → AreRisingBy id (xs ++ x ∷ [])
-  rising_alone [] x none = (tt, tt)
-  rising_alone (y ∷ xs) x none = absurd (omega arith)
-
   -- fewer, and changed ones
 
   behind_filter : (first : Numbered) (test : X → Bool) (xs : List X) → AllBehind first xs → AllBehind first (filter test xs)

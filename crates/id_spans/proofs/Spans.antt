@@ -1,20 +1,13 @@
 -- A list, and a part of it outside of which nothing passes a test.
 use Rattle.std.proofs.Common.{◌≡◌, ℕ, zero, suc, ◌<◌, ◌≤◌, ◌+◌, Bool, true, false, not, cond, ◌||◌, List, [], ◌∷◌, ◌++◌, length, take, drop, get_or, filter, flat_map, map, None, Some, refl, sym, ap, ◌∙◌, arith}
 use Rattle.std.specs.List.{list_any, find, slice_range, remove}
-use Rattle.std.proofs.lemmas.List.{append-nil, take_more, drop_more, drop_all, take-append-drop, get_or_at, length-take-le, take_at, drop_at, append_assoc, map-append, length-append}
+use Rattle.std.proofs.lemmas.List.{append-nil, take_more, drop_more, take-append-drop, get_or_at, length-take-le, take_at, drop_at, append_assoc, map-append, length-append}
 use Rattle.std.proofs.lemmas.List.Concat.{flat_map-append}
 use Rattle.std.proofs.lemmas.List.Edits.{split_between}
 use Rattle.std.proofs.lemmas.List.Elements.{filter-append}
 use Rattle.std.proofs.lemmas.List.Folds.{list_any-append}
-use Rattle.std.proofs.lemmas.Bool.{true≢false}
+use Rattle.std.proofs.lemmas.Bool.{or_parts, or_from}
 use Rattle.id_spans.specs.Spans.{IsSpan}
-
-pub or_parts : (a b : Bool) → (a || b) ≡ false → (a ≡ false) × (b ≡ false)
-or_parts true b e = absurd (true≢false e)
-or_parts false b e = (refl, e)
-
-or_from : (a b : Bool) → a ≡ false → b ≡ false → (a || b) ≡ false
-or_from a b e f = rw (e, f) refl
 
 module _ {X : Type 0} (test : X → Bool) where
   abbrev pub None_of : List X → Type 0
@@ -109,7 +102,7 @@ module _ {X : Type 0} (test : X → Bool) where
         ap (λ ys. ys ++ filter (λ x. not (gone x)) (drop from xs)) (sym (all_kept gone stays (take from xs) none_before))
         ∙ (sym (filter-append (λ x. not (gone x)) (take from xs) (drop from xs)) ∙ ap (filter (λ x. not (gone x))) (take-append-drop from xs))
 
--- a test that passes less, and one of which nothing is known
+-- a test that passes less
 
 none_narrower : {X : Type 0} (test other : X → Bool) → ((x : X) → test x ≡ false → other x ≡ false) → (xs : List X) → list_any test xs ≡ false → list_any other xs ≡ false
 none_narrower test other fails [] none = refl
@@ -123,14 +116,6 @@ spans_narrower test other fails xs from to is = record {
   within = is.within;
   none_before = none_narrower test other fails (take from xs) is.none_before;
   none_behind = none_narrower test other fails (drop to xs) is.none_behind;
-}
-
-pub spans_all : {X : Type 0} (test : X → Bool) (xs : List X) (to : ℕ) → to ≡ length xs → IsSpan test xs 0 to
-spans_all test xs to is = record {
-  rises = omega arith;
-  within = omega arith;
-  none_before = refl;
-  none_behind = ap (list_any test) (drop_all to xs (omega arith));
 }
 
 -- one place further down

@@ -1,19 +1,8 @@
 -- Sums of parts, one after the other.
-use Rattle.std.proofs.Common.{◌≡◌, ℕ, ◌<◌, ◌≤◌, ◌+◌, Bool, true, false, List, [], ◌∷◌, ◌++◌, length, flat_map, drop, get_or, Ok, refl, sym, ap, ◌∙◌}
-use Rattle.std.specs.List.{list_any}
-use Rattle.std.specs.Prelude.{nat_lt}
+use Rattle.std.proofs.Common.{◌≡◌, ℕ, ◌<◌, ◌≤◌, ◌+◌, List, [], ◌∷◌, ◌++◌, length, flat_map, drop, get_or, refl, sym, ap, ◌∙◌}
 use Rattle.quantity.specs.declared.rows.Row.{Row}
-use Rattle.quantity.specs.Rows.{plus_rows, within_limits, greatest_amount, names_limit}
+use Rattle.quantity.specs.Rows.{plus_rows}
 use Rattle.offer_book.proofs.Taking.{parts_more, parts_none}
-
--- rows within the limits are the rows
-pub within_is : (rows sum : List Row) → within_limits rows ≡ Ok sum → sum ≡ rows
-within_is rows sum e = by (list_any (λ (r : Row). nat_lt greatest_amount r.amount) rows) refl (nat_lt names_limit (length rows)) refl e
-  where
-    by : (a : Bool) → list_any (λ (r : Row). nat_lt greatest_amount r.amount) rows ≡ a → (b : Bool) → nat_lt names_limit (length rows) ≡ b → within_limits rows ≡ Ok sum → sum ≡ rows
-    by true h b k q = absurd (cc)
-    by false h true k q = absurd (cc)
-    by false h false k q = cc
 
 plus_joined : (sum first second : List Row) → plus_rows sum (first ++ second) ≡ plus_rows (plus_rows sum first) second
 plus_joined sum [] second = refl

@@ -1,10 +1,9 @@
 -- What is left where parts are taken one after another.
-use Rattle.std.proofs.Common.{◌≡◌, ℕ, ◌+◌, ◌≤◌, Bool, true, false, ◌&&◌, ◌<◌, cond, List, [], ◌∷◌, ◌++◌, length, get_or, drop, map, filter, flat_map, refl, sym, ap, subst, ◌∙◌, arith}
+use Rattle.std.proofs.Common.{◌≡◌, ℕ, ◌+◌, ◌≤◌, Bool, true, false, ◌&&◌, ◌<◌, cond, List, [], ◌∷◌, ◌++◌, length, get_or, drop, filter, flat_map, refl, sym, ap, subst, ◌∙◌, arith}
 use Rattle.std.proofs.lemmas.Bool.{and_from, and_parts}
 use Rattle.std.proofs.lemmas.List.{drop_more, drop_all}
 use Rattle.quantity.specs.declared.rows.Row.{Row}
-use Rattle.std.specs.Prelude.{nat_lt}
-use Rattle.quantity.specs.Rows.{amount, covers, AreRows, left_of, rest_of}
+use Rattle.quantity.specs.Rows.{amount, covers, AreRows, rest_of}
 use Rattle.quantity.proofs.Amounts.{covers_is_at_least, amount-append}
 use Rattle.quantity.proofs.Rests.{amount-rest, rests_join, rests_are_rows, rest_whole}
 use Rattle.names_core.specs.Ids.{Numbered}
@@ -71,11 +70,7 @@ pub taken_all : {X : Type 0} (part : X → List Row) (total rest : List Row) (xs
     → rest ≡ rest_of total (flat_map part xs)
 taken_all part total rest xs i past t = sym (rest_none rest t.rows) ∙ (ap (rest_of rest) (sym (parts_none part xs i past)) ∙ t.rest_is)
 
--- whether a rest covers the parts from a place on
-pub covers_more : {X : Type 0} (part : X → List Row) (rest : List Row) (xs : List X) (i : ℕ) (x : X) → i < length xs → x ≡ get_or xs i x → AreRows rest
-    → covers rest (flat_map part (drop i xs)) ≡ (covers rest (part x) && covers (rest_of rest (part x)) (flat_map part (drop (i + 1) xs)))
-covers_more part rest xs i x within is are = ap (covers rest) (parts_more part xs i x within is) ∙ covers-append rest (part x) (flat_map part (drop (i + 1) xs)) are
-
+-- behind the last part nothing is left to cover
 pub covers_none : {X : Type 0} (part : X → List Row) (rest : List Row) (xs : List X) (i : ℕ) → length xs ≤ i → covers rest (flat_map part (drop i xs)) ≡ true
 covers_none part rest xs i past = ap (covers rest) (parts_none part xs i past)
 
@@ -117,22 +112,12 @@ goes_on part rest xs i x new within is are e new_is =
 pub unended_none : (rest : List Row) (b : Booked) → AreRows rest → b.ended ≡ true → rest ≡ rest_of rest (unended_rows b)
 unended_none rest b are e = sym (rest_none rest are) ∙ ap (λ v. rest_of rest (cond v [] b.job.resources)) (sym e)
 
-pub named_none : (framework : Numbered) (ids : List Numbered) (rest : List Row) (o : Offer) → AreRows rest → is_named framework ids o ≡ false → rest ≡ rest_of rest (named_rows framework ids o)
-named_none framework ids rest o are e = sym (rest_none rest are) ∙ ap (λ v. rest_of rest (cond v o.resources [])) (sym e)
-
 -- rows that have as much of each name
 
 pub covers_alike : (total rows others : List Row) → ((name : List ℕ) → amount name rows ≡ amount name others) → covers total rows ≡ covers total others
 covers_alike total rows others same = same_tests _ _
     (λ h. (covers_is_at_least total others).1 (λ name. omega (arith, (covers_is_at_least total rows).0 h name, same name)))
     (λ h. (covers_is_at_least total rows).1 (λ name. omega (arith, (covers_is_at_least total others).0 h name, same name)))
-
-left_alike : (total rows others : List Row) → ((name : List ℕ) → amount name rows ≡ amount name others) → map (left_of rows) total ≡ map (left_of others) total
-left_alike [] rows others same = refl
-left_alike (r ∷ total) rows others same = rw (same r.name, left_alike total rows others same) refl
-
-pub rest_alike : (total rows others : List Row) → ((name : List ℕ) → amount name rows ≡ amount name others) → rest_of total rows ≡ rest_of total others
-rest_alike total rows others same = ap (filter (λ (r : Row). nat_lt 0 r.amount)) (left_alike total rows others same)
 
 -- what is free covers rows just where the total has room for them
 pub room_is_free : RoomIsFree

@@ -2,7 +2,7 @@ use Rattle.std.proofs.Common.{◌≡◌, ◌++◌, rules, arith, map, take, drop
 use Rattle.std.proofs.lemmas.List.Edits.{map_over_more}
 use Rattle.id_spans.proofs.Spans.{changes_begin, changes_end}
 use Rattle.booked_tasks.specs.Tasks.{ended, has_key}
-use Rattle.booked_tasks.proofs.Rising.{ended_stays}
+use Rattle.booked_tasks.proofs.Keys.{ended_stays}
 use Rattle.booked_tasks.proofs.tasks.end_in.Goals as goal
 
 pub loop-i-init : goal.loop-i-init

@@ -3,7 +3,7 @@ use Rattle.std.proofs.lemmas.List.Edits.{map_over_more}
 use Rattle.cluster_model.specs.Sides.{heard_update}
 use Rattle.id_spans.proofs.Spans.{changes_begin, changes_end}
 use Rattle.booked_tasks.specs.Tasks.{has_key}
-use Rattle.booked_tasks.proofs.Rising.{heard_stays}
+use Rattle.booked_tasks.proofs.Keys.{heard_stays}
 use Rattle.booked_tasks.proofs.tasks.hear_in.Goals as goal
 
 pub loop-i-init : goal.loop-i-init

@@ -2,7 +2,7 @@ use Rattle.std.proofs.Common.{◌≡◌, ◌+◌, ◌-◌, ◌++◌, subst, sym,
 use Rattle.mails.specs.declared.task.Booked.{Booked}
 use Rattle.id_spans.proofs.Spans.{removals_begin, removals_end, down_kept, down_removed}
 use Rattle.booked_tasks.specs.Tasks.{has_key, is_gone}
-use Rattle.booked_tasks.proofs.Rising.{gone_has_key}
+use Rattle.booked_tasks.proofs.Keys.{gone_has_key}
 use Rattle.booked_tasks.proofs.tasks.take_out.Goals as goal
 
 pub loop-i-init : goal.loop-i-init

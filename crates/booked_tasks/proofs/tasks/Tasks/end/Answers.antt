@@ -1,6 +1,6 @@
 use Rattle.id_spans.proofs.Rising.{rising_map}
 use Rattle.booked_tasks.specs.Tasks.{ended, key_of}
-use Rattle.booked_tasks.proofs.Rising.{ended_key}
+use Rattle.booked_tasks.proofs.Keys.{ended_key}
 use Rattle.booked_tasks.proofs.tasks.Tasks.end.Goals as goal
 
 pub invariant_of-self : goal.invariant_of-self

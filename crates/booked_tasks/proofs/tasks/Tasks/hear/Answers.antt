@@ -1,7 +1,7 @@
 use Rattle.cluster_model.specs.Sides.{heard_update}
 use Rattle.id_spans.proofs.Rising.{rising_map}
 use Rattle.booked_tasks.specs.Tasks.{key_of}
-use Rattle.booked_tasks.proofs.Rising.{heard_key}
+use Rattle.booked_tasks.proofs.Keys.{heard_key}
 use Rattle.booked_tasks.proofs.tasks.Tasks.hear.Goals as goal
 
 pub invariant_of-self : goal.invariant_of-self

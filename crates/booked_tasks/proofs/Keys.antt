@@ -1,28 +1,12 @@
--- What changes booked tasks, and their keys.
-use Rattle.std.proofs.Common.{◌≡◌, ℕ, suc, Bool, true, false, cond, ◌&&◌, List, [], ◌∷◌, Option, None, Some, refl}
+-- What changes only the tasks of a key.
+use Rattle.std.proofs.Common.{◌≡◌, ℕ, suc, Bool, true, false, cond, ◌&&◌, Option, None, Some, refl}
 use Rattle.std.specs.Prelude.{◌==◌}
 use Rattle.names_core.specs.Ids.{Numbered}
 use Rattle.names_core.specs.States.{is_terminal}
 use Rattle.names_core.specs.declared.state.TaskState.{TaskState}
 use Rattle.mails.specs.declared.task.Booked.{Booked}
-use Rattle.mails.specs.declared.mail.Command.{Command}
-use Rattle.mails.specs.declared.mail.Command.TheVariants.{Launch, Kill, Ack, EndFramework}
-use Rattle.cluster_model.specs.Sides.{forget, forget_all, heard_update}
-use Rattle.id_spans.specs.Spans.{AreRisingBy}
-use Rattle.id_spans.proofs.Rising.{rising_filter}
-use Rattle.booked_tasks.specs.Tasks.{ended, has_key, is_gone, key_of}
-
-pub rising_one : (command : Command) (bs : List Booked) → AreRisingBy key_of bs → AreRisingBy key_of (forget command bs)
-rising_one (Launch job offers) bs are = are
-rising_one (Kill key) bs are = are
-rising_one (Ack key k) bs are = rising_filter key_of _ bs are
-rising_one (EndFramework framework) bs are = rising_filter key_of _ bs are
-
-pub rising_after : (commands : List Command) (bs : List Booked) → AreRisingBy key_of bs → AreRisingBy key_of (forget_all commands bs)
-rising_after [] bs are = are
-rising_after (command ∷ commands) bs are = rising_after commands (forget command bs) (rising_one command bs are)
-
--- what changes only the tasks of a key
+use Rattle.cluster_model.specs.Sides.{heard_update}
+use Rattle.booked_tasks.specs.Tasks.{ended, has_key, is_gone}
 
 pub ended_stays : (key : Numbered) (b : Booked) → has_key key b ≡ false → ended key b ≡ b
 ended_stays key b other = rw other refl
