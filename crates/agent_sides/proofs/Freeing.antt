@@ -1,14 +1,14 @@
 -- An agent's entry and its account, at a place.
-use Rattle.std.proofs.Common.{◌≡◌, ℕ, zero, suc, ◌<◌, ◌≤◌, ◌⊎◌, inl, inr, true, false, List, [], ◌∷◌, ◌++◌, length, get_or, Option, Some, None, refl, sym, ap, ◌∙◌, arith}
+use Rattle.std.proofs.Common.{◌≡◌, ℕ, zero, suc, ◌<◌, ◌≤◌, ◌⊎◌, inl, inr, true, false, List, [], ◌∷◌, length, get_or, Some, None, refl, ap, ◌∙◌, arith}
 use Rattle.std.specs.List.{AllByRecursion}
-use Rattle.quantity.specs.Rows.{AreRows, rest_of}
-use Rattle.cluster_model.specs.Sides.{Side, job_rows, offer_rows, unended}
+use Rattle.quantity.specs.Rows.{AreRows}
+use Rattle.cluster_model.specs.Sides.{Side}
 use Rattle.cluster_model.specs.Rounds.{free}
 use Rattle.offer_book.specs.Accounts as accounts
 use Rattle.offer_book.specs.declared.account.Account.{Account}
 use Rattle.roster.specs.Places.{told_at}
 use Rattle.agent_sides.specs.Free.{open_part}
-use Rattle.agent_sides.specs.Joined.{AreOfOne, join, joined}
+use Rattle.agent_sides.specs.Joined.{join, joined}
 
 pub joined_past : {X : Type 0} (i : ℕ) (tell : Side → X) (none : X) (ss : List Side) (as_ : List Account) → ((length ss ≤ i) ⊎ (length as_ ≤ i)) → none ≡ told_at i tell none (joined ss as_)
 joined_past i tell none [] as_ past = refl

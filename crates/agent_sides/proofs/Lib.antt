@@ -1,3 +1,4 @@
+pub mod Heard
 pub mod Joining
 pub mod Changing
 pub mod Apart

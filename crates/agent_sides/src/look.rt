@@ -125,6 +125,27 @@ fn is_heard_last(
 }
 
 fn any_heard_last(
+    tasks: &[Booked],
+    on: &AgentName,
+    framework: FrameworkId,
+    agent: &AgentName,
+    name: &TaskName,
+    key: LaunchKey,
+    k: u32,
+) -> bool
+    ensures { result ≡ list_any (λ b. is_heard_last framework agent.now name.now key k
+        (place on.now b)) tasks.now }
+{
+    for task in tasks {
+        if is_heard_last(task, on, framework, agent, name, key, k) {
+            return true;
+        }
+    }
+    false
+}
+
+/// Only the tasks of the key are looked at.
+fn is_heard_last_on(
     account: &Account,
     framework: FrameworkId,
     agent: &AgentName,
@@ -135,12 +156,8 @@ fn any_heard_last(
     ensures { result ≡ list_any (is_heard_last framework agent.now name.now key k)
         (placed_on account.now) }
 {
-    for task in account.booked.as_slice() {
-        if is_heard_last(task, &account.name, framework, agent, name, key, k) {
-            return true;
-        }
-    }
-    false
+    let tasks = account.booked.part_of(key);
+    any_heard_last(tasks, &account.name, framework, agent, name, key, k)
 }
 
 /// Whether this is the update last heard of a framework's task of this name and key on this agent.
@@ -156,7 +173,7 @@ pub fn is_heard_last_in(
         (all_placed accounts.now) }
 {
     for account in accounts {
-        if any_heard_last(account, framework, agent, name, key, k) {
+        if is_heard_last_on(account, framework, agent, name, key, k) {
             return true;
         }
     }

@@ -1,5 +1,5 @@
 -- What changes only the tasks of a key.
-use Rattle.std.proofs.Common.{◌≡◌, ℕ, suc, Bool, true, false, cond, ◌&&◌, Option, None, Some, refl}
+use Rattle.std.proofs.Common.{◌≡◌, ℕ, suc, Bool, true, false, cond, ◌&&◌, Option, None, Some, refl, ap}
 use Rattle.std.specs.Prelude.{◌==◌}
 use Rattle.names_core.specs.Ids.{Numbered}
 use Rattle.names_core.specs.States.{is_terminal}
@@ -14,19 +14,25 @@ ended_stays key b other = rw other refl
 pub heard_stays : (key : Numbered) (k : ℕ) (state : TaskState) (has_ended : Bool) (b : Booked) → has_key key b ≡ false → heard_update key k state has_ended b ≡ b
 heard_stays key k state has_ended b other = rw other refl
 
-pub ended_key : (key : Numbered) (b : Booked) → (ended key b).job.key ≡ b.job.key
-ended_key key b = by_case (has_key key b)
+pub ended_job : (key : Numbered) (b : Booked) → (ended key b).job ≡ b.job
+ended_job key b = by_case (has_key key b)
   where
-    by_case : (v : Bool) → (cond v (record { job = b.job; ended = true; heard = b.heard; state = b.state }) b).job.key ≡ b.job.key
+    by_case : (v : Bool) → (cond v (record { job = b.job; ended = true; heard = b.heard; state = b.state }) b).job ≡ b.job
     by_case true = refl
     by_case false = refl
 
-pub heard_key : (key : Numbered) (k : ℕ) (state : TaskState) (has_ended : Bool) (b : Booked) → (heard_update key k state has_ended b).job.key ≡ b.job.key
-heard_key key k state has_ended b = by_case (has_key key b) refl
+pub ended_key : (key : Numbered) (b : Booked) → (ended key b).job.key ≡ b.job.key
+ended_key key b = ap (λ j. j.key) (ended_job key b)
+
+pub heard_job : (key : Numbered) (k : ℕ) (state : TaskState) (has_ended : Bool) (b : Booked) → (heard_update key k state has_ended b).job ≡ b.job
+heard_job key k state has_ended b = by_case (has_key key b) refl
   where
-    by_case : (v : Bool) → has_key key b ≡ v → (heard_update key k state has_ended b).job.key ≡ b.job.key
+    by_case : (v : Bool) → has_key key b ≡ v → (heard_update key k state has_ended b).job ≡ b.job
     by_case true is = rw is refl
     by_case false is = rw is refl
+
+pub heard_key : (key : Numbered) (k : ℕ) (state : TaskState) (has_ended : Bool) (b : Booked) → (heard_update key k state has_ended b).job.key ≡ b.job.key
+heard_key key k state has_ended b = ap (λ j. j.key) (heard_job key k state has_ended b)
 
 pub gone_has_key : (key : Numbered) (acknowledged : Option ℕ) (b : Booked) → has_key key b ≡ false → is_gone key acknowledged b ≡ false
 gone_has_key key None b other = other

@@ -1,2 +1,3 @@
 pub mod Tasks
 pub mod Used
+pub mod Launches

@@ -12,7 +12,8 @@ pub fn is_same_framework(id: FrameworkId, other: FrameworkId) -> bool
     id.number() == other.number() && id.run() == other.run()
 }
 
-pub(crate) fn is_same_launch(key: LaunchKey, other: LaunchKey) -> bool
+/// Whether two keys are of one launch.
+pub fn is_same_launch(key: LaunchKey, other: LaunchKey) -> bool
     ensures { result ≡ same key other }
 {
     key.number() == other.number() && key.run() == other.run()

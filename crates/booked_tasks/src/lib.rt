@@ -3,8 +3,9 @@
 #![tactic(auto)]
 
 mod ids;
+mod launches;
 mod tasks;
 mod used;
 
-pub use ids::is_same_framework;
+pub use ids::{is_same_framework, is_same_launch};
 pub use tasks::{Heard, Tasks};

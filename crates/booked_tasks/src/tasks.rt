@@ -1,15 +1,16 @@
 //! The booked tasks of one agent.
 
-ghost use Rattle.std.specs.Prelude.{◌≡◌, ◌++◌, ◌∷◌, [], not, filter, map, ◌<◌, OnOk, OnErr, IfSome};
+ghost use Rattle.std.specs.Prelude.{◌≡◌, ◌++◌, ◌∷◌, [], not, filter, flat_map, map, ◌<◌, OnOk, OnErr, IfOk, IfSome};
 ghost use Rattle.cluster_model.specs.Sides.{heard_update, forget, forget_all};
 ghost use Rattle.std.specs.List.{find, list_any};
 ghost use Rattle.std.specs.Option.{option_copied};
-ghost use Rattle.cluster_model.specs.Ids.{same};
 ghost use Rattle.id_spans.specs.Spans.{AreRisingIfTold, IsSpan};
 ghost use Rattle.booked_tasks.specs.Tasks.{has_tasks_of, has_key, key_of, ended, is_acknowledged, is_gone};
 ghost use Rattle.booked_tasks.specs.Used.{IsSum};
+ghost use Rattle.booked_tasks.specs.Launches.{AreKeys, HasTasksIfKnown, has_launched, is_task_of, tasks_of};
 
 use crate::ids::{is_same_framework, is_same_launch};
+use crate::launches::{self, Launches};
 use crate::used;
 use id_spans::{Span, are_rising, goes_on_rising, span_of};
 use listed::Listed;
@@ -28,6 +29,8 @@ pub struct Tasks {
     /// Whether it is known that keys rise from task to task, as they do where each was booked
     /// after the one before.
     are_rising: bool,
+    /// The launches of the tasks, where memory was granted for them.
+    launches: Option<Launches>,
 }
 
 impl Model for Tasks {
@@ -36,13 +39,15 @@ impl Model for Tasks {
     ghost use Rattle.id_spans.specs.Spans.{AreRisingIfTold};
     ghost use Rattle.booked_tasks.specs.Tasks.{key_of};
     ghost use Rattle.booked_tasks.specs.Used.{IsSumIfKnown};
+    ghost use Rattle.booked_tasks.specs.Launches.{HasTasksIfKnown};
 
     ghost Value = { List Booked };
 
     ghost view = { λ tasks. tasks.items.items };
 
     ghost invariant = { λ tasks. IsSumIfKnown tasks.sum tasks.items.items
-        × AreRisingIfTold key_of tasks.are_rising tasks.items.items };
+        × AreRisingIfTold key_of tasks.are_rising tasks.items.items
+        × HasTasksIfKnown tasks.launches tasks.items.items };
 }
 
 fn has_key(task: &Booked, key: LaunchKey) -> bool
@@ -158,35 +163,169 @@ fn take_out(tasks: &mut Vec<Booked>, span: Span, key: LaunchKey, acknowledged: O
     }
 }
 
-fn forget_of(tasks: &mut Vec<Booked>, framework: FrameworkId)
-    ensures { tasks.new.items ≡ filter (λ b. not (same b.job.framework framework)) tasks.old.items }
+/// The tasks at the places outside of which none has this key.
+fn part_of(tasks: &[Booked], are_rising: bool, key: LaunchKey) -> &[Booked]
+    requires { AreRisingIfTold key_of are_rising tasks.now }
+    ensures all { filter (has_key key) result.now ≡ filter (has_key key) tasks.now }
+    ensures found { find (has_key key) result.now ≡ find (has_key key) tasks.now }
+    ensures any { list_any (has_key key) result.now ≡ list_any (has_key key) tasks.now }
+{
+    let span = span_of(tasks, are_rising, &key);
+    &tasks[span.from..span.to]
+}
+
+/// Forgets the launch of a framework's task, where none of its key is left.
+fn forget_launch(
+    tasks: &[Booked],
+    launches: &mut Option<Launches>,
+    are_rising: bool,
+    framework: FrameworkId,
+    key: LaunchKey,
+)
+    requires rising { AreRisingIfTold key_of are_rising tasks.now }
+    requires among { HasTasksIfKnown launches.old tasks.now }
+    ensures { HasTasksIfKnown launches.new tasks.now }
+{
+    if !is_booked(part_of(tasks, are_rising, key), key) {
+        launches::forget(launches, tasks, framework, key);
+    }
+}
+
+/// The framework of a task of this key.
+fn framework_of(tasks: &[Booked], key: LaunchKey) -> Option<FrameworkId> {
+    let task = find_in(tasks, key)?;
+    Some(task.job.framework)
+}
+
+/// The task of this key is gone, or only if its end is acknowledged by an update's number.
+fn forget_key(
+    tasks: &mut Vec<Booked>,
+    launches: &mut Option<Launches>,
+    are_rising: bool,
+    key: LaunchKey,
+    acknowledged: Option<u32>,
+)
+    requires rising { AreRisingIfTold key_of are_rising tasks.old.items }
+    requires among { HasTasksIfKnown launches.old tasks.old.items }
+    ensures forgotten { tasks.new.items
+        ≡ filter (λ b. not (is_gone key acknowledged b)) tasks.old.items }
+    ensures rising { AreRisingIfTold key_of are_rising tasks.new.items }
+    ensures among { HasTasksIfKnown launches.new tasks.new.items }
+{
+    let span = span_of(tasks, are_rising, &key);
+    let framework = framework_of(&tasks[span.from..span.to], key);
+    take_out(tasks, span, key, acknowledged);
+    if let Some(framework) = framework {
+        forget_launch(tasks, launches, are_rising, framework, key);
+    }
+}
+
+fn take_out_of(tasks: &mut Vec<Booked>, framework: FrameworkId)
+    ensures { tasks.new.items ≡ filter (λ b. not (is_task_of framework b)) tasks.old.items }
 {
     tasks.retain(|task| !is_same_framework(task.job.framework, framework));
 }
 
-fn forget_by(tasks: &mut Vec<Booked>, are_rising: bool, command: &Command)
-    requires { AreRisingIfTold key_of are_rising tasks.old.items }
+/// The tasks of a framework are gone.
+fn forget_framework(
+    tasks: &mut Vec<Booked>,
+    launches: &mut Option<Launches>,
+    are_rising: bool,
+    framework: FrameworkId,
+)
+    requires rising { AreRisingIfTold key_of are_rising tasks.old.items }
+    requires among { HasTasksIfKnown launches.old tasks.old.items }
+    ensures forgotten { tasks.new.items
+        ≡ filter (λ b. not (is_task_of framework b)) tasks.old.items }
+    ensures rising { AreRisingIfTold key_of are_rising tasks.new.items }
+    ensures among { HasTasksIfKnown launches.new tasks.new.items }
+{
+    take_out_of(tasks, framework);
+    launches::forget_framework(launches, tasks, framework);
+}
+
+fn forget_by(
+    tasks: &mut Vec<Booked>,
+    launches: &mut Option<Launches>,
+    are_rising: bool,
+    command: &Command,
+)
+    requires rising { AreRisingIfTold key_of are_rising tasks.old.items }
+    requires among { HasTasksIfKnown launches.old tasks.old.items }
     ensures forgotten { tasks.new.items ≡ forget command.now tasks.old.items }
     ensures rising { AreRisingIfTold key_of are_rising tasks.new.items }
+    ensures among { HasTasksIfKnown launches.new tasks.new.items }
 {
     match command {
         Command::Launch(..) | Command::Kill(_) => {}
-        Command::Ack(key, k) => {
-            let span = span_of(tasks, are_rising, key);
-            take_out(tasks, span, *key, Some(*k));
+        Command::Ack(key, k) => forget_key(tasks, launches, are_rising, *key, Some(*k)),
+        Command::EndFramework(framework) => {
+            forget_framework(tasks, launches, are_rising, *framework);
         }
-        Command::EndFramework(framework) => forget_of(tasks, *framework),
     }
 }
 
-fn forget_all(tasks: &mut Vec<Booked>, are_rising: bool, commands: &[Command])
-    requires { AreRisingIfTold key_of are_rising tasks.old.items }
+fn forget_all(
+    tasks: &mut Vec<Booked>,
+    launches: &mut Option<Launches>,
+    are_rising: bool,
+    commands: &[Command],
+)
+    requires rising { AreRisingIfTold key_of are_rising tasks.old.items }
+    requires among { HasTasksIfKnown launches.old tasks.old.items }
     ensures forgotten { tasks.new.items ≡ forget_all commands.now tasks.old.items }
     ensures rising { AreRisingIfTold key_of are_rising tasks.new.items }
+    ensures among { HasTasksIfKnown launches.new tasks.new.items }
 {
     for command in commands {
-        forget_by(tasks, are_rising, command);
+        forget_by(tasks, launches, are_rising, command);
     }
+}
+
+fn has_launched(task: &Booked, framework: FrameworkId, key: LaunchKey) -> bool
+    ensures { result ≡ has_launched framework key task.now }
+{
+    is_same_launch(task.job.key, key) && is_same_framework(task.job.framework, framework)
+}
+
+fn any_launched(tasks: &[Booked], framework: FrameworkId, key: LaunchKey) -> bool
+    ensures { result ≡ list_any (has_launched framework key) tasks.now }
+{
+    tasks.iter().any(|task| has_launched(task, framework, key))
+}
+
+fn push_launched<'a>(
+    found: &mut Vec<&'a Booked>,
+    tasks: &'a [Booked],
+    framework: FrameworkId,
+    key: LaunchKey,
+) -> Result<(), AllocError>
+    ensures { OnOk result (map (λ b. b.now) found.new.items ≡ map (λ b. b.now) found.old.items
+        ++ filter (has_launched framework key) tasks.entry.now) }
+{
+    for task in tasks {
+        if has_launched(task, framework, key) {
+            found.push(task)?;
+        }
+    }
+    Ok(())
+}
+
+/// The tasks of a framework.
+fn all_of(
+    alloc: Global,
+    tasks: &[Booked],
+    framework: FrameworkId,
+) -> Result<Vec<&Booked>, AllocError>
+    ensures { IfOk result (λ found. map (λ b. b.now) found.items ≡ tasks_of framework tasks.now) }
+{
+    let mut found = Vec::new(alloc);
+    for task in tasks {
+        if is_same_framework(task.job.framework, framework) {
+            found.push(task)?;
+        }
+    }
+    Ok(found)
 }
 
 impl Tasks {
@@ -198,6 +337,7 @@ impl Tasks {
             items: Vec::new(alloc),
             sum: Some(Resources::new(alloc)),
             are_rising: true,
+            launches: None,
         }
     }
 
@@ -207,10 +347,12 @@ impl Tasks {
     {
         let sum = used::sum_of(alloc, tasks.as_slice());
         let are_rising = are_rising(tasks.as_slice());
+        let launches = launches::launches_of(alloc, tasks.as_slice());
         Tasks {
             items: tasks.into_vec(),
             sum,
             are_rising,
+            launches,
         }
     }
 
@@ -229,13 +371,14 @@ impl Tasks {
         self.sum.as_ref()
     }
 
-    /// The tasks at the places outside of which none has this key.
-    fn part(&self, key: LaunchKey) -> &[Booked]
+    /// Tasks among which are all that have this key, in order, and where keys rise from task to
+    /// task no others. They are found by halving.
+    pub fn part_of(&self, key: LaunchKey) -> &[Booked]
+        ensures all { filter (has_key key) result.now ≡ filter (has_key key) self.now }
         ensures found { find (has_key key) result.now ≡ find (has_key key) self.now }
         ensures any { list_any (has_key key) result.now ≡ list_any (has_key key) self.now }
     {
-        let span = span_of(&self.items, self.are_rising, &key);
-        &self.items[span.from..span.to]
+        part_of(&self.items, self.are_rising, key)
     }
 
     /// The task of this key, if it is booked here.
@@ -243,7 +386,7 @@ impl Tasks {
     pub fn find(&self, key: LaunchKey) -> Option<&Booked>
         ensures { option_copied result ≡ find (has_key key) self.now }
     {
-        find_in(self.part(key), key)
+        find_in(self.part_of(key), key)
     }
 
     /// Whether a task of this key is booked here.
@@ -251,14 +394,79 @@ impl Tasks {
     pub fn is_booked(&self, key: LaunchKey) -> bool
         ensures { result ≡ list_any (has_key key) self.now }
     {
-        is_booked(self.part(key), key)
+        is_booked(self.part_of(key), key)
     }
 
-    /// Whether a task of the framework is booked here, ended or not.
+    fn has_launched(&self, framework: FrameworkId, key: LaunchKey) -> bool
+        ensures { result ≡ list_any (has_launched framework key) self.now }
+    {
+        any_launched(self.part_of(key), framework, key)
+    }
+
+    fn has_launched_any(&self, framework: FrameworkId, keys: &[LaunchKey]) -> bool
+        ensures { result
+            ≡ list_any (λ key. list_any (has_launched framework key) self.now) keys.now }
+    {
+        for key in keys {
+            if self.has_launched(framework, *key) {
+                return true;
+            }
+        }
+        false
+    }
+
+    /// Whether a task of the framework is booked here, ended or not. It takes the time of a
+    /// look-up by a key, where memory was granted for the launches.
     pub fn has_tasks_of(&self, framework: FrameworkId) -> bool
         ensures { result ≡ has_tasks_of framework self.now }
     {
-        has_tasks_of(&self.items, framework)
+        match &self.launches {
+            None => has_tasks_of(&self.items, framework),
+            Some(launches) => self.has_launched_any(framework, launches.keys_of(framework)),
+        }
+    }
+
+    /// The keys of a framework's tasks, where they are known, and rise as those of the tasks do.
+    fn rising_keys_of(&self, framework: FrameworkId) -> Option<&[LaunchKey]>
+        ensures { IfSome result (λ keys. AreKeys framework keys.now self.now) }
+    {
+        if !self.are_rising {
+            return None;
+        }
+        let keys = self.launches.as_ref()?.keys_of(framework);
+        if are_rising(keys) { Some(keys) } else { None }
+    }
+
+    fn with_keys(
+        &self,
+        alloc: Global,
+        framework: FrameworkId,
+        keys: &[LaunchKey],
+    ) -> Result<Vec<&Booked>, AllocError>
+        ensures { IfOk result (λ found. map (λ b. b.now) found.items
+            ≡ flat_map (λ key. filter (has_launched framework key) self.now) keys.now) }
+    {
+        let mut found = Vec::new(alloc);
+        for key in keys {
+            push_launched(&mut found, self.part_of(*key), framework, *key)?;
+        }
+        Ok(found)
+    }
+
+    /// The tasks of a framework, ended ones too, in order. Where keys rise from task to task, and
+    /// memory was granted for the launches, it goes over no task of another framework.
+    pub fn of_framework(
+        &self,
+        alloc: Global,
+        framework: FrameworkId,
+    ) -> Result<Vec<&Booked>, AllocError>
+        ensures { IfOk result (λ found. map (λ b. b.now) found.items
+            ≡ tasks_of framework self.now) }
+    {
+        match self.rising_keys_of(framework) {
+            Some(keys) => self.with_keys(alloc, framework, keys),
+            None => all_of(alloc, &self.items, framework),
+        }
     }
 
     /// One task more, the last. It fails for want of memory alone.
@@ -269,9 +477,11 @@ impl Tasks {
         let known = self.sum.take();
         let sum = used::sum_with(alloc, known, &self.items, &task);
         let are_rising = goes_on_rising(&self.items, self.are_rising, &task);
+        let launches = launches::with_task(alloc, self.launches.take(), &self.items, &task);
         self.items.push(task)?;
         self.sum = sum;
         self.are_rising = are_rising;
+        self.launches = launches;
         Ok(())
     }
 
@@ -290,7 +500,8 @@ impl Tasks {
     {
         let span = span_of(&self.items, self.are_rising, &key);
         self.sum = used::without_key(self.sum.take(), &self.items, span, key);
-        take_out(&mut self.items, span, key, None);
+        let are_rising = self.are_rising;
+        forget_key(&mut self.items, &mut self.launches, are_rising, key, None);
     }
 
     /// An update of the task of its launch key is heard. It takes no memory.
@@ -311,6 +522,7 @@ impl Tasks {
         ensures { self.new ≡ forget_all commands.now self.old }
     {
         self.sum = used::after_commands(self.sum.take(), commands);
-        forget_all(&mut self.items, self.are_rising, commands);
+        let are_rising = self.are_rising;
+        forget_all(&mut self.items, &mut self.launches, are_rising, commands);
     }
 }

@@ -1,2 +1,3 @@
+pub mod ByIds
 pub mod Rising
 pub mod Spans

@@ -32,6 +32,12 @@ module _ {X : Type 0} (test : X → Bool) where
       let parts = or_parts (test x) (list_any test xs) none in
       rw parts.0 (find_none xs parts.1)
 
+  pub filter_none : (xs : List X) → None_of xs → filter test xs ≡ []
+  filter_none [] none = refl
+  filter_none (x ∷ xs) none =
+      let parts = or_parts (test x) (list_any test xs) none in
+      rw parts.0 (filter_none xs parts.1)
+
   find_behind : (xs ys : List X) → None_of xs → find test (xs ++ ys) ≡ find test ys
   find_behind [] ys none = refl
   find_behind (x ∷ xs) ys none =
@@ -81,6 +87,11 @@ module _ {X : Type 0} (test : X → Bool) where
     flat_part part stays = sym (ap (flat_map part) (split_between xs from to rises)
         ∙ flat_map-append part (take from xs) _
         ∙ rw (nothing part stays (take from xs) none_before) (flat_map-append part (slice_range xs from to) (drop to xs) ∙ rw (nothing part stays (drop to xs) none_behind) (append-nil (flat_map part (slice_range xs from to)))))
+
+    pub filter_part : filter test (slice_range xs from to) ≡ filter test xs
+    filter_part = sym (ap (filter test) (split_between xs from to rises)
+        ∙ filter-append test (take from xs) _
+        ∙ rw (filter_none (take from xs) none_before) (filter-append test (slice_range xs from to) (drop to xs) ∙ rw (filter_none (drop to xs) none_behind) (append-nil (filter test (slice_range xs from to)))))
 
     -- a loop that changes each place of the part
 

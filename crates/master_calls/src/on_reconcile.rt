@@ -113,6 +113,23 @@ fn gather_task(
     Ok(())
 }
 
+fn gather_tasks(
+    live: &mut BTreeMap<LaunchKey, HeldTask>,
+    alloc: Global,
+    framework: FrameworkId,
+    agent: &AgentName,
+    tasks: &[&Booked],
+) -> Result<(), AllocError>
+    ensures { OnOk result (live.new.entries ≡ fold (gathers framework agent.now) live.old.entries
+        (map (λ b. b.now) tasks.now)) }
+{
+    for task in tasks {
+        gather_task(live, alloc, framework, agent, *task)?;
+    }
+    Ok(())
+}
+
+/// Goes over the framework's tasks on an agent, and no others.
 fn gather_on(
     live: &mut BTreeMap<LaunchKey, HeldTask>,
     alloc: Global,
@@ -122,10 +139,8 @@ fn gather_on(
     ensures { OnOk result (live.new.entries
         ≡ gathers_on framework live.old.entries (holding_of account.now)) }
 {
-    for task in account.booked.as_slice() {
-        gather_task(live, alloc, framework, &account.name, task)?;
-    }
-    Ok(())
+    let tasks = account.booked.of_framework(alloc, framework)?;
+    gather_tasks(live, alloc, framework, &account.name, &tasks)
 }
 
 fn gather_each(

@@ -1,16 +1,19 @@
 -- The names of booked tasks stay among those that are kept.
-use Rattle.std.proofs.Common.{◌≡◌, ℕ, Bool, true, false, cond, ◌&&◌, ◌||◌, ◌<◌, ◌+◌, List, [], ◌∷◌, ◌++◌, length, take, get_or, map, filter, fold, None, Result, Ok, Err, OnOk, OnErr, bytes_eq, refl, sym, ap, ◌∙◌, subst, arith}
+use Rattle.std.proofs.Common.{◌≡◌, ℕ, Bool, true, false, cond, ◌&&◌, ◌<◌, ◌+◌, List, [], ◌∷◌, ◌++◌, length, take, get_or, map, filter, fold, Option, None, Some, string_bytes, Result, Ok, Err, OnOk, OnErr, bytes_eq, refl, sym, ap, ◌∙◌, subst, arith}
 use Rattle.std.specs.Cmp.Lexicographic.{bytes_decides}
 use Rattle.std.specs.List.{list_any}
-use Rattle.std.specs.Ordering.{match_ordering}
+use Rattle.std.specs.Cmp.Lexicographic.{slice_cmp}
+use Rattle.std.specs.Ordering.{eq_by_cmp, is_eq, nat_cmp, ordering_then}
 use Rattle.std.specs.declared.cmp.Ordering.{Ordering}
 use Rattle.std.specs.declared.cmp.Ordering.TheVariants.{Less, Equal, Greater}
-use Rattle.std.specs.BTreeMap.{is_at}
-use Rattle.std.specs.BTreeSet.{BTreeSet, insert_key}
+use Rattle.std.specs.BTreeMap.{UpdatesBy, get_by, is_at}
+use Rattle.std.specs.Map.{AreApart, IsKeyTest}
+use Rattle.std.specs.Map as entries
+use Rattle.std.proofs.lemmas.Map.Text.{is_eq-slice_cmp}
 use Rattle.std.proofs.lemmas.Bool.Decides.{nat_tests}
 use Rattle.offer_book.specs.declared.names.Given.{Given}
 use Rattle.std.proofs.lemmas.List.{take_more}
-use Rattle.std.proofs.lemmas.Bool.{true≢false}
+use Rattle.std.proofs.lemmas.Bool.{true≢false, or_parts}
 use Rattle.names_core.specs.Ids.{Numbered}
 use Rattle.names_core.specs.declared.state.TaskState.{TaskState}
 use Rattle.mails.specs.declared.task.Booked.{Booked}
@@ -19,46 +22,95 @@ use Rattle.mails.specs.declared.mail.Command.TheVariants.{Launch, Kill, Ack, End
 use Rattle.cluster_model.specs.Ids.{same}
 use Rattle.cluster_model.specs.Sides.{heard_update, forget, forget_all}
 use Rattle.offer_book.specs.Accounts.{Account, with_task, with_ended, without_key, hearing, after_commands, ended, has_key}
-use Rattle.offer_book.specs.Books.{at_first}
-use Rattle.offer_book.specs.Held.{is_of_name, first_at, first_of}
-use Rattle.offer_book.specs.Named.{Names, may_have, IsNamed, AreNamed, AreAllNamed, HasAllGiven, Keeps, given_cmp}
+use Rattle.booked_tasks.specs.Launches.{id_cmp}
+use Rattle.booked_tasks.proofs.ByFramework.{at_same}
+use Rattle.offer_book.specs.Books.{at_first, is_booked}
+use Rattle.cluster_model.specs.Masters.{Placed, first_placed}
+use Rattle.offer_book.specs.Held.{place, is_of_name, first_at, first_at_key, first_in, first_in_key, first_of, first_of_key}
+use Rattle.offer_book.specs.Named.{AreAllNamed, AreKeysOf, AreNamed, GivenKeys, HasAllGiven, HasOtherGiven, IsNamed, Keeps, KeepsOthers, Keys, Names, given_cmp, has_given, has_only, is_key, may_be, may_have}
 
--- with more names
-
-or_right : (v w : Bool) → w ≡ true → (v || w) ≡ true
-or_right true w e = refl
-or_right false w e = e
-
--- what is found among keys is found with one more of them
-found_still : {K : Type 0} (cmp : K → K → Ordering) (test : K → Bool) (ks : List K) (k : K) → list_any test ks ≡ true → list_any test (insert_key cmp ks k) ≡ true
-found_still cmp test [] k had = absurd (cc)
-found_still cmp test (x ∷ xs) k had = by_order (cmp k x) (λ e. found_still cmp test xs k e)
-  where
-    behind : (v : Bool) → (v || list_any test xs) ≡ true → (list_any test xs ≡ true → list_any test (insert_key cmp xs k) ≡ true) → (v || list_any test (insert_key cmp xs k)) ≡ true
-    behind true e still = refl
-    behind false e still = still e
-
-    by_order : (o : Ordering) → (list_any test xs ≡ true → list_any test (insert_key cmp xs k) ≡ true) → list_any test (match_ordering o (k ∷ x ∷ xs) (x ∷ xs) (x ∷ insert_key cmp xs k)) ≡ true
-    by_order Less still = or_right (test k) _ had
-    by_order Equal still = had
-    by_order Greater still = behind (test x) had still
-
-pub given_still : (cmp : Given → Given → Ordering) (old new : BTreeSet Given) (g : Given) → new.keys ≡ insert_key cmp old.keys g → HasAllGiven old new
-given_still cmp old new g is framework name had = ap (list_any (is_at (given_cmp framework name))) is ∙ found_still cmp (is_at (given_cmp framework name)) old.keys g had
-
-pub wider : (one other : Names) → Keeps one other → (bs : List Booked) → AreNamed one bs → AreNamed other bs
-wider one other keeps [] are = tt
-wider one other keeps (b ∷ bs) are = (keeps b.job.framework b.job.name are.0, wider one other keeps bs are.1)
-
-pub all_wider : (one other : Names) → Keeps one other → (as_ : List Account) → AreAllNamed one as_ → AreAllNamed other as_
-all_wider one other keeps [] are = tt
-all_wider one other keeps (a ∷ as_) are = (wider one other keeps a.booked are.0, all_wider one other keeps as_ are.1)
+-- names, and others
 
 same_is : (a b : Numbered) → same a b ≡ true → a ≡ b
 same_is a b h =
     let n : a.n ≡ b.n = grind (arith, nat_tests) in
     let run : a.run ≡ b.run = grind (arith, nat_tests) in
     let e : record { run = a.run; n = a.n } ≡ b = rw (n, run) refl in e
+
+abbrev cmp : Given → Given → Ordering
+cmp g other = given_cmp g.framework (string_bytes g.text) other
+
+both_equal : (o p : Ordering) → is_eq (ordering_then o p) ≡ (is_eq o && is_eq p)
+both_equal Less p = refl
+both_equal Equal p = refl
+both_equal Greater p = refl
+
+and_parts : (v w : Bool) → (v && w) ≡ true → (v ≡ true) × (w ≡ true)
+and_parts true w e = (refl, e)
+and_parts false w e = absurd (true≢false (sym e))
+
+-- what compares equal is the same name
+equal_is : (framework : Numbered) (name : List ℕ) (g : Given) → is_at (given_cmp framework name) g ≡ true → (framework ≡ g.framework) × (name ≡ string_bytes g.text)
+equal_is framework name g e =
+    let parts = and_parts _ _ (sym (both_equal (id_cmp framework g.framework) (slice_cmp nat_cmp name (string_bytes g.text))) ∙ e) in (
+      sym (same_is g.framework framework (sym (at_same framework g.framework) ∙ parts.0)),
+      (bytes_decides name (string_bytes g.text)).0 (sym (is_eq-slice_cmp name (string_bytes g.text)) ∙ parts.1),
+    )
+
+module _ (framework : Numbered) (name : List ℕ) where
+  tests_name : IsKeyTest (eq_by_cmp cmp) (is_at (given_cmp framework name))
+  tests_name x y e = let parts = equal_is framework name x e in rw (parts.0, parts.1) refl
+
+  apart_from : (g : Given) → is_at (given_cmp framework name) g ≡ false → AreApart (is_at (cmp g)) (is_at (given_cmp framework name))
+  apart_from g other k e =
+      let parts = equal_is g.framework (string_bytes g.text) k e in
+      ap (λ f. is_eq (ordering_then (id_cmp framework f) (slice_cmp nat_cmp name (string_bytes k.text)))) (sym parts.0)
+      ∙ (ap (λ text. is_eq (ordering_then (id_cmp framework g.framework) (slice_cmp nat_cmp name text))) (sym parts.1) ∙ other)
+
+-- after a change at one name
+
+module _ (g : Given) (old new : GivenKeys) (keys : Option Keys) (updates : UpdatesBy cmp (cmp g) old new keys) where
+  there : (framework : Numbered) (name : List ℕ) → is_at (given_cmp framework name) g ≡ false → get_by (given_cmp framework name) new ≡ get_by (given_cmp framework name) old
+  unfolding entries.KeepsOthers
+  there framework name other = updates.3 (is_at (given_cmp framework name)) (tests_name framework name) (apart_from framework name g other)
+
+  pub kept_by : (framework : Numbered) (name : List ℕ) (key : Numbered) → (may_be (get_by (cmp g) old) key ≡ true → may_be keys key ≡ true) → has_given old framework name key ≡ true → has_given new framework name key ≡ true
+  kept_by framework name key keeps had = by_case (is_at (given_cmp framework name) g) refl
+    where
+      by_case : (v : Bool) → is_at (given_cmp framework name) g ≡ v → has_given new framework name key ≡ true
+      by_case true e =
+          let parts = equal_is framework name g e in
+          let before : may_be (get_by (cmp g) old) key ≡ true = subst (λ f. may_be (get_by (given_cmp f (string_bytes g.text)) old) key ≡ true) parts.0 (subst (λ t. may_be (get_by (given_cmp framework t) old) key ≡ true) parts.1 had) in
+          let after : may_be (get_by (cmp g) new) key ≡ true = ap (λ ks. may_be ks key) updates.1 ∙ keeps before in
+          subst (λ t. may_be (get_by (given_cmp framework t) new) key ≡ true) (sym parts.1) (subst (λ f. may_be (get_by (given_cmp f (string_bytes g.text)) new) key ≡ true) (sym parts.0) after)
+      by_case false e = ap (λ ks. may_be ks key) (there framework name e) ∙ had
+
+pub with_keys : (g : Given) (old new : GivenKeys) (keys : Keys) → UpdatesBy cmp (cmp g) old new (Some keys) → ((key : Numbered) → may_be (get_by (cmp g) old) key ≡ true → may_be (Some keys) key ≡ true) → HasAllGiven old new
+with_keys g old new keys updates keeps framework name key had = kept_by g old new (Some keys) updates framework name key (keeps key) had
+
+same_turned : (a b : Numbered) → same a b ≡ same b a
+same_turned a b = grind (arith, nat_tests)
+
+only_one : (keys : Option Keys) (key other : Numbered) → has_only keys key ≡ true → same other key ≡ false → may_be keys other ≡ true → may_be None other ≡ true
+only_one None key other has apart is = is
+only_one (Some keys) key other has apart is = by_case keys.only has is
+  where
+    by_case : (only : Option Numbered) → is_key only false key ≡ true → is_key only true other ≡ true → false ≡ true
+    by_case None has is = has
+    by_case (Some only) has is =
+        let e : only ≡ key = same_is only key has in
+        absurd (true≢false (sym is ∙ ap (λ k. same k other) e ∙ same_turned key other ∙ apart))
+
+pub without_only : (g : Given) (old new : GivenKeys) (key : Numbered) → UpdatesBy cmp (cmp g) old new None → has_only (get_by (cmp g) old) key ≡ true → HasOtherGiven key old new
+without_only g old new key updates has framework name other apart had = kept_by g old new None updates framework name other (λ is. only_one (get_by (cmp g) old) key other has apart is) had
+
+pub wider : (one other : Names) → Keeps one other → (bs : List Booked) → AreNamed one bs → AreNamed other bs
+wider one other keeps [] are = tt
+wider one other keeps (b ∷ bs) are = (keeps b.job.framework b.job.name b.job.key are.0, wider one other keeps bs are.1)
+
+pub all_wider : (one other : Names) → Keeps one other → (as_ : List Account) → AreAllNamed one as_ → AreAllNamed other as_
+all_wider one other keeps [] are = tt
+all_wider one other keeps (a ∷ as_) are = (wider one other keeps a.booked are.0, all_wider one other keeps as_ are.1)
 
 module _ (names : Names) where
   -- tasks
@@ -145,19 +197,79 @@ module _ (names : Names) where
 
   -- looking for a task
 
-  none_is : (framework : Numbered) (name : List ℕ) (b : Booked) → may_have names framework name ≡ false → IsNamed names b → is_of_name framework name b ≡ false
-  none_is framework name b none is = by_name (same b.job.framework framework) (bytes_eq b.job.name name) refl refl
+  module _ (framework : Numbered) (name : List ℕ) (keys : Option Keys) (are_keys : AreKeysOf names framework name keys) where
+    key_is : (b : Booked) → IsNamed names b → is_of_name framework name b ≡ true → may_be keys b.job.key ≡ true
+    key_is b is of =
+        let parts = and_parts (same b.job.framework framework) (bytes_eq b.job.name name) of in
+        are_keys b.job.key (subst (λ n. may_have names framework n b.job.key ≡ true) ((bytes_decides b.job.name name).0 parts.1) (subst (λ f. may_have names f b.job.name b.job.key ≡ true) (same_is b.job.framework framework parts.0) is))
+
+  none_is : (framework : Numbered) (name : List ℕ) → AreKeysOf names framework name None → (b : Booked) → IsNamed names b → is_of_name framework name b ≡ false
+  none_is framework name none b is = by_case (is_of_name framework name b) (key_is framework name None none b is)
     where
-      by_name : (v w : Bool) → same b.job.framework framework ≡ v → bytes_eq b.job.name name ≡ w → (v && w) ≡ false
-      by_name true true of e =
-          absurd (true≢false (sym is ∙ ap (λ f. may_have names f b.job.name) (same_is b.job.framework framework of) ∙ ap (may_have names framework) ((bytes_decides b.job.name name).0 e) ∙ none))
-      by_name true false of e = refl
-      by_name false w of e = refl
+      by_case : (v : Bool) → (v ≡ true → false ≡ true) → v ≡ false
+      by_case true is = absurd (true≢false (sym (is refl)))
+      by_case false is = refl
 
-  none_in : (framework : Numbered) (name agent : List ℕ) (bs : List Booked) → may_have names framework name ≡ false → AreNamed names bs → fold (first_at framework name agent) None bs ≡ None
+  none_in : (framework : Numbered) (name agent : List ℕ) (bs : List Booked) → AreKeysOf names framework name None → AreNamed names bs → fold (first_at framework name agent) None bs ≡ None
   none_in framework name agent [] none are = refl
-  none_in framework name agent (b ∷ bs) none are = rw (none_is framework name b none are.0) (none_in framework name agent bs none are.1)
+  none_in framework name agent (b ∷ bs) none are = rw (none_is framework name none b are.0) (none_in framework name agent bs none are.1)
 
-  pub none_of : (framework : Numbered) (name : List ℕ) (as_ : List Account) → may_have names framework name ≡ false → AreAllNamed names as_ → first_of framework name as_ ≡ None
+  pub none_of : (framework : Numbered) (name : List ℕ) (as_ : List Account) → AreKeysOf names framework name None → AreAllNamed names as_ → first_of framework name as_ ≡ None
   none_of framework name [] none are = refl
   none_of framework name (a ∷ as_) none are = rw (none_in framework name a.name a.booked none are.0) (none_of framework name as_ none are.1)
+
+  module _ (framework : Numbered) (name : List ℕ) (key : Numbered) (only : AreKeysOf names framework name (Some (record { only = Some key }))) where
+    same_at : (agent : List ℕ) (best : Option Placed) (b : Booked) → IsNamed names b → first_at_key framework name key agent best b ≡ first_at framework name agent best b
+    same_at agent best b is = by_case (is_of_name framework name b) (λ of. same_turned b.job.key key ∙ key_is framework name (Some (record { only = Some key })) only b is of)
+      where
+        by_case : (v : Bool) → (v ≡ true → has_key key b ≡ true) → cond (has_key key b && v) (first_placed best (place agent b)) best ≡ cond v (first_placed best (place agent b)) best
+        by_case true has = rw (has refl) refl
+        by_case false has = neither (has_key key b)
+          where
+            neither : (w : Bool) → cond (w && false) (first_placed best (place agent b)) best ≡ best
+            neither true = refl
+            neither false = refl
+
+    same_in : (agent : List ℕ) (best : Option Placed) (bs : List Booked) → AreNamed names bs → fold (first_at_key framework name key agent) best bs ≡ fold (first_at framework name agent) best bs
+    same_in agent best [] are = refl
+    same_in agent best (b ∷ bs) are = ap (λ p. fold (first_at_key framework name key agent) p bs) (same_at agent best b are.0) ∙ same_in agent (first_at framework name agent best b) bs are.1
+
+    same_from : (best : Option Placed) (as_ : List Account) → AreAllNamed names as_ → fold (first_in_key framework name key) best as_ ≡ fold (first_in framework name) best as_
+    same_from best [] are = refl
+    same_from best (a ∷ as_) are = ap (λ p. fold (first_in_key framework name key) p as_) (same_in a.name best a.booked are.0) ∙ same_from (first_in framework name best a) as_ are.1
+
+    pub only_of : (as_ : List Account) → AreAllNamed names as_ → first_of_key framework name key as_ ≡ first_of framework name as_
+    only_of as_ are = same_from None as_ are
+
+-- where the tasks of a key are gone
+
+module _ (one other : Names) (key : Numbered) (keeps : KeepsOthers key one other) where
+  named_still : (bs : List Booked) → list_any (has_key key) bs ≡ false → AreNamed one bs → AreNamed other bs
+  named_still [] none are = tt
+  named_still (b ∷ bs) none are =
+      let parts = or_parts (has_key key b) (list_any (has_key key) bs) none in
+      (keeps b.job.framework b.job.name b.job.key parts.0 are.0, named_still bs parts.1 are.1)
+
+  pub all_still : (as_ : List Account) → is_booked key as_ ≡ false → AreAllNamed one as_ → AreAllNamed other as_
+  all_still [] none are = tt
+  all_still (a ∷ as_) none are =
+      let parts = or_parts (list_any (has_key key) a.booked) (is_booked key as_) none in
+      (named_still a.booked parts.0 are.0, all_still as_ parts.1 are.1)
+
+-- the tasks of a key
+
+skips : (framework : Numbered) (name : List ℕ) (key : Numbered) (agent : List ℕ) (best : Option Placed) (b : Booked) → has_key key b ≡ false → first_at_key framework name key agent best b ≡ best
+skips framework name key agent best b other = rw other refl
+
+module _ (framework : Numbered) (name : List ℕ) (key : Numbered) (agent : List ℕ) where
+  by_filter : (best : Option Placed) (bs : List Booked) → fold (first_at_key framework name key agent) best (filter (has_key key) bs) ≡ fold (first_at_key framework name key agent) best bs
+  by_filter best [] = refl
+  by_filter best (b ∷ bs) = by_case (has_key key b) refl (λ p. by_filter p bs)
+    where
+      by_case : (v : Bool) → has_key key b ≡ v → ((p : Option Placed) → fold (first_at_key framework name key agent) p (filter (has_key key) bs) ≡ fold (first_at_key framework name key agent) p bs)
+          → fold (first_at_key framework name key agent) best (cond v (b ∷ filter (has_key key) bs) (filter (has_key key) bs)) ≡ fold (first_at_key framework name key agent) best (b ∷ bs)
+      by_case true is rest = rest (first_at_key framework name key agent best b)
+      by_case false is rest = rest best ∙ ap (λ p. fold (first_at_key framework name key agent) p bs) (sym (skips framework name key agent best b is))
+
+  pub by_part : (best : Option Placed) (part bs : List Booked) → filter (has_key key) part ≡ filter (has_key key) bs → fold (first_at_key framework name key agent) best part ≡ fold (first_at_key framework name key agent) best bs
+  by_part best part bs all = sym (by_filter best part) ∙ (ap (fold (first_at_key framework name key agent) best) all ∙ by_filter best bs)

@@ -4,7 +4,7 @@ use Rattle.names_core.specs.Ids.{Numbered}
 use Rattle.mails.specs.declared.task.Booked.{Booked}
 use Rattle.cluster_model.specs.Ids.{same}
 use Rattle.cluster_model.specs.Masters.{Placed, first_placed, held_among}
-use Rattle.offer_book.specs.Accounts.{Account}
+use Rattle.offer_book.specs.Accounts.{Account, has_key}
 
 abbrev pub place : List ℕ → Booked → Placed
 place agent b = record { agent = agent; booked = b }
@@ -35,3 +35,18 @@ first_in framework name best a = fold (first_at framework name a.name) best a.bo
 
 abbrev pub first_of : Numbered → List ℕ → List Account → Option Placed
 first_of framework name as_ = fold (first_in framework name) None as_
+
+-- the same, of the tasks of one key alone
+
+abbrev pub first_at_key : Numbered → List ℕ → Numbered → List ℕ → Option Placed → Booked
+    → Option Placed
+first_at_key framework name key agent best b =
+    if has_key key b && is_of_name framework name b then first_placed best (place agent b)
+    else best
+
+abbrev pub first_in_key : Numbered → List ℕ → Numbered → Option Placed → Account → Option Placed
+first_in_key framework name key best a =
+    fold (first_at_key framework name key a.name) best a.booked
+
+abbrev pub first_of_key : Numbered → List ℕ → Numbered → List Account → Option Placed
+first_of_key framework name key as_ = fold (first_in_key framework name key) None as_

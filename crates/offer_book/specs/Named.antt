@@ -1,51 +1,84 @@
--- The names among which those of all booked tasks are.
-use Rattle.std.specs.Prelude.{◌≡◌, ℕ, Bool, true, not, ◌||◌, List, string_bytes}
+-- The names among which those of all booked tasks are, with their launch keys.
+use Rattle.std.specs.Prelude.{◌≡◌, ℕ, Bool, false, true, not, ◌||◌, List, Option, None, Some, string_bytes}
 use Rattle.std.specs.List.{AllByRecursion}
 use Rattle.std.specs.Ordering.{nat_cmp, ordering_then}
 use Rattle.std.specs.Cmp.Lexicographic.{slice_cmp}
 use Rattle.std.specs.declared.cmp.Ordering.{Ordering}
-use Rattle.std.specs.BTreeSet.{BTreeSet, contains_by}
+use Rattle.std.specs.BTreeMap.{BTreeMap, get_by}
 use Rattle.names_core.specs.Ids.{Numbered}
 use Rattle.mails.specs.declared.task.Booked.{Booked}
 use Rattle.offer_book.specs.Accounts.{Account}
+use Rattle.cluster_model.specs.Ids.{same}
+use Rattle.booked_tasks.specs.Launches.{id_cmp}
 use Rattle.offer_book.specs.declared.names.Given.{Given}
+pub use Rattle.offer_book.specs.declared.names.Keys.{Keys}
 pub use Rattle.offer_book.specs.declared.names.Names.{Names}
-
--- ids by run, then by number
-abbrev pub id_cmp : Numbered → Numbered → Ordering
-id_cmp a b = ordering_then (nat_cmp a.run b.run) (nat_cmp a.n b.n)
 
 -- by framework, then by text
 abbrev pub given_cmp : Numbered → List ℕ → Given → Ordering
 given_cmp framework name g =
     ordering_then (id_cmp framework g.framework) (slice_cmp nat_cmp name (string_bytes g.text))
 
--- among these is this name of a framework
-abbrev pub has_given : BTreeSet Given → Numbered → List ℕ → Bool
-has_given given framework name = contains_by (given_cmp framework name) given
+abbrev pub GivenKeys : Type 0
+GivenKeys = BTreeMap Given Keys
+
+abbrev pub is_key : Option Numbered → Bool → Numbered → Bool
+is_key None any key = any
+is_key (Some only) any key = same only key
+
+-- tasks of a name may have this key
+abbrev pub may_be : Option Keys → Numbered → Bool
+may_be None key = false
+may_be (Some keys) key = is_key keys.only true key
+
+-- tasks of a name have this key alone
+abbrev pub has_only : Option Keys → Numbered → Bool
+has_only None key = false
+has_only (Some keys) key = is_key keys.only false key
+
+-- among these is this name of a framework, with this key
+abbrev pub has_given : GivenKeys → Numbered → List ℕ → Numbered → Bool
+has_given given framework name key = may_be (get_by (given_cmp framework name) given) key
 
 -- those of the one are among those of the other
-abbrev pub HasAllGiven : BTreeSet Given → BTreeSet Given → Type 0
+abbrev pub HasAllGiven : GivenKeys → GivenKeys → Type 0
 HasAllGiven one other =
-    (framework : Numbered) (name : List ℕ) → has_given one framework name ≡ true
-    → has_given other framework name ≡ true
+    (framework : Numbered) (name : List ℕ) (key : Numbered)
+    → has_given one framework name key ≡ true → has_given other framework name key ≡ true
 
--- a booked task of a framework may have this name
-abbrev pub may_have : Names → Numbered → List ℕ → Bool
-may_have names framework name = not names.is_whole || has_given names.given framework name
+-- the same, but for those with this key
+abbrev pub HasOtherGiven : Numbered → GivenKeys → GivenKeys → Type 0
+HasOtherGiven gone one other =
+    (framework : Numbered) (name : List ℕ) (key : Numbered) → same key gone ≡ false
+    → has_given one framework name key ≡ true → has_given other framework name key ≡ true
+
+-- a booked task of a framework may have this name and this key
+abbrev pub may_have : Names → Numbered → List ℕ → Numbered → Bool
+may_have names framework name key = not names.is_whole || has_given names.given framework name key
+
+-- each booked task of a framework with this name may have but these
+abbrev pub AreKeysOf : Names → Numbered → List ℕ → Option Keys → Type 0
+AreKeysOf names framework name keys =
+    (key : Numbered) → may_have names framework name key ≡ true → may_be keys key ≡ true
 
 abbrev pub IsNamed : Names → Booked → Type 0
-IsNamed names b = may_have names b.job.framework b.job.name ≡ true
+IsNamed names b = may_have names b.job.framework b.job.name b.job.key ≡ true
 
 abbrev pub AreNamed : Names → List Booked → Type 0
 AreNamed names bs = AllByRecursion (IsNamed names) bs
 
--- the names of all booked tasks are among these
+-- the names of all booked tasks are among these, with their keys
 abbrev pub AreAllNamed : Names → List Account → Type 0
 AreAllNamed names as_ = AllByRecursion (λ a. AreNamed names a.booked) as_
 
 -- the names of the one are among those of the other
 abbrev pub Keeps : Names → Names → Type 0
 Keeps one other =
-    (framework : Numbered) (name : List ℕ) → may_have one framework name ≡ true
-    → may_have other framework name ≡ true
+    (framework : Numbered) (name : List ℕ) (key : Numbered)
+    → may_have one framework name key ≡ true → may_have other framework name key ≡ true
+
+-- the same, but for those with this key
+abbrev pub KeepsOthers : Numbered → Names → Names → Type 0
+KeepsOthers gone one other =
+    (framework : Numbered) (name : List ℕ) (key : Numbered) → same key gone ≡ false
+    → may_have one framework name key ≡ true → may_have other framework name key ≡ true

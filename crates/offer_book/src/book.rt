@@ -12,7 +12,7 @@ ghost use Rattle.offer_book.specs.Faults.{IsRefusal, IsDue};
 use crate::account::Account;
 use crate::fault::BookFault;
 use crate::held;
-use crate::names::Names;
+use crate::names::{Keys, Names};
 use booked_tasks::Heard;
 use listed::Listed;
 use mails::{Booked, Command, Offer};
@@ -282,12 +282,25 @@ fn booked_count(accounts: &[Account]) -> u128
     count
 }
 
+/// Lets go a name whose task is gone.
+fn let_go(names: &mut Names, accounts: &[Account], framework: FrameworkId, name: &TaskName)
+    ensures { AreAllNamed names.old accounts.now → AreAllNamed names.new accounts.now }
+{
+    let Some(Keys { only: Some(key) }) = names.keys_of(framework, name) else {
+        return;
+    };
+    if !is_booked(accounts, key) {
+        names.let_go(framework, name, key);
+    }
+}
+
 /// Keeps the name of a task that is about to be booked,
 /// and lets go names of tasks that are gone where they are many.
 fn note(names: &mut Names, accounts: &[Account], task: &Booked)
     ensures noted { IsNamed names.new task.now }
     ensures kept { AreAllNamed names.old accounts.now → AreAllNamed names.new accounts.now }
 {
+    let_go(names, accounts, task.job.framework, &task.job.name);
     if names.are_due() {
         let booked = booked_count(accounts);
         names.review(accounts, booked);
@@ -336,16 +349,17 @@ impl OfferBook {
     }
 
     /// The booked task of a framework with this name, if any, and its agent. Of several it is one
-    /// that hasn't ended, if there is one, and of these the one with the least launch key. For a
-    /// fresh name it doesn't go over the tasks, unless memory is refused.
+    /// that hasn't ended, if there is one, and of these the one with the least launch key. It goes
+    /// over the tasks only where memory is refused, or where a name is given to several tasks.
     pub fn held(&self, framework: FrameworkId, name: &TaskName) -> Option<(&AgentName, &Booked)>
         ensures { option_map (λ t. place t.0.now t.1.now) result
             ≡ held framework name.now self.now }
     {
-        if !self.names.may_have(framework, name) {
-            return None;
+        let keys = self.names.keys_of(framework, name)?;
+        match keys.only {
+            Some(key) => held::first_of_key(&self.accounts, framework, name, key),
+            None => held::first_of(&self.accounts, framework, name),
         }
-        held::first_of(&self.accounts, framework, name)
     }
 
     /// An agent enters with what it owns, at the end or at its old place.

@@ -2,11 +2,11 @@
 
 ghost use Rattle.std.specs.Prelude.{◌≡◌, fold, option_map};
 ghost use Rattle.cluster_model.specs.Masters.{stands_before, first_placed};
-ghost use Rattle.offer_book.specs.Held.{place, is_of_name, first_at, first_in, first_of};
+ghost use Rattle.offer_book.specs.Held.{place, is_of_name, first_at, first_at_key, first_in, first_in_key, first_of, first_of_key};
 ghost use Rattle.offer_book.specs.Found.{made, offer_of, task_of};
 
 use crate::account::Account;
-use booked_tasks::is_same_framework;
+use booked_tasks::{is_same_framework, is_same_launch};
 use id_spans::is_before;
 use mails::{Booked, Offer};
 use names_core::{AgentName, FrameworkId, LaunchKey, OfferId, TaskName};
@@ -83,6 +83,76 @@ fn first_in<'a>(
 {
     let tasks = account.booked.as_slice();
     first_among(before, &account.name, tasks, framework, name)
+}
+
+fn first_of_task<'a>(
+    before: Option<(&'a AgentName, &'a Booked)>,
+    agent: &'a AgentName,
+    task: &'a Booked,
+    framework: FrameworkId,
+    name: &TaskName,
+    key: LaunchKey,
+) -> Option<(&'a AgentName, &'a Booked)>
+    ensures { option_map (λ h. place h.0.now h.1.now) result
+        ≡ first_at_key framework name.now key agent.entry.now
+        (option_map (λ h. place h.0.now h.1.now) before.entry) task.entry.now }
+{
+    if is_same_launch(task.job.key, key) && is_task_of(task, framework, name) {
+        better(before, agent, task)
+    } else {
+        before
+    }
+}
+
+fn first_in_part<'a>(
+    before: Option<(&'a AgentName, &'a Booked)>,
+    agent: &'a AgentName,
+    tasks: &'a [Booked],
+    framework: FrameworkId,
+    name: &TaskName,
+    key: LaunchKey,
+) -> Option<(&'a AgentName, &'a Booked)>
+    ensures { option_map (λ h. place h.0.now h.1.now) result
+        ≡ fold (first_at_key framework name.now key agent.entry.now)
+        (option_map (λ h. place h.0.now h.1.now) before.entry) tasks.entry.now }
+{
+    let mut best = before;
+    for task in tasks {
+        best = first_of_task(best, agent, task, framework, name, key);
+    }
+    best
+}
+
+fn first_in_account<'a>(
+    before: Option<(&'a AgentName, &'a Booked)>,
+    account: &'a Account,
+    framework: FrameworkId,
+    name: &TaskName,
+    key: LaunchKey,
+) -> Option<(&'a AgentName, &'a Booked)>
+    ensures { option_map (λ h. place h.0.now h.1.now) result
+        ≡ first_in_key framework name.now key (option_map (λ h. place h.0.now h.1.now) before.entry)
+        account.entry.now }
+{
+    let tasks = account.booked.part_of(key);
+    first_in_part(before, &account.name, tasks, framework, name, key)
+}
+
+/// The booked task of a framework with this name and this key, if any, and its agent.
+pub(crate) fn first_of_key<'a>(
+    accounts: &'a [Account],
+    framework: FrameworkId,
+    name: &TaskName,
+    key: LaunchKey,
+) -> Option<(&'a AgentName, &'a Booked)>
+    ensures { option_map (λ h. place h.0.now h.1.now) result
+        ≡ first_of_key framework name.now key accounts.entry.now }
+{
+    let mut best = None;
+    for account in accounts {
+        best = first_in_account(best, account, framework, name, key);
+    }
+    best
 }
 
 /// The booked task of a framework with this name, if any, and its agent.

@@ -1,14 +1,15 @@
-//! The names of booked tasks, which tell at once that no task has a name.
+//! The names of booked tasks, and the launch keys of their tasks.
 
-ghost use Rattle.std.specs.Prelude.{◌≡◌, true, false, OnOk};
-ghost use Rattle.std.specs.Bool.{OnFalse};
-ghost use Rattle.offer_book.specs.Named.{has_given, may_have, HasAllGiven, IsNamed, AreNamed, AreAllNamed, Keeps};
+ghost use Rattle.std.specs.Prelude.{◌≡◌, true, false, Some, OnOk};
+ghost use Rattle.names_core.specs.Ids.{Numbered};
+ghost use Rattle.offer_book.specs.Named.{has_only, has_given, may_be, AreKeysOf, HasAllGiven, HasOtherGiven, IsNamed, AreNamed, AreAllNamed, Keeps, KeepsOthers};
 
 use crate::account::Account;
+use booked_tasks::is_same_launch;
 use mails::Booked;
-use names_core::{FrameworkId, TaskName};
+use names_core::{FrameworkId, LaunchKey, TaskName};
 use std::alloc::{AllocError, Global};
-use std::collections::BTreeSet;
+use std::collections::BTreeMap;
 
 /// So many names are kept whatever is booked.
 const LEAST_LIMIT: u128 = 1000;
@@ -20,29 +21,74 @@ pub(crate) struct Given {
     text: String,
 }
 
-/// Names among which those of all booked tasks are. A name may stay when its task is gone.
+/// Which launch keys the booked tasks of a name have.
+#[derive(Clone, Copy, Drop)]
+pub(crate) struct Keys {
+    /// The key that each of them has. `None` where they may have any.
+    pub(crate) only: Option<LaunchKey>,
+}
+
+/// Names among which those of all booked tasks are, with their keys.
+/// A name may stay when its task is gone.
 #[derive(Drop)]
 pub(crate) struct Names {
     alloc: Global,
-    given: BTreeSet<Given>,
+    given: BTreeMap<Given, Keys>,
     /// Whether memory was granted for each name. If not, nothing is known of any.
     is_whole: bool,
     /// With more names than this it is time to see how many tasks are booked.
     limit: u128,
 }
 
+/// The keys of a name with one key more.
+fn with_key(keys: Option<Keys>, key: LaunchKey) -> Keys
+    ensures has { may_be (Some result) key ≡ true }
+    ensures kept { (other : Numbered) → may_be keys other ≡ true
+        → may_be (Some result) other ≡ true }
+{
+    if keys.is_none() || has_only(keys, key) {
+        Keys { only: Some(key) }
+    } else {
+        Keys { only: None }
+    }
+}
+
+fn has_only(keys: Option<Keys>, key: LaunchKey) -> bool
+    ensures { result ≡ has_only keys key }
+{
+    let Some(known) = keys else {
+        return false;
+    };
+    match known.only {
+        None => false,
+        Some(only) => is_same_launch(only, key),
+    }
+}
+
 fn insert(
-    given: &mut BTreeSet<Given>,
+    given: &mut BTreeMap<Given, Keys>,
     alloc: Global,
     framework: FrameworkId,
     name: &TaskName,
+    key: LaunchKey,
 ) -> Result<(), AllocError>
-    ensures inserted { OnOk result (has_given given.new framework name.now ≡ true) }
+    ensures inserted { OnOk result (has_given given.new framework name.now key ≡ true) }
     ensures kept { OnOk result (HasAllGiven given.old given.new) }
 {
     let text = String::from_str(alloc, name.as_text())?;
-    given.insert(Given { framework, text })?;
+    let name = Given { framework, text };
+    let keys = with_key(given.get(&name).copied(), key);
+    given.insert(name, keys)?;
     Ok(())
+}
+
+/// A name is let go, if its tasks have this key alone.
+fn remove(given: &mut BTreeMap<Given, Keys>, name: &Given, key: LaunchKey)
+    ensures { HasOtherGiven key given.old given.new }
+{
+    if has_only(given.get(name).copied(), key) {
+        let _keys = given.remove(name);
+    }
 }
 
 impl Names {
@@ -50,23 +96,24 @@ impl Names {
     pub(crate) fn new(alloc: Global) -> Names {
         Names {
             alloc,
-            given: BTreeSet::new(alloc),
+            given: BTreeMap::new(alloc),
             is_whole: true,
             limit: LEAST_LIMIT,
         }
     }
 
-    /// Whether a booked task of a framework may have this name. Where memory is refused, one may.
-    pub(crate) fn may_have(&self, framework: FrameworkId, name: &TaskName) -> bool
-        ensures { OnFalse result (may_have self.now framework name.now ≡ false) }
+    /// Which keys the booked tasks of a framework with this name may have.
+    /// Where memory is refused, any.
+    pub(crate) fn keys_of(&self, framework: FrameworkId, name: &TaskName) -> Option<Keys>
+        ensures { AreKeysOf self.now framework name.now result }
     {
         if !self.is_whole {
-            return true;
+            return Some(Keys { only: None });
         }
         let Ok(text) = String::from_str(self.alloc, name.as_text()) else {
-            return true;
+            return Some(Keys { only: None });
         };
-        self.given.contains(&Given { framework, text })
+        self.given.get(&Given { framework, text }).copied()
     }
 
     fn give_up(&mut self)
@@ -76,14 +123,28 @@ impl Names {
         self.is_whole = false;
     }
 
-    /// The name of a task that is about to be booked. Where memory is refused for it,
+    /// No task of this key is booked any more: where a framework's tasks of a name have this key
+    /// alone, the name is let go, unless memory is refused.
+    pub(crate) fn let_go(&mut self, framework: FrameworkId, name: &TaskName, key: LaunchKey)
+        ensures { KeepsOthers key self.old self.new }
+    {
+        if let Ok(text) = String::from_str(self.alloc, name.as_text()) {
+            remove(&mut self.given, &Given { framework, text }, key);
+        }
+    }
+
+    /// The name and the key of a task that is about to be booked. Where memory is refused for it,
     /// nothing is known of names from now on.
     pub(crate) fn note(&mut self, task: &Booked)
         ensures noted { IsNamed self.new task.now }
         ensures kept { Keeps self.old self.new }
     {
         let job = &task.job;
-        if self.is_whole && insert(&mut self.given, self.alloc, job.framework, &job.name).is_err() {
+        if !self.is_whole {
+            return;
+        }
+        let (framework, name, key) = (job.framework, &job.name, job.key);
+        if insert(&mut self.given, self.alloc, framework, name, key).is_err() {
             self.give_up();
         }
     }

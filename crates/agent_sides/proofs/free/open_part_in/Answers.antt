@@ -1,5 +1,4 @@
-use Rattle.std.proofs.Common.{◌≡◌, ◌<◌, Some, None, true, false, inl, inr, length, sym, ap, ◌∙◌, arith}
-use Rattle.offer_book.specs.Accounts.{free}
+use Rattle.std.proofs.Common.{Some, None, inl, inr, sym, ap, ◌∙◌, arith}
 use Rattle.agent_sides.specs.Free.{open_part}
 use Rattle.agent_sides.proofs.Freeing.{joined_here, joined_past, open_joins, shut_joins}
 use Rattle.agent_sides.proofs.free.open_part_in.Goals as goal

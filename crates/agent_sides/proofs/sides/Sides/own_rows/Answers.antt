@@ -1,4 +1,4 @@
-use Rattle.std.proofs.Common.{subst, ◌∙◌}
+use Rattle.std.proofs.Common.{subst}
 use Rattle.std.specs.List.{AllByRecursion}
 use Rattle.quantity.specs.Rows.{AreRows}
 use Rattle.cluster_model.specs.Sides.{Side}

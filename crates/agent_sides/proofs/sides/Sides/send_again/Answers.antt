@@ -1,4 +1,4 @@
-use Rattle.std.proofs.Common.{◌≡◌, ◌++◌, flat_map, refl, ap, ◌∙◌}
+use Rattle.std.proofs.Common.{◌++◌, flat_map, refl, ap, ◌∙◌}
 use Rattle.agent_sides.specs.Told.{mails_at_tick}
 use Rattle.agent_sides.proofs.Joining.{on_ok}
 use Rattle.agent_sides.proofs.Telling.{flat_joined}

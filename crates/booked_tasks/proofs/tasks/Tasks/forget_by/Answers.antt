@@ -6,4 +6,5 @@ pub invariant_of-self : goal.invariant_of-self
 invariant_of-self c = (
   rw c.forget_all.ensures.forgotten (c.after_commands.ensures c.self.inside.items.items (subst (λ sum. IsSumIfKnown sum c.self.inside.items.items) (sym c.take.ensures.value) c.self.invariant.0)),
   c.forget_all.ensures.rising,
+  c.forget_all.ensures.among,
 )
