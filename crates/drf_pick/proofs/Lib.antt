@@ -1,3 +1,4 @@
+pub mod PlacesKept
 pub mod Orders
 pub mod Standing
 pub mod Names

@@ -1,12 +1,18 @@
 -- The dominant shares of frameworks and roles.
-use Rattle.std.specs.Prelude.{◌≡◌, ℕ, List, None}
+use Rattle.std.specs.Prelude.{◌≡◌, ℕ, List, None, Some}
 use Rattle.std.specs.List.{position}
 use Rattle.names_core.specs.Ids.{Numbered}
 use Rattle.share_sums.specs.Dominant.{IsDominant, nothing}
-use Rattle.drf_pick.specs.Shares.{Tally, is_role}
+use Rattle.drf_pick.specs.Shares.{Tally, is_holder, is_role}
 use Rattle.drf_pick.specs.Least.{held_by, role_share}
+use Rattle.drf_pick.specs.declared.client_share.ClientPlace.{ClientPlace}
 use Rattle.drf_pick.specs.declared.client_share.RoleShare.{RoleShare}
 use Rattle.drf_pick.specs.declared.client_share.ClientShare.{ClientShare}
+
+-- where a framework and a role stand
+pub record IsPlaceOf (t : Tally) (f : Numbered) (role : List ℕ) (p : ClientPlace) : Type 0 where
+  pub holder : position (is_holder f) t.holders ≡ Some p.holder
+  pub by_role : position (is_role role) t.roles ≡ Some p.role
 
 -- a role's place, its dominant share, and its weight
 pub record IsRoleShare (t : Tally) (role : List ℕ) (s : RoleShare) : Type 0 where

@@ -1,9 +1,10 @@
 //! The dominant shares of a framework and its role.
 
-ghost use Rattle.std.specs.Prelude.{◌≡◌};
+ghost use Rattle.std.specs.Prelude.{◌≡◌, ◌<◌, ℕ, List, length, IfSome};
+ghost use Rattle.names_core.specs.Ids.{Numbered};
 ghost use Rattle.share_sums.specs.Dominant.{IsDominant};
 ghost use Rattle.drf_pick.specs.Least.{held_by};
-ghost use Rattle.drf_pick.specs.ClientShares.{IsRoleShare, IsClientShare, no_share};
+ghost use Rattle.drf_pick.specs.ClientShares.{IsPlaceOf, IsRoleShare, IsClientShare, no_share};
 
 use crate::shares::Shares;
 use names_core::{FrameworkId, RoleName};
@@ -16,6 +17,13 @@ pub struct RoleShare {
     pub(crate) place: Option<usize>,
     pub(crate) fraction: Fraction,
     pub(crate) weight: u16,
+}
+
+/// Where a framework and its role stand in shares. They stay there when more is given.
+#[derive(Clone, Copy, Drop)]
+pub struct ClientPlace {
+    pub(crate) holder: usize,
+    pub(crate) role: usize,
 }
 
 /// The dominant shares of a framework and of its role.
@@ -56,6 +64,23 @@ fn role_share_of(shares: &Shares, holder: usize, role: &RoleName) -> RoleShare
     }
 }
 
+impl ClientPlace {
+    /// The places of a framework and its role, where both are known. `guess` says where the
+    /// framework is likely to stand. It takes no memory.
+    pub fn of(
+        shares: &Shares,
+        framework: FrameworkId,
+        role: &RoleName,
+        guess: usize,
+    ) -> Option<ClientPlace>
+        ensures { IfSome result (IsPlaceOf shares.now framework role.now) }
+    {
+        let holder = shares.holdings.place(guess, framework)?;
+        let role = shares.holdings.role_place(holder, role)?;
+        Some(ClientPlace { holder, role })
+    }
+}
+
 impl ClientShare {
     /// Of one that holds nothing, of a role that isn't known.
     pub fn nothing() -> ClientShare
@@ -80,6 +105,25 @@ impl ClientShare {
         ClientShare {
             own: fraction_of(shares, place, framework),
             role: role_share_of(shares, place, role),
+        }
+    }
+
+    /// The shares of the framework and the role that stand at these places. It takes no memory.
+    pub fn at(shares: &Shares, place: ClientPlace) -> ClientShare
+        requires holder { place.holder < length shares.now.holders }
+        requires role { place.role < length shares.now.roles }
+        ensures { (framework : Numbered) (role : List ℕ)
+            → IsPlaceOf shares.now framework role place
+            → IsClientShare shares.now framework role result }
+    {
+        let sums = shares.holdings.roles().as_slice();
+        ClientShare {
+            own: shares.fractions[place.holder],
+            role: RoleShare {
+                place: Some(place.role),
+                fraction: shares.role_fractions[place.role],
+                weight: sums[place.role].weight,
+            },
         }
     }
 }

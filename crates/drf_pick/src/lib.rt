@@ -10,7 +10,7 @@ mod least;
 mod roles;
 mod shares;
 
-pub use client_share::ClientShare;
+pub use client_share::{ClientPlace, ClientShare};
 pub use holder::{Client, Holder, RoleSum};
 pub use holdings::Holdings;
 pub use laws::{amounts_decide, picks_least, standing_is_order, sums_add, test_is_relation};

@@ -5,19 +5,18 @@ ghost use Rattle.cluster_model.specs.Ids.{is_empty, last_number};
 ghost use Rattle.drf_pick.specs.Shares.{given};
 ghost use Rattle.roster.specs.Places.{told_at};
 ghost use Rattle.agent_sides.specs.Free.{open_part};
+ghost use Rattle.round_shares.specs.Candidates.{AreCandidates};
 ghost use Rattle.round_shares.specs.Kept.{client_of};
 ghost use Rattle.master_rounds.specs.Visits.{goes_to, offers_free, round_of, visits, visits_part};
 
-use agent_sides::Sides;
 use drf_pick::Shares;
 use listed::Listed;
-use mails::Framework;
 use master_state::State;
 use names_core::{AgentName, FrameworkId, OfferId, Run};
 use plain_data::Plain;
 use quantity::Resources;
 use role_weights::Weights;
-use round_shares::{KeptShares, picked};
+use round_shares::{Candidate, KeptShares, candidates_of, picked};
 use scheduler_events::Offer;
 use std::alloc::{AllocError, Global};
 
@@ -85,60 +84,64 @@ fn is_empty(free: &Resources) -> bool
 fn offer_free(
     progress: &mut Progress,
     alloc: Global,
-    run: Run,
-    now: u32,
-    frameworks: &[Framework],
+    state: &State,
+    candidates: &[Candidate],
     agent: &AgentName,
     free: Resources,
 ) -> Result<(), AllocError>
-    requires { 0 < progress.old.next }
+    requires numbered { 0 < progress.old.next }
+    requires candidates { AreCandidates progress.old.shares state.now.frameworks candidates.now }
     ensures numbered { 0 < progress.new.next }
-    ensures ok { OnOk result (progress.new ≡ offers_free run now frameworks.now progress.old
-        agent.now free) }
+    ensures candidates { OnOk result (AreCandidates progress.new.shares state.now.frameworks
+        candidates.now) }
+    ensures ok { OnOk result (progress.new ≡ offers_free state.now.run state.now.moment
+        state.now.frameworks progress.old agent.now free) }
 {
     if is_empty(&free) || LAST_NUMBER < progress.next {
         return Ok(());
     }
-    match picked(&progress.shares, frameworks, now, agent, &free) {
+    let frameworks = state.frameworks.as_slice();
+    let shares = &progress.shares;
+    match picked(shares, frameworks, candidates, state.moment, agent, &free) {
         None => Ok(()),
-        Some(framework) => go_to(progress, alloc, run, agent, free, framework),
+        Some(framework) => go_to(progress, alloc, state.run, agent, free, framework),
     }
 }
 
 fn visit(
     progress: &mut Progress,
     alloc: Global,
-    run: Run,
-    now: u32,
-    frameworks: &[Framework],
-    sides: &Sides,
+    state: &State,
+    candidates: &[Candidate],
     place: usize,
 ) -> Result<(), AllocError>
-    requires { 0 < progress.old.next }
+    requires numbered { 0 < progress.old.next }
+    requires candidates { AreCandidates progress.old.shares state.now.frameworks candidates.now }
     ensures numbered { 0 < progress.new.next }
-    ensures ok { OnOk result (progress.new ≡ visits_part run now frameworks.now progress.old
-        (told_at place open_part None sides.now)) }
+    ensures candidates { OnOk result (AreCandidates progress.new.shares state.now.frameworks
+        candidates.now) }
+    ensures ok { OnOk result (progress.new ≡ visits_part state.now.run state.now.moment
+        state.now.frameworks progress.old (told_at place open_part None state.now.sides)) }
 {
-    match sides.open_part(alloc, place)? {
+    match state.sides.open_part(alloc, place)? {
         None => Ok(()),
-        Some((agent, free)) => offer_free(progress, alloc, run, now, frameworks, agent, free),
+        Some((agent, free)) => offer_free(progress, alloc, state, candidates, agent, free),
     }
 }
 
 fn visit_all(
     progress: &mut Progress,
     alloc: Global,
-    run: Run,
-    now: u32,
-    frameworks: &[Framework],
-    sides: &Sides,
+    state: &State,
+    candidates: &[Candidate],
 ) -> Result<(), AllocError>
-    requires { 0 < progress.old.next }
-    ensures { OnOk result (progress.new ≡ fold (visits run now frameworks.now) progress.old
-        sides.now) }
+    requires numbered { 0 < progress.old.next }
+    requires candidates { AreCandidates progress.old.shares state.now.frameworks candidates.now }
+    ensures { OnOk result (progress.new ≡ fold (visits state.now.run state.now.moment
+        state.now.frameworks) progress.old state.now.sides) }
 {
-    for place in 0..sides.len() {
-        visit(progress, alloc, run, now, frameworks, sides, place)?;
+    for place in 0..state.sides.len() {
+        visit(progress, alloc, state, candidates, place)?;
     }
     Ok(())
 }
@@ -155,18 +158,13 @@ pub fn round_of(
     ensures progress { IfOk result (λ progress. progress ≡ round_of weights.now state.now) }
     ensures told { OnOk result (kept.new ≡ map client_of state.now.frameworks) }
 {
+    let shares = kept.shares_of(alloc, weights, &state.sides, &state.frameworks)?;
+    let candidates = candidates_of(alloc, &shares, state.frameworks.as_slice())?;
     let mut progress = Progress {
         made: Listed::new(alloc),
         next: state.next_offer,
-        shares: kept.shares_of(alloc, weights, &state.sides, &state.frameworks)?,
+        shares,
     };
-    visit_all(
-        &mut progress,
-        alloc,
-        state.run,
-        state.moment,
-        state.frameworks.as_slice(),
-        &state.sides,
-    )?;
+    visit_all(&mut progress, alloc, state, &candidates)?;
     Ok(progress)
 }

@@ -3,10 +3,11 @@
 ghost use Rattle.std.specs.Prelude.{◌≡◌, None, fold, IfSome};
 ghost use Rattle.std.specs.Option.{option_copied};
 ghost use Rattle.drf_pick.specs.ClientShares.{IsClientShare};
+ghost use Rattle.round_shares.specs.Candidates.{AreCandidates, IsCandidate};
 ghost use Rattle.round_shares.specs.Picks.{better, better_eligible, picked};
 
+use crate::candidates::{Candidate, may_be_offered, share_of};
 use drf_pick::{ClientShare, Shares, comes_before};
-use frameworks::is_eligible;
 use mails::Framework;
 use names_core::{AgentName, FrameworkId};
 use quantity::Resources;
@@ -18,16 +19,18 @@ fn better<'a>(
     best: Option<&'a Framework>,
     best_share: &mut ClientShare,
     framework: &'a Framework,
+    candidate: &Candidate,
     place: usize,
 ) -> Option<&'a Framework>
-    requires { IfSome (option_copied best) (λ f. IsClientShare shares.now f.id f.role
+    requires share { IfSome (option_copied best) (λ f. IsClientShare shares.now f.id f.role
         best_share.old) }
+    requires candidate { IsCandidate shares.now framework.now candidate.now }
     ensures better { option_copied result ≡ better shares.now (option_copied best.entry)
         framework.entry.now }
     ensures share { IfSome (option_copied result) (λ f. IsClientShare shares.now f.id f.role
         best_share.new) }
 {
-    let share = ClientShare::of(shares, framework.id, &framework.role, place);
+    let share = share_of(shares, framework, candidate.place, place);
     let Some(other) = best else {
         *best_share = share;
         return Some(framework);
@@ -51,19 +54,21 @@ fn better<'a>(
 fn best_of<'a>(
     shares: &Shares,
     frameworks: &'a [Framework],
+    candidates: &[Candidate],
     now: u32,
     agent: &AgentName,
     free: &Resources,
 ) -> Option<&'a Framework>
+    requires { AreCandidates shares.now frameworks.now candidates.now }
     ensures { option_copied result ≡ fold (better_eligible now agent.now free.now shares.now) None
         frameworks.entry.now }
 {
     let mut best = None;
     let mut share = ClientShare::nothing();
     for place in 0..frameworks.len() {
-        let framework = &frameworks[place];
-        if is_eligible(framework, now, agent, free) {
-            best = better(shares, best, &mut share, framework, place);
+        let (framework, candidate) = (&frameworks[place], &candidates[place]);
+        if may_be_offered(candidate.eligibility, framework, now, agent, free) {
+            best = better(shares, best, &mut share, framework, candidate, place);
         }
     }
     best
@@ -74,12 +79,14 @@ fn best_of<'a>(
 pub fn picked(
     shares: &Shares,
     frameworks: &[Framework],
+    candidates: &[Candidate],
     now: u32,
     agent: &AgentName,
     free: &Resources,
 ) -> Option<FrameworkId>
+    requires { AreCandidates shares.now frameworks.now candidates.now }
     ensures { result ≡ picked now agent.now free.now shares.now frameworks.now }
 {
-    let framework = best_of(shares, frameworks, now, agent, free)?;
+    let framework = best_of(shares, frameworks, candidates, now, agent, free)?;
     Some(framework.id)
 }

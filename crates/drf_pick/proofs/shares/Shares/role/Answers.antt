@@ -1,4 +1,4 @@
-use Rattle.std.proofs.Common.{◌≡◌, length, subst, sym, ap, ◌∙◌, arith}
+use Rattle.std.proofs.Common.{length, subst, sym, ap, ◌∙◌}
 use Rattle.drf_pick.specs.Shares.{Tally}
 use Rattle.drf_pick.specs.Fractions.{OfHolders, OfRoles, holder_held, role_held}
 use Rattle.drf_pick.proofs.KeptShares.{cut_to, kept_to}

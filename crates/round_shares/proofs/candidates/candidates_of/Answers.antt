@@ -1,0 +1,10 @@
+use Rattle.std.proofs.Common.{subst, sym}
+use Rattle.round_shares.specs.Candidates.{AreCandidates}
+use Rattle.round_shares.proofs.AtPlaces.{candidates_more}
+use Rattle.round_shares.proofs.candidates.candidates_of.Goals as goal
+
+pub loop-place-preserved : goal.loop-place-preserved
+loop-place-preserved c =
+    let fs = c.args.frameworks.now in
+    subst (AreCandidates c.args.shares.now _) (sym c.in_ok-push.ensures.items)
+    (candidates_more c.args.shares.now fs c.loop-place.candidates.items c.loop-place.place c.index-frameworks-place.result c.candidate_of.result c.loop-place.invariant c.loop-place-test.true c.index-frameworks-place.is c.candidate_of.ensures)

@@ -1,0 +1,12 @@
+use Rattle.std.proofs.Common.{arith}
+use Rattle.round_shares.proofs.AtPlaces.{as_many, candidate_at}
+use Rattle.round_shares.proofs.pick.best_of.Goals as goal
+
+pub bounds-candidates-place : goal.bounds-candidates-place
+bounds-candidates-place c = omega (arith, c.loop-place-test.true, as_many c.args.shares.now c.args.frameworks.now c.args.candidates.now c.requires)
+
+pub may_be_offered-requires : goal.may_be_offered-requires
+may_be_offered-requires c = (candidate_at c.args.shares.now c.args.frameworks.now c.args.candidates.now c.loop-place.place c.index-frameworks-place.result _ c.requires c.loop-place-test.true c.index-frameworks-place.is).eligibility
+
+pub better-best-requires-clause-candidate : goal.better-best-requires-clause-candidate
+better-best-requires-clause-candidate c = candidate_at c.args.shares.now c.args.frameworks.now c.args.candidates.now c.loop-place.place c.index-frameworks-place.result _ c.requires c.loop-place-test.true c.index-frameworks-place.is

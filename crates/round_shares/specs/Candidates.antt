@@ -1,0 +1,27 @@
+-- What stays of each framework over a round.
+use Rattle.std.specs.Prelude.{◌≡◌, ⊤, ℕ, true, false, List, IfSome}
+use Rattle.std.specs.List.{AllZip}
+use Rattle.quantity.specs.declared.rows.Row.{Row}
+use Rattle.mails.specs.declared.framework.Framework.{Framework}
+use Rattle.cluster_model.specs.Rounds.{may_be_offered}
+use Rattle.drf_pick.specs.Shares.{Tally}
+use Rattle.drf_pick.specs.ClientShares.{IsPlaceOf}
+use Rattle.round_shares.specs.declared.candidates.Eligibility.{Eligibility}
+use Rattle.round_shares.specs.declared.candidates.Eligibility.TheVariants.{Always, Never, ByFilters}
+pub use Rattle.round_shares.specs.declared.candidates.Candidate.{Candidate}
+
+-- whatever is free on any agent may be offered to the framework, or nothing may, or it depends
+abbrev pub IsEligibility : Framework → Eligibility → Type 0
+IsEligibility f Always =
+    (now : ℕ) (agent : List ℕ) (free : List Row) → may_be_offered now agent free f ≡ true
+IsEligibility f Never =
+    (now : ℕ) (agent : List ℕ) (free : List Row) → may_be_offered now agent free f ≡ false
+IsEligibility f ByFilters = ⊤
+
+pub record IsCandidate (t : Tally) (f : Framework) (c : Candidate) : Type 0 where
+  pub eligibility : IsEligibility f c.eligibility
+  pub place : IfSome c.place (IsPlaceOf t f.id f.role)
+
+-- one for each framework, in their order
+abbrev pub AreCandidates : Tally → List Framework → List Candidate → Type 0
+AreCandidates t fs cs = AllZip (IsCandidate t) fs cs
