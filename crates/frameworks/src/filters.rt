@@ -1,9 +1,8 @@
 //! Filters: resources of an agent that a framework refused for some seconds.
 
 ghost use Rattle.std.specs.Prelude.{◌≡◌, filter, not, bytes_eq, OnOk};
-ghost use Rattle.std.specs.List.{list_any};
 ghost use Rattle.cluster_model.specs.Masters.{add_filter, clear_on, count_on, drop_oldest};
-ghost use Rattle.cluster_model.specs.Rounds.{refuses, may_be_offered};
+ghost use Rattle.cluster_model.specs.Rounds.{refuses};
 
 use listed::Listed;
 use mails::{Filter, Framework};
@@ -85,31 +84,12 @@ pub fn clear_on(framework: &mut Framework, agent: &AgentName)
     clear_in(&mut framework.filters, agent);
 }
 
-fn refuses(filter: &Filter, now: u32, agent: &AgentName, free: &Resources) -> bool
+/// Whether a filter runs at this moment, and refuses what is free on an agent: it is of the agent,
+/// and covers it.
+pub fn refuses(filter: &Filter, now: u32, agent: &AgentName, free: &Resources) -> bool
     ensures { result ≡ refuses now agent.now free.now filter.now }
 {
     filter.agent.is(agent)
         && u64::from(now) < u64::from(filter.made) + u64::from(filter.seconds)
         && filter.refused.covers(free)
-}
-
-fn any_refuses(filters: &[Filter], now: u32, agent: &AgentName, free: &Resources) -> bool
-    ensures { result ≡ list_any (refuses now agent.now free.now) filters.now }
-{
-    for filter in filters {
-        if refuses(filter, now, agent, free) {
-            return true;
-        }
-    }
-    false
-}
-
-/// Whether what is free on an agent may be offered to the framework: it is subscribed, hasn't
-/// suppressed offers, and no filter of it that runs at this moment refuses it. It takes no memory.
-pub fn is_eligible(framework: &Framework, now: u32, agent: &AgentName, free: &Resources) -> bool
-    ensures { result ≡ may_be_offered now agent.now free.now framework.now }
-{
-    framework.stream.is_some()
-        && !framework.suppressed
-        && !any_refuses(framework.filters.as_slice(), now, agent, free)
 }

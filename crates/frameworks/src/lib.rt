@@ -11,7 +11,7 @@ mod streams;
 mod table;
 
 pub use edit::is_due;
-pub use filters::is_eligible;
+pub use filters::refuses;
 pub use laws::puts_are_changes;
 pub use look::is_before;
 pub use table::Frameworks;

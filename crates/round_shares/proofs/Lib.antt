@@ -1,3 +1,4 @@
+pub mod Keyed
 pub mod AtPlaces
 pub mod Rows
 pub mod Shown

@@ -1,13 +1,14 @@
 //! What stays of each framework over a round.
 
-ghost use Rattle.std.specs.Prelude.{◌≡◌, IfOk, IfSome};
-ghost use Rattle.cluster_model.specs.Rounds.{may_be_offered};
+ghost use Rattle.std.specs.Prelude.{◌≡◌, map, IfOk, IfSome};
+ghost use Rattle.std.specs.List.{list_any};
+ghost use Rattle.cluster_model.specs.Rounds.{may_be_offered, refuses};
 ghost use Rattle.drf_pick.specs.ClientShares.{IsClientShare, IsPlaceOf};
-ghost use Rattle.round_shares.specs.Candidates.{AreCandidates, IsCandidate, IsEligibility};
+ghost use Rattle.round_shares.specs.Candidates.{AreCandidates, IsCandidate, IsEligibility, filter_key, key_of};
 
 use drf_pick::{ClientPlace, ClientShare, Shares};
-use frameworks::is_eligible;
-use mails::Framework;
+use frameworks::refuses;
+use mails::{Filter, Framework};
 use names_core::AgentName;
 use quantity::Resources;
 use std::alloc::{AllocError, Global};
@@ -19,17 +20,41 @@ pub(crate) enum Eligibility {
     Always,
     /// None: it isn't subscribed, or has suppressed offers.
     Never,
-    /// By its filters.
+    /// What no filter of it refuses.
     ByFilters,
 }
 
 /// What stays of a framework over a round: whether resources may be offered to it,
 /// and where it stands in the shares.
-#[derive(Clone, Copy, Drop)]
+#[derive(Drop)]
 pub struct Candidate {
     pub(crate) eligibility: Eligibility,
+    /// For each of its filters, in order, a number of the name of the filter's agent.
+    pub(crate) keys: Vec<u32>,
     /// Its place and that of its role, where both are known.
     pub(crate) place: Option<ClientPlace>,
+}
+
+/// A number of an agent's name: names whose numbers differ are two.
+pub(crate) fn key_of(agent: &AgentName) -> u32
+    ensures { result ≡ key_of agent.now }
+{
+    let bytes = agent.as_text().as_bytes();
+    let mut key: u32 = 0;
+    for byte in bytes {
+        key = key.wrapping_mul(31).wrapping_add(u32::from(*byte));
+    }
+    key
+}
+
+fn keys_of(alloc: Global, filters: &[Filter]) -> Result<Vec<u32>, AllocError>
+    ensures { IfOk result (λ keys. keys.items ≡ map filter_key filters.now) }
+{
+    let mut keys = Vec::new(alloc);
+    for filter in filters {
+        keys.push(key_of(&filter.agent))?;
+    }
+    Ok(keys)
 }
 
 fn eligibility_of(framework: &Framework) -> Eligibility
@@ -45,13 +70,19 @@ fn eligibility_of(framework: &Framework) -> Eligibility
     }
 }
 
-fn candidate_of(shares: &Shares, framework: &Framework, guess: usize) -> Candidate
-    ensures { IsCandidate shares.now framework.now result }
+fn candidate_of(
+    alloc: Global,
+    shares: &Shares,
+    framework: &Framework,
+    guess: usize,
+) -> Result<Candidate, AllocError>
+    ensures { IfOk result (IsCandidate shares.now framework.now) }
 {
-    Candidate {
+    Ok(Candidate {
         eligibility: eligibility_of(framework),
+        keys: keys_of(alloc, framework.filters.as_slice())?,
         place: ClientPlace::of(shares, framework.id, &framework.role, guess),
-    }
+    })
 }
 
 /// The candidates of a round that begins, one for each framework.
@@ -65,27 +96,72 @@ pub fn candidates_of(
 {
     let mut candidates = Vec::new(alloc);
     for place in 0..frameworks.len() {
-        candidates.push(candidate_of(shares, &frameworks[place], place))?;
+        let candidate = candidate_of(alloc, shares, &frameworks[place], place)?;
+        candidates.push(candidate)?;
     }
     Ok(candidates)
 }
 
-/// Whether what is free on an agent may be offered to the framework, as `is_eligible` says.
-/// Its filters are looked at only where it has some.
+/// Whether a filter refuses what is free on an agent. It is looked at only where the number of its
+/// agent's name is that of this one's.
+fn refuses_by_key(
+    filter: &Filter,
+    its_key: u32,
+    now: u32,
+    agent: &AgentName,
+    key: u32,
+    free: &Resources,
+) -> bool
+    requires its_key { its_key ≡ filter_key filter.now }
+    requires key { key ≡ key_of agent.now }
+    ensures { result ≡ refuses now agent.now free.now filter.now }
+{
+    its_key == key && refuses(filter, now, agent, free)
+}
+
+fn any_refuses(
+    filters: &[Filter],
+    keys: &[u32],
+    now: u32,
+    agent: &AgentName,
+    key: u32,
+    free: &Resources,
+) -> bool
+    requires keys { keys.now ≡ map filter_key filters.now }
+    requires key { key ≡ key_of agent.now }
+    ensures { result ≡ list_any (refuses now agent.now free.now) filters.now }
+{
+    for place in 0..filters.len() {
+        if refuses_by_key(&filters[place], keys[place], now, agent, key, free) {
+            return true;
+        }
+    }
+    false
+}
+
+/// Whether what is free on an agent may be offered to the framework: it is subscribed, hasn't
+/// suppressed offers, and no filter of it that runs at this moment refuses it. It takes no memory.
+/// `key` is the number of the agent's name.
 pub(crate) fn may_be_offered(
-    eligibility: Eligibility,
+    candidate: &Candidate,
     framework: &Framework,
     now: u32,
     agent: &AgentName,
+    key: u32,
     free: &Resources,
 ) -> bool
-    requires { IsEligibility framework.now eligibility }
+    requires eligibility { IsEligibility framework.now candidate.now.eligibility }
+    requires keys { candidate.now.keys.items ≡ map filter_key framework.now.filters }
+    requires key { key ≡ key_of agent.now }
     ensures { result ≡ may_be_offered now agent.now free.now framework.now }
 {
-    match eligibility {
+    match candidate.eligibility {
         Eligibility::Always => true,
         Eligibility::Never => false,
-        Eligibility::ByFilters => is_eligible(framework, now, agent, free),
+        Eligibility::ByFilters => {
+            let filters = framework.filters.as_slice();
+            !any_refuses(filters, &candidate.keys, now, agent, key, free)
+        }
     }
 }
 

@@ -6,7 +6,7 @@ ghost use Rattle.drf_pick.specs.ClientShares.{IsClientShare};
 ghost use Rattle.round_shares.specs.Candidates.{AreCandidates, IsCandidate};
 ghost use Rattle.round_shares.specs.Picks.{better, better_eligible, picked};
 
-use crate::candidates::{Candidate, may_be_offered, share_of};
+use crate::candidates::{Candidate, key_of, may_be_offered, share_of};
 use drf_pick::{ClientShare, Shares, comes_before};
 use mails::Framework;
 use names_core::{AgentName, FrameworkId};
@@ -63,11 +63,12 @@ fn best_of<'a>(
     ensures { option_copied result ≡ fold (better_eligible now agent.now free.now shares.now) None
         frameworks.entry.now }
 {
+    let key = key_of(agent);
     let mut best = None;
     let mut share = ClientShare::nothing();
     for place in 0..frameworks.len() {
         let (framework, candidate) = (&frameworks[place], &candidates[place]);
-        if may_be_offered(candidate.eligibility, framework, now, agent, free) {
+        if may_be_offered(candidate, framework, now, agent, key, free) {
             best = better(shares, best, &mut share, framework, candidate, place);
         }
     }

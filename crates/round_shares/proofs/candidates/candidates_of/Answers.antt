@@ -7,4 +7,4 @@ pub loop-place-preserved : goal.loop-place-preserved
 loop-place-preserved c =
     let fs = c.args.frameworks.now in
     subst (AreCandidates c.args.shares.now _) (sym c.in_ok-push.ensures.items)
-    (candidates_more c.args.shares.now fs c.loop-place.candidates.items c.loop-place.place c.index-frameworks-place.result c.candidate_of.result c.loop-place.invariant c.loop-place-test.true c.index-frameworks-place.is c.candidate_of.ensures)
+    (candidates_more c.args.shares.now fs c.loop-place.candidates.items c.loop-place.place c.index-frameworks-place.result c.in_ok-candidate.candidate c.loop-place.invariant c.loop-place-test.true c.index-frameworks-place.is c.in_ok-candidate.ensures)
