@@ -159,7 +159,8 @@ pub fn round_of(
     ensures told { OnOk result (kept.new ≡ map client_of state.now.frameworks) }
 {
     let shares = kept.shares_of(alloc, weights, &state.sides, &state.frameworks)?;
-    let candidates = candidates_of(alloc, &shares, state.frameworks.as_slice())?;
+    let frameworks = state.frameworks.as_slice();
+    let candidates = candidates_of(alloc, &shares, frameworks, state.sides.len())?;
     let mut progress = Progress {
         made: Listed::new(alloc),
         next: state.next_offer,

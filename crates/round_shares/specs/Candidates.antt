@@ -1,6 +1,5 @@
 -- What stays of each framework over a round.
-use Rattle.std.specs.Prelude.{◌≡◌, ℕ, ◌+◌, ◌*◌, ◌%◌, ◌^◌, true, false, List, fold, map, IfSome}
-use Rattle.std.specs.List.{AllZip}
+use Rattle.std.specs.Prelude.{◌≡◌, ⊤, ℕ, ◌+◌, ◌*◌, ◌%◌, ◌^◌, true, false, List, [], ◌∷◌, fold, map, IfSome}
 use Rattle.quantity.specs.declared.rows.Row.{Row}
 use Rattle.mails.specs.declared.framework.Framework.{Framework}
 use Rattle.mails.specs.declared.framework.Filter.{Filter}
@@ -36,6 +35,8 @@ pub record IsCandidate (t : Tally) (f : Framework) (c : Candidate) : Type 0 wher
   pub keys : c.keys.items ≡ map filter_key f.filters
   pub place : IfSome c.place (IsPlaceOf t f.id f.role)
 
--- one for each framework, in their order
+-- one for each of the first frameworks, in their order
 abbrev pub AreCandidates : Tally → List Framework → List Candidate → Type 0
-AreCandidates t fs cs = AllZip (IsCandidate t) fs cs
+AreCandidates t fs [] = ⊤
+AreCandidates t [] (c ∷ cs) = ⊥
+AreCandidates t (f ∷ fs) (c ∷ cs) = IsCandidate t f c × AreCandidates t fs cs

@@ -13,6 +13,9 @@ use names_core::AgentName;
 use quantity::Resources;
 use std::alloc::{AllocError, Global};
 
+/// With fewer agents than this a round has no candidates.
+const FEWEST_AGENTS: usize = 16;
+
 /// Whether resources may be offered to a framework.
 #[derive(Clone, Copy, Drop)]
 pub(crate) enum Eligibility {
@@ -85,16 +88,21 @@ fn candidate_of(
     })
 }
 
-/// The candidates of a round that begins, one for each framework.
+/// The candidates of a round that begins, one for each framework. There are none where so few
+/// agents are visited that they would take longer to make than they save.
 pub fn candidates_of(
     alloc: Global,
     shares: &Shares,
     frameworks: &[Framework],
+    agents: usize,
 ) -> Result<Vec<Candidate>, AllocError>
     ensures { IfOk result (λ candidates. AreCandidates shares.now frameworks.now
         candidates.items) }
 {
     let mut candidates = Vec::new(alloc);
+    if agents < FEWEST_AGENTS {
+        return Ok(candidates);
+    }
     for place in 0..frameworks.len() {
         let candidate = candidate_of(alloc, shares, &frameworks[place], place)?;
         candidates.push(candidate)?;
@@ -119,7 +127,7 @@ fn refuses_by_key(
     its_key == key && refuses(filter, now, agent, free)
 }
 
-fn any_refuses(
+fn any_refuses_by_key(
     filters: &[Filter],
     keys: &[u32],
     now: u32,
@@ -139,10 +147,26 @@ fn any_refuses(
     false
 }
 
-/// Whether what is free on an agent may be offered to the framework: it is subscribed, hasn't
-/// suppressed offers, and no filter of it that runs at this moment refuses it. It takes no memory.
-/// `key` is the number of the agent's name.
-pub(crate) fn may_be_offered(
+fn any_refuses(filters: &[Filter], now: u32, agent: &AgentName, free: &Resources) -> bool
+    ensures { result ≡ list_any (refuses now agent.now free.now) filters.now }
+{
+    for filter in filters {
+        if refuses(filter, now, agent, free) {
+            return true;
+        }
+    }
+    false
+}
+
+fn is_eligible(framework: &Framework, now: u32, agent: &AgentName, free: &Resources) -> bool
+    ensures { result ≡ may_be_offered now agent.now free.now framework.now }
+{
+    framework.stream.is_some()
+        && !framework.suppressed
+        && !any_refuses(framework.filters.as_slice(), now, agent, free)
+}
+
+fn is_eligible_as(
     candidate: &Candidate,
     framework: &Framework,
     now: u32,
@@ -160,13 +184,35 @@ pub(crate) fn may_be_offered(
         Eligibility::Never => false,
         Eligibility::ByFilters => {
             let filters = framework.filters.as_slice();
-            !any_refuses(filters, &candidate.keys, now, agent, key, free)
+            !any_refuses_by_key(filters, &candidate.keys, now, agent, key, free)
         }
     }
 }
 
-/// The shares of a framework and its role.
-pub(crate) fn share_of(
+/// Whether what is free on an agent may be offered to the framework: it is subscribed, hasn't
+/// suppressed offers, and no filter of it that runs at this moment refuses it. It takes no memory.
+/// `key` is the number of the agent's name.
+pub(crate) fn may_be_offered(
+    candidate: Option<&Candidate>,
+    framework: &Framework,
+    now: u32,
+    agent: &AgentName,
+    key: u32,
+    free: &Resources,
+) -> bool
+    requires eligibility { IfSome candidate (λ c. IsEligibility framework.now c.now.eligibility) }
+    requires keys { IfSome candidate (λ c. c.now.keys.items
+        ≡ map filter_key framework.now.filters) }
+    requires key { key ≡ key_of agent.now }
+    ensures { result ≡ may_be_offered now agent.now free.now framework.now }
+{
+    match candidate {
+        Some(candidate) => is_eligible_as(candidate, framework, now, agent, key, free),
+        None => is_eligible(framework, now, agent, free),
+    }
+}
+
+fn share_at(
     shares: &Shares,
     framework: &Framework,
     place: Option<ClientPlace>,
@@ -178,5 +224,22 @@ pub(crate) fn share_of(
     match place {
         Some(place) => ClientShare::at(shares, place),
         None => ClientShare::of(shares, framework.id, &framework.role, guess),
+    }
+}
+
+/// The shares of a framework and its role.
+pub(crate) fn share_of(
+    shares: &Shares,
+    candidate: Option<&Candidate>,
+    framework: &Framework,
+    guess: usize,
+) -> ClientShare
+    requires { IfSome candidate (λ c. IfSome c.now.place
+        (IsPlaceOf shares.now framework.now.id framework.now.role)) }
+    ensures { IsClientShare shares.now framework.now.id framework.now.role result }
+{
+    match candidate {
+        Some(candidate) => share_at(shares, framework, candidate.place, guess),
+        None => share_at(shares, framework, None, guess),
     }
 }

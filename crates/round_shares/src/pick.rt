@@ -19,18 +19,18 @@ fn better<'a>(
     best: Option<&'a Framework>,
     best_share: &mut ClientShare,
     framework: &'a Framework,
-    candidate: &Candidate,
+    candidate: Option<&Candidate>,
     place: usize,
 ) -> Option<&'a Framework>
     requires share { IfSome (option_copied best) (λ f. IsClientShare shares.now f.id f.role
         best_share.old) }
-    requires candidate { IsCandidate shares.now framework.now candidate.now }
+    requires candidate { IfSome candidate (λ c. IsCandidate shares.now framework.now c.now) }
     ensures better { option_copied result ≡ better shares.now (option_copied best.entry)
         framework.entry.now }
     ensures share { IfSome (option_copied result) (λ f. IsClientShare shares.now f.id f.role
         best_share.new) }
 {
-    let share = share_of(shares, framework, candidate.place, place);
+    let share = share_of(shares, candidate, framework, place);
     let Some(other) = best else {
         *best_share = share;
         return Some(framework);
@@ -67,7 +67,7 @@ fn best_of<'a>(
     let mut best = None;
     let mut share = ClientShare::nothing();
     for place in 0..frameworks.len() {
-        let (framework, candidate) = (&frameworks[place], &candidates[place]);
+        let (framework, candidate) = (&frameworks[place], candidates.get(place));
         if may_be_offered(candidate, framework, now, agent, key, free) {
             best = better(shares, best, &mut share, framework, candidate, place);
         }

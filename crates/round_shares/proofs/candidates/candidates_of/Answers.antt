@@ -1,4 +1,4 @@
-use Rattle.std.proofs.Common.{subst, sym}
+use Rattle.std.proofs.Common.{subst, sym, arith}
 use Rattle.round_shares.specs.Candidates.{AreCandidates}
 use Rattle.round_shares.proofs.AtPlaces.{candidates_more}
 use Rattle.round_shares.proofs.candidates.candidates_of.Goals as goal
@@ -6,5 +6,8 @@ use Rattle.round_shares.proofs.candidates.candidates_of.Goals as goal
 pub loop-place-preserved : goal.loop-place-preserved
 loop-place-preserved c =
     let fs = c.args.frameworks.now in
-    subst (AreCandidates c.args.shares.now _) (sym c.in_ok-push.ensures.items)
-    (candidates_more c.args.shares.now fs c.loop-place.candidates.items c.loop-place.place c.index-frameworks-place.result c.in_ok-candidate.candidate c.loop-place.invariant c.loop-place-test.true c.index-frameworks-place.is c.in_ok-candidate.ensures)
+    record {
+      are = subst (AreCandidates c.args.shares.now _) (sym c.in_ok-push.ensures.items)
+          (candidates_more c.args.shares.now fs c.loop-place.candidates.items c.loop-place.place c.index-frameworks-place.result c.in_ok-candidate.candidate c.loop-place.invariant.are c.loop-place.invariant.all c.loop-place-test.true c.index-frameworks-place.is c.in_ok-candidate.ensures);
+      all = omega (arith, c.in_ok-push.ensures.len, c.loop-place.invariant.all);
+    }

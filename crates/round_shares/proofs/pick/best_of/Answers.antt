@@ -1,19 +1,22 @@
-use Rattle.std.proofs.Common.{arith, sym, subst}
-use Rattle.round_shares.specs.Candidates.{IsCandidate}
-use Rattle.round_shares.proofs.AtPlaces.{as_many, candidate_at}
+use Rattle.std.proofs.Common.{◌≡◌, IfSome, map}
+use Rattle.round_shares.specs.Candidates.{IsCandidate, IsEligibility, filter_key}
+use Rattle.round_shares.proofs.AtPlaces.{lent_at, of_lent}
 use Rattle.round_shares.proofs.pick.best_of.Goals as goal
-
-pub bounds-candidates-place : goal.bounds-candidates-place
-bounds-candidates-place c = omega (arith, c.loop-place-test.true, as_many c.args.shares.now c.args.frameworks.now c.args.candidates.now c.requires)
 
 pub may_be_offered-requires : goal.may_be_offered-requires
 may_be_offered-requires c =
-    let candidate = c.index-candidates-place.result in
-    let is : IsCandidate c.args.shares.now c.index-frameworks-place.result candidate =
-    subst (IsCandidate c.args.shares.now c.index-frameworks-place.result) (sym c.index-candidates-place.is) (candidate_at c.args.shares.now c.args.frameworks.now c.args.candidates.now c.loop-place.place c.index-frameworks-place.result candidate c.requires c.loop-place-test.true c.index-frameworks-place.is) in
-    record { eligibility = is.eligibility; keys = is.keys; key = c.key_of-key.ensures }
+    let t = c.args.shares.now in
+    let f = c.index-frameworks-place.result in
+    let o = c.get-candidate.result in
+    let lookup = c.get-candidate.ensures.lookup in
+    let is : IfSome o (λ k. IsCandidate t f k.now) = lent_at t c.args.frameworks.now c.args.candidates.now c.loop-place.place f o c.requires c.loop-place-test.true c.index-frameworks-place.is lookup.0 lookup.1 in
+    record {
+      eligibility = of_lent (IsCandidate t f) (λ k. IsEligibility f k.eligibility) (λ k its. its.eligibility) o is;
+      keys = of_lent (IsCandidate t f) (λ k. k.keys.items ≡ map filter_key f.filters) (λ k its. its.keys) o is;
+      key = c.key_of-key.ensures;
+    }
 
 pub better-best-requires-clause-candidate : goal.better-best-requires-clause-candidate
 better-best-requires-clause-candidate c =
-    let candidate = c.index-candidates-place.result in
-    subst (IsCandidate c.args.shares.now c.index-frameworks-place.result) (sym c.index-candidates-place.is) (candidate_at c.args.shares.now c.args.frameworks.now c.args.candidates.now c.loop-place.place c.index-frameworks-place.result candidate c.requires c.loop-place-test.true c.index-frameworks-place.is)
+    let lookup = c.get-candidate.ensures.lookup in
+    lent_at c.args.shares.now c.args.frameworks.now c.args.candidates.now c.loop-place.place c.index-frameworks-place.result c.get-candidate.result c.requires c.loop-place-test.true c.index-frameworks-place.is lookup.0 lookup.1
