@@ -1,6 +1,8 @@
 -- What stands for the opening.
 use Rattle.std.proofs.Common.{◌≡◌, ℕ, List, [], ◌∷◌, ◌++◌, map, Option, Some, Result, Ok, Err, inl, inr, refl, sym, ap, ◌∙◌, subst}
-use Rattle.std.specs.Prelude.{IfOk}
+use Rattle.std.specs.Prelude.{IfOk, OnOk}
+use Rattle.std.specs.Result.{result_and}
+use Rattle.cluster_steps.specs.declared.fault.ClusterFault.{ClusterFault}
 use Rattle.mails.specs.declared.mail.ToAgent.{ToAgent}
 use Rattle.mails.specs.declared.record.Durable.{Durable}
 use Rattle.agent_sides.specs.declared.config.ConfiguredAgent.{ConfiguredAgent}
@@ -96,3 +98,8 @@ open_rise laws run agents records (Ok outs) started of begins = subst (λ (o : O
 
 pub open_run : OpenLaws → (setup : Setup) (records : List Durable) → (opening setup records).state.world.run.number ≡ setup.run
 open_run laws setup records = ap (λ (m : Master). m.run.number) (greeted_master laws.greet (opened_over setup records))
+
+-- what was done is there behind the fault of it
+pub and_there : {T : Type 0} (done : Result (Unit {0}) ClusterFault) (value : T) (P : T → Type 0) → OnOk done (P value) → IfOk (result_and done (Ok value)) P
+and_there (Ok u) value P is = is
+and_there (Err e) value P is = tt

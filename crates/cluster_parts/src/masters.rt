@@ -1,6 +1,6 @@
 //! What the master brings out is kept and told.
 
-ghost use Rattle.std.specs.Prelude.{◌≡◌, ◌+◌, ◌≤◌, ◌++◌, None, length, map, IfOk, OnOk, OnErr};
+ghost use Rattle.std.specs.Prelude.{◌≡◌, ◌+◌, ◌≤◌, ◌++◌, ◌∷◌, [], None, length, map, IfOk, OnOk, OnErr};
 ghost use Rattle.cluster_agents.specs.Outcomes.{ends_with};
 ghost use Rattle.cluster_steps.specs.declared.verdict.Verdict.TheVariants as verdicts;
 ghost use Rattle.cluster_parts.specs.Masters.{Settles, item_to, sent_to, tells};
@@ -23,19 +23,49 @@ use shared_value::Shared;
 use std::alloc::{AllocError, Global};
 use told_streams::Streams;
 
+/// A mail of the master, as it is told and as it is kept: one value with two owners.
+fn push_mail(
+    sent: &mut Vec<Sent>,
+    items: &mut Vec<Item>,
+    alloc: Global,
+    to: &ToAgent,
+) -> Result<(), AllocError>
+    ensures sent { OnOk result (sent.new.items ≡ sent.old.items ++ sent_to to.now ∷ []) }
+    ensures items { OnOk result (items.new.items ≡ items.old.items ++ item_to to.now ∷ []) }
+{
+    let mail = Shared::new(alloc, to.copy()?)?;
+    items.push(Item::ToAgent(mail.share()?))?;
+    sent.push(Sent::ToAgent(mail))?;
+    Ok(())
+}
+
+fn push_mails(
+    sent: &mut Vec<Sent>,
+    items: &mut Vec<Item>,
+    alloc: Global,
+    mails: &[ToAgent],
+) -> Result<(), AllocError>
+    ensures sent { OnOk result (sent.new.items ≡ sent.old.items ++ map sent_to mails.now) }
+    ensures items { OnOk result (items.new.items ≡ items.old.items ++ map item_to mails.now) }
+{
+    sent.reserve(mails.len())?;
+    items.reserve(mails.len())?;
+    for to in mails {
+        push_mail(sent, items, alloc, to)?;
+    }
+    Ok(())
+}
+
 /// The master's mails, as they are told and kept.
 fn outgoing_to(alloc: Global, mails: &[ToAgent]) -> Result<Outgoing, AllocError>
     ensures sent { IfOk result (λ out. out.sent ≡ map sent_to mails.now) }
     ensures items { IfOk result (λ out. out.items ≡ map item_to mails.now) }
 {
-    let mut sent = Listed::from_vec(Vec::with_capacity(alloc, mails.len())?);
-    let mut items = Listed::from_vec(Vec::with_capacity(alloc, mails.len())?);
-    for to in mails {
-        let mail = Shared::new(alloc, to.copy()?)?;
-        items.push(Item::ToAgent(mail.share()?))?;
-        sent.push(Sent::ToAgent(mail))?;
-    }
-    Ok(Outgoing { sent, items })
+    let mut sent = Vec::new(alloc);
+    let mut items = Vec::new(alloc);
+    let done = push_mails(&mut sent, &mut items, alloc, mails);
+    let (sent, items) = (Listed::from_vec(sent), Listed::from_vec(items));
+    done.and(Ok(Outgoing { sent, items }))
 }
 
 /// What the steps of a master move: the master, all that was sent, the streams,
@@ -76,6 +106,26 @@ impl<P: Post> Served<P> {
         }
     }
 
+    /// Keeps and hears what the master brought out, once the post has room for its mails,
+    /// and gives the mails as they are told.
+    fn send(&mut self, alloc: Global, outs: &Outs) -> Result<Listed<Sent>, AllocError>
+        requires { AreRising (kept_ids self.old.streams ++ outs.now.opened) }
+        ensures sent { IfOk result (λ sent. sent ≡ map sent_to outs.now.mails) }
+        ensures kept { OnOk result (self.new ≡ record self.old {
+          items = self.old.items ++ map item_to outs.now.mails;
+          streams = heard outs.now.opened outs.now.events self.old.streams;
+          post = self.new.post;
+        }) }
+        ensures unchanged { OnErr result (self.new ≡ record self.old { post = self.new.post }) }
+        ensures post { P.known self.new.post ≡ P.known self.old.post }
+        ensures room { OnOk result (length outs.now.mails ≤ P.room self.new.post) }
+    {
+        self.post.reserve(alloc, outs.mails.len())?;
+        let Outgoing { sent, items } = outgoing_to(alloc, outs.mails.as_slice())?;
+        let kept = self.keep(alloc, items, outs.opened.as_slice(), outs.events.as_slice());
+        kept.and(Ok(sent))
+    }
+
     /// What the master brought out, kept and told, once the post has room for its mails.
     fn tell(&mut self, alloc: Global, outs: Outs) -> Result<Made, AllocError>
         requires { AreRising (kept_ids self.old.streams ++ outs.opened) }
@@ -89,23 +139,15 @@ impl<P: Post> Served<P> {
         ensures post { P.known self.new.post ≡ P.known self.old.post }
         ensures room { OnOk result (length outs.mails ≤ P.room self.new.post) }
     {
-        self.post.reserve(alloc, outs.mails.len())?;
-        let out = outgoing_to(alloc, outs.mails.as_slice())?;
-        let outputs = Outputs {
-            events: outs.events,
-            closed: outs.closed,
-            sent: out.sent,
-            taken: None,
-        };
-        self.keep(
-            alloc,
-            out.items,
-            outs.opened.as_slice(),
-            outputs.events.as_slice(),
-        )?;
+        let sent = self.send(alloc, &outs)?;
         Ok(Made {
             verdict: Verdict::Ok,
-            outputs,
+            outputs: Outputs {
+                events: outs.events,
+                closed: outs.closed,
+                sent,
+                taken: None,
+            },
             durable: None,
         })
     }
@@ -115,7 +157,7 @@ impl<P: Post> Served<P> {
         ensures made { result ≡ ends_with verdicts.OutOfMemory }
         ensures down { self.new ≡ record self.old { master = None } }
     {
-        self.master = None;
+        drop(self.master.take());
         ends_with(alloc, Verdict::OutOfMemory)
     }
 

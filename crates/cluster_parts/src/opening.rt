@@ -36,6 +36,7 @@ use names_core::Run;
 use plain_data::Plain;
 use post_rules::Post;
 use std::alloc::{AllocError, Global};
+use std::mem;
 use told_streams::Streams;
 
 /// What a cluster has at its opening, and what the opening brings out.
@@ -84,7 +85,7 @@ pub fn start_in(
 {
     match Master::start(alloc, run, config) {
         Ok((new, outs)) => {
-            *master = Some(new);
+            drop(mem::replace(master, Some(new)));
             Ok(outs)
         }
         Err(fault) => Err(fault),
@@ -177,6 +178,6 @@ pub fn open_parts<P: Post + Drop>(
         (λ opened. length opened.served.items ≤ P.room opened.served.post) }
 {
     let mut opened = nothing(alloc);
-    open_over(&mut opened, alloc, config, records, run)?;
-    Ok(opened)
+    let done = open_over(&mut opened, alloc, config, records, run);
+    done.and(Ok(opened))
 }

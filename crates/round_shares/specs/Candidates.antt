@@ -1,25 +1,14 @@
 -- What stays of each framework over a round.
-use Rattle.std.specs.Prelude.{◌≡◌, ⊤, ℕ, ◌+◌, ◌*◌, ◌%◌, ◌^◌, true, false, List, [], ◌∷◌, fold, map, IfSome}
+use Rattle.std.specs.Prelude.{◌≡◌, ⊤, ℕ, true, false, List, [], ◌∷◌, IfSome}
 use Rattle.quantity.specs.declared.rows.Row.{Row}
 use Rattle.mails.specs.declared.framework.Framework.{Framework}
-use Rattle.mails.specs.declared.framework.Filter.{Filter}
 use Rattle.cluster_model.specs.Rounds.{is_subscribed, may_be_offered}
 use Rattle.drf_pick.specs.Shares.{Tally}
 use Rattle.drf_pick.specs.ClientShares.{IsPlaceOf}
+use Rattle.round_shares.specs.Keys.{AreKeys}
 use Rattle.round_shares.specs.declared.candidates.Eligibility.{Eligibility}
 use Rattle.round_shares.specs.declared.candidates.Eligibility.TheVariants.{Always, Never, ByFilters}
 pub use Rattle.round_shares.specs.declared.candidates.Candidate.{Candidate}
-
--- a number of an agent's name
-
-abbrev pub next_key : ℕ → ℕ → ℕ
-next_key key byte = (key * 31 % 2 ^ 32 + byte) % 2 ^ 32
-
-abbrev pub key_of : List ℕ → ℕ
-key_of agent = fold next_key 0 agent
-
-abbrev pub filter_key : Filter → ℕ
-filter_key x = key_of x.agent
 
 -- whatever is free on any agent may be offered to the framework, or nothing may,
 -- or what its filters don't refuse
@@ -32,7 +21,7 @@ IsEligibility f ByFilters = (is_subscribed f.stream ≡ true) × (f.suppressed �
 
 pub record IsCandidate (t : Tally) (f : Framework) (c : Candidate) : Type 0 where
   pub eligibility : IsEligibility f c.eligibility
-  pub keys : c.keys.items ≡ map filter_key f.filters
+  pub keys : AreKeys f.filters c.keys
   pub place : IfSome c.place (IsPlaceOf t f.id f.role)
 
 -- one for each of the first frameworks, in their order

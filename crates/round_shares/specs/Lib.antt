@@ -1,3 +1,4 @@
+pub mod Keys
 pub mod Candidates
 pub mod Gifts
 pub mod Kept

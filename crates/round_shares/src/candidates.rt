@@ -1,11 +1,13 @@
 //! What stays of each framework over a round.
 
-ghost use Rattle.std.specs.Prelude.{◌≡◌, map, IfOk, IfSome};
+ghost use Rattle.std.specs.Prelude.{◌≡◌, IfOk, IfSome};
 ghost use Rattle.std.specs.List.{list_any};
 ghost use Rattle.cluster_model.specs.Rounds.{may_be_offered, refuses};
 ghost use Rattle.drf_pick.specs.ClientShares.{IsClientShare, IsPlaceOf};
-ghost use Rattle.round_shares.specs.Candidates.{AreCandidates, IsCandidate, IsEligibility, filter_key, key_of};
+ghost use Rattle.round_shares.specs.Candidates.{AreCandidates, IsCandidate, IsEligibility};
+ghost use Rattle.round_shares.specs.Keys.{AreKeys, key_of};
 
+use crate::keys::{FilterKeys, any_refuses_by_key};
 use drf_pick::{ClientPlace, ClientShare, Shares};
 use frameworks::refuses;
 use mails::{Filter, Framework};
@@ -32,32 +34,10 @@ pub(crate) enum Eligibility {
 #[derive(Drop)]
 pub struct Candidate {
     pub(crate) eligibility: Eligibility,
-    /// For each of its filters, in order, a number of the name of the filter's agent.
-    pub(crate) keys: Vec<u32>,
+    /// The numbers of the names of its filters' agents.
+    pub(crate) keys: FilterKeys,
     /// Its place and that of its role, where both are known.
     pub(crate) place: Option<ClientPlace>,
-}
-
-/// A number of an agent's name: names whose numbers differ are two.
-pub(crate) fn key_of(agent: &AgentName) -> u32
-    ensures { result ≡ key_of agent.now }
-{
-    let bytes = agent.as_text().as_bytes();
-    let mut key: u32 = 0;
-    for byte in bytes {
-        key = key.wrapping_mul(31).wrapping_add(u32::from(*byte));
-    }
-    key
-}
-
-fn keys_of(alloc: Global, filters: &[Filter]) -> Result<Vec<u32>, AllocError>
-    ensures { IfOk result (λ keys. keys.items ≡ map filter_key filters.now) }
-{
-    let mut keys = Vec::new(alloc);
-    for filter in filters {
-        keys.push(key_of(&filter.agent))?;
-    }
-    Ok(keys)
 }
 
 fn eligibility_of(framework: &Framework) -> Eligibility
@@ -83,7 +63,7 @@ fn candidate_of(
 {
     Ok(Candidate {
         eligibility: eligibility_of(framework),
-        keys: keys_of(alloc, framework.filters.as_slice())?,
+        keys: FilterKeys::of(alloc, framework.filters.as_slice())?,
         place: ClientPlace::of(shares, framework.id, &framework.role, guess),
     })
 }
@@ -108,43 +88,6 @@ pub fn candidates_of(
         candidates.push(candidate)?;
     }
     Ok(candidates)
-}
-
-/// Whether a filter refuses what is free on an agent. It is looked at only where the number of its
-/// agent's name is that of this one's.
-fn refuses_by_key(
-    filter: &Filter,
-    its_key: u32,
-    now: u32,
-    agent: &AgentName,
-    key: u32,
-    free: &Resources,
-) -> bool
-    requires its_key { its_key ≡ filter_key filter.now }
-    requires key { key ≡ key_of agent.now }
-    ensures { result ≡ refuses now agent.now free.now filter.now }
-{
-    its_key == key && refuses(filter, now, agent, free)
-}
-
-fn any_refuses_by_key(
-    filters: &[Filter],
-    keys: &[u32],
-    now: u32,
-    agent: &AgentName,
-    key: u32,
-    free: &Resources,
-) -> bool
-    requires keys { keys.now ≡ map filter_key filters.now }
-    requires key { key ≡ key_of agent.now }
-    ensures { result ≡ list_any (refuses now agent.now free.now) filters.now }
-{
-    for place in 0..filters.len() {
-        if refuses_by_key(&filters[place], keys[place], now, agent, key, free) {
-            return true;
-        }
-    }
-    false
 }
 
 fn any_refuses(filters: &[Filter], now: u32, agent: &AgentName, free: &Resources) -> bool
@@ -175,7 +118,7 @@ fn is_eligible_as(
     free: &Resources,
 ) -> bool
     requires eligibility { IsEligibility framework.now candidate.now.eligibility }
-    requires keys { candidate.now.keys.items ≡ map filter_key framework.now.filters }
+    requires keys { AreKeys framework.now.filters candidate.now.keys }
     requires key { key ≡ key_of agent.now }
     ensures { result ≡ may_be_offered now agent.now free.now framework.now }
 {
@@ -201,8 +144,7 @@ pub(crate) fn may_be_offered(
     free: &Resources,
 ) -> bool
     requires eligibility { IfSome candidate (λ c. IsEligibility framework.now c.now.eligibility) }
-    requires keys { IfSome candidate (λ c. c.now.keys.items
-        ≡ map filter_key framework.now.filters) }
+    requires keys { IfSome candidate (λ c. AreKeys framework.now.filters c.now.keys) }
     requires key { key ≡ key_of agent.now }
     ensures { result ≡ may_be_offered now agent.now free.now framework.now }
 {

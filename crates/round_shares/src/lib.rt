@@ -5,6 +5,7 @@
 mod candidates;
 mod fill;
 mod kept;
+mod keys;
 mod laws;
 mod pick;
 

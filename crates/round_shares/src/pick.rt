@@ -6,7 +6,8 @@ ghost use Rattle.drf_pick.specs.ClientShares.{IsClientShare};
 ghost use Rattle.round_shares.specs.Candidates.{AreCandidates, IsCandidate};
 ghost use Rattle.round_shares.specs.Picks.{better, better_eligible, picked};
 
-use crate::candidates::{Candidate, key_of, may_be_offered, share_of};
+use crate::candidates::{Candidate, may_be_offered, share_of};
+use crate::keys::key_of;
 use drf_pick::{ClientShare, Shares, comes_before};
 use mails::Framework;
 use names_core::{AgentName, FrameworkId};

@@ -1,5 +1,6 @@
-use Rattle.std.proofs.Common.{◌≡◌, IfSome, map}
-use Rattle.round_shares.specs.Candidates.{IsCandidate, IsEligibility, filter_key}
+use Rattle.std.proofs.Common.{IfSome}
+use Rattle.round_shares.specs.Candidates.{IsCandidate, IsEligibility}
+use Rattle.round_shares.specs.Keys.{AreKeys}
 use Rattle.round_shares.proofs.AtPlaces.{lent_at, of_lent}
 use Rattle.round_shares.proofs.pick.best_of.Goals as goal
 
@@ -12,7 +13,7 @@ may_be_offered-requires c =
     let is : IfSome o (λ k. IsCandidate t f k.now) = lent_at t c.args.frameworks.now c.args.candidates.now c.loop-place.place f o c.requires c.loop-place-test.true c.index-frameworks-place.is lookup.0 lookup.1 in
     record {
       eligibility = of_lent (IsCandidate t f) (λ k. IsEligibility f k.eligibility) (λ k its. its.eligibility) o is;
-      keys = of_lent (IsCandidate t f) (λ k. k.keys.items ≡ map filter_key f.filters) (λ k its. its.keys) o is;
+      keys = of_lent (IsCandidate t f) (λ k. AreKeys f.filters k.keys) (λ k its. its.keys) o is;
       key = c.key_of-key.ensures;
     }
 
