@@ -118,5 +118,7 @@ pub fn calls<R: Read, W: Write>(
         Ok(master) => master,
         Err(stop) => return Err(stop),
     };
-    answer_input(alloc, reader, writer, &mut buffer, &mut master)
+    let answered = answer_input(alloc, reader, writer, &mut buffer, &mut master);
+    drop(master);
+    answered
 }

@@ -89,7 +89,7 @@ pub fn run(
     ensures memory { IfErr result (λ fault. fault ≡ OutOfMemory) }
 {
     let mut cluster = open_fresh(alloc, config, weights)?;
-    pass_all(&mut cluster, alloc, steps)?;
+    let done = pass_all(&mut cluster, alloc, steps);
     cluster.is_safe();
-    Ok(cluster)
+    done.and(Ok(cluster))
 }

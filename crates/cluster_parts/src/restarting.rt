@@ -103,7 +103,7 @@ impl<P: Post> Parts<P> {
                 self.served.settle(alloc, answer)
             }
             None => {
-                self.served.master = None;
+                drop(self.served.master.take());
                 ends_with(alloc, Verdict::Ok)
             }
         }

@@ -136,7 +136,11 @@ fn greets(alloc: Global, config: Config, mut records: Vec<Record>) -> bool {
         return false;
     }
     match Cluster::<EverSent>::open(alloc, config, Weights::new(alloc), records, run) {
-        Ok(cluster) => greets_a_first(&cluster),
+        Ok(cluster) => {
+            let greets = greets_a_first(&cluster);
+            drop(cluster);
+            greets
+        }
         Err(_) => false,
     }
 }

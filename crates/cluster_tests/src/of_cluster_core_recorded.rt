@@ -131,12 +131,20 @@ fn closed<C: Recorded, L: ledger::Ledger>(
     office: Office<C, L>,
     passes: Option<Passes<C::Entry, L>>,
 ) -> Option<Closed> {
-    match office.close(passes?) {
+    let Some(passes) = passes else {
+        drop(office);
+        return None;
+    };
+    match office.close(passes) {
         Ok(history) => {
-            let seats = Vec::from_slice(alloc, history.seats()).ok()?;
-            Some((history.len(), seats))
+            let (count, seats) = (history.len(), Vec::from_slice(alloc, history.seats()).ok());
+            drop(history);
+            Some((count, seats?))
         }
-        Err(_) => None,
+        Err(refused) => {
+            drop(refused);
+            None
+        }
     }
 }
 

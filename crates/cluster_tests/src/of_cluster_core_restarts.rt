@@ -97,7 +97,11 @@ fn first_other(cluster: &mut Cluster<EverSent>, alloc: Global, rows: &[Row]) -> 
 /// Whether the steps of a cluster are answered so.
 fn plays(alloc: Global, text: Option<&str>, run: Run, rows: &[Row]) -> bool {
     match open(alloc, text, run) {
-        Some(mut cluster) => first_other(&mut cluster, alloc, rows).is_none(),
+        Some(mut cluster) => {
+            let other = first_other(&mut cluster, alloc, rows);
+            drop(cluster);
+            other.is_none()
+        }
         None => false,
     }
 }
@@ -205,7 +209,11 @@ fn falls_in(cluster: &mut Cluster<EverSent>, alloc: Global) -> Option<bool> {
 
 fn falls(alloc: Global) -> Option<bool> {
     match open(alloc, None, Run::new(1)) {
-        Some(mut cluster) => falls_in(&mut cluster, alloc),
+        Some(mut cluster) => {
+            let fell = falls_in(&mut cluster, alloc);
+            drop(cluster);
+            fell
+        }
         None => None,
     }
 }
@@ -234,7 +242,11 @@ fn entries(cluster: &Cluster<EverSent>) -> usize {
 /// How many entries the run of a list of steps has.
 fn entries_of(alloc: Global, steps: &[Step]) -> Option<usize> {
     match run_of(alloc, one_agent(alloc)?, Weights::new(alloc), steps) {
-        Ok(cluster) => Some(entries(&cluster)),
+        Ok(cluster) => {
+            let count = entries(&cluster);
+            drop(cluster);
+            Some(count)
+        }
         Err(_) => None,
     }
 }

@@ -93,7 +93,9 @@ fn is_not_subscribed(alloc: Global, desk: &mut Desk) -> bool {
 pub fn a_call_without_its_stream(alloc: Global) -> bool {
     match beside(alloc, TEARDOWN, 15) {
         Some(mut bench) => {
-            breaks_off(alloc, &mut bench) && is_not_subscribed(alloc, &mut bench.desk)
+            let is = breaks_off(alloc, &mut bench) && is_not_subscribed(alloc, &mut bench.desk);
+            drop(bench);
+            is
         }
         None => false,
     }

@@ -87,5 +87,7 @@ pub(crate) fn run_history(alloc: Global, lines: &[String]) -> Result<Vec<u8>, St
         return Err(Stop::Line(LineRefusal::BadConfig));
     };
     let mut cluster = open(alloc, first)?;
-    run_lines(&mut cluster, alloc, rest)
+    let told = run_lines(&mut cluster, alloc, rest);
+    drop(cluster);
+    told
 }

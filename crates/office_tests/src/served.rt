@@ -271,5 +271,7 @@ pub fn refuses_unopened<L: ledger::Ledger, R: Wait>(
     requires parts { (blank.parts ≡ L.parts) × (blank.parts ≡ 4294967296) }
 {
     let office = Office::new(Desk::<_, L>::new(alloc, recorded(alloc)?, blank));
-    Some(is_refused(rt, alloc, &office))
+    let refuses = is_refused(rt, alloc, &office);
+    drop(office);
+    Some(refuses)
 }

@@ -13,6 +13,7 @@ use device_io::{LONGEST_LINE, Teller};
 use replayed_clusters::{Replayed, end_table, raised, take_step, tell_opening};
 use std::alloc::{AllocError, Global};
 use std::marker::Model;
+use std::mem;
 use step_lines::{Configuration, LineFault, LineRefusal, read_config, read_step};
 
 /// Tells what comes of the lines of a replay: the first says which agents there are,
@@ -127,7 +128,8 @@ impl Replayer {
             ≡ record { text = text.items; after = self.new }) }
     {
         let Configuration { agents, weights } = config;
-        self.cluster = Some(Replayed::open(alloc, agents, weights)?);
+        let opened = Replayed::open(alloc, agents, weights)?;
+        drop(mem::replace(&mut self.cluster, Some(opened)));
         let Some(cluster) = &self.cluster else {
             return Err(AllocError);
         };

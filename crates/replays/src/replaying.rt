@@ -70,5 +70,7 @@ pub fn replay<R: Read, W: Write>(
         (replay_text input))) }
 {
     let mut replayer = Replayer::new();
-    replay_with(alloc, reader, &mut replayer, writer)
+    let replayed = replay_with(alloc, reader, &mut replayer, writer);
+    drop(replayer);
+    replayed
 }
