@@ -103,7 +103,7 @@ impl<P: Post> Parts<P> {
                 self.served.settle(alloc, answer)
             }
             None => {
-                drop(self.served.master.take());
+                self.served.master = None;
                 ends_with(alloc, Verdict::Ok)
             }
         }

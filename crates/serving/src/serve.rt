@@ -10,7 +10,7 @@ use cluster_core::{Cluster, KeptEntry, RecordedCluster};
 use desk_lock::{Desk, Office, OfficeFault, Pass, Passes, Recorded, SeatedHistory};
 use http_door::NoGate;
 use http_workers::{HttpFault, serve_all};
-use office_bench::TcpArrivals;
+use office_bench::{Seating, TcpArrivals};
 use post_rules::Queues;
 use record_folder::RecordFile;
 use std::alloc::Global;
@@ -43,6 +43,20 @@ fn first_fault(
     }
 }
 
+/// Hands in the passes of connections that had a seat, and gives the first fault.
+fn hand_in_all<L: ledger::Ledger, R: Wait>(
+    passes: &mut Passes<KeptEntry, L>,
+    benches: Vec<Seating<'_, L, R>>,
+) -> Result<(), ServingFault> {
+    let mut handed = Ok(());
+    for bench in benches {
+        if let Some(pass) = bench.into_pass() {
+            handed = first_fault(handed, hand_in(passes, pass));
+        }
+    }
+    handed
+}
+
 /// Serves the connections of a listener, each with a seat of its own,
 /// until no more come and all have ended. The passes of their seats are handed in.
 fn serve_connections<L: ledger::Ledger + Send + Sync, R: Threads + Wait + Clock + Sync>(
@@ -60,12 +74,8 @@ fn serve_connections<L: ledger::Ledger + Send + Sync, R: Threads + Wait + Clock 
     let mut arrivals = TcpArrivals::new(rt, alloc, office, pass, listener, connections);
     let (benches, fault) = serve_all(rt, alloc, &mut arrivals, &NoGate);
     let failed = arrivals.has_failed();
-    let mut handed = hand_in(passes, arrivals.into_pass());
-    for bench in benches {
-        if let Some(pass) = bench.into_pass() {
-            handed = first_fault(handed, hand_in(passes, pass));
-        }
-    }
+    let own = hand_in(passes, arrivals.into_pass());
+    let handed = first_fault(own, hand_in_all(passes, benches));
     match fault {
         Some(fault) => Err(ServingFault::Http(fault)),
         None if failed => Err(ServingFault::Listener),

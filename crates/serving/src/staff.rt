@@ -79,6 +79,19 @@ fn keep_time<L: ledger::Ledger, R: Wait + Clock>(
     }
 }
 
+/// A thread, unless it was refused.
+fn started<T: Drop, E: Drop>(thread: Result<T, E>) -> Result<T, ServingFault> {
+    match thread {
+        Ok(thread) => Ok(thread),
+        Err(_) => Err(ServingFault::Http(HttpFault::NoThread)),
+    }
+}
+
+/// Keeps a thread, for which there is room.
+fn keep<T: Drop>(threads: &mut Vec<T>, thread: T) {
+    let _ = threads.push(thread);
+}
+
 /// Starts an agent's thread.
 fn start_agent<'s, E, L: ledger::Ledger + Send + Sync + 's, R: Threads + Wait + Clock + Sync + 's>(
     scope: &Scope<'s, E>,
@@ -93,10 +106,7 @@ fn start_agent<'s, E, L: ledger::Ledger + Send + Sync + 's, R: Threads + Wait + 
         Err(fault) => return Err(ServingFault::Office(fault)),
     };
     let seconds = pace.task_seconds;
-    match scope.spawn(move || keep_going(rt, alloc, office, pass, file, seconds)) {
-        Ok(thread) => Ok(thread),
-        Err(_) => Err(ServingFault::Http(HttpFault::NoThread)),
-    }
+    started(scope.spawn(move || keep_going(rt, alloc, office, pass, file, seconds)))
 }
 
 /// Starts the thread of the master's time.
@@ -112,10 +122,7 @@ fn start_ticker<'s, E, L: ledger::Ledger + Send + Sync + 's, R: Threads + Wait +
         Err(fault) => return Err(ServingFault::Office(fault)),
     };
     let interval = pace.interval;
-    match scope.spawn(move || keep_time(rt, alloc, office, pass, interval)) {
-        Ok(thread) => Ok(thread),
-        Err(_) => Err(ServingFault::Http(HttpFault::NoThread)),
-    }
+    started(scope.spawn(move || keep_time(rt, alloc, office, pass, interval)))
 }
 
 /// Starts the threads of all agents, and of the master's time.
@@ -138,10 +145,8 @@ pub(crate) fn start_all<
         return Err(ServingFault::Http(HttpFault::OutOfMemory));
     }
     for file in files {
-        let thread = start_agent(scope, rt, alloc, office, file, pace)?;
-        let _ = threads.push(thread);
+        keep(threads, start_agent(scope, rt, alloc, office, file, pace)?);
     }
-    let thread = start_ticker(scope, rt, alloc, office, pace)?;
-    let _ = threads.push(thread);
+    keep(threads, start_ticker(scope, rt, alloc, office, pace)?);
     Ok(())
 }
