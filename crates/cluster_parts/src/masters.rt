@@ -48,8 +48,6 @@ fn push_mails(
     ensures sent { OnOk result (sent.new.items ≡ sent.old.items ++ map sent_to mails.now) }
     ensures items { OnOk result (items.new.items ≡ items.old.items ++ map item_to mails.now) }
 {
-    sent.reserve(mails.len())?;
-    items.reserve(mails.len())?;
     for to in mails {
         push_mail(sent, items, alloc, to)?;
     }
@@ -61,8 +59,8 @@ fn outgoing_to(alloc: Global, mails: &[ToAgent]) -> Result<Outgoing, AllocError>
     ensures sent { IfOk result (λ out. out.sent ≡ map sent_to mails.now) }
     ensures items { IfOk result (λ out. out.items ≡ map item_to mails.now) }
 {
-    let mut sent = Vec::new(alloc);
-    let mut items = Vec::new(alloc);
+    let mut sent = Vec::with_capacity(alloc, mails.len())?;
+    let mut items = Vec::with_capacity(alloc, mails.len())?;
     let done = push_mails(&mut sent, &mut items, alloc, mails);
     let (sent, items) = (Listed::from_vec(sent), Listed::from_vec(items));
     done.and(Ok(Outgoing { sent, items }))
