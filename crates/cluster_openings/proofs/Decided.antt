@@ -1,5 +1,5 @@
 -- The tests of records decide whether they are a good opening.
-use Rattle.std.proofs.Common.{◌≡◌, ◌≢◌, ◌<◌, ◌≤◌, ℕ, suc, length, Bool, true, false, not, ◌&&◌, ◌||◌, List, [], ◌∷◌, ◌++◌, map, flat_map, sum_by, refl, sym, ap, ◌∙◌, subst, arith, nat_lt, IsTrue, bytes_eq}
+use Rattle.std.proofs.Common.{Option, None, Some, ◌≡◌, ◌≢◌, ◌<◌, ◌≤◌, ℕ, suc, length, Bool, true, false, not, ◌&&◌, ◌||◌, List, [], ◌∷◌, ◌++◌, map, flat_map, sum_by, refl, sym, ap, ◌∙◌, subst, arith, nat_lt, IsTrue, bytes_eq}
 use Rattle.std.specs.Prelude.{◌↔◌}
 use Rattle.std.specs.List.{AllByRecursion as Each, list_all}
 use Rattle.std.specs.Cmp.Lexicographic.{bytes_decides}
@@ -9,11 +9,11 @@ use Rattle.mails.specs.declared.record.Durable.{Durable}
 use Rattle.mails.specs.declared.record.RecordedTask.{RecordedTask}
 use Rattle.mails.specs.declared.task.Job.{Job}
 use Rattle.names_core.specs.Ids.{Numbered}
-use Rattle.cluster_model.specs.Ids.{same}
+use Rattle.cluster_model.specs.Ids.{before, same}
 use Rattle.quantity.proofs.Amounts.{covers_is_at_least}
 use Rattle.quantity.specs.Laws.{CoversIsAtLeast}
 use Rattle.quantity.specs.Rows.{amount, covers, part_of}
-use Rattle.agent_core.specs.Records.{has_begun, is_record, keys_rise, none_is_done}
+use Rattle.agent_core.specs.Records.{has_begun, is_behind, is_record, keys_rise, none_is_done, rise_behind}
 use Rattle.agent_sides.specs.Configs.{are_ordered, names_of}
 use Rattle.agent_sides.specs.declared.config.ConfiguredAgent.{ConfiguredAgent}
 use Rattle.cluster_model.specs.Agents.{live_tasks, task_rows}
@@ -22,7 +22,7 @@ use Rattle.cluster_laws.proofs.Lists.{both_true, each_append}
 use Rattle.cluster_safe.proofs.Ids.{same_is, same_refl}
 use Rattle.cluster_safe.proofs.Orders.{each_left, each_right}
 use Rattle.cluster_openings.specs.Fresh.{fresh_records}
-use Rattle.cluster_openings.specs.Openable.{any_has_key, are_good, are_keys_new, are_keys_once, are_records_of, has_key, is_before, is_record_of, is_task_before}
+use Rattle.cluster_openings.specs.Openable.{KeysRise, are_good, are_keys_apart, are_keys_new, are_records_of, has_key, is_before, is_record_of, is_task_before, share_key}
 use Rattle.cluster_openings.specs.Records.{IsRecordOf, StandInOrder}
 use Rattle.cluster_openings.proofs.FreshRecords.{once}
 use Rattle.cluster_openings.proofs.InOrder.{standing_names}
@@ -32,6 +32,12 @@ use Rattle.cluster_openings.proofs.InOrder.{standing_names}
 weighs : (name : List ℕ) (ts : List RecordedTask) → amount name (task_rows ts) ≡ sum_by (λ (t : RecordedTask). amount name t.job.resources) ts
 weighs name [] = refl
 weighs name (t ∷ ts) = omega (arith, sum_by-append (part_of name) t.job.resources (task_rows ts), weighs name ts, sum_by-cons (λ (x : RecordedTask). amount name x.job.resources) t ts)
+
+pub record_rises : (d : Durable) → is_record d ≡ true → keys_rise d.tasks ≡ true
+record_rises d e =
+    let most = both_true (keys_rise d.tasks && none_is_done d.tasks && has_begun d) (covers d.total (task_rows (live_tasks d.tasks))) e in
+    let more = both_true (keys_rise d.tasks && none_is_done d.tasks) (has_begun d) most.0 in
+    (both_true (keys_rise d.tasks) (none_is_done d.tasks) more.0).0
 
 pub record_fits : CoversIsAtLeast → (d : Durable) → is_record d ≡ true → RecordFits d
 record_fits law d e name = subst (λ (n : ℕ). n ≤ amount name d.total) (weighs name (live_tasks d.tasks)) ((law d.total (task_rows (live_tasks d.tasks))).0 (is_so (covers d.total (task_rows (live_tasks d.tasks))) covered) name)
@@ -79,24 +85,65 @@ job_of t = t.job
 abbrev Differs : Numbered → Job → Type 0
 Differs key i = i.key ≢ key
 
+-- the order of keys
+
+before_trans : (a b c : Numbered) → before a b ≡ true → before b c ≡ true → before a c ≡ true
+before_trans a b c h k = grind (arith, nat_tests)
+
+not_itself : (a : Numbered) → before a a ≡ false
+not_itself a = grind (arith, nat_tests)
+
+alike : (a b : Numbered) → before a b ≡ false → before b a ≡ false → same a b ≡ true
+alike a b h k = grind (arith, nat_tests)
+
+apart : (a b : Numbered) → before a b ≡ true → b ≢ a
+apart a b h e = (let clash : true ≡ false = sym h ∙ ap (λ (x : Numbered). before a x) e ∙ not_itself a in cc)
+
+later : (a b : Numbered) (ts : List RecordedTask) → before a b ≡ true → rise_behind (Some b) ts ≡ true → rise_behind (Some a) ts ≡ true
+later a b [] h e = refl
+later a b (t ∷ ts) h e =
+    let both = both_true (before b t.job.key) (rise_behind (Some t.job.key) ts) e in
+    and_so (before a t.job.key) (rise_behind (Some t.job.key) ts) (before_trans a b t.job.key h both.0) both.1
+
+-- a list whose keys rise has each once
+
+rising_behind : (key : Numbered) (ts : List RecordedTask) → rise_behind (Some key) ts ≡ true → Each (Differs key) (map job_of ts)
+rising_behind key [] e = tt
+rising_behind key (t ∷ ts) e =
+    let both = both_true (before key t.job.key) (rise_behind (Some t.job.key) ts) e in
+    (apart key t.job.key both.0, rising_behind key ts (later key t.job.key ts both.0 both.1))
+
+rising_once : (last : Option Numbered) (ts : List RecordedTask) → rise_behind last ts ≡ true → KeysOnce (map job_of ts)
+rising_once last [] e = tt
+rising_once last (t ∷ ts) e =
+    let both = both_true (is_behind last t.job.key) (rise_behind (Some t.job.key) ts) e in
+    (rising_behind t.job.key ts both.1, rising_once (Some t.job.key) ts both.1)
+
+-- no key of tasks stands behind them
+
 key_new : (key : Numbered) (ts : List RecordedTask) → has_key key ts ≡ false → Each (Differs key) (map job_of ts)
 key_new key [] e = tt
 key_new key (t ∷ ts) e = let parts = or_parts (same t.job.key key) (has_key key ts) e in (differ t.job.key key parts.0, key_new key ts parts.1)
 
-key_new_behind : (key : Numbered) (ds : List Durable) → any_has_key key ds ≡ false → Each (Differs key) (recorded_jobs ds)
-key_new_behind key [] e = tt
-key_new_behind key (d ∷ ds) e = let parts = or_parts (has_key key d.tasks) (any_has_key key ds) e in each_append (Differs key) (map job_of d.tasks) (recorded_jobs ds) (key_new key d.tasks parts.0) (key_new_behind key ds parts.1)
+first_new : (t : RecordedTask) (ts : List RecordedTask) (ds : List Durable) → are_keys_new (t ∷ ts) ds ≡ true → Each (Differs t.job.key) (recorded_jobs ds) × (are_keys_new ts ds ≡ true)
+first_new t ts [] e = (tt, refl)
+first_new t ts (d ∷ ds) e =
+    let both = both_true (not (share_key (t ∷ ts) d.tasks)) (are_keys_new (t ∷ ts) ds) e in
+    let parts = or_parts (has_key t.job.key d.tasks) (share_key ts d.tasks) (not_so (share_key (t ∷ ts) d.tasks) both.0) in
+    let rest = first_new t ts ds both.1 in
+    (each_append (Differs t.job.key) (map job_of d.tasks) (recorded_jobs ds) (key_new t.job.key d.tasks parts.0) rest.0, and_so (not (share_key ts d.tasks)) (are_keys_new ts ds) (ap not parts.1) rest.1)
 
-keys_new : (ts : List RecordedTask) (ds : List Durable) → are_keys_new ts ds ≡ true → KeysOnce (recorded_jobs ds) → KeysOnce (map job_of ts ++ recorded_jobs ds)
-keys_new [] ds e h = h
-keys_new (t ∷ ts) ds e h =
-    let both = both_true (not (has_key t.job.key ts || any_has_key t.job.key ds)) (are_keys_new ts ds) e in
-    let parts = or_parts (has_key t.job.key ts) (any_has_key t.job.key ds) (not_so (has_key t.job.key ts || any_has_key t.job.key ds) both.0) in
-    (each_append (Differs t.job.key) (map job_of ts) (recorded_jobs ds) (key_new t.job.key ts parts.0) (key_new_behind t.job.key ds parts.1), keys_new ts ds both.1 h)
+keys_new : (ts : List RecordedTask) (ds : List Durable) → KeysOnce (map job_of ts) → are_keys_new ts ds ≡ true → KeysOnce (recorded_jobs ds) → KeysOnce (map job_of ts ++ recorded_jobs ds)
+keys_new [] ds once e h = h
+keys_new (t ∷ ts) ds once e h =
+    let first = first_new t ts ds e in
+    (each_append (Differs t.job.key) (map job_of ts) (recorded_jobs ds) once.0 first.0, keys_new ts ds once.1 first.1 h)
 
-keys_once : (ds : List Durable) → are_keys_once ds ≡ true → KeysOnce (recorded_jobs ds)
-keys_once [] e = tt
-keys_once (d ∷ ds) e = let both = both_true (are_keys_new d.tasks ds) (are_keys_once ds) e in keys_new d.tasks ds both.0 (keys_once ds both.1)
+keys_once : (ds : List Durable) → Each KeysRise ds → are_keys_apart ds ≡ true → KeysOnce (recorded_jobs ds)
+keys_once [] rise e = tt
+keys_once (d ∷ ds) rise e =
+    let both = both_true (are_keys_new d.tasks ds) (are_keys_apart ds) e in
+    keys_new d.tasks ds (rising_once None d.tasks rise.0) both.0 (keys_once ds rise.1 both.1)
 
 -- and back
 
@@ -107,22 +154,64 @@ key_not_there : (key : Numbered) (ts : List RecordedTask) → Each (Differs key)
 key_not_there key [] h = refl
 key_not_there key (t ∷ ts) h = or_not (same t.job.key key) (has_key key ts) (not_same t.job.key key h.0) (key_not_there key ts h.1)
 
-key_not_behind : (key : Numbered) (ds : List Durable) → Each (Differs key) (recorded_jobs ds) → any_has_key key ds ≡ false
-key_not_behind key [] h = refl
-key_not_behind key (d ∷ ds) h =
-    or_not (has_key key d.tasks) (any_has_key key ds) (key_not_there key d.tasks (each_left (Differs key) (map job_of d.tasks) (recorded_jobs ds) h)) (key_not_behind key ds (each_right (Differs key) (map job_of d.tasks) (recorded_jobs ds) h))
+-- the keys of tasks stand in none of the records behind them
+none_shared : (ts : List RecordedTask) (d : Durable) (ds : List Durable) → KeysOnce (map job_of ts ++ recorded_jobs (d ∷ ds)) → share_key ts d.tasks ≡ false
+none_shared [] d ds h = refl
+none_shared (t ∷ ts) d ds h =
+    or_not (has_key t.job.key d.tasks) (share_key ts d.tasks)
+    (key_not_there t.job.key d.tasks (each_left (Differs t.job.key) (map job_of d.tasks) (recorded_jobs ds) (each_right (Differs t.job.key) (map job_of ts) (recorded_jobs (d ∷ ds)) h.0)))
+    (none_shared ts d ds h.1)
 
-keys_are_new : (ts : List RecordedTask) (ds : List Durable) → KeysOnce (map job_of ts ++ recorded_jobs ds) → (are_keys_new ts ds ≡ true) × KeysOnce (recorded_jobs ds)
-keys_are_new [] ds h = (refl, h)
-keys_are_new (t ∷ ts) ds h =
-    let rest = keys_are_new ts ds h.1 in
-    let there = key_not_there t.job.key ts (each_left (Differs t.job.key) (map job_of ts) (recorded_jobs ds) h.0) in
-    let behind = key_not_behind t.job.key ds (each_right (Differs t.job.key) (map job_of ts) (recorded_jobs ds) h.0) in
-    (and_so (not (has_key t.job.key ts || any_has_key t.job.key ds)) (are_keys_new ts ds) (ap not (or_not (has_key t.job.key ts) (any_has_key t.job.key ds) there behind)) rest.0, rest.1)
+fewer : (ts us : List Job) (is : List Job) → KeysOnce (ts ++ (us ++ is)) → KeysOnce (ts ++ is)
+fewer [] [] is h = h
+fewer [] (u ∷ us) is h = fewer [] us is h.1
+fewer (t ∷ ts) us is h =
+    (each_append (Differs t.key) ts is (each_left (Differs t.key) ts (us ++ is) h.0) (each_right (Differs t.key) us is (each_right (Differs t.key) ts (us ++ is) h.0)), fewer ts us is h.1)
 
-keys_are_once : (ds : List Durable) → KeysOnce (recorded_jobs ds) → are_keys_once ds ≡ true
-keys_are_once [] h = refl
-keys_are_once (d ∷ ds) h = let first = keys_are_new d.tasks ds h in and_so (are_keys_new d.tasks ds) (are_keys_once ds) first.0 (keys_are_once ds first.1)
+keys_are_new : (ts : List RecordedTask) (ds : List Durable) → KeysOnce (map job_of ts ++ recorded_jobs ds) → are_keys_new ts ds ≡ true
+keys_are_new ts [] h = refl
+keys_are_new ts (d ∷ ds) h = and_so (not (share_key ts d.tasks)) (are_keys_new ts ds) (ap not (none_shared ts d ds h)) (keys_are_new ts ds (fewer (map job_of ts) (map job_of d.tasks) (recorded_jobs ds) h))
+
+keys_are_apart : (ds : List Durable) → KeysOnce (recorded_jobs ds) → are_keys_apart ds ≡ true
+keys_are_apart [] h = refl
+keys_are_apart (d ∷ ds) h = and_so (are_keys_new d.tasks ds) (are_keys_apart ds) (keys_are_new d.tasks ds h) (keys_are_apart ds (fewer [] (map job_of d.tasks) (recorded_jobs ds) h))
+
+-- ---- two lists whose keys rise, gone over together
+
+-- one that is before the first is before all
+behind_first : (key : Numbered) (ts : List RecordedTask) → rise_behind (Some key) ts ≡ true → has_key key ts ≡ false
+behind_first key ts e = key_not_there key ts (rising_behind key ts e)
+
+rises : (last : Option Numbered) (ts : List RecordedTask) → rise_behind last ts ≡ true → keys_rise ts ≡ true
+rises last [] e = refl
+rises last (t ∷ ts) e = (both_true (is_behind last t.job.key) (rise_behind (Some t.job.key) ts) e).1
+
+pub rest_rises : (t : RecordedTask) (ts : List RecordedTask) → keys_rise (t ∷ ts) ≡ true → keys_rise ts ≡ true
+rest_rises t ts e = rises (Some t.job.key) ts e
+
+-- a first key that is before all of the others' is none of them
+pub passes_first : (t u : RecordedTask) (ts us : List RecordedTask) → before t.job.key u.job.key ≡ true → keys_rise (u ∷ us) ≡ true → share_key (t ∷ ts) (u ∷ us) ≡ share_key ts (u ∷ us)
+passes_first t u ts us lt rise = ap (λ (b : Bool). b || share_key ts (u ∷ us)) (behind_first t.job.key (u ∷ us) (and_so (before t.job.key u.job.key) (rise_behind (Some u.job.key) us) lt rise))
+
+-- nor is the others' first one where it is before all
+pub passes_other : (t u : RecordedTask) (ts us : List RecordedTask) → before u.job.key t.job.key ≡ true → keys_rise (t ∷ ts) ≡ true → share_key (t ∷ ts) (u ∷ us) ≡ share_key (t ∷ ts) us
+passes_other t u ts us lt rise = go (t ∷ ts) (and_so (before u.job.key t.job.key) (rise_behind (Some t.job.key) ts) lt rise)
+  where
+    go : (vs : List RecordedTask) → rise_behind (Some u.job.key) vs ≡ true → share_key vs (u ∷ us) ≡ share_key vs us
+    go [] e = refl
+    go (v ∷ vs) e =
+        let both = both_true (before u.job.key v.job.key) (rise_behind (Some v.job.key) vs) e in
+        let other : same u.job.key v.job.key ≡ false = not_same u.job.key v.job.key (λ f. apart u.job.key v.job.key both.0 (sym f)) in
+        rw (other, go vs (later u.job.key v.job.key vs both.0 both.1)) refl
+
+-- the first keys are one where neither is before the other
+pub meets : (t u : RecordedTask) (ts us : List RecordedTask) → before t.job.key u.job.key ≡ false → before u.job.key t.job.key ≡ false → share_key (t ∷ ts) (u ∷ us) ≡ true
+meets t u ts us e f = rw (alike u.job.key t.job.key f e) refl
+
+pub shared_with_none : (ts us : List RecordedTask) → length us ≡ 0 → share_key ts us ≡ false
+shared_with_none [] us e = refl
+shared_with_none (t ∷ ts) [] e = shared_with_none ts [] e
+shared_with_none (t ∷ ts) (u ∷ us) e = absurd (omega (arith, e))
 
 -- ---- runs lie before
 
@@ -243,9 +332,9 @@ are_decided (a ∷ as_) (d ∷ ds) =
       (λ s. and_so (is_record_of a d) (are_records_of as_ ds) (first.1 s.0) (rest.1 s.1)),
     )
 
-pub good_if : (agents : List ConfiguredAgent) (run : ℕ) (ds : List Durable) → are_ordered (names_of agents) ≡ true → StandInOrder agents ds → Each RecordFits ds → are_good run ds ≡ true → GoodOpening run ds
-good_if agents run ds ordered is fits e =
-    let both = both_true (are_keys_once ds) (list_all (is_before run) ds) e in
+pub good_if : (agents : List ConfiguredAgent) (run : ℕ) (ds : List Durable) → are_ordered (names_of agents) ≡ true → StandInOrder agents ds → Each RecordFits ds → Each KeysRise ds → are_good run ds ≡ true → GoodOpening run ds
+good_if agents run ds ordered is fits rise e =
+    let both = both_true (are_keys_apart ds) (list_all (is_before run) ds) e in
     let good = all_good run ds both.1 in
     record {
       fits = fits;
@@ -253,12 +342,12 @@ good_if agents run ds ordered is fits e =
       keys_older = good.before.keys;
       frameworks_older = good.before.frameworks;
       offers_older = good.before.ids;
-      keys_once = keys_once ds both.0;
+      keys_once = keys_once ds rise both.0;
       names_once = named_once agents ds ordered is;
     }
 
 pub then_good : (run : ℕ) (ds : List Durable) → GoodOpening run ds → are_good run ds ≡ true
-then_good run ds g = and_so (are_keys_once ds) (list_all (is_before run) ds) (keys_are_once ds g.keys_once)
+then_good run ds g = and_so (are_keys_apart ds) (list_all (is_before run) ds) (keys_are_apart ds g.keys_once)
     (all_are_good run ds (record { older = g.older; before = record { keys = g.keys_older; frameworks = g.frameworks_older; ids = g.offers_older } }))
 
 -- fewer records than agents, or more

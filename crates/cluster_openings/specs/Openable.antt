@@ -1,8 +1,9 @@
 -- Tests of records over which a cluster may be opened.
-use Rattle.std.specs.Prelude.{ℕ, Bool, true, false, not, ◌&&◌, ◌||◌, nat_lt, List, [], ◌∷◌, bytes_eq}
+use Rattle.std.specs.Prelude.{◌≡◌, ℕ, Bool, true, false, not, ◌&&◌, nat_lt, List, [], ◌∷◌, bytes_eq}
 use Rattle.std.specs.List.{list_all, list_any}
 use Rattle.names_core.specs.Ids.{Numbered}
 use Rattle.quantity.specs.Rows.{covers}
+use Rattle.agent_core.specs.Records.{keys_rise}
 use Rattle.agent_sides.specs.declared.config.ConfiguredAgent.{ConfiguredAgent}
 use Rattle.cluster_model.specs.Ids.{same}
 use Rattle.mails.specs.declared.record.Durable.{Durable}
@@ -21,19 +22,21 @@ is_before run d = nat_lt d.run run && list_all (is_task_before run) d.tasks
 abbrev pub has_key : Numbered → List RecordedTask → Bool
 has_key key tasks = list_any (λ t. same t.job.key key) tasks
 
-abbrev pub any_has_key : Numbered → List Durable → Bool
-any_has_key key records = list_any (λ d. has_key key d.tasks) records
+-- a key stands in both
+abbrev pub share_key : List RecordedTask → List RecordedTask → Bool
+share_key ts others = list_any (λ t. has_key t.job.key others) ts
 
--- no key of these tasks stands twice, nor in the records behind them
+-- no key of these tasks stands in the records behind them
 abbrev pub are_keys_new : List RecordedTask → List Durable → Bool
-are_keys_new [] behind = true
-are_keys_new (t ∷ ts) behind =
-    not (has_key t.job.key ts || any_has_key t.job.key behind) && are_keys_new ts behind
+are_keys_new ts behind = list_all (λ d. not (share_key ts d.tasks)) behind
 
--- no key stands twice
-abbrev pub are_keys_once : List Durable → Bool
-are_keys_once [] = true
-are_keys_once (d ∷ ds) = are_keys_new d.tasks ds && are_keys_once ds
+-- no key stands in two records
+abbrev pub are_keys_apart : List Durable → Bool
+are_keys_apart [] = true
+are_keys_apart (d ∷ ds) = are_keys_new d.tasks ds && are_keys_apart ds
+
+abbrev pub KeysRise : Durable → Type 0
+KeysRise d = keys_rise d.tasks ≡ true
 
 -- the record is of this agent, which is configured to own at least what the record says
 abbrev pub is_record_of : ConfiguredAgent → Durable → Bool
@@ -48,4 +51,4 @@ are_records_of (a ∷ as_) (d ∷ ds) = is_record_of a d && are_records_of as_ d
 
 -- what is asked of records beside that they are those of the configured agents
 abbrev pub are_good : ℕ → List Durable → Bool
-are_good run records = are_keys_once records && list_all (is_before run) records
+are_good run records = are_keys_apart records && list_all (is_before run) records

@@ -3,24 +3,28 @@
 ghost use Rattle.std.specs.Prelude.{◌≡◌, ◌↔◌, true, nat_lt, List, IsTrue, ℕ};
 ghost use Rattle.std.specs.List.{AllByRecursion as Each, list_all};
 ghost use Rattle.std.specs.List.Sorted.{IsPermutation};
+ghost use Rattle.agent_core.specs.Records.{keys_rise};
 ghost use Rattle.agent_sides.specs.Configs.{are_ordered, names_of};
 ghost use Rattle.agent_sides.specs.declared.config.ConfiguredAgent.{ConfiguredAgent as Configured};
-ghost use Rattle.cluster_openings.specs.Openable.{any_has_key, are_good, are_keys_new, are_keys_once, are_records_of, has_key, is_before, is_record_of, is_task_before};
+ghost use Rattle.cluster_openings.specs.Openable.{KeysRise, are_good, are_records_of, is_before, is_record_of, is_task_before};
 ghost use Rattle.cluster_openings.specs.Records.{AreRecordsOf, StandInOrder};
 ghost use Rattle.cluster_model.specs.Openings.{GoodOpening, RecordFits};
 ghost use Rattle.mails.specs.declared.record.Durable.{Durable};
 
+use crate::apart::are_keys_apart;
 use crate::ordering::sort_by_name;
 use agent_core::Record;
 use agent_sides::{Config, ConfiguredAgent};
 use mails::RecordedTask;
-use names_core::{LaunchKey, OfferId, Run};
+use names_core::{OfferId, Run};
 use quantity::covers_is_at_least;
 use shared_value::Shared;
 
-/// What the type of a record keeps of it: its live tasks fit what its agent owns.
+/// What the type of a record keeps of it: its live tasks fit what its agent owns,
+/// and its launch keys rise.
 fn record_fits(durable: &Record)
-    ensures { RecordFits durable.now }
+    ensures fits { RecordFits durable.now }
+    ensures rise { keys_rise durable.now.tasks ≡ true }
 {
     covers_is_at_least();
     let _parts = durable.parts();
@@ -28,7 +32,8 @@ fn record_fits(durable: &Record)
 
 /// The same of all records.
 fn records_fit(records: &[Record])
-    ensures { Each RecordFits records.now }
+    ensures fit { Each RecordFits records.now }
+    ensures rise { Each KeysRise records.now }
 {
     for durable in records {
         record_fits(durable);
@@ -63,47 +68,6 @@ fn is_before(durable: &Record, run: u16) -> bool
     parts.run < u32::from(run) && are_tasks_before(parts.tasks.as_slice(), run)
 }
 
-fn has_key(tasks: &[Shared<RecordedTask>], key: LaunchKey) -> bool
-    ensures { result ≡ has_key key tasks.now }
-{
-    tasks.iter().any(|task| {
-        task.job.key.number() == key.number() && task.job.key.run() == key.run()
-    })
-}
-
-fn any_has_key(records: &[Record], key: LaunchKey) -> bool
-    ensures { result ≡ any_has_key key records.now }
-{
-    records
-        .iter()
-        .any(|durable| has_key(durable.parts().tasks.as_slice(), key))
-}
-
-/// Whether no key of tasks stands twice, nor in the records behind them.
-fn are_keys_new(tasks: &[Shared<RecordedTask>], behind: &[Record]) -> bool
-    ensures { result ≡ are_keys_new tasks.now behind.now }
-{
-    for i in 0..tasks.len() {
-        let key = tasks[i].job.key;
-        if has_key(&tasks[i + 1..], key) || any_has_key(behind, key) {
-            return false;
-        }
-    }
-    true
-}
-
-/// Whether no launch key stands twice in all records.
-fn are_keys_once(records: &[Record]) -> bool
-    ensures { result ≡ are_keys_once records.now }
-{
-    for i in 0..records.len() {
-        if !are_keys_new(records[i].parts().tasks.as_slice(), &records[i + 1..]) {
-            return false;
-        }
-    }
-    true
-}
-
 /// Whether a record is of this agent, which is configured to own at least what the record says.
 fn is_record_of(agent: &ConfiguredAgent, durable: &Record) -> bool
     ensures { result ≡ is_record_of agent.now durable.now }
@@ -133,12 +97,13 @@ fn are_all_before(records: &[Record], run: u16) -> bool
     records.iter().all(|durable| is_before(durable, run))
 }
 
-/// The tests decide, of records of configured agents that fit their totals,
-/// whether they are a good opening.
+/// The tests decide, of records of configured agents that fit their totals and whose launch keys
+/// rise, whether they are a good opening.
 fn openings_are_decided()
     ensures good { (agents : List Configured) (run : ℕ) (records : List Durable)
         → are_ordered (names_of agents) ≡ true → StandInOrder agents records
-        → Each RecordFits records → are_good run records ≡ true → GoodOpening run records }
+        → Each RecordFits records → Each KeysRise records → are_good run records ≡ true
+        → GoodOpening run records }
     ensures agents { (agents : List Configured) (records : List Durable)
         → IsTrue (are_records_of agents records) ↔ StandInOrder agents records }
     ensures tests { (run : ℕ) (records : List Durable) → GoodOpening run records
@@ -152,7 +117,7 @@ fn is_good_in_order(config: &Config, records: &[Record], run: Run) -> bool
     openings_are_decided();
     records_fit(records);
     are_records_of(config.agents(), records)
-        && are_keys_once(records)
+        && are_keys_apart(records)
         && are_all_before(records, run.number())
 }
 

@@ -2,6 +2,7 @@
 //! and any that are a good opening, in any order.
 #![tactic(auto)]
 
+mod apart;
 mod fresh;
 mod good_openings;
 mod ordering;

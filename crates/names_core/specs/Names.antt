@@ -1,5 +1,5 @@
 -- Names of roles, tasks and agents, as bytes of UTF-8.
-use Rattle.std.specs.Prelude.{ℕ, List, Bool, not, length, ◌&&◌, ◌||◌, ◌==◌, nat_lt, nat_le}
+use Rattle.std.specs.Prelude.{ℕ, ◌+◌, ◌*◌, ◌%◌, ◌^◌, List, Bool, not, length, fold, ◌&&◌, ◌||◌, ◌==◌, nat_lt, nat_le}
 use Rattle.std.specs.List.{list_all}
 use Rattle.std.specs.Char.{is_ascii_alphanumeric}
 
@@ -31,3 +31,11 @@ is_name text = is_named_by is_name_byte 255 text
 -- the name of an agent that a configuration may have
 unfoldable pub is_configured : List ℕ → Bool
 is_configured text = is_named_by is_configured_byte 64 text
+
+-- a number of a name, by which most names that differ are told apart
+
+abbrev pub next_number : ℕ → ℕ → ℕ
+next_number number byte = (number * 31 % 2 ^ 32 + byte) % 2 ^ 32
+
+abbrev pub name_number : List ℕ → ℕ
+name_number text = fold next_number 0 text

@@ -4,7 +4,7 @@ ghost use Rattle.std.specs.Prelude.{◌≡◌, ◌↔◌, ◌⊎◌, true, false
 ghost use Rattle.names_core.specs.Names.{is_name, is_configured};
 
 use crate::fault::NameFault;
-use crate::name::{is_configured_name, is_plain_name};
+use crate::name::{is_configured_name, is_plain_name, name_number};
 use plain_data::Plain;
 use std::alloc::{AllocError, Global};
 use std::marker::Model;
@@ -14,17 +14,20 @@ use std::marker::Model;
 #[derive(Debug, Drop)]
 pub struct AgentName {
     text: String,
+    /// The number of the text. Names whose numbers differ are two, so most comparisons end there.
+    number: u32,
 }
 
 impl Model for AgentName {
     ghost use Rattle.std.specs.Prelude.{List, ℕ, ◌≡◌, true, string_bytes};
-    ghost use Rattle.names_core.specs.Names.{is_name};
+    ghost use Rattle.names_core.specs.Names.{is_name, name_number};
 
     ghost Value = { List ℕ };
 
     ghost view = { λ name. string_bytes name.text };
 
-    ghost invariant = { λ name. is_name (string_bytes name.text) ≡ true };
+    ghost invariant = { λ name. (is_name (string_bytes name.text) ≡ true)
+        × (name.number ≡ name_number (string_bytes name.text)) };
 }
 
 impl AgentName {
@@ -38,6 +41,7 @@ impl AgentName {
         }
         Ok(AgentName {
             text: String::from_str(alloc, text)?,
+            number: name_number(text),
         })
     }
 
@@ -52,7 +56,7 @@ impl AgentName {
     pub fn is(&self, other: &AgentName) -> bool
         ensures { result ≡ bytes_eq self.now other.now }
     {
-        self.as_text() == other.as_text()
+        self.number == other.number && self.as_text() == other.as_text()
     }
 
     /// Whether a configuration may have an agent of this name: 1 to 64 ASCII letters,
@@ -70,6 +74,7 @@ impl Clone for AgentName {
     fn clone(&self) -> Result<AgentName, AllocError> {
         Ok(AgentName {
             text: self.text.clone()?,
+            number: self.number,
         })
     }
 }

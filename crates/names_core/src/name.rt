@@ -1,8 +1,8 @@
-//! Which texts are names.
+//! Which texts are names, and their numbers.
 
 ghost use Rattle.std.specs.Prelude.{◌≡◌};
 ghost use Rattle.std.specs.List.{list_all};
-ghost use Rattle.names_core.specs.Names.{is_role_byte, is_name_byte, is_configured_byte, is_role, is_name, is_configured};
+ghost use Rattle.names_core.specs.Names.{is_role_byte, is_name_byte, is_configured_byte, is_role, is_name, is_configured, name_number};
 
 fn all_role_bytes(text: &[u8]) -> bool
     ensures { result ≡ list_all is_role_byte text.now }
@@ -42,4 +42,15 @@ pub fn is_configured_name(text: &str) -> bool
     ensures { result ≡ is_configured text.now }
 {
     !text.is_empty() && text.len() <= 64 && all_configured_bytes(text.as_bytes())
+}
+
+/// A number of a name, by which most names that differ are told apart.
+pub fn name_number(text: &str) -> u32
+    ensures { result ≡ name_number text.now }
+{
+    let mut number: u32 = 0;
+    for byte in text.as_bytes() {
+        number = number.wrapping_mul(31).wrapping_add(u32::from(*byte));
+    }
+    number
 }

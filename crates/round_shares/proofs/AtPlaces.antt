@@ -51,6 +51,6 @@ pub candidates_kept : (framework : Numbered) (rows : List Row) (t : Tally) (fs :
 candidates_kept framework rows t fs [] are = tt
 candidates_kept framework rows t [] (c ∷ cs) are = absurd are
 candidates_kept framework rows t (f ∷ fs) (c ∷ cs) are = (
-  record { eligibility = are.0.eligibility; keys = are.0.keys; place = kept_place framework rows t f c.place are.0.place },
+  record { eligibility = are.0.eligibility; place = kept_place framework rows t f c.place are.0.place },
   candidates_kept framework rows t fs cs are.1,
 )

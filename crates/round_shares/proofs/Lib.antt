@@ -1,4 +1,3 @@
-pub mod Keyed
 pub mod AtPlaces
 pub mod Rows
 pub mod Shown

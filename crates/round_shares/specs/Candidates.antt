@@ -5,7 +5,6 @@ use Rattle.mails.specs.declared.framework.Framework.{Framework}
 use Rattle.cluster_model.specs.Rounds.{is_subscribed, may_be_offered}
 use Rattle.drf_pick.specs.Shares.{Tally}
 use Rattle.drf_pick.specs.ClientShares.{IsPlaceOf}
-use Rattle.round_shares.specs.Keys.{AreKeys}
 use Rattle.round_shares.specs.declared.candidates.Eligibility.{Eligibility}
 use Rattle.round_shares.specs.declared.candidates.Eligibility.TheVariants.{Always, Never, ByFilters}
 pub use Rattle.round_shares.specs.declared.candidates.Candidate.{Candidate}
@@ -21,7 +20,6 @@ IsEligibility f ByFilters = (is_subscribed f.stream ≡ true) × (f.suppressed �
 
 pub record IsCandidate (t : Tally) (f : Framework) (c : Candidate) : Type 0 where
   pub eligibility : IsEligibility f c.eligibility
-  pub keys : AreKeys f.filters c.keys
   pub place : IfSome c.place (IsPlaceOf t f.id f.role)
 
 -- one for each of the first frameworks, in their order

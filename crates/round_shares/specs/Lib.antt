@@ -1,4 +1,3 @@
-pub mod Keys
 pub mod Candidates
 pub mod Gifts
 pub mod Kept

@@ -5,9 +5,7 @@ ghost use Rattle.std.specs.List.{list_any};
 ghost use Rattle.cluster_model.specs.Rounds.{may_be_offered, refuses};
 ghost use Rattle.drf_pick.specs.ClientShares.{IsClientShare, IsPlaceOf};
 ghost use Rattle.round_shares.specs.Candidates.{AreCandidates, IsCandidate, IsEligibility};
-ghost use Rattle.round_shares.specs.Keys.{AreKeys, key_of};
 
-use crate::keys::{FilterKeys, any_refuses_by_key};
 use drf_pick::{ClientPlace, ClientShare, Shares};
 use frameworks::refuses;
 use mails::{Filter, Framework};
@@ -34,8 +32,6 @@ pub(crate) enum Eligibility {
 #[derive(Drop)]
 pub struct Candidate {
     pub(crate) eligibility: Eligibility,
-    /// The numbers of the names of its filters' agents.
-    pub(crate) keys: FilterKeys,
     /// Its place and that of its role, where both are known.
     pub(crate) place: Option<ClientPlace>,
 }
@@ -53,19 +49,13 @@ fn eligibility_of(framework: &Framework) -> Eligibility
     }
 }
 
-fn candidate_of(
-    alloc: Global,
-    shares: &Shares,
-    framework: &Framework,
-    guess: usize,
-) -> Result<Candidate, AllocError>
-    ensures { IfOk result (IsCandidate shares.now framework.now) }
+fn candidate_of(shares: &Shares, framework: &Framework, guess: usize) -> Candidate
+    ensures { IsCandidate shares.now framework.now result }
 {
-    Ok(Candidate {
+    Candidate {
         eligibility: eligibility_of(framework),
-        keys: FilterKeys::of(alloc, framework.filters.as_slice())?,
         place: ClientPlace::of(shares, framework.id, &framework.role, guess),
-    })
+    }
 }
 
 /// The candidates of a round that begins, one for each framework. There are none where so few
@@ -84,8 +74,7 @@ pub fn candidates_of(
         return Ok(candidates);
     }
     for place in 0..frameworks.len() {
-        let candidate = candidate_of(alloc, shares, &frameworks[place], place)?;
-        candidates.push(candidate)?;
+        candidates.push(candidate_of(shares, &frameworks[place], place))?;
     }
     Ok(candidates)
 }
@@ -110,46 +99,36 @@ fn is_eligible(framework: &Framework, now: u32, agent: &AgentName, free: &Resour
 }
 
 fn is_eligible_as(
-    candidate: &Candidate,
+    eligibility: Eligibility,
     framework: &Framework,
     now: u32,
     agent: &AgentName,
-    key: u32,
     free: &Resources,
 ) -> bool
-    requires eligibility { IsEligibility framework.now candidate.now.eligibility }
-    requires keys { AreKeys framework.now.filters candidate.now.keys }
-    requires key { key ≡ key_of agent.now }
+    requires { IsEligibility framework.now eligibility }
     ensures { result ≡ may_be_offered now agent.now free.now framework.now }
 {
-    match candidate.eligibility {
+    match eligibility {
         Eligibility::Always => true,
         Eligibility::Never => false,
-        Eligibility::ByFilters => {
-            let filters = framework.filters.as_slice();
-            !any_refuses_by_key(filters, &candidate.keys, now, agent, key, free)
-        }
+        Eligibility::ByFilters => !any_refuses(framework.filters.as_slice(), now, agent, free),
     }
 }
 
 /// Whether what is free on an agent may be offered to the framework: it is subscribed, hasn't
 /// suppressed offers, and no filter of it that runs at this moment refuses it. It takes no memory.
-/// `key` is the number of the agent's name.
 pub(crate) fn may_be_offered(
     candidate: Option<&Candidate>,
     framework: &Framework,
     now: u32,
     agent: &AgentName,
-    key: u32,
     free: &Resources,
 ) -> bool
-    requires eligibility { IfSome candidate (λ c. IsEligibility framework.now c.now.eligibility) }
-    requires keys { IfSome candidate (λ c. AreKeys framework.now.filters c.now.keys) }
-    requires key { key ≡ key_of agent.now }
+    requires { IfSome candidate (λ c. IsEligibility framework.now c.now.eligibility) }
     ensures { result ≡ may_be_offered now agent.now free.now framework.now }
 {
     match candidate {
-        Some(candidate) => is_eligible_as(candidate, framework, now, agent, key, free),
+        Some(candidate) => is_eligible_as(candidate.eligibility, framework, now, agent, free),
         None => is_eligible(framework, now, agent, free),
     }
 }

@@ -5,7 +5,6 @@
 mod candidates;
 mod fill;
 mod kept;
-mod keys;
 mod laws;
 mod pick;
 

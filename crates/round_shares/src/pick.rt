@@ -4,52 +4,53 @@ ghost use Rattle.std.specs.Prelude.{◌≡◌, None, fold, IfSome};
 ghost use Rattle.std.specs.Option.{option_copied};
 ghost use Rattle.drf_pick.specs.ClientShares.{IsClientShare};
 ghost use Rattle.round_shares.specs.Candidates.{AreCandidates, IsCandidate};
-ghost use Rattle.round_shares.specs.Picks.{better, better_eligible, picked};
+ghost use Rattle.round_shares.specs.Picks.{better_eligible, picked};
 
 use crate::candidates::{Candidate, may_be_offered, share_of};
-use crate::keys::key_of;
 use drf_pick::{ClientShare, Shares, comes_before};
 use mails::Framework;
 use names_core::{AgentName, FrameworkId};
 use quantity::Resources;
 
-/// The better one of the best so far and a framework, with its shares.
+/// The better one of the best so far and a framework, if what is free may be offered to that.
+/// Its filters are read only where it stands before the best so far, whose shares are given.
 /// `place` says where the framework stands among all frameworks.
-fn better<'a>(
+fn better_eligible<'a>(
     shares: &Shares,
     best: Option<&'a Framework>,
     best_share: &mut ClientShare,
     framework: &'a Framework,
     candidate: Option<&Candidate>,
     place: usize,
+    now: u32,
+    agent: &AgentName,
+    free: &Resources,
 ) -> Option<&'a Framework>
     requires share { IfSome (option_copied best) (λ f. IsClientShare shares.now f.id f.role
         best_share.old) }
     requires candidate { IfSome candidate (λ c. IsCandidate shares.now framework.now c.now) }
-    ensures better { option_copied result ≡ better shares.now (option_copied best.entry)
+    ensures better { option_copied result
+        ≡ better_eligible now agent.now free.now shares.now (option_copied best.entry)
         framework.entry.now }
     ensures share { IfSome (option_copied result) (λ f. IsClientShare shares.now f.id f.role
         best_share.new) }
 {
-    let share = share_of(shares, candidate, framework, place);
     let Some(other) = best else {
-        *best_share = share;
+        if !may_be_offered(candidate, framework, now, agent, free) {
+            return None;
+        }
+        *best_share = share_of(shares, candidate, framework, place);
         return Some(framework);
     };
-    if comes_before(
-        shares,
-        framework.id,
-        &framework.role,
-        &share,
-        other.id,
-        &other.role,
-        best_share,
-    ) {
+    let share = share_of(shares, candidate, framework, place);
+    let (id, role) = (framework.id, &framework.role);
+    if comes_before(shares, id, role, &share, other.id, &other.role, best_share)
+        && may_be_offered(candidate, framework, now, agent, free)
+    {
         *best_share = share;
-        Some(framework)
-    } else {
-        best
+        return Some(framework);
     }
+    best
 }
 
 fn best_of<'a>(
@@ -64,14 +65,13 @@ fn best_of<'a>(
     ensures { option_copied result ≡ fold (better_eligible now agent.now free.now shares.now) None
         frameworks.entry.now }
 {
-    let key = key_of(agent);
     let mut best = None;
     let mut share = ClientShare::nothing();
     for place in 0..frameworks.len() {
         let (framework, candidate) = (&frameworks[place], candidates.get(place));
-        if may_be_offered(candidate, framework, now, agent, key, free) {
-            best = better(shares, best, &mut share, framework, candidate, place);
-        }
+        best = better_eligible(
+            shares, best, &mut share, framework, candidate, place, now, agent, free,
+        );
     }
     best
 }

@@ -8,6 +8,6 @@ loop-place-preserved c =
     let fs = c.args.frameworks.now in
     record {
       are = subst (AreCandidates c.args.shares.now _) (sym c.in_ok-push.ensures.items)
-          (candidates_more c.args.shares.now fs c.loop-place.candidates.items c.loop-place.place c.index-frameworks-place.result c.in_ok-candidate.candidate c.loop-place.invariant.are c.loop-place.invariant.all c.loop-place-test.true c.index-frameworks-place.is c.in_ok-candidate.ensures);
+          (candidates_more c.args.shares.now fs c.loop-place.candidates.items c.loop-place.place c.index-frameworks-place.result c.candidate_of.result c.loop-place.invariant.are c.loop-place.invariant.all c.loop-place-test.true c.index-frameworks-place.is c.candidate_of.ensures);
       all = omega (arith, c.in_ok-push.ensures.len, c.loop-place.invariant.all);
     }

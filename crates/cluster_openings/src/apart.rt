@@ -1,0 +1,66 @@
+//! Whether launch keys stand in one record alone.
+
+ghost use Rattle.std.specs.Prelude.{◌≡◌, true, List};
+ghost use Rattle.std.specs.List.{AllByRecursion as Each};
+ghost use Rattle.agent_core.specs.Records.{keys_rise};
+ghost use Rattle.cluster_model.specs.Ids.{before};
+ghost use Rattle.cluster_openings.specs.Openable.{are_keys_apart, are_keys_new, share_key};
+
+use agent_core::Record;
+use mails::RecordedTask;
+use names_core::LaunchKey;
+use shared_value::Shared;
+
+fn is_before(key: LaunchKey, other: LaunchKey) -> bool
+    ensures { result ≡ before key other }
+{
+    key.run() < other.run() || (key.run() == other.run() && key.number() < other.number())
+}
+
+/// Whether a launch key stands in both of two lists of tasks, in which keys rise.
+/// It goes over each once.
+fn share_key(one: &[Shared<RecordedTask>], other: &[Shared<RecordedTask>]) -> bool
+    requires one { keys_rise one.now ≡ true }
+    requires other { keys_rise other.now ≡ true }
+    ensures { result ≡ share_key one.now other.now }
+{
+    let (mut left, mut right) = (one, other);
+    while let Some((task, tasks)) = left.split_first() {
+        let Some((its, others)) = right.split_first() else {
+            return false;
+        };
+        if is_before(task.job.key, its.job.key) {
+            left = tasks;
+        } else if is_before(its.job.key, task.job.key) {
+            right = others;
+        } else {
+            return true;
+        }
+    }
+    false
+}
+
+/// Whether no launch key of a record stands in those behind it.
+fn are_keys_new(durable: &Record, behind: &[Record]) -> bool
+    ensures { result ≡ are_keys_new durable.now.tasks behind.now }
+{
+    let tasks = durable.parts().tasks.as_slice();
+    for other in behind {
+        if share_key(tasks, other.parts().tasks.as_slice()) {
+            return false;
+        }
+    }
+    true
+}
+
+/// Whether no launch key stands in two records. It goes over each record once for each other one.
+pub fn are_keys_apart(records: &[Record]) -> bool
+    ensures { result ≡ are_keys_apart records.now }
+{
+    for i in 0..records.len() {
+        if !are_keys_new(&records[i], &records[i + 1..]) {
+            return false;
+        }
+    }
+    true
+}
