@@ -516,7 +516,7 @@ impl Tasks {
         hear_in(&mut self.items, span, update);
     }
 
-    /// The agent has applied these commands: a task is let go whose end is acknowledged by one,
+    /// The agent has applied these commands: a task is forgotten whose end is acknowledged by one,
     /// or whose framework one ends. It takes no memory.
     pub fn forget_by(&mut self, commands: &[Command])
         ensures { self.new ≡ forget_all commands.now self.old }

@@ -282,25 +282,25 @@ fn booked_count(accounts: &[Account]) -> u128
     count
 }
 
-/// Lets go a name whose task is gone.
-fn let_go(names: &mut Names, accounts: &[Account], framework: FrameworkId, name: &TaskName)
+/// Forgets a name whose task is gone.
+fn forget_name(names: &mut Names, accounts: &[Account], framework: FrameworkId, name: &TaskName)
     ensures { AreAllNamed names.old accounts.now → AreAllNamed names.new accounts.now }
 {
     let Some(Keys { only: Some(key) }) = names.keys_of(framework, name) else {
         return;
     };
     if !is_booked(accounts, key) {
-        names.let_go(framework, name, key);
+        names.forget(framework, name, key);
     }
 }
 
 /// Keeps the name of a task that is about to be booked,
-/// and lets go names of tasks that are gone where they are many.
+/// and forgets names of tasks that are gone where they are many.
 fn note(names: &mut Names, accounts: &[Account], task: &Booked)
     ensures noted { IsNamed names.new task.now }
     ensures kept { AreAllNamed names.old accounts.now → AreAllNamed names.new accounts.now }
 {
-    let_go(names, accounts, task.job.framework, &task.job.name);
+    forget_name(names, accounts, task.job.framework, &task.job.name);
     if names.are_due() {
         let booked = booked_count(accounts);
         names.review(accounts, booked);

@@ -82,7 +82,7 @@ fn insert(
     Ok(())
 }
 
-/// A name is let go, if its tasks have this key alone.
+/// A name is forgotten, if its tasks have this key alone.
 fn remove(given: &mut BTreeMap<Given, Keys>, name: &Given, key: LaunchKey)
     ensures { HasOtherGiven key given.old given.new }
 {
@@ -124,8 +124,8 @@ impl Names {
     }
 
     /// No task of this key is booked any more: where a framework's tasks of a name have this key
-    /// alone, the name is let go, unless memory is refused.
-    pub(crate) fn let_go(&mut self, framework: FrameworkId, name: &TaskName, key: LaunchKey)
+    /// alone, the name is forgotten, unless memory is refused.
+    pub(crate) fn forget(&mut self, framework: FrameworkId, name: &TaskName, key: LaunchKey)
         ensures { KeepsOthers key self.old self.new }
     {
         if let Ok(text) = String::from_str(self.alloc, name.as_text()) {
