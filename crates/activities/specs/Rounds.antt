@@ -5,30 +5,22 @@ use Rattle.cluster_steps.specs.declared.fault.ClusterFault.{ClusterFault}
 use Rattle.cluster_steps.specs.declared.fault.ClusterFault.TheVariants.{NoSuchAgent}
 use Rattle.cluster_steps.specs.declared.step.Step.{Step}
 use Rattle.cluster_steps.specs.declared.step.Step.TheVariants.{Allocate, Tick}
-use Rattle.desk_seats.specs.Found.{IsRefusedCall}
 use Rattle.desk_seats.specs.Receipts.{PassState}
 use Rattle.desk_seats.specs.declared.desk.pass.Answered.{Answered}
 use Rattle.desk_seats.specs.declared.fault.OfficeFault.{OfficeFault}
 use Rattle.desk_seats.specs.declared.fault.OfficeFault.TheVariants.{Core, ForeignPass}
-use Rattle.cluster_core.specs.Recording.{IsSound, MayRefuse, Recorded, kind_of}
-use Rattle.cluster_core.specs.Answering.{Answers}
-use Rattle.cluster_core.specs.declared.given.Given.{Given}
+use Rattle.running_clusters.specs.declared.given.Given.{Given}
+use Rattle.activities.specs.Answering.{Answers, Refusing, Taking}
 
 -- the step is answered: it is taken, and the pass has its receipt
-abbrev pub IsAnswered : Step → PassState Entry → PassState Entry → Type 0
-IsAnswered step old new = (a : Answered Entry Given) × Answers old step a new
-
--- a desk over a sound cluster, of whose count the pass is, refuses the step so
-abbrev pub IsRefusedWith : PassState Entry → Step → OfficeFault ClusterFault → Type 0
-IsRefusedWith pass step fault =
-    IsRefusedCall (λ (c : Recorded). c.story.entries) (λ c. IsSound c) kind_of
-    (λ c s f. MayRefuse c s f) pass step fault
+abbrev pub IsAnswered : Taking → Step → PassState Entry → PassState Entry → Type 0
+IsAnswered is_taken step old new = (a : Answered Entry Given) × Answers is_taken old step a new
 
 -- the step was asked for: it is answered, or refused, which leaves the pass as it was
-abbrev pub IsAsked : Step → PassState Entry → PassState Entry → Type 0
-IsAsked step old new =
-    IsAnswered step old new
-    ⊎ ((fault : OfficeFault ClusterFault) × IsRefusedWith old step fault × (new ≡ old))
+abbrev pub IsAsked : Taking → Refusing → Step → PassState Entry → PassState Entry → Type 0
+IsAsked is_taken is_refused step old new =
+    IsAnswered is_taken step old new
+    ⊎ ((fault : OfficeFault ClusterFault) × is_refused old step fault × (new ≡ old))
 
 -- whether a fault ends a ticker: its pass is of another history, or an agent isn't configured
 abbrev pub ends_ticker : OfficeFault ClusterFault → Bool
@@ -42,28 +34,32 @@ goes_on_after (Ok answer) = true
 goes_on_after (Err fault) = not (ends_ticker fault)
 
 -- a Tick was asked for, and then a round of offers
-pub record IsRound (old new : PassState Entry) : Type 0 where
+pub record IsRound (is_taken : Taking) (is_refused : Refusing)
+    (old new : PassState Entry) : Type 0 where
   pub moment : ℕ
   pub between : PassState Entry
-  pub ticks : IsAsked (Tick moment) old between
-  pub offers : IsAsked Allocate between new
+  pub ticks : IsAsked is_taken is_refused (Tick moment) old between
+  pub offers : IsAsked is_taken is_refused Allocate between new
 
 -- a Tick was asked for, and refused with a fault that ends the ticker
-pub record IsCutRound (old new : PassState Entry) : Type 0 where
+pub record IsCutRound (is_refused : Refusing) (old new : PassState Entry) : Type 0 where
   pub moment : ℕ
   pub fault : OfficeFault ClusterFault
-  pub refused : IsRefusedWith old (Tick moment) fault
+  pub refused : is_refused old (Tick moment) fault
   pub ends : ends_ticker fault ≡ true
   pub same : new ≡ old
 
 -- rounds, one after another, with the passes that they leave
-abbrev pub AreRounds : List (PassState Entry) → PassState Entry → PassState Entry → Type 0
-AreRounds [] old new = new ≡ old
-AreRounds (next ∷ passes) old new = IsRound old next × AreRounds passes next new
+abbrev pub AreRounds : Taking → Refusing → List (PassState Entry) → PassState Entry
+    → PassState Entry → Type 0
+AreRounds is_taken is_refused [] old new = new ≡ old
+AreRounds is_taken is_refused (next ∷ passes) old new =
+    IsRound is_taken is_refused old next × AreRounds is_taken is_refused passes next new
 
 -- one round at least, one after another; the last may be cut
-pub record HasRounds (old new : PassState Entry) : Type 0 where
+pub record HasRounds (is_taken : Taking) (is_refused : Refusing)
+    (old new : PassState Entry) : Type 0 where
   pub passes : List (PassState Entry)
   pub before : PassState Entry
-  pub rounds : AreRounds passes old before
-  pub last : IsRound before new ⊎ IsCutRound before new
+  pub rounds : AreRounds is_taken is_refused passes old before
+  pub last : IsRound is_taken is_refused before new ⊎ IsCutRound is_refused before new

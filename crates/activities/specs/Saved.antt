@@ -8,28 +8,29 @@ use Rattle.cluster_steps.specs.declared.step.StepCause.{StepCause}
 use Rattle.cluster_steps.specs.declared.step.Keep.TheVariants.{After}
 use Rattle.desk_seats.specs.declared.desk.pass.Receipt.{Receipt}
 use Rattle.desk_seats.specs.Receipts.{PassState}
-use Rattle.cluster_core.specs.Answering.{IsTakenBy}
-use Rattle.cluster_core.specs.declared.given.Given.{Given}
+use Rattle.activities.specs.Answering.{Taking}
+use Rattle.running_clusters.specs.declared.given.Given.{Given}
 
--- the receipt is of a Prepare of this agent,
--- which was taken in a sound state and opened a draft with this record there
-pub record IsDraft (agent : List ℕ) (draft : Durable) (r : Receipt Entry) : Type 0 where
+-- the receipt is of a Prepare of this agent, which some state took and
+-- which opened a draft with this record there
+pub record IsDraft (is_taken : Taking) (agent : List ℕ) (draft : Durable)
+    (r : Receipt Entry) : Type 0 where
   pub cause : StepCause
   pub prepared : r.entry.step ≡ Prepare agent cause
   pub given : Given
-  pub taken : IsTakenBy (Prepare agent cause) (record { receipt = r; given = given })
+  pub taken : is_taken (Prepare agent cause) (record { receipt = r; given = given })
   pub opened : given.durable ≡ Some draft
 
 -- there is a receipt, and it is of such a Prepare
-abbrev pub IsDraftIn : List ℕ → Durable → Option (Receipt Entry) → Type 0
-IsDraftIn agent draft None = ⊥
-IsDraftIn agent draft (Some r) = IsDraft agent draft r
+abbrev pub IsDraftIn : Taking → List ℕ → Durable → Option (Receipt Entry) → Type 0
+IsDraftIn is_taken agent draft None = ⊥
+IsDraftIn is_taken agent draft (Some r) = IsDraft is_taken agent draft r
 
 -- the receipt opened a draft of this agent, whose record was saved
-pub record IsSaved (saved : Durable → Bool) (agent : List ℕ)
+pub record IsSaved (is_taken : Taking) (saved : Durable → Bool) (agent : List ℕ)
     (before : Option (Receipt Entry)) : Type 0 where
   pub draft : Durable
-  pub opened : IsDraftIn agent draft before
+  pub opened : IsDraftIn is_taken agent draft before
   pub kept : saved draft ≡ true
 
 -- the agent whose open draft a step makes its record: at a Commit,
@@ -40,19 +41,20 @@ taker_of (StopAgent agent After) = Some agent
 taker_of step = None
 
 -- if a step takes a draft on so, the receipt before it opened that draft, whose record was saved
-abbrev pub IsBehindSave : (Durable → Bool) → Option (Receipt Entry) → Step → Type 0
-IsBehindSave saved before step =
-    (agent : List ℕ) → taker_of step ≡ Some agent → IsSaved saved agent before
+abbrev pub IsBehindSave : Taking → (Durable → Bool) → Option (Receipt Entry) → Step → Type 0
+IsBehindSave is_taken saved before step =
+    (agent : List ℕ) → taker_of step ≡ Some agent → IsSaved is_taken saved agent before
 
 -- so it is with each receipt; `before` stands before them all
-abbrev pub SavedFrom : (Durable → Bool) → Option (Receipt Entry) → List (Receipt Entry) → Type 0
-SavedFrom saved before [] = ⊤
-SavedFrom saved before (r ∷ rs) =
-    IsBehindSave saved before r.entry.step × SavedFrom saved (Some r) rs
+abbrev pub SavedFrom : Taking → (Durable → Bool) → Option (Receipt Entry) → List (Receipt Entry)
+    → Type 0
+SavedFrom is_taken saved before [] = ⊤
+SavedFrom is_taken saved before (r ∷ rs) =
+    IsBehindSave is_taken saved before r.entry.step × SavedFrom is_taken saved (Some r) rs
 
 -- each commit in a pass stands behind its save
-abbrev pub CommitsSaved : (Durable → Bool) → PassState Entry → Type 0
-CommitsSaved saved p = SavedFrom saved None p.receipts
+abbrev pub CommitsSaved : Taking → (Durable → Bool) → PassState Entry → Type 0
+CommitsSaved is_taken saved p = SavedFrom is_taken saved None p.receipts
 
 -- the last receipt, or the one before them all
 abbrev pub last_of : Option (Receipt Entry) → List (Receipt Entry) → Option (Receipt Entry)
@@ -60,13 +62,13 @@ last_of before [] = before
 last_of before (r ∷ rs) = last_of (Some r) rs
 
 -- the last receipt of a pass opened a draft of this agent, whose record was saved
-abbrev pub IsLastSaved : (Durable → Bool) → List ℕ → PassState Entry → Type 0
-IsLastSaved saved agent p = IsSaved saved agent (last_of None p.receipts)
+abbrev pub IsLastSaved : Taking → (Durable → Bool) → List ℕ → PassState Entry → Type 0
+IsLastSaved is_taken saved agent p = IsSaved is_taken saved agent (last_of None p.receipts)
 
 -- if there is a record, the last receipt of a pass opened a draft of this agent with it
-abbrev pub IsOpen : List ℕ → Option Durable → PassState Entry → Type 0
-IsOpen agent None p = ⊤
-IsOpen agent (Some draft) p = IsDraftIn agent draft (last_of None p.receipts)
+abbrev pub IsOpen : Taking → List ℕ → Option Durable → PassState Entry → Type 0
+IsOpen is_taken agent None p = ⊤
+IsOpen is_taken agent (Some draft) p = IsDraftIn is_taken agent draft (last_of None p.receipts)
 
 -- a pass of the same seat, with more receipts behind those that it had
 pub record IsGrown (old new : PassState Entry) : Type 0 where
@@ -75,6 +77,7 @@ pub record IsGrown (old new : PassState Entry) : Type 0 where
   pub receipts : new.receipts ≡ old.receipts ++ more
 
 -- a pass has grown, and if each commit stood behind its save, so it does now
-pub record Keeps (saved_before saved : Durable → Bool) (old new : PassState Entry) : Type 0 where
+pub record Keeps (is_taken : Taking) (saved_before saved : Durable → Bool)
+    (old new : PassState Entry) : Type 0 where
   pub grown : IsGrown old new
-  pub commits : CommitsSaved saved_before old → CommitsSaved saved new
+  pub commits : CommitsSaved is_taken saved_before old → CommitsSaved is_taken saved new

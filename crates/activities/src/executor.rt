@@ -1,11 +1,11 @@
 //! What the executors of an agent's tasks tell: a task runs at once,
 //! and ends by itself after some time.
 
-use cluster_core::StepCause;
 use mails::{Durable, RecordedTask};
 use names_core::{LaunchKey, TaskState};
 use plain_data::Plain;
 use quantity::Resources;
+use running_clusters::StepCause;
 use shared_value::Shared;
 use std::alloc::{AllocError, Global};
 use std::collections::{BTreeMap, VecDeque};

@@ -1,7 +1,7 @@
 //! Why an activity ends.
 
-use cluster_core::ClusterFault;
 use desk_lock::OfficeFault;
+use running_clusters::ClusterFault;
 use std::fmt::{Debug, Display};
 use thiserror::Error;
 

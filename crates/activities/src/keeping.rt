@@ -11,10 +11,10 @@ use crate::receipts::has_stopped;
 use crate::records::is_own;
 use crate::worker::Worker;
 use agent_core::{Cabinet, Record};
-use cluster_core::{Awaited, ClusterFault, Keep, KeptEntry, RecordedCluster, StepCause};
 use desk_lock::{Pass, Waited};
 use names_core::AgentName;
 use plain_data::Plain;
+use running_clusters::{Awaited, ClusterFault, Keep, KeptEntry, Running, StepCause};
 use std::sync::{Wait, ledger};
 use std::time::Clock;
 
@@ -38,7 +38,7 @@ fn is_open_draft(opened: &Option<Record>, kept: &Option<Record>) -> bool
     }
 }
 
-impl<'a, L: ledger::Ledger, R: Wait + Clock> Worker<'a, L, R> {
+impl<'a, D: Running, L: ledger::Ledger, R: Wait + Clock> Worker<'a, D, L, R> {
     /// Saves the draft that the last answer opened.
     #[tactic(auto, using(crate::proofs::Saves::keeps_itself, crate::proofs::Saves::keeps_more, crate::proofs::Saves::open_saved))]
     fn save<C: Cabinet>(
@@ -47,10 +47,11 @@ impl<'a, L: ledger::Ledger, R: Wait + Clock> Worker<'a, L, R> {
         opened: &Option<Record>,
         cabinet: &mut C,
     ) -> Saving
-        requires { IsOpen self.now.agent.now opened.now pass.now }
-        ensures kept { result ≡ Kept → IsLastSaved (C.saved cabinet.new) self.now.agent.now
-            pass.now }
-        ensures keeps { Keeps (C.saved cabinet.old) (C.saved cabinet.new) pass.now pass.now }
+        requires { IsOpen D.is_taken self.now.agent.now opened.now pass.now }
+        ensures kept { result ≡ Kept
+            → IsLastSaved D.is_taken (C.saved cabinet.new) self.now.agent.now pass.now }
+        ensures keeps { Keeps D.is_taken (C.saved cabinet.old) (C.saved cabinet.new)
+            pass.now pass.now }
         ensures none { result ≡ NoDraft → opened.now ≡ None }
     {
         let Some(draft) = opened else {
@@ -65,7 +66,7 @@ impl<'a, L: ledger::Ledger, R: Wait + Clock> Worker<'a, L, R> {
     /// Whether what a cabinet keeps is the agent's own record.
     fn owns<F>(&self, pass: &Pass<KeptEntry, L>, kept: &Option<Record>) -> Result<bool, Stop<F>> {
         let agent = self.agent;
-        let look = |recorded: &RecordedCluster| match recorded.cluster().durable(agent) {
+        let look = |cluster: &D| match cluster.durable(agent) {
             Some(own) => Ok(Some(is_own(kept, own))),
             None => Err(ClusterFault::NoSuchAgent),
         };
@@ -87,10 +88,11 @@ impl<'a, L: ledger::Ledger, R: Wait + Clock> Worker<'a, L, R> {
         opened: &Option<Record>,
         cabinet: &mut C,
     ) -> Result<Keep, Stop<C::Fault>>
-        requires { IsOpen self.now.agent.now opened.now pass.now }
+        requires { IsOpen D.is_taken self.now.agent.now opened.now pass.now }
         ensures after { IfOk result (λ keep. keep ≡ After
-            → IsLastSaved (C.saved cabinet.new) self.now.agent.now pass.now) }
-        ensures keeps { Keeps (C.saved cabinet.old) (C.saved cabinet.new) pass.now pass.now }
+            → IsLastSaved D.is_taken (C.saved cabinet.new) self.now.agent.now pass.now) }
+        ensures keeps { Keeps D.is_taken (C.saved cabinet.old) (C.saved cabinet.new)
+            pass.now pass.now }
     {
         let kept = match cabinet.reopen(self.alloc) {
             Ok(kept) => kept,
@@ -115,9 +117,10 @@ impl<'a, L: ledger::Ledger, R: Wait + Clock> Worker<'a, L, R> {
         own: &mut Option<Record>,
         cabinet: &mut C,
     ) -> Result<(), Stop<C::Fault>>
-        requires { IsOpen self.now.agent.now opened.old pass.old }
-        ensures keeps { Keeps (C.saved cabinet.old) (C.saved cabinet.new) pass.old pass.new }
-        ensures opened { IsOpen self.now.agent.now opened.new pass.new }
+        requires { IsOpen D.is_taken self.now.agent.now opened.old pass.old }
+        ensures keeps { Keeps D.is_taken (C.saved cabinet.old) (C.saved cabinet.new)
+            pass.old pass.new }
+        ensures opened { IsOpen D.is_taken self.now.agent.now opened.new pass.new }
     {
         match self.standing(pass, opened, cabinet)? {
             Keep::After => self.stop_after(pass, opened, own),
@@ -136,9 +139,10 @@ impl<'a, L: ledger::Ledger, R: Wait + Clock> Worker<'a, L, R> {
         own: &mut Option<Record>,
         cabinet: &mut C,
     ) -> Result<bool, Stop<C::Fault>>
-        requires { IsOpen self.now.agent.now opened.old pass.old }
-        ensures keeps { Keeps (C.saved cabinet.old) (C.saved cabinet.new) pass.old pass.new }
-        ensures opened { IsOpen self.now.agent.now opened.new pass.new }
+        requires { IsOpen D.is_taken self.now.agent.now opened.old pass.old }
+        ensures keeps { Keeps D.is_taken (C.saved cabinet.old) (C.saved cabinet.new)
+            pass.old pass.new }
+        ensures opened { IsOpen D.is_taken self.now.agent.now opened.new pass.new }
         ensures none { IfOk result (λ did. did ≡ false → opened.new ≡ None) }
     {
         match self.save(pass, opened, cabinet) {

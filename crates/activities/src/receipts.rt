@@ -1,7 +1,7 @@
 //! What the last answer of a pass leaves to be done.
 
-use cluster_core::{KeptEntry, Step};
 use desk_lock::Pass;
+use running_clusters::{KeptEntry, Step};
 use std::sync::ledger;
 
 /// Whether the last answer of a pass stopped an agent.

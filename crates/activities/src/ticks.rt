@@ -4,8 +4,9 @@ ghost use Rattle.std.specs.Prelude.{◌≡◌, ◌⊎◌, MatchBool};
 ghost use Rattle.activities.specs.Rounds.{HasRounds, IsAsked, IsCutRound, IsRound, goes_on_after};
 ghost use Rattle.cluster_steps.specs.declared.step.Step.TheVariants.{Allocate, Tick};
 
-use cluster_core::{Awaited, ClusterFault, KeptEntry, RecordedCluster, Step};
+use crate::asking::ask;
 use desk_lock::{Office, OfficeFault, Pass, Waited};
+use running_clusters::{Awaited, ClusterFault, KeptEntry, Running, Step};
 use std::alloc::Global;
 use std::sync::{Wait, ledger};
 use std::time::{Clock, Instant};
@@ -32,42 +33,43 @@ fn seconds_since<R: Clock>(rt: &R, start: Option<Instant>, before: u32) -> u32 {
 }
 
 /// A Tick of a moment. It tells whether the ticker goes on.
-fn tick<L: ledger::Ledger, R: Wait>(
+fn tick<D: Running, L: ledger::Ledger, R: Wait>(
     rt: &R,
     alloc: Global,
-    office: &Office<RecordedCluster, L>,
+    office: &Office<D, L>,
     pass: &mut Pass<KeptEntry, L>,
     moment: u32,
 ) -> bool
-    ensures { MatchBool result (IsAsked (Tick moment) pass.old pass.new)
-        (IsCutRound pass.old pass.new) }
+    ensures { MatchBool result (IsAsked D.is_taken D.is_refused (Tick moment) pass.old pass.new)
+        (IsCutRound D.is_refused pass.old pass.new) }
 {
-    goes_on(office.call(rt, alloc, pass, Step::Tick(moment)))
+    goes_on(ask(rt, alloc, office, pass, Step::Tick(moment)))
 }
 
 /// A round of offers. It tells whether the ticker goes on.
-fn allocate<L: ledger::Ledger, R: Wait>(
+fn allocate<D: Running, L: ledger::Ledger, R: Wait>(
     rt: &R,
     alloc: Global,
-    office: &Office<RecordedCluster, L>,
+    office: &Office<D, L>,
     pass: &mut Pass<KeptEntry, L>,
 ) -> bool
-    ensures { IsAsked Allocate pass.old pass.new }
+    ensures { IsAsked D.is_taken D.is_refused Allocate pass.old pass.new }
 {
-    goes_on(office.call(rt, alloc, pass, Step::Allocate))
+    goes_on(ask(rt, alloc, office, pass, Step::Allocate))
 }
 
 /// A Tick, and a round of offers where the ticker goes on after it.
 /// It tells whether the ticker goes on after both.
-fn round<L: ledger::Ledger, R: Wait>(
+fn round<D: Running, L: ledger::Ledger, R: Wait>(
     rt: &R,
     alloc: Global,
-    office: &Office<RecordedCluster, L>,
+    office: &Office<D, L>,
     pass: &mut Pass<KeptEntry, L>,
     moment: u32,
 ) -> bool
-    ensures { MatchBool result (IsRound pass.old pass.new)
-        (IsRound pass.old pass.new ⊎ IsCutRound pass.old pass.new) }
+    ensures { MatchBool result (IsRound D.is_taken D.is_refused pass.old pass.new)
+        (IsRound D.is_taken D.is_refused pass.old pass.new
+        ⊎ IsCutRound D.is_refused pass.old pass.new) }
 {
     tick(rt, alloc, office, pass, moment) && allocate(rt, alloc, office, pass)
 }
@@ -76,14 +78,14 @@ fn round<L: ledger::Ledger, R: Wait>(
 /// seconds (any number; at 0 without a pause), it sends a Tick of the whole seconds since its
 /// start, 2^32 - 1 at most, and has offers made. It ends before by O1 and C8. It doesn't start a
 /// master that is down.
-pub fn ticker<L: ledger::Ledger, R: Wait + Clock>(
+pub fn ticker<D: Running, L: ledger::Ledger, R: Wait + Clock>(
     rt: &R,
     alloc: Global,
-    office: &Office<RecordedCluster, L>,
+    office: &Office<D, L>,
     mut pass: Pass<KeptEntry, L>,
     interval: u64,
 ) -> Pass<KeptEntry, L>
-    ensures { HasRounds pass result }
+    ensures { HasRounds D.is_taken D.is_refused pass result }
 {
     let start = Instant::now(rt).ok();
     let mut moment = 0;
@@ -92,7 +94,7 @@ pub fn ticker<L: ledger::Ledger, R: Wait + Clock>(
         if !round(rt, alloc, office, &mut pass, moment) {
             return pass;
         }
-        let look = |_: &RecordedCluster| -> Result<Option<()>, ClusterFault> { Ok(None) };
+        let look = |_: &D| -> Result<Option<()>, ClusterFault> { Ok(None) };
         match office.wait_for(rt, &pass, Awaited::time(), interval, look) {
             Ok(Waited::Elapsed) => {}
             _ => return pass,

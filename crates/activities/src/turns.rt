@@ -6,11 +6,11 @@ use crate::executor::Executors;
 use crate::fault::{ActivityFault, Stop, stop_of};
 use crate::worker::Worker;
 use agent_core::{Cabinet, Record};
-use cluster_core::{Awaited, ClusterFault, KeptEntry, RecordedCluster, StepCause};
 use desk_lock::{Office, Pass, Waited};
 use names_core::AgentName;
 use plain_data::Plain;
 use quantity::Resources;
+use running_clusters::{Awaited, ClusterFault, KeptEntry, Running, StepCause};
 use std::alloc::Global;
 use std::sync::{Wait, ledger};
 use std::time::{Clock, Instant};
@@ -18,11 +18,11 @@ use std::time::{Clock, Instant};
 /// How long an agent waits for a mail before its turn, in seconds.
 const WAIT: u64 = 1;
 
-impl<'a, L: ledger::Ledger, R: Wait + Clock> Worker<'a, L, R> {
+impl<'a, D: Running, L: ledger::Ledger, R: Wait + Clock> Worker<'a, D, L, R> {
     /// Whether the agent has an open session.
     fn is_in_session<F>(&self, pass: &Pass<KeptEntry, L>) -> Result<bool, Stop<F>> {
         let agent = self.agent;
-        let look = |recorded: &RecordedCluster| Ok(Some(recorded.cluster().is_in_session(agent)));
+        let look = |cluster: &D| Ok(Some(cluster.is_in_session(agent)));
         let mails = Awaited::mails_to(agent);
         match self.office.wait_for(self.rt, pass, mails, 0, look) {
             Ok(Waited::Found(is)) => Ok(is),
@@ -34,7 +34,7 @@ impl<'a, L: ledger::Ledger, R: Wait + Clock> Worker<'a, L, R> {
     /// A copy of the agent's own record, which has an owner more of each task.
     fn record<F>(&self, pass: &Pass<KeptEntry, L>) -> Result<Record, Stop<F>> {
         let agent = self.agent;
-        let look = |recorded: &RecordedCluster| match recorded.cluster().durable(agent) {
+        let look = |cluster: &D| match cluster.durable(agent) {
             Some(own) => match own.copy() {
                 Ok(copy) => Ok(Some(copy)),
                 Err(_) => Err(ClusterFault::OutOfMemory),
@@ -102,9 +102,10 @@ impl<'a, L: ledger::Ledger, R: Wait + Clock> Worker<'a, L, R> {
         cabinet: &mut C,
         executors: &mut Executors,
     ) -> Result<(), Stop<C::Fault>>
-        requires { IsOpen self.now.agent.now opened.old pass.old }
-        ensures keeps { Keeps (C.saved cabinet.old) (C.saved cabinet.new) pass.old pass.new }
-        ensures opened { IsOpen self.now.agent.now opened.new pass.new }
+        requires { IsOpen D.is_taken self.now.agent.now opened.old pass.old }
+        ensures keeps { Keeps D.is_taken (C.saved cabinet.old) (C.saved cabinet.new)
+            pass.old pass.new }
+        ensures opened { IsOpen D.is_taken self.now.agent.now opened.new pass.new }
     {
         if self.settle(pass, opened, own, cabinet)? {
             return Ok(());
@@ -127,8 +128,8 @@ impl<'a, L: ledger::Ledger, R: Wait + Clock> Worker<'a, L, R> {
         cabinet: &mut C,
         executors: &mut Executors,
     ) -> Option<ActivityFault<C::Fault>>
-        requires { IsOpen self.now.agent.now opened.old pass.old }
-        ensures { Keeps (C.saved cabinet.old) (C.saved cabinet.new) pass.old pass.new }
+        requires { IsOpen D.is_taken self.now.agent.now opened.old pass.old }
+        ensures { Keeps D.is_taken (C.saved cabinet.old) (C.saved cabinet.new) pass.old pass.new }
     {
         for _ in self.rt.forever() {
             match self.go_on(pass, opened, own, cabinet, executors) {
@@ -150,18 +151,18 @@ impl<'a, L: ledger::Ledger, R: Wait + Clock> Worker<'a, L, R> {
 /// stops the agent itself. It ends before by O1 and C8, and by a fault that it gives, for which it
 /// finishes the office; after other refusals it does the same again a second later.
 #[tactic(auto, using(crate::proofs::Saves::keeps_itself, crate::proofs::Saves::keeps_then))]
-pub fn activity<L: ledger::Ledger, R: Wait + Clock, C: Cabinet>(
+pub fn activity<D: Running, L: ledger::Ledger, R: Wait + Clock, C: Cabinet>(
     rt: &R,
     alloc: Global,
-    office: &Office<RecordedCluster, L>,
+    office: &Office<D, L>,
     mut pass: Pass<KeptEntry, L>,
     agent: &AgentName,
     cabinet: &mut C,
     pace: u64,
     total: &Resources,
 ) -> (Pass<KeptEntry, L>, Option<ActivityFault<C::Fault>>)
-    requires { CommitsSaved (C.saved cabinet.old) pass }
-    ensures saved { CommitsSaved (C.saved cabinet.new) result.0 }
+    requires { CommitsSaved D.is_taken (C.saved cabinet.old) pass }
+    ensures saved { CommitsSaved D.is_taken (C.saved cabinet.new) result.0 }
     ensures grown { IsGrown pass result.0 }
 {
     let worker = Worker {

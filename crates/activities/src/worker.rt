@@ -2,18 +2,17 @@
 
 ghost use Rattle.std.specs.Prelude.{◌≡◌, Bool, None, IfOk, OnErr, OnOk};
 ghost use Rattle.mails.specs.declared.record.Durable.{Durable};
-ghost use Rattle.cluster_core.specs.Answering.{Answers};
+ghost use Rattle.activities.specs.Answering.{Answers};
 ghost use Rattle.activities.specs.Saved.{IsBehindSave, IsLastSaved, IsOpen, Keeps, last_of};
 
+use crate::asking::ask;
 use crate::fault::{Stop, stop_of};
 use agent_core::Record;
-use cluster_core::{
-    Awaited, ClusterFault, Given, Keep, KeptEntry, RecordedCluster, Step, StepCause,
-};
 use desk_lock::{Answered, Office, OfficeFault, Pass, Waited};
 use names_core::AgentName;
 use plain_data::Plain;
 use quantity::Resources;
+use running_clusters::{Awaited, ClusterFault, Given, Keep, KeptEntry, Running, Step, StepCause};
 use std::alloc::Global;
 use std::sync::{Wait, ledger};
 use std::time::Clock;
@@ -62,16 +61,16 @@ fn adopts(
 
 /// What an activity works with.
 #[derive(Drop)]
-pub(crate) struct Worker<'a, L: ledger::Ledger, R: Wait + Clock> {
+pub(crate) struct Worker<'a, D: Running, L: ledger::Ledger, R: Wait + Clock> {
     pub rt: &'a R,
     pub alloc: Global,
-    pub office: &'a Office<RecordedCluster, L>,
+    pub office: &'a Office<D, L>,
     pub agent: &'a AgentName,
     /// What is configured that it owns.
     pub total: &'a Resources,
 }
 
-impl<'a, L: ledger::Ledger, R: Wait + Clock> Worker<'a, L, R> {
+impl<'a, D: Running, L: ledger::Ledger, R: Wait + Clock> Worker<'a, D, L, R> {
     /// A copy of the agent's name.
     fn name<F>(&self) -> Result<AgentName, Stop<F>>
         ensures { IfOk result (λ name. name ≡ self.now.agent.now) }
@@ -89,12 +88,12 @@ impl<'a, L: ledger::Ledger, R: Wait + Clock> Worker<'a, L, R> {
         step: Step,
     ) -> Result<Answered<KeptEntry, Given>, OfficeFault<ClusterFault>>
         ensures keeps { (saved : Durable → Bool)
-            → IsBehindSave saved (last_of None pass.old.receipts) step
-            → Keeps saved saved pass.old pass.new }
-        ensures answered { IfOk result (λ a. Answers pass.old step a pass.new) }
+            → IsBehindSave D.is_taken saved (last_of None pass.old.receipts) step
+            → Keeps D.is_taken saved saved pass.old pass.new }
+        ensures answered { IfOk result (λ a. Answers D.is_taken pass.old step a pass.new) }
         ensures unchanged { OnErr result (pass.new ≡ pass.old) }
     {
-        self.office.call(self.rt, self.alloc, pass, step)
+        ask(self.rt, self.alloc, self.office, pass, step)
     }
 
     /// The agent stops, and comes up over its record.
@@ -105,9 +104,9 @@ impl<'a, L: ledger::Ledger, R: Wait + Clock> Worker<'a, L, R> {
         opened: &mut Option<Record>,
         own: &mut Option<Record>,
     ) -> Result<(), Stop<F>>
-        requires { IsOpen self.now.agent.now opened.old pass.old }
-        ensures keeps { (saved : Durable → Bool) → Keeps saved saved pass.old pass.new }
-        ensures opened { IsOpen self.now.agent.now opened.new pass.new }
+        requires { IsOpen D.is_taken self.now.agent.now opened.old pass.old }
+        ensures keeps { (saved : Durable → Bool) → Keeps D.is_taken saved saved pass.old pass.new }
+        ensures opened { IsOpen D.is_taken self.now.agent.now opened.new pass.new }
     {
         let step = Step::StopAgent {
             agent: self.name()?,
@@ -127,10 +126,11 @@ impl<'a, L: ledger::Ledger, R: Wait + Clock> Worker<'a, L, R> {
         opened: &mut Option<Record>,
         own: &mut Option<Record>,
     ) -> Result<(), Stop<F>>
-        requires { IsOpen self.now.agent.now opened.old pass.old }
-        ensures keeps { (saved : Durable → Bool) → IsLastSaved saved self.now.agent.now pass.old
-            → Keeps saved saved pass.old pass.new }
-        ensures opened { IsOpen self.now.agent.now opened.new pass.new }
+        requires { IsOpen D.is_taken self.now.agent.now opened.old pass.old }
+        ensures keeps { (saved : Durable → Bool)
+            → IsLastSaved D.is_taken saved self.now.agent.now pass.old
+            → Keeps D.is_taken saved saved pass.old pass.new }
+        ensures opened { IsOpen D.is_taken self.now.agent.now opened.new pass.new }
     {
         let step = Step::StopAgent {
             agent: self.name()?,
@@ -150,9 +150,9 @@ impl<'a, L: ledger::Ledger, R: Wait + Clock> Worker<'a, L, R> {
         opened: &mut Option<Record>,
         own: &mut Option<Record>,
     ) -> Stop<F>
-        requires { IsOpen self.now.agent.now opened.old pass.old }
-        ensures keeps { (saved : Durable → Bool) → Keeps saved saved pass.old pass.new }
-        ensures opened { IsOpen self.now.agent.now opened.new pass.new }
+        requires { IsOpen D.is_taken self.now.agent.now opened.old pass.old }
+        ensures keeps { (saved : Durable → Bool) → Keeps D.is_taken saved saved pass.old pass.new }
+        ensures opened { IsOpen D.is_taken self.now.agent.now opened.new pass.new }
     {
         match self.stop_before(pass, opened, own) {
             Ok(()) => Stop::Later,
@@ -169,10 +169,11 @@ impl<'a, L: ledger::Ledger, R: Wait + Clock> Worker<'a, L, R> {
         opened: &mut Option<Record>,
         own: &mut Option<Record>,
     ) -> Result<(), Stop<F>>
-        requires { IsOpen self.now.agent.now opened.old pass.old }
-        ensures keeps { (saved : Durable → Bool) → IsLastSaved saved self.now.agent.now pass.old
-            → Keeps saved saved pass.old pass.new }
-        ensures opened { IsOpen self.now.agent.now opened.new pass.new }
+        requires { IsOpen D.is_taken self.now.agent.now opened.old pass.old }
+        ensures keeps { (saved : Durable → Bool)
+            → IsLastSaved D.is_taken saved self.now.agent.now pass.old
+            → Keeps D.is_taken saved saved pass.old pass.new }
+        ensures opened { IsOpen D.is_taken self.now.agent.now opened.new pass.new }
         ensures own { OnOk result (own.new ≡ opened.old) }
     {
         let step = Step::Commit(self.name()?);
@@ -196,8 +197,8 @@ impl<'a, L: ledger::Ledger, R: Wait + Clock> Worker<'a, L, R> {
         cause: StepCause,
     ) -> Result<(), Stop<F>>
         requires { opened.old ≡ None }
-        ensures keeps { (saved : Durable → Bool) → Keeps saved saved pass.old pass.new }
-        ensures opened { IsOpen self.now.agent.now opened.new pass.new }
+        ensures keeps { (saved : Durable → Bool) → Keeps D.is_taken saved saved pass.old pass.new }
+        ensures opened { IsOpen D.is_taken self.now.agent.now opened.new pass.new }
     {
         let step = Step::Prepare {
             agent: self.name()?,
@@ -215,7 +216,7 @@ impl<'a, L: ledger::Ledger, R: Wait + Clock> Worker<'a, L, R> {
     /// The first mail from the agent that waits; none where the office is finished.
     fn first_sent<F>(&self, pass: &Pass<KeptEntry, L>) -> Result<Option<u64>, Stop<F>> {
         let agent = self.agent;
-        let look = |recorded: &RecordedCluster| Ok(recorded.cluster().first_mail_from(agent));
+        let look = |cluster: &D| Ok(cluster.first_mail_from(agent));
         let mails = Awaited::mails_to(agent);
         match self.office.wait_for(self.rt, pass, mails, 0, look) {
             Ok(Waited::Found(number)) => Ok(Some(number)),
@@ -228,7 +229,7 @@ impl<'a, L: ledger::Ledger, R: Wait + Clock> Worker<'a, L, R> {
     /// Behind one that is refused the others wait with it.
     #[tactic(auto, using(crate::proofs::Saves::keeps_itself, crate::proofs::Saves::keeps_then))]
     pub fn deliver<F>(&self, pass: &mut Pass<KeptEntry, L>) -> Result<(), Stop<F>>
-        ensures { (saved : Durable → Bool) → Keeps saved saved pass.old pass.new }
+        ensures { (saved : Durable → Bool) → Keeps D.is_taken saved saved pass.old pass.new }
     {
         for _ in self.rt.forever() {
             let Some(number) = self.first_sent(pass)? else {
@@ -249,8 +250,8 @@ impl<'a, L: ledger::Ledger, R: Wait + Clock> Worker<'a, L, R> {
         seconds: u64,
     ) -> Result<Option<u64>, Stop<F>> {
         let agent = self.agent;
-        let look = |recorded: &RecordedCluster| match recorded.cluster().durable(agent) {
-            Some(_) => Ok(recorded.cluster().first_mail(agent)),
+        let look = |cluster: &D| match cluster.durable(agent) {
+            Some(_) => Ok(cluster.first_mail(agent)),
             None => Err(ClusterFault::NoSuchAgent),
         };
         let mails = Awaited::mails_to(agent);
@@ -264,7 +265,7 @@ impl<'a, L: ledger::Ledger, R: Wait + Clock> Worker<'a, L, R> {
 
     /// Waits for a second, and tells whether the activity goes on.
     pub fn pause(&self, pass: &Pass<KeptEntry, L>) -> bool {
-        let look = |_: &RecordedCluster| -> Result<Option<()>, ClusterFault> { Ok(None) };
+        let look = |_: &D| -> Result<Option<()>, ClusterFault> { Ok(None) };
         match self
             .office
             .wait_for(self.rt, pass, Awaited::time(), 1, look)

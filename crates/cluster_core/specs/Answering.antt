@@ -1,10 +1,13 @@
 -- How a desk over a cluster answers.
 use Rattle.cluster_entries.specs.declared.entry.Entry.{Entry}
+use Rattle.cluster_steps.specs.declared.fault.ClusterFault.{ClusterFault}
 use Rattle.cluster_steps.specs.declared.step.Step.{Step}
+use Rattle.desk_seats.specs.Found.{IsRefusedCall}
 use Rattle.desk_seats.specs.Receipts.{IsAnswered, IsTaken, PassState}
 use Rattle.desk_seats.specs.declared.desk.pass.Answered.{Answered}
-use Rattle.cluster_core.specs.Recording.{IsSound, Recorded, Takes}
-use Rattle.cluster_core.specs.declared.given.Given.{Given}
+use Rattle.desk_seats.specs.declared.fault.OfficeFault.{OfficeFault}
+use Rattle.cluster_core.specs.Recording.{IsSound, MayRefuse, Recorded, Takes, kind_of}
+use Rattle.running_clusters.specs.declared.given.Given.{Given}
 
 -- in a sound state the cluster took the step: its entry is the receipt's,
 -- under the receipt's number, and this was given with it
@@ -18,3 +21,9 @@ abbrev pub Answers : PassState Entry → Step → Answered Entry Given → PassS
 Answers old step a new =
     IsAnswered (λ (c : Recorded). c.story.entries) (λ c. IsSound c) (λ (e : Entry). e.step)
     (λ old step entry given new. Takes old step entry given new) old new step a
+
+-- a desk over a sound cluster, of whose count the pass is, refuses the step so
+abbrev pub IsRefusedBy : PassState Entry → Step → OfficeFault ClusterFault → Type 0
+IsRefusedBy pass step fault =
+    IsRefusedCall (λ (c : Recorded). c.story.entries) (λ c. IsSound c) kind_of
+    (λ c s f. MayRefuse c s f) pass step fault

@@ -12,7 +12,7 @@ use Rattle.cluster_agents.specs.Handing.{IsGiven}
 use Rattle.desk_seats.specs.declared.fault.FaultKind.{FaultKind}
 use Rattle.desk_seats.specs.declared.fault.FaultKind.TheVariants as kinds
 use Rattle.post_rules.specs.Queueing.{Post, hands_out, with_given, with_put}
-use Rattle.cluster_core.specs.declared.given.Given.{Given}
+use Rattle.running_clusters.specs.declared.given.Given.{Given}
 
 abbrev pub Recorded : Type 0
 Recorded = Known Post

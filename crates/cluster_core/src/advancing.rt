@@ -6,7 +6,7 @@ ghost use Rattle.cluster_core.specs.Putting.{ArePut, direction_of, place_in, pla
 ghost use Rattle.cluster_core.specs.Stories.{state_of, with_entry};
 ghost use Rattle.cluster_agents.specs.Handing.{IsGiven, handed};
 
-use crate::taken::{History, KeptEntry, Taken};
+use crate::taken::{History, Taken};
 use agent_sides::ConfiguredAgent;
 use cluster_entries::Entry;
 use cluster_laws::{Item, sent_items_stand, states_count_entries, weights_stay};
@@ -16,6 +16,7 @@ use names_core::AgentName;
 use permanent_value::Place;
 use plain_data::Plain;
 use post_rules::{Direction, Post};
+use running_clusters::KeptEntry;
 use std::alloc::Global;
 
 /// With the opening's entry, which has the number 0, a history has 4,294,967,295 entries at most.

@@ -24,7 +24,7 @@ mod reading;
 use crate::advancing::{advance, put_sent};
 use crate::safety::stories_are_safe;
 use crate::stopping::stopped_stories_open_again;
-use crate::taken::{History, KeptEntry, Taken};
+use crate::taken::{History, Taken};
 use agent_core::Record;
 use cluster_entries::Outputs;
 use cluster_openings::{put_in_order, records_are_recorded};
@@ -35,6 +35,7 @@ use names_core::{AgentName, Run};
 use post_rules::Post;
 use quantity::Resources;
 use role_weights::Weights;
+use running_clusters::KeptEntry;
 use std::alloc::Global;
 use std::marker::Model;
 

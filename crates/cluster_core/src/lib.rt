@@ -5,8 +5,6 @@
 
 mod advancing;
 mod cluster;
-mod given;
-mod groups;
 mod recorded;
 mod running;
 mod safety;
@@ -18,8 +16,7 @@ pub use cluster::Cluster;
 pub use cluster_entries::{Entry, Outputs};
 pub use cluster_openings::{fresh_agents_open, fresh_records, good_opening};
 pub use cluster_steps::{ClusterFault, Keep, Sent, Step, StepCause, Verdict};
-pub use given::Given;
-pub use groups::Awaited;
 pub use recorded::RecordedCluster;
 pub use running::{open_fresh, run};
-pub use taken::{KeptEntry, Taken};
+pub use running_clusters::{Awaited, Given, KeptEntry};
+pub use taken::Taken;

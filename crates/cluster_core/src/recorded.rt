@@ -1,15 +1,20 @@
 //! A cluster as a desk stands over it: it takes one step after another, and records each.
 
-ghost use Rattle.std.specs.Prelude.{◌≡◌};
+ghost use Rattle.std.specs.Prelude.{◌≡◌, IfNone, IfSome, option_map};
+ghost use Rattle.cluster_agents.specs.Agents.{agent_in, is_in_session_in, recorded_in};
+ghost use Rattle.cluster_agents.specs.Moves.{kept_agents};
+ghost use Rattle.cluster_core.specs.Reading.{IsNextFrom, IsNextTo, NoneFrom, NoneTo};
+ghost use Rattle.cluster_core.specs.Stories.{state_of};
 
 use crate::cluster::Cluster;
-use crate::given::Given;
-use crate::groups::{Awaited, groups_of};
-use crate::taken::{KeptEntry, Taken};
+use crate::taken::Taken;
+use agent_core::Record;
 use cluster_steps::{ClusterFault, Step};
 use desk_seats::{Entered, FaultKind, Recorded};
+use names_core::AgentName;
 use plain_data::Plain;
 use post_rules::Queues;
+use running_clusters::{Awaited, Given, KeptEntry, Running, groups_of};
 use std::alloc::Global;
 use std::marker::Model;
 
@@ -123,4 +128,51 @@ impl Recorded for RecordedCluster {
     }
 
     ghost alike_itself = { recording.alike_itself };
+}
+
+impl Running for RecordedCluster {
+    ghost use Rattle.std.proofs.Common.{refl};
+    ghost use Rattle.cluster_core.specs.Answering.{IsRefusedBy, IsTakenBy};
+
+    ghost is_taken = { IsTakenBy };
+
+    ghost is_refused = { IsRefusedBy };
+
+    fn durable(&self, agent: &AgentName) -> Option<&Record>
+        ensures { option_map (λ d. d.now) result
+            ≡ recorded_in (agent_in agent.now (kept_agents (state_of self.now.story))) }
+    {
+        self.cluster.durable(agent)
+    }
+
+    fn first_mail(&self, agent: &AgentName) -> Option<u64>
+        ensures first { IfSome result
+            (IsNextTo agent.now (state_of self.now.story) self.now.post.items) }
+        ensures none { IfNone result
+            (NoneTo agent.now (state_of self.now.story) self.now.post.items) }
+    {
+        self.cluster.first_mail(agent)
+    }
+
+    fn first_mail_from(&self, agent: &AgentName) -> Option<u64>
+        ensures first { IfSome result
+            (IsNextFrom agent.now (state_of self.now.story) self.now.post.items) }
+        ensures none { IfNone result
+            (NoneFrom agent.now (state_of self.now.story) self.now.post.items) }
+    {
+        self.cluster.first_mail_from(agent)
+    }
+
+    fn is_in_session(&self, agent: &AgentName) -> bool
+        ensures { result ≡ is_in_session_in
+            (agent_in agent.now (kept_agents (state_of self.now.story))) }
+    {
+        self.cluster.is_in_session(agent)
+    }
+
+    ghost asks_its_step = { λ _. refl };
+
+    ghost takes_so = { λ _ _ is. is };
+
+    ghost refuses_so = { λ _ _ _ is. is };
 }

@@ -14,7 +14,7 @@ use Rattle.http_door.specs.declared.bench.Answer.{Answer}
 use Rattle.http_door.specs.declared.bench.Answer.TheVariants.{Refused}
 use Rattle.http_door.specs.declared.refusal.BenchFault.{BenchFault}
 use Rattle.cluster_core.specs.Answering.{Answers}
-use Rattle.cluster_core.specs.declared.given.Given.{Given}
+use Rattle.running_clusters.specs.declared.given.Given.{Given}
 use Rattle.office_bench.specs.Answers.{IsOfOffice, answer_of, is_subscribe}
 
 -- one step was taken: the pass has one receipt more, and it is of this step

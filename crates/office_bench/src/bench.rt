@@ -7,7 +7,7 @@ ghost use Rattle.desk_seats.specs.declared.desk.pass.Answered.{Answered as Got};
 ghost use Rattle.cluster_entries.specs.declared.entry.Entry.{Entry};
 ghost use Rattle.office_bench.specs.Answers.{IsOfOffice, answer_of};
 ghost use Rattle.office_bench.specs.Deeds.{Delivers, Does, Steps, call_number};
-ghost use Rattle.cluster_core.specs.declared.given.Given.{Given as GivenSo};
+ghost use Rattle.running_clusters.specs.declared.given.Given.{Given as GivenSo};
 
 use crate::fault::bench_fault;
 use crate::reading::{answer_of, is_subscribe, taken_event, turn_on};

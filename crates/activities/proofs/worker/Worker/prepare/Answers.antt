@@ -9,17 +9,17 @@ returns-in-Ok-clause-keeps g c = λ saved. c.call.ensures.keeps saved (λ agent 
 
 pub returns-in-Ok-clause-opened : goal.returns-in-Ok-clause-opened
 returns-in-Ok-clause-opened g c =
-    subst (λ (o : Option Durable). IsOpen c.args.self.now.agent.now o c.call.new.pass) (sym c.opens.ensures)
-    (drafted c.in_ok-name.field-0 c.args.self.now.agent.now c.args.cause c.args.pass.now c.call.new.pass c.in-Ok.answered c.in_ok-name.ensures c.in-Ok.ensures.answered)
+    subst (λ (o : Option Durable). IsOpen g.D.Running.is_taken c.args.self.now.agent.now o c.call.new.pass) (sym c.opens.ensures)
+    (drafted _ c.in_ok-name.field-0 c.args.self.now.agent.now c.args.cause c.args.pass.now c.call.new.pass c.in-Ok.answered c.in_ok-name.ensures c.in-Ok.ensures.answered)
 
 pub restart-requires : goal.restart-requires
-restart-requires g c = none_open c.args.self.now.agent.now c.args.opened.now c.call.new.pass c.requires
+restart-requires g c = none_open _ c.args.self.now.agent.now c.args.opened.now c.call.new.pass c.requires
 
 pub returns-in-Err-Core-AgentDown-clause-keeps : goal.returns-in-Err-Core-AgentDown-clause-keeps
-returns-in-Err-Core-AgentDown-clause-keeps g c = λ saved. keeps_then saved saved saved _ _ _ (c.call.ensures.keeps saved (λ agent e. absurd (none_is_not_some agent e))) (c.restart.ensures.keeps saved)
+returns-in-Err-Core-AgentDown-clause-keeps g c = λ saved. keeps_then _ saved saved saved _ _ _ (c.call.ensures.keeps saved (λ agent e. absurd (none_is_not_some agent e))) (c.restart.ensures.keeps saved)
 
 pub returns-in-Err-clause-keeps : goal.returns-in-Err-clause-keeps
 returns-in-Err-clause-keeps g c = λ saved. c.call.ensures.keeps saved (λ agent e. absurd (none_is_not_some agent e))
 
 pub returns-in-Err-clause-opened : goal.returns-in-Err-clause-opened
-returns-in-Err-clause-opened g c = none_open c.args.self.now.agent.now c.args.opened.now c.call.new.pass c.requires
+returns-in-Err-clause-opened g c = none_open _ c.args.self.now.agent.now c.args.opened.now c.call.new.pass c.requires

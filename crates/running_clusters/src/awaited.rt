@@ -34,7 +34,7 @@ impl Awaited {
     }
 
     /// The group of those who wait for this, from 0 to 63.
-    pub(crate) fn group(&self) -> u32 {
+    pub fn group(&self) -> u32 {
         self.group
     }
 }
@@ -90,7 +90,7 @@ fn ends_a_part(entry: &Entry) -> bool {
 }
 
 /// The groups of those who wait for what a step brought out, a bit for each.
-pub(crate) fn groups_of(entry: &Entry) -> u64 {
+pub fn groups_of(entry: &Entry) -> u64 {
     if ends_a_part(entry) {
         return u64::MAX;
     }

@@ -1,0 +1,16 @@
+//! What who stands around a cluster that runs sees of it: the entries of its steps, what goes with
+//! them, and what is looked at in it.
+#![tactic(auto)]
+
+mod awaited;
+mod given;
+mod kept_entry;
+mod running;
+
+pub use agent_core::Record;
+pub use awaited::{Awaited, groups_of};
+pub use cluster_entries::Entry;
+pub use cluster_steps::{ClusterFault, Keep, Step, StepCause};
+pub use given::Given;
+pub use kept_entry::KeptEntry;
+pub use running::Running;
