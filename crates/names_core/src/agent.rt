@@ -7,11 +7,12 @@ use crate::fault::NameFault;
 use crate::name::{is_configured_name, is_plain_name, name_number};
 use plain_data::Plain;
 use std::alloc::{AllocError, Global};
+use std::fmt;
 use std::marker::Model;
 
 /// The name of an agent, its `agent_id`: 1 to 255 bytes of UTF-8 without control characters,
 /// space, slash and backslash.
-#[derive(Debug, Drop)]
+#[derive(Drop)]
 pub struct AgentName {
     text: String,
     /// The number of the text. Names whose numbers differ are two, so most comparisons end there.
@@ -65,6 +66,15 @@ impl AgentName {
         ensures { result ≡ is_configured self.now }
     {
         is_configured_name(self.text.as_str())
+    }
+}
+
+/// It shows the text alone.
+impl fmt::Debug for AgentName {
+    fn fmt<W: fmt::Write>(&self, f: &mut fmt::Formatter<W>) -> fmt::Result {
+        f.debug_struct("AgentName")
+            .field("text", &self.text)
+            .finish()
     }
 }
 
