@@ -1,7 +1,6 @@
 //! Whether launch keys stand in one record alone.
 
-ghost use Rattle.std.specs.Prelude.{◌≡◌, true, List};
-ghost use Rattle.std.specs.List.{AllByRecursion as Each};
+ghost use Rattle.std.specs.Prelude.{◌≡◌, true};
 ghost use Rattle.agent_core.specs.Records.{keys_rise};
 ghost use Rattle.cluster_model.specs.Ids.{before};
 ghost use Rattle.cluster_openings.specs.Openable.{are_keys_apart, are_keys_new, share_key};
