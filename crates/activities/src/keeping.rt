@@ -80,6 +80,26 @@ impl<'a, D: Running, L: ledger::Ledger, R: Wait + Clock> Worker<'a, D, L, R> {
         }
     }
 
+    /// Whether the agent goes on over what a cabinet keeps: the record of its open draft,
+    /// or its own.
+    fn standing_of<F>(
+        &self,
+        pass: &Pass<KeptEntry, L>,
+        opened: &Option<Record>,
+        kept: &Option<Record>,
+    ) -> Result<Keep, Stop<F>>
+        ensures { IfOk result (λ keep. keep ≡ After → (draft : Durable)
+            × (kept.now ≡ Some draft) × (opened.now ≡ Some draft)) }
+    {
+        if is_open_draft(opened, kept) {
+            return Ok(Keep::After);
+        }
+        if self.owns(pass, kept)? {
+            return Ok(Keep::Before);
+        }
+        Err(Stop::Failed(ActivityFault::Damaged))
+    }
+
     /// Opens the cabinet again after a save that failed, and tells which record stands there.
     #[tactic(auto, using(crate::proofs::Saves::keeps_itself, crate::proofs::Saves::keeps_more, crate::proofs::Saves::found_saved))]
     fn standing<C: Cabinet>(
@@ -94,17 +114,10 @@ impl<'a, D: Running, L: ledger::Ledger, R: Wait + Clock> Worker<'a, D, L, R> {
         ensures keeps { Keeps D.is_taken (C.saved cabinet.old) (C.saved cabinet.new)
             pass.now pass.now }
     {
-        let kept = match cabinet.reopen(self.alloc) {
-            Ok(kept) => kept,
-            Err(fault) => return Err(Stop::Failed(ActivityFault::Cabinet(fault))),
-        };
-        if is_open_draft(opened, &kept) {
-            return Ok(Keep::After);
+        match cabinet.reopen(self.alloc) {
+            Ok(kept) => self.standing_of(pass, opened, &kept),
+            Err(fault) => Err(Stop::Failed(ActivityFault::Cabinet(fault))),
         }
-        if self.owns(pass, &kept)? {
-            return Ok(Keep::Before);
-        }
-        Err(Stop::Failed(ActivityFault::Damaged))
     }
 
     /// After a save that failed the agent stops,

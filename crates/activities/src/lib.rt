@@ -1,7 +1,6 @@
 //! What keeps an agent going in a thread of its own, and what lets the master's time pass.
 #![tactic(auto)]
 
-mod asking;
 mod executor;
 mod fault;
 mod keeping;

@@ -4,9 +4,9 @@ ghost use Rattle.std.specs.Prelude.{◌≡◌, ◌⊎◌, MatchBool};
 ghost use Rattle.activities.specs.Rounds.{HasRounds, IsAsked, IsCutRound, IsRound, goes_on_after};
 ghost use Rattle.cluster_steps.specs.declared.step.Step.TheVariants.{Allocate, Tick};
 
-use crate::asking::ask;
 use desk_lock::{Office, OfficeFault, Pass, Waited};
 use running_clusters::{Awaited, ClusterFault, KeptEntry, Running, Step};
+use running_offices::ask;
 use std::alloc::Global;
 use std::sync::{Wait, ledger};
 use std::time::{Clock, Instant};

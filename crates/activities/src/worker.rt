@@ -2,10 +2,9 @@
 
 ghost use Rattle.std.specs.Prelude.{◌≡◌, Bool, None, IfOk, OnErr, OnOk};
 ghost use Rattle.mails.specs.declared.record.Durable.{Durable};
-ghost use Rattle.activities.specs.Answering.{Answers};
+ghost use Rattle.running_offices.specs.Answering.{Answers};
 ghost use Rattle.activities.specs.Saved.{IsBehindSave, IsLastSaved, IsOpen, Keeps, last_of};
 
-use crate::asking::ask;
 use crate::fault::{Stop, stop_of};
 use agent_core::Record;
 use desk_lock::{Answered, Office, OfficeFault, Pass, Waited};
@@ -13,6 +12,7 @@ use names_core::AgentName;
 use plain_data::Plain;
 use quantity::Resources;
 use running_clusters::{Awaited, ClusterFault, Given, Keep, KeptEntry, Running, Step, StepCause};
+use running_offices::ask;
 use std::alloc::Global;
 use std::sync::{Wait, ledger};
 use std::time::Clock;

@@ -3,7 +3,7 @@ use Rattle.cluster_entries.specs.declared.entry.Entry.{Entry}
 use Rattle.cluster_steps.specs.declared.fault.ClusterFault.{ClusterFault}
 use Rattle.cluster_steps.specs.declared.step.Step.{Step}
 use Rattle.desk_seats.specs.Found.{IsRefusedCall}
-use Rattle.desk_seats.specs.Receipts.{IsAnswered, IsTaken, PassState}
+use Rattle.desk_seats.specs.Receipts.{IsTaken, PassState}
 use Rattle.desk_seats.specs.declared.desk.pass.Answered.{Answered}
 use Rattle.desk_seats.specs.declared.fault.OfficeFault.{OfficeFault}
 use Rattle.cluster_core.specs.Recording.{IsSound, MayRefuse, Recorded, Takes, kind_of}
@@ -15,12 +15,6 @@ abbrev pub IsTakenBy : Step → Answered Entry Given → Type 0
 IsTakenBy step a =
     IsTaken (λ (c : Recorded). c.story.entries) (λ c. IsSound c)
     (λ old step entry given new. Takes old step entry given new) step a
-
--- a step was so taken, and the pass has got its receipt
-abbrev pub Answers : PassState Entry → Step → Answered Entry Given → PassState Entry → Type 0
-Answers old step a new =
-    IsAnswered (λ (c : Recorded). c.story.entries) (λ c. IsSound c) (λ (e : Entry). e.step)
-    (λ old step entry given new. Takes old step entry given new) old new step a
 
 -- a desk over a sound cluster, of whose count the pass is, refuses the step so
 abbrev pub IsRefusedBy : PassState Entry → Step → OfficeFault ClusterFault → Type 0

@@ -11,7 +11,7 @@ use crate::taken::Taken;
 use agent_core::Record;
 use cluster_steps::{ClusterFault, Step};
 use desk_seats::{Entered, FaultKind, Recorded};
-use names_core::AgentName;
+use names_core::{AgentName, StreamId};
 use plain_data::Plain;
 use post_rules::Queues;
 use running_clusters::{Awaited, Given, KeptEntry, Running, groups_of};
@@ -133,10 +133,16 @@ impl Recorded for RecordedCluster {
 impl Running for RecordedCluster {
     ghost use Rattle.std.proofs.Common.{refl};
     ghost use Rattle.cluster_core.specs.Answering.{IsRefusedBy, IsTakenBy};
+    ghost use Rattle.cluster_core.specs.Reading.{is_open_in, waiting_in};
+    ghost use Rattle.cluster_core.specs.Stories.{state_of};
 
     ghost is_taken = { IsTakenBy };
 
     ghost is_refused = { IsRefusedBy };
+
+    ghost waiting = { λ c stream. waiting_in stream (state_of c.story) };
+
+    ghost is_open_on = { λ c stream. is_open_in stream (state_of c.story) };
 
     fn durable(&self, agent: &AgentName) -> Option<&Record>
         ensures { option_map (λ d. d.now) result
@@ -168,6 +174,14 @@ impl Running for RecordedCluster {
             (agent_in agent.now (kept_agents (state_of self.now.story))) }
     {
         self.cluster.is_in_session(agent)
+    }
+
+    fn waiting_on(&self, stream: StreamId) -> Option<usize> {
+        self.cluster.waiting_on(stream)
+    }
+
+    fn is_open(&self, stream: StreamId) -> bool {
+        self.cluster.is_open(stream)
     }
 
     ghost asks_its_step = { λ _. refl };

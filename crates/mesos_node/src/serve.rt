@@ -61,9 +61,10 @@ fn serve_folder<R: Threads + Wait + Clock + Sync>(
         connections: options.connections,
     };
     let blank = Blank::new(PARTS);
-    match serve_cluster::<Brand, _>(threads, rt.alloc(), blank, cluster, files, listener, pace) {
+    let alloc = rt.alloc();
+    let recorded = RecordedCluster::new(cluster);
+    match serve_cluster::<_, Brand, _>(threads, alloc, blank, recorded, files, listener, pace) {
         Ok(history) => {
-            let alloc = rt.alloc();
             let look = |recorded: &RecordedCluster| end_table(alloc, recorded.cluster());
             Ok(read_recorded(history, look)?)
         }

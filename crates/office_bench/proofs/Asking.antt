@@ -8,22 +8,22 @@ use Rattle.cluster_steps.specs.declared.step.Step.TheVariants.{Send, Deliver}
 use Rattle.desk_seats.specs.Receipts.{PassState}
 use Rattle.desk_seats.specs.declared.desk.pass.Answered.{Answered}
 use Rattle.http_door.specs.declared.bench.Answer.{Answer}
-use Rattle.cluster_core.specs.Answering.{Answers}
 use Rattle.running_clusters.specs.declared.given.Given.{Given}
+use Rattle.running_offices.specs.Answering.{Answers, Taking}
 use Rattle.office_bench.specs.Answers.{answer_of, is_subscribe}
 use Rattle.office_bench.specs.Deeds.{Delivers, call_number}
 
 -- the delivery of the number that was sent answers the call
-pub asked : {F : Type 0} (old mid new : PassState Entry) (stream : Option Numbered) (call : Call) (sent : Answered Entry Given) (number : ℕ) (subscribes : Bool) (r : Result Answer F) →
-    Answers old (Send stream call) sent mid → number ≡ call_number sent → subscribes ≡ is_subscribe call →
-    IfOk r (λ answer. (a : Answered Entry Given) × Answers mid (Deliver number) a new × (answer ≡ answer_of subscribes a.receipt.entry)) →
-    IfOk r (λ answer. Delivers old stream call answer new)
-asked old mid new stream call sent number subscribes (Err e) sends is what h = tt
-asked old mid new stream call sent number subscribes (Ok answer) sends is what h = record {
+pub asked : {F : Type 0} (is_taken : Taking) (old mid new : PassState Entry) (stream : Option Numbered) (call : Call) (sent : Answered Entry Given) (number : ℕ) (subscribes : Bool) (r : Result Answer F) →
+    Answers is_taken old (Send stream call) sent mid → number ≡ call_number sent → subscribes ≡ is_subscribe call →
+    IfOk r (λ answer. (a : Answered Entry Given) × Answers is_taken mid (Deliver number) a new × (answer ≡ answer_of subscribes a.receipt.entry)) →
+    IfOk r (λ answer. Delivers is_taken old stream call answer new)
+asked is_taken old mid new stream call sent number subscribes (Err e) sends is what h = tt
+asked is_taken old mid new stream call sent number subscribes (Ok answer) sends is what h = record {
   sent = sent;
   between = mid;
   delivered = h.0;
   sends = sends;
-  delivers = subst (λ (n : ℕ). Answers mid (Deliver n) h.0 new) is h.1;
+  delivers = subst (λ (n : ℕ). Answers is_taken mid (Deliver n) h.0 new) is h.1;
   answers = h.2 ∙ ap (λ (b : Bool). answer_of b h.0.receipt.entry) what;
 }

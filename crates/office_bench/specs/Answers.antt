@@ -4,14 +4,12 @@ use Rattle.names_core.specs.Ids.{Numbered}
 use Rattle.mails.specs.declared.call.Call.{Call}
 use Rattle.mails.specs.declared.call.Call.TheVariants.{Subscribe, Teardown, Accept, Decline, Revive, Suppress, Kill, Acknowledge, Reconcile}
 use Rattle.scheduler_events.specs.declared.stream_event.StreamEvent.{StreamEvent}
-use Rattle.cluster_histories.specs.Clusters.{Cluster}
 use Rattle.cluster_model.specs.Masters.{Doing}
 use Rattle.cluster_entries.specs.declared.entry.Entry.{Entry}
 use Rattle.cluster_steps.specs.declared.verdict.Verdict.{Verdict}
 use Rattle.cluster_steps.specs.declared.verdict.Verdict.TheVariants as verdicts
 use Rattle.cluster_steps.specs.declared.fault.ClusterFault.{ClusterFault}
 use Rattle.cluster_steps.specs.declared.fault.ClusterFault.TheVariants as steps
-use Rattle.cluster_core.specs.Reading.{is_open_in, waiting_in}
 use Rattle.desk_seats.specs.declared.fault.OfficeFault.{OfficeFault}
 use Rattle.desk_seats.specs.declared.fault.OfficeFault.TheVariants as offices
 use Rattle.desk_lock.specs.declared.office.Turn.{Turn}
@@ -91,9 +89,6 @@ abbrev pub turn_of : Option ℕ → Bool → Turn
 turn_of None is_open = turns.Answer
 turn_of (Some waiting) is_open =
     if nat_lt 0 waiting then turns.Answer else (if is_open then turns.Wait else turns.End)
-
-abbrev pub turn_on : Numbered → Cluster → Turn
-turn_on stream c = turn_of (waiting_in stream c) (is_open_in stream c)
 
 -- a call of the model opened one stream, and its last event stands on it
 abbrev pub EndsOnOpened : Doing → Type 0

@@ -13,53 +13,53 @@ use Rattle.http_door.specs.Deeds.{Deed, calls, nexts, hangs_up}
 use Rattle.http_door.specs.declared.bench.Answer.{Answer}
 use Rattle.http_door.specs.declared.bench.Answer.TheVariants.{Refused}
 use Rattle.http_door.specs.declared.refusal.BenchFault.{BenchFault}
-use Rattle.cluster_core.specs.Answering.{Answers}
 use Rattle.running_clusters.specs.declared.given.Given.{Given}
+use Rattle.running_offices.specs.Answering.{Answers, Taking}
 use Rattle.office_bench.specs.Answers.{IsOfOffice, answer_of, is_subscribe}
 
 -- one step was taken: the pass has one receipt more, and it is of this step
-abbrev pub Steps : PassState Entry → Step → PassState Entry → Type 0
-Steps old step new = (a : Answered Entry Given) × Answers old step a new
+abbrev pub Steps : Taking → PassState Entry → Step → PassState Entry → Type 0
+Steps is_taken old step new = (a : Answered Entry Given) × Answers is_taken old step a new
 
 -- the number of the call that a Send sent
 abbrev pub call_number : Answered Entry Given → ℕ
 call_number a = a.given.sent_before + 1
 
 -- a call was sent and delivered, and its answer is that of the delivery's entry
-pub record Delivers (old : PassState Entry) (stream : Option Numbered) (call : Call)
-    (answer : Answer) (new : PassState Entry) : Type 0 where
+pub record Delivers (is_taken : Taking) (old : PassState Entry) (stream : Option Numbered)
+    (call : Call) (answer : Answer) (new : PassState Entry) : Type 0 where
   pub sent : Answered Entry Given
   pub between : PassState Entry
   pub delivered : Answered Entry Given
-  pub sends : Answers old (Send stream call) sent between
-  pub delivers : Answers between (Deliver (call_number sent)) delivered new
+  pub sends : Answers is_taken old (Send stream call) sent between
+  pub delivers : Answers is_taken between (Deliver (call_number sent)) delivered new
   pub answers : answer ≡ answer_of (is_subscribe call) delivered.receipt.entry
 
 -- the office refused a call: its Send, or the delivery
-pub record Refuses (old : PassState Entry) (stream : Option Numbered) (call : Call)
-    (answer : Answer) (new : PassState Entry) : Type 0 where
+pub record Refuses (is_taken : Taking) (old : PassState Entry) (stream : Option Numbered)
+    (call : Call) (answer : Answer) (new : PassState Entry) : Type 0 where
   pub fault : BenchFault
   pub of_office : IsOfOffice fault
   pub answers : answer ≡ Refused fault
-  pub sends : (new ≡ old) ⊎ Steps old (Send stream call) new
+  pub sends : (new ≡ old) ⊎ Steps is_taken old (Send stream call) new
 
 -- the next event of a stream is the one that a Take handed out.
 -- None is taken where the answer is None, and at most one where memory is refused
-abbrev pub Nexts : PassState Entry → Numbered → Result (Option Event) AllocError → PassState Entry
-    → Type 0
-Nexts old stream (Ok (Some event)) new =
-    (a : Answered Entry Given) × Answers old (Take stream) a new
+abbrev pub Nexts : Taking → PassState Entry → Numbered → Result (Option Event) AllocError
+    → PassState Entry → Type 0
+Nexts is_taken old stream (Ok (Some event)) new =
+    (a : Answered Entry Given) × Answers is_taken old (Take stream) a new
     × (option_map (λ told. told.event) a.receipt.entry.outputs.taken ≡ Some event)
-Nexts old stream (Ok None) new = new ≡ old
-Nexts old stream (Err e) new = (new ≡ old) ⊎ Steps old (Take stream) new
+Nexts is_taken old stream (Ok None) new = new ≡ old
+Nexts is_taken old stream (Err e) new = (new ≡ old) ⊎ Steps is_taken old (Take stream) new
 
 -- what a seat did: at most one Send of a call with the delivery of its number,
 -- one Take of a stream, or one HangUp. The seat stays its own
-abbrev pub Does : PassState Entry → Deed → PassState Entry → Type 0
-Does old (calls stream call answer) new =
-    Delivers old stream call answer new ⊎ Refuses old stream call answer new
-Does old (nexts stream answer) new = Nexts old stream answer new
-Does old (hangs_up stream) new = (new ≡ old) ⊎ Steps old (HangUp stream) new
+abbrev pub Does : Taking → PassState Entry → Deed → PassState Entry → Type 0
+Does is_taken old (calls stream call answer) new =
+    Delivers is_taken old stream call answer new ⊎ Refuses is_taken old stream call answer new
+Does is_taken old (nexts stream answer) new = Nexts is_taken old stream answer new
+Does is_taken old (hangs_up stream) new = (new ≡ old) ⊎ Steps is_taken old (HangUp stream) new
 
 -- a connection that got no seat: each call is refused
 abbrev pub RefusesAll : BenchFault → Deed → Type 0

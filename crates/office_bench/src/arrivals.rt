@@ -8,9 +8,9 @@ use crate::fault::bench_fault;
 use crate::inlet::TcpInlet;
 use crate::outlet::TcpOutlet;
 use crate::seating::Seating;
-use cluster_core::{Awaited, ClusterFault, KeptEntry, RecordedCluster};
 use desk_lock::{Office, Pass, Waited};
 use http_workers::Arrivals;
+use running_clusters::{Awaited, ClusterFault, KeptEntry, Running};
 use std::alloc::Global;
 use std::marker::Model;
 use std::net::TcpListener;
@@ -42,10 +42,10 @@ fn accept(listener: &TcpListener) -> io::Result<(TcpInlet, TcpOutlet)>
 /// The connections of a listener, each with a seat of an office over a cluster, which is opened for
 /// it. Where the office refuses a seat (O3, O5), the connection's calls are refused so.
 #[derive(Drop)]
-pub struct TcpArrivals<'a, L: ledger::Ledger, R: Wait + Clock> {
+pub struct TcpArrivals<'a, D: Running, L: ledger::Ledger, R: Wait + Clock> {
     rt: &'a R,
     alloc: Global,
-    office: &'a Office<RecordedCluster, L>,
+    office: &'a Office<D, L>,
     /// The seat by which the office is asked whether it is finished.
     pass: Pass<KeptEntry, L>,
     listener: &'a TcpListener,
@@ -57,7 +57,7 @@ pub struct TcpArrivals<'a, L: ledger::Ledger, R: Wait + Clock> {
     finished: bool,
 }
 
-impl<'a, L: ledger::Ledger, R: Wait + Clock> Model for TcpArrivals<'a, L, R> {
+impl<'a, D: Running, L: ledger::Ledger, R: Wait + Clock> Model for TcpArrivals<'a, D, L, R> {
     ghost use Rattle.office_bench.specs.Arrivals.{ArrivalsState};
 
     ghost Value = { ArrivalsState };
@@ -71,17 +71,17 @@ impl<'a, L: ledger::Ledger, R: Wait + Clock> Model for TcpArrivals<'a, L, R> {
     } };
 }
 
-impl<'a, L: ledger::Ledger, R: Wait + Clock> TcpArrivals<'a, L, R> {
+impl<'a, D: Running, L: ledger::Ledger, R: Wait + Clock> TcpArrivals<'a, D, L, R> {
     /// The connections of a listener, at most so many; with the limit 0 any number.
     /// The pass is of a seat of the office that is not used otherwise.
     pub fn new(
         rt: &'a R,
         alloc: Global,
-        office: &'a Office<RecordedCluster, L>,
+        office: &'a Office<D, L>,
         pass: Pass<KeptEntry, L>,
         listener: &'a TcpListener,
         limit: u64,
-    ) -> TcpArrivals<'a, L, R>
+    ) -> TcpArrivals<'a, D, L, R>
         ensures { result ≡ record {
           pass = pass;
           limit = limit;
@@ -124,7 +124,7 @@ impl<'a, L: ledger::Ledger, R: Wait + Clock> TcpArrivals<'a, L, R> {
             &self.pass,
             Awaited::time(),
             0,
-            |_recorded: &RecordedCluster| -> Result<Option<()>, ClusterFault> { Ok(Some(())) },
+            |_cluster: &D| -> Result<Option<()>, ClusterFault> { Ok(Some(())) },
         );
         match found {
             Ok(Waited::Finished) => true,
@@ -169,7 +169,7 @@ impl<'a, L: ledger::Ledger, R: Wait + Clock> TcpArrivals<'a, L, R> {
     }
 
     /// What a connection gets for a bench.
-    fn open_seating(&self) -> Seating<'a, L, R> {
+    fn open_seating(&self) -> Seating<'a, D, L, R> {
         match self.office.open_seat(self.rt, self.alloc) {
             Ok(pass) => Seating::Seat(SeatBench::new(self.rt, self.alloc, self.office, pass)),
             Err(fault) => Seating::Refusing(bench_fault(fault)),
@@ -177,17 +177,17 @@ impl<'a, L: ledger::Ledger, R: Wait + Clock> TcpArrivals<'a, L, R> {
     }
 }
 
-impl<'a, L: ledger::Ledger + Send + Sync, R: Wait + Clock + Sync> Arrivals
-    for TcpArrivals<'a, L, R> {
+impl<'a, D: Running + Send + Sync, L: ledger::Ledger + Send + Sync, R: Wait + Clock + Sync> Arrivals
+    for TcpArrivals<'a, D, L, R> {
     type In = TcpInlet;
 
     type Out = TcpOutlet;
 
-    type Seat = Seating<'a, L, R>;
+    type Seat = Seating<'a, D, L, R>;
 
     ghost ended = { HasEnded };
 
-    fn next(&mut self) -> Option<(TcpInlet, TcpOutlet, Seating<'a, L, R>)> {
+    fn next(&mut self) -> Option<(TcpInlet, TcpOutlet, Seating<'a, D, L, R>)> {
         let rt = self.rt;
         for _ in rt.forever() {
             if self.has_ended() {

@@ -2,20 +2,21 @@
 
 ghost use Rattle.std.specs.Prelude.{◌≡◌, ◌⊎◌, OnErr, IfOk, IfErr, MatchOption};
 ghost use Rattle.cluster_steps.specs.declared.step.Step.TheVariants.{Send, Deliver, Take};
-ghost use Rattle.cluster_core.specs.Answering.{Answers};
 ghost use Rattle.desk_seats.specs.declared.desk.pass.Answered.{Answered as Got};
 ghost use Rattle.cluster_entries.specs.declared.entry.Entry.{Entry};
 ghost use Rattle.office_bench.specs.Answers.{IsOfOffice, answer_of};
 ghost use Rattle.office_bench.specs.Deeds.{Delivers, Does, Steps, call_number};
 ghost use Rattle.running_clusters.specs.declared.given.Given.{Given as GivenSo};
+ghost use Rattle.running_offices.specs.Answering.{Answers};
 
 use crate::fault::bench_fault;
 use crate::reading::{answer_of, is_subscribe, taken_event, turn_on};
-use cluster_core::{Awaited, Given, KeptEntry, RecordedCluster, Step};
 use desk_lock::{Answered, Office, Pass};
 use http_door::{Answer, Bench, BenchFault};
 use mails::Call;
 use names_core::StreamId;
+use running_clusters::{Awaited, Given, KeptEntry, Running, Step};
+use running_offices::{ask, ask_when};
 use scheduler_events::Event;
 use shared_value::Shared;
 use std::alloc::{AllocError, Global};
@@ -25,14 +26,14 @@ use std::sync::{Wait, ledger};
 /// A seat of an office over a cluster, as the bench of one connection.
 /// Contracts see it as its pass.
 #[derive(Drop)]
-pub struct SeatBench<'a, L: ledger::Ledger, R: Wait> {
+pub struct SeatBench<'a, D: Running, L: ledger::Ledger, R: Wait> {
     rt: &'a R,
     alloc: Global,
-    office: &'a Office<RecordedCluster, L>,
+    office: &'a Office<D, L>,
     pass: Pass<KeptEntry, L>,
 }
 
-impl<'a, L: ledger::Ledger, R: Wait> Model for SeatBench<'a, L, R> {
+impl<'a, D: Running, L: ledger::Ledger, R: Wait> Model for SeatBench<'a, D, L, R> {
     ghost use Rattle.desk_seats.specs.Receipts.{PassState};
     ghost use Rattle.cluster_entries.specs.declared.entry.Entry.{Entry};
 
@@ -41,14 +42,14 @@ impl<'a, L: ledger::Ledger, R: Wait> Model for SeatBench<'a, L, R> {
     ghost view = { λ b. b.pass };
 }
 
-impl<'a, L: ledger::Ledger, R: Wait> SeatBench<'a, L, R> {
+impl<'a, D: Running, L: ledger::Ledger, R: Wait> SeatBench<'a, D, L, R> {
     /// The bench of a connection whose steps the office takes on this pass.
     pub fn new(
         rt: &'a R,
         alloc: Global,
-        office: &'a Office<RecordedCluster, L>,
+        office: &'a Office<D, L>,
         pass: Pass<KeptEntry, L>,
-    ) -> SeatBench<'a, L, R>
+    ) -> SeatBench<'a, D, L, R>
         ensures { result ≡ pass }
     {
         SeatBench {
@@ -68,10 +69,10 @@ impl<'a, L: ledger::Ledger, R: Wait> SeatBench<'a, L, R> {
 
     /// Has the office take a step.
     fn take(&mut self, step: Step) -> Result<Answered<KeptEntry, Given>, BenchFault>
-        ensures stepped { IfOk result (λ a. Answers self.old step a self.new) }
+        ensures stepped { IfOk result (λ a. Answers D.is_taken self.old step a self.new) }
         ensures refused { IfErr result (λ fault. (self.new ≡ self.old) × IsOfOffice fault) }
     {
-        match self.office.call(self.rt, self.alloc, &mut self.pass, step) {
+        match ask(self.rt, self.alloc, self.office, &mut self.pass, step) {
             Ok(answered) => Ok(answered),
             Err(fault) => Err(bench_fault(fault)),
         }
@@ -91,9 +92,9 @@ impl<'a, L: ledger::Ledger, R: Wait> SeatBench<'a, L, R> {
     /// Sends a call, and gives its number.
     fn send(&mut self, stream: Option<StreamId>, call: Call) -> Result<u64, BenchFault>
         ensures sent { IfOk result (λ number. (a : Got Entry GivenSo)
-            × Answers self.old (Send stream call) a self.new × (number ≡ call_number a)) }
+            × Answers D.is_taken self.old (Send stream call) a self.new × (number ≡ call_number a)) }
         ensures refused { IfErr result
-            (λ fault. ((self.new ≡ self.old) ⊎ Steps self.old (Send stream call) self.new)
+            (λ fault. ((self.new ≡ self.old) ⊎ Steps D.is_taken self.old (Send stream call) self.new)
             × IsOfOffice fault) }
     {
         let step = self.sending(stream, call)?;
@@ -107,7 +108,7 @@ impl<'a, L: ledger::Ledger, R: Wait> SeatBench<'a, L, R> {
     /// Delivers the call of a number, and answers as the master does.
     fn deliver(&mut self, number: u64, subscribes: bool) -> Result<Answer, BenchFault>
         ensures delivered { IfOk result (λ answer. (a : Got Entry GivenSo)
-            × Answers self.old (Deliver number) a self.new
+            × Answers D.is_taken self.old (Deliver number) a self.new
             × (answer ≡ answer_of subscribes a.receipt.entry)) }
         ensures refused { IfErr result (λ fault. (self.new ≡ self.old) × IsOfOffice fault) }
     {
@@ -122,15 +123,16 @@ impl<'a, L: ledger::Ledger, R: Wait> SeatBench<'a, L, R> {
     fn wait(&mut self, stream: StreamId) -> Result<Option<Answered<KeptEntry, Given>>, AllocError>
         ensures taken { IfOk result
             (λ answered. MatchOption answered (self.new ≡ self.old)
-            (λ a. Answers self.old (Take stream) a self.new)) }
+            (λ a. Answers D.is_taken self.old (Take stream) a self.new)) }
         ensures unchanged { OnErr result (self.new ≡ self.old) }
     {
-        let answered = self.office.wait_call(
+        let answered = ask_when(
             self.rt,
             self.alloc,
+            self.office,
             &mut self.pass,
             Awaited::events_of(stream),
-            |recorded: &RecordedCluster| turn_on(recorded, stream),
+            |cluster: &D| turn_on(cluster, stream),
             Step::Take(stream),
         );
         match answered {
@@ -141,9 +143,9 @@ impl<'a, L: ledger::Ledger, R: Wait> SeatBench<'a, L, R> {
 
     /// Sends a call and delivers it.
     fn ask(&mut self, stream: Option<StreamId>, call: Call) -> Result<Answer, BenchFault>
-        ensures asked { IfOk result (λ answer. Delivers self.old stream call answer self.new) }
+        ensures asked { IfOk result (λ answer. Delivers D.is_taken self.old stream call answer self.new) }
         ensures refused { IfErr result
-            (λ fault. ((self.new ≡ self.old) ⊎ Steps self.old (Send stream call) self.new)
+            (λ fault. ((self.new ≡ self.old) ⊎ Steps D.is_taken self.old (Send stream call) self.new)
             × IsOfOffice fault) }
     {
         let subscribes = is_subscribe(&call);
@@ -152,8 +154,8 @@ impl<'a, L: ledger::Ledger, R: Wait> SeatBench<'a, L, R> {
     }
 }
 
-impl<'a, L: ledger::Ledger, R: Wait> Bench for SeatBench<'a, L, R> {
-    ghost does = { Does };
+impl<'a, D: Running, L: ledger::Ledger, R: Wait> Bench for SeatBench<'a, D, L, R> {
+    ghost does = { Does D.is_taken };
 
     fn call(&mut self, stream: Option<StreamId>, call: Call) -> Answer {
         match self.ask(stream, call) {

@@ -3,9 +3,9 @@
 ghost use Rattle.std.specs.Prelude.{◌≡◌};
 ghost use Rattle.office_bench.specs.Answers.{IsOfOffice, bench_fault, step_fault};
 
-use cluster_core::ClusterFault;
 use desk_lock::OfficeFault;
 use http_door::BenchFault;
+use running_clusters::ClusterFault;
 
 fn step_fault(fault: ClusterFault) -> BenchFault
     ensures same { result ≡ step_fault fault }

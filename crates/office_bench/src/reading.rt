@@ -1,19 +1,19 @@
 //! What is read in entries, and in the cluster.
 
 ghost use Rattle.std.specs.Prelude.{◌≡◌, ℕ, List, Option, Some, None, option_map, IfOk};
-ghost use Rattle.cluster_core.specs.Stories.{state_of};
 ghost use Rattle.cluster_model.specs.Calls.{called};
 ghost use Rattle.cluster_model.specs.Masters.{Master};
 ghost use Rattle.mails.specs.declared.call.Call.TheVariants.{Subscribe};
 ghost use Rattle.names_core.specs.Ids.{Numbered};
-ghost use Rattle.office_bench.specs.Answers.{EndsOnOpened, accepted, answer_of, is_subscribe, turn_on};
+ghost use Rattle.office_bench.specs.Answers.{EndsOnOpened, accepted, answer_of, is_subscribe, turn_of};
 
-use cluster_core::{Entry, RecordedCluster, Verdict};
+use cluster_steps::Verdict;
 use desk_lock::Turn;
 use http_door::{Answer, BenchFault};
 use mails::Call;
 use names_core::StreamId;
 use plain_data::Plain;
+use running_clusters::{Entry, Running};
 use scheduler_events::{Event, StreamEvent};
 use std::alloc::AllocError;
 
@@ -61,10 +61,9 @@ pub(crate) fn taken_event(entry: &Entry) -> Result<Event, AllocError>
 
 /// What who waits for a stream's events does.
 /// A stream that was never opened isn't waited for: its Take is refused.
-pub(crate) fn turn_on(recorded: &RecordedCluster, stream: StreamId) -> Turn
-    ensures { result ≡ turn_on stream (state_of recorded.now.story) }
+pub(crate) fn turn_on<D: Running>(cluster: &D, stream: StreamId) -> Turn
+    ensures { result ≡ turn_of (D.waiting cluster.now stream) (D.is_open_on cluster.now stream) }
 {
-    let cluster = recorded.cluster();
     match cluster.waiting_on(stream) {
         Some(0) if cluster.is_open(stream) => Turn::Wait,
         Some(0) => Turn::End,

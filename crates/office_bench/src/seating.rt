@@ -4,23 +4,23 @@ ghost use Rattle.std.specs.Prelude.{◌≡◌};
 ghost use Rattle.office_bench.specs.Seated.{SeatingDoes, pass_of};
 
 use crate::bench::SeatBench;
-use cluster_core::KeptEntry;
 use desk_lock::Pass;
 use http_door::{Answer, Bench, BenchFault};
 use mails::Call;
 use names_core::StreamId;
+use running_clusters::{KeptEntry, Running};
 use scheduler_events::Event;
 use std::alloc::AllocError;
 use std::sync::{Wait, ledger};
 
 /// The bench of a connection: a seat, or, where none could be opened, one that refuses every call.
 #[derive(Drop)]
-pub enum Seating<'a, L: ledger::Ledger, R: Wait> {
-    Seat(SeatBench<'a, L, R>),
+pub enum Seating<'a, D: Running, L: ledger::Ledger, R: Wait> {
+    Seat(SeatBench<'a, D, L, R>),
     Refusing(BenchFault),
 }
 
-impl<'a, L: ledger::Ledger, R: Wait> Seating<'a, L, R> {
+impl<'a, D: Running, L: ledger::Ledger, R: Wait> Seating<'a, D, L, R> {
     /// The pass of the seat.
     pub fn into_pass(self) -> Option<Pass<KeptEntry, L>>
         ensures { result ≡ pass_of self.entry }
@@ -32,8 +32,8 @@ impl<'a, L: ledger::Ledger, R: Wait> Seating<'a, L, R> {
     }
 }
 
-impl<'a, L: ledger::Ledger, R: Wait> Bench for Seating<'a, L, R> {
-    ghost does = { SeatingDoes };
+impl<'a, D: Running, L: ledger::Ledger, R: Wait> Bench for Seating<'a, D, L, R> {
+    ghost does = { SeatingDoes D.is_taken };
 
     fn call(&mut self, stream: Option<StreamId>, call: Call) -> Answer {
         match self {

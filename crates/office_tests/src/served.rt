@@ -107,7 +107,7 @@ impl<L: ledger::Ledger> Left<L> {
     }
 
     /// Hands in the passes of all connections.
-    fn hand_in_all<R: Wait>(&mut self, seats: Vec<Seating<'_, L, R>>) {
+    fn hand_in_all<R: Wait>(&mut self, seats: Vec<Seating<'_, RecordedCluster, L, R>>) {
         for seat in seats {
             match seat.into_pass() {
                 Some(pass) => self.hand_in(pass),
@@ -134,7 +134,7 @@ fn arrivals_at<'x, L: ledger::Ledger, R: Wait + Clock>(
     alloc: Global,
     office: &'x Office<RecordedCluster, L>,
     listener: &'x TcpListener,
-) -> Option<TcpArrivals<'x, L, R>> {
+) -> Option<TcpArrivals<'x, RecordedCluster, L, R>> {
     let pass = office.open_seat(rt, alloc).ok()?;
     Some(TcpArrivals::new(rt, alloc, office, pass, listener, 0))
 }
@@ -148,7 +148,7 @@ fn join<
     rt: &'x R,
     alloc: Global,
     client: Client<'x, L, R>,
-    mut arrivals: TcpArrivals<'x, L, R>,
+    mut arrivals: TcpArrivals<'x, RecordedCluster, L, R>,
     gate: &Overlap<'_, R>,
     script: &[Move],
     left: &mut Left<L>,

@@ -1,9 +1,10 @@
 //! A cluster that runs, as a desk stands over it.
 
-ghost use Rattle.std.specs.Prelude.{◌≡◌};
+ghost use Rattle.std.specs.Prelude.{◌≡◌, ℕ, Bool, Option};
 ghost use Rattle.cluster_entries.specs.declared.entry.Entry.{Entry};
 ghost use Rattle.cluster_steps.specs.declared.fault.ClusterFault.{ClusterFault};
 ghost use Rattle.cluster_steps.specs.declared.step.Step.{Step};
+ghost use Rattle.names_core.specs.Ids.{Numbered};
 ghost use Rattle.desk_seats.specs.declared.desk.pass.Answered.{Answered};
 ghost use Rattle.desk_seats.specs.declared.fault.OfficeFault.{OfficeFault};
 ghost use Rattle.desk_seats.specs.Found.{IsRefusedCall};
@@ -16,9 +17,9 @@ use crate::kept_entry::KeptEntry;
 use agent_core::Record;
 use cluster_steps::{ClusterFault, Step};
 use desk_seats::Recorded;
-use names_core::AgentName;
+use names_core::{AgentName, StreamId};
 
-/// A cluster that runs. An agent's thread and the master's time know it by this alone.
+/// A cluster that runs. An agent's thread, the master's time and connections know it by this alone.
 pub trait Running: Recorded<
     Step = Step,
     Entry = KeptEntry,
@@ -32,6 +33,12 @@ pub trait Running: Recorded<
     /// Some state of it refuses this step of a pass so.
     ghost is_refused: { PassState Entry → Step → OfficeFault ClusterFault → Type 0 };
 
+    /// How many events of a stream wait; None for one that was never opened.
+    ghost waiting: { Self → Numbered → Option ℕ };
+
+    /// Whether a stream is the open one of a framework.
+    ghost is_open_on: { Self → Numbered → Bool };
+
     /// The record of an agent; None where no such agent is configured.
     fn durable(&self, agent: &AgentName) -> Option<&Record>;
 
@@ -43,6 +50,14 @@ pub trait Running: Recorded<
 
     /// Whether an agent has an open session.
     fn is_in_session(&self, agent: &AgentName) -> bool;
+
+    /// How many events of a stream nobody took yet; None for one that was never opened.
+    fn waiting_on(&self, stream: StreamId) -> Option<usize>
+        ensures { result ≡ waiting self.now stream };
+
+    /// Whether a stream is the open one of a framework.
+    fn is_open(&self, stream: StreamId) -> bool
+        ensures { result ≡ is_open_on self.now stream };
 
     /// An entry was asked its step.
     ghost asks_its_step: { (entry : Entry) → Self.step_of entry ≡ entry.step };

@@ -2,17 +2,15 @@
 
 ghost use Rattle.std.specs.Fn.{FnReturnsAt};
 ghost use Rattle.std.specs.Prelude.{◌≡◌, [], IfOk, Ok};
-ghost use Rattle.cluster_core.specs.Recording.{IsSound};
 
 use crate::fault::ServingFault;
 use crate::staff::{Leaver, Pace, start_all};
-use cluster_core::{Cluster, KeptEntry, RecordedCluster};
 use desk_lock::{Desk, Office, OfficeFault, Pass, Passes, Recorded, SeatedHistory};
 use http_door::NoGate;
 use http_workers::{HttpFault, serve_all};
 use office_bench::{Seating, TcpArrivals};
-use post_rules::Queues;
 use record_folder::RecordFile;
+use running_clusters::{KeptEntry, Running};
 use std::alloc::Global;
 use std::net::TcpListener;
 use std::sync::ledger::Blank;
@@ -44,9 +42,9 @@ fn first_fault(
 }
 
 /// Hands in the passes of connections that had a seat, and gives the first fault.
-fn hand_in_all<L: ledger::Ledger, R: Wait>(
+fn hand_in_all<D: Running, L: ledger::Ledger, R: Wait>(
     passes: &mut Passes<KeptEntry, L>,
-    benches: Vec<Seating<'_, L, R>>,
+    benches: Vec<Seating<'_, D, L, R>>,
 ) -> Result<(), ServingFault> {
     let mut handed = Ok(());
     for bench in benches {
@@ -59,10 +57,14 @@ fn hand_in_all<L: ledger::Ledger, R: Wait>(
 
 /// Serves the connections of a listener, each with a seat of its own,
 /// until no more come and all have ended. The passes of their seats are handed in.
-fn serve_connections<L: ledger::Ledger + Send + Sync, R: Threads + Wait + Clock + Sync>(
+fn serve_connections<
+    D: Running + Send + Sync,
+    L: ledger::Ledger + Send + Sync,
+    R: Threads + Wait + Clock + Sync,
+>(
     rt: &R,
     alloc: Global,
-    office: &Office<RecordedCluster, L>,
+    office: &Office<D, L>,
     listener: &TcpListener,
     connections: u64,
     passes: &mut Passes<KeptEntry, L>,
@@ -103,11 +105,17 @@ fn join_all<L: ledger::Ledger, R: Threads>(
 
 /// Runs a cluster in a scope of threads:
 /// serves its connections while its agents and its master's time go on, and ends all of them then.
-fn run<'s, E, L: ledger::Ledger + Send + Sync + 's, R: Threads + Wait + Clock + Sync + 's>(
+fn run<
+    's,
+    E,
+    D: Running + Send + Sync + 's,
+    L: ledger::Ledger + Send + Sync + 's,
+    R: Threads + Wait + Clock + Sync + 's,
+>(
     scope: &Scope<'s, E>,
     rt: &'s R,
     alloc: Global,
-    office: &'s Office<RecordedCluster, L>,
+    office: &'s Office<D, L>,
     files: Vec<RecordFile<'s>>,
     listener: &TcpListener,
     pace: Pace,
@@ -125,10 +133,14 @@ fn run<'s, E, L: ledger::Ledger + Send + Sync + 's, R: Threads + Wait + Clock + 
 }
 
 /// An office over a cluster, in a scope of threads.
-fn run_office<L: ledger::Ledger + Send + Sync, R: Threads + Wait + Clock + Sync>(
+fn run_office<
+    D: Running + Send + Sync,
+    L: ledger::Ledger + Send + Sync,
+    R: Threads + Wait + Clock + Sync,
+>(
     rt: &R,
     alloc: Global,
-    office: &Office<RecordedCluster, L>,
+    office: &Office<D, L>,
     files: Vec<RecordFile<'_>>,
     listener: &TcpListener,
     pace: Pace,
@@ -158,11 +170,11 @@ fn unless_failed<C: Recorded>(
 }
 
 /// What an office recorded, where the passes of its seats account for them.
-fn close<L: ledger::Ledger>(
-    office: Office<RecordedCluster, L>,
+fn close<D: Running, L: ledger::Ledger>(
+    office: Office<D, L>,
     passes: Passes<KeptEntry, L>,
-) -> Result<SeatedHistory<RecordedCluster>, ServingFault>
-    ensures { IfOk result (λ history. IsSound history.recorded) }
+) -> Result<SeatedHistory<D>, ServingFault>
+    ensures { IfOk result (λ history. D.sound history.recorded) }
 {
     match office.close(passes) {
         Ok(history) => Ok(history),
@@ -175,16 +187,12 @@ fn close<L: ledger::Ledger>(
 }
 
 /// An office over a cluster that was just opened.
-fn opened<L: ledger::Ledger>(
-    alloc: Global,
-    cluster: Cluster<Queues>,
-    blank: Blank,
-) -> Office<RecordedCluster, L>
-    requires opening { cluster.story.entries ≡ [] }
+fn opened<D: Running, L: ledger::Ledger>(alloc: Global, cluster: D, blank: Blank) -> Office<D, L>
+    requires opening { D.history cluster ≡ [] }
     requires name { blank.name ≡ L.name }
     requires parts { (blank.parts ≡ L.parts) × (blank.parts ≡ 4294967296) }
 {
-    let desk: Desk<RecordedCluster, L> = Desk::new(alloc, RecordedCluster::new(cluster), blank);
+    let desk: Desk<D, L> = Desk::new(alloc, cluster, blank);
     Office::new(desk)
 }
 
@@ -202,21 +210,25 @@ pub fn read_recorded<C: Recorded, T, F: Fn(&C) -> T>(history: SeatedHistory<C>, 
 /// connection has a seat, as has each agent and the master's time. Where an agent's record can't be
 /// kept any more, where memory or a thread is refused, or where connection after connection fails,
 /// it ends too, once the connections that there are have ended; the fault tells why.
-pub fn serve_cluster<L: ledger::Ledger + Send + Sync, R: Threads + Wait + Clock + Sync>(
+pub fn serve_cluster<
+    D: Running + Send + Sync,
+    L: ledger::Ledger + Send + Sync,
+    R: Threads + Wait + Clock + Sync,
+>(
     rt: &R,
     alloc: Global,
     blank: Blank,
-    cluster: Cluster<Queues>,
+    cluster: D,
     files: Vec<RecordFile<'_>>,
     listener: &TcpListener,
     pace: Pace,
-) -> Result<SeatedHistory<RecordedCluster>, ServingFault>
-    requires opening { cluster.story.entries ≡ [] }
+) -> Result<SeatedHistory<D>, ServingFault>
+    requires opening { D.history cluster ≡ [] }
     requires name { blank.name ≡ L.name }
     requires parts { (blank.parts ≡ L.parts) × (blank.parts ≡ 4294967296) }
-    ensures { IfOk result (λ history. IsSound history.recorded) }
+    ensures { IfOk result (λ history. D.sound history.recorded) }
 {
-    let office: Office<RecordedCluster, L> = opened(alloc, cluster, blank);
+    let office: Office<D, L> = opened(alloc, cluster, blank);
     let (passes, ended) = run_office(rt, alloc, &office, files, listener, pace);
     unless_failed(close(office, passes), ended)
 }

@@ -4,12 +4,12 @@ ghost use Rattle.std.specs.Prelude.{◌≡◌, []};
 
 use crate::fault::ServingFault;
 use activities::{ActivityFault, activity, ticker};
-use cluster_core::{KeptEntry, RecordedCluster};
 use desk_lock::{Office, Pass};
 use http_workers::HttpFault;
 use keep_store::KeepFault;
 use names_core::AgentName;
 use record_folder::RecordFile;
+use running_clusters::{KeptEntry, Running};
 use std::alloc::Global;
 use std::sync::{Wait, ledger};
 use std::thread::{JoinHandle, Scope, Threads};
@@ -35,10 +35,10 @@ pub(crate) struct Leaver<L: ledger::Ledger> {
 }
 
 /// An agent's activity.
-fn keep_going<L: ledger::Ledger, R: Wait + Clock>(
+fn keep_going<D: Running, L: ledger::Ledger, R: Wait + Clock>(
     rt: &R,
     alloc: Global,
-    office: &Office<RecordedCluster, L>,
+    office: &Office<D, L>,
     pass: Pass<KeptEntry, L>,
     file: RecordFile<'_>,
     task_seconds: u64,
@@ -66,10 +66,10 @@ fn keep_going<L: ledger::Ledger, R: Wait + Clock>(
 }
 
 /// The master's time.
-fn keep_time<L: ledger::Ledger, R: Wait + Clock>(
+fn keep_time<D: Running, L: ledger::Ledger, R: Wait + Clock>(
     rt: &R,
     alloc: Global,
-    office: &Office<RecordedCluster, L>,
+    office: &Office<D, L>,
     pass: Pass<KeptEntry, L>,
     interval: u64,
 ) -> Leaver<L> {
@@ -93,11 +93,17 @@ fn keep<T: Drop>(threads: &mut Vec<T>, thread: T) {
 }
 
 /// Starts an agent's thread.
-fn start_agent<'s, E, L: ledger::Ledger + Send + Sync + 's, R: Threads + Wait + Clock + Sync + 's>(
+fn start_agent<
+    's,
+    E,
+    D: Running + Send + Sync + 's,
+    L: ledger::Ledger + Send + Sync + 's,
+    R: Threads + Wait + Clock + Sync + 's,
+>(
     scope: &Scope<'s, E>,
     rt: &'s R,
     alloc: Global,
-    office: &'s Office<RecordedCluster, L>,
+    office: &'s Office<D, L>,
     file: RecordFile<'s>,
     pace: Pace,
 ) -> Result<JoinHandle<Leaver<L>>, ServingFault> {
@@ -110,11 +116,17 @@ fn start_agent<'s, E, L: ledger::Ledger + Send + Sync + 's, R: Threads + Wait + 
 }
 
 /// Starts the thread of the master's time.
-fn start_ticker<'s, E, L: ledger::Ledger + Send + Sync + 's, R: Threads + Wait + Clock + Sync + 's>(
+fn start_ticker<
+    's,
+    E,
+    D: Running + Send + Sync + 's,
+    L: ledger::Ledger + Send + Sync + 's,
+    R: Threads + Wait + Clock + Sync + 's,
+>(
     scope: &Scope<'s, E>,
     rt: &'s R,
     alloc: Global,
-    office: &'s Office<RecordedCluster, L>,
+    office: &'s Office<D, L>,
     pace: Pace,
 ) -> Result<JoinHandle<Leaver<L>>, ServingFault> {
     let pass = match office.open_seat(rt, alloc) {
@@ -130,13 +142,14 @@ fn start_ticker<'s, E, L: ledger::Ledger + Send + Sync + 's, R: Threads + Wait +
 pub(crate) fn start_all<
     's,
     E,
+    D: Running + Send + Sync + 's,
     L: ledger::Ledger + Send + Sync + 's,
     R: Threads + Wait + Clock + Sync + 's,
 >(
     scope: &Scope<'s, E>,
     rt: &'s R,
     alloc: Global,
-    office: &'s Office<RecordedCluster, L>,
+    office: &'s Office<D, L>,
     files: Vec<RecordFile<'s>>,
     pace: Pace,
     threads: &mut Vec<JoinHandle<Leaver<L>>>,
