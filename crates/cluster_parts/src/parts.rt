@@ -15,7 +15,6 @@ use role_weights::Weights;
 use std::alloc::Global;
 
 /// What a cluster is made of at a time.
-#[derive(Drop)]
 pub struct Parts<P: Post> {
     /// The agents as the master is configured with them.
     pub config: Config,
@@ -25,6 +24,19 @@ pub struct Parts<P: Post> {
     pub run: Run,
     /// The moment of the last Tick, in seconds; 0 before the first.
     pub last_tick: u32,
+}
+
+// By hand: who drops the parts calls this, and goes through none of them.
+impl<P: Post + Drop> Drop for Parts<P> {
+    fn drop(self) {
+        let Parts {
+            config: _,
+            served: _,
+            agents: _,
+            run: _,
+            last_tick: _,
+        } = self;
+    }
 }
 
 impl<P: Post> Parts<P> {

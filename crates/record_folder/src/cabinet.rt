@@ -108,11 +108,19 @@ pub struct FileCabinet<'a> {
 }
 
 impl<'a> FileCabinet<'a> {
-    fn new(place: FilePlace<'a>) -> FileCabinet<'a> {
+    pub(crate) fn new(place: FilePlace<'a>) -> FileCabinet<'a> {
         let keeper = None;
         FileCabinet {
             at: PlaceCabinet { place, keeper },
         }
+    }
+
+    /// Closes the store.
+    pub fn close(self) {}
+
+    /// Where the store is. The store is closed.
+    pub(crate) fn into_place(self) -> FilePlace<'a> {
+        self.at.place
     }
 }
 

@@ -8,15 +8,15 @@ ghost use Rattle.cluster_model.specs.Openings.{GoodOpening};
 ghost use Rattle.record_folder.specs.Refusals.{IsFileRefusal, IsFolderRefusal, IsRecordRefusal, IsStoreRefusal};
 ghost use Rattle.record_folder.specs.declared.folder_fault.FolderFault.TheVariants.{NoCluster};
 
-use crate::cabinet::RecordFile;
+use crate::cabinet::{FileCabinet, RecordFile};
 use crate::folder_fault::FolderFault;
-use crate::stores::{FilePlace, load_at, run_at};
-use agent_core::Record;
+use crate::stores::{FilePlace, run_at};
+use agent_core::{Cabinet, Record};
 use agent_sides::{Config, ConfiguredAgent};
 use cluster_openings::good_opening;
 use names_core::Run;
 use plain_data::Plain;
-use std::alloc::Global;
+use std::alloc::{AllocError, Global};
 
 /// What a folder keeps of a cluster.
 #[derive(Drop)]
@@ -69,6 +69,31 @@ fn record_of(
     Ok(record)
 }
 
+/// The file of an agent's record, and what is configured that the agent owns.
+fn file_at<'a>(
+    agent: &ConfiguredAgent,
+    place: FilePlace<'a>,
+) -> Result<RecordFile<'a>, AllocError> {
+    let name = agent.name.copy()?;
+    Ok(RecordFile::new(name, agent.total.copy()?, place))
+}
+
+/// The record of an agent, of which this was found, with the file where it is kept.
+fn kept_at<'a>(
+    alloc: Global,
+    agent: &ConfiguredAgent,
+    found: Option<Record>,
+    place: FilePlace<'a>,
+) -> Result<(Record, RecordFile<'a>), FolderFault>
+    ensures { IfErr result (IsFileRefusal agent.now) }
+{
+    let file = file_at(agent, place)?;
+    match record_of(alloc, agent, found) {
+        Ok(record) => Ok((record, file)),
+        Err(fault) => Err(fault),
+    }
+}
+
 /// The record of an agent, with the file where it is kept.
 fn open_agent<'a>(
     rt: &'a HostRuntime,
@@ -79,17 +104,16 @@ fn open_agent<'a>(
 {
     let name = agent.name.as_text();
     let path = format!(in rt.alloc(); "{folder}/agent-{name}.db")?;
-    let place = FilePlace::new(rt, path);
-    let found = match load_at(&place, rt.alloc()) {
-        Ok(found) => found,
-        Err(fault) => {
-            let path = place.into_path();
-            return Err(FolderFault::Store { path, fault });
-        }
-    };
-    let record = record_of(rt.alloc(), agent, found)?;
-    let (name, total) = (agent.name.copy()?, agent.total.copy()?);
-    Ok((record, RecordFile::new(name, total, place)))
+    let mut cabinet = FileCabinet::new(FilePlace::new(rt, path));
+    let found = cabinet.reopen(rt.alloc());
+    let place = cabinet.into_place();
+    match found {
+        Ok(found) => kept_at(rt.alloc(), agent, found, place),
+        Err(fault) => Err(FolderFault::Store {
+            path: place.into_path(),
+            fault,
+        }),
+    }
 }
 
 /// Refuses records that are those of no one cluster of these agents in this run.

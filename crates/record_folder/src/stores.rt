@@ -1,10 +1,8 @@
 //! The stores at places.
 
-use agent_core::Record;
 use keep_store::{KeepFault, Keeper};
 use names_core::Run;
 use sqlite::{Alter, FileFrom, FileStore, Unknown};
-use std::alloc::Global;
 
 /// Where a store is. What is done with the store of a place is written once, for every place.
 pub trait Place: Drop {
@@ -37,12 +35,6 @@ impl<'a> Place for FilePlace<'a> {
     fn open(&self) -> Result<Keeper<FileStore<FileFrom<Unknown>>>, KeepFault> {
         Keeper::open(self.rt, self.path.as_str())
     }
-}
-
-/// The record that the store at a place keeps.
-pub(crate) fn load_at<P: Place>(place: &P, alloc: Global) -> Result<Option<Record>, KeepFault> {
-    let mut keeper = place.open()?;
-    keeper.load(alloc)
 }
 
 /// The next run, from the store at a place.

@@ -56,6 +56,7 @@ fn keep_going<D: Running, L: ledger::Ledger, R: Wait + Clock>(
         task_seconds,
         &total,
     );
+    cabinet.close();
     match fault {
         Some(fault) => Leaver {
             pass,
