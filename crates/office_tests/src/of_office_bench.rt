@@ -3,6 +3,7 @@
 use crate::requests::{SEATS_SPENT, SUBSCRIBE};
 use crate::scripts::{LOSES_MASTER, Move, OVERLAPS, SUBSCRIBES};
 use crate::served::{Closed, refuses_unopened, served};
+use cluster_core::RecordedCluster;
 use http_door::{Bench, BenchFault, NoGate, Sink, Source, serve_conn};
 use office_bench::Seating;
 use std::alloc::Global;
@@ -89,7 +90,7 @@ fn refuses_without_seat<'x, L: ledger::Ledger + 'x, R: Wait + 'x>(
     _rt: &'x R,
     alloc: Global,
 ) -> bool {
-    let mut seating: Seating<'x, L, R> = Seating::Refusing(BenchFault::SeatsSpent);
+    let mut seating: Seating<'x, RecordedCluster, L, R> = Seating::Refusing(BenchFault::SeatsSpent);
     refuses(alloc, &mut seating)
 }
 

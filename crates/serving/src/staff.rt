@@ -56,7 +56,6 @@ fn keep_going<D: Running, L: ledger::Ledger, R: Wait + Clock>(
         task_seconds,
         &total,
     );
-    cabinet.close();
     match fault {
         Some(fault) => Leaver {
             pass,
