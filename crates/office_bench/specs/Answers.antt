@@ -1,6 +1,5 @@
 -- How calls are answered.
 use Rattle.std.specs.Prelude.{◌≡◌, ◌-◌, ℕ, Bool, true, false, nat_lt, if◌then◌else◌, List, [], ◌∷◌, length, slice_get, Option, Some, None, ⊤}
-use Rattle.names_core.specs.Ids.{Numbered}
 use Rattle.mails.specs.declared.call.Call.{Call}
 use Rattle.mails.specs.declared.call.Call.TheVariants.{Subscribe, Teardown, Accept, Decline, Revive, Suppress, Kill, Acknowledge, Reconcile}
 use Rattle.scheduler_events.specs.declared.stream_event.StreamEvent.{StreamEvent}
