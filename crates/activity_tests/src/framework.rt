@@ -1,12 +1,13 @@
 //! A framework that launches a task on the one agent.
 
 use crate::offices::wait_for_entries;
-use cluster_core::{Keep, KeptEntry, RecordedCluster, Step};
+use cluster_core::{Keep, KeptEntry, Step};
 use desk_lock::{Office, Pass};
 use listed::Listed;
 use mails::{Call, TaskInfo};
 use names_core::{AgentName, FrameworkId, OfferId, RoleName, StreamId, TaskName};
 use quantity::Resources;
+use recorded_clusters::RecordedCluster;
 use shared_value::Shared;
 use std::alloc::Global;
 use std::sync::{Wait, ledger};

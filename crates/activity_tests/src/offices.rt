@@ -2,15 +2,15 @@
 
 ghost use Rattle.std.specs.Prelude.{◌≡◌, [], IfSome};
 
-use cluster_core::{
-    Awaited, Cluster, KeptEntry, RecordedCluster, fresh_agents_open, fresh_records,
-};
+use cluster_core::{Cluster, KeptEntry, fresh_agents_open, fresh_records};
 use desk_lock::{Desk, Office, Pass, Waited};
 use master_core::Config;
 use names_core::{AgentName, Run};
 use post_rules::Queues;
 use quantity::Resources;
+use recorded_clusters::RecordedCluster;
 use role_weights::Weights;
+use running_clusters::Awaited;
 use std::alloc::{AllocError, Global};
 use std::sync::ledger::Blank;
 use std::sync::{Wait, ledger};

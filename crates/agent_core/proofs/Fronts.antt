@@ -4,7 +4,7 @@ use Rattle.std.specs.Prelude.{if◌then◌else◌, ◌==◌}
 use Rattle.std.specs.List.{list_all, list_any}
 use Rattle.std.proofs.lemmas.Bool.{and_parts, cond_both, not-true}
 use Rattle.std.proofs.lemmas.List.{take-append-le}
-use Rattle.names_core.specs.Ids.{Numbered}
+use Rattle.names_core.specs.Ids.{Numbered, same}
 use Rattle.names_core.specs.declared.state.TaskState.{TaskState}
 use Rattle.names_core.specs.declared.state.TaskState.TheVariants.{Killed}
 use Rattle.quantity.specs.declared.rows.Row.{Row}
@@ -21,7 +21,7 @@ use Rattle.mails.specs.declared.record.RecordedTask.{RecordedTask}
 use Rattle.mails.specs.declared.refusal.AgentRefusal.{AgentRefusal}
 use Rattle.mails.specs.declared.refusal.AgentRefusal.TheVariants.{NotForMe, OldSession, NotNext, NoSuchTask, Ended, NoRoom, UpdatesFull, SessionsSpent, TotalLess}
 use Rattle.cluster_model.specs.Agents.{Agent, Draft, acknowledged, applies, executes, front_at, has_ended, has_room, hears_command, hears_hello, hears_mail, is_task, launched_task, needs_place, next_of, opens_again, opens_next, owning, reopened, reports, starts, stated, tasks_after, with_tasks}
-use Rattle.cluster_model.specs.Ids.{last_number, same}
+use Rattle.cluster_model.specs.Ids.{last_number}
 use Rattle.agent_core.specs.Records.{none_is_done}
 use Rattle.agent_core.specs.Spared.{command_spares, mail_spares, spares}
 

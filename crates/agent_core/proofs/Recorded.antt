@@ -7,7 +7,7 @@ use Rattle.std.proofs.lemmas.Bool.Decides.{nat_tests}
 use Rattle.std.proofs.Math.Bool.{and-false}
 use Rattle.std.proofs.lemmas.List.{length-map, length-append}
 use Rattle.std.proofs.lemmas.List.Folds.{list_all-append, list_any-append}
-use Rattle.names_core.specs.Ids.{Numbered}
+use Rattle.names_core.specs.Ids.{Numbered, before, same}
 use Rattle.names_core.specs.declared.state.TaskState.{TaskState}
 use Rattle.names_core.specs.declared.state.TaskState.TheVariants.{Killed}
 use Rattle.names_core.specs.States.{is_terminal}
@@ -22,7 +22,6 @@ use Rattle.mails.specs.declared.record.Durable.{Durable}
 use Rattle.mails.specs.declared.record.RecordedTask.{RecordedTask}
 use Rattle.mails.specs.declared.task.Job.{Job}
 use Rattle.cluster_model.specs.Agents.{Agent, acknowledged, has_ended, has_room, is_task, launched_task, live_tasks, stated, task_rows, tasks_after, with_session}
-use Rattle.cluster_model.specs.Ids.{before, same}
 use Rattle.agent_core.specs.Drafts.{launches_in_order}
 use Rattle.recorded_tasks.specs.Room.{Leaves}
 use Rattle.agent_core.specs.Records.{HasRoom, has_begun, is_behind, is_record, keys_rise, none_is_done, rise_behind, with_other_tasks}

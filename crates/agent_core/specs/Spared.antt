@@ -8,7 +8,7 @@ use Rattle.mails.specs.declared.mail.MasterMail.{MasterMail}
 use Rattle.mails.specs.declared.mail.MasterMail.TheVariants.{Hello, Issued}
 use Rattle.mails.specs.declared.record.RecordedTask.{RecordedTask}
 use Rattle.cluster_model.specs.Agents.{is_task}
-use Rattle.cluster_model.specs.Ids.{same}
+use Rattle.names_core.specs.Ids.{same}
 
 -- a command names neither a task nor its framework
 abbrev pub command_spares : Command → RecordedTask → Bool

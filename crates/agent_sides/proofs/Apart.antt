@@ -2,9 +2,9 @@
 use Rattle.std.proofs.Common.{◌≡◌, Bool, true, false, not, cond, ◌||◌, List, [], ◌∷◌, ◌++◌, map, filter, refl, sym, ap, ◌∙◌, arith}
 use Rattle.std.specs.List.{AllByRecursion, list_any}
 use Rattle.std.proofs.lemmas.Bool.Decides.{nat_tests}
-use Rattle.names_core.specs.Ids.{Numbered}
+use Rattle.names_core.specs.Ids.{Numbered, same}
 use Rattle.mails.specs.declared.task.Offer.{Offer}
-use Rattle.cluster_model.specs.Ids.{same, is_among, is_repeated}
+use Rattle.cluster_model.specs.Ids.{is_among, is_repeated}
 use Rattle.cluster_model.specs.Sides.{Side, is_named}
 use Rattle.cluster_model.specs.Masters.{is_of}
 use Rattle.offer_book.specs.Accounts as accounts

@@ -1,12 +1,11 @@
 -- What steps change of a side.
 use Rattle.std.specs.Prelude.{ℕ, not, if◌then◌else◌, List, [], ◌∷◌, ◌++◌, filter}
 use Rattle.std.specs.List.{list_any}
-use Rattle.names_core.specs.Ids.{Numbered}
+use Rattle.names_core.specs.Ids.{Numbered, same}
 use Rattle.mails.specs.declared.task.Offer.{Offer}
 use Rattle.mails.specs.declared.task.Booked.{Booked}
 use Rattle.quantity.specs.declared.rows.Row.{Row}
 use Rattle.quantity.specs.Rows.{covers}
-use Rattle.cluster_model.specs.Ids.{same}
 use Rattle.cluster_model.specs.Sides.{Side, new_side, opened, taken}
 use Rattle.cluster_model.specs.Masters.{is_of}
 use Rattle.roster.specs.Sessions.{report_opens}

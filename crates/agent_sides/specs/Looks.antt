@@ -1,8 +1,7 @@
 -- What is told of the master's sides, and sides by their agents' names.
 use Rattle.std.specs.Prelude.{ℕ, suc, ◌+◌, Bool, ◌&&◌, ◌==◌, if◌then◌else◌, List, [], ◌∷◌, length, map, filter, flat_map, Option, Some, None, bytes_eq}
-use Rattle.names_core.specs.Ids.{Numbered}
+use Rattle.names_core.specs.Ids.{Numbered, same}
 use Rattle.mails.specs.declared.task.Offer.{Offer}
-use Rattle.cluster_model.specs.Ids.{same}
 use Rattle.cluster_model.specs.Sides.{Side, withdrawn}
 use Rattle.cluster_model.specs.Masters.{Placed, is_task_of, placed_on}
 

@@ -1,12 +1,11 @@
 -- Offers that are made and tasks that are booked, each on the agent of a name.
 use Rattle.std.specs.Prelude.{ℕ, Bool, if◌then◌else◌, List, ◌++◌, Result, Ok, Err}
 use Rattle.std.specs.List.{list_any}
-use Rattle.names_core.specs.Ids.{Numbered}
+use Rattle.names_core.specs.Ids.{Numbered, same}
 use Rattle.quantity.specs.declared.rows.Row.{Row}
 use Rattle.quantity.specs.Rows.{covers}
 use Rattle.mails.specs.declared.task.Offer.{Offer}
 use Rattle.mails.specs.declared.task.Booked.{Booked}
-use Rattle.cluster_model.specs.Ids.{same}
 use Rattle.cluster_model.specs.Sides.{Side, taken}
 use Rattle.offer_book.specs.declared.fault.BookFault.{BookFault}
 use Rattle.offer_book.specs.declared.fault.BookFault.TheVariants.{Unknown, NoRoom, Twice}

@@ -52,9 +52,15 @@ impl<T: Drop> From<AllocFailed<T>> for ConfigFault {
 }
 
 /// At most 256 agents, in byte order of their names, none named twice.
-#[derive(Drop)]
 pub struct Config {
     agents: Vec<ConfiguredAgent>,
+}
+
+// By hand, so that who drops one goes through none of its parts.
+impl Drop for Config {
+    fn drop(self) {
+        let Config { agents: _ } = self;
+    }
 }
 
 impl Model for Config {

@@ -2,7 +2,7 @@
 
 ghost use Rattle.std.specs.Prelude.{◌≡◌, ◌&&◌, ◌==◌, false, not, suc, bytes_eq};
 ghost use Rattle.std.specs.List.{find, list_any};
-ghost use Rattle.cluster_model.specs.Ids.{same};
+ghost use Rattle.names_core.specs.Ids.{same};
 ghost use Rattle.cluster_model.specs.Masters.{has_returned, may_have_numbers};
 ghost use Rattle.offer_book.specs.Held.{all_placed, place, placed_on};
 ghost use Rattle.roster.specs.Places.{told_at};

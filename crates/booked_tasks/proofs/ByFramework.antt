@@ -7,9 +7,8 @@ use Rattle.std.proofs.lemmas.Bool.{true≢false, or_parts}
 use Rattle.std.proofs.lemmas.Bool.Decides.{nat_tests}
 use Rattle.std.proofs.lemmas.List.{append-nil, take_more}
 use Rattle.std.proofs.lemmas.List.Concat.{flat_map-append}
-use Rattle.names_core.specs.Ids.{Numbered}
+use Rattle.names_core.specs.Ids.{Numbered, same}
 use Rattle.mails.specs.declared.task.Booked.{Booked}
-use Rattle.cluster_model.specs.Ids.{same}
 use Rattle.id_spans.proofs.ByIds.{by_ids}
 use Rattle.booked_tasks.specs.Tasks.{has_key, key_of}
 use Rattle.booked_tasks.specs.Launches.{AreKeys, HasAllBut, HasOthers, HasTask, HasTasks, HasTasksIfKnown, Launches, has_launched, id_cmp, is_among, is_task_of, keys_in, keys_of, tasks_of}

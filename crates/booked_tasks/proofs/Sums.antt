@@ -7,13 +7,12 @@ use Rattle.std.proofs.lemmas.List.{take_more}
 use Rattle.quantity.specs.declared.rows.Row.{Row}
 use Rattle.quantity.specs.Rows.{amount, IsPlus, IsMinus}
 use Rattle.quantity.proofs.Amounts.{amount-append}
-use Rattle.names_core.specs.Ids.{Numbered}
+use Rattle.names_core.specs.Ids.{Numbered, same}
 use Rattle.names_core.specs.declared.state.TaskState.{TaskState}
 use Rattle.mails.specs.declared.task.Booked.{Booked}
 use Rattle.mails.specs.declared.mail.Command.{Command}
 use Rattle.mails.specs.declared.mail.Command.TheVariants.{Launch, Kill, Ack, EndFramework}
 use Rattle.names_core.specs.States.{is_terminal}
-use Rattle.cluster_model.specs.Ids.{same}
 use Rattle.cluster_model.specs.Sides.{heard_update, forget, forget_all}
 use Rattle.booked_tasks.specs.Tasks.{has_key, ended}
 use Rattle.booked_tasks.specs.Used.{unended_rows, freed_rows, used, freed, ends_framework, IsSum, IsSumIfKnown}

@@ -5,9 +5,8 @@ use Rattle.std.specs.List.{AllByRecursion, list_any}
 use Rattle.std.specs.Ordering.{nat_cmp, ordering_then}
 use Rattle.std.specs.declared.cmp.Ordering.{Ordering}
 use Rattle.std.specs.BTreeMap.{get_by}
-use Rattle.names_core.specs.Ids.{Numbered}
+use Rattle.names_core.specs.Ids.{Numbered, same}
 use Rattle.mails.specs.declared.task.Booked.{Booked}
-use Rattle.cluster_model.specs.Ids.{same}
 use Rattle.id_spans.specs.Spans.{AreRisingBy}
 use Rattle.booked_tasks.specs.Tasks.{has_key, key_of}
 pub use Rattle.booked_tasks.specs.declared.launches.Launches.{Launches}

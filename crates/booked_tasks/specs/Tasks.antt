@@ -1,10 +1,9 @@
 -- Booked tasks, by their launch keys.
 use Rattle.std.specs.Prelude.{ℕ, suc, Bool, true, ◌&&◌, ◌==◌, if◌then◌else◌, List, Option, None, Some}
 use Rattle.std.specs.List.{list_any}
-use Rattle.names_core.specs.Ids.{Numbered}
+use Rattle.names_core.specs.Ids.{Numbered, same}
 use Rattle.names_core.specs.States.{is_terminal}
 use Rattle.mails.specs.declared.task.Booked.{Booked}
-use Rattle.cluster_model.specs.Ids.{same}
 
 abbrev pub has_tasks_of : Numbered → List Booked → Bool
 has_tasks_of framework bs = list_any (λ b. same b.job.framework framework) bs

@@ -2,9 +2,8 @@
 
 ghost use Rattle.std.specs.Prelude.{◌≡◌, ◌<◌, ◌++◌, ◌∷◌, [], true, false, if◌then◌else◌, List, length, slice_index_or, OnOk, IfSome};
 ghost use Rattle.std.specs.List.{list_any};
-ghost use Rattle.names_core.specs.Ids.{Numbered};
+ghost use Rattle.names_core.specs.Ids.{Numbered, same};
 ghost use Rattle.mails.specs.declared.task.Booked.{Booked};
-ghost use Rattle.cluster_model.specs.Ids.{same};
 ghost use Rattle.booked_tasks.specs.Tasks.{has_key};
 ghost use Rattle.booked_tasks.specs.Launches.{HasAllBut, HasOthers, HasTasks, HasTasksIfKnown, is_task_of, keys_of};
 

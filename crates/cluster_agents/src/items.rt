@@ -9,9 +9,15 @@ use std::marker::Model;
 
 /// All calls and mails that were ever sent, in the order of sending:
 /// number n stands at place n - 1.
-#[derive(Drop)]
 pub struct Items {
     items: Vec<Item>,
+}
+
+// By hand, so that who drops one goes through none of its parts.
+impl Drop for Items {
+    fn drop(self) {
+        let Items { items: _ } = self;
+    }
 }
 
 impl Model for Items {

@@ -5,5 +5,3 @@ pub mod Safety
 pub mod Reading
 pub mod Stopping
 pub mod Running
-pub mod Recording
-pub mod Answering

@@ -5,7 +5,6 @@
 
 mod advancing;
 mod cluster;
-mod recorded;
 mod running;
 mod safety;
 mod stopping;
@@ -16,7 +15,6 @@ pub use cluster::Cluster;
 pub use cluster_entries::{Entry, Outputs};
 pub use cluster_openings::{fresh_agents_open, fresh_records, good_opening};
 pub use cluster_steps::{ClusterFault, Keep, Sent, Step, StepCause, Verdict};
-pub use recorded::RecordedCluster;
 pub use running::{open_fresh, run};
-pub use running_clusters::{Awaited, Given, KeptEntry};
+pub use running_clusters::KeptEntry;
 pub use taken::Taken;

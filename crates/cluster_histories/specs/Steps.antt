@@ -1,7 +1,7 @@
 -- Legal histories: a state and a step to the entry and the next state.
 use Rattle.std.specs.Prelude.{ℕ, suc, zero, Bool, false, not, nat_lt, nat_le, if◌then◌else◌, List, [], ◌∷◌, ◌++◌, length, map, filter, flat_map, drop, slice_get, Option, Some, None, Result, Ok, Err, bytes_eq}
 use Rattle.std.specs.List.{list_any, find}
-use Rattle.names_core.specs.Ids.{Numbered}
+use Rattle.names_core.specs.Ids.{Numbered, same}
 use Rattle.mails.specs.declared.call.Call.{Call}
 use Rattle.mails.specs.declared.mail.MasterMail.{MasterMail}
 use Rattle.mails.specs.declared.mail.AgentMail.{AgentMail}
@@ -12,7 +12,7 @@ use Rattle.mails.specs.declared.refusal.AgentRefusal.{AgentRefusal}
 use Rattle.mails.specs.declared.refusal.AgentRefusal.TheVariants.{NotForMe}
 use Rattle.mails.specs.declared.refusal.MasterRefusal.{MasterRefusal}
 use Rattle.role_weights.specs.Weights.{RoleWeight}
-use Rattle.cluster_model.specs.Ids.{same, last_number, last_run}
+use Rattle.cluster_model.specs.Ids.{last_number, last_run}
 use Rattle.cluster_model.specs.Agents.{Draft, next_of, hears_mail}
 use Rattle.cluster_model.specs.Sides.{SendHello}
 use Rattle.cluster_model.specs.Channels.{Channel, World, Happening, At, TearDown, Restart, Halt, ByMaster, Hear, ByAgent, AgentStep, Draw, DrawMail, Adopt, StopWithout, StopWith, after, after_all, open_world}

@@ -4,7 +4,7 @@ use Rattle.std.specs.Prelude.{if◌then◌else◌, ◌==◌}
 use Rattle.std.specs.List.{AllByRecursion as Each, list_any}
 use Rattle.std.proofs.lemmas.Bool.{cond_both, cases_Bool}
 use Rattle.std.proofs.lemmas.Bool.Decides.{nat_tests}
-use Rattle.names_core.specs.Ids.{Numbered}
+use Rattle.names_core.specs.Ids.{Numbered, same}
 use Rattle.names_core.specs.declared.state.TaskState.{TaskState}
 use Rattle.names_core.specs.declared.state.TaskState.TheVariants.{Killed}
 use Rattle.names_core.specs.States.{is_terminal}
@@ -21,7 +21,7 @@ use Rattle.mails.specs.declared.cause.Cause.{Cause}
 use Rattle.mails.specs.declared.cause.Cause.TheVariants.{Start, Mail, Executor, Again}
 use Rattle.mails.specs.declared.refusal.AgentRefusal.{AgentRefusal}
 use Rattle.mails.specs.declared.refusal.AgentRefusal.TheVariants.{OldSession, NotNext, NoSuchTask, Ended, NoRoom, UpdatesFull, SessionsSpent}
-use Rattle.cluster_model.specs.Ids.{same, last_number}
+use Rattle.cluster_model.specs.Ids.{last_number}
 use Rattle.cluster_model.specs.Agents.{Agent, Draft, has_ended, is_task, state_at, front_of, fronts, front_at, owning, reopened, reports, opens_next, starts, stated, acknowledged, launched_task, tasks_after, is_front_at, fronts_after, with_tasks, after_command, applies, has_room, hears_mail, needs_place, executes, next_of}
 use Rattle.cluster_model.specs.Channels.{Channel, is_own}
 use Rattle.cluster_histories.specs.Clusters.{Post}

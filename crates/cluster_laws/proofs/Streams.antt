@@ -5,14 +5,14 @@ use Rattle.std.specs.List.{AllByRecursion as Each}
 use Rattle.std.proofs.lemmas.Bool.{cond_both}
 use Rattle.std.proofs.lemmas.Bool.Decides.{nat_tests}
 use Rattle.std.proofs.lemmas.List.{map-append}
-use Rattle.names_core.specs.Ids.{Numbered}
+use Rattle.names_core.specs.Ids.{Numbered, same, before}
 use Rattle.mails.specs.declared.mail.AgentMail.{AgentMail}
 use Rattle.mails.specs.declared.mail.MasterMail.{MasterMail}
 use Rattle.mails.specs.declared.record.Durable.{Durable}
 use Rattle.mails.specs.declared.cause.Cause.TheVariants.{Start, Executor, Again}
 use Rattle.mails.specs.declared.refusal.AgentRefusal.{AgentRefusal}
 use Rattle.mails.specs.declared.refusal.AgentRefusal.TheVariants.{NotForMe}
-use Rattle.cluster_model.specs.Ids.{same, before, last_number, last_run}
+use Rattle.cluster_model.specs.Ids.{last_number, last_run}
 use Rattle.cluster_model.specs.Agents.{Draft, hears_mail, next_of}
 use Rattle.cluster_model.specs.Sides.{Run}
 use Rattle.cluster_model.specs.Channels.{Channel, AgentStep, Draw, DrawMail, Adopt, StopWithout, StopWith, Hear, ByAgent, Happening, At, Restart, Halt, after, after_all}

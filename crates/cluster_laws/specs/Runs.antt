@@ -1,9 +1,8 @@
 -- What a master's step keeps of its run, and the order of the streams that it opens.
 use Rattle.std.specs.Prelude.{◌≡◌, ◌⊎◌, suc, true, List, [], ◌∷◌, map, Some, ⊤}
 use Rattle.std.specs.List.{AllByRecursion as Each}
-use Rattle.names_core.specs.Ids.{Numbered}
+use Rattle.names_core.specs.Ids.{Numbered, before}
 use Rattle.mails.specs.declared.refusal.MasterRefusal.{MasterRefusal}
-use Rattle.cluster_model.specs.Ids.{before}
 use Rattle.cluster_model.specs.Sides.{Run}
 use Rattle.cluster_model.specs.Masters.{Doing, Master, Move, AtSide, TearDownAll, RestartAll, HaltAll, refused}
 use Rattle.cluster_model.specs.Calls.{new_stream}

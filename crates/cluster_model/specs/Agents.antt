@@ -2,7 +2,7 @@
 -- section 3.2: agents run tasks and report them).
 use Rattle.std.specs.Prelude.{ℕ, suc, zero, max, Bool, true, false, not, ◌&&◌, ◌||◌, ◌==◌, nat_lt, nat_le, if◌then◌else◌, List, [], ◌∷◌, ◌++◌, length, map, filter, flat_map, Option, Some, None, Result, Ok, Err, bytes_eq}
 use Rattle.std.specs.List.{list_any}
-use Rattle.names_core.specs.Ids.{Numbered}
+use Rattle.names_core.specs.Ids.{Numbered, same}
 use Rattle.names_core.specs.declared.state.TaskState.{TaskState}
 use Rattle.names_core.specs.declared.state.TaskState.TheVariants.{Staging, Killed}
 use Rattle.names_core.specs.States.{is_terminal}
@@ -23,7 +23,7 @@ use Rattle.mails.specs.declared.cause.Cause.{Cause}
 use Rattle.mails.specs.declared.cause.Cause.TheVariants.{Start, Mail, Executor, Again}
 use Rattle.mails.specs.declared.refusal.AgentRefusal.{AgentRefusal}
 use Rattle.mails.specs.declared.refusal.AgentRefusal.TheVariants.{NotForMe, OldSession, NotNext, NoSuchTask, Ended, NoRoom, UpdatesFull, SessionsSpent, TotalLess}
-use Rattle.cluster_model.specs.Ids.{same, last_number}
+use Rattle.cluster_model.specs.Ids.{last_number}
 
 -- an agent that runs: its record, whether its session is open,
 -- and how many commands of that session it has applied

@@ -1,7 +1,7 @@
 -- What the master does at each call of a framework (Mesos scheduler HTTP API, Calls).
 use Rattle.std.specs.Prelude.{ℕ, suc, ◌+◌, Bool, true, false, not, ◌&&◌, ◌||◌, ◌==◌, nat_lt, nat_le, if◌then◌else◌, List, [], ◌∷◌, ◌++◌, length, map, filter, flat_map, fold, Option, Some, None, bytes_eq}
 use Rattle.std.specs.List.{list_any, find}
-use Rattle.names_core.specs.Ids.{Numbered}
+use Rattle.names_core.specs.Ids.{Numbered, same}
 use Rattle.names_core.specs.declared.state.TaskState.{TaskState}
 use Rattle.names_core.specs.declared.state.TaskState.TheVariants.{Lost, Error}
 use Rattle.quantity.specs.declared.rows.Row.{Row}
@@ -12,7 +12,7 @@ use Rattle.mails.specs.declared.call.Call.TheVariants.{Subscribe, Teardown, Acce
 use Rattle.mails.specs.declared.call.TaskInfo.{TaskInfo}
 use Rattle.mails.specs.declared.call.ReconciledTask.{ReconciledTask}
 use Rattle.mails.specs.declared.refusal.MasterRefusal.TheVariants.{NotSubscribed, WrongStream, NoSuchFramework, LimitExceeded}
-use Rattle.cluster_model.specs.Ids.{same, following, each_once, is_empty, last_number}
+use Rattle.cluster_model.specs.Ids.{following, each_once, is_empty, last_number}
 use Rattle.cluster_model.specs.Sides.{Side, LaunchFrom, SendKill, SendAck, SendEnd, is_named, is_good, used_offers, offer_rows, just_booked}
 use Rattle.cluster_model.specs.Events.{MadeOffer, StreamEvent, Subscribed, update_event, failover_error, removal_error}
 use Rattle.cluster_model.specs.Masters.{Master, Registers, Framework, Doing, Move, AtSide, TearDownAll, Placed, nothing, refused, saying, moving, keeping, framework_of, is_torn, with_framework, stream_of, on_stream, all_booked, put_placed, is_task_of, held_among, held, is_of, withdraws, add_filter, side_of, has_numbers, may_have_numbers, has_returned}

@@ -1,13 +1,7 @@
--- Ids and launch keys in their order: by run, then by number.
+-- Ids and launch keys: those that follow, lists of them; and the last numbers.
 use Rattle.std.specs.Prelude.{ℕ, suc, Bool, true, false, not, ◌&&◌, ◌||◌, ◌==◌, nat_lt, List, [], ◌∷◌, filter}
 use Rattle.std.specs.List.{list_any}
-use Rattle.names_core.specs.Ids.{Numbered}
-
-abbrev pub same : Numbered → Numbered → Bool
-same a b = a.n == b.n && a.run == b.run
-
-abbrev pub before : Numbered → Numbered → Bool
-before a b = nat_lt a.run b.run || (a.run == b.run && nat_lt a.n b.n)
+use Rattle.names_core.specs.Ids.{Numbered, same}
 
 -- the first number of a run
 abbrev pub first_of_run : ℕ → Numbered

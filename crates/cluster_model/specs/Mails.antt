@@ -1,7 +1,7 @@
 -- What the master does at an agent's mail, at a Tick, when it loses an agent, and at a hang-up.
 use Rattle.std.specs.Prelude.{◌<◌, ⊤, ℕ, suc, ◌+◌, Bool, not, ◌&&◌, ◌==◌, nat_lt, nat_le, if◌then◌else◌, List, [], ◌∷◌, ◌++◌, map, filter, flat_map, Option, Some, None, bytes_eq}
 use Rattle.std.specs.List.{list_any, find}
-use Rattle.names_core.specs.Ids.{Numbered}
+use Rattle.names_core.specs.Ids.{Numbered, same}
 use Rattle.names_core.specs.declared.state.TaskState.{TaskState}
 use Rattle.names_core.specs.declared.state.TaskState.TheVariants.{Lost}
 use Rattle.mails.specs.declared.task.Offer.{Offer}
@@ -11,7 +11,6 @@ use Rattle.mails.specs.declared.mail.AgentMail.TheVariants.{Report, Applied, Upd
 use Rattle.mails.specs.declared.refusal.MasterRefusal.{MasterRefusal}
 use Rattle.mails.specs.declared.refusal.MasterRefusal.TheVariants.{OtherRun, OldSession, Closed, NotOpen}
 use Rattle.stream_core.specs.Updates.{most_updates}
-use Rattle.cluster_model.specs.Ids.{same}
 use Rattle.cluster_model.specs.Sides.{Run, Side, SendEnd, SendHello, SendAgain, Lose, opens, heard}
 use Rattle.cluster_model.specs.Events.{StreamEvent, Rescind, Failure, Heartbeat, update_event}
 use Rattle.cluster_model.specs.Masters.{Master, Framework, Doing, Move, AtSide, nothing, refused, saying, tells, tells_all, on_stream, is_torn, is_of, withdraws, with_framework, without_filters_on}

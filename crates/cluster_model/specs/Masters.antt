@@ -1,7 +1,7 @@
 -- The master: its sides of all agents, what it knows of frameworks, and what a step of it does.
 use Rattle.std.specs.Prelude.{ℕ, ◌+◌, Bool, true, false, not, ◌&&◌, ◌||◌, ◌==◌, nat_lt, nat_le, if◌then◌else◌, cond, List, [], ◌∷◌, ◌++◌, length, map, filter, flat_map, fold, Option, Some, None, bytes_eq}
 use Rattle.std.specs.List.{find}
-use Rattle.names_core.specs.Ids.{Numbered}
+use Rattle.names_core.specs.Ids.{Numbered, same, before}
 use Rattle.quantity.specs.declared.rows.Row.{Row}
 use Rattle.mails.specs.declared.task.Offer.{Offer}
 use Rattle.mails.specs.declared.task.Booked.{Booked}
@@ -9,7 +9,7 @@ use Rattle.mails.specs.declared.mail.ToAgent.{ToAgent}
 use Rattle.mails.specs.declared.refusal.MasterRefusal.{MasterRefusal}
 pub use Rattle.mails.specs.declared.framework.Filter.{Filter}
 pub use Rattle.mails.specs.declared.framework.Framework.{Framework}
-use Rattle.cluster_model.specs.Ids.{same, before, is_among, last_number}
+use Rattle.cluster_model.specs.Ids.{is_among, last_number}
 use Rattle.cluster_model.specs.Sides.{Run, Side, Sending, SideStep, Withdraw, new_run, side_step, torn_down, halted, restarted}
 use Rattle.cluster_model.specs.Events.{Event, StreamEvent}
 

@@ -1,11 +1,11 @@
 -- Rounds of offers by dominant shares (DRF paper, section 4; Mesos paper, section 3.1).
 use Rattle.std.specs.Prelude.{ℕ, ◌*◌, ◌+◌, Bool, true, false, not, ◌&&◌, ◌||◌, nat_lt, nat_le, if◌then◌else◌, List, [], ◌∷◌, ◌++◌, length, map, filter, flat_map, fold, drop, Option, Some, None, bytes_eq}
 use Rattle.std.specs.List.{list_any, list_all}
-use Rattle.names_core.specs.Ids.{Numbered}
+use Rattle.names_core.specs.Ids.{Numbered, same, before}
 use Rattle.quantity.specs.declared.rows.Row.{Row}
 use Rattle.quantity.specs.Rows.{amount, covers, rest_of}
 use Rattle.role_weights.specs.Weights.{RoleWeight, weight_of}
-use Rattle.cluster_model.specs.Ids.{same, before, following, bytes_before, last_number}
+use Rattle.cluster_model.specs.Ids.{following, bytes_before, last_number}
 use Rattle.cluster_model.specs.Sides.{Side, MakeOffer, taken, offer_rows, job_rows, unended}
 use Rattle.cluster_model.specs.Events.{MadeOffer, StreamEvent, Offers, offer_of}
 use Rattle.cluster_model.specs.Masters.{Master, Framework, Filter, Doing, Move, AtSide, moved, on_stream}

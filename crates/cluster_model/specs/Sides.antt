@@ -2,7 +2,7 @@
 -- section 3.5: soft state, rebuilt from agents' reports).
 use Rattle.std.specs.Prelude.{ℕ, suc, ◌+◌, ◌-◌, Bool, true, false, not, ◌&&◌, ◌||◌, ◌==◌, nat_lt, nat_le, if◌then◌else◌, List, [], ◌∷◌, ◌++◌, length, map, filter, flat_map, drop, take}
 use Rattle.std.specs.List.{list_any, list_all}
-use Rattle.names_core.specs.Ids.{Numbered}
+use Rattle.names_core.specs.Ids.{Numbered, same}
 use Rattle.names_core.specs.States.{is_terminal}
 use Rattle.names_core.specs.declared.state.TaskState.{TaskState}
 use Rattle.names_core.specs.declared.state.TaskState.TheVariants.{Staging}
@@ -17,7 +17,7 @@ use Rattle.mails.specs.declared.mail.MasterMail.{MasterMail}
 use Rattle.mails.specs.declared.mail.MasterMail.TheVariants.{Hello, Issued}
 use Rattle.mails.specs.declared.mail.AgentMail.{AgentMail}
 use Rattle.mails.specs.declared.mail.AgentMail.TheVariants.{Report, Applied, Update}
-use Rattle.cluster_model.specs.Ids.{same, following, first_of_run, is_among, is_repeated, is_empty}
+use Rattle.cluster_model.specs.Ids.{following, first_of_run, is_among, is_repeated, is_empty}
 
 -- the master's run, as all sides see it
 pub record Run : Type 0 where

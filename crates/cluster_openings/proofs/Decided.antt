@@ -8,8 +8,7 @@ use Rattle.std.proofs.lemmas.List.Sums.{sum_by-append, sum_by-cons}
 use Rattle.mails.specs.declared.record.Durable.{Durable}
 use Rattle.mails.specs.declared.record.RecordedTask.{RecordedTask}
 use Rattle.mails.specs.declared.task.Job.{Job}
-use Rattle.names_core.specs.Ids.{Numbered}
-use Rattle.cluster_model.specs.Ids.{before, same}
+use Rattle.names_core.specs.Ids.{Numbered, before, same}
 use Rattle.quantity.proofs.Amounts.{covers_is_at_least}
 use Rattle.quantity.specs.Laws.{CoversIsAtLeast}
 use Rattle.quantity.specs.Rows.{amount, covers, part_of}

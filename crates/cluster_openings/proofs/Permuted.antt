@@ -10,8 +10,7 @@ use Rattle.std.proofs.lemmas.List.Sums.{sum_by-append, sum_by-cons}
 use Rattle.mails.specs.declared.record.Durable.{Durable}
 use Rattle.mails.specs.declared.record.RecordedTask.{RecordedTask}
 use Rattle.mails.specs.declared.task.Job.{Job}
-use Rattle.names_core.specs.Ids.{Numbered}
-use Rattle.cluster_model.specs.Ids.{same}
+use Rattle.names_core.specs.Ids.{Numbered, same}
 use Rattle.cluster_model.specs.Openings.{GoodOpening, KeysOnce, NamesOnce, RecordFits, recorded_jobs}
 use Rattle.cluster_laws.proofs.Lists.{bytes_refl, bytes_same, each_append}
 use Rattle.cluster_safe.proofs.Ids.{same_is, same_refl}

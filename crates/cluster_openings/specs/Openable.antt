@@ -1,11 +1,10 @@
 -- Tests of records over which a cluster may be opened.
 use Rattle.std.specs.Prelude.{◌≡◌, ℕ, Bool, true, false, not, ◌&&◌, nat_lt, List, [], ◌∷◌, bytes_eq}
 use Rattle.std.specs.List.{list_all, list_any}
-use Rattle.names_core.specs.Ids.{Numbered}
+use Rattle.names_core.specs.Ids.{Numbered, same}
 use Rattle.quantity.specs.Rows.{covers}
 use Rattle.agent_core.specs.Records.{keys_rise}
 use Rattle.agent_sides.specs.declared.config.ConfiguredAgent.{ConfiguredAgent}
-use Rattle.cluster_model.specs.Ids.{same}
 use Rattle.mails.specs.declared.record.Durable.{Durable}
 use Rattle.mails.specs.declared.record.RecordedTask.{RecordedTask}
 

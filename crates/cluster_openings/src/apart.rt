@@ -2,7 +2,7 @@
 
 ghost use Rattle.std.specs.Prelude.{◌≡◌, true};
 ghost use Rattle.agent_core.specs.Records.{keys_rise};
-ghost use Rattle.cluster_model.specs.Ids.{before};
+ghost use Rattle.names_core.specs.Ids.{before};
 ghost use Rattle.cluster_openings.specs.Openable.{are_keys_apart, are_keys_new, share_key};
 
 use agent_core::Record;

@@ -4,7 +4,7 @@ use Rattle.std.specs.Prelude.{⊤, ◌==◌, if◌then◌else◌}
 use Rattle.std.specs.List.{AllByRecursion as Each, find, list_any, list_all}
 use Rattle.std.proofs.lemmas.Bool.{cond_both, or_right}
 use Rattle.std.specs.Cmp.Lexicographic.{bytes_decides}
-use Rattle.names_core.specs.Ids.{Numbered}
+use Rattle.names_core.specs.Ids.{Numbered, same}
 use Rattle.quantity.specs.Rows.{covers}
 use Rattle.mails.specs.declared.call.Call.{Call}
 use Rattle.mails.specs.declared.call.Call.TheVariants.{Accept}
@@ -25,7 +25,7 @@ use Rattle.cluster_steps.specs.declared.step.Step.TheVariants.{Deliver}
 use Rattle.cluster_steps.specs.declared.fault.ClusterFault.{ClusterFault}
 use Rattle.cluster_steps.specs.declared.fault.ClusterFault.TheVariants.{MasterDown, HistoryFull}
 use Rattle.cluster_steps.specs.declared.verdict.Verdict.TheVariants.{Ok as Fine}
-use Rattle.cluster_model.specs.Ids.{same, first_of_run, is_among, is_empty, is_repeated, last_number}
+use Rattle.cluster_model.specs.Ids.{first_of_run, is_among, is_empty, is_repeated, last_number}
 use Rattle.cluster_model.specs.Masters.{Framework, Master, Doing, refused, framework_of, is_torn, withdraws_on}
 use Rattle.cluster_model.specs.Openings.{NamesOnce}
 use Rattle.cluster_model.specs.Sides.{Run, Side, Sending, sends_nothing, issue, Launching, launch_all, is_named, has_offer, is_good, used_offers, without_used, offer_rows, taken, may_offer, accepted, heard_update, forget_all, last_session, opens, opened, counts, shut, SideStep, MakeOffer, Withdraw, LaunchFrom, SendKill, SendAck, SendEnd, SendHello, SendAgain, Lose, side_step}

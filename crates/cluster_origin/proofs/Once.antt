@@ -3,7 +3,7 @@ use Rattle.std.proofs.Common.{◌≡◌, ◌≢◌, ℕ, true, List, [], ◌∷�
 use Rattle.std.specs.Prelude.{◌⊎◌, ⊤}
 use Rattle.std.specs.List.{AllByRecursion as Each}
 use Rattle.std.proofs.lemmas.Bool.{cond_both}
-use Rattle.names_core.specs.Ids.{Numbered}
+use Rattle.names_core.specs.Ids.{Numbered, same}
 use Rattle.mails.specs.declared.mail.Command.TheVariants.{Launch, Kill, Ack, EndFramework}
 use Rattle.mails.specs.declared.mail.MasterMail.{MasterMail}
 use Rattle.mails.specs.declared.mail.MasterMail.TheVariants.{Hello, Issued}
@@ -18,7 +18,7 @@ use Rattle.cluster_steps.specs.declared.step.Step.TheVariants.{Tick}
 use Rattle.cluster_steps.specs.declared.verdict.Sent.{Sent}
 use Rattle.cluster_steps.specs.declared.verdict.Sent.TheVariants.{Call as CallSent, ToAgent as MailToAgent, ToMaster as MailToMaster}
 use Rattle.cluster_steps.specs.declared.fault.ClusterFault.{ClusterFault}
-use Rattle.cluster_model.specs.Ids.{same, is_among}
+use Rattle.cluster_model.specs.Ids.{is_among}
 use Rattle.cluster_model.specs.Openings.{GoodOpening, KeysOnce, recorded_jobs}
 use Rattle.cluster_model.specs.Sides.{is_named, job_rows, offer_rows}
 use Rattle.cluster_histories.specs.Steps.{Setup, Done, hello_to, Marked, History, step_marked, opening, extended, extend_all, history}

@@ -2,7 +2,7 @@
 use Rattle.std.proofs.Common.{◌≡◌, true, not, ◌&&◌, List, [], ◌∷◌, ◌++◌, fold, refl, sym, ap, ◌∙◌, subst, bytes_eq, Option, Some, None}
 use Rattle.std.specs.Prelude.{⊤}
 use Rattle.std.proofs.lemmas.Bool.{cond_both, cond-true, and_from}
-use Rattle.names_core.specs.Ids.{Numbered}
+use Rattle.names_core.specs.Ids.{Numbered, same}
 use Rattle.quantity.specs.declared.rows.Row.{Row}
 use Rattle.quantity.specs.Rows.{covers}
 use Rattle.mails.specs.declared.task.Job.{Job}
@@ -10,7 +10,7 @@ use Rattle.mails.specs.declared.mail.Command.{Command}
 use Rattle.mails.specs.declared.mail.Command.TheVariants.{Launch}
 use Rattle.mails.specs.declared.call.TaskInfo.{TaskInfo}
 use Rattle.names_core.specs.declared.state.TaskState.TheVariants.{Error}
-use Rattle.cluster_model.specs.Ids.{same, following, is_empty}
+use Rattle.cluster_model.specs.Ids.{following, is_empty}
 use Rattle.cluster_model.specs.Sides.{Run, Side, Sending, sends_nothing, issue, may_launch, books, Launching, launch_one}
 use Rattle.cluster_model.specs.Masters.{Framework, Master, Placed, all_booked, held_among}
 use Rattle.cluster_model.specs.Calls.{answers, Given, Accepting, is_covered, job_of, launching, answering, accepts_as, accepts_one, accepts_all}

@@ -2,10 +2,10 @@
 use Rattle.std.proofs.Common.{◌≡◌, ◌≢◌, ℕ, suc, zero, ◌<◌, true, false, List, [], ◌∷◌, ◌++◌, length, drop, take, slice_get, Some, refl, ap, subst, inl, inr, arith}
 use Rattle.std.proofs.lemmas.Bool.{cases_Bool}
 use Rattle.std.specs.List.{AllByRecursion as Each}
-use Rattle.names_core.specs.Ids.{Numbered}
+use Rattle.names_core.specs.Ids.{Numbered, same}
 use Rattle.mails.specs.declared.mail.Command.{Command}
 use Rattle.mails.specs.declared.mail.Command.TheVariants.{Launch, Kill, Ack, EndFramework}
-use Rattle.cluster_model.specs.Ids.{same, is_among}
+use Rattle.cluster_model.specs.Ids.{is_among}
 use Rattle.cluster_safe.specs.Facts.{Stake, Fades, launches, NotOf, EndsKept, Ordered, EndsTorn}
 use Rattle.cluster_safe.proofs.Orders.{each_append, jobs_faded}
 

@@ -5,7 +5,7 @@ use Rattle.std.specs.List.{AllByRecursion as Each, list_any}
 use Rattle.std.proofs.lemmas.Bool.{cond_both, cases_lt}
 use Rattle.std.proofs.lemmas.Bool.Decides.{nat_tests, Decides-eqb}
 use Rattle.std.proofs.lemmas.List.{map-append}
-use Rattle.names_core.specs.Ids.{Numbered}
+use Rattle.names_core.specs.Ids.{Numbered, same}
 use Rattle.names_core.specs.declared.state.TaskState.{TaskState}
 use Rattle.quantity.specs.declared.rows.Row.{Row}
 use Rattle.quantity.specs.Rows.{amount, covers}
@@ -22,7 +22,7 @@ use Rattle.mails.specs.declared.cause.Cause.TheVariants.{Start, Mail, Executor, 
 use Rattle.mails.specs.declared.refusal.AgentRefusal.TheVariants.{OldSession, NotNext, NoSuchTask, Ended, NoRoom, UpdatesFull, SessionsSpent, TotalLess}
 use Rattle.names_core.specs.declared.state.TaskState.TheVariants.{Killed}
 use Rattle.stream_core.specs.Updates.{is_full, is_done}
-use Rattle.cluster_model.specs.Ids.{same, last_number}
+use Rattle.cluster_model.specs.Ids.{last_number}
 use Rattle.cluster_model.specs.Agents.{Agent, Draft, has_ended, is_task, fronts, front_at, owning, reopened, reports, opens_next, opens_again, starts, stated, acknowledged, launched_task, tasks_after, is_front_at, fronts_after, with_tasks, after_command, applies, has_room, hears_mail, needs_place, next_of}
 use Rattle.cluster_model.specs.Channels.{InRun}
 use Rattle.cluster_safe.specs.Facts.{Stake, Past, Fades, task_stake, launches, coming, stakes, NotOf, EndsKept, Ordered, AtMost, StateOk, DownOk, IsReportOf, UpOk, drafted, mails_of, states_of, PastOk, Facts}

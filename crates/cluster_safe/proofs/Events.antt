@@ -3,7 +3,7 @@ use Rattle.std.proofs.Common.{ℕ, suc, Bool, true, false, not, ◌&&◌, ◌||�
 use Rattle.std.specs.Prelude.{IfSome, ⊤, if◌then◌else◌}
 use Rattle.std.specs.List.{AllByRecursion as Each, find, list_any}
 use Rattle.std.proofs.lemmas.Bool.{cond_both}
-use Rattle.names_core.specs.Ids.{Numbered}
+use Rattle.names_core.specs.Ids.{Numbered, same}
 use Rattle.names_core.specs.Updates.{Update as Uuid}
 use Rattle.names_core.specs.declared.state.TaskState.{TaskState}
 use Rattle.mails.specs.declared.task.Offer.{Offer}
@@ -15,7 +15,7 @@ use Rattle.mails.specs.declared.call.ReconciledTask.{ReconciledTask}
 use Rattle.mails.specs.declared.call.TaskInfo.{TaskInfo}
 use Rattle.names_core.specs.declared.state.TaskState.TheVariants.{Lost, Error}
 use Rattle.role_weights.specs.Weights.{RoleWeight}
-use Rattle.cluster_model.specs.Ids.{same, last_number}
+use Rattle.cluster_model.specs.Ids.{last_number}
 use Rattle.cluster_model.specs.Sides.{Side, opens, SendKill, SendAck, SendEnd, SendHello, Lose}
 use Rattle.cluster_model.specs.Events.{MadeOffer, Event, StreamEvent, failover_error, offer_of, update_event}
 use Rattle.scheduler_events.specs.declared.event.Event.TheVariants as events

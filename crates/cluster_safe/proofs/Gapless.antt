@@ -6,7 +6,7 @@ use Rattle.std.proofs.lemmas.Bool.{cond_both, cases_Bool, cases_lt}
 use Rattle.std.proofs.lemmas.Bool.Decides.{nat_tests}
 use Rattle.std.proofs.lemmas.List.Folds.{list_any-append}
 use Rattle.std.proofs.lemmas.List.Sums.{fold-append}
-use Rattle.names_core.specs.Ids.{Numbered}
+use Rattle.names_core.specs.Ids.{Numbered, same}
 use Rattle.names_core.specs.Updates.{Update as Uuid}
 use Rattle.names_core.specs.declared.state.TaskState.{TaskState}
 use Rattle.mails.specs.declared.task.Job.{Job}
@@ -15,7 +15,6 @@ use Rattle.mails.specs.declared.record.RecordedTask.{RecordedTask}
 use Rattle.mails.specs.declared.call.Call.{Call}
 use Rattle.mails.specs.declared.call.Call.TheVariants.{Subscribe, Teardown, Accept, Decline, Revive, Suppress, Acknowledge, Reconcile}
 use Rattle.mails.specs.declared.call.Call.TheVariants as calls
-use Rattle.cluster_model.specs.Ids.{same}
 use Rattle.cluster_model.specs.Channels.{Channel, World, Happening, after_all, open_channel, open_world}
 use Rattle.cluster_histories.specs.Clusters.{Post, Called, Down, Up, Entry}
 use Rattle.cluster_steps.specs.declared.step.Step.{Step}

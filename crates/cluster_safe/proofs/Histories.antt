@@ -5,7 +5,7 @@ use Rattle.std.specs.List.{AllByRecursion as Each, find, list_any}
 use Rattle.std.proofs.lemmas.Bool.{cond_both}
 use Rattle.mails.specs.declared.call.Call.TheVariants.{Subscribe, Teardown, Accept, Decline, Revive, Suppress, Acknowledge, Reconcile}
 use Rattle.mails.specs.declared.call.Call.TheVariants as calls
-use Rattle.names_core.specs.Ids.{Numbered}
+use Rattle.names_core.specs.Ids.{Numbered, same}
 use Rattle.names_core.specs.declared.state.TaskState.{TaskState}
 use Rattle.quantity.specs.declared.rows.Row.{Row}
 use Rattle.quantity.specs.Rows.{covers}
@@ -21,7 +21,7 @@ use Rattle.mails.specs.declared.call.Call.{Call}
 use Rattle.mails.specs.declared.cause.Cause.TheVariants.{Start, Executor, Again}
 use Rattle.mails.specs.declared.refusal.AgentRefusal.TheVariants.{NotForMe, OldSession, NoSuchTask, Ended, NoRoom, UpdatesFull, SessionsSpent, TotalLess}
 use Rattle.stream_core.specs.Updates.{is_full}
-use Rattle.cluster_model.specs.Ids.{same, last_number, last_run}
+use Rattle.cluster_model.specs.Ids.{last_number, last_run}
 use Rattle.cluster_model.specs.Agents.{Agent, Draft, has_ended, is_task, front_at, owning, reopened, reports, opens_next, opens_again, starts, stated, with_tasks, hears_mail, needs_place, executes, next_of}
 use Rattle.cluster_model.specs.Sides.{Run, Side}
 use Rattle.cluster_model.specs.Channels.{Channel, AgentStep, Draw, DrawMail, Adopt, StopWithout, StopWith, Hear, ByAgent, World, Happening, At, Restart, Halt, after, after_all, open_channel, open_world, AllFit}

@@ -1,8 +1,8 @@
 -- Ids in their order.
 use Rattle.std.proofs.Common.{◌≡◌, ◌≢◌, true, refl, subst, arith}
 use Rattle.std.proofs.lemmas.Bool.Decides.{nat_tests}
-use Rattle.names_core.specs.Ids.{Numbered}
-use Rattle.cluster_model.specs.Ids.{same, following}
+use Rattle.names_core.specs.Ids.{Numbered, same}
+use Rattle.cluster_model.specs.Ids.{following}
 use Rattle.cluster_safe.specs.Facts.{Less, UpTo}
 
 pub same_refl : (a : Numbered) → same a a ≡ true

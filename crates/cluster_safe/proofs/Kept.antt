@@ -5,7 +5,7 @@ use Rattle.std.specs.List.{AllByRecursion as Each, list_all}
 use Rattle.std.proofs.lemmas.Bool.{cond_both, cond-true, or_left}
 use Rattle.std.proofs.lemmas.Bool.Decides.{nat_tests, Decides-eqb}
 use Rattle.std.proofs.lemmas.List.{drop-drop, drop-take}
-use Rattle.names_core.specs.Ids.{Numbered}
+use Rattle.names_core.specs.Ids.{Numbered, same}
 use Rattle.names_core.specs.declared.state.TaskState.{TaskState}
 use Rattle.names_core.specs.States.{is_terminal}
 use Rattle.quantity.specs.declared.rows.Row.{Row}
@@ -22,7 +22,7 @@ use Rattle.mails.specs.declared.mail.AgentMail.TheVariants.{Report, Applied, Upd
 use Rattle.mails.specs.declared.refusal.AgentRefusal.{AgentRefusal}
 use Rattle.mails.specs.declared.cause.Cause.{Cause}
 use Rattle.mails.specs.declared.cause.Cause.TheVariants.{Start, Mail, Executor, Again}
-use Rattle.cluster_model.specs.Ids.{same, first_of_run, following, is_among, is_repeated, is_empty}
+use Rattle.cluster_model.specs.Ids.{first_of_run, following, is_among, is_repeated, is_empty}
 use Rattle.cluster_model.specs.Agents.{Agent, Draft, live_tasks, recovered, hears_mail, next_of}
 use Rattle.cluster_model.specs.Sides.{Run, Side, new_run, torn_down, unended, job_rows, offer_rows, taken, Sending, sends_nothing, issue, oldest_again, may_launch, books, launch_all, is_named, has_offer, is_good, used_offers, without_used, accepted, may_offer, offered, withdrawn, heard_update, forget, forget_all, last_session, opens, opened, counts, shut, lost, halted, restarted, SideStep, MakeOffer, Withdraw, LaunchFrom, SendKill, SendAck, SendEnd, SendHello, SendAgain, Lose, side_step}
 use Rattle.cluster_model.specs.Channels.{Channel, InRun, AgentStep, Draw, DrawMail, Adopt, StopWithout, StopWith, drawn, drawn_mail, adopted, stopped_with, agent_step, ChannelStep, ByMaster, Hear, ByAgent, heard_mail, happens, with_side, halted_run, Fits}

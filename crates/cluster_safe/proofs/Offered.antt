@@ -4,11 +4,11 @@ use Rattle.std.specs.Prelude.{⊤, if◌then◌else◌}
 use Rattle.std.specs.List.{AllByRecursion as Each, list_any}
 use Rattle.std.proofs.lemmas.Bool.{cond_both}
 use Rattle.std.proofs.Math.Seq.{drop-append_seam}
-use Rattle.names_core.specs.Ids.{Numbered}
+use Rattle.names_core.specs.Ids.{Numbered, same}
 use Rattle.quantity.specs.declared.rows.Row.{Row}
 use Rattle.mails.specs.declared.task.Offer.{Offer}
 use Rattle.role_weights.specs.Weights.{RoleWeight}
-use Rattle.cluster_model.specs.Ids.{same, following, last_number}
+use Rattle.cluster_model.specs.Ids.{following, last_number}
 use Rattle.cluster_model.specs.Events.{MadeOffer, Offers, StreamEvent, offer_of}
 use Rattle.cluster_model.specs.Sides.{Run, Side, MakeOffer, may_offer, offered, sends_nothing}
 use Rattle.cluster_model.specs.Masters.{Master, Framework, AtSide, Moved, past_side, at_this_side, at_side, move, move_all, moved, unmoved, on_stream}

@@ -2,14 +2,13 @@
 use Rattle.std.proofs.Common.{◌≡◌, ◌≢◌, ◌⊎◌, ℕ, suc, zero, Bool, true, false, not, ◌&&◌, List, [], ◌∷◌, ◌++◌, slice_get, Some, filter, map, refl, sym, ap, ◌∙◌, subst, inl, inr, append_assoc, append-nil}
 use Rattle.std.specs.List.{AllByRecursion as Each, list_any}
 use Rattle.std.proofs.lemmas.Bool.{cond_both, cases_Bool}
-use Rattle.names_core.specs.Ids.{Numbered}
+use Rattle.names_core.specs.Ids.{Numbered, same}
 use Rattle.names_core.specs.declared.state.TaskState.{TaskState}
 use Rattle.names_core.specs.States.{is_terminal}
 use Rattle.mails.specs.declared.task.Job.{Job}
 use Rattle.mails.specs.declared.task.Booked.{Booked}
 use Rattle.mails.specs.declared.record.RecordedTask.{RecordedTask}
 use Rattle.stream_core.specs.Updates.{pushed, acknowledged_one, is_front}
-use Rattle.cluster_model.specs.Ids.{same}
 use Rattle.cluster_model.specs.Agents.{has_ended, is_task, stated, acknowledged}
 use Rattle.cluster_model.specs.Sides.{unended}
 use Rattle.cluster_safe.specs.Facts.{Less, Stake, Within, Aged, Fades, live, task_stake, Distinct, InOrder, EndedAt, Grown}

@@ -3,14 +3,14 @@ use Rattle.std.proofs.Common.{◌≡◌, ◌≢◌, ℕ, suc, ◌+◌, Bool, tru
 use Rattle.std.specs.Prelude.{⊤, if◌then◌else◌}
 use Rattle.std.specs.List.{AllByRecursion as Each}
 use Rattle.std.proofs.lemmas.Bool.{cond_both, cond-true, cond-false}
-use Rattle.names_core.specs.Ids.{Numbered}
+use Rattle.names_core.specs.Ids.{Numbered, same}
 use Rattle.quantity.specs.declared.rows.Row.{Row}
 use Rattle.quantity.specs.Rows.{covers}
 use Rattle.mails.specs.declared.task.Job.{Job}
 use Rattle.mails.specs.declared.mail.Command.{Command}
 use Rattle.mails.specs.declared.mail.Command.TheVariants.{Launch}
 use Rattle.mails.specs.declared.mail.MasterMail.TheVariants.{Issued}
-use Rattle.cluster_model.specs.Ids.{same, following}
+use Rattle.cluster_model.specs.Ids.{following}
 use Rattle.cluster_model.specs.Sides.{job_rows, Sending, issue, just_booked, may_launch, books, Launching, launch_one, launch_all}
 use Rattle.cluster_model.specs.Openings.{KeysOnce}
 use Rattle.cluster_safe.specs.Facts.{Less, UpTo, AtMost}

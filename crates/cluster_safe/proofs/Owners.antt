@@ -4,12 +4,11 @@ use Rattle.std.specs.Prelude.{if◌then◌else◌}
 use Rattle.std.specs.List.{AllByRecursion as Each}
 use Rattle.std.proofs.lemmas.Bool.{cond_both}
 use Rattle.std.specs.Cmp.Lexicographic.{bytes_decides}
-use Rattle.names_core.specs.Ids.{Numbered}
+use Rattle.names_core.specs.Ids.{Numbered, same}
 use Rattle.names_core.specs.declared.state.TaskState.{TaskState}
 use Rattle.mails.specs.declared.task.Job.{Job}
 use Rattle.mails.specs.declared.record.RecordedTask.{RecordedTask}
 use Rattle.mails.specs.declared.record.Durable.{Durable}
-use Rattle.cluster_model.specs.Ids.{same}
 use Rattle.cluster_model.specs.Channels.{Channel, World, Happening, after}
 use Rattle.cluster_model.specs.Sides.{Run}
 use Rattle.cluster_model.specs.Openings.{recorded_jobs, KeysOnce, NamesOnce}

@@ -4,12 +4,12 @@ use Rattle.std.specs.Prelude.{if◌then◌else◌}
 use Rattle.std.specs.List.{AllByRecursion as Each, find, list_any}
 use Rattle.std.proofs.lemmas.Bool.{cond_both}
 use Rattle.std.proofs.lemmas.Bool.Decides.{nat_tests}
-use Rattle.names_core.specs.Ids.{Numbered}
+use Rattle.names_core.specs.Ids.{Numbered, same, before}
 use Rattle.mails.specs.declared.call.Call.{Call}
 use Rattle.mails.specs.declared.call.ReconciledTask.{ReconciledTask}
 use Rattle.mails.specs.declared.mail.AgentMail.{AgentMail}
 use Rattle.mails.specs.declared.refusal.MasterRefusal.{MasterRefusal}
-use Rattle.cluster_model.specs.Ids.{same, before, each_once, last_number}
+use Rattle.cluster_model.specs.Ids.{each_once, last_number}
 use Rattle.cluster_model.specs.Sides.{Side, opens, SendKill, SendAck, SendEnd, SendHello, Lose}
 use Rattle.cluster_model.specs.Events.{Failure}
 use Rattle.cluster_model.specs.Masters.{Framework, Master, Move, AtSide, TearDownAll, Doing, nothing, refused, saying, moving, framework_of, is_torn, put_framework, with_framework, tells_all, Placed, all_booked, held, is_of, withdraws, clear_on, without_filters_on, add_filter, side_of, has_numbers, may_have_numbers}

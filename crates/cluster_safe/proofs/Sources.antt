@@ -4,7 +4,7 @@ use Rattle.std.specs.Prelude.{if◌then◌else◌}
 use Rattle.std.specs.List.{AllByRecursion as Each, find, list_any}
 use Rattle.std.proofs.lemmas.Bool.{cond_both}
 use Rattle.std.specs.Cmp.Lexicographic.{bytes_decides}
-use Rattle.names_core.specs.Ids.{Numbered}
+use Rattle.names_core.specs.Ids.{Numbered, same}
 use Rattle.quantity.specs.Rows.{covers}
 use Rattle.mails.specs.declared.task.Job.{Job}
 use Rattle.mails.specs.declared.task.Offer.{Offer}
@@ -15,7 +15,7 @@ use Rattle.mails.specs.declared.call.ReconciledTask.{ReconciledTask}
 use Rattle.mails.specs.declared.call.TaskInfo.{TaskInfo}
 use Rattle.names_core.specs.declared.state.TaskState.TheVariants.{Error}
 use Rattle.role_weights.specs.Weights.{RoleWeight}
-use Rattle.cluster_model.specs.Ids.{same, is_empty, last_number}
+use Rattle.cluster_model.specs.Ids.{is_empty, last_number}
 use Rattle.cluster_model.specs.Sides.{Side, is_named, opens, MakeOffer, SendKill, SendAck, SendEnd, SendHello, SendAgain, Lose}
 use Rattle.cluster_model.specs.Events.{MadeOffer, Failure}
 use Rattle.cluster_model.specs.Masters.{Framework, Master, Move, AtSide, TearDownAll, Doing, nothing, refused, saying, moving, framework_of, is_torn, with_framework, tells_all, Placed, all_booked, held_among, held, is_of, withdraws_on, withdraws, without_filters_on, side_of, has_numbers, may_have_numbers}

@@ -2,7 +2,7 @@
 use Rattle.std.proofs.Common.{◌≡◌, ◌≢◌, ℕ, le_refl, le_trans, suc, zero, ◌≤◌, ◌<◌, Bool, true, false, cond, leb, nat_lt, List, [], ◌∷◌, ◌++◌, length, drop, take, Option, map, filter, flat_map, refl, sym, ap, ◌∙◌, subst, inl, inr, arith, append-nil}
 use Rattle.std.specs.List.{AllByRecursion as Each}
 use Rattle.std.proofs.lemmas.Bool.{cond_both, cases_Bool}
-use Rattle.names_core.specs.Ids.{Numbered}
+use Rattle.names_core.specs.Ids.{Numbered, same}
 use Rattle.quantity.specs.declared.rows.Row.{Row}
 use Rattle.quantity.specs.Rows.{amount}
 use Rattle.mails.specs.declared.task.Job.{Job}
@@ -10,7 +10,6 @@ use Rattle.mails.specs.declared.task.Booked.{Booked}
 use Rattle.mails.specs.declared.mail.AgentMail.{AgentMail}
 use Rattle.mails.specs.declared.mail.AgentMail.TheVariants.{Report, Applied, Update}
 use Rattle.mails.specs.declared.record.RecordedTask.{RecordedTask}
-use Rattle.cluster_model.specs.Ids.{same}
 use Rattle.cluster_model.specs.Agents.{Agent, Draft, has_ended, state_at, reported, front_of, fronts, front_at, report_of, owning, reopened, reports, recovered}
 use Rattle.cluster_model.specs.Sides.{unended, job_rows}
 use Rattle.cluster_model.specs.Channels.{InRun}

@@ -3,7 +3,7 @@ use Rattle.std.proofs.Common.{◌≡◌, ℕ, suc, ◌+◌, true, not, ◌&&◌,
 use Rattle.std.specs.List.{AllByRecursion as Each}
 use Rattle.std.proofs.lemmas.Bool.{cond_both}
 use Rattle.std.proofs.lemmas.Bool.Decides.{nat_tests}
-use Rattle.names_core.specs.Ids.{Numbered}
+use Rattle.names_core.specs.Ids.{Numbered, same}
 use Rattle.names_core.specs.declared.state.TaskState.{TaskState}
 use Rattle.quantity.specs.declared.rows.Row.{Row}
 use Rattle.quantity.specs.Rows.{covers}
@@ -12,7 +12,7 @@ use Rattle.mails.specs.declared.mail.Command.{Command}
 use Rattle.mails.specs.declared.mail.Command.TheVariants.{Launch, Kill, Ack, EndFramework}
 use Rattle.mails.specs.declared.mail.MasterMail.TheVariants.{Issued}
 use Rattle.mails.specs.declared.record.Durable.{Durable}
-use Rattle.cluster_model.specs.Ids.{same, first_of_run, following, is_among}
+use Rattle.cluster_model.specs.Ids.{first_of_run, following, is_among}
 use Rattle.cluster_model.specs.Sides.{Run, Side, new_run, torn_down, offer_rows, taken, Sending, sends_nothing, issue, may_launch, books, Launching, launch_one, launch_all, is_good, used_offers, without_used, may_offer, halted, restarted, SideStep, MakeOffer, Withdraw, LaunchFrom, SendKill, SendAck, SendEnd, SendHello, SendAgain, Lose, side_step}
 use Rattle.cluster_model.specs.Channels.{Channel, InRun, ChannelStep, ByMaster, Hear, ByAgent, happens, World, Happening, At, TearDown, Restart, Halt, behind, in_front, at_agent, with_side, halted_run, after, open_world, Fits, AllFit}
 use Rattle.cluster_safe.specs.Facts.{UpTo, StateOk, UpOk, drafted, mails_of, states_of, Kept, RoomForAll, AllGood}

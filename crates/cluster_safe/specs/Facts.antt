@@ -1,7 +1,7 @@
 -- What holds of a channel, in its run, after any list of happenings.
 use Rattle.std.specs.Prelude.{◌≡◌, ◌≢◌, ◌⊎◌, ℕ, suc, ◌≤◌, ◌<◌, Bool, true, false, if◌then◌else◌, List, [], ◌∷◌, ◌++◌, length, map, drop, take, slice_get, Option, Some, None, Result, Ok, Err, ⊤}
 use Rattle.std.specs.List.{AllByRecursion as Each}
-use Rattle.names_core.specs.Ids.{Numbered}
+use Rattle.names_core.specs.Ids.{Numbered, before}
 use Rattle.names_core.specs.declared.state.TaskState.{TaskState}
 use Rattle.quantity.specs.declared.rows.Row.{Row}
 use Rattle.quantity.specs.Rows.{amount}
@@ -17,7 +17,7 @@ use Rattle.mails.specs.declared.record.Durable.{Durable}
 use Rattle.mails.specs.declared.record.RecordedTask.{RecordedTask}
 use Rattle.mails.specs.declared.refusal.AgentRefusal.{AgentRefusal}
 use Rattle.mails.specs.declared.refusal.AgentRefusal.TheVariants.{NotForMe, OldSession, NotNext, NoSuchTask, Ended, NoRoom, UpdatesFull, SessionsSpent, TotalLess}
-use Rattle.cluster_model.specs.Ids.{before, first_of_run, is_among}
+use Rattle.cluster_model.specs.Ids.{first_of_run, is_among}
 use Rattle.cluster_model.specs.Agents.{Agent, Draft, has_ended, hears_mail}
 use Rattle.cluster_model.specs.Sides.{unended, job_rows, taken}
 use Rattle.cluster_model.specs.Channels.{Channel, InRun}

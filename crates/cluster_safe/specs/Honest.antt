@@ -1,7 +1,7 @@
 -- Honest frameworks, and what they have acknowledged.
 use Rattle.std.specs.Prelude.{◌≡◌, ◌⊎◌, ℕ, suc, zero, ◌≤◌, Bool, not, ◌&&◌, ◌==◌, if◌then◌else◌, List, [], ◌∷◌, ◌++◌, fold, flat_map, length, max, Option, Some, None, option_to_list, ⊤}
 use Rattle.std.specs.List.{list_any}
-use Rattle.names_core.specs.Ids.{Numbered}
+use Rattle.names_core.specs.Ids.{Numbered, same}
 use Rattle.names_core.specs.Updates as updates
 use Rattle.names_core.specs.declared.state.TaskState.{TaskState}
 use Rattle.mails.specs.declared.task.Job.{Job}
@@ -9,7 +9,6 @@ use Rattle.mails.specs.declared.call.Call.{Call}
 use Rattle.mails.specs.declared.call.Call.TheVariants.{Acknowledge}
 use Rattle.mails.specs.declared.record.Durable.{Durable}
 use Rattle.mails.specs.declared.record.RecordedTask.{RecordedTask}
-use Rattle.cluster_model.specs.Ids.{same}
 use Rattle.cluster_model.specs.Events.{Event, StreamEvent, Update}
 use Rattle.cluster_histories.specs.Clusters.{Post, Called, Entry}
 use Rattle.cluster_steps.specs.declared.step.Step.{Step}

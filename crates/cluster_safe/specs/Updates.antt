@@ -1,12 +1,11 @@
 -- The updates of a launch key over a whole history.
 use Rattle.std.specs.Prelude.{◌≡◌, ℕ, ◌≤◌, nat_lt, if◌then◌else◌, List, [], ◌∷◌, length, flat_map, slice_get, bytes_eq, Option, Some, None, IfSome, ⊤}
 use Rattle.std.specs.List.{AllByRecursion as Each}
-use Rattle.names_core.specs.Ids.{Numbered}
+use Rattle.names_core.specs.Ids.{Numbered, same}
 use Rattle.names_core.specs.declared.state.TaskState.{TaskState}
 use Rattle.names_core.specs.Updates as updates
 use Rattle.mails.specs.declared.record.Durable.{Durable}
 use Rattle.mails.specs.declared.record.RecordedTask.{RecordedTask}
-use Rattle.cluster_model.specs.Ids.{same}
 use Rattle.cluster_model.specs.Channels.{Channel, World, Happening, after, open_world}
 use Rattle.cluster_model.specs.Events.{Event, StreamEvent, Update}
 use Rattle.cluster_histories.specs.Clusters.{Entry}

@@ -52,7 +52,7 @@ impl Plain for Keep {
 }
 
 /// What happens in a cluster. Calls and mails have numbers from 1, in the order of their sending.
-#[derive(Clone, Debug, Drop, PartialEq)]
+#[derive(Clone, Debug, PartialEq)]
 pub enum Step {
     /// A framework sends a call on a stream, or on none. The call stands once,
     /// and who delivers it shares it.
@@ -86,6 +86,25 @@ pub enum Step {
     StopMaster,
     /// A framework takes the next event of a stream, open or closed.
     Take(StreamId),
+}
+
+// By hand, so that who drops one goes through none of its parts.
+impl Drop for Step {
+    fn drop(self) {
+        match self {
+            Step::Send { stream: _, call: _ } => {}
+            Step::Deliver(_) => {}
+            Step::Allocate => {}
+            Step::Tick(_) => {}
+            Step::LoseAgent(_) => {}
+            Step::HangUp(_) => {}
+            Step::Prepare { agent: _, cause: _ } => {}
+            Step::Commit(_) => {}
+            Step::StopAgent { agent: _, keep: _ } => {}
+            Step::StopMaster => {}
+            Step::Take(_) => {}
+        }
+    }
 }
 
 impl Plain for Step {

@@ -2,11 +2,12 @@
 
 ghost use Rattle.std.specs.Prelude.{◌≡◌, [], IfSome};
 
-use cluster_core::{Cluster, KeptEntry, RecordedCluster, Step, fresh_agents_open, fresh_records};
+use cluster_core::{Cluster, KeptEntry, Step, fresh_agents_open, fresh_records};
 use desk_lock::{Desk, Office, Pass, Passes, Recorded};
 use master_core::Config;
 use names_core::Run;
 use post_rules::Queues;
+use recorded_clusters::RecordedCluster;
 use role_weights::Weights;
 use std::alloc::Global;
 use std::marker::Brand;

@@ -3,8 +3,8 @@ use Rattle.std.proofs.Common.{◌≡◌, Bool, true, false, not, cond, ◌||◌,
 use Rattle.std.proofs.lemmas.Bool.{or_parts}
 use Rattle.std.proofs.lemmas.Bool.Decides.{nat_tests}
 use Rattle.mails.specs.declared.task.Offer.{Offer}
-use Rattle.names_core.specs.Ids.{Numbered}
-use Rattle.cluster_model.specs.Ids.{same, is_among, is_repeated}
+use Rattle.names_core.specs.Ids.{Numbered, same}
+use Rattle.cluster_model.specs.Ids.{is_among, is_repeated}
 use Rattle.current_offers.specs.Laws.{IdsNameOffers}
 
 abbrev ids : List Offer → List Numbered

@@ -5,9 +5,9 @@ use Rattle.std.proofs.lemmas.List.{take_more}
 use Rattle.quantity.specs.declared.rows.Row.{Row}
 use Rattle.quantity.specs.Rows.{amount, IsPlus}
 use Rattle.quantity.proofs.Amounts.{amount-append}
-use Rattle.names_core.specs.Ids.{Numbered}
+use Rattle.names_core.specs.Ids.{Numbered, same}
 use Rattle.mails.specs.declared.task.Offer.{Offer}
-use Rattle.cluster_model.specs.Ids.{same, is_among}
+use Rattle.cluster_model.specs.Ids.{is_among}
 use Rattle.cluster_model.specs.Sides.{offer_rows, is_named}
 use Rattle.cluster_model.specs.Masters.{is_of}
 use Rattle.current_offers.specs.Offers.{IsOffered, IsOfferedIfKnown, IsLessIfKnown, is_offered_as}

@@ -3,9 +3,9 @@ use Rattle.std.specs.Prelude.{◌≡◌, ℕ, Bool, not, ◌&&◌, List, Option,
 use Rattle.std.specs.List.{list_any, list_all}
 use Rattle.quantity.specs.declared.rows.Row.{Row}
 use Rattle.quantity.specs.Rows.{amount, IsMinus}
-use Rattle.names_core.specs.Ids.{Numbered}
+use Rattle.names_core.specs.Ids.{Numbered, same}
 use Rattle.mails.specs.declared.task.Offer.{Offer}
-use Rattle.cluster_model.specs.Ids.{same, is_empty, is_repeated}
+use Rattle.cluster_model.specs.Ids.{is_empty, is_repeated}
 use Rattle.cluster_model.specs.Sides.{offer_rows}
 
 -- the sum of what the offers have

@@ -1,7 +1,8 @@
 //! Ids, compared and looked for in lists.
 
 ghost use Rattle.std.specs.Prelude.{◌≡◌};
-ghost use Rattle.cluster_model.specs.Ids.{same, is_among, is_repeated};
+ghost use Rattle.names_core.specs.Ids.{same};
+ghost use Rattle.cluster_model.specs.Ids.{is_among, is_repeated};
 
 use names_core::OfferId;
 

@@ -20,13 +20,23 @@ use std::alloc::{AllocError, Global};
 use std::marker::Model;
 
 /// Current offers, in order of their making.
-#[derive(Drop)]
 pub struct Offers {
     items: Vec<Offer>,
     /// The sum of what the offers have, where it is known.
     sum: Option<Resources>,
     /// Whether it is known that ids rise from offer to offer.
     are_rising: bool,
+}
+
+// By hand, so that who drops one goes through none of its parts.
+impl Drop for Offers {
+    fn drop(self) {
+        let Offers {
+            items: _,
+            sum: _,
+            are_rising: _,
+        } = self;
+    }
 }
 
 impl Model for Offers {

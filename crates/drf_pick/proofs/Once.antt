@@ -5,8 +5,7 @@ use Rattle.std.specs.Prelude.{is_some}
 use Rattle.std.proofs.lemmas.List.Sums.{position_or_len_is}
 use Rattle.std.proofs.lemmas.Bool.{true≢false, lt-ltb}
 use Rattle.std.proofs.lemmas.Bool.Decides.{nat_tests}
-use Rattle.names_core.specs.Ids.{Numbered}
-use Rattle.cluster_model.specs.Ids.{same}
+use Rattle.names_core.specs.Ids.{Numbered, same}
 use Rattle.drf_pick.specs.Shares.{Holder, HoldersOnce, is_holder, at_first}
 
 -- where no item passes, the item at a place doesn't

@@ -3,7 +3,8 @@ use Rattle.std.proofs.Common.{◌≡◌, Bool, true, false, not, ◌&&◌, ◌||
 use Rattle.std.specs.Prelude.{MatchBool, MatchOption, bytes_eq, option_map}
 use Rattle.std.specs.List.{fold}
 use Rattle.std.proofs.lemmas.Bool.{false≢true, true≢false}
-use Rattle.cluster_model.specs.Ids.{before, bytes_before}
+use Rattle.names_core.specs.Ids.{before}
+use Rattle.cluster_model.specs.Ids.{bytes_before}
 use Rattle.cluster_model.specs.Rounds.{Share, share, stands_at_most_at, stands_first}
 use Rattle.quantity.specs.declared.rows.Row.{Row}
 use Rattle.drf_pick.specs.Shares.{Holder, Tally}

@@ -10,8 +10,8 @@ use Rattle.std.proofs.lemmas.Cmp.{upto}
 use Rattle.std.proofs.lemmas.Bool.{cases_Bool, false≢true, true≢false, and_parts, or_cases}
 use Rattle.std.proofs.lemmas.Bool.Decides.{nat_tests}
 use Rattle.quantity.proofs.Orders.{level_same}
-use Rattle.names_core.specs.Ids.{Numbered}
-use Rattle.cluster_model.specs.Ids.{before, bytes_before}
+use Rattle.names_core.specs.Ids.{Numbered, before}
+use Rattle.cluster_model.specs.Ids.{bytes_before}
 use Rattle.cluster_model.specs.Rounds.{share, stands_at_most_at, stands_first}
 use Rattle.drf_pick.specs.Shares.{Tally, Holder, RoleSum, is_role}
 use Rattle.drf_pick.specs.Least.{role_share, share_of_sum, comes_before, better}

@@ -1,9 +1,8 @@
 -- Shares that start anew.
 use Rattle.std.proofs.Common.{◌≡◌, ℕ, zero, suc, ◌+◌, ◌<◌, Bool, true, false, cond, not, List, [], ◌∷◌, map, length, set, Option, Some, None, refl, ap}
 use Rattle.std.specs.List.{AllByRecursion, find, position_or_len}
-use Rattle.names_core.specs.Ids.{Numbered}
+use Rattle.names_core.specs.Ids.{Numbered, before}
 use Rattle.role_weights.specs.Weights.{RoleWeight}
-use Rattle.cluster_model.specs.Ids.{before}
 use Rattle.drf_pick.specs.Shares.{AreUpTo, AreWeighed, Holder, HoldersOnce, RoleSum, RolesOnce, emptied, is_holder, is_role, reweighed}
 use Rattle.drf_pick.specs.Places.{AreFoundBy}
 

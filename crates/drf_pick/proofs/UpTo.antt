@@ -2,8 +2,7 @@
 use Rattle.std.proofs.Common.{◌≡◌, ℕ, Bool, true, false, cond, List, [], ◌∷◌, ◌++◌, Option, Some, None, refl, ap, ◌∙◌, arith}
 use Rattle.std.specs.List.{AllByRecursion, find}
 use Rattle.std.proofs.lemmas.Bool.Decides.{nat_tests}
-use Rattle.names_core.specs.Ids.{Numbered}
-use Rattle.cluster_model.specs.Ids.{before, same}
+use Rattle.names_core.specs.Ids.{Numbered, before, same}
 use Rattle.drf_pick.specs.Shares.{AreUpTo, Holder, holder_of, is_behind, is_holder, at_first}
 
 other : (last f g : Numbered) → before last f ≡ true → before last g ≡ false → same g f ≡ false

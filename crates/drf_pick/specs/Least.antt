@@ -1,9 +1,9 @@
 -- Which framework stands least (DRF paper, section 4; Mesos paper, section 3.1).
 use Rattle.std.specs.Prelude.{◌≡◌, ℕ, Bool, true, not, if◌then◌else◌, List, [], Option, Some, None, MatchBool, bytes_eq}
 use Rattle.std.specs.List.{find}
-use Rattle.names_core.specs.Ids.{Numbered}
+use Rattle.names_core.specs.Ids.{Numbered, before}
 use Rattle.quantity.specs.declared.rows.Row.{Row}
-use Rattle.cluster_model.specs.Ids.{before, bytes_before}
+use Rattle.cluster_model.specs.Ids.{bytes_before}
 use Rattle.cluster_model.specs.Rounds.{Share, share, stands_at_most_at, stands_first}
 use Rattle.share_sums.specs.Lists.{Among}
 use Rattle.drf_pick.specs.Shares.{Tally, Holder, RoleSum, is_holder, is_role}

@@ -1,11 +1,10 @@
 -- What frameworks and roles hold, and what all agents own.
 use Rattle.std.specs.Prelude.{◌≡◌, ◌<◌, ⊤, ℕ, Bool, true, false, ◌&&◌, if◌then◌else◌, List, [], ◌∷◌, ◌++◌, map, Option, Some, None, bytes_eq}
 use Rattle.std.specs.List.{AllByRecursion, find}
-use Rattle.names_core.specs.Ids.{Numbered}
+use Rattle.names_core.specs.Ids.{Numbered, before, same}
 use Rattle.quantity.specs.declared.rows.Row.{Row}
 use Rattle.quantity.specs.Rows.{covers, rest_of}
 use Rattle.role_weights.specs.Weights.{RoleWeight, weight_of}
-use Rattle.cluster_model.specs.Ids.{before, same}
 use Rattle.share_sums.specs.Sums.{summed}
 pub use Rattle.drf_pick.specs.declared.holder.Holder.{Holder}
 pub use Rattle.drf_pick.specs.declared.holder.RoleSum.{RoleSum}

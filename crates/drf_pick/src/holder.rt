@@ -1,7 +1,7 @@
 //! Frameworks and roles, with what they hold.
 
 ghost use Rattle.std.specs.Prelude.{◌≡◌};
-ghost use Rattle.cluster_model.specs.Ids.{before};
+ghost use Rattle.names_core.specs.Ids.{before};
 ghost use Rattle.drf_pick.specs.Shares.{is_holder, is_role, holder_of, role_sum_of};
 
 use names_core::{FrameworkId, RoleName};

@@ -2,9 +2,8 @@
 use Rattle.std.proofs.Common.{◌≡◌, Bool, true, false, cond, ◌↔◌, List, [], ◌∷◌, map, Option, Some, None, option_map, option_and_then, is_some, find, is_eq, refl, sym, ap, subst, ◌∙◌, true≢false, arith}
 use Rattle.std.specs.List.{list_all}
 use Rattle.std.proofs.lemmas.Bool.Decides.{nat_tests}
-use Rattle.names_core.specs.Ids.{Numbered}
+use Rattle.names_core.specs.Ids.{Numbered, same, before}
 use Rattle.mails.specs.declared.framework.Framework.{Framework}
-use Rattle.cluster_model.specs.Ids.{same, before}
 use Rattle.cluster_model.specs.Calls.{is_stream}
 use Rattle.cluster_model.specs.Masters.{put_framework}
 use Rattle.cluster_model.specs.Mails.{beaten, beaten_on, is_due}

@@ -4,9 +4,8 @@ use Rattle.std.specs.Prelude.{nat_lt, slice_set, slice_index_or}
 use Rattle.std.specs.List.{list_all, insert}
 use Rattle.std.proofs.lemmas.Bool.{and_from}
 use Rattle.std.proofs.lemmas.Bool.Decides.{nat_tests}
-use Rattle.names_core.specs.Ids.{Numbered}
+use Rattle.names_core.specs.Ids.{Numbered, same, before}
 use Rattle.mails.specs.declared.framework.Framework.{Framework}
-use Rattle.cluster_model.specs.Ids.{same, before}
 use Rattle.cluster_model.specs.Masters.{put_framework}
 use Rattle.cluster_model.specs.Mails.{beaten, beaten_on, is_due}
 use Rattle.frameworks.specs.Frameworks.{KeepsId, PutsAreChanges, are_ordered, changed, ids_of, is_at, place_of, with_id}

@@ -8,9 +8,8 @@ use Rattle.std.proofs.lemmas.List.Sums.{position_or_len_is}
 use Rattle.std.proofs.lemmas.List.Quantifiers.{position-Some}
 use Rattle.std.proofs.lemmas.Bool.{lt-ltb, ltb-false}
 use Rattle.std.proofs.lemmas.Bool.Decides.{nat_tests}
-use Rattle.names_core.specs.Ids.{Numbered}
+use Rattle.names_core.specs.Ids.{Numbered, same, before}
 use Rattle.mails.specs.declared.framework.Framework.{Framework}
-use Rattle.cluster_model.specs.Ids.{same, before}
 use Rattle.frameworks.specs.Frameworks.{are_ordered, changed, place_of, with_id}
 use Rattle.frameworks.proofs.Ordered.{AllBehind, both_true, none_changed, same_is, is_other, before_trans, else_after, behind_trans}
 

@@ -1,10 +1,9 @@
 -- Frameworks in the order of their ids, and changes of one of them.
 use Rattle.std.specs.Prelude.{◌≡◌, ℕ, suc, Bool, true, false, ◌&&◌, if◌then◌else◌, List, [], ◌∷◌, map, length, nat_lt, slice_index_or, Option, Some, None}
 use Rattle.std.specs.List.{list_all, find}
-use Rattle.names_core.specs.Ids.{Numbered}
+use Rattle.names_core.specs.Ids.{Numbered, same, before}
 use Rattle.quantity.specs.declared.rows.Row.{Row}
 use Rattle.mails.specs.declared.framework.Framework.{Framework}
-use Rattle.cluster_model.specs.Ids.{same, before}
 use Rattle.cluster_model.specs.Masters.{put_framework, add_filter}
 
 -- by id, none twice

@@ -2,7 +2,7 @@
 
 ghost use Rattle.std.specs.Prelude.{◌≡◌, ◌≤◌, true, length, option_map};
 ghost use Rattle.std.specs.List.{position};
-ghost use Rattle.cluster_model.specs.Ids.{before, same};
+ghost use Rattle.names_core.specs.Ids.{before, same};
 ghost use Rattle.frameworks.specs.Frameworks.{are_ordered, is_at, place_of, with_id};
 ghost use Rattle.frameworks.specs.OpenStreams.{open_stream};
 

@@ -4,8 +4,7 @@ use Rattle.std.specs.List.{AllByRecursion, list_any, remove}
 use Rattle.std.specs.List.Sorted.{IsPartitionedBy, IsPartitionPoint}
 use Rattle.std.proofs.lemmas.Bool.Decides.{nat_tests}
 use Rattle.std.proofs.lemmas.List.{drop_all, take_all}
-use Rattle.names_core.specs.Ids.{Numbered}
-use Rattle.cluster_model.specs.Ids.{same, before}
+use Rattle.names_core.specs.Ids.{Numbered, same, before}
 use Rattle.id_spans.specs.Spans.{AreRisingBy, AllBefore, IsSpan, has_id}
 use Rattle.id_spans.proofs.Spans.{none_front, none_back}
 

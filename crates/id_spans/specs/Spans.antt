@@ -1,8 +1,7 @@
 -- Where what has an id stands in a list.
 use Rattle.std.specs.Prelude.{◌≡◌, ◌≤◌, ℕ, Bool, true, false, List, [], ◌∷◌, length, take, drop}
 use Rattle.std.specs.List.{AllByRecursion, list_any}
-use Rattle.names_core.specs.Ids.{Numbered}
-use Rattle.cluster_model.specs.Ids.{same, before}
+use Rattle.names_core.specs.Ids.{Numbered, same, before}
 
 abbrev pub has_id : {X : Type 0} → (X → Numbered) → Numbered → X → Bool
 has_id id this x = same (id x) this

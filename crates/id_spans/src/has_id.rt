@@ -1,8 +1,7 @@
 //! What has an id, and the order of ids.
 
 ghost use Rattle.std.specs.Prelude.{◌≡◌};
-ghost use Rattle.names_core.specs.Ids.{Numbered};
-ghost use Rattle.cluster_model.specs.Ids.{before};
+ghost use Rattle.names_core.specs.Ids.{Numbered, before};
 
 use mails::{Booked, Offer};
 use names_core::{LaunchKey, OfferId};

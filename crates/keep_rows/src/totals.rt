@@ -57,6 +57,8 @@ pub fn total_of(alloc: Global, rows: &[Row]) -> Result<Resources, KeepFault>
     for row in rows {
         add_amount(alloc, &mut total, row)?;
     }
+    // (the look says that the rows are in order)
+    total.rows();
     Ok(total)
 }
 

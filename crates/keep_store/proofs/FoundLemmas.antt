@@ -48,9 +48,9 @@ told_by row t h =
     let body = bind_some (text_at (column row 3)) _ t n.2 in
     let task = bind_some (task_in body.0) _ t body.2 in
     let it = where_some _ task.0 t task.2 in
-    let key = and_parts (task.0.job.key.run == run.0) (task.0.job.key.n == n.0) it.0 in
-    let is_run : task.0.job.key.run ≡ run.0 = grind (arith, nat_tests, key.0) in
-    let is_n : task.0.job.key.n ≡ n.0 = grind (arith, nat_tests, key.1) in
+    let key = and_parts (task.0.job.key.n == n.0) (task.0.job.key.run == run.0) it.0 in
+    let is_run : task.0.job.key.run ≡ run.0 = grind (arith, nat_tests, key.1) in
+    let is_n : task.0.job.key.n ≡ n.0 = grind (arith, nat_tests, key.0) in
     record {
       run = run.1 ∙ ap (λ (k : ℕ). Some k) (sym is_run ∙ ap (λ (s : RecordedTask). s.job.key.run) it.1);
       n = n.1 ∙ ap (λ (k : ℕ). Some k) (sym is_n ∙ ap (λ (s : RecordedTask). s.job.key.n) it.1);

@@ -7,12 +7,24 @@ use plain_data::Plain;
 use quantity::Resources;
 
 /// What is launched under a launch key.
-#[derive(Clone, Debug, Drop, PartialEq)]
+#[derive(Clone, Debug, PartialEq)]
 pub struct Job {
     pub key: LaunchKey,
     pub framework: FrameworkId,
     pub name: TaskName,
     pub resources: Resources,
+}
+
+// By hand, so that who drops one goes through none of its parts.
+impl Drop for Job {
+    fn drop(self) {
+        let Job {
+            key: _,
+            framework: _,
+            name: _,
+            resources: _,
+        } = self;
+    }
 }
 
 impl Plain for Job {
@@ -40,7 +52,7 @@ impl Plain for Offer {
 }
 
 /// A task in the master's books, and in the report of an agent.
-#[derive(Clone, Drop, PartialEq)]
+#[derive(Clone, PartialEq)]
 pub struct Booked {
     pub job: Job,
     /// Whether it has ended for good.
@@ -49,6 +61,18 @@ pub struct Booked {
     pub heard: u32,
     /// The state of the last update that was heard of, or TASK_STAGING.
     pub state: TaskState,
+}
+
+// By hand, so that who drops one goes through none of its parts.
+impl Drop for Booked {
+    fn drop(self) {
+        let Booked {
+            job: _,
+            ended: _,
+            heard: _,
+            state: _,
+        } = self;
+    }
 }
 
 impl Plain for Booked {

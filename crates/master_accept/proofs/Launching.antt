@@ -4,7 +4,7 @@ use Rattle.std.specs.Prelude.{⊤}
 use Rattle.std.specs.List.{find, list_all}
 use Rattle.std.proofs.lemmas.Bool.{and_from, cond-true}
 use Rattle.std.proofs.lemmas.Bool.Decides.{nat_tests}
-use Rattle.names_core.specs.Ids.{Numbered}
+use Rattle.names_core.specs.Ids.{Numbered, same}
 use Rattle.quantity.specs.declared.rows.Row.{Row}
 use Rattle.quantity.specs.Rows.{covers}
 use Rattle.mails.specs.declared.task.Job.{Job}
@@ -13,7 +13,7 @@ use Rattle.mails.specs.declared.mail.Command.TheVariants.{Launch}
 use Rattle.mails.specs.declared.mail.MasterMail.{MasterMail}
 use Rattle.mails.specs.declared.mail.MasterMail.TheVariants.{Issued}
 use Rattle.mails.specs.declared.mail.ToAgent.{ToAgent}
-use Rattle.cluster_model.specs.Ids.{bytes_before, following, same}
+use Rattle.cluster_model.specs.Ids.{bytes_before, following}
 use Rattle.cluster_model.specs.Sides.{Launching, Run, Sending, Side, SideStep, books, issue, just_booked, launch_all, launch_one, may_launch, side_step}
 use Rattle.cluster_model.specs.Masters.{Moved, at_side, at_this_side, past_side}
 use Rattle.agent_sides.specs.Configs.{are_ordered}

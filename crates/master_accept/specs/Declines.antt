@@ -1,10 +1,10 @@
 -- What DECLINE makes of the frameworks' table, offer by offer.
 use Rattle.std.specs.Prelude.{ℕ, Bool, ◌&&◌, if◌then◌else◌, List, [], ◌∷◌, ◌++◌, fold, map}
-use Rattle.names_core.specs.Ids.{Numbered}
+use Rattle.names_core.specs.Ids.{Numbered, same}
 use Rattle.quantity.specs.declared.rows.Row.{Row}
 use Rattle.mails.specs.declared.task.Offer.{Offer}
 use Rattle.mails.specs.declared.framework.Framework.{Framework}
-use Rattle.cluster_model.specs.Ids.{is_among, same}
+use Rattle.cluster_model.specs.Ids.{is_among}
 use Rattle.cluster_model.specs.Masters.{is_of}
 use Rattle.frameworks.specs.Frameworks.{changed, with_filter}
 use Rattle.agent_sides.specs.Own.{Holding}

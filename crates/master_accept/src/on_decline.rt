@@ -2,7 +2,8 @@
 
 ghost use Rattle.std.specs.Prelude.{◌≡◌, ◌&&◌, [], fold, map, OnOk};
 ghost use Rattle.mails.specs.declared.call.Call.TheVariants as calls;
-ghost use Rattle.cluster_model.specs.Ids.{is_among, same};
+ghost use Rattle.names_core.specs.Ids.{same};
+ghost use Rattle.cluster_model.specs.Ids.{is_among};
 ghost use Rattle.cluster_model.specs.Masters.{is_of};
 ghost use Rattle.cluster_model.specs.Calls.{called};
 ghost use Rattle.agent_sides.specs.Own.{holding_of};

@@ -2,13 +2,13 @@
 use Rattle.std.proofs.Common.{◌≡◌, ℕ, Bool, true, false, not, ◌||◌, if◌then◌else◌, List, [], ◌∷◌, ◌++◌, map, fold, Option, Some, None, Ok, refl, sym, ap, ◌∙◌, subst, arith}
 use Rattle.std.specs.List.{list_any}
 use Rattle.std.proofs.lemmas.Bool.Decides.{nat_tests}
-use Rattle.names_core.specs.Ids.{Numbered}
+use Rattle.names_core.specs.Ids.{Numbered, same}
 use Rattle.mails.specs.declared.call.Call.TheVariants as calls
 use Rattle.mails.specs.declared.framework.Framework.{Framework}
 use Rattle.mails.specs.declared.mail.Command.{Command}
 use Rattle.mails.specs.declared.mail.Command.TheVariants.{EndFramework}
 use Rattle.mails.specs.declared.refusal.MasterRefusal.TheVariants.{LimitExceeded}
-use Rattle.cluster_model.specs.Ids.{is_among, same}
+use Rattle.cluster_model.specs.Ids.{is_among}
 use Rattle.cluster_model.specs.Sides.{SendEnd, Side, issue, sends_nothing, side_step}
 use Rattle.cluster_model.specs.Masters.{AtSide, Doing, Master, Move, Moved, TearDownAll, framework_of, has_numbers, is_of, move, move_all, refused, with_framework, withdraws}
 use Rattle.cluster_model.specs.Calls.{called, on_teardown, to_list}

@@ -7,8 +7,7 @@ use Rattle.std.specs.declared.cmp.Ordering.TheVariants.{Less, Equal, Greater}
 use Rattle.std.specs.BTreeMap.{insert_entry}
 use Rattle.std.proofs.lemmas.Bool.{and_from}
 use Rattle.std.proofs.lemmas.Bool.Decides.{nat_tests}
-use Rattle.names_core.specs.Ids.{Numbered}
-use Rattle.cluster_model.specs.Ids.{same, before}
+use Rattle.names_core.specs.Ids.{Numbered, same, before}
 use Rattle.cluster_model.specs.Masters.{Placed, put_placed}
 use Rattle.master_calls.specs.Tasks.{HeldTask, held_task}
 use Rattle.master_calls.specs.Reconciles.{key_cmp}

@@ -3,7 +3,7 @@
 ghost use Rattle.std.specs.Prelude.{◌≡◌, ◌&&◌, not, [], IfOk, OnOk, fold, map};
 ghost use Rattle.std.specs.BTreeMap.{values};
 ghost use Rattle.mails.specs.declared.call.Call.TheVariants as calls;
-ghost use Rattle.cluster_model.specs.Ids.{same};
+ghost use Rattle.names_core.specs.Ids.{same};
 ghost use Rattle.cluster_model.specs.Calls.{called, is_awaited};
 ghost use Rattle.agent_sides.specs.Own.{holding, holding_of};
 ghost use Rattle.master_state.specs.Works.{Gave, master_of};

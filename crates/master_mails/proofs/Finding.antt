@@ -7,9 +7,8 @@ use Rattle.std.specs.declared.cmp.Ordering.TheVariants.{Less, Equal, Greater}
 use Rattle.std.specs.BTreeMap.{is_at}
 use Rattle.std.specs.BTreeSet.{insert_key}
 use Rattle.std.proofs.lemmas.Bool.Decides.{nat_tests}
-use Rattle.names_core.specs.Ids.{Numbered}
+use Rattle.names_core.specs.Ids.{Numbered, same}
 use Rattle.mails.specs.declared.task.Booked.{Booked}
-use Rattle.cluster_model.specs.Ids.{same}
 use Rattle.master_mails.specs.Reported.{id_cmp}
 
 at_same : (q k : Numbered) → is_at (id_cmp q) k ≡ same k q

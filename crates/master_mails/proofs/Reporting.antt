@@ -3,7 +3,7 @@ use Rattle.std.proofs.Common.{◌≡◌, ℕ, Bool, true, false, not, ◌&&◌, 
 use Rattle.std.specs.Prelude.{if◌then◌else◌}
 use Rattle.std.specs.List.{list_all, list_any}
 use Rattle.std.proofs.lemmas.Bool.{and_from}
-use Rattle.names_core.specs.Ids.{Numbered}
+use Rattle.names_core.specs.Ids.{Numbered, same}
 use Rattle.mails.specs.declared.framework.Framework.{Framework}
 use Rattle.mails.specs.declared.mail.AgentMail.TheVariants.{Report}
 use Rattle.mails.specs.declared.mail.Command.{Command}
@@ -11,7 +11,7 @@ use Rattle.mails.specs.declared.mail.Command.TheVariants.{EndFramework}
 use Rattle.mails.specs.declared.refusal.MasterRefusal.{MasterRefusal}
 use Rattle.quantity.specs.declared.rows.Row.{Row}
 use Rattle.mails.specs.declared.task.Booked.{Booked}
-use Rattle.cluster_model.specs.Ids.{is_among, same}
+use Rattle.cluster_model.specs.Ids.{is_among}
 use Rattle.cluster_model.specs.Mails.{is_reported, is_to_end, loses, rescinds, session_opens}
 use Rattle.cluster_model.specs.Masters.{AtSide, Master, Move, Moved, sending_more, tells, without_filters_on}
 use Rattle.cluster_model.specs.Sides.{SendEnd, Side, heard, issue, sends_nothing, side_step}

@@ -1,12 +1,11 @@
 -- What frameworks are told, where the master knows these frameworks.
 use Rattle.std.specs.Prelude.{ℕ, suc, ◌&&◌, nat_le, if◌then◌else◌, List, [], Option, Some, None}
-use Rattle.names_core.specs.Ids.{Numbered}
+use Rattle.names_core.specs.Ids.{Numbered, same}
 use Rattle.names_core.specs.declared.state.TaskState.TheVariants.{Lost}
 use Rattle.mails.specs.declared.framework.Framework.{Framework}
 use Rattle.mails.specs.declared.task.Booked.{Booked}
 use Rattle.mails.specs.declared.task.Offer.{Offer}
 use Rattle.booked_tasks.specs.declared.tasks.Heard.{Heard}
-use Rattle.cluster_model.specs.Ids.{same}
 use Rattle.cluster_model.specs.Events.{Event, StreamEvent, Rescind, update_event}
 use Rattle.cluster_model.specs.Mails.{is_reported}
 use Rattle.cluster_model.specs.Masters.{on_stream, stream_of}

@@ -3,10 +3,9 @@
 ghost use Rattle.std.specs.Prelude.{◌≡◌, List, [], fold, IfOk, OnOk};
 ghost use Rattle.std.specs.BTreeMap.{is_at};
 ghost use Rattle.std.specs.List.{list_any};
-ghost use Rattle.cluster_model.specs.Ids.{same};
 ghost use Rattle.mails.specs.declared.task.Booked.{Booked};
 ghost use Rattle.master_mails.specs.Reported.{frameworks_of, id_cmp, keys_of, with_framework, with_key};
-ghost use Rattle.names_core.specs.Ids.{Numbered};
+ghost use Rattle.names_core.specs.Ids.{Numbered, same};
 
 use listed::Listed;
 use mails::Booked;

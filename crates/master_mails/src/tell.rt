@@ -1,7 +1,7 @@
 //! Events to frameworks, on their open streams.
 
 ghost use Rattle.std.specs.Prelude.{◌≡◌, ◌<◌, ◌&&◌, ◌++◌, map, flat_map, suc, nat_le, IfOk, OnOk};
-ghost use Rattle.cluster_model.specs.Ids.{same};
+ghost use Rattle.names_core.specs.Ids.{same};
 ghost use Rattle.cluster_model.specs.Mails.{beats, is_reported};
 ghost use Rattle.cluster_model.specs.Masters.{on_stream, stream_of, tells_all};
 ghost use Rattle.frameworks.specs.Frameworks.{with_id};

@@ -2,14 +2,14 @@
 use Rattle.std.proofs.Common.{◌≡◌, ℕ, ◌≤◌, true, false, cond, List, [], ◌∷◌, ◌++◌, map, drop, fold, length, refl, sym, ap, ◌∙◌, arith, inl, inr, bytes_eq, append_assoc, append-nil}
 use Rattle.std.specs.List.{AllByRecursion, list_all, list_any}
 use Rattle.std.proofs.lemmas.Bool.Decides.{nat_tests}
-use Rattle.names_core.specs.Ids.{Numbered}
+use Rattle.names_core.specs.Ids.{Numbered, before, same}
 use Rattle.quantity.specs.declared.rows.Row.{Row}
 use Rattle.quantity.specs.Rows.{AreRows, covers}
 use Rattle.quantity.proofs.Amounts.{amount-append, covers_is_at_least}
 use Rattle.quantity.proofs.Rests.{rests_are_less}
 use Rattle.mails.specs.declared.task.Offer.{Offer}
 use Rattle.mails.specs.declared.mail.ToAgent.{ToAgent}
-use Rattle.cluster_model.specs.Ids.{before, bytes_before, following, same}
+use Rattle.cluster_model.specs.Ids.{bytes_before, following}
 use Rattle.cluster_model.specs.Sides.{MakeOffer, Run, Side, may_offer, offered, sends_nothing, taken}
 use Rattle.cluster_model.specs.Events.{MadeOffer, offer_of}
 use Rattle.cluster_model.specs.Masters.{AtSide, Move, Moved, at_side, at_this_side, move, move_all, past_side, sending_more}

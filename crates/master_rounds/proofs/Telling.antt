@@ -1,8 +1,7 @@
 -- The events of a round, and all that a master holds after it.
 use Rattle.std.proofs.Common.{◌≡◌, ℕ, suc, ◌≤◌, Bool, true, false, cond, List, [], ◌∷◌, ◌++◌, map, filter, flat_map, fold, length, Option, Some, None, refl, sym, ap, ◌∙◌, arith}
-use Rattle.names_core.specs.Ids.{Numbered}
+use Rattle.names_core.specs.Ids.{Numbered, same}
 use Rattle.mails.specs.declared.framework.Framework.{Framework}
-use Rattle.cluster_model.specs.Ids.{same}
 use Rattle.cluster_model.specs.Sides.{Side}
 use Rattle.cluster_model.specs.Events.{MadeOffer, Offers, offer_of}
 use Rattle.cluster_model.specs.Masters.{Moved, move_all, moved, on_stream}

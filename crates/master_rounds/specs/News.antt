@@ -1,11 +1,10 @@
 -- Offers that are made at their agents, and told to their frameworks.
 use Rattle.std.specs.Prelude.{List, [], ◌∷◌, filter, fold, Option, Some, None}
-use Rattle.names_core.specs.Ids.{Numbered}
+use Rattle.names_core.specs.Ids.{Numbered, same}
 use Rattle.mails.specs.declared.framework.Framework.{Framework}
 use Rattle.mails.specs.declared.task.Offer as mails_offer
 use Rattle.scheduler_events.specs.declared.event.Event.TheVariants as events
 use Rattle.scheduler_events.specs.declared.offer.Offer as json_offer
-use Rattle.cluster_model.specs.Ids.{same}
 use Rattle.cluster_model.specs.Sides.{Side}
 use Rattle.agent_sides.specs.Changes.{offering}
 use Rattle.agent_sides.specs.Looks.{at_name}

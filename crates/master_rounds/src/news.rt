@@ -1,7 +1,7 @@
 //! Offers are made at their agents, and told to their frameworks.
 
 ghost use Rattle.std.specs.Prelude.{◌≡◌, ◌++◌, ◌≤◌, filter, flat_map, length, IfOk, OnOk};
-ghost use Rattle.cluster_model.specs.Ids.{same};
+ghost use Rattle.names_core.specs.Ids.{same};
 ghost use Rattle.master_rounds.specs.News.{news_of, offers_all, offers_at, offers_event, plain};
 
 use agent_sides::Sides;

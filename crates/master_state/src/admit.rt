@@ -1,7 +1,8 @@
 //! What each call but SUBSCRIBE is first asked.
 
 ghost use Rattle.std.specs.Prelude.{◌≡◌};
-ghost use Rattle.cluster_model.specs.Ids.{is_among, same};
+ghost use Rattle.names_core.specs.Ids.{same};
+ghost use Rattle.cluster_model.specs.Ids.{is_among};
 ghost use Rattle.master_state.specs.Works.{admission, admission_of, admission_on, master_of};
 
 use crate::state::State;

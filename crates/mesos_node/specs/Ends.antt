@@ -1,7 +1,7 @@
 -- What is written once a cluster isn't served any more.
 use Rattle.std.specs.Prelude.{◌≡◌, ℕ, List, Option}
 use Rattle.std.specs.Io.KnownBytes.{Appends}
-use Rattle.cluster_core.specs.Recording.{Recorded, IsSound}
+use Rattle.recorded_clusters.specs.Recording.{Recorded, IsSound}
 use Rattle.replayed_clusters.specs.Tables.{table}
 
 -- the text is the table at the end of a cluster's history,

@@ -16,7 +16,7 @@ pub record InRange (i : Numbered) : Type 0 where
   pub n_fits : i.n < 2 ^ 32
 
 abbrev pub same : Numbered → Numbered → Bool
-same a b = a.run == b.run && a.n == b.n
+same a b = a.n == b.n && a.run == b.run
 
 -- ids stand by run, then by number
 abbrev pub before : Numbered → Numbered → Bool

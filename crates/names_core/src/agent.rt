@@ -12,11 +12,17 @@ use std::marker::Model;
 
 /// The name of an agent, its `agent_id`: 1 to 255 bytes of UTF-8 without control characters,
 /// space, slash and backslash.
-#[derive(Drop)]
 pub struct AgentName {
     text: String,
     /// The number of the text. Names whose numbers differ are two, so most comparisons end there.
     number: u32,
+}
+
+// By hand, so that who drops one goes through none of its parts.
+impl Drop for AgentName {
+    fn drop(self) {
+        let AgentName { text: _, number: _ } = self;
+    }
 }
 
 impl Model for AgentName {

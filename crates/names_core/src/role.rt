@@ -11,9 +11,16 @@ use std::marker::Model;
 
 /// The name of a role: 1 to 255 bytes of UTF-8 without control characters, space and backslash.
 /// A slash is a plain character, and `*` is the default role.
-#[derive(Debug, Drop)]
+#[derive(Debug)]
 pub struct RoleName {
     text: String,
+}
+
+// By hand, so that who drops one goes through none of its parts.
+impl Drop for RoleName {
+    fn drop(self) {
+        let RoleName { text: _ } = self;
+    }
 }
 
 impl Model for RoleName {

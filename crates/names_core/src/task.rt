@@ -11,9 +11,16 @@ use std::marker::Model;
 
 /// The name that a framework gives a task, its `task_id`:
 /// 1 to 255 bytes of UTF-8 without control characters, space, slash and backslash.
-#[derive(Debug, Drop)]
+#[derive(Debug)]
 pub struct TaskName {
     text: String,
+}
+
+// By hand, so that who drops one goes through none of its parts.
+impl Drop for TaskName {
+    fn drop(self) {
+        let TaskName { text: _ } = self;
+    }
 }
 
 impl Model for TaskName {

@@ -14,12 +14,11 @@ use Rattle.std.proofs.lemmas.Bool.Decides.{nat_tests}
 use Rattle.offer_book.specs.declared.names.Given.{Given}
 use Rattle.std.proofs.lemmas.List.{take_more}
 use Rattle.std.proofs.lemmas.Bool.{true≢false, or_parts}
-use Rattle.names_core.specs.Ids.{Numbered}
+use Rattle.names_core.specs.Ids.{Numbered, same}
 use Rattle.names_core.specs.declared.state.TaskState.{TaskState}
 use Rattle.mails.specs.declared.task.Booked.{Booked}
 use Rattle.mails.specs.declared.mail.Command.{Command}
 use Rattle.mails.specs.declared.mail.Command.TheVariants.{Launch, Kill, Ack, EndFramework}
-use Rattle.cluster_model.specs.Ids.{same}
 use Rattle.cluster_model.specs.Sides.{heard_update, forget, forget_all}
 use Rattle.offer_book.specs.Accounts.{Account, with_task, with_ended, without_key, hearing, after_commands, ended, has_key}
 use Rattle.booked_tasks.specs.Launches.{id_cmp}

@@ -1,8 +1,7 @@
 -- Looking for booked tasks by framework and name.
 use Rattle.std.specs.Prelude.{ℕ, Bool, ◌&&◌, if◌then◌else◌, List, map, flat_map, fold, Option, None, bytes_eq}
-use Rattle.names_core.specs.Ids.{Numbered}
+use Rattle.names_core.specs.Ids.{Numbered, same}
 use Rattle.mails.specs.declared.task.Booked.{Booked}
-use Rattle.cluster_model.specs.Ids.{same}
 use Rattle.cluster_model.specs.Masters.{Placed, first_placed, held_among}
 use Rattle.offer_book.specs.Accounts.{Account, has_key}
 

@@ -5,10 +5,9 @@ use Rattle.std.specs.Ordering.{nat_cmp, ordering_then}
 use Rattle.std.specs.Cmp.Lexicographic.{slice_cmp}
 use Rattle.std.specs.declared.cmp.Ordering.{Ordering}
 use Rattle.std.specs.BTreeMap.{BTreeMap, get_by}
-use Rattle.names_core.specs.Ids.{Numbered}
+use Rattle.names_core.specs.Ids.{Numbered, same}
 use Rattle.mails.specs.declared.task.Booked.{Booked}
 use Rattle.offer_book.specs.Accounts.{Account}
-use Rattle.cluster_model.specs.Ids.{same}
 use Rattle.booked_tasks.specs.Launches.{id_cmp}
 use Rattle.offer_book.specs.declared.names.Given.{Given}
 pub use Rattle.offer_book.specs.declared.names.Keys.{Keys}

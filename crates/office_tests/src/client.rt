@@ -2,9 +2,10 @@
 
 use crate::gate::Overlap;
 use crate::scripts::Move;
-use cluster_core::{KeptEntry, RecordedCluster, Step, StepCause};
+use cluster_core::{KeptEntry, Step, StepCause};
 use desk_lock::{Office, Pass};
 use names_core::{AgentName, StreamId};
+use recorded_clusters::RecordedCluster;
 use std::alloc::Global;
 use std::io::{Read, Write};
 use std::net::{Net, SocketAddr, TcpListener, TcpStream};

@@ -3,9 +3,9 @@
 use crate::requests::{SEATS_SPENT, SUBSCRIBE};
 use crate::scripts::{LOSES_MASTER, Move, OVERLAPS, SUBSCRIBES};
 use crate::served::{Closed, refuses_unopened, served};
-use cluster_core::RecordedCluster;
 use http_door::{Bench, BenchFault, NoGate, Sink, Source, serve_conn};
 use office_bench::Seating;
+use recorded_clusters::RecordedCluster;
 use std::alloc::Global;
 use std::marker::Brand;
 use std::net::{Net, TcpListener, TcpStream};

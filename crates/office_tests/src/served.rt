@@ -5,9 +5,7 @@ ghost use Rattle.std.specs.Prelude.{◌≡◌, [], IfSome};
 use crate::client::Client;
 use crate::gate::Overlap;
 use crate::scripts::Move;
-use cluster_core::{
-    Cluster, Entry, KeptEntry, RecordedCluster, Step, Verdict, fresh_agents_open, fresh_records,
-};
+use cluster_core::{Cluster, Entry, KeptEntry, Step, Verdict, fresh_agents_open, fresh_records};
 use desk_lock::{Desk, Office, Pass, Passes, Recorded};
 use http_door::Bench;
 use http_workers::serve_all;
@@ -16,6 +14,7 @@ use names_core::{AgentName, Run, StreamId};
 use office_bench::{SeatBench, Seating, TcpArrivals};
 use post_rules::Queues;
 use quantity::Resources;
+use recorded_clusters::RecordedCluster;
 use role_weights::Weights;
 use std::alloc::Global;
 use std::net::{Net, TcpListener, TcpStream};

@@ -13,9 +13,16 @@ use std::alloc::{AllocError, Global};
 use std::marker::Model;
 
 /// Amounts of named resources: at most eight names, each with an amount from 1 to 2^40.
-#[derive(Debug, Drop)]
+#[derive(Debug)]
 pub struct Resources {
     rows: Vec<Row>,
+}
+
+// By hand, so that who drops one goes through none of its parts.
+impl Drop for Resources {
+    fn drop(self) {
+        let Resources { rows: _ } = self;
+    }
 }
 
 impl Model for Resources {

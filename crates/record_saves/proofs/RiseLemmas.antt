@@ -4,8 +4,7 @@ use Rattle.std.specs.List.{AllByRecursion}
 use Rattle.std.proofs.lemmas.Bool.{and_parts}
 use Rattle.std.proofs.lemmas.Bool.Decides.{nat_tests}
 use Rattle.sqlite_rules.proofs.ListLemmas.{all_from, all_has}
-use Rattle.names_core.specs.Ids.{Numbered}
-use Rattle.cluster_model.specs.Ids.{before}
+use Rattle.names_core.specs.Ids.{Numbered, before}
 use Rattle.mails.specs.declared.record.RecordedTask.{RecordedTask}
 use Rattle.agent_core.specs.Records.{keys_rise, rise_behind}
 use Rattle.record_text.specs.Written.{IsTask}

@@ -8,8 +8,7 @@ use Rattle.sqlite_rules.specs.Lists.{Has}
 use Rattle.sqlite_rules.proofs.ListLemmas.{all_has, all_from, has_at}
 use Rattle.std.proofs.lemmas.Bool.{and_parts}
 use Rattle.std.proofs.lemmas.Bool.Decides.{nat_tests}
-use Rattle.names_core.specs.Ids.{Numbered}
-use Rattle.cluster_model.specs.Ids.{before}
+use Rattle.names_core.specs.Ids.{Numbered, before}
 use Rattle.agent_core.specs.Records.{is_behind, keys_rise, rise_behind}
 use Rattle.mails.specs.declared.record.RecordedTask.{RecordedTask}
 use Rattle.keep_rows.specs.Tables.{Cuts, place_of}

@@ -4,7 +4,7 @@ ghost use Rattle.std.specs.Prelude.{◌≡◌, ◌&&◌, if◌then◌else◌, If
 ghost use Rattle.std.specs.List.{list_any};
 ghost use Rattle.stream_core.specs.Updates.{is_done, is_full};
 ghost use Rattle.cluster_model.specs.Agents.{is_task, has_ended, is_front_at, stated, acknowledged, needs_place};
-ghost use Rattle.cluster_model.specs.Ids.{same};
+ghost use Rattle.names_core.specs.Ids.{same};
 
 use crate::ids::{is_same_framework, is_same_key};
 use mails::RecordedTask;

@@ -1,7 +1,7 @@
 //! Ids, compared.
 
 ghost use Rattle.std.specs.Prelude.{◌≡◌};
-ghost use Rattle.cluster_model.specs.Ids.{same};
+ghost use Rattle.names_core.specs.Ids.{same};
 
 use names_core::{FrameworkId, LaunchKey};
 

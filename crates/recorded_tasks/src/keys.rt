@@ -2,7 +2,7 @@
 
 ghost use Rattle.std.specs.Prelude.{◌≡◌};
 ghost use Rattle.std.specs.List.{list_all};
-ghost use Rattle.cluster_model.specs.Ids as ids;
+ghost use Rattle.names_core.specs.Ids as ids;
 
 use mails::RecordedTask;
 use names_core::LaunchKey;

@@ -9,9 +9,15 @@ use std::collections::BTreeMap;
 use std::marker::Model;
 
 /// The weights of roles, whole numbers from 1 to 1,000. A role that has been given none has 1.
-#[derive(Drop)]
 pub struct Weights {
     entries: BTreeMap<String, u16>,
+}
+
+// By hand, so that who drops one goes through none of its parts.
+impl Drop for Weights {
+    fn drop(self) {
+        let Weights { entries: _ } = self;
+    }
 }
 
 impl Model for Weights {

@@ -2,11 +2,10 @@
 use Rattle.std.proofs.Common.{◌≡◌, ℕ, ◌+◌, ◌≤◌, Bool, true, false, ◌&&◌, cond, List, [], ◌∷◌, ◌++◌, Option, Some, None, refl, sym, ap, ◌∙◌, arith, bytes_eq, zero-le, append_assoc, inl, inr}
 use Rattle.std.specs.List.{find, list_all}
 use Rattle.std.proofs.lemmas.Bool.Decides.{nat_tests}
-use Rattle.names_core.specs.Ids.{Numbered}
+use Rattle.names_core.specs.Ids.{Numbered, before, same}
 use Rattle.quantity.specs.Rows.{amount}
 use Rattle.quantity.proofs.Amounts.{amount-append}
 use Rattle.mails.specs.declared.framework.Framework.{Framework}
-use Rattle.cluster_model.specs.Ids.{before, same}
 use Rattle.frameworks.specs.Frameworks.{are_ordered}
 use Rattle.drf_pick.specs.Orders.{Among}
 use Rattle.round_shares.specs.Gifts.{Gift, all_rows, role_rows, rows_to}

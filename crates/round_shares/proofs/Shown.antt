@@ -3,14 +3,13 @@ use Rattle.std.proofs.Common.{◌≡◌, ℕ, ◌+◌, ◌≤◌, Bool, true, fa
 use Rattle.std.specs.List.{AllByRecursion, find, fold, list_all, list_any}
 use Rattle.std.specs.Cmp.Lexicographic.{bytes_decides}
 use Rattle.std.proofs.lemmas.Bool.Decides.{nat_tests}
-use Rattle.names_core.specs.Ids.{Numbered}
+use Rattle.names_core.specs.Ids.{Numbered, before, same}
 use Rattle.quantity.specs.declared.rows.Row.{Row}
 use Rattle.quantity.specs.Rows.{amount}
 use Rattle.quantity.specs.Laws.{SameAmounts}
 use Rattle.quantity.proofs.Amounts.{amount-append}
 use Rattle.mails.specs.declared.framework.Framework.{Framework}
 use Rattle.role_weights.specs.Weights.{RoleWeight, weight_of}
-use Rattle.cluster_model.specs.Ids.{before, same}
 use Rattle.cluster_model.specs.Sides.{Side}
 use Rattle.frameworks.specs.Frameworks.{are_ordered}
 use Rattle.drf_pick.specs.declared.holder.Holder.{Holder}

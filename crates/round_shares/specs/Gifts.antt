@@ -1,13 +1,12 @@
 -- What frameworks hold: current offers, and booked tasks that haven't ended.
 use Rattle.std.specs.Prelude.{ℕ, if◌then◌else◌, List, [], ◌++◌, map, flat_map, fold, bytes_eq}
-use Rattle.names_core.specs.Ids.{Numbered}
+use Rattle.names_core.specs.Ids.{Numbered, same}
 use Rattle.quantity.specs.declared.rows.Row.{Row}
 use Rattle.mails.specs.declared.framework.Framework.{Framework}
 use Rattle.mails.specs.declared.task.Job.{Job}
 use Rattle.mails.specs.declared.task.Offer.{Offer}
 use Rattle.mails.specs.declared.task.Booked.{Booked}
 use Rattle.role_weights.specs.Weights.{RoleWeight, weight_of}
-use Rattle.cluster_model.specs.Ids.{same}
 use Rattle.cluster_model.specs.Sides.{Side, unended}
 use Rattle.cluster_model.specs.Events.{MadeOffer}
 use Rattle.cluster_model.specs.Masters.{Master}

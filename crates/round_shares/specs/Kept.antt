@@ -3,7 +3,7 @@ use Rattle.std.specs.Prelude.{◌≡◌, Bool, true, false, ◌&&◌, List, [], 
 use Rattle.quantity.specs.declared.rows.Row.{Row}
 use Rattle.mails.specs.declared.framework.Framework.{Framework}
 use Rattle.role_weights.specs.Weights.{RoleWeight, weight_of}
-use Rattle.cluster_model.specs.Ids.{same}
+use Rattle.names_core.specs.Ids.{same}
 use Rattle.drf_pick.specs.declared.holder.Client.{Client}
 use Rattle.drf_pick.specs.Shares.{Tally, restarted, weighed, with_role}
 

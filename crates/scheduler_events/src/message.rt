@@ -7,9 +7,15 @@ use std::alloc::{AllocError, Global};
 use std::marker::Model;
 
 /// A text of at most 255 bytes.
-#[derive(Drop)]
 pub struct Message {
     text: String,
+}
+
+// By hand, so that who drops one goes through none of its parts.
+impl Drop for Message {
+    fn drop(self) {
+        let Message { text: _ } = self;
+    }
 }
 
 impl Model for Message {

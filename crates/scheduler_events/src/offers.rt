@@ -8,9 +8,15 @@ use std::alloc::{AllocError, Global};
 use std::marker::Model;
 
 /// At most 256 offers.
-#[derive(Drop)]
 pub struct Offers {
     offers: Vec<Offer>,
+}
+
+// By hand, so that who drops one goes through none of its parts.
+impl Drop for Offers {
+    fn drop(self) {
+        let Offers { offers: _ } = self;
+    }
 }
 
 impl Model for Offers {
@@ -35,7 +41,8 @@ impl Offers {
     pub fn into_vec(self) -> Vec<Offer>
         ensures { result.items ≡ self }
     {
-        self.offers
+        let Offers { offers } = self;
+        offers
     }
 
     pub fn as_slice(&self) -> &[Offer]

@@ -17,9 +17,15 @@ const GREATEST_SUM: u64 = 281_474_976_710_656;
 
 /// Amounts of any number of names, in byte order of these;
 /// an amount stays at 2^48 once it is reached.
-#[derive(Drop)]
 pub struct Sum {
     rows: Vec<Row>,
+}
+
+// By hand, so that who drops one goes through none of its parts.
+impl Drop for Sum {
+    fn drop(self) {
+        let Sum { rows: _ } = self;
+    }
 }
 
 impl Model for Sum {

@@ -1,14 +1,13 @@
 -- What comes to the master from an agent.
 use Rattle.std.proofs.Common.{◌≡◌, ℕ, suc, ◌-◌, ◌≤◌, Bool, true, false, not, ◌&&◌, ◌||◌, ◌==◌, cond, List, [], ◌∷◌, map, take, drop, refl, arith, bytes_eq}
 use Rattle.std.specs.Prelude.{nat_le, if◌then◌else◌}
-use Rattle.names_core.specs.Ids.{Numbered}
+use Rattle.names_core.specs.Ids.{Numbered, same}
 use Rattle.names_core.specs.States.{is_terminal}
 use Rattle.names_core.specs.declared.state.TaskState.{TaskState}
 use Rattle.mails.specs.declared.task.Booked.{Booked}
 use Rattle.mails.specs.declared.mail.Command.{Command}
 use Rattle.mails.specs.declared.mail.Command.TheVariants.{Launch, Kill, Ack, EndFramework}
 use Rattle.mails.specs.declared.mail.AgentMail.TheVariants.{Report, Applied, Update}
-use Rattle.cluster_model.specs.Ids.{same}
 use Rattle.cluster_model.specs.Sides.{Side, counts, forget, forget_all, heard, heard_update, opened, opens}
 use Rattle.cluster_model.specs.Mails.{hear_at}
 use Rattle.side_fits.specs.Fits.{AllFitTotals, FitsTotal, HearingAtKeepsFits, HearingKeepsFits}

@@ -2,7 +2,7 @@
 use Rattle.std.proofs.Common.{◌≡◌, ◌⊎◌, ℕ, suc, ◌+◌, ◌-◌, ◌≤◌, ◌<◌, Bool, true, false, not, ◌&&◌, ◌==◌, cond, List, [], ◌∷◌, ◌++◌, length, map, filter, take, drop, refl, sym, ap, ◌∙◌, subst, arith, bytes_eq, inl, inr}
 use Rattle.std.specs.List.{AllByRecursion}
 use Rattle.std.proofs.lemmas.Bool.Decides.{nat_tests}
-use Rattle.names_core.specs.Ids.{Numbered}
+use Rattle.names_core.specs.Ids.{Numbered, before, same}
 use Rattle.quantity.specs.declared.rows.Row.{Row}
 use Rattle.quantity.specs.Rows.{covers}
 use Rattle.mails.specs.declared.task.Job.{Job}
@@ -12,7 +12,7 @@ use Rattle.mails.specs.declared.mail.AgentMail.TheVariants.{Report, Applied, Upd
 use Rattle.mails.specs.declared.mail.Command.{Command}
 use Rattle.mails.specs.declared.mail.Command.TheVariants.{Launch, Kill, Ack, EndFramework}
 use Rattle.mails.specs.declared.mail.MasterMail.TheVariants.{Issued}
-use Rattle.cluster_model.specs.Ids.{before, following, is_among, same}
+use Rattle.cluster_model.specs.Ids.{following, is_among}
 use Rattle.cluster_model.specs.Sides.{Run, Side, Sending, SideStep, MakeOffer, Withdraw, LaunchFrom, SendKill, SendAck, SendEnd, SendHello, SendAgain, Lose, Launching, accepted, books, counts, forget_all, halted, heard, heard_update, is_good, is_named, issue, launch_all, may_launch, may_offer, offer_rows, offered, opened, opens, restarted, sends_nothing, shut, side_step, taken, used_offers, without_used}
 use Rattle.cluster_model.specs.Masters.{AtSide, HaltAll, Move, Moved, RestartAll, TearDownAll, at_side, at_this_side, move, move_all, past_side}
 use Rattle.cluster_model.specs.Mails.{hear_at}

@@ -1,6 +1,6 @@
 -- The master's steps and moves.
 use Rattle.std.proofs.Common.{◌≡◌, ℕ, suc, ◌+◌, ◌≤◌, Bool, true, false, not, ◌&&◌, cond, List, [], ◌∷◌, ◌++◌, length, map, filter, refl, arith, bytes_eq, zero-le}
-use Rattle.names_core.specs.Ids.{Numbered}
+use Rattle.names_core.specs.Ids.{Numbered, same}
 use Rattle.quantity.specs.declared.rows.Row.{Row}
 use Rattle.quantity.specs.Rows.{amount, covers}
 use Rattle.quantity.specs.Laws.{AtLeast}
@@ -10,7 +10,7 @@ use Rattle.mails.specs.declared.task.Offer.{Offer}
 use Rattle.mails.specs.declared.mail.Command.{Command}
 use Rattle.mails.specs.declared.mail.Command.TheVariants.{Launch, Kill, Ack, EndFramework}
 use Rattle.mails.specs.declared.mail.MasterMail.TheVariants.{Issued}
-use Rattle.cluster_model.specs.Ids.{same, following, is_among}
+use Rattle.cluster_model.specs.Ids.{following, is_among}
 use Rattle.cluster_model.specs.Sides.{Run, Side, Sending, SideStep, MakeOffer, Withdraw, LaunchFrom, SendKill, SendAck, SendEnd, SendHello, SendAgain, Lose, Launching, accepted, books, halted, is_good, is_named, issue, just_booked, launch_all, lost, may_launch, may_offer, offer_rows, offered, restarted, sends_nothing, shut, side_step, taken, used_offers, without_used}
 use Rattle.cluster_model.specs.Masters.{AtSide, HaltAll, Move, Moved, RestartAll, TearDownAll, at_side, at_this_side, move, past_side}
 use Rattle.side_fits.specs.Fits.{AllFitTotals, FitsTotal, MovesKeepFits, StepsKeepFits}

@@ -1,12 +1,11 @@
 -- What is taken of each agent fits what it owns, and each step of the master keeps it so.
 use Rattle.std.specs.Prelude.{◌≡◌, ◌≤◌, ◌<◌, ℕ, true, List, [], length, ⊤, bytes_eq}
 use Rattle.std.specs.List.{AllByRecursion}
-use Rattle.names_core.specs.Ids.{Numbered}
+use Rattle.names_core.specs.Ids.{Numbered, before}
 use Rattle.quantity.specs.declared.rows.Row.{Row}
 use Rattle.quantity.specs.Laws.{AtLeast}
 use Rattle.mails.specs.declared.mail.AgentMail.{AgentMail}
 use Rattle.mails.specs.declared.mail.AgentMail.TheVariants.{Report, Applied, Update}
-use Rattle.cluster_model.specs.Ids.{before}
 use Rattle.cluster_model.specs.Sides.{Run, Side, SideStep, heard, job_rows, side_step, taken, unended}
 use Rattle.cluster_model.specs.Masters.{Move, Moved, move_all}
 use Rattle.cluster_model.specs.Mails.{hear_at}

@@ -5,8 +5,7 @@ use Rattle.std.proofs.lemmas.Grind.{flat_map-append}
 use Rattle.std.proofs.lemmas.Bool.Decides.{nat_tests}
 use Rattle.std.proofs.lemmas.List.{append_assoc, map-append, take_more}
 use Rattle.std.proofs.lemmas.List.Quantifiers.{position-Some}
-use Rattle.names_core.specs.Ids.{Numbered}
-use Rattle.cluster_model.specs.Ids.{same, before}
+use Rattle.names_core.specs.Ids.{Numbered, same, before}
 use Rattle.cluster_histories.specs.Steps.{told_on}
 use Rattle.cluster_laws.specs.Runs.{AreRising}
 use Rattle.scheduler_events.specs.declared.event.Event.{Event}

@@ -5,8 +5,7 @@ use Rattle.std.specs.List.{AllByRecursion as Each, find}
 use Rattle.std.proofs.lemmas.Bool.{cond_both}
 use Rattle.std.proofs.lemmas.List.{map-append, drop-append-le, length-append}
 use Rattle.std.proofs.lemmas.Option.{slice_get_within}
-use Rattle.names_core.specs.Ids.{Numbered}
-use Rattle.cluster_model.specs.Ids.{same, before}
+use Rattle.names_core.specs.Ids.{Numbered, same, before}
 use Rattle.cluster_model.specs.Events.{Event, StreamEvent}
 use Rattle.cluster_histories.specs.Clusters.{Cluster, Stream}
 use Rattle.cluster_steps.specs.declared.step.Step.TheVariants.{Take}

@@ -8,8 +8,7 @@ use Rattle.std.proofs.lemmas.List.Sums.{position_or_len_is}
 use Rattle.std.proofs.lemmas.List.Quantifiers.{position-Some}
 use Rattle.std.proofs.lemmas.Bool.{lt-ltb, ltb-false}
 use Rattle.std.proofs.lemmas.Bool.Decides.{nat_tests}
-use Rattle.names_core.specs.Ids.{Numbered}
-use Rattle.cluster_model.specs.Ids.{same, before}
+use Rattle.names_core.specs.Ids.{Numbered, same, before}
 use Rattle.cluster_laws.specs.Runs.{AreRising}
 use Rattle.told_streams.specs.Streams.{KeptStream, kept_ids, is_kept_as}
 

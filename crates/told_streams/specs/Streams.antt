@@ -1,8 +1,7 @@
 -- Streams, and the events on them that nobody took yet.
 use Rattle.std.specs.Prelude.{ℕ, Bool, List, [], ◌++◌, map, drop, slice_get, length, if◌then◌else◌, Option, Some, None, option_map}
 use Rattle.std.specs.List.{find}
-use Rattle.names_core.specs.Ids.{Numbered}
-use Rattle.cluster_model.specs.Ids.{same}
+use Rattle.names_core.specs.Ids.{Numbered, same}
 use Rattle.cluster_histories.specs.Steps.{told_on}
 use Rattle.scheduler_events.specs.declared.event.Event.{Event}
 use Rattle.scheduler_events.specs.declared.stream_event.StreamEvent.{StreamEvent}

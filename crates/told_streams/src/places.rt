@@ -4,7 +4,7 @@ ghost use Rattle.std.specs.Prelude.{◌≡◌, ◌++◌, ◌∷◌, [], ◌≤�
 ghost use Rattle.std.specs.List.{position};
 ghost use Rattle.std.specs.Option.{option_copied};
 ghost use Rattle.cluster_laws.specs.Runs.{AreRising};
-ghost use Rattle.cluster_model.specs.Ids.{before};
+ghost use Rattle.names_core.specs.Ids.{before};
 ghost use Rattle.told_streams.specs.Streams.{KeptStream as Kept, heard, hearing, is_kept_as, kept_ids, next_on, opened_stream, stream_kept, taken};
 
 use crate::kept::KeptStream;

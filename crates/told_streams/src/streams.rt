@@ -14,9 +14,15 @@ use std::marker::Model;
 
 /// Every stream that was ever opened, in that order, with the events on it that nobody took yet.
 /// Their ids rise, by run and then by number.
-#[derive(Drop)]
 pub struct Streams {
     streams: Vec<KeptStream>,
+}
+
+// By hand, so that who drops one goes through none of its parts.
+impl Drop for Streams {
+    fn drop(self) {
+        let Streams { streams: _ } = self;
+    }
 }
 
 impl Model for Streams {

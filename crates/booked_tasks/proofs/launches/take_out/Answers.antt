@@ -1,5 +1,5 @@
 use Rattle.std.proofs.Common.{◌≡◌, ◌<◌, true, length, get_or, subst, sym}
-use Rattle.cluster_model.specs.Ids.{same}
+use Rattle.names_core.specs.Ids.{same}
 use Rattle.booked_tasks.specs.Launches.{HasOthers}
 use Rattle.booked_tasks.proofs.ByFramework.{others_stay}
 use Rattle.booked_tasks.proofs.launches.take_out.Goals as goal

@@ -1,6 +1,6 @@
 use Rattle.std.proofs.Common.{rules, ◌≡◌, true, ◌∷◌, length, sym, subst, ap, ◌∙◌}
 use Rattle.agent_core.specs.Records.{keys_rise}
-use Rattle.cluster_model.specs.Ids.{before}
+use Rattle.names_core.specs.Ids.{before}
 use Rattle.cluster_openings.specs.Openable.{share_key}
 use Rattle.cluster_openings.proofs.Decided.{passes_first, passes_other, rest_rises, shared_with_none}
 use Rattle.cluster_openings.proofs.apart.share_key.Goals as goal

@@ -1,5 +1,5 @@
 use Rattle.std.proofs.Common.{◌≡◌, true, false, not, ap, sym, subst, ◌∙◌}
-use Rattle.cluster_model.specs.Ids.{before}
+use Rattle.names_core.specs.Ids.{before}
 use Rattle.cluster_model.specs.Rounds.{Share, share}
 use Rattle.share_sums.specs.Dominant.{is_at_most}
 use Rattle.share_sums.specs.Sums.{IsSum}

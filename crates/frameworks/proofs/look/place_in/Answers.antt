@@ -1,7 +1,7 @@
 use Rattle.std.proofs.Common.{rules}
 use Rattle.std.proofs.lemmas.List.Sorted.{IsPartitionPoint-from_clause}
 use Rattle.mails.specs.declared.framework.Framework.{Framework}
-use Rattle.cluster_model.specs.Ids.{before}
+use Rattle.names_core.specs.Ids.{before}
 use Rattle.frameworks.proofs.Placed.{parted, place_is}
 use Rattle.frameworks.proofs.look.place_in.Goals as goal
 

@@ -1,6 +1,6 @@
 use Rattle.std.proofs.Common.{◌+◌, rules, arith}
 use Rattle.std.proofs.lemmas.List.Sorted.{IsPartitionPoint-from_clause}
-use Rattle.cluster_model.specs.Ids.{before}
+use Rattle.names_core.specs.Ids.{before}
 use Rattle.id_spans.proofs.Rising.{parted, spans_one}
 use Rattle.id_spans.proofs.span.found_by_halving.Goals as goal
 

@@ -1,7 +1,7 @@
 use Rattle.std.proofs.Common.{arith, ◌≡◌, ◌<◌, length, Result, Err, ap, subst}
 use Rattle.std.proofs.lemmas.Result.{err_from_is_err_and}
 use Rattle.std.proofs.lemmas.List.{take_all}
-use Rattle.quantity.specs.Rows.{AreRows, names_limit}
+use Rattle.quantity.specs.Rows.{names_limit}
 use Rattle.keep_rows.specs.declared.fault.KeepFault.{KeepFault}
 use Rattle.keep_rows.specs.declared.fault.KeepFault.TheVariants.{Damaged}
 use Rattle.keep_rows.proofs.TotalLemmas.{AreRead, read_more, total_is, total_too_long, total_untold}
@@ -25,13 +25,10 @@ returns-in_err-add_amount-clause-untold c = λ held same damaged.
 pub loop-row-preserved : goal.loop-row-preserved
 loop-row-preserved c =
     let it = c.in_ok-add_amount.ensures.added in
-    record {
-      read = read_more c.args.rows.now c.loop-row.total c.add_amount.new.total c.loop-row.row-index c.row-item.result it.0 c.loop-row-test.true c.row-item.is c.loop-row.invariant.read it.1 it.2;
-      are = subst AreRows c.total.view_is c.total.invariant;
-    }
+    read_more c.args.rows.now c.loop-row.total c.add_amount.new.total c.loop-row.row-index c.row-item.result it.0 c.loop-row-test.true c.row-item.is c.loop-row.invariant it.1 it.2
 
 pub returns-clause-told : goal.returns-clause-told
 returns-clause-told c = λ held same.
     let rows = c.args.rows.now in
-    let all : AreRead rows c.loop-row.total = subst (λ some. AreRead some c.loop-row.total) (take_all c.loop-row.row-index rows (omega (arith, c.loop-row-test.false))) c.loop-row.invariant.read in
-    total_is rows held c.loop-row.total (omega (arith, c.if-rows-gt-NAMES_LIMIT.false)) all c.loop-row.invariant.are same
+    let all : AreRead rows c.loop-row.total = subst (λ some. AreRead some c.loop-row.total) (take_all c.loop-row.row-index rows (omega (arith, c.loop-row-test.false))) c.loop-row.invariant in
+    total_is rows held c.loop-row.total (omega (arith, c.if-rows-gt-NAMES_LIMIT.false)) all c.rows.ensures.ordered same

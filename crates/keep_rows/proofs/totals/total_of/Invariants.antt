@@ -1,11 +1,6 @@
 use Rattle.std.proofs.Common.{take}
-use Rattle.quantity.specs.Rows.{AreRows}
 use Rattle.keep_rows.proofs.TotalLemmas.{AreRead}
 use Rattle.keep_rows.proofs.totals.total_of.Given as goal
 
 abbrev pub invariant-loop-row : goal.invariant-loop-row
-invariant-loop-row l =
-    record {
-      read : AreRead (take l.row-index l.rows) l.total;
-      are : AreRows l.total;
-    }
+invariant-loop-row l = AreRead (take l.row-index l.rows) l.total

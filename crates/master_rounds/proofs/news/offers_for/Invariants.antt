@@ -1,5 +1,5 @@
 use Rattle.std.proofs.Common.{◌≡◌, ◌≤◌, length, take, filter}
-use Rattle.cluster_model.specs.Ids.{same}
+use Rattle.names_core.specs.Ids.{same}
 use Rattle.master_rounds.proofs.news.offers_for.Given as goal
 
 abbrev pub invariant-loop-offer : goal.invariant-loop-offer

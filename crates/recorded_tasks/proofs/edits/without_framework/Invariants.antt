@@ -1,5 +1,5 @@
 use Rattle.std.proofs.Common.{◌≡◌, not, filter, take}
-use Rattle.cluster_model.specs.Ids.{same}
+use Rattle.names_core.specs.Ids.{same}
 use Rattle.recorded_tasks.proofs.edits.without_framework.Given as goal
 
 abbrev pub invariant-loop-task : goal.invariant-loop-task

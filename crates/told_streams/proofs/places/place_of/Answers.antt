@@ -1,7 +1,7 @@
 use Rattle.std.proofs.Common.{◌≡◌, ◌<◌, false, length, get_or, sym, ap, ◌∙◌, rules, arith}
 use Rattle.std.proofs.lemmas.List.{get_or_default}
 use Rattle.std.proofs.lemmas.List.Sorted.{IsPartitionPoint-from_clause}
-use Rattle.cluster_model.specs.Ids.{before}
+use Rattle.names_core.specs.Ids.{before}
 use Rattle.told_streams.specs.Streams.{KeptStream, is_kept_as}
 use Rattle.told_streams.proofs.Standing.{placed, parted, not_placed}
 use Rattle.told_streams.proofs.places.place_of.Goals.{else-place-streams-via-then-place-streams+else-is, else-place-streams-via-else-place-streams}

@@ -6,7 +6,7 @@ use Rattle.desk_seats.specs.Found.{IsRefusedCall}
 use Rattle.desk_seats.specs.Receipts.{IsTaken, PassState}
 use Rattle.desk_seats.specs.declared.desk.pass.Answered.{Answered}
 use Rattle.desk_seats.specs.declared.fault.OfficeFault.{OfficeFault}
-use Rattle.cluster_core.specs.Recording.{IsSound, MayRefuse, Recorded, Takes, kind_of}
+use Rattle.recorded_clusters.specs.Recording.{IsSound, MayRefuse, Recorded, Takes, kind_of}
 use Rattle.running_clusters.specs.declared.given.Given.{Given}
 
 -- in a sound state the cluster took the step: its entry is the receipt's,

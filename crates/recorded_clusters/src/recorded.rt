@@ -6,9 +6,8 @@ ghost use Rattle.cluster_agents.specs.Moves.{kept_agents};
 ghost use Rattle.cluster_core.specs.Reading.{IsNextFrom, IsNextTo, NoneFrom, NoneTo};
 ghost use Rattle.cluster_core.specs.Stories.{state_of};
 
-use crate::cluster::Cluster;
-use crate::taken::Taken;
 use agent_core::Record;
+use cluster_core::{Cluster, Taken};
 use cluster_steps::{ClusterFault, Step};
 use desk_seats::{Entered, FaultKind, Recorded};
 use names_core::{AgentName, StreamId};
@@ -19,9 +18,15 @@ use std::alloc::Global;
 use std::marker::Model;
 
 /// A cluster each of whose calls is handed out once, and its mails once and in their order.
-#[derive(Drop)]
 pub struct RecordedCluster {
     cluster: Cluster<Queues>,
+}
+
+// By hand, so that who drops one goes through none of its parts.
+impl Drop for RecordedCluster {
+    fn drop(self) {
+        let RecordedCluster { cluster: _ } = self;
+    }
 }
 
 impl Model for RecordedCluster {
@@ -48,7 +53,7 @@ impl RecordedCluster {
 }
 
 impl Recorded for RecordedCluster {
-    ghost use Rattle.cluster_core.specs.Recording as recording;
+    ghost use Rattle.recorded_clusters.specs.Recording as recording;
 
     type Step = Step;
 
@@ -132,7 +137,7 @@ impl Recorded for RecordedCluster {
 
 impl Running for RecordedCluster {
     ghost use Rattle.std.proofs.Common.{refl};
-    ghost use Rattle.cluster_core.specs.Answering.{IsRefusedBy, IsTakenBy};
+    ghost use Rattle.recorded_clusters.specs.Answering.{IsRefusedBy, IsTakenBy};
     ghost use Rattle.cluster_core.specs.Reading.{is_open_in, waiting_in};
     ghost use Rattle.cluster_core.specs.Stories.{state_of};
 

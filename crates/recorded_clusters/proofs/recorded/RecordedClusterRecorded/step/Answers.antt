@@ -1,6 +1,6 @@
 use Rattle.std.proofs.Common.{subst}
-use Rattle.cluster_core.specs.Recording as recording
-use Rattle.cluster_core.proofs.recorded.RecordedClusterRecorded.step.Goals as goal
+use Rattle.recorded_clusters.specs.Recording as recording
+use Rattle.recorded_clusters.proofs.recorded.RecordedClusterRecorded.step.Goals as goal
 
 pub returns-clause-taken : goal.returns-clause-taken
 returns-clause-taken c =
