@@ -60,10 +60,7 @@ pub fn connect<S: Start>(
     let files = open_pair(rt, path, start)?;
     let options = options(rt)?;
     match Connection::open_files(rt.alloc(), files, options) {
-        Ok(mut conn) => {
-            conn.set_clock(rt);
-            Ok(conn)
-        }
+        Ok(conn) => Ok(conn),
         Err((error, _)) => Err(error),
     }
 }

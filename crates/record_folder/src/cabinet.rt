@@ -1,11 +1,11 @@
 //! The store of an agent's record.
 
-use crate::stores::{FilePlace, Place};
+use crate::stores::{FilePlace, Given, Request, ask_at};
 use agent_core::{Cabinet, Record};
 use keep_store::{KeepFault, Keeper};
 use names_core::AgentName;
 use quantity::Resources;
-use sqlite::Alter;
+use sqlite::{FileFrom, FileStore, Unknown};
 use std::alloc::Global;
 
 /// The file of an agent's record, and what is configured that the agent owns.
@@ -37,94 +37,59 @@ impl<'a> RecordFile<'a> {
     }
 }
 
-/// The store of an agent's record at a place. It is opened when it is first needed,
-/// and again after it failed.
-#[derive(Drop)]
-struct PlaceCabinet<P: Place> {
-    place: P,
-    keeper: Option<Keeper<P::Store>>,
+/// A store over files, where it is open. All that is asked of one goes through one function.
+pub(crate) struct OpenFiles {
+    keeper: Option<Keeper<FileStore<FileFrom<Unknown>>>>,
 }
 
-impl<P: Place> PlaceCabinet<P> {
-    /// The store, opened where it isn't open.
-    fn take(&mut self) -> Result<Keeper<P::Store>, KeepFault> {
-        match self.keeper.take() {
-            Some(keeper) => Ok(keeper),
-            None => self.place.open(),
-        }
+// By hand: who drops one calls this, and goes through none of its store.
+impl Drop for OpenFiles {
+    fn drop(self) {
+        let OpenFiles { keeper: _ } = self;
     }
 }
 
-/// The store, with a record kept in place of the one before.
-fn saved<S: Alter + Drop>(
-    mut keeper: Keeper<S>,
-    alloc: Global,
-    durable: &Record,
-) -> Result<Keeper<S>, KeepFault> {
-    match keeper.save(alloc, durable) {
-        Ok(()) => Ok(keeper),
-        Err(fault) => Err(fault),
+impl OpenFiles {
+    /// A store that isn't open yet.
+    pub(crate) fn new() -> OpenFiles {
+        OpenFiles { keeper: None }
+    }
+
+    /// Has the store at a place do what is asked. It stays open, and is closed after a fault.
+    pub(crate) fn ask(
+        &mut self,
+        place: &FilePlace<'_>,
+        alloc: Global,
+        request: Request<'_>,
+    ) -> Result<Given, KeepFault> {
+        ask_at(place, &mut self.keeper, alloc, request)
     }
 }
 
-/// A store that was opened, with the record that it keeps.
-fn loaded<S: Alter + Drop>(
-    mut keeper: Keeper<S>,
-    alloc: Global,
-) -> Result<(Keeper<S>, Option<Record>), KeepFault> {
-    match keeper.load(alloc) {
-        Ok(record) => Ok((keeper, record)),
-        Err(fault) => Err(fault),
-    }
-}
-
-impl<P: Place> Cabinet for PlaceCabinet<P> {
-    ghost use Rattle.std.specs.Prelude.{true};
-
-    type Fault = KeepFault;
-
-    // What a store at a place has kept is known to nobody; what a save leaves in a store is said of `Keeper::save`.
-    ghost saved = { λ _ _. true };
-
-    fn save(&mut self, alloc: Global, durable: &Record) -> Result<(), KeepFault> {
-        let keeper = self.take()?;
-        self.keeper = Some(saved(keeper, alloc, durable)?);
-        Ok(())
-    }
-
-    fn reopen(&mut self, alloc: Global) -> Result<Option<Record>, KeepFault> {
-        self.keeper = None;
-        let (keeper, record) = loaded(self.place.open()?, alloc)?;
-        self.keeper = Some(keeper);
-        Ok(record)
-    }
-}
-
-/// The store of an agent's record, over the file at a path. Who uses it sees neither the place nor
-/// the store.
+/// The store of an agent's record, over the file at a path. It is opened when it is first needed,
+/// and again after it failed. Who uses it sees neither the place nor the store.
 pub struct FileCabinet<'a> {
-    at: PlaceCabinet<FilePlace<'a>>,
+    place: FilePlace<'a>,
+    store: OpenFiles,
 }
 
-// By hand: who drops a cabinet calls this, and goes through none of its store.
+// By hand: who drops a cabinet calls this, and goes through none of its parts.
 impl<'a> Drop for FileCabinet<'a> {
     fn drop(self) {
-        let FileCabinet { at: _ } = self;
+        let FileCabinet { place: _, store: _ } = self;
     }
 }
 
 impl<'a> FileCabinet<'a> {
     pub(crate) fn new(place: FilePlace<'a>) -> FileCabinet<'a> {
-        let keeper = None;
-        FileCabinet {
-            at: PlaceCabinet { place, keeper },
-        }
+        let store = OpenFiles::new();
+        FileCabinet { place, store }
     }
 
     /// Where the store is. The store is closed.
     pub(crate) fn into_place(self) -> FilePlace<'a> {
-        let FileCabinet { at } = self;
-        at.place
+        let FileCabinet { place, store: _ } = self;
+        place
     }
 }
 
@@ -133,14 +98,16 @@ impl<'a> Cabinet for FileCabinet<'a> {
 
     type Fault = KeepFault;
 
-    // As of a store at any place.
+    // What a store over files has kept is known to nobody; what a save leaves in a store is said of `Keeper::save`.
     ghost saved = { λ _ _. true };
 
     fn save(&mut self, alloc: Global, durable: &Record) -> Result<(), KeepFault> {
-        self.at.save(alloc, durable)
+        self.store.ask(&self.place, alloc, Request::Save(durable))?;
+        Ok(())
     }
 
     fn reopen(&mut self, alloc: Global) -> Result<Option<Record>, KeepFault> {
-        self.at.reopen(alloc)
+        let given = self.store.ask(&self.place, alloc, Request::Load)?;
+        Ok(given.record)
     }
 }

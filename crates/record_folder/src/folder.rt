@@ -8,12 +8,13 @@ ghost use Rattle.cluster_model.specs.Openings.{GoodOpening};
 ghost use Rattle.record_folder.specs.Refusals.{IsFileRefusal, IsFolderRefusal, IsRecordRefusal, IsStoreRefusal};
 ghost use Rattle.record_folder.specs.declared.folder_fault.FolderFault.TheVariants.{NoCluster};
 
-use crate::cabinet::{FileCabinet, RecordFile};
+use crate::cabinet::{FileCabinet, OpenFiles, RecordFile};
 use crate::folder_fault::FolderFault;
-use crate::stores::{FilePlace, run_at};
+use crate::stores::{FilePlace, Request};
 use agent_core::{Cabinet, Record};
 use agent_sides::{Config, ConfiguredAgent};
 use cluster_openings::good_opening;
+use keep_store::KeepFault;
 use names_core::Run;
 use plain_data::Plain;
 use std::alloc::{AllocError, Global};
@@ -29,13 +30,20 @@ pub struct Folder<'a> {
     pub files: Vec<RecordFile<'a>>,
 }
 
+/// The next run of the master, from the store of its runs.
+fn take_run(alloc: Global, place: &FilePlace<'_>) -> Result<Run, KeepFault> {
+    let mut store = OpenFiles::new();
+    let given = store.ask(place, alloc, Request::NextRun)?;
+    given.run.ok_or(KeepFault::Damaged)
+}
+
 /// The next run of the master, from the store of its runs in a folder.
 fn next_run(rt: &HostRuntime, folder: &str) -> Result<Run, FolderFault>
     ensures { IfErr result IsStoreRefusal }
 {
     let path = format!(in rt.alloc(); "{folder}/master.db")?;
     let place = FilePlace::new(rt, path);
-    match run_at(&place) {
+    match take_run(rt.alloc(), &place) {
         Ok(run) => Ok(run),
         Err(fault) => {
             let path = place.into_path();

@@ -11,11 +11,8 @@ image log db = record { log = log; db = db }
 abbrev seen : List ℕ → List ℕ → Bool → List Event → List ℕ
 seen log db is_log history = (replay (cond is_log log db) history).seen
 
-pub returns-in-Ok-clause-opened : goal.returns-in-Ok-clause-opened
-returns-in-Ok-clause-opened g c = rw c.set_clock.ensures c.in-Ok.ensures.opened
-
 pub returns-in-Ok-clause-found : goal.returns-in-Ok-clause-found
-returns-in-Ok-clause-found g c = rw c.set_clock.ensures λ clean.
+returns-in-Ok-clause-found g c = λ clean.
     let (log, db) = c.in_ok-files.ensures.fresh in
     let found = c.in-Ok.ensures.found clean in
     let same = ap₂ image (ap₂ (seen g.S.Start.log g.S.Start.db) log.0 log.1) (ap₂ (seen g.S.Start.log g.S.Start.db) db.0 db.1) in
