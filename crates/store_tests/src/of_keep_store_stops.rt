@@ -1,12 +1,12 @@
 //! A keeper in memory whose database file or whose journal stops working after so many calls: what
 //! is found afterwards is the record before or the new one as a whole, and no run is given twice.
 
-use crate::disks::{Calls, Contents, NO_STOP, calls_of, connected, contents_of, disks_of, nothing};
+use crate::disks::{Calls, Contents, NO_STOP, calls_of, nothing};
 use crate::older_forms::{write_rows, write_text};
 use crate::records::{OTHER_TASKS, OWNS_4, OWNS_8, SESSION_1, SESSION_2, TASKS, load, save};
+use crate::visits::{OverDisks, Visitor, closed, opened, visit};
 use keep_store::Keeper;
-use sqlite::{Alter, Connection, FileStore, Files};
-use sqlite_disk::Disk;
+use sqlite::{Alter, Connection};
 use std::alloc::Global;
 
 /// Texts of records that are kept one after another.
@@ -26,39 +26,6 @@ struct Answers {
     saved: usize,
     /// Which run it gave.
     run: Option<u32>,
-}
-
-/// A store over disks, which it gives back. What is done with one is written once, for every store.
-pub(crate) trait OverDisks: Alter + Drop {
-    type Disks: Drop;
-
-    fn into_disks(self) -> Self::Disks;
-}
-
-impl<D: Disk + Drop> OverDisks for FileStore<D> {
-    type Disks = Files<D>;
-
-    fn into_disks(self) -> Files<D> {
-        self.close()
-    }
-}
-
-fn adopted<S: OverDisks>(conn: Connection<S>) -> Result<Keeper<S>, S::Disks> {
-    match Keeper::adopt(conn) {
-        Ok(keeper) => Ok(keeper),
-        Err((_, conn)) => Err(conn.into_store().into_disks()),
-    }
-}
-
-/// The keeper over a connection, or what is left of its disks.
-pub(crate) fn opened<S: OverDisks>(
-    conn: Result<Connection<S>, S::Disks>,
-) -> Result<Keeper<S>, S::Disks> {
-    adopted(conn?)
-}
-
-pub(crate) fn closed<S: OverDisks>(keeper: Keeper<S>) -> S::Disks {
-    keeper.into_connection().into_store().into_disks()
 }
 
 /// How many of the records were kept once the others are saved, until one is refused.
@@ -81,24 +48,25 @@ fn answers_of<S: Alter>(alloc: Global, keeper: &mut Keeper<S>, plan: Plan<'_>) -
     }
 }
 
-/// What a keeper over a connection answers, and the disks behind it.
-fn visited<S: OverDisks>(
-    alloc: Global,
-    conn: Result<Connection<S>, S::Disks>,
-    plan: Plan<'_>,
-) -> (Answers, S::Disks) {
-    match opened(conn) {
-        Ok(mut keeper) => {
-            let answers = answers_of(alloc, &mut keeper, plan);
-            (answers, closed(keeper))
-        }
-        Err(left) => {
-            let answers = Answers {
-                found: None,
-                saved: plan.kept,
-                run: None,
-            };
-            (answers, left)
+/// A keeper answers what a plan asks; before, it answers nothing.
+#[derive(Drop)]
+struct Asking<'a> {
+    plan: Plan<'a>,
+    answers: Answers,
+}
+
+impl<'a> Visitor for Asking<'a> {
+    fn over<S: OverDisks>(
+        &mut self,
+        alloc: Global,
+        conn: Result<Connection<S>, S::Disks>,
+    ) -> S::Disks {
+        match opened(conn) {
+            Ok(mut keeper) => {
+                self.answers = answers_of(alloc, &mut keeper, self.plan);
+                closed(keeper)
+            }
+            Err(left) => left,
         }
     }
 }
@@ -112,10 +80,14 @@ fn visited_at(
     plan: Plan<'_>,
     is_lossy: bool,
 ) -> Option<(Answers, Contents)> {
-    let disks = disks_of(alloc, contents, calls)?;
-    let (answers, left) = visited(alloc, connected(alloc, disks), plan);
-    match contents_of(alloc, left, is_lossy) {
-        Some(left) => Some((answers, left)),
+    let answers = Answers {
+        found: None,
+        saved: plan.kept,
+        run: None,
+    };
+    let mut asking = Asking { plan, answers };
+    match visit(alloc, contents, calls, is_lossy, &mut asking) {
+        Some(left) => Some((asking.answers, left)),
         None => None,
     }
 }
@@ -150,26 +122,35 @@ fn write_older<S: Alter>(alloc: Global, conn: &mut Connection<S>, form: Older<'_
     }
 }
 
-/// The disks of a store of an older form.
-fn with_older<S: OverDisks>(
-    alloc: Global,
-    mut conn: Connection<S>,
-    form: Older<'_>,
-) -> Option<S::Disks> {
-    if write_older(alloc, &mut conn, form) {
-        Some(conn.into_store().into_disks())
-    } else {
-        None
+/// A store of an older form is written, and no keeper is over it.
+#[derive(Drop)]
+struct Writing<'a> {
+    form: Older<'a>,
+    is_written: bool,
+}
+
+impl<'a> Visitor for Writing<'a> {
+    fn over<S: OverDisks>(
+        &mut self,
+        alloc: Global,
+        conn: Result<Connection<S>, S::Disks>,
+    ) -> S::Disks {
+        match conn {
+            Ok(mut conn) => {
+                self.is_written = write_older(alloc, &mut conn, self.form);
+                conn.into_store().into_disks()
+            }
+            Err(left) => left,
+        }
     }
 }
 
 /// The files of a store of an older form, in which run 1 was given out.
 fn older_files(alloc: Global, form: Older<'_>) -> Option<Contents> {
-    let disks = disks_of(alloc, &nothing(alloc), NO_STOP)?;
-    match connected(alloc, disks) {
-        Ok(conn) => contents_of(alloc, with_older(alloc, conn, form)?, false),
-        Err(_) => None,
-    }
+    let is_written = false;
+    let mut writing = Writing { form, is_written };
+    let left = visit(alloc, &nothing(alloc), NO_STOP, false, &mut writing)?;
+    if writing.is_written { Some(left) } else { None }
 }
 
 /// The last run that was given out before: where a record was kept, run 1 was.

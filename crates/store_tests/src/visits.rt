@@ -1,28 +1,91 @@
-//! Keepers that visit files in memory: each opens them, does one thing, and gives them back.
+//! Visits of files in memory: each opens a store over them, does one thing, and gives them back.
+//! What is done is written for every store, so that one function alone has one over files at hand:
+//! the prover goes through all laws of that type there, which takes half a minute and more.
 
 use crate::disks::{Calls, Contents, NO_STOP, connected, contents_of, disks_of};
-use crate::of_keep_store_stops::{OverDisks, closed, opened};
 use agent_core::Record;
 use keep_store::Keeper;
-use sqlite::{Alter, Connection};
+use sqlite::{Alter, Connection, FileStore, Files};
+use sqlite_disk::Disk;
 use std::alloc::{AllocError, Global};
 
-fn saves<S: Alter>(alloc: Global, keeper: &mut Keeper<S>, record: &Record) -> bool {
-    keeper.save(alloc, record).is_ok()
+/// A store over disks, which it gives back.
+pub(crate) trait OverDisks: Alter + Drop {
+    type Disks: Drop;
+
+    fn into_disks(self) -> Self::Disks;
 }
 
-/// Whether the keeper over a connection saves a record, and the disks behind it.
-fn saved<S: OverDisks>(
-    alloc: Global,
+impl<D: Disk + Drop> OverDisks for FileStore<D> {
+    type Disks = Files<D>;
+
+    fn into_disks(self) -> Files<D> {
+        self.close()
+    }
+}
+
+fn adopted<S: OverDisks>(conn: Connection<S>) -> Result<Keeper<S>, S::Disks> {
+    match Keeper::adopt(conn) {
+        Ok(keeper) => Ok(keeper),
+        Err((_, conn)) => Err(conn.into_store().into_disks()),
+    }
+}
+
+/// The keeper over a connection, or what is left of its disks.
+pub(crate) fn opened<S: OverDisks>(
     conn: Result<Connection<S>, S::Disks>,
-    record: &Record,
-) -> (bool, S::Disks) {
-    match opened(conn) {
-        Ok(mut keeper) => {
-            let is_saved = saves(alloc, &mut keeper, record);
-            (is_saved, closed(keeper))
+) -> Result<Keeper<S>, S::Disks> {
+    adopted(conn?)
+}
+
+pub(crate) fn closed<S: OverDisks>(keeper: Keeper<S>) -> S::Disks {
+    keeper.into_connection().into_store().into_disks()
+}
+
+/// Does something with a store over disks.
+pub(crate) trait Visitor {
+    /// Does it, and gives the disks back.
+    fn over<S: OverDisks>(
+        &mut self,
+        alloc: Global,
+        conn: Result<Connection<S>, S::Disks>,
+    ) -> S::Disks;
+}
+
+/// What is left of files of these contents, which stop after so many calls, behind a visit and a
+/// stop: all that was written, or what was synced alone. None for want of memory.
+pub(crate) fn visit<V: Visitor>(
+    alloc: Global,
+    contents: &Contents,
+    calls: Calls,
+    is_lossy: bool,
+    visitor: &mut V,
+) -> Option<Contents> {
+    let disks = disks_of(alloc, contents, calls)?;
+    let left = visitor.over(alloc, connected(alloc, disks));
+    contents_of(alloc, left, is_lossy)
+}
+
+/// A keeper saves a record.
+#[derive(Drop)]
+struct Saving<'a> {
+    record: &'a Record,
+    is_saved: bool,
+}
+
+impl<'a> Visitor for Saving<'a> {
+    fn over<S: OverDisks>(
+        &mut self,
+        alloc: Global,
+        conn: Result<Connection<S>, S::Disks>,
+    ) -> S::Disks {
+        match opened(conn) {
+            Ok(mut keeper) => {
+                self.is_saved = keeper.save(alloc, self.record).is_ok();
+                closed(keeper)
+            }
+            Err(left) => left,
         }
-        Err(left) => (false, left),
     }
 }
 
@@ -35,12 +98,18 @@ pub fn save_at(
     is_lossy: bool,
     record: &Record,
 ) -> Option<(bool, Contents)> {
-    let disks = disks_of(alloc, contents, calls)?;
-    let (is_saved, left) = saved(alloc, connected(alloc, disks), record);
-    match contents_of(alloc, left, is_lossy) {
-        Some(left) => Some((is_saved, left)),
+    let is_saved = false;
+    let mut saving = Saving { record, is_saved };
+    match visit(alloc, contents, calls, is_lossy, &mut saving) {
+        Some(left) => Some((saving.is_saved, left)),
         None => None,
     }
+}
+
+/// A keeper loads a record; it can't before.
+#[derive(Drop)]
+struct Loading {
+    found: Result<Option<Record>, AllocError>,
 }
 
 fn loads<S: Alter>(alloc: Global, keeper: &mut Keeper<S>) -> Result<Option<Record>, AllocError> {
@@ -50,14 +119,19 @@ fn loads<S: Alter>(alloc: Global, keeper: &mut Keeper<S>) -> Result<Option<Recor
     }
 }
 
-/// What the keeper over a connection loads.
-fn loaded<S: OverDisks>(
-    alloc: Global,
-    conn: Result<Connection<S>, S::Disks>,
-) -> Result<Option<Record>, AllocError> {
-    match opened(conn) {
-        Ok(mut keeper) => loads(alloc, &mut keeper),
-        Err(_) => Err(AllocError),
+impl Visitor for Loading {
+    fn over<S: OverDisks>(
+        &mut self,
+        alloc: Global,
+        conn: Result<Connection<S>, S::Disks>,
+    ) -> S::Disks {
+        match opened(conn) {
+            Ok(mut keeper) => {
+                self.found = loads(alloc, &mut keeper);
+                closed(keeper)
+            }
+            Err(left) => left,
+        }
     }
 }
 
@@ -65,8 +139,9 @@ fn loaded<S: OverDisks>(
 /// none is kept. It fails where the files can't be opened, what they keep is no record, or memory
 /// is refused.
 pub fn load_at(alloc: Global, contents: &Contents) -> Result<Option<Record>, AllocError> {
-    match disks_of(alloc, contents, NO_STOP) {
-        Some(disks) => loaded(alloc, connected(alloc, disks)),
-        None => Err(AllocError),
-    }
+    let mut loading = Loading {
+        found: Err(AllocError),
+    };
+    let _left = visit(alloc, contents, NO_STOP, false, &mut loading);
+    loading.found
 }

@@ -1,4 +1,4 @@
-use Rattle.cluster_tests.proofs.of_cluster_core_recorded.seats_that_took.Given as goal
+use Rattle.cluster_tests.proofs.of_recorded_clusters.seats_that_took.Given as goal
 
 -- the ledger of the blank that was just made
 abbrev pub ghosts-two_seats : goal.ghosts-two_seats
