@@ -14,7 +14,7 @@ use Rattle.std.proofs.lemmas.Bool.Decides.{nat_tests}
 use Rattle.offer_book.specs.declared.names.Given.{Given}
 use Rattle.std.proofs.lemmas.List.{take_more}
 use Rattle.std.proofs.lemmas.Bool.{true≢false, or_parts}
-use Rattle.names_core.specs.Ids.{Numbered, same}
+use Rattle.names_core.specs.Ids.{Numbered, before, same}
 use Rattle.names_core.specs.declared.state.TaskState.{TaskState}
 use Rattle.mails.specs.declared.task.Booked.{Booked}
 use Rattle.mails.specs.declared.mail.Command.{Command}
@@ -26,7 +26,7 @@ use Rattle.booked_tasks.proofs.ByFramework.{at_same}
 use Rattle.offer_book.specs.Books.{at_first, is_booked}
 use Rattle.cluster_model.specs.Masters.{Placed, first_placed}
 use Rattle.offer_book.specs.Held.{place, is_of_name, first_at, first_at_key, first_in, first_in_key, first_of, first_of_key}
-use Rattle.offer_book.specs.Named.{AreAllNamed, AreKeysOf, AreNamed, GivenKeys, HasAllGiven, HasOtherGiven, IsNamed, Keeps, KeepsOthers, Keys, Names, given_cmp, has_given, has_only, is_key, may_be, may_have}
+use Rattle.offer_book.specs.Named.{AreAllNamed, AreKeysOf, AreNamed, GivenKeys, HasAllGiven, HasOtherGiven, IsNamed, Keeps, KeepsOthers, Keys, Names, given_cmp, has_given, has_only, is_key, is_past, may_be, may_have}
 
 -- names, and others
 
@@ -105,7 +105,7 @@ without_only g old new key updates has framework name other apart had = kept_by 
 
 pub wider : (one other : Names) → Keeps one other → (bs : List Booked) → AreNamed one bs → AreNamed other bs
 wider one other keeps [] are = tt
-wider one other keeps (b ∷ bs) are = (keeps b.job.framework b.job.name b.job.key are.0, wider one other keeps bs are.1)
+wider one other keeps (b ∷ bs) are = ((keeps.0 b.job.framework b.job.name b.job.key are.0.0, keeps.1 b.job.key are.0.1), wider one other keeps bs are.1)
 
 pub all_wider : (one other : Names) → Keeps one other → (as_ : List Account) → AreAllNamed one as_ → AreAllNamed other as_
 all_wider one other keeps [] are = tt
@@ -200,7 +200,7 @@ module _ (names : Names) where
     key_is : (b : Booked) → IsNamed names b → is_of_name framework name b ≡ true → may_be keys b.job.key ≡ true
     key_is b is of =
         let parts = and_parts (same b.job.framework framework) (bytes_eq b.job.name name) of in
-        are_keys b.job.key (subst (λ n. may_have names framework n b.job.key ≡ true) ((bytes_decides b.job.name name).0 parts.1) (subst (λ f. may_have names f b.job.name b.job.key ≡ true) (same_is b.job.framework framework parts.0) is))
+        are_keys b.job.key (subst (λ n. may_have names framework n b.job.key ≡ true) ((bytes_decides b.job.name name).0 parts.1) (subst (λ f. may_have names f b.job.name b.job.key ≡ true) (same_is b.job.framework framework parts.0) is.0))
 
   none_is : (framework : Numbered) (name : List ℕ) → AreKeysOf names framework name None → (b : Booked) → IsNamed names b → is_of_name framework name b ≡ false
   none_is framework name none b is = by_case (is_of_name framework name b) (key_is framework name None none b is)
@@ -247,13 +247,34 @@ module _ (one other : Names) (key : Numbered) (keeps : KeepsOthers key one other
   named_still [] none are = tt
   named_still (b ∷ bs) none are =
       let parts = or_parts (has_key key b) (list_any (has_key key) bs) none in
-      (keeps b.job.framework b.job.name b.job.key parts.0 are.0, named_still bs parts.1 are.1)
+      ((keeps.0 b.job.framework b.job.name b.job.key parts.0 are.0.0, keeps.1 b.job.key are.0.1), named_still bs parts.1 are.1)
 
   pub all_still : (as_ : List Account) → is_booked key as_ ≡ false → AreAllNamed one as_ → AreAllNamed other as_
   all_still [] none are = tt
   all_still (a ∷ as_) none are =
       let parts = or_parts (list_any (has_key key) a.booked) (is_booked key as_) none in
       (named_still a.booked parts.0 are.0, all_still as_ parts.1 are.1)
+
+-- keys behind the last one
+
+pub at_itself : (key : Numbered) → before key key ≡ false
+at_itself key = grind (arith, nat_tests)
+
+pub onward : (last key other : Numbered) → before last key ≡ true → before last other ≡ false → before key other ≡ false
+onward last key other later up = grind (arith, nat_tests)
+
+other_key : (last : Option Numbered) (key other : Numbered) → is_past last key ≡ true → is_past last other ≡ false → same other key ≡ false
+other_key None key other past up = absurd (true≢false up)
+other_key (Some last) key other past up = grind (arith, nat_tests)
+
+module _ (names : Names) (key : Numbered) (past : is_past names.last key ≡ true) where
+  not_among : (bs : List Booked) → AreNamed names bs → list_any (has_key key) bs ≡ false
+  not_among [] are = refl
+  not_among (b ∷ bs) are = rw (other_key names.last key b.job.key past are.0.1, not_among bs are.1) refl
+
+  pub past_is_new : (as_ : List Account) → AreAllNamed names as_ → is_booked key as_ ≡ false
+  past_is_new [] are = refl
+  past_is_new (a ∷ as_) are = rw (not_among a.booked are.0, past_is_new as_ are.1) refl
 
 -- the tasks of a key
 

@@ -5,7 +5,7 @@ use Rattle.std.specs.Ordering.{nat_cmp, ordering_then}
 use Rattle.std.specs.Cmp.Lexicographic.{slice_cmp}
 use Rattle.std.specs.declared.cmp.Ordering.{Ordering}
 use Rattle.std.specs.BTreeMap.{BTreeMap, get_by}
-use Rattle.names_core.specs.Ids.{Numbered, same}
+use Rattle.names_core.specs.Ids.{Numbered, before, same}
 use Rattle.mails.specs.declared.task.Booked.{Booked}
 use Rattle.offer_book.specs.Accounts.{Account}
 use Rattle.booked_tasks.specs.Launches.{id_cmp}
@@ -60,8 +60,16 @@ abbrev pub AreKeysOf : Names → Numbered → List ℕ → Option Keys → Type 
 AreKeysOf names framework name keys =
     (key : Numbered) → may_have names framework name key ≡ true → may_be keys key ≡ true
 
+-- the key is behind the last one
+abbrev pub is_past : Option Numbered → Numbered → Bool
+is_past None key = true
+is_past (Some last) key = before last key
+
+-- a booked task may have this name and this key
 abbrev pub IsNamed : Names → Booked → Type 0
-IsNamed names b = may_have names b.job.framework b.job.name b.job.key ≡ true
+IsNamed names b =
+    (may_have names b.job.framework b.job.name b.job.key ≡ true)
+    × (is_past names.last b.job.key ≡ false)
 
 abbrev pub AreNamed : Names → List Booked → Type 0
 AreNamed names bs = AllByRecursion (IsNamed names) bs
@@ -70,14 +78,27 @@ AreNamed names bs = AllByRecursion (IsNamed names) bs
 abbrev pub AreAllNamed : Names → List Account → Type 0
 AreAllNamed names as_ = AllByRecursion (λ a. AreNamed names a.booked) as_
 
+-- no key up to the one is behind the other
+abbrev pub ReachesAsFar : Option Numbered → Option Numbered → Type 0
+ReachesAsFar one other =
+    (key : Numbered) → is_past one key ≡ false → is_past other key ≡ false
+
 -- the names of the one are among those of the other
-abbrev pub Keeps : Names → Names → Type 0
-Keeps one other =
+abbrev pub HasAllNames : Names → Names → Type 0
+HasAllNames one other =
     (framework : Numbered) (name : List ℕ) (key : Numbered)
     → may_have one framework name key ≡ true → may_have other framework name key ≡ true
 
--- the same, but for those with this key
-abbrev pub KeepsOthers : Numbered → Names → Names → Type 0
-KeepsOthers gone one other =
+-- the tasks of the one are among those of the other
+abbrev pub Keeps : Names → Names → Type 0
+Keeps one other = HasAllNames one other × ReachesAsFar one.last other.last
+
+-- the names of the one are among those of the other, but for those with this key
+abbrev pub HasOtherNames : Numbered → Names → Names → Type 0
+HasOtherNames gone one other =
     (framework : Numbered) (name : List ℕ) (key : Numbered) → same key gone ≡ false
     → may_have one framework name key ≡ true → may_have other framework name key ≡ true
+
+-- the tasks of the one are among those of the other, but for those of this key
+abbrev pub KeepsOthers : Numbered → Names → Names → Type 0
+KeepsOthers gone one other = HasOtherNames gone one other × ReachesAsFar one.last other.last

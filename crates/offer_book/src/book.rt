@@ -135,12 +135,15 @@ fn offer_in(
     Ok(())
 }
 
+/// A task is booked, if none of its key is known.
 fn book_in(
     accounts: &mut Vec<Account>,
     alloc: Global,
     name: &AgentName,
     task: Booked,
+    is_known: bool,
 ) -> Result<(), BookFault>
+    requires { is_known ≡ is_booked task.job.key accounts.old.items }
     ensures ok { OnOk result (booked name.now task accounts.old.items ≡ Ok accounts.new.items) }
     ensures refused { IfErr result
         (λ fault. IsRefusal fault (booked name.now task accounts.old.items)) }
@@ -149,11 +152,10 @@ fn book_in(
     let Some(place) = place_of(accounts, name) else {
         return Err(BookFault::Unknown);
     };
-    let job = &task.job;
-    if is_booked(accounts, job.key) {
+    if is_known {
         return Err(BookFault::Twice);
     }
-    if !accounts[place].fits(alloc, &job.resources)? {
+    if !accounts[place].fits(alloc, &task.job.resources)? {
         return Err(BookFault::NoRoom);
     }
     accounts[place].booked.push(alloc, task)?;
@@ -334,6 +336,16 @@ impl OfferBook {
         booked_count(&self.accounts)
     }
 
+    /// Whether a task of this key is booked. One behind all keys isn't looked for.
+    fn is_booked(&self, key: LaunchKey) -> bool
+        ensures { result ≡ is_booked key self.now }
+    {
+        if self.names.is_past(key) {
+            return false;
+        }
+        is_booked(&self.accounts, key)
+    }
+
     /// The offer of this id, if it is current, and its agent.
     pub fn offer_of(&self, id: OfferId) -> Option<(&AgentName, &Offer)>
         ensures { option_map (λ o. made o.0.now o.1.now) result ≡ offer_of id self.now }
@@ -429,8 +441,10 @@ impl OfferBook {
         ensures refused { IfErr result (λ fault. IsRefusal fault (booked name.now task self.old)) }
         ensures err { OnErr result (self.new ≡ self.old) }
     {
+        let job = &task.job;
+        let is_known = self.is_booked(job.key);
         note(&mut self.names, &self.accounts, &task);
-        book_in(&mut self.accounts, alloc, name, task)
+        book_in(&mut self.accounts, alloc, name, task, is_known)
     }
 
     /// Marks a booked task as ended: its resources are free again.
@@ -440,7 +454,7 @@ impl OfferBook {
         ensures refused { IfErr result (λ fault. IsDue (task_ended key self.old) fault) }
         ensures err { OnErr result (self.new ≡ self.old) }
     {
-        if !is_booked(&self.accounts, key) {
+        if !self.is_booked(key) {
             return Err(BookFault::Unknown);
         }
         end_in(&mut self.accounts, key);
@@ -454,7 +468,7 @@ impl OfferBook {
         ensures refused { IfErr result (λ fault. IsDue (forgotten key self.old) fault) }
         ensures err { OnErr result (self.new ≡ self.old) }
     {
-        if !is_booked(&self.accounts, key) {
+        if !self.is_booked(key) {
             return Err(BookFault::Unknown);
         }
         forget_in(&mut self.accounts, key);

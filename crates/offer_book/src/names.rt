@@ -2,10 +2,11 @@
 
 ghost use Rattle.std.specs.Prelude.{◌≡◌, true, false, Some, OnOk};
 ghost use Rattle.names_core.specs.Ids.{Numbered};
-ghost use Rattle.offer_book.specs.Named.{has_only, has_given, may_be, AreKeysOf, HasAllGiven, HasOtherGiven, IsNamed, AreNamed, AreAllNamed, Keeps, KeepsOthers};
+ghost use Rattle.offer_book.specs.Named.{has_only, has_given, is_past, may_be, AreKeysOf, HasAllGiven, HasOtherGiven, IsNamed, AreNamed, AreAllNamed, Keeps, KeepsOthers, ReachesAsFar};
 
 use crate::account::Account;
 use booked_tasks::is_same_launch;
+use id_spans::is_before;
 use mails::Booked;
 use names_core::{FrameworkId, LaunchKey, TaskName};
 use std::alloc::{AllocError, Global};
@@ -38,6 +39,19 @@ pub(crate) struct Names {
     is_whole: bool,
     /// With more names than this it is time to see how many tasks are booked.
     limit: u128,
+    /// No booked task has a launch key behind it.
+    last: Option<LaunchKey>,
+}
+
+/// Of the last key, if any, and one key more, the later one.
+fn later(last: Option<LaunchKey>, key: LaunchKey) -> LaunchKey
+    ensures reached { is_past (Some result) key ≡ false }
+    ensures kept { ReachesAsFar last (Some result) }
+{
+    let Some(last) = last else {
+        return key;
+    };
+    if is_before(&last, &key) { key } else { last }
 }
 
 /// The keys of a name with one key more.
@@ -99,6 +113,17 @@ impl Names {
             given: BTreeMap::new(alloc),
             is_whole: true,
             limit: LEAST_LIMIT,
+            last: None,
+        }
+    }
+
+    /// Whether a key is behind those of all booked tasks.
+    pub(crate) fn is_past(&self, key: LaunchKey) -> bool
+        ensures { result ≡ is_past self.now.last key }
+    {
+        match self.last {
+            None => true,
+            Some(last) => is_before(&last, &key),
         }
     }
 
@@ -117,7 +142,8 @@ impl Names {
     }
 
     fn give_up(&mut self)
-        ensures { self.new.is_whole ≡ false }
+        ensures not_whole { self.new.is_whole ≡ false }
+        ensures last { self.new.last ≡ self.old.last }
     {
         self.given.clear();
         self.is_whole = false;
@@ -140,6 +166,7 @@ impl Names {
         ensures kept { Keeps self.old self.new }
     {
         let job = &task.job;
+        self.last = Some(later(self.last, job.key));
         if !self.is_whole {
             return;
         }

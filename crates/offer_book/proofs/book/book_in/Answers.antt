@@ -8,16 +8,16 @@ pub returns-in_default-clause-refused : goal.returns-in_default-clause-refused
 returns-in_default-clause-refused c =
     rw (none_at (is_agent c.args.name.now) c.args.accounts.now.items (sym (rw c.deref.ensures.value at c.place_of.ensures) ∙ c.in_default.is)) refl
 
-pub returns-then-is_booked-clause-refused : goal.returns-then-is_booked-clause-refused
-returns-then-is_booked-clause-refused c =
+pub returns-then-is_known-clause-refused : goal.returns-then-is_known-clause-refused
+returns-then-is_known-clause-refused c =
     let some = some_at (is_agent c.args.name.now) c.args.accounts.now.items c.in-Some.place (sym (rw c.deref.ensures.value at c.place_of.ensures) ∙ c.in-Some.is) in
-    let twice : is_booked c.args.task.job.key c.args.accounts.now.items ≡ true = sym (rw c.deref-2.ensures.value at c.is_booked.ensures) ∙ c.if-is_booked.true in
+    let twice : is_booked c.args.task.job.key c.args.accounts.now.items ≡ true = sym c.requires ∙ c.if-is_known.true in
     rw (some.1, twice) refl
 
 pub returns-then-not-branch-clause-refused : goal.returns-then-not-branch-clause-refused
 returns-then-not-branch-clause-refused c =
     let first = first_at (is_agent c.args.name.now) c.args.accounts.now.items c.in-Some.place c.index.result.now (sym (rw c.deref.ensures.value at c.place_of.ensures) ∙ c.in-Some.is) c.index.ensures in
-    let once : is_booked c.args.task.job.key c.args.accounts.now.items ≡ false = sym (rw c.deref-2.ensures.value at c.is_booked.ensures) ∙ c.if-is_booked.false in
+    let once : is_booked c.args.task.job.key c.args.accounts.now.items ≡ false = sym c.requires ∙ c.if-is_known.false in
     let room : fits c.index.result.now c.args.task.job.resources ≡ false = sym c.in_ok-fits.ensures ∙ c.if-not-branch.true in
     rw (first.found, once, room) refl
 
@@ -25,6 +25,6 @@ pub returns-clause-ok : goal.returns-clause-ok
 returns-clause-ok c =
     let first = first_at (is_agent c.args.name.now) c.args.accounts.now.items c.in-Some.place c.index_mut.result.now (sym (rw c.deref.ensures.value at c.place_of.ensures) ∙ c.in-Some.is) c.index_mut.ensures.value in
     let before = first_at (is_agent c.args.name.now) c.args.accounts.now.items c.in-Some.place c.index.result.now (sym (rw c.deref.ensures.value at c.place_of.ensures) ∙ c.in-Some.is) c.index.ensures in
-    let once : is_booked c.args.task.job.key c.args.accounts.now.items ≡ false = sym (rw c.deref-2.ensures.value at c.is_booked.ensures) ∙ c.if-is_booked.false in
+    let once : is_booked c.args.task.job.key c.args.accounts.now.items ≡ false = sym c.requires ∙ c.if-is_known.false in
     let room : fits c.index.result.now c.args.task.job.resources ≡ true = sym c.in_ok-fits.ensures ∙ c.if-not-branch.false in
     rw (before.found, once, room, first.changed, c.in_ok-push.ensures.ok) refl
