@@ -5,16 +5,27 @@ ghost use Rattle.std.specs.List.{list_all};
 ghost use Rattle.std.specs.Cmp.Lexicographic.{pointwise};
 ghost use Rattle.quantity.specs.Faults.{IsRefusal};
 ghost use Rattle.quantity.specs.Names.{is_name_byte, is_resource_name, name_of};
+ghost use Rattle.quantity.specs.Texts.{bytes_of};
 
 use crate::fault::QuantityFault;
 use plain_data::Plain;
 use std::alloc::{AllocError, Global};
 use std::marker::Model;
 
+/// A text. The names that most agents have take no memory.
+#[derive(Debug, Drop)]
+enum Text {
+    Cpus,
+    Mem,
+    Disk,
+    Gpus,
+    Other(String),
+}
+
 /// The name of a resource: 1 to 64 bytes of UTF-8 without control characters, spaces, `/` and `\`.
 #[derive(Debug)]
 pub struct ResourceName {
-    text: String,
+    text: Text,
 }
 
 // By hand, so that who drops one goes through none of its parts.
@@ -25,14 +36,15 @@ impl Drop for ResourceName {
 }
 
 impl Model for ResourceName {
-    ghost use Rattle.std.specs.Prelude.{List, ℕ, IsTrue, string_bytes};
+    ghost use Rattle.std.specs.Prelude.{List, ℕ, IsTrue};
     ghost use Rattle.quantity.specs.Names.{is_resource_name};
+    ghost use Rattle.quantity.specs.Texts.{bytes_of};
 
     ghost Value = { List ℕ };
 
-    ghost view = { λ name. string_bytes name.text };
+    ghost view = { λ name. bytes_of name.text };
 
-    ghost invariant = { λ name. IsTrue (is_resource_name (string_bytes name.text)) };
+    ghost invariant = { λ name. IsTrue (is_resource_name (bytes_of name.text)) };
 }
 
 fn are_name_bytes(text: &[u8]) -> bool
@@ -49,6 +61,44 @@ pub(crate) fn is_resource_name(text: &str) -> bool
     !text.is_empty() && text.len() <= 64 && are_name_bytes(text.as_bytes())
 }
 
+impl Text {
+    fn of(alloc: Global, text: &str) -> Result<Text, AllocError>
+        ensures { IfOk result (λ kept. bytes_of kept ≡ text.now) }
+    {
+        match text {
+            "cpus" => Ok(Text::Cpus),
+            "mem" => Ok(Text::Mem),
+            "disk" => Ok(Text::Disk),
+            "gpus" => Ok(Text::Gpus),
+            other => Ok(Text::Other(String::from_str(alloc, other)?)),
+        }
+    }
+
+    fn as_str(&self) -> &str
+        ensures { result.now ≡ bytes_of self.now }
+    {
+        match self {
+            Text::Cpus => "cpus",
+            Text::Mem => "mem",
+            Text::Disk => "disk",
+            Text::Gpus => "gpus",
+            Text::Other(text) => text.as_str(),
+        }
+    }
+
+    fn copied(&self) -> Result<Text, AllocError>
+        ensures { IfOk result (λ copy. bytes_of copy ≡ bytes_of self.now) }
+    {
+        match self {
+            Text::Cpus => Ok(Text::Cpus),
+            Text::Mem => Ok(Text::Mem),
+            Text::Disk => Ok(Text::Disk),
+            Text::Gpus => Ok(Text::Gpus),
+            Text::Other(text) => Ok(Text::Other(text.clone()?)),
+        }
+    }
+}
+
 impl ResourceName {
     /// The name that a text is; `Q5 BadName` where it is none.
     pub fn from_text(alloc: Global, text: &str) -> Result<ResourceName, QuantityFault>
@@ -59,7 +109,7 @@ impl ResourceName {
             return Err(QuantityFault::BadName);
         }
         Ok(ResourceName {
-            text: String::from_str(alloc, text)?,
+            text: Text::of(alloc, text)?,
         })
     }
 
@@ -75,7 +125,7 @@ impl Clone for ResourceName {
 
     fn clone(&self) -> Result<ResourceName, AllocError> {
         Ok(ResourceName {
-            text: self.text.clone()?,
+            text: self.text.copied()?,
         })
     }
 }
@@ -90,7 +140,7 @@ impl PartialEq for ResourceName {
     ghost laws = { partial_equiv_from_equiv nat_list_eq_equiv };
 
     fn eq(&self, other: &ResourceName) -> bool {
-        self.text == other.text
+        self.as_str() == other.as_str()
     }
 }
 
