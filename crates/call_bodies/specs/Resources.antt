@@ -42,13 +42,19 @@ abbrev pub within_limits : Result (List Row) QuantityFault → Result (List Row)
 within_limits (Ok rows) = Ok rows
 within_limits (Err fault) = Err LimitExceeded
 
+-- a resource is a scalar, and reserved for no role but the default one
+unfoldable pub kind_of : Data → Result (List ℕ) Refusal
+kind_of d = do
+  kind ← required members.ResourceType (text_of (get (codes "type") d))
+  scalar ← only_scalar kind
+  role ← only_default (text_of (get (codes "role") d))
+  Ok kind
+
 -- the rows of the resources before it, and a resource's amount added
 unfoldable pub add_resource : List Row → Data → Result (List Row) Refusal
 add_resource rows d = do
   name ← needed members.ResourceName resource_name (text_of (get (codes "name") d))
-  kind ← required members.ResourceType (text_of (get (codes "type") d))
-  scalar ← only_scalar kind
-  role ← only_default (text_of (get (codes "role") d))
+  kind ← kind_of d
   amount ← amount_of d
   within_limits (added name amount rows)
 

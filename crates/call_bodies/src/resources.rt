@@ -7,7 +7,7 @@ ghost use Rattle.call_members.specs.Members.{seen, text_of};
 ghost use Rattle.call_members.specs.Ids.{needed};
 ghost use Rattle.call_members.specs.Lists.{each_in};
 ghost use Rattle.call_members.specs.declared.fault.Member.TheVariants as members;
-ghost use Rattle.call_bodies.specs.Resources.{resource_name, only_scalar, only_default, amount_of, within_limits, add_resource, resources_of};
+ghost use Rattle.call_bodies.specs.Resources.{resource_name, only_scalar, only_default, kind_of, amount_of, within_limits, add_resource, resources_of};
 ghost use Rattle.quantity.specs.Rows.{added};
 
 use call_members::{CallFault, Member, Refusal, member, required_list, required_text, text};
@@ -26,6 +26,23 @@ fn name(alloc: Global, value: Option<&Value>) -> Result<ResourceName, CallFault>
         Err(QuantityFault::BadName) => Err(CallFault::Refused(Refusal::BadId)),
         Err(_) => Err(CallFault::OutOfMemory),
     }
+}
+
+/// The kind of a resource, which is a scalar that is reserved for no role but the default one.
+#[tactic(auto, unfolding(crate::specs::Resources::kind_of))]
+fn kind(value: &Value) -> Result<&str, CallFault>
+    ensures { Gives (λ kind. kind.now) result (kind_of (view value.entry.now)) }
+{
+    let kind = required_text(value.get("type"), Member::ResourceType)?;
+    if kind != "SCALAR" {
+        return Err(CallFault::Refused(Refusal::NotScalar));
+    }
+    if let Some(role) = text(value.get("role")) {
+        if role != "*" {
+            return Err(CallFault::Refused(Refusal::NotScalar));
+        }
+    }
+    Ok(kind)
 }
 
 /// The amount of a resource, a whole number.
@@ -59,15 +76,7 @@ fn add_resource(alloc: Global, resources: &mut Resources, value: &Value) -> Resu
     ensures { Gives (λ _. resources.new) result (add_resource resources.old (view value.now)) }
 {
     let name = name(alloc, value.get("name"))?;
-    let kind = required_text(value.get("type"), Member::ResourceType)?;
-    if kind != "SCALAR" {
-        return Err(CallFault::Refused(Refusal::NotScalar));
-    }
-    if let Some(role) = text(value.get("role")) {
-        if role != "*" {
-            return Err(CallFault::Refused(Refusal::NotScalar));
-        }
-    }
+    let _kind = kind(value)?;
     let amount = amount(value)?;
     raise(alloc, resources, name.as_str(), amount)
 }
