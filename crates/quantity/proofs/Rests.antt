@@ -7,7 +7,7 @@ use Rattle.std.specs.declared.cmp.Ordering.TheVariants.{Less}
 use Rattle.std.proofs.lemmas.Bool.{cond_both, cond-false, ltb-true, ltb-false, lt-ltb, le-ltb}
 use Rattle.quantity.specs.Rows.{Row, part_of, amount, name_order, IsRow, AreRows, left_of, rest_of, row}
 use Rattle.quantity.specs.Laws.{RestsAreLess, RestsAreRows, RestsJoin}
-use Rattle.quantity.proofs.Amounts.{amount-cons, amount-append, amount-above, rows_from_amounts}
+use Rattle.quantity.proofs.Amounts.{amount-cons, amount-append, amount-above}
 
 -- a row counts the same whether or not it is dropped where it has nothing
 amount-kept : (name : List ℕ) (r : Row) (rows : List Row) → amount name (cond (nat_lt 0 r.amount) (r ∷ rows) rows) ≡ part_of name r + amount name rows

@@ -10,10 +10,11 @@ ghost use Rattle.quantity.specs.Texts.{bytes_of};
 use crate::fault::QuantityFault;
 use plain_data::Plain;
 use std::alloc::{AllocError, Global};
+use std::fmt;
 use std::marker::Model;
 
 /// A text. The names that most agents have take no memory.
-#[derive(Debug, Drop)]
+#[derive(Drop)]
 enum Text {
     Cpus,
     Mem,
@@ -23,7 +24,6 @@ enum Text {
 }
 
 /// The name of a resource: 1 to 64 bytes of UTF-8 without control characters, spaces, `/` and `\`.
-#[derive(Debug)]
 pub struct ResourceName {
     text: Text,
 }
@@ -117,6 +117,14 @@ impl ResourceName {
         ensures { result.now ≡ self.now }
     {
         self.text.as_str()
+    }
+}
+
+/// It shows the text alone.
+impl fmt::Debug for ResourceName {
+    fn fmt<W: fmt::Write>(&self, f: &mut fmt::Formatter<W>) -> fmt::Result {
+        let text = self.as_str();
+        f.debug_struct("ResourceName").field("text", &text).finish()
     }
 }
 
