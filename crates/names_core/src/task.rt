@@ -4,34 +4,37 @@ ghost use Rattle.std.specs.Prelude.{◌≡◌, ◌↔◌, ◌⊎◌, true, false
 ghost use Rattle.names_core.specs.Names.{is_name};
 
 use crate::fault::NameFault;
-use crate::name::is_plain_name;
+use crate::name::{is_plain_name, name_number};
 use plain_data::Plain;
 use std::alloc::{AllocError, Global};
+use std::fmt;
 use std::marker::Model;
 
 /// The name that a framework gives a task, its `task_id`:
 /// 1 to 255 bytes of UTF-8 without control characters, space, slash and backslash.
-#[derive(Debug)]
 pub struct TaskName {
     text: String,
+    /// The number of the text. Names whose numbers differ are two, so most comparisons end there.
+    number: u32,
 }
 
 // By hand, so that who drops one goes through none of its parts.
 impl Drop for TaskName {
     fn drop(self) {
-        let TaskName { text: _ } = self;
+        let TaskName { text: _, number: _ } = self;
     }
 }
 
 impl Model for TaskName {
     ghost use Rattle.std.specs.Prelude.{List, ℕ, ◌≡◌, true, string_bytes};
-    ghost use Rattle.names_core.specs.Names.{is_name};
+    ghost use Rattle.names_core.specs.Names.{is_name, name_number};
 
     ghost Value = { List ℕ };
 
     ghost view = { λ name. string_bytes name.text };
 
-    ghost invariant = { λ name. is_name (string_bytes name.text) ≡ true };
+    ghost invariant = { λ name. (is_name (string_bytes name.text) ≡ true)
+        × (name.number ≡ name_number (string_bytes name.text)) };
 }
 
 impl TaskName {
@@ -45,6 +48,7 @@ impl TaskName {
         }
         Ok(TaskName {
             text: String::from_str(alloc, text)?,
+            number: name_number(text),
         })
     }
 
@@ -59,7 +63,16 @@ impl TaskName {
     pub fn is(&self, other: &TaskName) -> bool
         ensures { result ≡ bytes_eq self.now other.now }
     {
-        self.as_text() == other.as_text()
+        self.number == other.number && self.as_text() == other.as_text()
+    }
+}
+
+/// It shows the text alone.
+impl fmt::Debug for TaskName {
+    fn fmt<W: fmt::Write>(&self, f: &mut fmt::Formatter<W>) -> fmt::Result {
+        f.debug_struct("TaskName")
+            .field("text", &self.text)
+            .finish()
     }
 }
 
@@ -69,6 +82,7 @@ impl Clone for TaskName {
     fn clone(&self) -> Result<TaskName, AllocError> {
         Ok(TaskName {
             text: self.text.clone()?,
+            number: self.number,
         })
     }
 }

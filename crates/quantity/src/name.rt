@@ -147,8 +147,13 @@ impl PartialEq for ResourceName {
 
     ghost laws = { partial_equiv_from_equiv nat_list_eq_equiv };
 
+    // (texts that take no memory are the same at once)
     fn eq(&self, other: &ResourceName) -> bool {
-        self.as_str() == other.as_str()
+        match (&self.text, &other.text) {
+            (Text::Cpus, Text::Cpus) | (Text::Mem, Text::Mem) => true,
+            (Text::Disk, Text::Disk) | (Text::Gpus, Text::Gpus) => true,
+            _ => self.as_str() == other.as_str(),
+        }
     }
 }
 

@@ -28,7 +28,7 @@ cross a b e ti tj tk pos h g = by_case (cases_lt (e * ti) (a * tk)) where
       absurd (omega (arith, one, two, three, pos))
 
 -- what is no amount times some isn't any
-no_factor : (a b : ℕ) → 0 < b → a * b ≡ 0 → a ≡ 0
+pub no_factor : (a b : ℕ) → 0 < b → a * b ≡ 0 → a ≡ 0
 no_factor zero b pos e = refl
 no_factor (suc a) b pos e = absurd (omega (arith, pos, e))
 

@@ -1,6 +1,6 @@
 //! Dominant shares of a total, and how two compare (DRF paper, sections 4 and 4.3).
 
-ghost use Rattle.std.specs.Prelude.{◌≡◌, ◌*◌, ◌≤◌};
+ghost use Rattle.std.specs.Prelude.{◌≡◌, ◌*◌, ◌≤◌, nat_eq};
 ghost use Rattle.share_sums.specs.Dominant.{IsDominant, is_at_most, nothing};
 ghost use Rattle.share_sums.specs.Sums.{greatest_sum};
 
@@ -46,6 +46,13 @@ impl Fraction {
             amount: 0,
             total: 1,
         }
+    }
+
+    /// Whether nothing is held.
+    pub fn is_nothing(self) -> bool
+        ensures { result ≡ nat_eq self.amount 0 }
+    {
+        self.amount == 0
     }
 
     /// The dominant share: of the names of the totals the greatest part that is held of one.

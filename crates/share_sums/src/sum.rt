@@ -7,7 +7,7 @@ ghost use Rattle.share_sums.specs.Sums.{capped, first_amount, greatest_sum, has_
 
 use crate::fault::SharesFault;
 use plain_data::{Plain, push_copies};
-use quantity::{Resources, Row};
+use quantity::{ResourceName, Resources, Row};
 use std::alloc::{AllocError, Global};
 use std::cmp::Ordering;
 use std::marker::Model;
@@ -78,7 +78,7 @@ fn raise_known(rows: &mut Vec<Row>, more: &Row)
     ensures { rows.new.items ≡ with_more more.now.name more.now.amount rows.old.items }
 {
     for i in 0..rows.len() {
-        if rows[i].name.as_str() == more.name.as_str() {
+        if rows[i].name == more.name {
             rows[i].amount = capped(rows[i].amount, more.amount);
             return;
         }
@@ -129,10 +129,15 @@ fn covers(sum: &Sum, less: &Resources) -> bool
     true
 }
 
-fn has_some(sum: &Sum, row: &Row) -> bool
-    ensures { result ≡ has_some sum.now row.now.name }
+fn amount_of(rows: &[Row], name: &ResourceName) -> u64
+    ensures { result ≡ first_amount name.now rows.now }
 {
-    sum.amount(row.name.as_str()) > 0
+    for row in rows {
+        if row.name == *name {
+            return row.amount;
+        }
+    }
+    0
 }
 
 fn without(alloc: Global, rows: &[Row], less: &Resources) -> Result<Vec<Row>, AllocError>
@@ -177,6 +182,12 @@ impl Sum {
         amount_in(&self.rows, name)
     }
 
+    fn has_some(&self, name: &ResourceName) -> bool
+        ensures { result ≡ has_some self.now name.now }
+    {
+        amount_of(&self.rows, name) > 0
+    }
+
     /// The sum with more resources.
     pub fn plus(&self, alloc: Global, more: &Resources) -> Result<Sum, AllocError>
         ensures { IfOk result (λ sum. sum ≡ summed self.now more.now) }
@@ -189,7 +200,7 @@ impl Sum {
     pub fn has_names_of(&self, more: &Resources) -> bool
         ensures { result ≡ has_names_of self.now more.now }
     {
-        more.rows().iter().all(|row| has_some(self, row))
+        more.rows().iter().all(|row| self.has_some(&row.name))
     }
 
     /// There is more of names of which there is some. It takes no memory.

@@ -20,7 +20,7 @@ returns-then-eq c =
     let within : i < length xs = omega (arith, c.len-i-end.ensures, ap (λ (ys : List Row). length ys) c.loop-i.invariant.0.0) in
     let compared : c.index.result.now ≡ r = c.index.ensures ∙ (get_or_default xs i c.index.result.now r within ∙ sym c.index_mut.ensures.value) in
     let read : c.index-then-eq.result.now ≡ r = c.index-then-eq.ensures ∙ (get_or_default xs i c.index-then-eq.result.now r within ∙ sym c.index_mut.ensures.value) in
-    let alike : pointwise nat_eq c.index.result.now.name name ≡ true = sym (rw (c.as_str.ensures, c.as_str-in-loop-i.ensures) at c.eq.ensures) ∙ c.if-eq.true in
+    let alike : pointwise nat_eq c.index.result.now.name name ≡ true = sym c.eq.ensures ∙ c.if-eq.true in
     let equal : slice_cmp nat_cmp name r.name ≡ Equal = level r.name name (ap (λ (x : Row). pointwise nat_eq x.name name) (sym compared) ∙ alike) in
     ap (λ m. set xs i (row r.name m)) (c.capped.ensures ∙ ap (λ (x : Row). capped (x.amount + n)) read)
     ∙ (more_here name n xs i r within c.index_mut.ensures.value equal
@@ -35,7 +35,7 @@ loop-i-preserved c =
     let r : Row = c.index.result.now in
     let within : i < length rows = omega (arith, c.len-i-end.ensures) in
     let is = subst (λ (ys : List Row). r ≡ get_or ys i r) c.loop-i.invariant.0.0 c.index.ensures in
-    let other : pointwise nat_eq r.name name ≡ false = sym (rw (c.as_str.ensures, c.as_str-in-loop-i.ensures) at c.eq.ensures) ∙ c.if-eq.false in
+    let other : pointwise nat_eq r.name name ≡ false = sym c.eq.ensures ∙ c.if-eq.false in
     let step = walked name n rows i r within is c.loop-i.invariant.1 other in
     let next : suc i ≡ i + 1 = omega arith in
     ((c.loop-i.invariant.0.0, subst (λ k. take k rows ++ with_more name n (drop k rows) ≡ with_more name n rows) next (step.0 ∙ c.loop-i.invariant.0.1)), subst (λ k. is_reached name (drop k rows) ≡ true) next step.1)
