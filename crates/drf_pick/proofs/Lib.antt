@@ -13,4 +13,5 @@ pub mod Picked
 pub mod KeptShares
 pub mod ChangedShares
 pub mod ByFractions
+pub mod Nothing
 pub mod Restarting

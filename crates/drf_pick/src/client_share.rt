@@ -1,6 +1,6 @@
 //! The dominant shares of a framework and its role.
 
-ghost use Rattle.std.specs.Prelude.{◌≡◌, ◌<◌, ℕ, List, length, IfSome};
+ghost use Rattle.std.specs.Prelude.{◌≡◌, ◌<◌, ℕ, List, length, nat_eq, IfSome};
 ghost use Rattle.names_core.specs.Ids.{Numbered};
 ghost use Rattle.share_sums.specs.Dominant.{IsDominant};
 ghost use Rattle.drf_pick.specs.Least.{held_by};
@@ -94,6 +94,13 @@ impl ClientShare {
                 weight: 1,
             },
         }
+    }
+
+    /// Whether the framework holds nothing of what agents own.
+    pub fn is_nothing(&self) -> bool
+        ensures { result ≡ nat_eq self.now.own.amount 0 }
+    {
+        self.own.is_nothing()
     }
 
     /// The shares of a framework and of its role. `place` says where the framework is likely to

@@ -2,3 +2,4 @@ pub mod Ordered
 pub mod Placed
 pub mod Leading
 pub mod Keeping
+pub mod OneRole

@@ -1,6 +1,6 @@
 -- Frameworks in the order of their ids, and changes of one of them.
 use Rattle.std.specs.Prelude.{◌≡◌, ℕ, suc, Bool, true, false, ◌&&◌, if◌then◌else◌, List, [], ◌∷◌, map, length, nat_lt, slice_index_or, Option, Some, None}
-use Rattle.std.specs.List.{list_all, find}
+use Rattle.std.specs.List.{AllByRecursion, list_all, find}
 use Rattle.names_core.specs.Ids.{Numbered, same, before}
 use Rattle.quantity.specs.declared.rows.Row.{Row}
 use Rattle.mails.specs.declared.framework.Framework.{Framework}
@@ -13,6 +13,17 @@ are_ordered (f ∷ fs) = list_all (λ g. before f.id g.id) fs && are_ordered fs
 
 abbrev pub ids_of : List Framework → List Numbered
 ids_of fs = map (λ f. f.id) fs
+
+abbrev pub roles_of : List Framework → List (List ℕ)
+roles_of fs = map (λ f. f.role) fs
+
+-- all have this role
+abbrev pub HaveRole : List ℕ → List Framework → Type 0
+HaveRole role fs = AllByRecursion (λ r. r ≡ role) (roles_of fs)
+
+-- all have the same role
+abbrev pub AreOfOneRole : List Framework → Type 0
+AreOfOneRole fs = (role : List ℕ) × HaveRole role fs
 
 abbrev pub with_id : Numbered → List Framework → Option Framework
 with_id id fs = find (λ f. same f.id id) fs

@@ -3,7 +3,7 @@
 ghost use Rattle.std.specs.Prelude.{◌≡◌, true, map, OnOk, OnErr};
 ghost use Rattle.cluster_model.specs.Masters.{clear_on, put_framework};
 ghost use Rattle.cluster_model.specs.Mails.{beaten, is_due};
-ghost use Rattle.frameworks.specs.Frameworks.{are_ordered, changed, ids_of, revived, suppressed, with_filter, without_stream};
+ghost use Rattle.frameworks.specs.Frameworks.{are_ordered, changed, ids_of, revived, roles_of, suppressed, with_filter, without_stream};
 ghost use Rattle.frameworks.specs.OpenStreams.{streams_of};
 
 use crate::filters;
@@ -92,6 +92,7 @@ fn refuse_one(
         ≡ with_filter now seconds agent.now refused.now framework.old) }
     ensures id { framework.new.id ≡ framework.old.id }
     ensures stream { framework.new.stream ≡ framework.old.stream }
+    ensures role { framework.new.role ≡ framework.old.role }
 {
     let refused = refused.copy()?;
     filters::add_filter(&mut framework.filters, alloc, now, seconds, agent, refused)
@@ -111,6 +112,7 @@ pub fn refuse_in(
         ≡ map (changed (with_filter now seconds agent.now refused.now) id) frameworks.old.items) }
     ensures ids { ids_of frameworks.new.items ≡ ids_of frameworks.old.items }
     ensures streams { streams_of frameworks.new.items ≡ streams_of frameworks.old.items }
+    ensures roles { roles_of frameworks.new.items ≡ roles_of frameworks.old.items }
 {
     let Some(place) = place_with(frameworks, id) else {
         return Ok(());

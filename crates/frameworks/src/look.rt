@@ -1,13 +1,13 @@
 //! Look-ups.
 
-ghost use Rattle.std.specs.Prelude.{◌≡◌, ◌≤◌, true, length, option_map};
+ghost use Rattle.std.specs.Prelude.{◌≡◌, ◌≤◌, true, length, option_map, IsTrue};
 ghost use Rattle.std.specs.List.{position};
 ghost use Rattle.names_core.specs.Ids.{before, same};
-ghost use Rattle.frameworks.specs.Frameworks.{are_ordered, is_at, place_of, with_id};
+ghost use Rattle.frameworks.specs.Frameworks.{are_ordered, is_at, place_of, with_id, AreOfOneRole, HaveRole};
 ghost use Rattle.frameworks.specs.OpenStreams.{open_stream};
 
 use mails::Framework;
-use names_core::{FrameworkId, StreamId};
+use names_core::{FrameworkId, RoleName, StreamId};
 
 /// Ids stand by run, and then by number.
 pub fn is_before(id: FrameworkId, other: FrameworkId) -> bool
@@ -65,4 +65,11 @@ pub fn open_stream(frameworks: &[Framework], id: FrameworkId) -> Option<StreamId
     ensures { result ≡ open_stream id frameworks.now }
 {
     stream_in(frameworks, id)?
+}
+
+/// Whether the first one has this role, if there is one.
+pub fn begin_with_role(frameworks: &[Framework], role: &RoleName) -> bool
+    ensures { IsTrue result → AreOfOneRole frameworks.now → HaveRole role.now frameworks.now }
+{
+    frameworks.is_empty() || frameworks[0].role.is(role)
 }

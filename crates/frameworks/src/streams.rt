@@ -1,6 +1,6 @@
 //! The index of open streams.
 
-ghost use Rattle.std.specs.Prelude.{◌≡◌, Some, OnOk};
+ghost use Rattle.std.specs.Prelude.{◌≡◌, Some, OnOk, OnErr};
 ghost use Rattle.names_core.specs.Ids.{Numbered};
 ghost use Rattle.cluster_model.specs.Masters.{put_framework};
 ghost use Rattle.frameworks.specs.OpenStreams.{IsTable, led_by, without};
@@ -32,6 +32,7 @@ pub fn put_open(
     requires table { IsTable (led_by by_stream.old) frameworks.old.items }
     requires stream { framework.stream ≡ Some stream }
     ensures ok { OnOk result (frameworks.new.items ≡ put_framework framework frameworks.old.items) }
+    ensures err { OnErr result (frameworks.new.items ≡ frameworks.old.items) }
     ensures table { IsTable (led_by by_stream.new) frameworks.new.items }
 {
     if by_stream.contains_key(&stream) {

@@ -1,11 +1,11 @@
 //! The table of frameworks.
 
-ghost use Rattle.std.specs.Prelude.{◌≡◌, [], true, map, length, option_map, OnOk};
+ghost use Rattle.std.specs.Prelude.{◌≡◌, [], true, map, length, option_map, IsTrue, OnOk};
 ghost use Rattle.std.specs.List.{find};
 ghost use Rattle.cluster_model.specs.Calls.{is_stream};
 ghost use Rattle.cluster_model.specs.Masters.{clear_on, put_framework};
 ghost use Rattle.cluster_model.specs.Mails.{beaten};
-ghost use Rattle.frameworks.specs.Frameworks.{are_ordered, changed, revived, subscriber, suppressed, with_filter, with_id, without_stream};
+ghost use Rattle.frameworks.specs.Frameworks.{are_ordered, changed, AreOfOneRole, HaveRole, revived, subscriber, suppressed, with_filter, with_id, without_stream};
 
 use crate::{edit, look, streams};
 use listed::Listed;
@@ -20,6 +20,8 @@ use std::marker::Model;
 pub struct Frameworks {
     items: Vec<Framework>,
     by_stream: BTreeMap<StreamId, FrameworkId>,
+    /// Whether it is known that all have the same role.
+    is_one_role: bool,
 }
 
 // By hand, so that who drops one goes through none of its parts.
@@ -28,20 +30,23 @@ impl Drop for Frameworks {
         let Frameworks {
             items: _,
             by_stream: _,
+            is_one_role: _,
         } = self;
     }
 }
 
 impl Model for Frameworks {
-    ghost use Rattle.std.specs.Prelude.{List};
+    ghost use Rattle.std.specs.Prelude.{List, IsTrue};
     ghost use Rattle.mails.specs.declared.framework.Framework.{Framework};
+    ghost use Rattle.frameworks.specs.Frameworks.{AreOfOneRole};
     ghost use Rattle.frameworks.specs.OpenStreams.{IsTable, led_by};
 
     ghost Value = { List Framework };
 
     ghost view = { λ frameworks. frameworks.items.items };
 
-    ghost invariant = { λ table. IsTable (led_by table.by_stream) table.items.items };
+    ghost invariant = { λ table. IsTable (led_by table.by_stream) table.items.items
+        × (IsTrue table.is_one_role → AreOfOneRole table.items.items) };
 }
 
 impl Frameworks {
@@ -51,6 +56,7 @@ impl Frameworks {
         Frameworks {
             items: Vec::new(alloc),
             by_stream: BTreeMap::new(alloc),
+            is_one_role: true,
         }
     }
 
@@ -65,6 +71,21 @@ impl Frameworks {
         ensures { result ≡ length self.now }
     {
         self.items.len()
+    }
+
+    /// Whether it is known that all have the same role: no framework of another role was ever
+    /// subscribed.
+    pub fn are_of_one_role(&self) -> bool
+        ensures { IsTrue result → AreOfOneRole self.now }
+    {
+        self.is_one_role
+    }
+
+    /// Whether it is known that all have this role.
+    fn have_role(&self, role: &RoleName) -> bool
+        ensures { IsTrue result → HaveRole role.now self.now }
+    {
+        self.is_one_role && look::begin_with_role(&self.items, role)
     }
 
     /// The open stream of a framework, if it has one; nothing where the framework isn't known.
@@ -94,6 +115,7 @@ impl Frameworks {
     ) -> Result<(), AllocError>
         ensures { OnOk result (self.new ≡ put_framework (subscriber id role stream now) self.old) }
     {
+        let is_one_role = self.have_role(&role);
         let framework = Framework {
             id,
             role,
@@ -102,7 +124,9 @@ impl Frameworks {
             last_beat: now,
             filters: Listed::new(alloc),
         };
-        streams::put_open(&mut self.items, &mut self.by_stream, framework, stream)
+        streams::put_open(&mut self.items, &mut self.by_stream, framework, stream)?;
+        self.is_one_role = is_one_role;
+        Ok(())
     }
 
     /// The framework's stream is open no more.

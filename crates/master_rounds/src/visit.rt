@@ -100,9 +100,15 @@ fn offer_free(
     if is_empty(&free) || LAST_NUMBER < progress.next {
         return Ok(());
     }
-    let frameworks = state.frameworks.as_slice();
     let shares = &progress.shares;
-    match picked(shares, frameworks, candidates, state.moment, agent, &free) {
+    match picked(
+        shares,
+        &state.frameworks,
+        candidates,
+        state.moment,
+        agent,
+        &free,
+    ) {
         None => Ok(()),
         Some(framework) => go_to(progress, alloc, state.run, agent, free, framework),
     }

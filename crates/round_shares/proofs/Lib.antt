@@ -4,3 +4,4 @@ pub mod Shown
 pub mod Picking
 pub mod Parts
 pub mod Remembered
+pub mod FirstFound

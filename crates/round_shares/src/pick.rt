@@ -1,13 +1,15 @@
 //! The eligible framework that stands least.
 
-ghost use Rattle.std.specs.Prelude.{◌≡◌, None, fold, IfSome};
+ghost use Rattle.std.specs.Prelude.{◌≡◌, true, None, fold, IfSome, IsTrue};
 ghost use Rattle.std.specs.Option.{option_copied};
+ghost use Rattle.frameworks.specs.Frameworks.{are_ordered, AreOfOneRole};
 ghost use Rattle.drf_pick.specs.ClientShares.{IsClientShare};
 ghost use Rattle.round_shares.specs.Candidates.{AreCandidates, IsCandidate};
 ghost use Rattle.round_shares.specs.Picks.{better_eligible, picked};
 
 use crate::candidates::{Candidate, may_be_offered, share_of};
 use drf_pick::{ClientShare, Shares, comes_before};
+use frameworks::Frameworks;
 use mails::Framework;
 use names_core::{AgentName, FrameworkId};
 use quantity::Resources;
@@ -53,15 +55,20 @@ fn better_eligible<'a>(
     best
 }
 
+/// The frameworks stand in the order of their ids, so where all have the same role, none behind one
+/// that holds nothing stands before it.
 fn best_of<'a>(
     shares: &Shares,
     frameworks: &'a [Framework],
+    are_of_one_role: bool,
     candidates: &[Candidate],
     now: u32,
     agent: &AgentName,
     free: &Resources,
 ) -> Option<&'a Framework>
-    requires { AreCandidates shares.now frameworks.now candidates.now }
+    requires ordered { are_ordered frameworks.now ≡ true }
+    requires role { IsTrue are_of_one_role → AreOfOneRole frameworks.now }
+    requires candidates { AreCandidates shares.now frameworks.now candidates.now }
     ensures { option_copied result ≡ fold (better_eligible now agent.now free.now shares.now) None
         frameworks.entry.now }
 {
@@ -72,6 +79,9 @@ fn best_of<'a>(
         best = better_eligible(
             shares, best, &mut share, framework, candidate, place, now, agent, free,
         );
+        if are_of_one_role && best.is_some() && share.is_nothing() {
+            return best;
+        }
     }
     best
 }
@@ -80,7 +90,7 @@ fn best_of<'a>(
 /// be offered at this moment. It takes no memory.
 pub fn picked(
     shares: &Shares,
-    frameworks: &[Framework],
+    frameworks: &Frameworks,
     candidates: &[Candidate],
     now: u32,
     agent: &AgentName,
@@ -89,6 +99,8 @@ pub fn picked(
     requires { AreCandidates shares.now frameworks.now candidates.now }
     ensures { result ≡ picked now agent.now free.now shares.now frameworks.now }
 {
-    let framework = best_of(shares, frameworks, candidates, now, agent, free)?;
+    let are_of_one_role = frameworks.are_of_one_role();
+    let all = frameworks.as_slice();
+    let framework = best_of(shares, all, are_of_one_role, candidates, now, agent, free)?;
     Some(framework.id)
 }

@@ -2,6 +2,7 @@ use Rattle.std.proofs.Common.{set, ap, sym, ◌∙◌, rules}
 use Rattle.mails.specs.declared.framework.Framework.{Framework}
 use Rattle.frameworks.specs.Frameworks.{with_filter}
 use Rattle.frameworks.proofs.Ordered.{ids_set, streams_set}
+use Rattle.frameworks.proofs.OneRole.{roles_set}
 use Rattle.frameworks.proofs.Placed.{changes_there, changes_nowhere}
 use Rattle.frameworks.proofs.edit.refuse_in.Goals as goal
 
@@ -26,3 +27,9 @@ returns-clause-ids c = ids_set c.args.frameworks.now.items c.in-Some.place c.ref
 
 pub returns-clause-streams : goal.returns-clause-streams
 returns-clause-streams c = streams_set c.args.frameworks.now.items c.in-Some.place c.refuse_one.new.framework c.index_mut.result.now (search rules) (search rules)
+
+pub returns-in_err-refuse_one-clause-roles : goal.returns-in_err-refuse_one-clause-roles
+returns-in_err-refuse_one-clause-roles c = roles_set c.args.frameworks.now.items c.in-Some.place c.refuse_one.new.framework c.index_mut.result.now (search rules) (search rules)
+
+pub returns-clause-roles : goal.returns-clause-roles
+returns-clause-roles c = roles_set c.args.frameworks.now.items c.in-Some.place c.refuse_one.new.framework c.index_mut.result.now (search rules) (search rules)
