@@ -1,5 +1,6 @@
 -- What a step makes of the parts.
-use Rattle.std.proofs.Common.{◌≡◌, ◌<◌, ℕ, true, false, is_some, List, [], ◌∷◌, map, length, get_or, slice_get, slice_set, Option, Some, None, refl, sym, ap, ◌∙◌, subst}
+use Rattle.std.proofs.Common.{arith, ◌≡◌, ◌<◌, ℕ, true, false, is_some, List, [], ◌∷◌, map, length, get_or, slice_get, slice_set, Option, Some, None, refl, sym, ap, ◌∙◌, subst}
+use Rattle.std.specs.Prelude.{IfSome}
 use Rattle.std.specs.List.{AllByRecursion as Each}
 use Rattle.std.proofs.lemmas.Option.{slice_get-get_or}
 use Rattle.agent_core.specs.Drafts.{is_in_order}
@@ -20,8 +21,9 @@ use Rattle.cluster_laws.specs.declared.item.Item.{Item}
 use Rattle.cluster_laws.specs.declared.item.Item.TheVariants as items
 use Rattle.cluster_agents.specs.Agents.{KeptAgent, place_in}
 use Rattle.cluster_parts.specs.Masters.{MasterMakes, kept_master}
-use Rattle.cluster_agents.specs.Moves.{ComeInOrder, Makes, kept_agents, kept_part}
+use Rattle.cluster_agents.specs.Moves.{ComeInOrder, Makes, StandsAt, kept_agents, kept_part}
 use Rattle.cluster_parts.specs.Parts.{AreParts, PartsOf, Takes, record_of}
+use Rattle.cluster_parts.specs.Posts.{Grows}
 use Rattle.cluster_parts.specs.Restarting.{Restarts}
 use Rattle.cluster_agents.specs.declared.outcomes.Made.{Made}
 use Rattle.cluster_parts.specs.declared.parts.Parts.{Parts}
@@ -85,6 +87,14 @@ agent_takes c s made p q of m drafts master streams run tick = record {
 
 -- ---- a step of one agent
 
+-- what was read at a place stands there
+pub slice_there : (as_ : List KeptAgent) (place : ℕ) (a : KeptAgent) → place < length as_ → a ≡ get_or as_ place a → slice_get as_ place ≡ Some a
+slice_there as_ place a within at = subst (λ (b : KeptAgent). slice_get as_ place ≡ Some b) (sym at) (slice_get-get_or as_ place a within)
+
+-- and in a state that has these agents
+pub standing_at : (c : Cluster) (as_ : List KeptAgent) (name : List ℕ) (place : ℕ) (a : KeptAgent) → as_ ≡ kept_agents c → place_in name as_ ≡ Some place → place < length as_ → a ≡ get_or as_ place a → StandsAt c name place a
+standing_at c as_ name place a same found within at = at_kept c as_ name place a same found (slice_there as_ place a within at)
+
 -- the agent at a place stands there
 pub at_place : {T : Type 0} → (p : Parts T) (as_ : List KeptAgent) (name : List ℕ) (place : ℕ) (a : KeptAgent) → as_ ≡ p.agents.items → place_in name as_ ≡ Some place → place < length as_ → a ≡ get_or p.agents.items place a →
     (place_in name p.agents.items ≡ Some place) × (slice_get p.agents.items place ≡ Some a)
@@ -98,6 +108,14 @@ here c p as_ name place a of same found within at =
     let there = at_place p as_ name place a same found within at in
     at_kept c p.agents.items name place a of.stands.as_agents there.0 there.1
 
+-- an agent that is up is, wherever its place is read
+pub is_up : (as_ bs : List KeptAgent) (place : ℕ) (a : KeptAgent) → as_ ≡ bs → slice_get bs place ≡ Some a → IfSome (slice_get as_ place) (λ b. b.is_down ≡ false) → a.is_down ≡ false
+is_up as_ bs place a same at up = subst (λ (o : Option KeptAgent). IfSome o (λ b. b.is_down ≡ false)) (ap (λ (xs : List KeptAgent). slice_get xs place) same ∙ at) up
+
+-- and one that has no draft too
+pub is_free : (as_ bs : List KeptAgent) (place : ℕ) (a : KeptAgent) → as_ ≡ bs → slice_get bs place ≡ Some a → IfSome (slice_get as_ place) (λ b. (b.is_down ≡ false) × (b.part.draft ≡ None)) → (a.is_down ≡ false) × (a.part.draft ≡ None)
+is_free as_ bs place a same at free = subst (λ (o : Option KeptAgent). IfSome o (λ b. (b.is_down ≡ false) × (b.part.draft ≡ None))) (ap (λ (xs : List KeptAgent). slice_get xs place) same ∙ at) free
+
 pub one_takes : {T : Type 0} → (c : Cluster) (s : Step) (made how : Made) (p q : Parts T) (place : ℕ) (new : KeptAgent) → PartsOf c p → made ≡ how → Makes c s how.verdict how.outputs (slice_set (kept_agents c) place new) q.served.items → how.durable ≡ record_of s how.verdict q.agents.items →
     q.agents.items ≡ slice_set p.agents.items place new → q.served.master ≡ p.served.master → q.served.streams ≡ p.served.streams → q.run ≡ p.run → q.last_tick ≡ p.last_tick → Takes c s made q
 one_takes c s made how p q place new of is m drafts agents master streams run tick =
@@ -108,6 +126,14 @@ one_takes c s made how p q place new of is m drafts agents master streams run ti
 pub some_open : (o : Option Draft) → is_some o ≡ true → (d : Draft) × (o ≡ Some d)
 some_open None e = absurd (let clash : false ≡ true = e in cc)
 some_open (Some d) e = (d, refl)
+
+-- ---- nothing was sent
+
+pub grows_itself : (n room : ℕ) → Grows n n room
+grows_itself n room = record { more = omega arith; fits = omega arith }
+
+pub same_grows : (old new : List Item) (room : ℕ) → new ≡ old → Grows (length old) (length new) room
+same_grows old new room same = subst (λ (xs : List Item). Grows (length old) (length xs) room) (sym same) (grows_itself (length old) room)
 
 -- ---- what was sent comes in order
 

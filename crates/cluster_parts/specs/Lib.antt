@@ -1,6 +1,7 @@
 pub mod Taking
 pub mod Masters
 pub mod Posts
+pub mod Handing
 pub mod Hearing
 pub mod Restarting
 pub mod Opening

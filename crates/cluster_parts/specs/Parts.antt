@@ -72,6 +72,10 @@ abbrev pub AllTakeBy : {T : Type 0} → List RoleWeight → Parts T → Step →
 AllTakeBy weights old step new made =
     (c : Cluster) → PartsOf c old → c.weights ≡ weights → Takes c step made new
 
+-- each state with these agents refuses the step so, or memory was refused
+abbrev pub AgentsRefuse : List KeptAgent → Step → ClusterFault → Type 0
+AgentsRefuse agents step fault = (c : Cluster) → agents ≡ kept_agents c → Refuses c step fault
+
 -- each state that parts stand for refuses the step so, or memory was refused
 abbrev pub AllRefuse : {T : Type 0} → Parts T → Step → ClusterFault → Type 0
 AllRefuse p step fault = (c : Cluster) → PartsOf c p → Refuses c step fault

@@ -6,7 +6,8 @@ ghost use Rattle.cluster_parts.specs.Posts.{Grows};
 ghost use Rattle.cluster_steps.specs.declared.step.Step.TheVariants.{Commit};
 
 use crate::parts::Parts;
-use cluster_agents::{Made, commits_are_made, draft_mails, found, made_sending};
+use crate::places::found_up;
+use cluster_agents::{Made, commits_are_made, draft_mails, made_sending};
 use cluster_steps::ClusterFault;
 use names_core::AgentName;
 use post_rules::Post;
@@ -26,15 +27,11 @@ impl<P: Post> Parts<P> {
             (P.room self.new.served.post) }
     {
         commits_are_made();
-        let place = found(self.agents.as_slice(), name)?;
+        let place = found_up(self.agents.as_slice(), name)?;
         let agent = &mut self.agents[place];
-        if agent.is_down() {
-            return Err(ClusterFault::AgentDown);
-        }
         let out = draft_mails(alloc, agent, name)?;
-        self.served.post.reserve(alloc, out.items.len())?;
-        self.served.items.append(out.items)?;
+        let sent = self.served.keep_sent(alloc, out)?;
         let _mails = agent.commit();
-        Ok(made_sending(alloc, out.sent))
+        Ok(made_sending(alloc, sent))
     }
 }

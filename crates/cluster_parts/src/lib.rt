@@ -10,6 +10,7 @@ mod master_laws;
 mod masters;
 mod opening;
 mod parts;
+mod places;
 mod prepares;
 mod restarting;
 mod sends;

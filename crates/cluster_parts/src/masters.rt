@@ -104,6 +104,27 @@ impl<P: Post> Served<P> {
         }
     }
 
+    /// Keeps what is sent, once the post has room for it, and gives it as it is told.
+    pub(crate) fn keep_sent(
+        &mut self,
+        alloc: Global,
+        out: Outgoing,
+    ) -> Result<Listed<Sent>, AllocError>
+        ensures sent { IfOk result (λ sent. sent ≡ out.sent) }
+        ensures kept { OnOk result (self.new ≡ record self.old {
+          items = self.old.items ++ out.items;
+          post = self.new.post;
+        }) }
+        ensures unchanged { OnErr result (self.new ≡ record self.old { post = self.new.post }) }
+        ensures post { P.known self.new.post ≡ P.known self.old.post }
+        ensures room { OnOk result (length out.items ≤ P.room self.new.post) }
+    {
+        let Outgoing { sent, items } = out;
+        self.post.reserve(alloc, items.len())?;
+        let kept = self.items.append(items);
+        kept.and(Ok(sent))
+    }
+
     /// Keeps and hears what the master brought out, once the post has room for its mails,
     /// and gives the mails as they are told.
     fn send(&mut self, alloc: Global, outs: &Outs) -> Result<Listed<Sent>, AllocError>

@@ -1,19 +1,47 @@
 //! Drafts are opened.
 
-ghost use Rattle.std.specs.Prelude.{◌≡◌, false, IfOk, IfErr, OnErr};
+ghost use Rattle.std.specs.Prelude.{◌≡◌, false, Some, IfOk, IfErr, OnErr};
+ghost use Rattle.cluster_agents.specs.Causes.{cause_due};
 ghost use Rattle.cluster_agents.specs.Handing.{is_withheld};
+ghost use Rattle.cluster_parts.specs.Handing.{IsNotHanded};
 ghost use Rattle.cluster_parts.specs.Parts.{AllMayRefuse, AllTake, AreParts, Same};
 ghost use Rattle.cluster_steps.specs.declared.step.Step.TheVariants.{Prepare};
 
+use crate::masters::Served;
 use crate::parts::Parts;
-use cluster_agents::{Made, cause_due, draw, ends_with, found, is_withheld, prepares_are_made};
+use crate::places::found_free;
+use cluster_agents::{Made, cause_due, draw, ends_with, is_withheld, prepares_are_made};
 use cluster_laws::mails_to_agents_come_in_order;
 use cluster_steps::{ClusterFault, StepCause, Verdict};
-use mails::AgentRefusal;
+use mails::{AgentRefusal, Cause};
 use names_core::AgentName;
 use plain_data::Plain;
 use post_rules::Post;
 use std::alloc::Global;
+
+impl<P: Post> Served<P> {
+    /// The cause that the agent of a name acts on; none where it is a mail for another agent.
+    /// It is refused with `C1 NoSuchMail`, where the post can't hand the mail out or it is none to
+    /// an agent, and with `C9 OutOfMemory`.
+    fn cause_handed(
+        &self,
+        alloc: Global,
+        name: &AgentName,
+        cause: &StepCause,
+    ) -> Result<Option<Cause>, ClusterFault>
+        ensures due { IfOk result
+            (λ given. cause_due self.now.items name.now cause.now ≡ Some given) }
+        ensures given { IfOk result
+            (λ _. is_withheld (P.gives (P.known self.now.post)) cause.now ≡ false) }
+        ensures refused { IfErr result
+            (IsNotHanded (P.gives (P.known self.now.post)) self.now.items name.now cause.now) }
+    {
+        if is_withheld(&self.post, cause) {
+            return Err(ClusterFault::NoSuchMail);
+        }
+        cause_due(alloc, self.items.as_slice(), name, cause.copy()?)
+    }
+}
 
 impl<P: Post> Parts<P> {
     /// The agent opens a draft of what a cause makes of it, or refuses the cause, or runs out of
@@ -40,22 +68,11 @@ impl<P: Post> Parts<P> {
     {
         mails_to_agents_come_in_order();
         prepares_are_made();
-        let place = found(self.agents.as_slice(), name)?;
+        let place = found_free(self.agents.as_slice(), name)?;
         let agent = &mut self.agents[place];
-        if agent.is_down() {
-            return Err(ClusterFault::AgentDown);
-        }
-        if agent.has_draft() {
-            return Err(ClusterFault::DraftOpen);
-        }
-        if is_withheld(&self.served.post, cause) {
-            return Err(ClusterFault::NoSuchMail);
-        }
-        let copy = cause.copy()?;
-        match cause_due(alloc, self.served.items.as_slice(), name, copy) {
-            Ok(Some(given)) => Ok(draw(agent, alloc, given)),
-            Ok(None) => Ok(ends_with(alloc, Verdict::AgentRefused(AgentRefusal::NotForMe))),
-            Err(fault) => Err(fault),
+        match self.served.cause_handed(alloc, name, cause)? {
+            Some(given) => Ok(draw(agent, alloc, given)),
+            None => Ok(ends_with(alloc, Verdict::AgentRefused(AgentRefusal::NotForMe))),
         }
     }
 }

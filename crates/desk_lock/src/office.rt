@@ -11,8 +11,8 @@ ghost use Rattle.desk_seats.specs.declared.fault.OfficeFault.TheVariants.{Foreig
 use crate::groups::Groups;
 use desk_seats::{Answered, Desk, OfficeFault, Pass, Passes, Recorded, SeatedHistory, refusal};
 use std::alloc::Global;
-use std::sync::{CondvarTimeouts, Mutex, Wait, ledger};
-use std::time::{Clock, Duration};
+use std::sync::{Mutex, MutexGuard, Wait, ledger};
+use std::time::Clock;
 
 /// What a waiting caller does in a state.
 #[derive(Clone, Copy, Drop, PartialEq, Eq)]
@@ -166,6 +166,28 @@ impl<C: Recorded, L: ledger::Ledger> Office<C, L> {
         }
     }
 
+    /// Waits for what is awaited, until a look at what is recorded says what to do.
+    /// It gives the locked desk, unless a step isn't to be answered.
+    fn await_turn<R: Wait, F: Fn(&C) -> Turn>(
+        &self,
+        rt: &R,
+        awaited: C::Awaited,
+        look: F,
+    ) -> Option<MutexGuard<'_, Desk<C, L>>>
+        requires { F.IsAlwaysCallable look }
+    {
+        let group = self.groups.of(C::group_of(&awaited));
+        let mut desk = self.desk.lock(rt);
+        for _ in rt.forever() {
+            match turn_at(&*desk, &look) {
+                Turn::Wait => desk = group.wait(rt, desk),
+                Turn::Answer => return Some(desk),
+                Turn::End => return None,
+            }
+        }
+        unreachable!()
+    }
+
     /// Waits for what is awaited, until a look at what is recorded says what to do, then answers the
     /// step, if it is to, as `call` does. It looks again behind each step that may have brought that
     /// out. Once the office is finished nobody waits, and it isn't answered. Refusals: as of `call`.
@@ -187,15 +209,9 @@ impl<C: Recorded, L: ledger::Ledger> Office<C, L> {
             (λ fault. IsRefusedCall C.history C.sound C.kind_of C.may_refuse pass.old step fault) }
         ensures seat { pass.new.seat ≡ pass.old.seat }
     {
-        let mut desk = self
-            .groups
-            .of(C::group_of(&awaited))
-            .wait_while(rt, self.desk.lock(rt), |desk| {
-                turn_at(&*desk, &look) == Turn::Wait
-            });
-        if turn_at(&*desk, &look) != Turn::Answer {
+        let Some(mut desk) = self.await_turn(rt, awaited, look) else {
             return Ok(None);
-        }
+        };
         let answer = answer_at(&mut *desk, alloc, pass, step);
         drop(desk);
         match answer {
@@ -205,6 +221,23 @@ impl<C: Recorded, L: ledger::Ledger> Office<C, L> {
             }
             Err(fault) => Err(fault),
         }
+    }
+
+    /// Waits for what is awaited, for so many seconds at most, while a look at what is recorded
+    /// finds nothing. It gives the locked desk.
+    fn await_found<'a, T: Drop, R: Wait + Clock, F: Fn(&C) -> Result<Option<T>, C::Fault>>(
+        &'a self,
+        rt: &R,
+        desk: MutexGuard<'a, Desk<C, L>>,
+        awaited: C::Awaited,
+        seconds: u64,
+        look: &F,
+    ) -> MutexGuard<'a, Desk<C, L>>
+        requires { F.IsAlwaysCallable look.now }
+    {
+        let group = C::group_of(&awaited);
+        self.groups
+            .wait_for(rt, group, desk, seconds, |desk| waits_at(&*desk, look))
     }
 
     /// Waits for what is awaited, for so many seconds at most, until a look at what is recorded finds
@@ -232,13 +265,7 @@ impl<C: Recorded, L: ledger::Ledger> Office<C, L> {
             found.is_sound();
             return Err(OfficeFault::ForeignPass(found.len()));
         }
-        let group = C::group_of(&awaited);
-        let (desk, _) = self.groups.of(group).wait_timeout_while(
-            rt,
-            desk,
-            Duration::from_secs(seconds),
-            |desk| waits_at(&*desk, &look),
-        );
+        let desk = self.await_found(rt, desk, awaited, seconds, &look);
         let desk = &*desk;
         desk.is_sound();
         found_at(desk, &look)

@@ -1,6 +1,6 @@
 //! Whether a connection shows a keeper's tables.
 
-ghost use Rattle.std.specs.Prelude.{◌≡◌, ◌≢◌, length, IsTrue, IfOk, IfErr, OnOk};
+ghost use Rattle.std.specs.Prelude.{◌≡◌, ◌≢◌, length, IsTrue, Ok, IfOk, IfErr, OnOk};
 ghost use Rattle.sqlite.specs.State.{HasCleanDisk};
 ghost use Rattle.sqlite.specs.Held.{state};
 ghost use Rattle.record_saves.specs.Kept.{kept_in};
@@ -14,7 +14,7 @@ use keep_rows::statements::{
 };
 use keep_tables::{is_first, is_new, is_ours, is_second};
 use record_saves::fault::fault_of;
-use sqlite::{Alter, Connection, Row};
+use sqlite::{Alter, Connection, Error, Row};
 
 /// At most one row, which begins with 1.
 fn is_lone(rows: &[Row]) -> bool
@@ -27,19 +27,17 @@ fn is_lone(rows: &[Row]) -> bool
     }
 }
 
-/// None of the three has a row.
-fn are_empty(records: &[Row], runs: &[Row], heads: &[Row]) -> bool
-    ensures { IsTrue result → (length records.now ≡ 0) × (length runs.now ≡ 0)
-        × (length heads.now ≡ 0) }
+/// Whether a table of at most one row has none, by the ids that were read of its rows.
+fn has_none(read: Result<Vec<Row>, Error>) -> Result<bool, KeepFault>
+    ensures lone { IfOk result (λ none. (rows : _) × (read ≡ Ok rows) × IsLone rows.items
+        × (IsTrue none → length rows.items ≡ 0)) }
+    ensures unspent { IfErr result (λ e. e ≢ KeepFault.RunsSpent) }
 {
-    records.is_empty() && runs.is_empty() && heads.is_empty()
-}
-
-/// Each of the three has at most one row.
-fn are_lone(records: &[Row], runs: &[Row], heads: &[Row]) -> bool
-    ensures { IsTrue result → IsLone records.now × IsLone runs.now × IsLone heads.now }
-{
-    is_lone(records) && is_lone(runs) && is_lone(heads)
+    match read {
+        Ok(rows) if is_lone(rows.as_slice()) => Ok(rows.is_empty()),
+        Ok(_) => Err(KeepFault::Damaged),
+        Err(error) => Err(fault_of(error)),
+    }
 }
 
 /// The five tables are there and no other,
@@ -57,13 +55,10 @@ fn check_tables<S: Alter>(conn: &mut Connection<S>) -> Result<bool, KeepFault>
     if !conn.is_autocommit() || !is_ours(conn.schema()) {
         return Err(KeepFault::Damaged);
     }
-    let records = read_record_ids(conn).map_err(fault_of)?;
-    let runs = read_run_ids(conn).map_err(fault_of)?;
-    let heads = read_head_ids(conn).map_err(fault_of)?;
-    if !are_lone(records.as_slice(), runs.as_slice(), heads.as_slice()) {
-        return Err(KeepFault::Damaged);
-    }
-    Ok(are_empty(records.as_slice(), runs.as_slice(), heads.as_slice()))
+    let no_record = has_none(read_record_ids(conn))?;
+    let no_run = has_none(read_run_ids(conn))?;
+    let no_head = has_none(read_head_ids(conn))?;
+    Ok(no_record & no_run & no_head)
 }
 
 /// The five tables are there, and none has a row.

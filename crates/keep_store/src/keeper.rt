@@ -1,6 +1,6 @@
 //! Keepers.
 
-ghost use Rattle.std.specs.Prelude.{◌≡◌, ◌≢◌, ◌≤◌, ◌+◌, true, suc, Some, IfOk, IfErr, OnOk, OnErr, IsErrOf, option_map, string_bytes};
+ghost use Rattle.std.specs.Prelude.{◌≡◌, ◌≢◌, ◌≤◌, ◌+◌, true, suc, Some, None, if◌then◌else◌, IfOk, IfErr, OnOk, OnErr, IsErrOf, option_map, string_bytes};
 ghost use Rattle.std.specs.Str.{IsUtf8};
 ghost use Rattle.sqlite.specs.declared.types.Value.TheVariants.{Text};
 ghost use Rattle.sqlite.specs.State.{HasCleanDisk, Survives};
@@ -71,6 +71,13 @@ impl<S: Alter + Drop> Drop for Keeper<S> {
             head: _,
         } = self;
     }
+}
+
+/// What is there, where it is known.
+fn if_known<T: Drop>(is_known: bool, it: Option<T>) -> Option<T>
+    ensures { result ≡ (if is_known then it else None) }
+{
+    if is_known { it } else { None }
 }
 
 /// The number in the first row, or 0.
@@ -209,9 +216,7 @@ impl<S: Alter> Keeper<S> {
             rows.tasks.as_slice(),
             rows.amounts.as_slice(),
         )?;
-        if is_ready {
-            self.seen = seen_in(&rows, &found);
-        }
+        self.seen = if_known(is_ready, seen_in(&rows, &found));
         Ok(found)
     }
 
@@ -240,12 +245,11 @@ impl<S: Alter> Keeper<S> {
         let seen = self.seen.take();
         let head = self.head.take();
         let is_ready = mem::replace(&mut self.is_ready, false);
-        let tasks = save_record(&mut self.conn, alloc, seen, &head, durable.parts())?;
-        if is_ready {
-            self.is_ready = true;
-            self.seen = Some(tasks);
-            self.head = head_seen(alloc, head, durable.parts());
-        }
+        let parts = durable.parts();
+        let tasks = save_record(&mut self.conn, alloc, seen, &head, parts)?;
+        self.is_ready = is_ready;
+        self.seen = if_known(is_ready, Some(tasks));
+        self.head = if_known(is_ready, head_seen(alloc, head, parts));
         Ok(())
     }
 

@@ -14,6 +14,8 @@ mod words;
 use command_line::{Action, command_of};
 use ends::tell;
 use serve::run_serve;
+use std::alloc::Global;
+use std::env::Args;
 use std::net::{Net, TcpListener, TcpStream};
 use std::process::ExitCode;
 use std::sync::Wait;
@@ -22,6 +24,38 @@ use std::time::Clock;
 use std::{env, io};
 use streams::{run_calls, run_replay};
 use words::{tell_unread, tell_words};
+
+fn words_of(alloc: Global, given: Args) -> io::Result<Vec<String>> {
+    let mut words = Vec::new(alloc);
+    for word in given {
+        words.push(word)?;
+    }
+    Ok(words)
+}
+
+fn texts_of(alloc: Global, words: &[String]) -> io::Result<Vec<&str>> {
+    let mut texts = Vec::new(alloc);
+    for word in words {
+        texts.push(word.as_str())?;
+    }
+    Ok(texts)
+}
+
+/// Does what the words name, or tells why they name nothing.
+fn run_words<R: Net<Listener = TcpListener, Stream = TcpStream> + Threads + Wait + Clock + Sync>(
+    rt: &HostRuntime,
+    threads: &R,
+    words: &[&str],
+) -> io::Result<ExitCode>
+    ensures { IfOk result (λ code. IsStatus (exit_status code)) }
+{
+    match command_of(rt.alloc(), words) {
+        Ok(Action::Calls) => Ok(run_calls(rt, &mut rt.stdin(), &mut rt.stdout())),
+        Ok(Action::Replay) => Ok(run_replay(rt, &mut rt.stdin(), &mut rt.stdout())),
+        Ok(Action::Serve(options)) => Ok(run_serve(rt, threads, &options, &mut rt.stdout())),
+        Err(fault) => tell_words(rt, &fault),
+    }
+}
 
 /// Does what the words of the command line name.
 fn run<R: Net<Listener = TcpListener, Stream = TcpStream> + Threads + Wait + Clock + Sync>(
@@ -34,20 +68,9 @@ fn run<R: Net<Listener = TcpListener, Stream = TcpStream> + Threads + Wait + Clo
         Ok(given) => given,
         Err(fault) => return Ok(tell_unread(rt, &fault)),
     };
-    let mut words = Vec::new(rt.alloc());
-    for word in given {
-        words.push(word)?;
-    }
-    let mut texts = Vec::new(rt.alloc());
-    for word in &words {
-        texts.push(word.as_str())?;
-    }
-    match command_of(rt.alloc(), &texts) {
-        Ok(Action::Calls) => Ok(run_calls(rt, &mut rt.stdin(), &mut rt.stdout())),
-        Ok(Action::Replay) => Ok(run_replay(rt, &mut rt.stdin(), &mut rt.stdout())),
-        Ok(Action::Serve(options)) => Ok(run_serve(rt, threads, &options, &mut rt.stdout())),
-        Err(fault) => tell_words(rt, &fault),
-    }
+    let words = words_of(rt.alloc(), given)?;
+    let texts = texts_of(rt.alloc(), &words)?;
+    run_words(rt, threads, &texts)
 }
 
 fn main(rt: HostRuntime) -> ExitCode {

@@ -2,7 +2,20 @@ use Rattle.std.proofs.Common.{◌++◌, ◌∷◌, [], ◌∙◌, sym, ap, subst
 use Rattle.desk_seats.specs.Seats.{DeskState}
 use Rattle.desk_seats.specs.Receipts.{PassState}
 use Rattle.desk_seats.proofs.Answering.{pushed_is, enters_as, stands_more}
+use Rattle.desk_seats.proofs.Keeps.{one_counted}
 use Rattle.desk_seats.proofs.desk.Desk.answer.Goals as goal
+
+pub invariant_of-self : goal.invariant_of-self
+invariant_of-self g c =
+    let history = g.C.Recorded.history in
+    let was = c.args.self.now in
+    let e = c.in_ok-answered.ensures in
+    one_counted (history was.recorded) (history c.self.inside.recorded) c.in_ok-answered.answered.receipt.entry c.self.inside.seats.items c.self.inside.counts.items c.self.inside.book.total was.total c.add.new.self.total c.self.inside.rest.parts
+    c.self.invariant
+    (ap (λ (d : DeskState g.row.C.Denot). d.total) c.self.view_is ∙ e.kept.1)
+    c.is_counted.ensures.counted
+    (ap (λ (d : DeskState g.row.C.Denot). history d.recorded) c.self.view_is ∙ e.entered.entry)
+    c.add.ensures.total
 
 pub returns-clause-answered : goal.returns-clause-answered
 returns-clause-answered g c =
