@@ -1,5 +1,5 @@
 -- The tasks that operations launch.
-use Rattle.std.specs.Prelude.{ℕ, ◌+◌, List, [], ◌∷◌, ◌++◌, Bool, codes, bytes_eq, Option, Result, Ok, Err, unwrap_or, length, nat_lt, if◌then◌else◌}
+use Rattle.std.specs.Prelude.{ℕ, ◌+◌, List, [], ◌∷◌, ◌++◌, codes, bytes_eq, Option, Result, Ok, Err, unwrap_or, length, nat_lt, if◌then◌else◌}
 use Rattle.serde_json.specs.Data.{Data}
 use Rattle.serde_json.specs.Find.{get}
 use Rattle.call_members.specs.Answers.{◌>>=◌}

@@ -1,5 +1,5 @@
 -- The resources that a task asks for.
-use Rattle.std.specs.Prelude.{ℕ, List, [], Bool, codes, bytes_eq, Option, None, Some, Result, Ok, Err, option_and_then, if◌then◌else◌}
+use Rattle.std.specs.Prelude.{ℕ, List, [], codes, bytes_eq, Option, None, Some, Result, Ok, Err, option_and_then, if◌then◌else◌}
 use Rattle.serde_json.specs.Data.{Data}
 use Rattle.serde_json.specs.Find.{get, as_number, as_u64}
 use Rattle.quantity.specs.Names.{is_resource_name}

@@ -1,5 +1,5 @@
 -- Which call a text is, or its first fault.
-use Rattle.std.specs.Prelude.{◌≡◌, ℕ, nat_le, List, Bool, codes, bytes_eq, Option, None, Some, Result, Ok, Err, is_some, if◌then◌else◌}
+use Rattle.std.specs.Prelude.{ℕ, nat_le, List, codes, bytes_eq, Option, None, Some, Result, Err, is_some, if◌then◌else◌}
 use Rattle.std.specs.Str.{is_utf8}
 use Rattle.serde_json.specs.Data.{Data, depth}
 use Rattle.serde_json.specs.Find.{get, as_object}

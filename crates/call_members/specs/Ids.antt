@@ -4,7 +4,6 @@ use Rattle.serde_json.specs.Data.{Data}
 use Rattle.serde_json.specs.Find.{get}
 use Rattle.names_core.specs.Ids.{Numbered, id_of}
 use Rattle.names_core.specs.Names.{is_role, is_name}
-use Rattle.names_core.specs.Updates.{Update, update_of}
 use Rattle.call_members.specs.Answers.{◌>>=◌}
 use Rattle.call_members.specs.Members.{id_text_of, required}
 use Rattle.call_members.specs.declared.fault.Member.{Member}

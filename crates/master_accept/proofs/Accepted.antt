@@ -1,5 +1,5 @@
 -- What ACCEPT makes of what a master holds.
-use Rattle.std.proofs.Common.{◌≡◌, ℕ, suc, ◌+◌, ◌≤◌, Bool, true, false, not, ◌&&◌, ◌||◌, cond, if◌then◌else◌, List, [], ◌∷◌, ◌++◌, length, map, fold, Option, Some, None, option_map, Result, Ok, Err, refl, sym, ap, ◌∙◌, subst, bytes_eq, arith}
+use Rattle.std.proofs.Common.{◌≡◌, ℕ, suc, ◌+◌, Bool, true, false, not, ◌&&◌, ◌||◌, if◌then◌else◌, List, [], ◌∷◌, ◌++◌, length, map, fold, Option, Some, None, option_map, Ok, refl, sym, ap, ◌∙◌, subst, bytes_eq, arith}
 use Rattle.std.specs.Prelude.{nat_lt, IfSome}
 use Rattle.std.specs.List.{find}
 use Rattle.std.proofs.lemmas.Bool.{and_from, cond-true}
@@ -9,23 +9,21 @@ use Rattle.quantity.specs.declared.rows.Row.{Row}
 use Rattle.quantity.specs.Rows.{AreRows, plus_rows}
 use Rattle.mails.specs.declared.call.Call.TheVariants as calls
 use Rattle.mails.specs.declared.call.TaskInfo.{TaskInfo}
-use Rattle.mails.specs.declared.task.Job.{Job}
 use Rattle.mails.specs.declared.task.Booked.{Booked}
 use Rattle.mails.specs.declared.mail.ToAgent.{ToAgent}
 use Rattle.mails.specs.declared.framework.Framework.{Framework}
-use Rattle.mails.specs.declared.refusal.MasterRefusal.{MasterRefusal}
 use Rattle.mails.specs.declared.refusal.MasterRefusal.TheVariants.{LimitExceeded}
 use Rattle.cluster_model.specs.Ids.{is_among, last_number}
-use Rattle.cluster_model.specs.Sides.{LaunchFrom, Run, Sending, SideStep, Side, is_good, is_named, just_booked, launch_all, offer_rows, sends_nothing, side_step, used_offers, without_used}
-use Rattle.cluster_model.specs.Masters.{AtSide, Doing, framework_of, Master, Moved, Registers, add_filter, all_booked, at_side, is_torn, may_have_numbers, move_all, refused, saying, sending_more, with_framework, withdraws}
+use Rattle.cluster_model.specs.Sides.{LaunchFrom, Run, Sending, SideStep, Side, is_good, is_named, just_booked, launch_all, offer_rows, sends_nothing, used_offers, without_used}
+use Rattle.cluster_model.specs.Masters.{Doing, framework_of, Master, Moved, all_booked, at_side, is_torn, may_have_numbers, move_all, refused, sending_more, withdraws}
 use Rattle.cluster_model.specs.Calls as model
-use Rattle.cluster_model.specs.Calls.{Accepting, Given, accepted_as, accepts_all, by_framework, called, given_by, good_side, on_accept, rest_after, tasks_limit}
+use Rattle.cluster_model.specs.Calls.{Accepting, Given, accepted_as, accepts_all, called, given_by, good_side, on_accept, rest_after, tasks_limit}
 use Rattle.frameworks.specs.Frameworks as frameworks
 use Rattle.frameworks.specs.Frameworks.{changed, with_filter}
 use Rattle.frameworks.proofs.Ordered.{put_changed}
 use Rattle.agent_sides.specs.Configs as configs
 use Rattle.agent_sides.specs.Joined.{side_names}
-use Rattle.agent_sides.specs.Looks.{all_placed, at_name, withdrawing}
+use Rattle.agent_sides.specs.Looks.{all_placed, at_name}
 use Rattle.agent_sides.specs.Own.{good_offers, sum_on}
 use Rattle.agent_sides.specs.declared.own.GoodOffers.{GoodOffers}
 use Rattle.master_state.specs.declared.state.State.{State}
@@ -36,10 +34,10 @@ use Rattle.master_state.proofs.Admissions.{Admitted, admits}
 use Rattle.master_state.proofs.Doings.{none_more}
 use Rattle.master_state.proofs.Moves.{all_withdrawn, itself, moved_so}
 use Rattle.master_accept.specs.Accepts as accepts
-use Rattle.master_accept.specs.Accepts.{Bench, Caller, Progress, accepted_good, accepted_none, accepted_so, bench, may_number, no_progress, passes_limits, refusing_on, takes_all, without_used_on}
+use Rattle.master_accept.specs.Accepts.{Bench, Caller, accepted_good, accepted_none, accepted_so, bench, no_progress, passes_limits, refusing_on, takes_all, without_used_on}
 use Rattle.master_accept.specs.Launches.{launched_all}
 use Rattle.master_accept.proofs.Accepting.{Come, begins, lost_all, taken_all, with_events}
-use Rattle.master_accept.proofs.Launching.{Ends, Focus, change_there, focus, found_there, launches_so, moved_there, run_at, stand, step_there, to_agent}
+use Rattle.master_accept.proofs.Launching.{Ends, Focus, change_there, focus, found_there, launches_so, moved_there, stand, step_there, to_agent}
 
 -- the framework that calls isn't torn down
 untorn : (m : Master) (given : Option Numbered) (framework stream : Numbered) → admission m given framework ≡ Ok stream → is_torn m framework ≡ false

@@ -1,5 +1,5 @@
 -- An ACCEPT's tasks, one after the other, are taken as the model takes them.
-use Rattle.std.proofs.Common.{◌≡◌, ℕ, suc, ◌+◌, ◌≤◌, Bool, true, false, not, ◌&&◌, ◌||◌, cond, List, [], ◌∷◌, ◌++◌, length, map, filter, fold, Option, Some, None, option_map, IsTrue, refl, sym, ap, ◌∙◌, subst, bytes_eq, arith}
+use Rattle.std.proofs.Common.{◌≡◌, ℕ, suc, ◌+◌, ◌≤◌, Bool, true, false, not, ◌&&◌, cond, List, [], ◌∷◌, ◌++◌, map, filter, fold, Option, Some, None, option_map, IsTrue, refl, sym, ap, ◌∙◌, subst, bytes_eq, arith}
 use Rattle.std.specs.Prelude.{⊤, ◌-◌, nat_lt}
 use Rattle.std.proofs.lemmas.Bool.{true≢false}
 use Rattle.names_core.specs.Ids.{Numbered}
@@ -17,16 +17,16 @@ use Rattle.mails.specs.declared.framework.Framework.{Framework}
 use Rattle.cluster_model.specs.Ids.{following, is_empty}
 use Rattle.cluster_model.specs.Sides.{Side, just_booked}
 use Rattle.cluster_model.specs.Events.{Event, update_event}
-use Rattle.cluster_model.specs.Masters.{Master, Placed, all_booked, first_placed, held_among, is_task_of, on_stream}
+use Rattle.cluster_model.specs.Masters.{Placed, all_booked, first_placed, held_among, is_task_of, on_stream}
 use Rattle.cluster_model.specs.Calls as model
-use Rattle.cluster_model.specs.Calls.{Accepting, Given, accepts_all, accepts_as, accepts_one, answering, answers, job_of, launching}
+use Rattle.cluster_model.specs.Calls.{Accepting, Given, accepts_as, accepts_one, answering, answers, job_of, launching}
 use Rattle.offer_book.specs.Held.{first_at, is_of_name, place}
 use Rattle.agent_sides.specs.Looks.{all_placed}
 use Rattle.master_state.specs.declared.state.State.{State}
 use Rattle.scheduler_events.specs.declared.stream_event.StreamEvent.{StreamEvent}
 use Rattle.master_state.specs.States.{told_of_task}
 use Rattle.master_state.specs.Works.{master_of}
-use Rattle.master_accept.specs.Accepts.{Bench, Caller, HeldTask, Progress, bench, held_so, held_task, is_covered, launches, loses_as, loses_one, new_task, no_progress, takes_as, takes_one}
+use Rattle.master_accept.specs.Accepts.{Bench, Caller, bench, held_task, is_covered, launches, loses_as, loses_one, new_task, no_progress, takes_as, takes_one}
 
 -- held tasks
 

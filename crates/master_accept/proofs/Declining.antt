@@ -1,16 +1,14 @@
 -- What DECLINE makes of what a master holds.
-use Rattle.std.proofs.Common.{◌≡◌, ℕ, suc, Bool, true, false, not, ◌&&◌, ◌||◌, cond, if◌then◌else◌, List, [], ◌∷◌, ◌++◌, map, filter, flat_map, fold, Option, Some, None, Result, Ok, Err, refl, sym, ap, ◌∙◌, subst}
-use Rattle.std.specs.List.{list_any}
+use Rattle.std.proofs.Common.{◌≡◌, ℕ, Bool, true, false, not, ◌&&◌, ◌||◌, cond, List, [], ◌∷◌, ◌++◌, map, filter, flat_map, fold, Option, Some, None, Ok, Err, refl, sym, ap, ◌∙◌, subst}
 use Rattle.names_core.specs.Ids.{Numbered, same}
 use Rattle.mails.specs.declared.call.Call.TheVariants as calls
 use Rattle.mails.specs.declared.task.Offer.{Offer}
 use Rattle.mails.specs.declared.framework.Framework.{Framework}
-use Rattle.mails.specs.declared.framework.Filter.{Filter}
 use Rattle.mails.specs.declared.refusal.MasterRefusal.{MasterRefusal}
 use Rattle.cluster_model.specs.Ids.{each_once, is_among}
 use Rattle.cluster_model.specs.Events.{MadeOffer}
 use Rattle.cluster_model.specs.Sides.{Side, is_named}
-use Rattle.cluster_model.specs.Masters.{Doing, Master, Moved, add_filter, moving, move_all, with_framework, withdraws}
+use Rattle.cluster_model.specs.Masters.{Doing, Master, Moved, add_filter, moving, with_framework, withdraws}
 use Rattle.cluster_model.specs.Calls.{by_framework, called, on_decline, own_offers, own_offers_on}
 use Rattle.frameworks.specs.Frameworks.{are_ordered, changed}
 use Rattle.frameworks.proofs.Ordered.{put_changed}

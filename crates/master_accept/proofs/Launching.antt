@@ -1,5 +1,5 @@
 -- An ACCEPT's launches on one agent, one after the other, are those of the model.
-use Rattle.std.proofs.Common.{◌≡◌, ℕ, suc, ◌+◌, length, Bool, true, false, not, ◌&&◌, cond, List, [], ◌∷◌, ◌++◌, map, fold, Option, Some, None, refl, sym, ap, ◌∙◌, subst, bytes_eq, arith}
+use Rattle.std.proofs.Common.{◌≡◌, ℕ, suc, ◌+◌, length, Bool, true, false, ◌&&◌, cond, List, [], ◌∷◌, ◌++◌, map, Some, None, refl, sym, ap, ◌∙◌, subst, bytes_eq, arith}
 use Rattle.std.specs.Prelude.{⊤}
 use Rattle.std.specs.List.{find, list_all}
 use Rattle.std.proofs.lemmas.Bool.{and_from, cond-true}
@@ -14,8 +14,8 @@ use Rattle.mails.specs.declared.mail.MasterMail.{MasterMail}
 use Rattle.mails.specs.declared.mail.MasterMail.TheVariants.{Issued}
 use Rattle.mails.specs.declared.mail.ToAgent.{ToAgent}
 use Rattle.cluster_model.specs.Ids.{bytes_before, following}
-use Rattle.cluster_model.specs.Sides.{Launching, Run, Sending, Side, SideStep, books, issue, just_booked, launch_all, launch_one, may_launch, side_step}
-use Rattle.cluster_model.specs.Masters.{Moved, at_side, at_this_side, past_side}
+use Rattle.cluster_model.specs.Sides.{Run, Sending, Side, SideStep, books, issue, just_booked, launch_all, launch_one, may_launch, side_step}
+use Rattle.cluster_model.specs.Masters.{Moved, at_side, past_side}
 use Rattle.agent_sides.specs.Configs.{are_ordered}
 use Rattle.agent_sides.specs.Joined.{side_names}
 use Rattle.agent_sides.specs.Changes.{with_task}
@@ -23,8 +23,7 @@ use Rattle.agent_sides.specs.Looks.{at_name, next_command, told_of}
 use Rattle.roster.specs.Sessions.{with_command}
 use Rattle.master_state.specs.declared.state.State.{State}
 use Rattle.master_state.specs.States.{ordered, ordered_as}
-use Rattle.master_state.proofs.Doings.{none_more}
-use Rattle.master_state.proofs.Moves.{before_differs, itself}
+use Rattle.master_state.proofs.Moves.{before_differs}
 use Rattle.master_accept.specs.Launches.{booked_on, launched_all, launched_one}
 use Rattle.master_accept.proofs.Accepting.{Chain, map_more}
 

@@ -1,9 +1,9 @@
 -- What an agent's loss makes of what a master holds.
-use Rattle.std.proofs.Common.{◌≡◌, ℕ, Bool, true, false, List, [], ◌∷◌, ◌++◌, map, append_assoc, Option, Some, None, refl, sym, ap, ◌∙◌, subst}
+use Rattle.std.proofs.Common.{◌≡◌, ℕ, true, false, List, [], ◌∷◌, ◌++◌, append_assoc, Option, Some, None, refl, sym, ap, ◌∙◌, subst}
 use Rattle.std.proofs.lemmas.Bool.{true≢false}
 use Rattle.cluster_model.specs.Events.{Failure}
 use Rattle.cluster_model.specs.Mails.{agent_lost, loses, rescinds}
-use Rattle.cluster_model.specs.Masters.{AtSide, Doing, Master, Move, nothing, tells_all, without_filters_on}
+use Rattle.cluster_model.specs.Masters.{AtSide, Doing, Master, nothing, tells_all, without_filters_on}
 use Rattle.cluster_model.specs.Sides.{Lose, SendHello, Side, lost}
 use Rattle.names_core.specs.Ids.{Numbered}
 use Rattle.agent_sides.specs.Looks.{told_of}
@@ -12,9 +12,9 @@ use Rattle.scheduler_events.specs.declared.stream_event.StreamEvent.{StreamEvent
 use Rattle.master_state.specs.Works.{Work, done, master_of, registers_of, work_of}
 use Rattle.master_state.proofs.Doings.{none_more, nothing_done, with_moves}
 use Rattle.master_state.proofs.Greeting.{changes_silently, greets}
-use Rattle.master_mails.specs.Steps.{left, rescinded, with_failures, with_losses, with_lost, with_told, without_filters}
+use Rattle.master_mails.specs.Steps.{left, rescinded, with_failures, with_losses, with_lost, without_filters}
 use Rattle.agent_sides.specs.Named.{lost_by}
-use Rattle.master_mails.proofs.Naming.{found_in, found_named, told_as, told_in}
+use Rattle.master_mails.proofs.Naming.{found_in, found_named, told_as}
 
 -- events that are told one list after the other
 abbrev lost_doing : Master → Side → Doing

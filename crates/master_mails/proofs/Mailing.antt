@@ -1,5 +1,5 @@
 -- What an agent's mail makes of what a master holds.
-use Rattle.std.proofs.Common.{◌≡◌, ℕ, Bool, true, false, not, ◌&&◌, ◌==◌, cond, List, [], ◌∷◌, ◌++◌, flat_map, Option, Some, None, Result, Ok, Err, refl, sym, ap, ◌∙◌, subst, arith, bytes_eq, IfOk, OnOk}
+use Rattle.std.proofs.Common.{◌≡◌, ℕ, Bool, true, false, not, ◌&&◌, ◌==◌, cond, List, [], ◌∷◌, flat_map, Option, Some, None, Result, Ok, Err, refl, sym, ap, ◌∙◌, subst, arith, bytes_eq, IfOk, OnOk}
 use Rattle.std.specs.Prelude.{nat_le, nat_lt, if◌then◌else◌}
 use Rattle.std.proofs.lemmas.Bool.Decides.{nat_tests}
 use Rattle.std.specs.declared.alloc.AllocError.{AllocError}
@@ -12,7 +12,7 @@ use Rattle.mails.specs.declared.task.Booked.{Booked}
 use Rattle.booked_tasks.specs.declared.tasks.Heard.{Heard}
 use Rattle.cluster_model.specs.Events.{StreamEvent}
 use Rattle.cluster_model.specs.Mails.{goes_with, hear_at, in_session, judged, judged_session, mailed, mailed_as, session_opens}
-use Rattle.cluster_model.specs.Masters.{AtSide, Doing, Master, nothing, saying}
+use Rattle.cluster_model.specs.Masters.{AtSide, Master, nothing, saying}
 use Rattle.cluster_model.specs.Sides.{Run, SendHello, Side, heard, opened, opens}
 use Rattle.roster.specs.Sessions.{answered, judged_report, report_opens, reported}
 use Rattle.agent_sides.specs.Looks.{at_name, told_of}
@@ -24,7 +24,7 @@ use Rattle.master_state.proofs.Greeting.{greets}
 use Rattle.master_mails.specs.Steps.{Answered, having_heard, turned_away, with_told}
 use Rattle.agent_sides.specs.Named.{mailed_by}
 use Rattle.master_mails.specs.Tells.{news}
-use Rattle.master_mails.proofs.Naming.{found_in, found_named, hears_at, told_as, told_in}
+use Rattle.master_mails.proofs.Naming.{found_in, found_named, hears_at, told_as}
 
 abbrev judges : Run → AgentMail → Side → Option MasterRefusal
 judges run mail t = judged run t mail

@@ -1,5 +1,5 @@
 -- A Report that opens a session.
-use Rattle.std.proofs.Common.{◌≡◌, ℕ, Bool, true, false, not, ◌&&◌, cond, List, [], ◌∷◌, ◌++◌, append_assoc, map, filter, flat_map, fold, Option, Some, None, Result, Ok, Err, refl, sym, ap, ◌∙◌, subst}
+use Rattle.std.proofs.Common.{◌≡◌, ℕ, Bool, true, false, not, ◌&&◌, cond, List, [], ◌∷◌, ◌++◌, append_assoc, map, filter, flat_map, fold, Option, Some, None, Result, Ok, refl, sym, ap, ◌∙◌, subst}
 use Rattle.std.specs.Prelude.{if◌then◌else◌}
 use Rattle.std.specs.List.{list_all, list_any}
 use Rattle.std.proofs.lemmas.Bool.{and_from}
@@ -14,7 +14,7 @@ use Rattle.mails.specs.declared.task.Booked.{Booked}
 use Rattle.cluster_model.specs.Ids.{is_among}
 use Rattle.cluster_model.specs.Mails.{is_reported, is_to_end, loses, rescinds, session_opens}
 use Rattle.cluster_model.specs.Masters.{AtSide, Master, Move, Moved, sending_more, tells, without_filters_on}
-use Rattle.cluster_model.specs.Sides.{SendEnd, Side, heard, issue, sends_nothing, side_step}
+use Rattle.cluster_model.specs.Sides.{SendEnd, Side, issue, sends_nothing, side_step}
 use Rattle.roster.specs.Sessions.{with_command}
 use Rattle.agent_sides.specs.Looks.{at_name, next_command, told_of}
 use Rattle.master_state.specs.declared.state.State.{State}

@@ -1,8 +1,7 @@
 -- What a tick sends, as moves at all agents.
-use Rattle.std.proofs.Common.{◌≡◌, ℕ, suc, Bool, true, false, ◌&&◌, ◌||◌, ◌==◌, List, [], ◌∷◌, ◌++◌, map, flat_map, append_assoc, Option, Some, None, refl, sym, ap, ◌∙◌, arith, bytes_eq}
-use Rattle.std.specs.Prelude.{nat_lt, if◌then◌else◌}
+use Rattle.std.proofs.Common.{◌≡◌, ℕ, Bool, true, false, ◌&&◌, ◌==◌, List, [], ◌∷◌, ◌++◌, map, flat_map, append_assoc, Option, Some, None, refl, sym, ap, ◌∙◌, arith, bytes_eq}
+use Rattle.std.specs.Prelude.{if◌then◌else◌}
 use Rattle.std.specs.List.{list_all}
-use Rattle.std.proofs.lemmas.Bool.{true≢false}
 use Rattle.std.proofs.lemmas.Bool.Decides.{nat_tests}
 use Rattle.mails.specs.declared.framework.Framework.{Framework}
 use Rattle.mails.specs.declared.mail.Command.{Command}
@@ -12,7 +11,7 @@ use Rattle.mails.specs.declared.mail.ToAgent.{ToAgent}
 use Rattle.names_core.specs.Ids.{Numbered}
 use Rattle.cluster_model.specs.Ids.{bytes_before}
 use Rattle.cluster_model.specs.Mails.{beaten, beats, ticked, ticks}
-use Rattle.cluster_model.specs.Masters.{Move, Moved, at_this_side, move, move_all, past_side, sending_more}
+use Rattle.cluster_model.specs.Masters.{Moved, at_this_side, move, move_all, past_side, sending_more}
 use Rattle.cluster_model.specs.Sides.{Run, SendAgain, SendHello, Sending, Side, oldest_again, side_step}
 use Rattle.agent_sides.specs.Configs.{are_ordered}
 use Rattle.agent_sides.specs.Joined.{side_names}

@@ -1,17 +1,16 @@
 -- What the master does at one agent that is named, and the small steps of it.
 use Rattle.std.specs.declared.alloc.AllocError.{AllocError}
-use Rattle.std.specs.Prelude.{◌≡◌, ◌<◌, ⊤, ℕ, ◌++◌, List, [], ◌∷◌, map, filter, flat_map, fold, Option, Some, None, Result, Ok, Err}
+use Rattle.std.specs.Prelude.{◌≡◌, ⊤, ℕ, ◌++◌, List, [], map, filter, flat_map, fold, Option, Result, Ok, Err}
 use Rattle.names_core.specs.Ids.{Numbered}
 use Rattle.mails.specs.declared.mail.AgentMail.{AgentMail}
-use Rattle.mails.specs.declared.mail.AgentMail.TheVariants.{Report, Applied, Update}
 use Rattle.mails.specs.declared.mail.Command.TheVariants.{EndFramework}
 use Rattle.quantity.specs.declared.rows.Row.{Row}
 use Rattle.mails.specs.declared.task.Booked.{Booked}
 use Rattle.mails.specs.declared.refusal.MasterRefusal.{MasterRefusal}
 use Rattle.mails.specs.declared.refusal.MasterRefusal.TheVariants.{OtherRun}
 use Rattle.cluster_model.specs.Events.{StreamEvent, Failure}
-use Rattle.cluster_model.specs.Masters.{Doing, Master, clear_on, nothing, tells_all}
-use Rattle.cluster_model.specs.Mails.{agent_lost, hear_at, is_to_end, mailed}
+use Rattle.cluster_model.specs.Masters.{clear_on, tells_all}
+use Rattle.cluster_model.specs.Mails.{hear_at, is_to_end}
 use Rattle.cluster_model.specs.Sides.{lost}
 use Rattle.agent_sides.specs.Changes.{reporting}
 use Rattle.agent_sides.specs.Looks.{at_name, told_of}

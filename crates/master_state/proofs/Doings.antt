@@ -1,8 +1,7 @@
 -- What a step of the model makes of what a master holds, by what there is in it.
-use Rattle.std.proofs.Common.{◌≡◌, List, [], ◌∷◌, ◌++◌, refl, ap, ◌∙◌}
-use Rattle.names_core.specs.Ids.{Numbered}
+use Rattle.std.proofs.Common.{◌≡◌, List, [], ◌∷◌, ◌++◌, refl, ap}
 use Rattle.cluster_model.specs.Events.{StreamEvent}
-use Rattle.cluster_model.specs.Masters.{Doing, Master, Move, Registers, keeping, move_all, moving, nothing, saying}
+use Rattle.cluster_model.specs.Masters.{Move, Registers, keeping, move_all, moving, nothing, saying}
 use Rattle.master_state.specs.States.{State}
 use Rattle.master_state.specs.Works.{Work, done, master_of, work_of}
 

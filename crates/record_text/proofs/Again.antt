@@ -14,7 +14,7 @@ use Rattle.quantity.specs.declared.rows.Row.{Row}
 use Rattle.quantity.specs.Rows.{AreRows}
 use Rattle.mails.specs.declared.record.Durable.{Durable}
 use Rattle.mails.specs.declared.record.RecordedTask.{RecordedTask}
-use Rattle.record_text.specs.Texts.{amounts, row_members, task_data, task_form, total_form, record_data, record_form, first_form}
+use Rattle.record_text.specs.Texts.{amounts, task_data, task_form, total_form, record_data, record_form, first_form}
 use Rattle.record_text.specs.Written.{IsTask, IsDurable, IsWritten}
 use Rattle.record_text.specs.Reading.{◌>>=◌, offer_of, update_of, offers_in, updates_in, task_of, tasks_in, parts_of, is_form_of, record_in, task_in, total_in}
 use Rattle.record_text.proofs.Compact.{read_compact}

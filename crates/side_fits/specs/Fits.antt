@@ -2,7 +2,6 @@
 use Rattle.std.specs.Prelude.{◌≡◌, ◌≤◌, ◌<◌, ℕ, true, List, [], length, ⊤, bytes_eq}
 use Rattle.std.specs.List.{AllByRecursion}
 use Rattle.names_core.specs.Ids.{Numbered, before}
-use Rattle.quantity.specs.declared.rows.Row.{Row}
 use Rattle.quantity.specs.Laws.{AtLeast}
 use Rattle.mails.specs.declared.mail.AgentMail.{AgentMail}
 use Rattle.mails.specs.declared.mail.AgentMail.TheVariants.{Report, Applied, Update}

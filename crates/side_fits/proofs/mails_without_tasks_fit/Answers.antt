@@ -1,4 +1,4 @@
-use Rattle.std.proofs.Common.{◌≡◌, ℕ, List, [], ◌∷◌, zero-le, sym, subst}
+use Rattle.std.proofs.Common.{List, [], ◌∷◌, zero-le, sym, subst}
 use Rattle.mails.specs.declared.task.Booked.{Booked}
 use Rattle.mails.specs.declared.mail.AgentMail.{AgentMail}
 use Rattle.mails.specs.declared.mail.AgentMail.TheVariants.{Report, Applied, Update}

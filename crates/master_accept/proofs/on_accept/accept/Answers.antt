@@ -1,4 +1,4 @@
-use Rattle.std.proofs.Common.{sym, ◌∙◌, length}
+use Rattle.std.proofs.Common.{sym, ◌∙◌}
 use Rattle.cluster_model.specs.Calls.{on_accept}
 use Rattle.master_state.specs.Works.{master_of}
 use Rattle.master_accept.proofs.Declining.{turned_down}

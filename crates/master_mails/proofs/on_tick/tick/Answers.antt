@@ -1,9 +1,8 @@
-use Rattle.std.proofs.Common.{◌++◌, map, flat_map, ap, ◌∙◌}
+use Rattle.std.proofs.Common.{ap, ◌∙◌}
 use Rattle.agent_sides.proofs.Joining.{on_ok}
-use Rattle.cluster_model.specs.Mails.{beaten, beats}
 use Rattle.master_state.specs.Works.{run_of}
 use Rattle.master_state.proofs.Moves.{moved_so}
-use Rattle.master_mails.proofs.Ticking.{ticked_events, ticked_so, ticked_work}
+use Rattle.master_mails.proofs.Ticking.{ticked_so, ticked_work}
 use Rattle.master_mails.proofs.on_tick.tick.Goals as goal
 
 pub returns : goal.returns

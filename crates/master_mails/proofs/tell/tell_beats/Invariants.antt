@@ -1,4 +1,4 @@
-use Rattle.std.proofs.Common.{◌≡◌, ◌++◌, take, map, flat_map}
+use Rattle.std.proofs.Common.{◌≡◌, ◌++◌, take, flat_map}
 use Rattle.cluster_model.specs.Mails.{beats}
 use Rattle.master_mails.proofs.tell.tell_beats.Given as goal
 

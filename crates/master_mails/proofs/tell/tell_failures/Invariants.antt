@@ -1,4 +1,4 @@
-use Rattle.std.proofs.Common.{◌≡◌, ◌++◌, take, map}
+use Rattle.std.proofs.Common.{◌≡◌, ◌++◌, take}
 use Rattle.cluster_model.specs.Events.{Failure}
 use Rattle.cluster_model.specs.Masters.{tells_all}
 use Rattle.master_mails.proofs.tell.tell_failures.Given as goal

@@ -1,4 +1,4 @@
-use Rattle.std.proofs.Common.{◌≡◌, ◌++◌, take, map, flat_map}
+use Rattle.std.proofs.Common.{◌≡◌, ◌++◌, take, flat_map}
 use Rattle.master_mails.specs.Tells.{news}
 use Rattle.master_mails.proofs.tell.tell_news.Given as goal
 
