@@ -11,12 +11,16 @@ use Rattle.command_line.specs.Options.{HasOptions, serve_command}
 abbrev pub asks_for_command : App → App
 asks_for_command a = record a { top = record a.top { subcommand_required = true } }
 
--- the program's commands: `calls` and `replay`, without arguments, and `serve`
-abbrev pub command_line : App
-command_line =
+-- the program's commands without arguments: `calls` and `replay`
+abbrev pub plain_commands : App
+plain_commands =
     with_subcommand
-    (with_subcommand (with_subcommand (asks_for_command (new_app (codes "mesos_node")))
-    (new_app (codes "calls")).top) (new_app (codes "replay")).top) serve_command.top
+    (with_subcommand (asks_for_command (new_app (codes "mesos_node"))) (new_app (codes "calls")).top)
+    (new_app (codes "replay")).top
+
+-- and with `serve`
+abbrev pub command_line : App
+command_line = with_subcommand plain_commands serve_command.top
 
 -- the table of commands takes the words, the program's name first: they have no fault by `clap`'s
 -- definitions

@@ -38,13 +38,17 @@ task_seconds = otherwise (codes "10") (number_in 0 86400 (option (codes "task-se
 abbrev pub connections : Rule
 connections = otherwise (codes "0") (number_in 0 18446744073709551615 (option (codes "conns")))
 
+-- with the options that have to be given
+abbrev pub with_required : App → App
+with_required a = with_rule (with_rule (with_rule a port) agents) state
+
+-- and with those that needn't
+abbrev pub with_optional : App → App
+with_optional a = with_rule (with_rule (with_rule a interval) task_seconds) connections
+
 -- the command `serve`
 abbrev pub serve_command : App
-serve_command =
-    with_rule
-    (with_rule
-    (with_rule (with_rule (with_rule (with_rule (new_app (codes "serve")) port) agents) state)
-    interval) task_seconds) connections
+serve_command = with_optional (with_required (new_app (codes "serve")))
 
 -- an option has this number of so many bits in decimal digits, which a plus may stand before
 pub record HasNumber (bits : ℕ) (rows : List Row) (id : Text) (n : ℕ) : Type 0 where

@@ -1,10 +1,10 @@
 //! The command line.
 
-ghost use Rattle.std.specs.Prelude.{◌≡◌, List, Some, IfOk, IfErr, IfSome, IfNone};
+ghost use Rattle.std.specs.Prelude.{◌≡◌, List, Some, codes, IfOk, IfErr, IfSome, IfNone};
 ghost use Rattle.command_line.specs.declared.command.Action.{Action as Asked};
-ghost use Rattle.clap.specs.Words.{FailsBy, HasKind, Row, Text, app_of, fault_of, found_of, rows_of, subcommand_of, subcommand_rows_of};
+ghost use Rattle.clap.specs.Words.{FailsBy, HasKind, Row, Text, app_of, fault_of, found_of, new_app, rows_of, subcommand_of, subcommand_rows_of};
 ghost use Rattle.clap.specs.Walk.{texts};
-ghost use Rattle.command_line.specs.Commands.{AsksFor, IsAction, IsTaken, IsWantOfMemory, command_line};
+ghost use Rattle.command_line.specs.Commands.{AsksFor, IsAction, IsTaken, IsWantOfMemory, command_line, plain_commands};
 
 use crate::options::{ServeOptions, serve_command, serve_options};
 use clap::{ArgMatches, Command, Error};
@@ -90,23 +90,39 @@ Here the agent greets the master, and is seen to be there:
 The status is 0 where the input ends, 2 where a line is wrong (X1 NotAStep, X2 BadCall, X3 BadConfig, with the line's number before
 it), and 3 where memory, the input or the output fails.";
 
-fn app<'a>(alloc: Global) -> Result<Command<'a>, AllocError>
-    ensures { IfOk result (λ app. app_of app ≡ command_line) }
+fn calls_command<'a>(alloc: Global) -> Command<'a>
+    ensures { app_of result ≡ new_app (codes "calls") }
 {
-    let calls = Command::new(alloc, "calls")
+    Command::new(alloc, "calls")
         .about(CALLS_ABOUT)
-        .after_help(CALLS_HELP);
+        .after_help(CALLS_HELP)
+}
+
+fn replay_command<'a>(alloc: Global) -> Command<'a>
+    ensures { app_of result ≡ new_app (codes "replay") }
+{
+    Command::new(alloc, "replay")
+        .about(REPLAY_ABOUT)
+        .after_help(REPLAY_HELP)
+}
+
+/// The program with its commands without arguments.
+fn plain_commands<'a>(alloc: Global) -> Result<Command<'a>, AllocError>
+    ensures { IfOk result (λ app. app_of app ≡ plain_commands) }
+{
     let top = Command::new(alloc, "mesos_node")
         .about(ABOUT)
         .subcommand_required(true);
-    let with_calls = top.subcommand(calls)?;
-    let replay = Command::new(alloc, "replay")
-        .about(REPLAY_ABOUT)
-        .after_help(REPLAY_HELP);
-    let with_replay = with_calls.subcommand(replay)?;
+    let with_calls = top.subcommand(calls_command(alloc))?;
+    with_calls.subcommand(replay_command(alloc))
+}
+
+fn app<'a>(alloc: Global) -> Result<Command<'a>, AllocError>
+    ensures { IfOk result (λ app. app_of app ≡ command_line) }
+{
+    let plain = plain_commands(alloc)?;
     let serve = serve_command(alloc)?;
-    let app = with_replay.subcommand(serve)?;
-    Ok(app)
+    plain.subcommand(serve)
 }
 
 fn action_named<'a>(name: &str, found: &ArgMatches<'a>) -> Option<Action<'a>>

@@ -152,6 +152,24 @@ fn connections<'a>(alloc: Global) -> Arg<'a>
     .default_value("0")
 }
 
+/// With the options that have to be given.
+fn with_required<'a>(alloc: Global, command: Command<'a>) -> Result<Command<'a>, AllocError>
+    ensures { IfOk result (λ more. app_of more ≡ options.with_required (app_of command.entry)) }
+{
+    let with_port = command.arg(port(alloc))?;
+    let with_agents = with_port.arg(agents(alloc))?;
+    with_agents.arg(state(alloc))
+}
+
+/// With the options that needn't be given.
+fn with_optional<'a>(alloc: Global, command: Command<'a>) -> Result<Command<'a>, AllocError>
+    ensures { IfOk result (λ more. app_of more ≡ options.with_optional (app_of command.entry)) }
+{
+    let with_interval = command.arg(interval(alloc))?;
+    let with_task_seconds = with_interval.arg(task_seconds(alloc))?;
+    with_task_seconds.arg(connections(alloc))
+}
+
 /// The command `serve` and its options.
 pub(crate) fn serve_command<'a>(alloc: Global) -> Result<Command<'a>, AllocError>
     ensures { IfOk result (λ serve. app_of serve ≡ options.serve_command) }
@@ -159,13 +177,7 @@ pub(crate) fn serve_command<'a>(alloc: Global) -> Result<Command<'a>, AllocError
     let serve = Command::new(alloc, "serve")
         .about(SERVE_ABOUT)
         .after_help(SERVE_HELP);
-    let with_port = serve.arg(port(alloc))?;
-    let with_agents = with_port.arg(agents(alloc))?;
-    let with_state = with_agents.arg(state(alloc))?;
-    let with_interval = with_state.arg(interval(alloc))?;
-    let with_task_seconds = with_interval.arg(task_seconds(alloc))?;
-    let app = with_task_seconds.arg(connections(alloc))?;
-    Ok(app)
+    with_optional(alloc, with_required(alloc, serve)?)
 }
 
 /// The text of an option.

@@ -4,7 +4,7 @@ ghost use Rattle.std.specs.Fn.{FnReturnsAt};
 ghost use Rattle.std.specs.Prelude.{◌≡◌, [], IfOk, Ok};
 
 use crate::fault::ServingFault;
-use crate::staff::{Leaver, Pace, start_all};
+use crate::staff::{Leaver, Pace, seated, start_all};
 use desk_lock::{Desk, Office, OfficeFault, Pass, Passes, Recorded, SeatedHistory};
 use http_door::NoGate;
 use http_workers::{HttpFault, serve_all};
@@ -55,6 +55,15 @@ fn hand_in_all<D: Running, L: ledger::Ledger, R: Wait>(
     handed
 }
 
+/// Why no more connections were served, unless no more came.
+fn why_ended(fault: Option<HttpFault>, has_failed: bool) -> Result<(), ServingFault> {
+    match fault {
+        Some(fault) => Err(ServingFault::Http(fault)),
+        None if has_failed => Err(ServingFault::Listener),
+        None => Ok(()),
+    }
+}
+
 /// Serves the connections of a listener, each with a seat of its own,
 /// until no more come and all have ended. The passes of their seats are handed in.
 fn serve_connections<
@@ -69,20 +78,13 @@ fn serve_connections<
     connections: u64,
     passes: &mut Passes<KeptEntry, L>,
 ) -> Result<(), ServingFault> {
-    let pass = match office.open_seat(rt, alloc) {
-        Ok(pass) => pass,
-        Err(fault) => return Err(ServingFault::Office(fault)),
-    };
+    let pass = seated(rt, alloc, office)?;
     let mut arrivals = TcpArrivals::new(rt, alloc, office, pass, listener, connections);
     let (benches, fault) = serve_all(rt, alloc, &mut arrivals, &NoGate);
-    let failed = arrivals.has_failed();
+    let ended = why_ended(fault, arrivals.has_failed());
     let own = hand_in(passes, arrivals.into_pass());
     let handed = first_fault(own, hand_in_all(passes, benches));
-    match fault {
-        Some(fault) => Err(ServingFault::Http(fault)),
-        None if failed => Err(ServingFault::Listener),
-        None => handed,
-    }
+    first_fault(ended, handed)
 }
 
 /// Waits for the threads to end, and hands their passes in. It gives the first fault that one left.

@@ -1,6 +1,6 @@
 //! The threads of a cluster's agents and of its master's time.
 
-ghost use Rattle.std.specs.Prelude.{◌≡◌, []};
+ghost use Rattle.std.specs.Prelude.{◌≡◌, [], IfOk};
 
 use crate::fault::ServingFault;
 use activities::{ActivityFault, activity, ticker};
@@ -87,6 +87,28 @@ fn started<T: Drop, E: Drop>(thread: Result<T, E>) -> Result<T, ServingFault> {
     }
 }
 
+/// A seat in an office.
+pub(crate) fn seated<D: Running, L: ledger::Ledger, R: Wait>(
+    rt: &R,
+    alloc: Global,
+    office: &Office<D, L>,
+) -> Result<Pass<KeptEntry, L>, ServingFault>
+    ensures { IfOk result (λ pass. pass.receipts ≡ []) }
+{
+    match office.open_seat(rt, alloc) {
+        Ok(pass) => Ok(pass),
+        Err(fault) => Err(ServingFault::Office(fault)),
+    }
+}
+
+/// Makes room for so many threads.
+fn make_room<T>(threads: &mut Vec<T>, count: usize) -> Result<(), ServingFault> {
+    match threads.reserve(count) {
+        Ok(()) => Ok(()),
+        Err(_) => Err(ServingFault::Http(HttpFault::OutOfMemory)),
+    }
+}
+
 /// Keeps a thread, for which there is room.
 fn keep<T: Drop>(threads: &mut Vec<T>, thread: T) {
     let _ = threads.push(thread);
@@ -107,10 +129,7 @@ fn start_agent<
     file: RecordFile<'s>,
     pace: Pace,
 ) -> Result<JoinHandle<Leaver<L>>, ServingFault> {
-    let pass = match office.open_seat(rt, alloc) {
-        Ok(pass) => pass,
-        Err(fault) => return Err(ServingFault::Office(fault)),
-    };
+    let pass = seated(rt, alloc, office)?;
     let seconds = pace.task_seconds;
     started(scope.spawn(move || keep_going(rt, alloc, office, pass, file, seconds)))
 }
@@ -129,12 +148,31 @@ fn start_ticker<
     office: &'s Office<D, L>,
     pace: Pace,
 ) -> Result<JoinHandle<Leaver<L>>, ServingFault> {
-    let pass = match office.open_seat(rt, alloc) {
-        Ok(pass) => pass,
-        Err(fault) => return Err(ServingFault::Office(fault)),
-    };
+    let pass = seated(rt, alloc, office)?;
     let interval = pace.interval;
     started(scope.spawn(move || keep_time(rt, alloc, office, pass, interval)))
+}
+
+/// Starts the threads of all agents.
+fn start_agents<
+    's,
+    E,
+    D: Running + Send + Sync + 's,
+    L: ledger::Ledger + Send + Sync + 's,
+    R: Threads + Wait + Clock + Sync + 's,
+>(
+    scope: &Scope<'s, E>,
+    rt: &'s R,
+    alloc: Global,
+    office: &'s Office<D, L>,
+    files: Vec<RecordFile<'s>>,
+    pace: Pace,
+    threads: &mut Vec<JoinHandle<Leaver<L>>>,
+) -> Result<(), ServingFault> {
+    for file in files {
+        keep(threads, start_agent(scope, rt, alloc, office, file, pace)?);
+    }
+    Ok(())
 }
 
 /// Starts the threads of all agents, and of the master's time.
@@ -154,12 +192,9 @@ pub(crate) fn start_all<
     pace: Pace,
     threads: &mut Vec<JoinHandle<Leaver<L>>>,
 ) -> Result<(), ServingFault> {
-    if threads.reserve(files.len()).is_err() || threads.reserve(1).is_err() {
-        return Err(ServingFault::Http(HttpFault::OutOfMemory));
-    }
-    for file in files {
-        keep(threads, start_agent(scope, rt, alloc, office, file, pace)?);
-    }
+    make_room(threads, files.len())?;
+    start_agents(scope, rt, alloc, office, files, pace, threads)?;
+    make_room(threads, 1)?;
     keep(threads, start_ticker(scope, rt, alloc, office, pace)?);
     Ok(())
 }

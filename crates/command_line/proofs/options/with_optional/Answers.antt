@@ -1,0 +1,11 @@
+use Rattle.std.proofs.Common.{ap₂, refl, ◌∙◌}
+use Rattle.std.proofs.lemmas.Result.{IfOk-weaker}
+use Rattle.clap.specs.Words.{with_rule}
+use Rattle.command_line.proofs.Local.{is_local}
+use Rattle.command_line.proofs.options.with_optional.Goals as goal
+
+pub returns : goal.returns
+returns c =
+    let with_interval = c.in_ok-with_interval.ensures.shape (is_local c.interval.result _ c.interval.ensures refl) ∙ ap₂ with_rule refl c.interval.ensures in
+    let with_task_seconds = c.in_ok-with_task_seconds.ensures.shape (is_local c.task_seconds.result _ c.task_seconds.ensures refl) ∙ ap₂ with_rule with_interval c.task_seconds.ensures in
+    IfOk-weaker c.arg-3.result _ _ (λ more added. added.shape (is_local c.connections.result _ c.connections.ensures refl) ∙ ap₂ with_rule with_task_seconds c.connections.ensures) c.arg-3.ensures
