@@ -15,3 +15,4 @@ pub mod ChangedShares
 pub mod ByFractions
 pub mod Nothing
 pub mod Restarting
+pub mod Renewing

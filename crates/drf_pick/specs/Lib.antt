@@ -5,3 +5,4 @@ pub mod Least
 pub mod Orders
 pub mod Laws
 pub mod ClientShares
+pub mod Renewing

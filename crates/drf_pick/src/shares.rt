@@ -6,7 +6,7 @@ ghost use Rattle.role_weights.specs.Weights.{IsWeight};
 ghost use Rattle.drf_pick.specs.Fractions.{OfHolders, OfOthers, OfOtherRoles, OfRoles, OfRolesBut};
 ghost use Rattle.drf_pick.specs.Shares.{is_holder, entered, given, with_totals, weighed, with_role, can_leave, departed, can_back, returned};
 
-use crate::fractions::{keep_nothing, of_holders, of_roles};
+use crate::fractions::{clear_at, keep_nothing, of_given, of_holders, of_roles};
 use crate::holdings::Holdings;
 use names_core::{FrameworkId, RoleName};
 use quantity::Resources;
@@ -84,12 +84,15 @@ impl Shares {
         }
     }
 
-    /// The shares of what is held.
+    /// The shares of what is held. It takes time only for what was given since nobody held
+    /// anything, for frameworks that are new, and for each role.
     pub fn of(alloc: Global, holdings: Holdings) -> Result<Shares, AllocError>
         ensures { IfOk result (λ shares. shares ≡ holdings) }
     {
+        let mut holdings = holdings;
+        let kept = holdings.take_fractions(alloc);
         let totals = holdings.totals();
-        let fractions = of_holders(alloc, totals, holdings.holders())?;
+        let fractions = of_given(kept, totals, holdings.holders(), holdings.given())?;
         let role_fractions = of_roles(alloc, totals, holdings.roles().as_slice())?;
         Ok(Shares {
             holdings,
@@ -98,11 +101,20 @@ impl Shares {
         })
     }
 
-    /// What is held, without shares.
+    /// What is held, without shares. It takes no memory, and time only for what was given since
+    /// nobody held anything.
     pub fn into_holdings(self) -> Holdings
         ensures { result ≡ self }
     {
-        self.holdings
+        let Shares {
+            mut holdings,
+            mut fractions,
+            ..
+        } = self;
+        fractions.truncate(holdings.holders().len());
+        clear_at(&mut fractions, holdings.given());
+        holdings.keep_fractions(fractions);
+        holdings
     }
 
     /// Agents own this together. A refusal changes nothing.

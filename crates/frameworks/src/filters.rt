@@ -1,8 +1,9 @@
 //! Filters: resources of an agent that a framework refused for some seconds.
 
-ghost use Rattle.std.specs.Prelude.{◌≡◌, filter, not, bytes_eq, OnOk};
+ghost use Rattle.std.specs.Prelude.{◌≡◌, ◌<◌, ℕ, true, false, filter, not, bytes_eq, OnOk};
+ghost use Rattle.std.specs.List.{list_any};
 ghost use Rattle.cluster_model.specs.Masters.{add_filter, clear_on, count_on, drop_oldest};
-ghost use Rattle.cluster_model.specs.Rounds.{refuses};
+ghost use Rattle.cluster_model.specs.Rounds.{may_be_offered, refuses};
 
 use listed::Listed;
 use mails::{Filter, Framework};
@@ -92,4 +93,31 @@ pub fn refuses(filter: &Filter, now: u32, agent: &AgentName, free: &Resources) -
     filter.agent.is(agent)
         && u64::from(now) < u64::from(filter.made) + u64::from(filter.seconds)
         && filter.refused.covers(free)
+}
+
+/// Before which moment, in seconds, a filter of these refuses what is free on an agent.
+fn filtered_until(filters: &[Filter], agent: &AgentName, free: &Resources) -> u64
+    ensures { (now : ℕ) → now < result
+        → list_any (refuses now agent.now free.now) filters.now ≡ true }
+{
+    let mut until = 0;
+    for filter in filters {
+        let end = u64::from(filter.made) + u64::from(filter.seconds);
+        if until < end && filter.agent.is(agent) && filter.refused.covers(free) {
+            until = end;
+        }
+    }
+    until
+}
+
+/// A moment, in seconds, before which a framework may not be offered what is free on an agent,
+/// as it stands.
+pub fn refused_until(framework: &Framework, agent: &AgentName, free: &Resources) -> u64
+    ensures { (now : ℕ) → now < result
+        → may_be_offered now agent.now free.now framework.now ≡ false }
+{
+    if framework.stream.is_none() || framework.suppressed {
+        return u64::MAX;
+    }
+    filtered_until(framework.filters.as_slice(), agent, free)
 }

@@ -7,11 +7,14 @@ mod edit;
 mod filters;
 mod laws;
 mod look;
+mod starts;
 mod streams;
 mod table;
+mod told;
 
 pub use edit::is_due;
 pub use filters::refuses;
 pub use laws::puts_are_changes;
-pub use look::is_before;
+pub use look::{is_before, place_in};
+pub use starts::Starts;
 pub use table::Frameworks;

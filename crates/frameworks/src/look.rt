@@ -5,6 +5,9 @@ ghost use Rattle.std.specs.List.{position};
 ghost use Rattle.names_core.specs.Ids.{before, same};
 ghost use Rattle.frameworks.specs.Frameworks.{are_ordered, is_at, place_of, with_id, AreOfOneRole, HaveRole};
 ghost use Rattle.frameworks.specs.OpenStreams.{open_stream};
+ghost use Rattle.frameworks.specs.Told.{clients_of};
+ghost use Rattle.cluster_model.specs.Masters.{put_framework};
+ghost use Rattle.mails.specs.declared.framework.Framework as model;
 
 use mails::Framework;
 use names_core::{FrameworkId, RoleName, StreamId};
@@ -72,4 +75,21 @@ pub fn begin_with_role(frameworks: &[Framework], role: &RoleName) -> bool
     ensures { IsTrue result → AreOfOneRole frameworks.now → HaveRole role.now frameworks.now }
 {
     frameworks.is_empty() || frameworks[0].role.is(role)
+}
+
+fn is_client(framework: &Framework, id: FrameworkId, role: &RoleName) -> bool
+    ensures id { IsTrue result → framework.now.id ≡ id }
+    ensures role { IsTrue result → framework.now.role ≡ role.now }
+{
+    has_id(framework, id) && framework.role.is(role)
+}
+
+/// Whether the framework at the place of this id has it, and this role.
+pub fn has_client(frameworks: &[Framework], place: usize, id: FrameworkId, role: &RoleName) -> bool
+    requires place { place ≡ place_of id frameworks.now }
+    requires ordered { are_ordered frameworks.now ≡ true }
+    ensures { (f : model.Framework) → IsTrue result → f.id ≡ id → f.role ≡ role.now
+        → clients_of (put_framework f frameworks.now) ≡ clients_of frameworks.now }
+{
+    place < frameworks.len() && is_client(&frameworks[place], id, role)
 }

@@ -1,13 +1,18 @@
 //! The table of frameworks.
 
-ghost use Rattle.std.specs.Prelude.{◌≡◌, [], true, map, length, option_map, IsTrue, OnOk};
+ghost use Rattle.std.specs.Prelude.{◌≡◌, ◌≤◌, [], true, map, take, length, option_map, IsTrue, OnOk};
 ghost use Rattle.std.specs.List.{find};
 ghost use Rattle.cluster_model.specs.Calls.{is_stream};
 ghost use Rattle.cluster_model.specs.Masters.{clear_on, put_framework};
 ghost use Rattle.cluster_model.specs.Mails.{beaten};
 ghost use Rattle.frameworks.specs.Frameworks.{are_ordered, changed, AreOfOneRole, HaveRole, revived, subscriber, suppressed, with_filter, with_id, without_stream};
+ghost use Rattle.frameworks.specs.Starts.{AreStarts};
+ghost use Rattle.frameworks.specs.Told.{Remembers, clients_of};
 
+use crate::starts::Starts;
+use crate::told::Told;
 use crate::{edit, look, streams};
+use drf_pick::Holdings;
 use listed::Listed;
 use mails::Framework;
 use names_core::{AgentName, FrameworkId, RoleName, StreamId};
@@ -15,13 +20,17 @@ use quantity::Resources;
 use std::alloc::{AllocError, Global};
 use std::collections::BTreeMap;
 use std::marker::Model;
+use std::mem;
 
-/// The frameworks that are known in a run, in the order of their ids.
+/// The frameworks that are known in a run, in the order of their ids. What a round of offers keeps
+/// for the next one stands beside them; no answer hangs on it.
 pub struct Frameworks {
     items: Vec<Framework>,
     by_stream: BTreeMap<StreamId, FrameworkId>,
     /// Whether it is known that all have the same role.
     is_one_role: bool,
+    told: Told,
+    starts: Starts,
 }
 
 // By hand, so that who drops one goes through none of its parts.
@@ -31,6 +40,8 @@ impl Drop for Frameworks {
             items: _,
             by_stream: _,
             is_one_role: _,
+            told: _,
+            starts: _,
         } = self;
     }
 }
@@ -40,13 +51,17 @@ impl Model for Frameworks {
     ghost use Rattle.mails.specs.declared.framework.Framework.{Framework};
     ghost use Rattle.frameworks.specs.Frameworks.{AreOfOneRole};
     ghost use Rattle.frameworks.specs.OpenStreams.{IsTable, led_by};
+    ghost use Rattle.frameworks.specs.Starts.{AreStarts};
+    ghost use Rattle.frameworks.specs.Told.{AreTold};
 
     ghost Value = { List Framework };
 
     ghost view = { λ frameworks. frameworks.items.items };
 
     ghost invariant = { λ table. IsTable (led_by table.by_stream) table.items.items
-        × (IsTrue table.is_one_role → AreOfOneRole table.items.items) };
+        × (IsTrue table.is_one_role → AreOfOneRole table.items.items)
+        × AreTold table.items.items table.told
+        × AreStarts table.items.items table.starts };
 }
 
 impl Frameworks {
@@ -57,6 +72,8 @@ impl Frameworks {
             items: Vec::new(alloc),
             by_stream: BTreeMap::new(alloc),
             is_one_role: true,
+            told: Told::nothing(),
+            starts: Starts::new(alloc),
         }
     }
 
@@ -116,6 +133,9 @@ impl Frameworks {
         ensures { OnOk result (self.new ≡ put_framework (subscriber id role stream now) self.old) }
     {
         let is_one_role = self.have_role(&role);
+        self.told.cut_for(&self.items, id, &role);
+        let place = look::place_in(&self.items, id);
+        self.starts.cut(place);
         let framework = Framework {
             id,
             role,
@@ -142,6 +162,8 @@ impl Frameworks {
     pub fn revive(&mut self, alloc: Global, id: FrameworkId)
         ensures { self.new ≡ map (changed revived id) self.old }
     {
+        let place = look::place_in(&self.items, id);
+        self.starts.cut(place);
         edit::revive_in(&mut self.items, alloc, id);
     }
 
@@ -166,13 +188,19 @@ impl Frameworks {
         ensures { OnOk result
             (self.new ≡ map (changed (with_filter now seconds agent.now refused.now) id) self.old) }
     {
-        edit::refuse_in(&mut self.items, alloc, id, now, seconds, agent, refused)
+        let place = look::place_in(&self.items, id);
+        let mut starts = mem::replace(&mut self.starts, Starts::new(alloc));
+        starts.cut_on(agent, place);
+        edit::refuse_in(&mut self.items, alloc, id, now, seconds, agent, refused)?;
+        self.starts = starts;
+        Ok(())
     }
 
     /// All filters on an agent end.
     pub fn clear_filters_on(&mut self, agent: &AgentName)
         ensures { self.new ≡ map (clear_on agent.now) self.old }
     {
+        self.starts.cut(0);
         edit::clear_in(&mut self.items, agent);
     }
 
@@ -181,5 +209,37 @@ impl Frameworks {
         ensures { self.new ≡ map (beaten now) self.old }
     {
         edit::beat_in(&mut self.items, now);
+    }
+    /// What frameworks held in the round before, and of how many of the first of them it was told.
+    pub fn take_holdings(&mut self, alloc: Global) -> (Holdings, usize)
+        ensures told { Remembers (clients_of (take result.1 self.old)) result.0 }
+        ensures few { result.1 ≤ length self.old }
+        ensures same { self.new ≡ self.old }
+    {
+        self.told.take(alloc, &self.items)
+    }
+
+    /// Keeps for the next round what all these frameworks hold.
+    pub fn keep_holdings(&mut self, holdings: Holdings)
+        requires { Remembers (clients_of self.old) holdings }
+        ensures { self.new ≡ self.old }
+    {
+        self.told = Told::of(holdings, self.items.len());
+    }
+
+    /// Where the searches of the round before ended.
+    pub fn take_starts(&mut self, alloc: Global) -> Starts
+        ensures starts { AreStarts self.old result }
+        ensures same { self.new ≡ self.old }
+    {
+        mem::replace(&mut self.starts, Starts::new(alloc))
+    }
+
+    /// Keeps for the next round where the searches of this one ended.
+    pub fn keep_starts(&mut self, starts: Starts)
+        requires { AreStarts self.old starts }
+        ensures { self.new ≡ self.old }
+    {
+        self.starts = starts;
     }
 }

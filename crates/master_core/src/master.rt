@@ -23,7 +23,6 @@ use master_state::{MasterFault, Outs, State};
 use names_core::{AgentName, FrameworkId, Run, StreamId};
 use quantity::Resources;
 use role_weights::Weights;
-use round_shares::KeptShares;
 use side_fits::{hearing_keeps_fits, moves_keep_fits};
 use std::alloc::{AllocError, Global};
 use std::marker::Model;
@@ -32,14 +31,12 @@ use std::marker::Model;
 /// every later step answers `M5 OutOfMemory`, and does nothing.
 pub struct Master {
     state: Option<State>,
-    /// The shares of the round before, for the next one.
-    kept: KeptShares,
 }
 
 // By hand: who drops a master calls this, and goes through none of its parts.
 impl Drop for Master {
     fn drop(self) {
-        let Master { state: _, kept: _ } = self;
+        let Master { state: _ } = self;
     }
 }
 
@@ -100,7 +97,6 @@ impl Master {
         let outs = state.take_outs(alloc);
         let master = Master {
             state: Some(state),
-            kept: KeptShares::new(alloc),
         };
         Ok((master, outs))
     }
@@ -161,7 +157,7 @@ impl Master {
         let Some(state) = &mut self.state else {
             return Err(MasterFault::OutOfMemory);
         };
-        let done = of_memory(allocate(state, alloc, weights, &mut self.kept));
+        let done = of_memory(allocate(state, alloc, weights));
         settle(&mut self.state, alloc, done)
     }
 

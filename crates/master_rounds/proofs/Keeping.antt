@@ -1,5 +1,5 @@
 -- The shares of a round know the frameworks that they were told of.
-use Rattle.std.proofs.Common.{ℕ, Bool, true, false, cond, List, [], ◌∷◌, fold, map, nat_lt, Option, Some, None, ◌||◌}
+use Rattle.std.proofs.Common.{◌≡◌, ap, ◌∙◌, ℕ, Bool, true, false, cond, List, [], ◌∷◌, fold, map, nat_lt, Option, Some, None, ◌||◌}
 use Rattle.names_core.specs.Ids.{Numbered}
 use Rattle.quantity.specs.declared.rows.Row.{Row}
 use Rattle.mails.specs.declared.framework.Framework.{Framework}
@@ -8,11 +8,13 @@ use Rattle.cluster_model.specs.Ids.{is_empty, last_number}
 use Rattle.cluster_model.specs.Sides.{Side}
 use Rattle.agent_sides.specs.Free.{open_part}
 use Rattle.drf_pick.specs.declared.holder.Client.{Client}
-use Rattle.round_shares.specs.Kept.{Remembers, client_of}
+use Rattle.drf_pick.specs.Shares.{Tally}
+use Rattle.frameworks.specs.Told.{Remembers, client_of}
+use Rattle.round_shares.specs.Gifts.{shares_of}
 use Rattle.round_shares.specs.Picks.{picked}
 use Rattle.round_shares.proofs.Remembered.{given_remember, shares_remember}
 use Rattle.master_state.specs.declared.state.State.{State}
-use Rattle.master_rounds.specs.Visits.{Progress, goes_to, offers_free, round_of, starts, visits, visits_part}
+use Rattle.master_rounds.specs.Visits.{Progress, goes_to, offers_free, begins, round_of, round_with, visits, visits_part}
 
 gone : (cs : List Client) (run : ℕ) (agent : List ℕ) (free : List Row) (p : Progress) (o : Option Numbered) → Remembers cs p.shares → Remembers cs (goes_to run agent free p o).shares
 gone cs run agent free p None known = known
@@ -34,4 +36,11 @@ all_visited cs run now fs [] p known = known
 all_visited cs run now fs (s ∷ ss) p known = all_visited cs run now fs ss (visits run now fs p s) (visited cs run now fs p (open_part s) known)
 
 pub round_remembers : (ws : List RoleWeight) (s : State) → Remembers (map client_of s.frameworks) (round_of ws s).shares
-round_remembers ws s = all_visited (map client_of s.frameworks) s.run s.moment s.frameworks s.sides (starts ws s) (shares_remember ws s.sides s.frameworks)
+round_remembers ws s = all_visited (map client_of s.frameworks) s.run s.moment s.frameworks s.sides (begins (shares_of ws s.sides s.frameworks) s) (shares_remember ws s.sides s.frameworks)
+
+abbrev pub knowing : State → List Framework → State
+knowing s fs = record s { frameworks = fs }
+
+-- a round over the same frameworks, that begins with the shares of a round
+pub round_so : (ws : List RoleWeight) (s : State) (fs : List Framework) (t : Tally) (p : Progress) → p ≡ round_with t (knowing s fs) → fs ≡ s.frameworks → t ≡ shares_of ws s.sides s.frameworks → p ≡ round_of ws s
+round_so ws s fs t p is same shares = is ∙ ap (λ (gs : List Framework). round_with t (knowing s gs)) same ∙ ap (λ (u : Tally). round_with u s) shares

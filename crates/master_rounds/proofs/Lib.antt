@@ -5,3 +5,4 @@ pub mod Making
 pub mod Telling
 pub mod Starting
 pub mod Keeping
+pub mod Told

@@ -18,7 +18,8 @@ use Rattle.master_state.specs.Works.{Work, done, master_of, registers_of, run_of
 use Rattle.master_state.proofs.Doings.{none_more}
 use Rattle.master_state.proofs.Moves.{moved_so}
 use Rattle.master_rounds.specs.News.{event_on, news_of, offers_all}
-use Rattle.master_rounds.specs.Visits.{round_of, starts}
+use Rattle.master_rounds.specs.Visits.{begins, round_of}
+use Rattle.round_shares.specs.Gifts.{shares_of}
 use Rattle.master_rounds.proofs.Agreeing.{Agrees, rounds_alike}
 use Rattle.master_rounds.proofs.Bounds.{HaveRows}
 use Rattle.master_rounds.proofs.Making.{Made, all_made, offer_move, with_next}
@@ -69,11 +70,11 @@ pub record Holds (s : State) : Type 0 where
   pub rows : HaveRows s.sides
   pub fit : SidesFit (run_of s) s.sides
 
-starts_agree : (ws : List RoleWeight) (s : State) → Agrees ws (master_of s) s.run (start_of s) (starts ws s)
-starts_agree ws s = record { made = refl; next = refl; shares = refl }
+begins_alike : (ws : List RoleWeight) (s : State) → Agrees ws (master_of s) s.run (start_of s) (begins (shares_of ws s.sides s.frameworks) s)
+begins_alike ws s = record { made = refl; next = refl; shares = refl }
 
 agreed : (ws : List RoleWeight) (s : State) → Holds s → Agrees ws (master_of s) s.run (round_after ws s) (round_of ws s)
-agreed ws s h = rounds_alike ws (master_of s) s.run (record { ordered = h.ordered; rows = h.rows; fits = h.fit.totals; few = h.fit.few }) s.sides h.rows (start_of s) (starts ws s) (λ name. omega arith) (starts_agree ws s)
+agreed ws s h = rounds_alike ws (master_of s) s.run (record { ordered = h.ordered; rows = h.rows; fits = h.fit.totals; few = h.fit.few }) s.sides h.rows (start_of s) (begins (shares_of ws s.sides s.frameworks) s) (λ name. omega arith) (begins_alike ws s)
 
 made_of : (ws : List RoleWeight) (s : State) → Holds s → Made (start_of s) s.sides (round_after ws s)
 made_of ws s h = all_made ws s.moment (totals_of (master_of s)) (clients_of (master_of s)) s.sides (start_of s) h.rows h.fit.totals h.fit.ids h.names

@@ -7,7 +7,7 @@ use Rattle.scheduler_events.specs.declared.offer.Offer as json_offer
 use Rattle.role_weights.specs.Weights.{RoleWeight}
 use Rattle.cluster_model.specs.Ids.{is_empty, last_number}
 use Rattle.cluster_model.specs.Sides.{Side}
-use Rattle.drf_pick.specs.Shares.{given}
+use Rattle.drf_pick.specs.Shares.{Tally, given}
 use Rattle.agent_sides.specs.Free.{open_part}
 use Rattle.round_shares.specs.Gifts.{shares_of}
 use Rattle.round_shares.specs.Picks.{picked}
@@ -48,9 +48,12 @@ visits_part run now fs p (Some part) = offers_free run now fs p part.0 part.1
 abbrev pub visits : ℕ → ℕ → List Framework → Progress → Side → Progress
 visits run now fs p s = visits_part run now fs p (open_part s)
 
-abbrev pub starts : List RoleWeight → State → Progress
-starts weights s =
-    record { made = []; next = s.next_offer; shares = shares_of weights s.sides s.frameworks }
+abbrev pub begins : Tally → State → Progress
+begins shares s = record { made = []; next = s.next_offer; shares = shares }
+
+-- a round that begins with these shares
+abbrev pub round_with : Tally → State → Progress
+round_with shares s = fold (visits s.run s.moment s.frameworks) (begins shares s) s.sides
 
 abbrev pub round_of : List RoleWeight → State → Progress
-round_of weights s = fold (visits s.run s.moment s.frameworks) (starts weights s) s.sides
+round_of weights s = round_with (shares_of weights s.sides s.frameworks) s

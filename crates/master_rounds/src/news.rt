@@ -1,10 +1,13 @@
 //! Offers are made at their agents, and told to their frameworks.
 
-ghost use Rattle.std.specs.Prelude.{◌≡◌, ◌++◌, ◌≤◌, filter, flat_map, length, IfOk, OnOk};
+ghost use Rattle.std.specs.Prelude.{◌≡◌, ◌++◌, ◌≤◌, true, filter, flat_map, length, IfOk, OnOk};
+ghost use Rattle.std.specs.List.Sorted.{IsNonDecreasing, IsPermutation};
 ghost use Rattle.names_core.specs.Ids.{same};
-ghost use Rattle.master_rounds.specs.News.{news_of, offers_all, offers_at, offers_event, plain};
+ghost use Rattle.frameworks.specs.Frameworks.{are_ordered};
+ghost use Rattle.master_rounds.specs.News.{news_of, offers_all, offers_at, offers_event, places_of, plain};
 
 use agent_sides::Sides;
+use frameworks::place_in;
 use listed::Listed;
 use mails::Framework;
 use names_core::{FrameworkId, StreamId};
@@ -117,20 +120,58 @@ fn tell(
     }
 }
 
+/// The places of the offers' frameworks, in the order of the offers.
+fn places_of(
+    alloc: Global,
+    offers: &[Offer],
+    frameworks: &[Framework],
+) -> Result<Vec<usize>, AllocError>
+    requires { are_ordered frameworks.now ≡ true }
+    ensures { IfOk result (λ places. places.items ≡ places_of frameworks.now offers.now) }
+{
+    let mut places = Vec::new(alloc);
+    for offer in offers {
+        places.push(place_in(frameworks, offer.framework))?;
+    }
+    Ok(places)
+}
+
+/// The places of the offers' frameworks, from the first to the last.
+fn ordered_places(
+    alloc: Global,
+    offers: &[Offer],
+    frameworks: &[Framework],
+) -> Result<Vec<usize>, AllocError>
+    requires { are_ordered frameworks.now ≡ true }
+    ensures places { IfOk result (λ places.
+        IsPermutation (places_of frameworks.now offers.now) places.items) }
+    ensures ordered { IfOk result (λ places. IsNonDecreasing places.items) }
+{
+    let mut places = places_of(alloc, offers, frameworks)?;
+    places.sort_unstable();
+    Ok(places)
+}
+
 /// Tells each framework with offers and an open stream of these, in one event,
-/// in the order of the frameworks.
+/// in the order of the frameworks. They are found by halving, with no pass over all frameworks.
 pub fn tell_all(
     events: &mut Listed<StreamEvent>,
     alloc: Global,
     offers: &[Offer],
     frameworks: &[Framework],
 ) -> Result<(), AllocError>
-    requires { length offers.now ≤ 256 }
+    requires few { length offers.now ≤ 256 }
+    requires ordered { are_ordered frameworks.now ≡ true }
     ensures { OnOk result (events.new ≡ events.old
         ++ flat_map (news_of offers.now) frameworks.now) }
 {
-    for framework in frameworks {
-        tell(events, alloc, offers, framework)?;
+    let places = ordered_places(alloc, offers, frameworks)?;
+    let mut told = 0;
+    for place in places.as_slice() {
+        if told <= *place && *place < frameworks.len() {
+            tell(events, alloc, offers, &frameworks[*place])?;
+            told = *place + 1;
+        }
     }
     Ok(())
 }

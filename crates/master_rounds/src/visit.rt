@@ -1,22 +1,22 @@
 //! A round visits the agents, in order.
 
-ghost use Rattle.std.specs.Prelude.{◌≡◌, ◌≤◌, ◌<◌, None, Some, fold, map, OnOk, IfOk};
+ghost use Rattle.std.specs.Prelude.{◌≡◌, ◌≤◌, ◌<◌, None, Some, fold, OnOk, IfOk};
 ghost use Rattle.cluster_model.specs.Ids.{is_empty, last_number};
 ghost use Rattle.drf_pick.specs.Shares.{given};
 ghost use Rattle.roster.specs.Places.{told_at};
 ghost use Rattle.agent_sides.specs.Free.{open_part};
+ghost use Rattle.frameworks.specs.Starts.{AreStarts};
 ghost use Rattle.round_shares.specs.Candidates.{AreCandidates};
-ghost use Rattle.round_shares.specs.Kept.{client_of};
-ghost use Rattle.master_rounds.specs.Visits.{goes_to, offers_free, round_of, visits, visits_part};
+ghost use Rattle.master_rounds.specs.Visits.{goes_to, offers_free, round_with, visits, visits_part};
 
 use drf_pick::Shares;
+use frameworks::Starts;
 use listed::Listed;
 use master_state::State;
 use names_core::{AgentName, FrameworkId, OfferId, Run};
 use plain_data::Plain;
 use quantity::Resources;
-use role_weights::Weights;
-use round_shares::{Candidate, KeptShares, candidates_of, picked};
+use round_shares::{Candidate, candidates_of, picked};
 use scheduler_events::Offer;
 use std::alloc::{AllocError, Global};
 
@@ -86,12 +86,16 @@ fn offer_free(
     alloc: Global,
     state: &State,
     candidates: &[Candidate],
+    starts: &mut Starts,
+    place: usize,
     agent: &AgentName,
     free: Resources,
 ) -> Result<(), AllocError>
     requires numbered { 0 < progress.old.next }
     requires candidates { AreCandidates progress.old.shares state.now.frameworks candidates.now }
+    requires starts { AreStarts state.now.frameworks starts.old }
     ensures numbered { 0 < progress.new.next }
+    ensures starts { OnOk result (AreStarts state.now.frameworks starts.new) }
     ensures candidates { OnOk result (AreCandidates progress.new.shares state.now.frameworks
         candidates.now) }
     ensures ok { OnOk result (progress.new ≡ offers_free state.now.run state.now.moment
@@ -100,15 +104,11 @@ fn offer_free(
     if is_empty(&free) || LAST_NUMBER < progress.next {
         return Ok(());
     }
+    let frameworks = &state.frameworks;
+    let now = state.moment;
+    let first = starts.first_open(place, frameworks.as_slice(), now, agent, &free)?;
     let shares = &progress.shares;
-    match picked(
-        shares,
-        &state.frameworks,
-        candidates,
-        state.moment,
-        agent,
-        &free,
-    ) {
+    match picked(shares, frameworks, candidates, first, now, agent, &free) {
         None => Ok(()),
         Some(framework) => go_to(progress, alloc, state.run, agent, free, framework),
     }
@@ -119,11 +119,14 @@ fn visit(
     alloc: Global,
     state: &State,
     candidates: &[Candidate],
+    starts: &mut Starts,
     place: usize,
 ) -> Result<(), AllocError>
     requires numbered { 0 < progress.old.next }
     requires candidates { AreCandidates progress.old.shares state.now.frameworks candidates.now }
+    requires starts { AreStarts state.now.frameworks starts.old }
     ensures numbered { 0 < progress.new.next }
+    ensures starts { OnOk result (AreStarts state.now.frameworks starts.new) }
     ensures candidates { OnOk result (AreCandidates progress.new.shares state.now.frameworks
         candidates.now) }
     ensures ok { OnOk result (progress.new ≡ visits_part state.now.run state.now.moment
@@ -131,7 +134,9 @@ fn visit(
 {
     match state.sides.open_part(alloc, place)? {
         None => Ok(()),
-        Some((agent, free)) => offer_free(progress, alloc, state, candidates, agent, free),
+        Some((agent, free)) => offer_free(
+            progress, alloc, state, candidates, starts, place, agent, free,
+        ),
     }
 }
 
@@ -140,31 +145,34 @@ fn visit_all(
     alloc: Global,
     state: &State,
     candidates: &[Candidate],
+    starts: &mut Starts,
 ) -> Result<(), AllocError>
     requires numbered { 0 < progress.old.next }
     requires candidates { AreCandidates progress.old.shares state.now.frameworks candidates.now }
-    ensures { OnOk result (progress.new ≡ fold (visits state.now.run state.now.moment
+    requires starts { AreStarts state.now.frameworks starts.old }
+    ensures starts { OnOk result (AreStarts state.now.frameworks starts.new) }
+    ensures progress { OnOk result (progress.new ≡ fold (visits state.now.run state.now.moment
         state.now.frameworks) progress.old state.now.sides) }
 {
     for place in 0..state.sides.len() {
-        visit(progress, alloc, state, candidates, place)?;
+        visit(progress, alloc, state, candidates, starts, place)?;
     }
     Ok(())
 }
 
 /// The offers of a round: each agent's whole free part goes to the eligible framework that
-/// stands least, counted before the next agent is visited.
+/// stands least, counted before the next agent is visited. The shares are those of the round.
 pub fn round_of(
     state: &State,
     alloc: Global,
-    weights: &Weights,
-    kept: &mut KeptShares,
+    shares: Shares,
+    starts: &mut Starts,
 ) -> Result<Progress, AllocError>
-    requires { 0 < state.now.next_offer }
-    ensures progress { IfOk result (λ progress. progress ≡ round_of weights.now state.now) }
-    ensures told { OnOk result (kept.new ≡ map client_of state.now.frameworks) }
+    requires next { 0 < state.now.next_offer }
+    requires starts { AreStarts state.now.frameworks starts.old }
+    ensures progress { IfOk result (λ progress. progress ≡ round_with shares state.now) }
+    ensures starts { OnOk result (AreStarts state.now.frameworks starts.new) }
 {
-    let shares = kept.shares_of(alloc, weights, &state.sides, &state.frameworks)?;
     let frameworks = state.frameworks.as_slice();
     let candidates = candidates_of(alloc, &shares, frameworks, state.sides.len())?;
     let mut progress = Progress {
@@ -172,6 +180,6 @@ pub fn round_of(
         next: state.next_offer,
         shares,
     };
-    visit_all(&mut progress, alloc, state, &candidates)?;
+    visit_all(&mut progress, alloc, state, &candidates, starts)?;
     Ok(progress)
 }

@@ -14,6 +14,7 @@ use Rattle.share_sums.specs.Dominant.{IsDominant, Part}
 use Rattle.share_sums.specs.Lists.{Among}
 use Rattle.share_sums.proofs.Lists.{all_at}
 use Rattle.frameworks.specs.Frameworks.{AreOfOneRole, HaveRole, are_ordered}
+use Rattle.frameworks.specs.Starts.{NoneEligible}
 use Rattle.frameworks.proofs.Ordered.{not_after}
 use Rattle.drf_pick.specs.Shares.{Tally}
 use Rattle.drf_pick.specs.Least.{comes_before, held_by}
@@ -136,3 +137,9 @@ pub found_so : (now : ℕ) (agent : List ℕ) (free : List Row) (t : Tally) (fs 
     → o ≡ fold (better_eligible now agent free t) None fs
 found_so now agent free t fs place None s ordered role is share some none = absurd cc
 found_so now agent free t fs place (Some g) s ordered role is share some none = sym (first_found now agent free t fs place g s.own ordered role (sym is) share.own none)
+
+-- none is found where none is eligible
+
+pub none_found : (now : ℕ) (agent : List ℕ) (free : List Row) (t : Tally) (fs : List Framework) → NoneEligible now agent free fs → ◌≡◌ {A = Option Framework} None (fold (better_eligible now agent free t) None fs)
+none_found now agent free t [] all = refl
+none_found now agent free t (f ∷ fs) all = rw all.0 (none_found now agent free t fs all.1)

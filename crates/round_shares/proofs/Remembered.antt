@@ -12,7 +12,7 @@ use Rattle.drf_pick.specs.declared.holder.Holder.{Holder}
 use Rattle.drf_pick.specs.declared.holder.RoleSum.{RoleSum}
 use Rattle.drf_pick.specs.Shares.{Tally, at_first, emptied, given, given_roles, holder_of, holding, is_holder, is_role, restarted, reweighed, role_holding, role_sum_of, roles_with, weighed, weighed_roles, weighing, with_holder}
 use Rattle.round_shares.specs.Gifts.{Gift, enters, enters_row, gifts_of, holds, knows, no_shares, shares_of}
-use Rattle.round_shares.specs.Kept.{Remembers, begin_with, client_of, introduces, is_client, owning}
+use Rattle.frameworks.specs.Told.{Remembers, client_of, introduces, owning}
 use Rattle.round_shares.proofs.Shown.{enters_is}
 
 -- what is held is forgotten
@@ -165,38 +165,3 @@ refilled ws ss fs n cs t known told =
     ap (λ (x : Tally). fold holds (fold (knows ws) x (drop n fs)) (gifts_of ss)) (known ws (fold enters_row [] ss) ∙ ap (fold (introduces ws) (owning (fold enters_row [] ss))) told ∙ introduced ws (take n fs) (owning (fold enters_row [] ss)))
     ∙ ap (λ (x : Tally). fold holds x (gifts_of ss)) (one_by_one ws n fs (owning (fold enters_row [] ss)))
     ∙ ap (λ (x : Tally). fold holds (fold (knows ws) x fs) (gifts_of ss)) (sym (enters_is ss []))
-
-pub all_told : (n : ℕ) (fs : List Framework) → map client_of (take n fs) ++ map client_of (drop n fs) ≡ map client_of fs
-all_told zero fs = refl
-all_told (suc n) [] = refl
-all_told (suc n) (f ∷ fs) = ap (λ (cs : List Client). client_of f ∷ cs) (all_told n fs)
-
--- the first frameworks
-
-client_is : (c : Client) (f : Framework) → is_client f c ≡ true → c ≡ client_of f
-client_is c f e =
-    let both = both_true (same c.framework f.id) (bytes_eq c.role f.role) e in
-    let id : c.framework ≡ f.id = same_is c.framework f.id both.0 in
-    let role : c.role ≡ f.role = name_is c.role f.role both.1 in
-    ap (λ (n : Numbered). record { framework = n; role = c.role }) id ∙ ap (λ (r : List ℕ). record { framework = f.id; role = r }) role
-
-pub first_ones : (cs : List Client) (fs : List Framework) → begin_with cs fs ≡ true → (cs ≡ map client_of (take (length cs) fs)) × (length cs ≤ length fs)
-first_ones [] fs e = (refl, omega arith)
-first_ones (c ∷ cs) [] e = absurd cc
-first_ones (c ∷ cs) (f ∷ fs) e =
-    let both = both_true (is_client f c) (begin_with cs fs) e in
-    let rest = first_ones cs fs both.1 in
-    (ap (λ (x : Client). x ∷ cs) (client_is c f both.0) ∙ ap (λ (ks : List Client). client_of f ∷ ks) rest.0, omega (arith, rest.1))
-
--- behind the last framework there is none
-pub begin_past : (i : ℕ) (cs : List Client) (fs : List Framework) → i < length cs → length fs ≤ i → begin_with (drop i cs) (drop i fs) ≡ false
-begin_past i [] fs within past = absurd (omega arith)
-begin_past zero (c ∷ cs) [] within past = refl
-begin_past zero (c ∷ cs) (f ∷ fs) within past = absurd (omega arith)
-begin_past (suc i) (c ∷ cs) [] within past = past_none i cs (omega arith)
-  where
-    past_none : (k : ℕ) (ks : List Client) → k < length ks → begin_with (drop k ks) [] ≡ false
-    past_none k [] less = absurd (omega arith)
-    past_none zero (x ∷ ks) less = refl
-    past_none (suc k) (x ∷ ks) less = past_none k ks (omega arith)
-begin_past (suc i) (c ∷ cs) (f ∷ fs) within past = begin_past i cs fs (omega arith) (omega arith)

@@ -19,7 +19,7 @@ use Rattle.drf_pick.specs.Least.{role_share, share_of_sum}
 use Rattle.share_sums.specs.Sums.{summed}
 use Rattle.share_sums.proofs.Summing.{sums_add}
 use Rattle.round_shares.specs.Gifts.{Gift, all_rows, enters, enters_row, gifts_of, holds, knows, no_shares, role_rows, rows_to, shares_of}
-use Rattle.round_shares.specs.Kept.{owning}
+use Rattle.frameworks.specs.Told.{owning}
 use Rattle.round_shares.specs.Laws.{AddUp}
 use Rattle.round_shares.proofs.Rows.{NoneOf, all-one, both_true, none_behind, part, role-append, role-one, role_all, role_part, same_back, to-more, to_all}
 

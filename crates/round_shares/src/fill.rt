@@ -1,14 +1,15 @@
 //! What agents own, and what frameworks hold of it.
 
-ghost use Rattle.std.specs.Prelude.{◌≡◌, [], fold, map, flat_map, OnOk};
+ghost use Rattle.std.specs.Prelude.{◌≡◌, [], fold, map, flat_map, IfOk, OnOk};
 ghost use Rattle.agent_sides.specs.Joined.{join, joined};
 ghost use Rattle.cluster_model.specs.Sides.{unended};
 ghost use Rattle.role_weights.specs.Weights.{weight_of};
 ghost use Rattle.drf_pick.specs.Shares.{restarted, weighed, with_role};
-ghost use Rattle.round_shares.specs.Gifts.{enters_row, gifts_of, gifts_on, holds, job_gift, knows, offer_gift};
+ghost use Rattle.round_shares.specs.Gifts.{enters_row, gifts_of, gifts_on, holds, job_gift, knows, offer_gift, shares_of};
 
 use agent_sides::Sides;
-use drf_pick::Holdings;
+use drf_pick::{Holdings, Shares};
+use frameworks::Frameworks;
 use mails::{Booked, Framework, Offer};
 use names_core::{FrameworkId, RoleName};
 use offer_book::Account;
@@ -151,7 +152,7 @@ fn give_all(holdings: &mut Holdings, alloc: Global, accounts: &[Account]) -> Res
 }
 
 /// What is held is counted anew, by what agents own. More frameworks are told of.
-pub(crate) fn fill(
+fn fill(
     holdings: &mut Holdings,
     alloc: Global,
     weights: &Weights,
@@ -169,4 +170,25 @@ pub(crate) fn fill(
     know_all(holdings, alloc, weights, more)?;
     give_all(holdings, alloc, accounts)?;
     Ok(())
+}
+
+/// The shares of a round: what the agents with an open session own, the frameworks with their
+/// roles and the weights of these, and their current offers and booked tasks that haven't ended,
+/// on every agent. It takes what was kept of the round before, so that only frameworks that came
+/// since are gone through.
+pub fn shares_of(
+    alloc: Global,
+    weights: &Weights,
+    sides: &Sides,
+    frameworks: &mut Frameworks,
+) -> Result<Shares, AllocError>
+    ensures shares { IfOk result (λ shares. shares
+        ≡ shares_of weights.now sides.now frameworks.old) }
+    ensures same { frameworks.new ≡ frameworks.old }
+{
+    let (mut holdings, told) = frameworks.take_holdings(alloc);
+    let more = &frameworks.as_slice()[told..];
+    fill(&mut holdings, alloc, weights, sides, more)?;
+    let shares = Shares::of(alloc, holdings)?;
+    Ok(shares)
 }

@@ -4,11 +4,10 @@
 
 mod candidates;
 mod fill;
-mod kept;
 mod laws;
 mod pick;
 
 pub use candidates::{Candidate, candidates_of};
-pub use kept::KeptShares;
+pub use fill::shares_of;
 pub use laws::picks_alike;
 pub use pick::picked;

@@ -1,8 +1,9 @@
 //! The eligible framework that stands least.
 
-ghost use Rattle.std.specs.Prelude.{◌≡◌, true, None, fold, IfSome, IsTrue};
+ghost use Rattle.std.specs.Prelude.{◌≡◌, true, None, fold, take, IfSome, IsTrue};
 ghost use Rattle.std.specs.Option.{option_copied};
 ghost use Rattle.frameworks.specs.Frameworks.{are_ordered, AreOfOneRole};
+ghost use Rattle.frameworks.specs.Starts.{NoneEligible};
 ghost use Rattle.drf_pick.specs.ClientShares.{IsClientShare};
 ghost use Rattle.round_shares.specs.Candidates.{AreCandidates, IsCandidate};
 ghost use Rattle.round_shares.specs.Picks.{better_eligible, picked};
@@ -56,25 +57,27 @@ fn better_eligible<'a>(
 }
 
 /// The frameworks stand in the order of their ids, so where all have the same role, none behind one
-/// that holds nothing stands before it.
+/// that holds nothing stands before it. None in front of the first is eligible.
 fn best_of<'a>(
     shares: &Shares,
     frameworks: &'a [Framework],
     are_of_one_role: bool,
     candidates: &[Candidate],
+    first: usize,
     now: u32,
     agent: &AgentName,
     free: &Resources,
 ) -> Option<&'a Framework>
     requires ordered { are_ordered frameworks.now ≡ true }
     requires role { IsTrue are_of_one_role → AreOfOneRole frameworks.now }
+    requires first { NoneEligible now agent.now free.now (take first frameworks.now) }
     requires candidates { AreCandidates shares.now frameworks.now candidates.now }
     ensures { option_copied result ≡ fold (better_eligible now agent.now free.now shares.now) None
         frameworks.entry.now }
 {
     let mut best = None;
     let mut share = ClientShare::nothing();
-    for place in 0..frameworks.len() {
+    for place in first..frameworks.len() {
         let (framework, candidate) = (&frameworks[place], candidates.get(place));
         best = better_eligible(
             shares, best, &mut share, framework, candidate, place, now, agent, free,
@@ -87,20 +90,32 @@ fn best_of<'a>(
 }
 
 /// The framework that stands least of those to which what is free on an agent may
-/// be offered at this moment. It takes no memory.
+/// be offered at this moment. To none of the first frameworks, `first` of them, it may.
+/// It takes no memory.
 pub fn picked(
     shares: &Shares,
     frameworks: &Frameworks,
     candidates: &[Candidate],
+    first: usize,
     now: u32,
     agent: &AgentName,
     free: &Resources,
 ) -> Option<FrameworkId>
-    requires { AreCandidates shares.now frameworks.now candidates.now }
+    requires candidates { AreCandidates shares.now frameworks.now candidates.now }
+    requires first { NoneEligible now agent.now free.now (take first frameworks.now) }
     ensures { result ≡ picked now agent.now free.now shares.now frameworks.now }
 {
     let are_of_one_role = frameworks.are_of_one_role();
     let all = frameworks.as_slice();
-    let framework = best_of(shares, all, are_of_one_role, candidates, now, agent, free)?;
+    let framework = best_of(
+        shares,
+        all,
+        are_of_one_role,
+        candidates,
+        first,
+        now,
+        agent,
+        free,
+    )?;
     Some(framework.id)
 }

@@ -14,4 +14,5 @@ loop-place-preserved c =
           ∙ visited_more s.run s.moment s.frameworks c.args.progress.now s.sides c.loop-place.place (omega (arith, c.loop-place-test.true, c.len-place-end.ensures));
       candidates = c.in_ok-visit.ensures.candidates;
       numbered = c.visit.ensures.numbered;
+      starts = c.in_ok-visit.ensures.starts;
     }

@@ -5,7 +5,7 @@ use Rattle.std.proofs.lemmas.Grind.{fold-append}
 use Rattle.std.proofs.lemmas.List.{take_more}
 use Rattle.mails.specs.declared.framework.Framework.{Framework}
 use Rattle.round_shares.specs.Picks.{better_eligible}
-use Rattle.round_shares.proofs.FirstFound.{found_so}
+use Rattle.round_shares.proofs.FirstFound.{found_so, none_found}
 use Rattle.round_shares.proofs.AtPlaces.{lent_at}
 use Rattle.round_shares.proofs.pick.best_of.Goals as goal
 
@@ -29,3 +29,9 @@ returns-then-is_nothing c =
     let some : is_some best ≡ true = search rules in
     let none : share.own.amount ≡ 0 = search rules in
     found_so c.args.now c.args.agent.now c.args.free.now c.args.shares.now fs (place + 1) best share c.requires.ordered (c.requires.role role) found c.better_eligible-best.ensures.share some none
+
+pub loop-place-init : goal.loop-place-init
+loop-place-init c = record {
+  best = none_found c.args.now c.args.agent.now c.args.free.now c.args.shares.now (take c.args.first c.args.frameworks.now) c.requires.first;
+  share = tt;
+}

@@ -1,0 +1,78 @@
+-- Frameworks with their roles, as shares are told of them.
+use Rattle.std.proofs.Common.{◌≡◌, ℕ, zero, suc, ◌<◌, ◌≤◌, Bool, true, false, ◌&&◌, cond, List, [], ◌∷◌, length, map, take, nat_lt, Option, Some, None, get_or, slice_set, refl, sym, ap, subst, ◌∙◌, arith}
+use Rattle.std.specs.Prelude.{IfSome}
+use Rattle.std.specs.List.{list_all}
+use Rattle.std.proofs.lemmas.List.{take-map, get_or_default}
+use Rattle.std.proofs.lemmas.Bool.{and_from, lt-ltb}
+use Rattle.std.proofs.lemmas.Bool.Decides.{nat_tests}
+use Rattle.names_core.specs.Ids.{Numbered, before, same}
+use Rattle.mails.specs.declared.framework.Framework.{Framework}
+use Rattle.cluster_model.specs.Masters.{put_framework}
+use Rattle.drf_pick.specs.declared.holder.Client.{Client}
+use Rattle.frameworks.specs.Frameworks.{KeepsId, are_ordered, ids_of, is_at, place_of, roles_of}
+use Rattle.frameworks.specs.Told.{AreTold, Remembers, client_of, clients_of}
+use Rattle.frameworks.specs.declared.told.Told.{Told}
+use Rattle.frameworks.proofs.Ordered.{AllBehind, both_true, else_after, ids_set, put_at, put_before, put_first, put_later, same_is}
+use Rattle.frameworks.proofs.Leading.{same_itself}
+use Rattle.frameworks.proofs.OneRole.{KeepsRole, roles_set}
+use Rattle.frameworks.proofs.Searches.{first_alike}
+
+-- the same clients
+
+pub clients_alike : (fs gs : List Framework) → ids_of fs ≡ ids_of gs → roles_of fs ≡ roles_of gs → clients_of fs ≡ clients_of gs
+clients_alike [] [] e h = refl
+clients_alike [] (g ∷ gs) e h = absurd cc
+clients_alike (f ∷ fs) [] e h = absurd cc
+clients_alike (f ∷ fs) (g ∷ gs) e h =
+    let id : f.id ≡ g.id = cc in
+    let role : f.role ≡ g.role = cc in
+    let ids : ids_of fs ≡ ids_of gs = cc in
+    let roles : roles_of fs ≡ roles_of gs = cc in
+    ap (λ (i : Numbered). record { framework = i; role = f.role } ∷ clients_of fs) id
+    ∙ ap (λ (r : List ℕ). record { framework = g.id; role = r } ∷ clients_of fs) role
+    ∙ ap (λ (cs : List Client). client_of g ∷ cs) (clients_alike fs gs ids roles)
+
+clients_kept : (change : Framework → Framework) (fs : List Framework) → KeepsId change → KeepsRole change → clients_of (map change fs) ≡ clients_of fs
+clients_kept change [] ids roles = refl
+clients_kept change (f ∷ fs) ids roles = rw (ids f, roles f) (ap (λ (cs : List Client). client_of f ∷ cs) (clients_kept change fs ids roles))
+
+-- what shares were told of
+
+first_clients : (n : ℕ) (fs gs : List Framework) → clients_of gs ≡ clients_of fs → clients_of (take n gs) ≡ clients_of (take n fs)
+first_clients n fs gs e = sym (take-map client_of n gs) ∙ ap (take n) e ∙ take-map client_of n fs
+
+told_of : (fs gs : List Framework) (told : Told) (o : Option _) → told.holdings ≡ o → clients_of (take told.count gs) ≡ clients_of (take told.count fs)
+    → IfSome o (Remembers (clients_of (take told.count fs))) → IfSome o (Remembers (clients_of (take told.count gs)))
+told_of fs gs told None h e is = tt
+told_of fs gs told (Some t) h e is = subst (λ (cs : List Client). Remembers cs t) (sym e) is
+
+pub told_alike : (fs gs : List Framework) (told : Told) → clients_of gs ≡ clients_of fs → AreTold fs told → AreTold gs told
+told_alike fs gs told e is = told_of fs gs told told.holdings refl (first_clients told.count fs gs e) is
+
+pub told_kept : (change : Framework → Framework) (fs : List Framework) (told : Told) → KeepsId change → KeepsRole change → AreTold fs told → AreTold (map change fs) told
+told_kept change fs told ids roles is = told_alike fs (map change fs) told (clients_kept change fs ids roles) is
+
+-- with others from a place on
+pub told_front : (fs gs : List Framework) (place : ℕ) (told : Told) → told.count ≤ place → take place gs ≡ take place fs → AreTold fs told → AreTold gs told
+told_front fs gs place told few e is = told_of fs gs told told.holdings refl (ap clients_of (first_alike fs gs told.count place few e)) is
+
+-- where a framework is put
+
+pub put_front : (x : Framework) (fs : List Framework) → are_ordered fs ≡ true → take (place_of x.id fs) (put_framework x fs) ≡ take (place_of x.id fs) fs
+put_front x [] o = refl
+put_front x (f ∷ fs) o = by (before f.id x.id) refl (put_front x fs (both_true (list_all (λ g. before f.id g.id) fs) (are_ordered fs) o).1)
+  where
+    by : (b : Bool) → before f.id x.id ≡ b → take (place_of x.id fs) (put_framework x fs) ≡ take (place_of x.id fs) fs
+        → take (cond b (suc (place_of x.id fs)) 0) (put_framework x (f ∷ fs)) ≡ take (cond b (suc (place_of x.id fs)) 0) (f ∷ fs)
+    by true e ih = ap (take (suc (place_of x.id fs))) (put_later x f fs e) ∙ ap (λ (gs : List Framework). f ∷ gs) ih
+    by false e ih = refl
+
+pub clients_put : (x g : Framework) (fs : List Framework) (place : ℕ) → place ≡ place_of x.id fs → are_ordered fs ≡ true → place < length fs → g ≡ get_or fs place g → g.id ≡ x.id → g.role ≡ x.role
+    → clients_of (put_framework x fs) ≡ clients_of fs
+clients_put x g fs place at o within is id role =
+    let there : get_or fs place x ≡ g = get_or_default fs place x g within ∙ sym is in
+    let named : same (get_or fs place x).id x.id ≡ true = ap (λ (f : Framework). same f.id x.id) there ∙ ap (λ (n : Numbered). same n x.id) id ∙ same_itself x.id in
+    let put : slice_set fs place x ≡ put_framework x fs = put_at x fs place at o (and_from (nat_lt place (length fs)) (same (get_or fs place x).id x.id) (lt-ltb place (length fs) within) named) in
+    let ids : ids_of (slice_set fs place x) ≡ ids_of fs = ids_set fs place x x within (sym id ∙ ap (λ (f : Framework). f.id) (sym there)) in
+    let roles : roles_of (slice_set fs place x) ≡ roles_of fs = roles_set fs place x x within (sym role ∙ ap (λ (f : Framework). f.role) (sym there)) in
+    ap clients_of (sym put) ∙ clients_alike (slice_set fs place x) fs ids roles

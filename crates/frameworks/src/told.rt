@@ -1,0 +1,81 @@
+//! Shares that are kept from one round to the next.
+
+ghost use Rattle.std.specs.Prelude.{◌≡◌, ◌≤◌, true, None, Some, List, take, length};
+ghost use Rattle.mails.specs.declared.framework.Framework as model;
+ghost use Rattle.cluster_model.specs.Masters.{put_framework};
+ghost use Rattle.frameworks.specs.Frameworks.{are_ordered};
+ghost use Rattle.frameworks.specs.Told.{AreTold, Remembers, clients_of};
+
+use crate::look::{has_client, place_in};
+use drf_pick::Holdings;
+use mails::Framework;
+use names_core::{FrameworkId, RoleName};
+use std::alloc::Global;
+use std::mem;
+
+/// What frameworks held in the round before, and how many of the first frameworks it was told of.
+#[derive(Drop)]
+pub(crate) struct Told {
+    /// None where a round has it, and where a framework that it was told of has another role or
+    /// place since.
+    holdings: Option<Holdings>,
+    count: usize,
+}
+
+impl Told {
+    pub(crate) fn nothing() -> Told
+        ensures { result.holdings ≡ None }
+    {
+        Told {
+            holdings: None,
+            count: 0,
+        }
+    }
+
+    pub(crate) fn of(holdings: Holdings, count: usize) -> Told
+        ensures { result ≡ record { holdings = Some holdings; count = count } }
+    {
+        Told {
+            holdings: Some(holdings),
+            count,
+        }
+    }
+
+    /// The frameworks from a place on may be others than those that it was told of.
+    fn cut(&mut self, place: usize)
+        ensures { (fs gs : List model.Framework) → take place gs ≡ take place fs
+            → AreTold fs self.old → AreTold gs self.new }
+    {
+        if place < self.count {
+            self.holdings = None;
+        }
+    }
+
+    /// A framework of this id and role is about to be put in its place: holdings that were told of
+    /// another there are dropped.
+    pub(crate) fn cut_for(&mut self, frameworks: &[Framework], id: FrameworkId, role: &RoleName)
+        requires told { AreTold frameworks.now self.old }
+        requires ordered { are_ordered frameworks.now ≡ true }
+        ensures told { AreTold frameworks.now self.new }
+        ensures put { (f : model.Framework) → f.id ≡ id → f.role ≡ role.now
+            → AreTold (put_framework f frameworks.now) self.new }
+    {
+        let place = place_in(frameworks, id);
+        if !has_client(frameworks, place, id, role) {
+            self.cut(place);
+        }
+    }
+
+    /// The holdings, and how many of the first frameworks they were told of.
+    pub(crate) fn take(&mut self, alloc: Global, frameworks: &[Framework]) -> (Holdings, usize)
+        requires { AreTold frameworks.now self.old }
+        ensures told { Remembers (clients_of (take result.1 frameworks.now)) result.0 }
+        ensures few { result.1 ≤ length frameworks.now }
+        ensures none { self.new.holdings ≡ None }
+    {
+        match mem::replace(&mut self.holdings, None) {
+            Some(holdings) => (holdings, self.count.min(frameworks.len())),
+            None => (Holdings::new(alloc), 0),
+        }
+    }
+}
