@@ -178,7 +178,7 @@ impl Starts {
 
     /// How many of the first frameworks may not be offered what is free on an agent at this moment.
     /// `place` says where the agent stands among all; what is known of it is kept there.
-    pub fn first_open(
+    pub fn passed_over(
         &mut self,
         place: usize,
         frameworks: &[Framework],

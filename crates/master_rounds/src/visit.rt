@@ -106,7 +106,7 @@ fn offer_free(
     }
     let frameworks = &state.frameworks;
     let now = state.moment;
-    let first = starts.first_open(place, frameworks.as_slice(), now, agent, &free)?;
+    let first = starts.passed_over(place, frameworks.as_slice(), now, agent, &free)?;
     let shares = &progress.shares;
     match picked(shares, frameworks, candidates, first, now, agent, &free) {
         None => Ok(()),

@@ -8,8 +8,7 @@ use Rattle.frameworks.proofs.table.Frameworks.subscribe.Goals as goal
 
 pub invariant_of-self : goal.invariant_of-self
 invariant_of-self c =
-    let fs = c.self.inside.items.items in
-    (
+    let fs = c.self.inside.items.items in (
       c.put_open.ensures.table,
       λ is. rw c.in_err-put_open.ensures.err (c.self.invariant.1 is),
       rw c.in_err-put_open.ensures.err (rw c.deref.ensures.value at c.cut_for.ensures.told),
@@ -19,11 +18,10 @@ invariant_of-self c =
 pub invariant_of-self-2 : goal.invariant_of-self-2
 invariant_of-self-2 c =
     let fs = c.self.inside.items.items in
-    let f = subscriber c.args.id c.args.role c.args.stream c.args.now in
-    (
+    let f = subscriber c.args.id c.args.role c.args.stream c.args.now in (
       c.put_open.ensures.table,
       λ is. rw (c.in_ok-put_open.ensures.ok, c.new.ensures) (one_put f fs (rw c.self.view_is (c.have_role-is_one_role.ensures is))),
       rw (c.in_ok-put_open.ensures.ok, c.new.ensures) (rw c.deref.ensures.value at c.cut_for.ensures.put f refl refl),
       rw (c.in_ok-put_open.ensures.ok, c.new.ensures, c.cut.ensures, c.place_in-place.ensures.place, c.deref-2.ensures.value)
-      (cut_all fs (put_framework f fs) (place_of c.args.id fs) c.self.inside.starts (put_front f fs c.self.invariant.0.ordered) c.self.invariant.3),
+          (cut_all fs (put_framework f fs) (place_of c.args.id fs) c.self.inside.starts (put_front f fs c.self.invariant.0.ordered) c.self.invariant.3),
     )

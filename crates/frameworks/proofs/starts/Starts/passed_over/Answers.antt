@@ -1,5 +1,5 @@
 use Rattle.std.proofs.Common.{ap, ◌∙◌, arith}
-use Rattle.frameworks.proofs.starts.Starts.first_open.Goals as goal
+use Rattle.frameworks.proofs.starts.Starts.passed_over.Goals as goal
 
 pub returns-in_err-start-clause-starts : goal.returns-in_err-start-clause-starts
 returns-in_err-start-clause-starts c = c.take-kept.ensures.rest c.args.frameworks.now c.requires
