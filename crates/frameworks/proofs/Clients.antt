@@ -1,18 +1,17 @@
 -- Frameworks with their roles, as shares are told of them.
-use Rattle.std.proofs.Common.{◌≡◌, ℕ, zero, suc, ◌<◌, ◌≤◌, Bool, true, false, ◌&&◌, cond, List, [], ◌∷◌, length, map, take, nat_lt, Option, Some, None, get_or, slice_set, refl, sym, ap, subst, ◌∙◌, arith}
+use Rattle.std.proofs.Common.{◌≡◌, ℕ, suc, ◌<◌, ◌≤◌, Bool, true, false, cond, List, [], ◌∷◌, length, map, take, nat_lt, Option, Some, None, get_or, slice_set, refl, sym, ap, subst, ◌∙◌}
 use Rattle.std.specs.Prelude.{IfSome}
 use Rattle.std.specs.List.{list_all}
 use Rattle.std.proofs.lemmas.List.{take-map, get_or_default}
 use Rattle.std.proofs.lemmas.Bool.{and_from, lt-ltb}
-use Rattle.std.proofs.lemmas.Bool.Decides.{nat_tests}
 use Rattle.names_core.specs.Ids.{Numbered, before, same}
 use Rattle.mails.specs.declared.framework.Framework.{Framework}
 use Rattle.cluster_model.specs.Masters.{put_framework}
 use Rattle.drf_pick.specs.declared.holder.Client.{Client}
-use Rattle.frameworks.specs.Frameworks.{KeepsId, are_ordered, ids_of, is_at, place_of, roles_of}
+use Rattle.frameworks.specs.Frameworks.{KeepsId, are_ordered, ids_of, place_of, roles_of}
 use Rattle.frameworks.specs.Told.{AreTold, Remembers, client_of, clients_of}
 use Rattle.frameworks.specs.declared.told.Told.{Told}
-use Rattle.frameworks.proofs.Ordered.{AllBehind, both_true, else_after, ids_set, put_at, put_before, put_first, put_later, same_is}
+use Rattle.frameworks.proofs.Ordered.{both_true, ids_set, put_at, put_later}
 use Rattle.frameworks.proofs.Leading.{same_itself}
 use Rattle.frameworks.proofs.OneRole.{KeepsRole, roles_set}
 use Rattle.frameworks.proofs.Searches.{first_alike}

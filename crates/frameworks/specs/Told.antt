@@ -1,5 +1,5 @@
 -- Shares that are kept from one round to the next, and the frameworks that they were told of.
-use Rattle.std.specs.Prelude.{◌≡◌, ℕ, List, [], map, take, fold, IfSome}
+use Rattle.std.specs.Prelude.{◌≡◌, List, [], map, take, fold, IfSome}
 use Rattle.quantity.specs.declared.rows.Row.{Row}
 use Rattle.mails.specs.declared.framework.Framework.{Framework}
 use Rattle.role_weights.specs.Weights.{RoleWeight, weight_of}

@@ -40,6 +40,18 @@ fn has_none(read: Result<Vec<Row>, Error>) -> Result<bool, KeepFault>
     }
 }
 
+/// Whether a table has no row, by those that were read of it.
+fn has_no_row(read: Result<Vec<Row>, Error>) -> Result<bool, KeepFault>
+    ensures rows { IfOk result (λ none. (rows : _) × (read ≡ Ok rows)
+        × (IsTrue none → length rows.items ≡ 0)) }
+    ensures unspent { IfErr result (λ e. e ≢ KeepFault.RunsSpent) }
+{
+    match read {
+        Ok(rows) => Ok(rows.is_empty()),
+        Err(error) => Err(fault_of(error)),
+    }
+}
+
 /// The five tables are there and no other,
 /// with at most one row each but those of tasks and of amounts; and whether those are empty.
 fn check_tables<S: Alter>(conn: &mut Connection<S>) -> Result<bool, KeepFault>
@@ -62,7 +74,6 @@ fn check_tables<S: Alter>(conn: &mut Connection<S>) -> Result<bool, KeepFault>
 }
 
 /// The five tables are there, and none has a row.
-#[tactic(auto, using(crate::proofs::MoveLemmas::no_task_shown, crate::proofs::MoveLemmas::no_amount_shown, crate::proofs::MoveLemmas::nothing_kept))]
 fn check_new<S: Alter>(conn: &mut Connection<S>) -> Result<(), KeepFault>
     ensures clean { HasCleanDisk (state S.Store conn.new) → HasCleanDisk (state S.Store conn.old) }
     ensures ready { HasCleanDisk (state S.Store conn.new)
@@ -72,9 +83,10 @@ fn check_new<S: Alter>(conn: &mut Connection<S>) -> Result<(), KeepFault>
     ensures unspent { IfErr result (λ e. e ≢ KeepFault.RunsSpent) }
 {
     let is_empty = check_tables(conn)?;
-    let tasks = read_tasks(conn).map_err(fault_of)?;
-    let amounts = read_amounts(conn).map_err(fault_of)?;
-    if is_empty && tasks.is_empty() && amounts.is_empty() {
+    let no_task = has_no_row(read_tasks(conn))?;
+    let no_amount = has_no_row(read_amounts(conn))?;
+    let is_new = is_empty & no_task & no_amount;
+    if is_new {
         Ok(())
     } else {
         Err(KeepFault::Damaged)

@@ -95,9 +95,7 @@ impl Master {
         let run = state.run;
         state.sides.send_again(alloc, run, &mut state.outs.mails)?;
         let outs = state.take_outs(alloc);
-        let master = Master {
-            state: Some(state),
-        };
+        let master = Master { state: Some(state) };
         Ok((master, outs))
     }
 

@@ -1,5 +1,5 @@
 -- A refusal of an agent's file is one of the folder.
-use Rattle.std.specs.Prelude.{List}
+use Rattle.std.proofs.Common.{◌≡◌, List, subst, sym}
 use Rattle.std.specs.List.{Contains}
 use Rattle.agent_sides.specs.declared.config.ConfiguredAgent.{ConfiguredAgent}
 use Rattle.record_folder.specs.Refusals.{IsFileRefusal, IsFolderRefusal}
@@ -11,3 +11,7 @@ file_refused agents a (Store path fault) among h = tt
 file_refused agents a (TotalDiffers name) among h = (a, among, h)
 file_refused agents a NoCluster among h = tt
 file_refused agents a OutOfMemory among h = tt
+
+-- so is that no cluster has these records
+pub no_cluster_refused : (agents : List ConfiguredAgent) (fault : FolderFault) → fault ≡ NoCluster → IsFolderRefusal agents fault
+no_cluster_refused agents fault is = subst (IsFolderRefusal agents) (sym is) tt

@@ -138,6 +138,40 @@ fn check_opening(config: &Config, records: &mut [Record], run: Run) -> Result<()
     }
 }
 
+/// Adds the record of an agent and its file to those of a folder.
+fn add_agent<'a>(
+    rt: &'a HostRuntime,
+    folder: &str,
+    agent: &ConfiguredAgent,
+    opened: &mut Folder<'a>,
+) -> Result<(), FolderFault>
+    ensures { IfErr result (IsFileRefusal agent.now) }
+{
+    opened.records.reserve(1)?;
+    opened.files.reserve(1)?;
+    let (record, file) = open_agent(rt, folder, agent)?;
+    opened.records.push_reserved(record);
+    opened.files.push_reserved(file);
+    Ok(())
+}
+
+/// Adds the records of all agents and their files to those of a folder, which has none yet.
+fn add_agents<'a>(
+    rt: &'a HostRuntime,
+    folder: &str,
+    config: &Config,
+    opened: &mut Folder<'a>,
+) -> Result<(), FolderFault>
+    ensures good { OnOk result (GoodOpening opened.new.run opened.new.records.items) }
+    ensures records { OnOk result (AreRecordsOf config.now opened.new.records.items) }
+    ensures refused { IfErr result (IsFolderRefusal config.now) }
+{
+    for agent in config.agents() {
+        add_agent(rt, folder, agent, opened)?;
+    }
+    check_opening(config, opened.records.as_mut_slice(), opened.run)
+}
+
 /// Opens the stores of a folder, or makes those that lack: takes the master's next run, and reads
 /// the agents' records, a fresh one where there is none. The folder itself is to be there. Refusals
 /// come in the order: the store of runs, each agent's store and its total (Z1) in the order of
@@ -151,18 +185,11 @@ pub fn open_folder<'a>(
     ensures records { IfOk result (λ opened. AreRecordsOf config.now opened.records.items) }
     ensures refused { IfErr result (IsFolderRefusal config.now) }
 {
-    let run = next_run(rt, folder)?;
-    let mut records = Vec::new(rt.alloc());
-    let mut files = Vec::new(rt.alloc());
-    for agent in config.agents() {
-        let (record, file) = open_agent(rt, folder, agent)?;
-        records.push(record)?;
-        files.push(file)?;
-    }
-    check_opening(config, records.as_mut_slice(), run)?;
-    Ok(Folder {
-        run,
-        records,
-        files,
-    })
+    let mut opened = Folder {
+        run: next_run(rt, folder)?,
+        records: Vec::new(rt.alloc()),
+        files: Vec::new(rt.alloc()),
+    };
+    let added = add_agents(rt, folder, config, &mut opened);
+    added.and(Ok(opened))
 }

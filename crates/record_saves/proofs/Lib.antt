@@ -5,3 +5,4 @@ pub mod SaveLemmas
 pub mod SeenLemmas
 pub mod HeadLemmas
 pub mod RunLemmas
+pub mod StepLemmas

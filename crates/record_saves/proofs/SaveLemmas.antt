@@ -7,31 +7,34 @@ use Rattle.record_text.proofs.Utf8.{record_utf8}
 use Rattle.sqlite.specs.declared.types.Value.TheVariants.{Text}
 use Rattle.sqlite.specs.Order.{Row}
 use Rattle.sqlite.specs.Tree.{Trees, rowid}
-use Rattle.std.proofs.Common.{IsTrue, false, Ok, Err, Result, IfOk, OnOk}
+use Rattle.std.proofs.Common.{IsTrue, false, ◌<◌, ◌^◌, Ok, Err, Result, IfOk, OnOk}
 use Rattle.sqlite.specs.declared.error.Error.{Error}
 use Rattle.sqlite.specs.Steps.{FailsToCommit}
-use Rattle.sqlite.specs.State.{State}
+use Rattle.sqlite.specs.State.{HasCleanDisk, State, Survives}
 use Rattle.sqlite_rules.specs.Lists.{Has}
 use Rattle.mails.specs.declared.record.Durable.{Durable}
 use Rattle.mails.specs.declared.record.RecordedTask.{RecordedTask}
 use Rattle.std.proofs.Common.{◌&&◌}
 use Rattle.std.proofs.lemmas.Bool.{and_parts}
-use Rattle.quantity.specs.Rows.{covers}
+use Rattle.names_core.specs.Names.{is_name}
+use Rattle.quantity.specs.Rows.{AreRows, covers}
 use Rattle.cluster_model.specs.Agents.{live_tasks, task_rows}
 use Rattle.agent_core.specs.Records.{is_record, keys_rise, none_is_done, has_begun}
 use Rattle.record_text.specs.Texts.{task_form, record_form}
 use Rattle.record_text.specs.Written.{IsTask, IsDurable}
 use Rattle.record_text.specs.Reading.{◌>>=◌}
-use Rattle.keep_rows.specs.Tables.{IsLone, IsOurs, IsTable, amount_shown, keeper_schema, IsReady, IsCommitted, Stays, WritesOn, SparesOthers, Empties, Puts, AreIds, IsSame, task_row, head_row}
-use Rattle.record_saves.specs.Kept.{Adds, ArePut, HasTasks, HasNoTask, HasHead, HasRecord, HasTotal, IsHead, IsPut, Knows, KnowsHead, KnowsTotal, Tells, told, head_told, with_tasks, kept_in, with_record, text_of, body_in}
+use Rattle.keep_rows.specs.Tables.{IsLone, IsOurs, IsTable, amount_shown, keeper_schema, IsReady, IsCommitted, IsWriting, Stays, WritesIfOk, WritesOn, SparesOthers, Empties, Puts, AreIds, IsSame, task_row, head_row}
+use Rattle.record_saves.specs.Kept.{Adds, ArePut, HasTasks, HasNoTask, HasHead, HasRecord, HasTotal, IsHead, IsPut, Knows, KnowsHead, KnowsTotal, ReplacesHead, Tells, told, head_told, with_tasks, kept_in, with_record, text_of, body_in}
 use Rattle.keep_rows.specs.Tables.{head_of}
 use Rattle.keep_rows.proofs.ReadLemmas.{none_shown}
-use Rattle.keep_rows.specs.Totals.{HasAmounts, amount_rows}
+use Rattle.keep_rows.specs.Totals.{AreNamed, HasAmounts, amount_rows}
 use Rattle.quantity.specs.declared.rows.Row.{Row as Amount}
 use Rattle.record_saves.proofs.HeadLemmas.{head_again, total_utf8, with_head}
 use Rattle.record_saves.proofs.ToldLemmas.{row_told}
 use Rattle.record_saves.proofs.RiseLemmas.{rises}
+use Rattle.record_saves.proofs.StepLemmas.{clean_before}
 use Rattle.record_saves.proofs.TaskLemmas.{tells_all}
+use Rattle.keep_rows.proofs.StoreLemmas.{then_on, then_err}
 
 -- ---- tasks
 
@@ -79,15 +82,20 @@ total_known : (head : Option Durable) (x y : Trees) → y 5 ≡ x 5 → KnowsHea
 total_known None x y same knows = tt
 total_known (Some d) x y same knows = same ∙ knows.2
 
-pub has_head : (head : Option Durable) (d : Durable) (x y z w v : Trees) → Empties 0 x y → Empties 2 y z → Puts 2 (head_row d.name d.run d.session) z w → HasTotal head d.total w v → HasHead head d x v
-has_head head d x y z w v p q r s =
-    let same : w 5 ≡ x 5 = r.others 5 (λ e. cc) five_table ∙ q.others 5 (λ e. cc) five_table ∙ p.others 5 (λ e. cc) five_table in
-    record {
-      records = λ knows one. s.others 0 (λ e. cc) zero_table ∙ r.others 0 (λ e. cc) zero_table ∙ q.others 0 (λ e. cc) zero_table ∙ p.lone one;
-      heads = λ knows one. s.others 2 (λ e. cc) two_table ∙ r.first (q.lone (subst IsLone (sym (p.others 2 (λ e. cc) two_table)) one));
-      amounts = λ knows. s.rows (total_known head x w same knows);
-      others = λ t zero two five free. s.others t five free ∙ r.others t two free ∙ q.others t two free ∙ p.others t zero free;
-    }
+pub head_replaced : (row : Row) (x y z w : Trees) → Empties 0 x y → Empties 2 y z → Puts 2 row z w → ReplacesHead row x w
+head_replaced row x y z w p q r = record {
+  records = λ one. r.others 0 (λ e. cc) zero_table ∙ q.others 0 (λ e. cc) zero_table ∙ p.lone one;
+  heads = λ one. r.first (q.lone (subst IsLone (sym (p.others 2 (λ e. cc) two_table)) one));
+  others = λ t zero two free. r.others t two free ∙ q.others t two free ∙ p.others t zero free;
+}
+
+pub has_head : (head : Option Durable) (d : Durable) (x y z : Trees) → ReplacesHead (head_row d.name d.run d.session) x y → HasTotal head d.total y z → HasHead head d x z
+has_head head d x y z p q = record {
+  records = λ knows one. q.others 0 (λ e. cc) zero_table ∙ p.records one;
+  heads = λ knows one. q.others 2 (λ e. cc) two_table ∙ p.heads one;
+  amounts = λ knows. q.rows (total_known head x y (p.others 5 (λ e. cc) (λ e. cc) five_table) knows);
+  others = λ t zero two five free. q.others t five free ∙ p.others t zero two free;
+}
 
 -- the total that is there is left
 pub left_total : (head : Option Durable) (e : Durable) (total : List Amount) (x : Trees) → head ≡ Some e → e.total ≡ total → HasTotal head total x x
@@ -202,3 +210,18 @@ ok_both (Err e) P Q B p b f = tt
 pub on_both : {X E : Type 0} (r : Result X E) (P : X → Type 0) (B C : Type 0) → IfOk r P → OnOk r B → ((x : X) → P x → B → C) → OnOk r C
 on_both (Ok x) P B C p b f = f x p b
 on_both (Err e) P B C p b f = tt
+
+-- what is known of a head that was written
+pub head_written : {X E : Type 0} (d : Durable) (r : Result X E) → is_name d.name ≡ true → IsUtf8 d.name → d.run < 2 ^ 32 → d.session < 2 ^ 32 → OnOk r (AreRows d.total) → OnOk r (AreNamed d.total) → OnOk r (IsHead d)
+head_written d (Ok x) named name run session total amounts = record { named = named; name = name; run = run; session = session; total = total; amounts = amounts }
+head_written d (Err e) named name run session total amounts = tt
+
+-- the tasks were written, and then the head
+pub record_went : {X E : Type 0} (seen : Option (List RecordedTask)) (head : Option Durable) (d : Durable) (a b c : State) (r : Result X E) → AllByRecursion IsPut d.tasks → (IsWriting a → HasCleanDisk b → WritesOn (HasTasks seen d.tasks) a b)
+    → Survives b c (λ _. ⊥) → WritesIfOk (HasHead head d) r b c → OnOk r (IsHead d) → WritesIfOk (HasRecord seen head d) r a c
+record_went seen head d a b c (Ok x) put first quiet second is writing clean =
+    let before = first writing (clean_before b c quiet clean) in
+    then_on (HasTasks seen d.tasks) (HasHead head d) (HasRecord seen head d) a b c before (second before.writing clean) (has_record seen head d a.now.trees b.now.trees c.now.trees put is)
+record_went seen head d a b c (Err e) put first quiet second is writing clean =
+    let before = first writing (clean_before b c quiet clean) in
+    then_err (HasTasks seen d.tasks) a b c writing before (second before.writing clean)

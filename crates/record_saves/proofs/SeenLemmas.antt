@@ -3,6 +3,7 @@ use Rattle.std.proofs.Common.{◌≡◌, ◌≢◌, ◌⊎◌, ◌<◌, ◌≤�
 use Rattle.std.specs.Prelude.{insert, remove}
 use Rattle.std.specs.List.{AllByRecursion}
 use Rattle.sqlite.specs.declared.types.Value.TheVariants.{Int}
+use Rattle.sqlite.specs.State.{State}
 use Rattle.sqlite.specs.Tree.{Trees, rowid}
 use Rattle.sqlite_rules.specs.Lists.{Has}
 use Rattle.sqlite_rules.proofs.ListLemmas.{all_has, all_from, has_at}
@@ -11,7 +12,7 @@ use Rattle.std.proofs.lemmas.Bool.Decides.{nat_tests}
 use Rattle.names_core.specs.Ids.{Numbered, before}
 use Rattle.agent_core.specs.Records.{is_behind, keys_rise, rise_behind}
 use Rattle.mails.specs.declared.record.RecordedTask.{RecordedTask}
-use Rattle.keep_rows.specs.Tables.{Cuts, place_of}
+use Rattle.keep_rows.specs.Tables.{Cuts, IsWriting, WritesOn, place_of}
 use Rattle.record_saves.specs.Kept.{Adds, ArePut, HasNoTask, HasTasks, IsPut, Rise}
 
 abbrev place : RecordedTask → ℕ
@@ -219,3 +220,11 @@ one_of_key last (t ∷ ts) a b up is at key = go (one_of_key (Some t.job.key) ts
 
 pub among_keyed : (wanted ts : List RecordedTask) (t : RecordedTask) → keys_rise wanted ≡ true → Has wanted t → AllByRecursion (Has wanted) ts → AllByRecursion (λ other. other.job.key ≡ t.job.key → other ≡ t) ts
 among_keyed wanted ts t up is all = all_from (λ other. other.job.key ≡ t.job.key → other ≡ t) ts (λ other at key. one_of_key None wanted other t up (all_has (Has wanted) ts other all at) is key)
+
+pub tasks_stand : (ts : List RecordedTask) (s : State) → IsWriting s → WritesOn (HasTasks (Some ts) ts) s s
+tasks_stand ts s writing = record { writing = writing; committed = refl; changes = same_tasks ts s.now.trees }
+
+-- behind the last there is none
+pub none_behind : {X : Type 0} (P : X → Type 0) (ts : List X) → AllByRecursion P (drop (length ts) ts)
+none_behind P [] = tt
+none_behind P (t ∷ ts) = none_behind P ts

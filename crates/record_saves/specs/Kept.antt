@@ -215,6 +215,12 @@ pub record HasNoTask (old new : Trees) : Type 0 where
   pub none : new 3 ≡ []
   pub others : SparesOthers 3 old new
 
+-- the row of the head is this one, and no record stands as one text
+pub record ReplacesHead (row : Row) (old new : Trees) : Type 0 where
+  pub records : IsLone (old 0) → new 0 ≡ []
+  pub heads : IsLone (old 2) → new 2 ≡ row ∷ []
+  pub others : (t : ℕ) → t ≢ 0 → t ≢ 2 → IsTable t → new t ≡ old t
+
 -- where the head was the one that was seen last,
 -- it and the rows of its total are those of this record, and no record stands as one text
 pub record HasHead (seen : Option Durable) (d : Durable) (old new : Trees) : Type 0 where

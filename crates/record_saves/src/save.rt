@@ -8,9 +8,9 @@ ghost use Rattle.sqlite.specs.Held.{state};
 ghost use Rattle.agent_core.specs.Records.{is_record, keys_rise};
 ghost use Rattle.record_text.specs.Texts.{record_form};
 ghost use Rattle.record_text.specs.Written.{IsDurable};
-ghost use Rattle.record_saves.specs.Kept.{ArePut, AreSeen, HasHead, HasRecord, HasTotal, IsHead, IsHeadSeen, IsPut, Knows, KnowsHead, kept_in, with_record, with_tasks};
+ghost use Rattle.record_saves.specs.Kept.{ArePut, AreSeen, HasHead, HasRecord, HasTotal, IsHead, IsHeadSeen, IsPut, Knows, KnowsHead, ReplacesHead, kept_in, with_record, with_tasks};
 ghost use Rattle.record_saves.specs.Stops.{LeavesEither, Stands};
-ghost use Rattle.keep_rows.specs.Tables.{IsReady, IsCommitted, Stays, keeper_schema, WritesIfOk};
+ghost use Rattle.keep_rows.specs.Tables.{IsReady, IsCommitted, Stays, head_row, keeper_schema, WritesIfOk};
 ghost use Rattle.keep_rows.specs.Totals.{AreNamed};
 ghost use Rattle.quantity.specs.Rows.{AreRows};
 
@@ -73,6 +73,25 @@ fn write_amounts<S: Alter>(
     write_total(tx, total)
 }
 
+/// Takes out the row of a record that is kept as one text and that of the head,
+/// and puts the head's row in.
+fn replace_head<S: Alter>(
+    tx: &mut Transaction<'_, S>,
+    name: &str,
+    run: u32,
+    session: u32,
+) -> Result<usize, Error>
+    ensures same_reference { tx.new.conn.ghost_name ≡ tx.old.conn.ghost_name }
+    ensures quiet { Survives (state S.Store tx.old.conn.now) (state S.Store tx.new.conn.now)
+        (λ _. ⊥) }
+    ensures went { WritesIfOk (ReplacesHead (head_row name.now run session)) result
+        (state S.Store tx.old.conn.now) (state S.Store tx.new.conn.now) }
+{
+    clear_records(tx)?;
+    clear_heads(tx)?;
+    put_head(tx, name, run, session)
+}
+
 /// Writes the head and the rows of its total, and takes out the row of a record that is kept as one
 /// text, unless `head` is known to be there and has the same parts.
 fn write_head<S: Alter>(
@@ -94,10 +113,10 @@ fn write_head<S: Alter>(
         return Ok(());
     }
     let name = durable.name.as_text();
-    clear_records(tx).map_err(fault_of)?;
-    clear_heads(tx).map_err(fault_of)?;
-    put_head(tx, name, durable.run, durable.session).map_err(fault_of)?;
-    write_amounts(tx, head, &durable.total)
+    match replace_head(tx, name, durable.run, durable.session) {
+        Ok(_) => write_amounts(tx, head, &durable.total),
+        Err(error) => Err(fault_of(error)),
+    }
 }
 
 /// Writes the rows of a record, and gives the tasks back that it has.
@@ -124,8 +143,8 @@ fn write_rows<S: Alter>(
     ensures unspent { IfErr result (λ e. e ≢ KeepFault.RunsSpent) }
 {
     let tasks = write_tasks(tx, alloc, seen, durable.tasks.as_slice())?;
-    write_head(tx, head, durable)?;
-    Ok(tasks)
+    let written = write_head(tx, head, durable);
+    written.and(Ok(tasks))
 }
 
 /// Writes the rows of a record in one transaction.

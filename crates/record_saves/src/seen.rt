@@ -1,6 +1,6 @@
 //! The rows of tasks, where those that were seen last are known.
 
-ghost use Rattle.std.specs.Prelude.{◌≡◌, ◌≢◌, ◌⊎◌, ◌<◌, ◌≤◌, ◌+◌, ◌++◌, ◌∷◌, [], true, IsTrue, Some, None, IfOk, IfErr, OnOk, MatchResult, take, length, vec_len, insert, remove};
+ghost use Rattle.std.specs.Prelude.{◌≡◌, ◌≢◌, ◌⊎◌, ◌<◌, ◌≤◌, ◌+◌, ◌++◌, ◌∷◌, [], true, IsTrue, Some, None, IfOk, IfErr, OnOk, OnErr, MatchResult, take, length, vec_len, insert, remove};
 ghost use Rattle.std.specs.List.{AllByRecursion};
 ghost use Rattle.sqlite.specs.State.{HasCleanDisk, KeepsCommit, Survives};
 ghost use Rattle.sqlite.specs.Held.{state};
@@ -18,7 +18,7 @@ use plain_data::Plain;
 use record_text::task_text;
 use shared_value::Shared;
 use sqlite::{Alter, Transaction};
-use std::alloc::Global;
+use std::alloc::{AllocError, Global};
 
 /// Takes the rows of all tasks out, and looks whether any is left.
 fn forget_tasks<S: Alter>(tx: &mut Transaction<'_, S>) -> Result<(), KeepFault>
@@ -30,12 +30,13 @@ fn forget_tasks<S: Alter>(tx: &mut Transaction<'_, S>) -> Result<(), KeepFault>
     ensures undamaged { IfErr result (λ e. e ≢ KeepFault.Damaged) }
     ensures unspent { IfErr result (λ e. e ≢ KeepFault.RunsSpent) }
 {
-    clear_tasks(tx).map_err(fault_of)?;
-    let left = read_places(tx).map_err(fault_of)?;
-    if left.is_empty() {
-        Ok(())
-    } else {
-        Err(corrupt())
+    if let Err(error) = clear_tasks(tx) {
+        return Err(fault_of(error));
+    }
+    match read_places(tx) {
+        Ok(left) if left.is_empty() => Ok(()),
+        Ok(_) => Err(corrupt()),
+        Err(error) => Err(fault_of(error)),
     }
 }
 
@@ -173,6 +174,23 @@ fn add_task<S: Alter>(
     }
 }
 
+/// Puts a task in at an index, which has one more owner then.
+fn insert_shared(
+    tasks: &mut Vec<Shared<RecordedTask>>,
+    at: usize,
+    task: &Shared<RecordedTask>,
+) -> Result<(), AllocError>
+    requires { at ≤ vec_len tasks.old }
+    ensures put { OnOk result (tasks.new.items ≡ insert tasks.old.items at task.now) }
+    ensures unchanged { OnErr result (tasks.new.items ≡ tasks.old.items) }
+{
+    let task = task.share()?;
+    match tasks.insert(at, task) {
+        Ok(()) => Ok(()),
+        Err(_) => Err(AllocError),
+    }
+}
+
 /// Puts the row of a task in, and the task at an index.
 fn add_at<S: Alter>(
     tx: &mut Transaction<'_, S>,
@@ -197,9 +215,8 @@ fn add_at<S: Alter>(
     ensures undamaged { IfErr result (λ e. e ≢ KeepFault.Damaged) }
     ensures unspent { IfErr result (λ e. e ≢ KeepFault.RunsSpent) }
 {
-    tasks.insert(at, task.share()?)?;
-    add_task(tx, alloc, task)?;
-    Ok(())
+    insert_shared(tasks, at, task)?;
+    add_task(tx, alloc, task)
 }
 
 /// Puts the row of a task in unless it stands at an index. One there that has its key is the task.
@@ -260,6 +277,33 @@ fn add_others<S: Alter>(
     Ok(())
 }
 
+/// Takes the rows of those tasks out that aren't wanted, and puts in those of the others that are.
+fn fit_tasks<S: Alter>(
+    tx: &mut Transaction<'_, S>,
+    alloc: Global,
+    tasks: &mut Vec<Shared<RecordedTask>>,
+    wanted: &[Shared<RecordedTask>],
+) -> Result<(), KeepFault>
+    requires are_put { ArePut tasks.old.items }
+    requires rise { keys_rise wanted.now ≡ true }
+    ensures same_reference { tx.new.conn.ghost_name ≡ tx.old.conn.ghost_name }
+    ensures quiet { Survives (state S.Store tx.old.conn.now) (state S.Store tx.new.conn.now)
+        (λ _. ⊥) }
+    ensures went { WritesIfOk (HasTasks (Some tasks.old.items) wanted.now) result
+        (state S.Store tx.old.conn.now) (state S.Store tx.new.conn.now) }
+    ensures tasks { OnOk result ((tasks.new.items ≡ wanted.now)
+        × AllByRecursion IsPut wanted.now) }
+    ensures undamaged { IfErr result (λ e. e ≢ KeepFault.Damaged) }
+    ensures unspent { IfErr result (λ e. e ≢ KeepFault.RunsSpent) }
+{
+    cut_others(tx, tasks, wanted)?;
+    add_others(tx, alloc, tasks, wanted)?;
+    if tasks.len() != wanted.len() {
+        return Err(corrupt());
+    }
+    Ok(())
+}
+
 /// Writes the rows of those tasks that weren't seen as they are, takes those of other ones out,
 /// and gives the tasks back.
 pub fn write_tasks<S: Alter>(
@@ -280,10 +324,6 @@ pub fn write_tasks<S: Alter>(
     ensures unspent { IfErr result (λ e. e ≢ KeepFault.RunsSpent) }
 {
     let mut tasks = begin_tasks(tx, alloc, seen)?;
-    cut_others(tx, &mut tasks, wanted)?;
-    add_others(tx, alloc, &mut tasks, wanted)?;
-    if tasks.len() != wanted.len() {
-        return Err(corrupt());
-    }
-    Ok(Listed::from_vec(tasks))
+    let fitted = fit_tasks(tx, alloc, &mut tasks, wanted);
+    fitted.and(Ok(Listed::from_vec(tasks)))
 }

@@ -1,4 +1,4 @@
-use Rattle.std.proofs.Common.{◌<◌, ℕ, arith, refl}
+use Rattle.std.proofs.Common.{◌<◌, arith, refl}
 use Rattle.frameworks.proofs.Searches.{none_past}
 use Rattle.frameworks.proofs.starts.go_on.Goals as goal
 

@@ -1,6 +1,5 @@
-use Rattle.std.proofs.Common.{◌≡◌, ◌-◌, ℕ, drop, length, take, ap, ◌∙◌, refl, subst, sym, arith}
+use Rattle.std.proofs.Common.{◌≡◌, ◌-◌, ℕ, drop, length, take, ap, ◌∙◌, refl, arith}
 use Rattle.std.proofs.lemmas.List.{length-drop, take_all}
-use Rattle.mails.specs.declared.framework.Framework.{Framework}
 use Rattle.frameworks.specs.Told.{Remembers, clients_of}
 use Rattle.round_shares.specs.Gifts.{shares_of}
 use Rattle.round_shares.proofs.Remembered.{refilled}

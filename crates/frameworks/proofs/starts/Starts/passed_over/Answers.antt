@@ -1,4 +1,4 @@
-use Rattle.std.proofs.Common.{ap, ◌∙◌, arith}
+use Rattle.std.proofs.Common.{◌∙◌}
 use Rattle.frameworks.proofs.starts.Starts.passed_over.Goals as goal
 
 pub returns-in_err-start-clause-starts : goal.returns-in_err-start-clause-starts

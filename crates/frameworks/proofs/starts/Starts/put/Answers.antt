@@ -1,5 +1,4 @@
-use Rattle.std.proofs.Common.{Some, List, sym, subst, arith}
-use Rattle.mails.specs.declared.framework.Framework.{Framework}
+use Rattle.std.proofs.Common.{Some, sym, subst}
 use Rattle.frameworks.specs.Starts.{AreStarts}
 use Rattle.frameworks.proofs.Searches.{pushed, set_at}
 use Rattle.frameworks.proofs.starts.Starts.put.Goals as goal
