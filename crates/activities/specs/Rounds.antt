@@ -1,4 +1,4 @@
--- What a ticker asks an office for.
+-- The steps that a ticker requests of an office.
 use Rattle.std.specs.Prelude.{◌≡◌, ◌⊎◌, ℕ, List, [], ◌∷◌, Bool, true, false, not, Result, Ok, Err}
 use Rattle.cluster_entries.specs.declared.entry.Entry.{Entry}
 use Rattle.cluster_steps.specs.declared.fault.ClusterFault.{ClusterFault}
@@ -16,7 +16,7 @@ use Rattle.running_offices.specs.Answering.{Answers, Refusing, Taking}
 abbrev pub IsAnswered : Taking → Step → PassState Entry → PassState Entry → Type 0
 IsAnswered is_taken step old new = (a : Answered Entry Given) × Answers is_taken old step a new
 
--- the step was asked for: it is answered, or refused, which leaves the pass as it was
+-- the step was requested: it is answered, or refused, which leaves the pass as it was
 abbrev pub IsAsked : Taking → Refusing → Step → PassState Entry → PassState Entry → Type 0
 IsAsked is_taken is_refused step old new =
     IsAnswered is_taken step old new
@@ -33,7 +33,7 @@ abbrev pub goes_on_after : {A : Type 0} → Result A (OfficeFault ClusterFault) 
 goes_on_after (Ok answer) = true
 goes_on_after (Err fault) = not (ends_ticker fault)
 
--- a Tick was asked for, and then a round of offers
+-- a Tick was requested, and then a round of offers
 pub record IsRound (is_taken : Taking) (is_refused : Refusing)
     (old new : PassState Entry) : Type 0 where
   pub moment : ℕ
@@ -41,7 +41,7 @@ pub record IsRound (is_taken : Taking) (is_refused : Refusing)
   pub ticks : IsAsked is_taken is_refused (Tick moment) old between
   pub offers : IsAsked is_taken is_refused Allocate between new
 
--- a Tick was asked for, and refused with a fault that ends the ticker
+-- a Tick was requested, and refused with a fault that ends the ticker
 pub record IsCutRound (is_refused : Refusing) (old new : PassState Entry) : Type 0 where
   pub moment : ℕ
   pub fault : OfficeFault ClusterFault

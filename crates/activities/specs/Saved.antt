@@ -45,14 +45,14 @@ abbrev pub IsBehindSave : Taking → (Durable → Bool) → Option (Receipt Entr
 IsBehindSave is_taken saved before step =
     (agent : List ℕ) → taker_of step ≡ Some agent → IsSaved is_taken saved agent before
 
--- so it is with each receipt; `before` stands before them all
+-- so it is with each receipt; `before` precedes them all
 abbrev pub SavedFrom : Taking → (Durable → Bool) → Option (Receipt Entry) → List (Receipt Entry)
     → Type 0
 SavedFrom is_taken saved before [] = ⊤
 SavedFrom is_taken saved before (r ∷ rs) =
     IsBehindSave is_taken saved before r.entry.step × SavedFrom is_taken saved (Some r) rs
 
--- each commit in a pass stands behind its save
+-- each commit in a pass follows its save
 abbrev pub CommitsSaved : Taking → (Durable → Bool) → PassState Entry → Type 0
 CommitsSaved is_taken saved p = SavedFrom is_taken saved None p.receipts
 
@@ -70,13 +70,13 @@ abbrev pub IsOpen : Taking → List ℕ → Option Durable → PassState Entry �
 IsOpen is_taken agent None p = ⊤
 IsOpen is_taken agent (Some draft) p = IsDraftIn is_taken agent draft (last_of None p.receipts)
 
--- a pass of the same seat, with more receipts behind those that it had
+-- a pass of the same seat, with more receipts after those that it had
 pub record IsGrown (old new : PassState Entry) : Type 0 where
   pub seat : new.seat ≡ old.seat
   pub more : List (Receipt Entry)
   pub receipts : new.receipts ≡ old.receipts ++ more
 
--- a pass has grown, and if each commit stood behind its save, so it does now
+-- a pass has grown, and if each commit followed its save, so it does now
 pub record Keeps (is_taken : Taking) (saved_before saved : Durable → Bool)
     (old new : PassState Entry) : Type 0 where
   pub grown : IsGrown old new

@@ -1,4 +1,4 @@
-//! What the executors of an agent's tasks tell: a task runs at once,
+//! What the executors of an agent's tasks report: a task runs at once,
 //! and ends by itself after some time.
 
 use mails::{Durable, RecordedTask};
@@ -82,7 +82,7 @@ impl Executors {
         }
     }
 
-    /// A task that runs began to now, unless it is known when.
+    /// A task that runs began now, unless it was noted before.
     fn notes(&mut self, task: &RecordedTask, now: Instant) -> Result<(), AllocError> {
         if runs(task) && !self.began.contains_key(&task.job.key) {
             self.began.insert(task.job.key, now)?;
@@ -113,7 +113,7 @@ impl Executors {
         }
     }
 
-    /// What the executor of a task tells now.
+    /// The state that the executor of a task reports now; None where it reports none.
     fn next_state(&self, task: &RecordedTask, now: Instant) -> Option<TaskState> {
         match state_of(task) {
             None => Some(TaskState::Running),
@@ -129,7 +129,7 @@ impl Executors {
     }
 
     /// Begins a turn of an agent of this record: one that owns less than is configured starts
-    /// with that, what isn't acknowledged is sent again, and each executor tells its next state.
+    /// with that, what isn't acknowledged is sent again, and each executor reports its next state.
     pub fn begin_turn(
         &mut self,
         record: &Durable,

@@ -80,8 +80,8 @@ impl<'a, D: Running, L: ledger::Ledger, R: Wait + Clock> Worker<'a, D, L, R> {
         }
     }
 
-    /// Whether the agent goes on over what a cabinet keeps: the record of its open draft,
-    /// or its own.
+    /// Over which record the agent goes on, by what a cabinet keeps: that of its open draft, or its
+    /// own. It is refused with `K2 Damaged` where that is neither.
     fn standing_of<F>(
         &self,
         pass: &Pass<KeptEntry, L>,
@@ -100,7 +100,7 @@ impl<'a, D: Running, L: ledger::Ledger, R: Wait + Clock> Worker<'a, D, L, R> {
         Err(Stop::Failed(ActivityFault::Damaged))
     }
 
-    /// Opens the cabinet again after a save that failed, and tells which record stands there.
+    /// Opens the cabinet again after a save that failed, and returns which record it keeps.
     #[tactic(auto, using(crate::proofs::Saves::keeps_itself, crate::proofs::Saves::keeps_more, crate::proofs::Saves::found_saved))]
     fn standing<C: Cabinet>(
         &self,
@@ -121,7 +121,7 @@ impl<'a, D: Running, L: ledger::Ledger, R: Wait + Clock> Worker<'a, D, L, R> {
     }
 
     /// After a save that failed the agent stops,
-    /// and comes up over the record that stands in the cabinet.
+    /// and comes up over the record that the cabinet keeps.
     #[tactic(auto, using(crate::proofs::Saves::keeps_itself, crate::proofs::Saves::keeps_then))]
     fn reopen<C: Cabinet>(
         &self,
@@ -141,9 +141,9 @@ impl<'a, D: Running, L: ledger::Ledger, R: Wait + Clock> Worker<'a, D, L, R> {
         }
     }
 
-    /// Does what the last answer leaves to be done, and tells whether there was something: a draft
-    /// is saved and committed, and an agent that stopped starts. Where there was nothing no draft
-    /// is open.
+    /// Does what the last answer leaves to be done, and returns whether there was something: a
+    /// draft is saved and committed, and an agent that stopped starts. Where there was nothing no
+    /// draft is open.
     #[tactic(auto, using(crate::proofs::Saves::keeps_itself, crate::proofs::Saves::keeps_then))]
     pub fn settle<C: Cabinet>(
         &self,

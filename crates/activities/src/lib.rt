@@ -1,4 +1,4 @@
-//! What keeps an agent going in a thread of its own, and what lets the master's time pass.
+//! The thread of an agent, and the ticker, which sends the master its Ticks and rounds of offers.
 #![tactic(auto)]
 
 mod executor;

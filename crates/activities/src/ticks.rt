@@ -1,4 +1,4 @@
-//! What lets the master's time pass.
+//! The ticker: it sends the master its Ticks and rounds of offers.
 
 ghost use Rattle.std.specs.Prelude.{◌≡◌, ◌⊎◌, MatchBool};
 ghost use Rattle.activities.specs.Rounds.{HasRounds, IsAsked, IsCutRound, IsRound, goes_on_after};
@@ -32,7 +32,7 @@ fn seconds_since<R: Clock>(rt: &R, start: Option<Instant>, before: u32) -> u32 {
     }
 }
 
-/// A Tick of a moment. It tells whether the ticker goes on.
+/// A Tick of a moment. It returns whether the ticker goes on.
 fn tick<D: Running, L: ledger::Ledger, R: Wait>(
     rt: &R,
     alloc: Global,
@@ -46,7 +46,7 @@ fn tick<D: Running, L: ledger::Ledger, R: Wait>(
     goes_on(ask(rt, alloc, office, pass, Step::Tick(moment)))
 }
 
-/// A round of offers. It tells whether the ticker goes on.
+/// A round of offers. It returns whether the ticker goes on.
 fn allocate<D: Running, L: ledger::Ledger, R: Wait>(
     rt: &R,
     alloc: Global,
@@ -59,7 +59,7 @@ fn allocate<D: Running, L: ledger::Ledger, R: Wait>(
 }
 
 /// A Tick, and a round of offers where the ticker goes on after it.
-/// It tells whether the ticker goes on after both.
+/// It returns whether the ticker goes on after both.
 fn round<D: Running, L: ledger::Ledger, R: Wait>(
     rt: &R,
     alloc: Global,
@@ -74,10 +74,10 @@ fn round<D: Running, L: ledger::Ledger, R: Wait>(
     tick(rt, alloc, office, pass, moment) && allocate(rt, alloc, office, pass)
 }
 
-/// Lets the master's time pass until the office is finished: at once, and then every `interval`
-/// seconds (any number; at 0 without a pause), it sends a Tick of the whole seconds since its
-/// start, 2^32 - 1 at most, and has offers made. It ends before by O1 and C8. It doesn't start a
-/// master that is down.
+/// Sends Ticks until the office is finished: one at once, and then one every `interval` seconds
+/// (any number; at 0 without a pause), each of the whole seconds since its start, 2^32 - 1 at
+/// most; after each it has offers made. It ends before by O1 and C8. It doesn't start a master
+/// that is down.
 pub fn ticker<D: Running, L: ledger::Ledger, R: Wait + Clock>(
     rt: &R,
     alloc: Global,

@@ -49,8 +49,8 @@ impl<'a, D: Running, L: ledger::Ledger, R: Wait + Clock> Worker<'a, D, L, R> {
         }
     }
 
-    /// Begins a turn. It goes by the agent's own record where that is known, and no answer hangs on
-    /// what stands there: a cause that doesn't fit the agent any more is refused.
+    /// Begins a turn. It uses the agent's own record where that is known, and no answer depends on
+    /// it: a cause that doesn't fit the agent any more is refused.
     fn begin_turn<F>(
         &self,
         pass: &Pass<KeptEntry, L>,
@@ -117,7 +117,7 @@ impl<'a, D: Running, L: ledger::Ledger, R: Wait + Clock> Worker<'a, D, L, R> {
         }
     }
 
-    /// Goes on until the office is finished or until nothing more can be done, and tells why it
+    /// Goes on until the office is finished or until nothing more can be done, and returns why it
     /// ends if that is a fault. Where something is left for later it waits for a second.
     #[tactic(auto, using(crate::proofs::Saves::keeps_itself, crate::proofs::Saves::keeps_then))]
     fn go_on_until_end<C: Cabinet>(
@@ -143,13 +143,14 @@ impl<'a, D: Running, L: ledger::Ledger, R: Wait + Clock> Worker<'a, D, L, R> {
     }
 }
 
-/// Keeps an agent going until the office is finished: it takes the mails to the agent, tells what
-/// the executors of its tasks tell, and saves each draft in the cabinet before it commits it.
-/// `pace` is after how many seconds a task has finished, 0 for never; `total` is what is configured
-/// that the agent owns: where its record has less, it starts with that at its first turn in a
-/// session. What another caller commits of the agent is seen at a turn once the activity commits or
-/// stops the agent itself. It ends before by O1 and C8, and by a fault that it gives, for which it
-/// finishes the office; after other refusals it does the same again a second later.
+/// Runs an agent until the office is finished: it prepares a draft for each mail to the agent and
+/// for what the executors of its tasks report, saves each draft in the cabinet before it commits
+/// it, and delivers the agent's mails to the master. `pace` is after how many seconds a task has
+/// finished, 0 for never; `total` is what is configured that the agent owns: where its record has
+/// less, it starts with that at its first turn in a session. What another caller commits of the
+/// agent is seen at a turn once the activity commits or stops the agent itself. It ends before by
+/// O1 and C8, and by a fault that it returns, for which it finishes the office; after other
+/// refusals it does the same again a second later.
 #[tactic(auto, using(crate::proofs::Saves::keeps_itself, crate::proofs::Saves::keeps_then))]
 pub fn activity<D: Running, L: ledger::Ledger, R: Wait + Clock, C: Cabinet>(
     rt: &R,

@@ -32,7 +32,7 @@ fn opens(opened: &mut Option<Record>, answered: Answered<KeptEntry, Given>)
     *opened = answered.given.durable;
 }
 
-/// Behind a stop no draft is open, and the agent's own record isn't known.
+/// After a stop no draft is open, and the agent's own record isn't known.
 fn forgets(
     opened: &mut Option<Record>,
     own: &mut Option<Record>,
@@ -46,7 +46,7 @@ fn forgets(
     *own = None;
 }
 
-/// Behind a Commit no draft is open, and the record of the one that was is the agent's own.
+/// After a Commit no draft is open, and the record of the one that was is the agent's own.
 fn adopts(
     opened: &mut Option<Record>,
     own: &mut Option<Record>,
@@ -186,7 +186,7 @@ impl<'a, D: Running, L: ledger::Ledger, R: Wait + Clock> Worker<'a, D, L, R> {
         }
     }
 
-    /// Opens a draft of what a cause makes of the agent, whose record is given.
+    /// Opens a draft of what a cause makes of the agent, whose record the answer has.
     /// An agent that is down stops, and comes up.
     #[tactic(auto, using(crate::proofs::Saves::keeps_itself, crate::proofs::Saves::keeps_then))]
     pub fn prepare<F>(
@@ -226,7 +226,7 @@ impl<'a, D: Running, L: ledger::Ledger, R: Wait + Clock> Worker<'a, D, L, R> {
     }
 
     /// The master takes the agent's mails, in their order.
-    /// Behind one that is refused the others wait with it.
+    /// After one that is refused the others wait with it.
     #[tactic(auto, using(crate::proofs::Saves::keeps_itself, crate::proofs::Saves::keeps_then))]
     pub fn deliver<F>(&self, pass: &mut Pass<KeptEntry, L>) -> Result<(), Stop<F>>
         ensures { (saved : Durable → Bool) → Keeps D.is_taken saved saved pass.old pass.new }
@@ -263,7 +263,7 @@ impl<'a, D: Running, L: ledger::Ledger, R: Wait + Clock> Worker<'a, D, L, R> {
         }
     }
 
-    /// Waits for a second, and tells whether the activity goes on.
+    /// Waits for a second, and returns whether the activity goes on.
     pub fn pause(&self, pass: &Pass<KeptEntry, L>) -> bool {
         let look = |_: &D| -> Result<Option<()>, ClusterFault> { Ok(None) };
         match self

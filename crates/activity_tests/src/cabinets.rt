@@ -20,7 +20,7 @@ pub enum Kept {
 /// A cabinet whose first save may fail.
 #[derive(Drop)]
 pub struct Shelf {
-    /// How many saves were asked for.
+    /// How many saves were requested.
     pub saves: u32,
     /// What the first save leaves where it fails; None where it succeeds.
     keeps: Option<Kept>,
@@ -88,7 +88,7 @@ impl Flags {
         }
     }
 
-    /// Lets the save of the first cabinet go.
+    /// Notes the save of the second cabinet as open: that of the first waits for it.
     pub fn open_second(&self) {
         self.second.store(true, Ordering::SeqCst);
     }

@@ -72,8 +72,8 @@ fn take_at<L: ledger::Ledger, R: Wait + Clock>(
     }
 }
 
-/// Once the agent has greeted back, by 3 entries, a framework subscribes by call 3,
-/// is offered the agent, and launches a task by call 4. The launch goes to the agent as mail 5.
+/// Once the agent has answered the greeting, by 3 entries, a framework subscribes by call 3,
+/// is offered the agent, and launches a task by call 4. The launch is sent to the agent as mail 5.
 pub fn launch<L: ledger::Ledger, R: Wait + Clock>(
     rt: &R,
     alloc: Global,

@@ -1,4 +1,4 @@
-//! An agent that launches a task: what it tells of the task,
+//! An agent that launches a task: what it reports of the task,
 //! and a stop while the draft of the launch is saved.
 
 ghost use Rattle.std.specs.Prelude.{◌≡◌};
@@ -85,9 +85,9 @@ fn comes_up(played: &Option<(Option<Played>, Option<Played>)>) -> bool {
     }
 }
 
-/// The agent hears the greeting and the launch, tells that the task runs, sends that again as long
-/// as nobody acknowledges it, and tells the end a second after it saw the task run, again behind
-/// what isn't acknowledged. Each of the six causes makes three entries, Prepare, Commit and
+/// The agent receives the greeting and the launch, reports that the task runs, sends that again as
+/// long as nobody acknowledges it, and reports the end a second after it saw the task run, again
+/// after what isn't acknowledged. Each of the six causes makes three entries, Prepare, Commit and
 /// Deliver, and the framework has five.
 pub fn what_is_unacknowledged_goes_first<R: Threads + Wait + Clock + Sync>(
     rt: &R,

@@ -1,4 +1,4 @@
-//! Tests of activities, each a function that says whether it passed.
+//! Tests of activities, each a function that returns whether it passed.
 #![tactic(auto)]
 
 mod cabinets;

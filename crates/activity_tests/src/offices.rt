@@ -78,7 +78,7 @@ fn recorded_of(alloc: Global, names: &[&str]) -> Option<RecordedCluster>
     }
 }
 
-/// An office over agents of these names, each of which is greeted by a mail.
+/// An office over agents of these names, to each of which the opening sends a Hello.
 pub fn office<L: ledger::Ledger>(
     alloc: Global,
     blank: Blank,

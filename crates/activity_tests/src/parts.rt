@@ -23,8 +23,8 @@ pub enum Part<'a> {
     Agent(AgentName, Shelf, u64),
     /// An agent whose saves wait for the other's.
     Held(AgentName, Held<'a>),
-    /// A framework launches a task, the agent is stopped behind it if so,
-    /// and the agent's saves are let go. It finishes the office as a finisher does.
+    /// A framework launches a task, the agent is stopped after it if so,
+    /// and the agent's saves are opened. It finishes the office as a finisher does.
     Launcher {
         flags: &'a Flags,
         stops: bool,
@@ -146,7 +146,7 @@ fn lead<L: ledger::Ledger, R: Wait + Clock>(
     if there { End::Finished } else { End::Late }
 }
 
-/// Does a part from a seat, and says what it did.
+/// Does a part from a seat, and returns what it did.
 fn play_from<L: ledger::Ledger, R: Wait + Clock>(
     rt: &R,
     alloc: Global,
@@ -188,7 +188,7 @@ fn play_from<L: ledger::Ledger, R: Wait + Clock>(
     }
 }
 
-/// Does a part, and says what it did; None for want of memory.
+/// Does a part, and returns what it did; None for want of memory.
 /// Where it can't begin it finishes the office, so that the other ends too.
 pub fn play<L: ledger::Ledger, R: Wait + Clock>(
     rt: &R,

@@ -22,14 +22,14 @@ use std::thread::Threads;
 use std::time::Clock;
 use store_tests::calls_of;
 
-/// What an agent did, and for each save the letter of the step that was due behind it.
+/// What an agent did, and for each save the letter of the step that was due after it.
 #[derive(Drop)]
 struct Stored {
     played: Played,
     due: Vec<u8>,
 }
 
-/// How many entries there are once the step behind the launch's Prepare is taken:
+/// How many entries there are once the step after the launch's Prepare is taken:
 /// three of the greeting, five of the framework, and these two.
 const ENTRIES: usize = 10;
 
@@ -138,7 +138,7 @@ fn launch_with<R: Threads + Wait + Clock + Sync>(
     launch_in::<Brand, R>(rt, alloc, Blank::new(PARTS), stop)
 }
 
-/// The letter of the step that was due behind the launch's Prepare, where that step was taken
+/// The letter of the step that was due after the launch's Prepare, where that step was taken
 /// there: the greeting's Prepare, Commit and Deliver come before. None where another was.
 fn taken_as_due(stored: &Stored) -> Option<u8> {
     let due = stored.due.as_slice().get(1)?;
@@ -191,8 +191,8 @@ fn stops_from<R: Threads + Wait + Clock + Sync>(
 }
 
 /// The journal's file stops at each call while a launch's draft is saved. Where a stop leaves all
-/// that was written, the draft's record stands if the stop comes once that is in the journal,
-/// before the save is told to be kept.
+/// that was written, the draft's record is kept if the stop comes once that is in the journal,
+/// before the save is answered.
 pub fn a_journal_stops_in_a_launch<R: Threads + Wait + Clock + Sync>(
     rt: &R,
     alloc: Global,
@@ -205,7 +205,7 @@ pub fn a_journal_stops_in_a_launch<R: Threads + Wait + Clock + Sync>(
 }
 
 /// The database's file stops at each call while a launch's draft is saved.
-/// No record stands there before the journal has it.
+/// No record is kept there before the journal has it.
 pub fn a_database_file_stops_in_a_launch<R: Threads + Wait + Clock + Sync>(
     rt: &R,
     alloc: Global,

@@ -8,7 +8,7 @@ use store_tests::{Calls, Contents, NO_STOP, load_at, nothing, save_at};
 /// Where a store stops.
 #[derive(Clone, Copy)]
 pub struct StopAt {
-    /// How many saves go through before the one in which it may stop.
+    /// How many saves succeed before the one in which it may stop.
     pub saves: usize,
     /// How many calls each of its files answers in that one.
     pub calls: Calls,

@@ -131,7 +131,7 @@ fn grows<L: ledger::Ledger + Send + Sync, R: Threads + Wait + Clock + Sync>(
     }
 }
 
-/// The agent hears the greeting, and at its first turn in the session
+/// The agent receives the greeting, and at its first turn in the session
 /// starts with the larger total, once.
 pub fn a_larger_total<R: Threads + Wait + Clock + Sync>(rt: &R, alloc: Global) -> bool {
     grows::<Brand, _>(rt, alloc, Blank::new(PARTS))

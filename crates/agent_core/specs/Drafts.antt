@@ -47,7 +47,7 @@ applied_with a tasks told = record {
       ∷ told_front told (with_tasks a tasks (suc a.applied));
 }
 
--- a state comes to the task of a key
+-- a state is added to the task of a key
 abbrev pub after_state : Agent → Numbered → TaskState → Draft
 after_state a key state = record {
   after = with_tasks a (map (stated key state) a.durable.tasks) a.applied;
@@ -59,7 +59,7 @@ after_state a key state = record {
 abbrev pub told_again : Agent → Draft
 told_again a = record { after = a; mails = Applied a.durable.session a.applied ∷ [] }
 
--- the draft that is due was prepared, or its refusal given, or memory ran out
+-- the draft that is due was prepared, or its refusal returned, or memory ran out
 abbrev pub Prepares : Result Next AgentFault → Result Draft AgentRefusal → Type 0
 Prepares (Ok next) due = due ≡ Ok (next_draft next)
 Prepares (Err (Refused refusal)) due = due ≡ Err refusal
@@ -76,7 +76,7 @@ IsRefusal due OutOfMemory = Unit {0}
 abbrev pub is_with_run : Agent → Bool
 is_with_run a = not a.in_session || nat_lt 0 a.durable.run
 
--- a command launches under a key behind all those of the record, or launches nothing
+-- a command launches under a key after all those of the record, or launches nothing
 abbrev pub launches_in_order : Agent → Command → Bool
 launches_in_order a (Launch job offers) = list_all (λ t. before t.job.key job.key) a.durable.tasks
 launches_in_order a (Kill key) = true
@@ -94,7 +94,7 @@ hears_in_order a (Issued session number command) =
     not (is_next_command a session number) || launches_in_order a command
 
 -- what a caller owes: a Hello is of a run above 0,
--- and a Launch that is next has a key behind all those of the record
+-- and a Launch that is next has a key after all those of the record
 abbrev pub is_in_order : Agent → Cause → Bool
 is_in_order a (Start total) = true
 is_in_order a Again = true

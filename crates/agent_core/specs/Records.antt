@@ -10,7 +10,7 @@ use Rattle.mails.specs.declared.record.RecordedTask.{RecordedTask}
 use Rattle.cluster_model.specs.Agents.{live_tasks, task_rows}
 use Rattle.recorded_tasks.specs.Room.{Leaves}
 
--- each launch key is behind the one before it
+-- each launch key is after the one before it
 abbrev pub is_behind : Option Numbered → Numbered → Bool
 is_behind None key = true
 is_behind (Some last) key = before last key
@@ -26,7 +26,7 @@ keys_rise tasks = rise_behind None tasks
 abbrev pub none_is_done : List RecordedTask → Bool
 none_is_done ts = list_all (λ t. not (is_done t.updates)) ts
 
--- run 0 stands only before the first session, with no tasks
+-- run 0 is only before the first session, with no tasks
 abbrev pub has_begun : Durable → Bool
 has_begun d = not (d.run == 0) || (d.session == 0 && length d.tasks == 0)
 

@@ -20,7 +20,7 @@ pub struct Agent {
     state: State,
 }
 
-// By hand, so that who drops one goes through none of its parts.
+// By hand, so that the proof of who drops one visits none of its parts.
 impl Drop for Agent {
     fn drop(self) {
         let Agent { state: _ } = self;
@@ -86,7 +86,7 @@ impl Agent {
     }
 
     /// Whether a cause is in order: a Hello for this agent is of a run above 0, and the next
-    /// command of the open session launches no task under a key that isn't behind all launch keys
+    /// command of the open session launches no task under a key that isn't after all launch keys
     /// of the record.
     pub fn is_in_order(&self, cause: &Cause) -> bool
         ensures { result ≡ is_in_order self.now cause.now }
@@ -98,16 +98,18 @@ impl Agent {
         }
     }
 
-    /// Prepares what a cause makes of the agent, which stays as it is. It is refused with
+    /// Prepares what a cause makes of the agent, which doesn't change. It is refused with
     ///
     /// - `A1 NotForMe` at a mail for another agent,
-    /// - `A2 OldSession` at a Hello of an older run, a command of another session, or a start before the first session,
-    /// - `A3 NotNext` at a command behind the next one,
+    /// - `A2 OldSession` at a Hello of an older run, a command of another session, or a start
+    ///   before the first session,
+    /// - `A3 NotNext` at a command after the next one,
     /// - `A4 NoSuchTask` and `A5 Ended` at a state of a task that isn't in the record or has ended,
     /// - `A6 NoRoom` at a Launch of more than the agent's total less its live tasks,
     /// - `A9 UpdatesFull` at a state that isn't terminal, of a task with 4,095 updates,
     /// - `A10 SessionsSpent` where the next session would be the 4,294,967,296th,
-    /// - `A11 TotalLess`, behind A2 and before A10, at a start with a total that doesn't cover what the agent owns,
+    /// - `A11 TotalLess`, after A2 and before A10, at a start with a total that doesn't cover what
+    ///   the agent owns,
     /// - `A8 OutOfMemory`, which may come before any other.
     pub fn next(&self, alloc: Global, cause: Cause) -> Result<Draft, AgentFault>
         requires { is_in_order self.now cause ≡ true }
@@ -120,11 +122,11 @@ impl Agent {
         Ok(Draft::of(alloc, &self.state, next, kept)?)
     }
 
-    /// Makes a draft's record the agent's, and gives the draft's mails,
+    /// Makes a draft's record the agent's, and returns the draft's mails,
     /// which are to be sent. It takes no memory.
     ///
     /// `A7 StaleDraft` where the agent isn't what the draft was prepared for: then nothing changes,
-    /// and the draft is handed back.
+    /// and the draft is returned.
     pub fn commit(&mut self, draft: Draft) -> Result<Vec<AgentMail>, (Draft, AgentFault)>
         ensures current { IfOk result (λ mails. draft.before ≡ self.old) }
         ensures changed { IfOk result (λ mails. self.new ≡ draft.draft.after) }
@@ -139,8 +141,8 @@ impl Agent {
         Ok(self.adopt(draft))
     }
 
-    /// Makes the record of a draft that was prepared for the agent as it is the agent's, and gives
-    /// the draft's mails, which are to be sent. It takes no memory, and compares nothing.
+    /// Makes the record of a draft that was prepared for the agent as it is the agent's, and
+    /// returns the draft's mails, which are to be sent. It takes no memory, and compares nothing.
     pub fn adopt(&mut self, draft: Draft) -> Vec<AgentMail>
         requires current { draft.before ≡ self.old }
         ensures changed { self.new ≡ draft.draft.after }

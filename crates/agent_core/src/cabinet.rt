@@ -20,7 +20,7 @@ pub trait Cabinet {
         ensures kept { OnOk result (saved self.new durable.now ≡ true) }
         ensures before { (d : Durable) → saved self.old d ≡ true → saved self.new d ≡ true };
 
-    /// Opens it again, and gives the record that it keeps; None where none was ever kept.
+    /// Opens it again, and returns the record that it keeps; None where none was ever kept.
     fn reopen(&mut self, alloc: Global) -> Result<Option<Record>, Self::Fault>
         ensures found { IfOk result (λ kept. IfSome kept (λ d. saved self.new d ≡ true)) }
         ensures before { (d : Durable) → saved self.old d ≡ true → saved self.new d ≡ true };

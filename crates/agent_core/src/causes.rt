@@ -26,7 +26,7 @@ impl State {
         Ok(Next { after: self, mails })
     }
 
-    /// The session behind the last one is opened with the master of a run.
+    /// The session after the last one is opened with the master of a run.
     fn open_next(&self, alloc: Global, last: u32, run: u32) -> Result<Next, AgentFault>
         requires { 0 < run }
         ensures { Prepares result (opens_next (agent_of self.now) last run) }
@@ -68,7 +68,7 @@ impl State {
         }
     }
 
-    /// The session behind the last one is opened with the master of the record's run.
+    /// The session after the last one is opened with the master of the record's run.
     fn open_again(&self, alloc: Global) -> Result<Next, AgentFault>
         requires { 0 < self.now.durable.run }
         ensures { Prepares result (opens_again (agent_of self.now)) }
@@ -101,7 +101,7 @@ impl State {
         Ok(Next { after, mails })
     }
 
-    /// A state that has a place comes to the task of a key.
+    /// A state that has a place is added to the task of a key.
     fn told_state(
         &self,
         alloc: Global,
@@ -155,7 +155,7 @@ impl State {
     }
 
     /// Whether a mail for this agent is a Hello of a run above 0, or a command that isn't the next
-    /// one of the open session, or one that launches no task under a key that isn't behind all
+    /// one of the open session, or one that launches no task under a key that isn't after all
     /// launch keys of the record.
     pub fn hears_in_order(&self, mail: &MasterMail) -> bool
         ensures { result ≡ hears_in_order (agent_of self.now) mail.now }

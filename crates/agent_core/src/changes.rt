@@ -1,5 +1,5 @@
 //! What changes of an agent's tasks leave is a record: each function's contract is a law,
-//! and its call brings the law into a proof.
+//! and its call adds the law to a proof.
 
 ghost use Rattle.std.specs.Prelude.{◌≡◌, ◌<◌, true, map, List};
 ghost use Rattle.quantity.specs.declared.rows.Row.{Row};
@@ -24,7 +24,7 @@ fn tasks_are_recorded(tasks: &[Shared<RecordedTask>])
 }
 
 impl State {
-    /// A state that comes to the task of a key leaves a record, and all the room there was.
+    /// A state that is added to the task of a key leaves a record, and all the room there was.
     pub fn stated_is_record(&self, key: LaunchKey, state: TaskState)
         ensures recorded { is_record (with_other_tasks self.now.durable
             (map (stated key state) self.now.durable.tasks)) ≡ true }

@@ -48,7 +48,7 @@ fn launched(
 }
 
 impl State {
-    /// The next command is applied, and leaves these tasks; the front of one task goes out with it.
+    /// The next command is applied, and leaves these tasks; the front of one task is sent with it.
     fn applied_with(
         &self,
         alloc: Global,
@@ -131,7 +131,7 @@ impl State {
         }
     }
 
-    /// Nothing changes, and the count of applied commands is told again.
+    /// Nothing changes, and the count of applied commands is sent again.
     fn tell_again(&self, alloc: Global) -> Result<Next, AllocError>
         ensures { IfOk result (λ n. next_draft n ≡ told_again (agent_of self.now)) }
     {

@@ -18,7 +18,7 @@ use std::marker::Model;
 pub struct Draft {
     /// What the agent is, with a part of its tasks alone.
     before: Former,
-    /// Where these tasks stand: before and behind that the draft's tasks are the agent's.
+    /// Where these tasks are: before and after that the draft's tasks are the agent's.
     from: usize,
     to: usize,
     after: State,
@@ -101,7 +101,7 @@ impl Draft {
         self.after.durable.record()
     }
 
-    /// The mails that the commit will give. It takes no memory.
+    /// The mails that the commit will return. It takes no memory.
     pub fn mails(&self) -> &[AgentMail]
         ensures { result.now ≡ self.now.draft.mails }
     {

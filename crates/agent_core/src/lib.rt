@@ -1,4 +1,4 @@
-//! An agent that never loses what it promised:
+//! An agent that loses no change that it reported:
 //! each change is first a draft to be saved, and then a commit.
 #![tactic(auto)]
 

@@ -14,7 +14,7 @@ use shared_value::Shared;
 use std::alloc::{AllocError, Global};
 use std::marker::Model;
 
-/// A record that an agent can have: launch keys rise, no task is done, run 0 stands only with
+/// A record that an agent can have: launch keys rise, no task is done, run 0 is only with
 /// session 0 and no tasks, and the live tasks fit the total. (That a task has at most 4,096
 /// updates, a terminal one last, and acknowledges at most these holds of every `Updates`.)
 #[derive(Clone, Debug, PartialEq)]
@@ -22,7 +22,7 @@ pub struct Record {
     parts: Durable,
 }
 
-// By hand, so that who drops one goes through none of its parts.
+// By hand, so that the proof of who drops one visits none of its parts.
 impl Drop for Record {
     fn drop(self) {
         let Record { parts: _ } = self;
@@ -88,7 +88,7 @@ fn has_begun(durable: &Durable) -> bool
 }
 
 /// Whether an agent can have this record: its launch keys rise, no task is done,
-/// run 0 stands only with session 0 and no tasks, and the live tasks fit the total.
+/// run 0 is only with session 0 and no tasks, and the live tasks fit the total.
 fn is_record(alloc: Global, durable: &Durable) -> Result<bool, AllocError>
     ensures { IfOk result (λ is. is ≡ is_record durable.now) }
 {
@@ -144,7 +144,7 @@ impl Record {
         &self.parts
     }
 
-    /// Gives the parts up. It takes no memory.
+    /// Returns the parts. It takes no memory.
     pub fn into_parts(self) -> Durable
         ensures parts { result ≡ self }
         ensures recorded { is_record self ≡ true }

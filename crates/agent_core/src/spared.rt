@@ -50,7 +50,7 @@ fn spared_first(cause: &Cause, tasks: &[Shared<RecordedTask>]) -> usize
 }
 
 impl State {
-    /// How many of the first tasks stand as they are in what a cause makes of the agent.
+    /// How many of the first tasks are as they are in what a cause makes of the agent.
     pub fn kept_first(&self, cause: &Cause) -> usize
         ensures within { result ≤ length self.now.durable.tasks }
         ensures kept { (d : Draft) → next_of (agent_of self.now) cause.now ≡ Ok d

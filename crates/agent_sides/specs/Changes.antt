@@ -28,8 +28,8 @@ offering o s =
 abbrev pub with_task : Booked → Side → Side
 with_task b s = record s { booked = s.booked ++ b ∷ [] }
 
--- a Report is heard with these tasks and this total: where it opens a session, the session is open,
--- the tasks are booked, and the agent owns the total
+-- a Report is received with these tasks and this total: where it opens a session, the session is
+-- open, the tasks are booked, and the agent owns the total
 abbrev pub reporting : ℕ → ℕ → ℕ → List Booked → List Row → Side → Side
 reporting run session number tasks total s =
     if report_opens run s session number then opened s session tasks total else s

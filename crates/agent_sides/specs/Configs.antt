@@ -26,7 +26,7 @@ abbrev pub with_agent : ConfiguredAgent → List ConfiguredAgent → List Config
 with_agent a [] = a ∷ []
 with_agent a (b ∷ bs) = if bytes_before b.name a.name then b ∷ with_agent a bs else a ∷ b ∷ bs
 
--- how many agents of the first stand before a name
+-- how many of the first agents are before a name
 abbrev pub place_for : List ℕ → List ConfiguredAgent → ℕ
 place_for name [] = 0
 place_for name (b ∷ bs) = if bytes_before b.name name then suc (place_for name bs) else 0

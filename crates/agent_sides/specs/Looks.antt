@@ -1,4 +1,4 @@
--- What is told of the master's sides, and sides by their agents' names.
+-- Look-ups of the master's sides, and sides by their agents' names.
 use Rattle.std.specs.Prelude.{ℕ, suc, ◌+◌, Bool, ◌&&◌, ◌==◌, if◌then◌else◌, List, [], ◌∷◌, length, map, filter, flat_map, Option, Some, None, bytes_eq}
 use Rattle.names_core.specs.Ids.{Numbered, same}
 use Rattle.mails.specs.declared.task.Offer.{Offer}
@@ -11,7 +11,7 @@ at_name name change [] = []
 at_name name change (s ∷ ss) =
     if bytes_eq s.name name then change s ∷ ss else s ∷ at_name name change ss
 
--- what is told of the first side of a name, or of none
+-- what `tell` returns for the first side of a name, or `none` where there is none
 abbrev pub told_of : {X : Type 0} → List ℕ → (Side → X) → X → List Side → X
 told_of name tell none [] = none
 told_of name tell none (s ∷ ss) = if bytes_eq s.name name then tell s else told_of name tell none ss
@@ -32,7 +32,7 @@ withdrawing test s = withdrawn s (map (λ o. o.id) (filter test s.offers))
 abbrev pub all_placed : List Side → List Placed
 all_placed ss = flat_map placed_on ss
 
--- the update last heard of a framework's task of this name and key on this agent
+-- the update last received of a framework's task of this name and key on this agent
 abbrev pub is_heard_last : Numbered → List ℕ → List ℕ → Numbered → ℕ → Placed → Bool
 is_heard_last framework agent task key k p =
     same p.booked.job.key key && is_task_of framework task p && bytes_eq p.agent agent

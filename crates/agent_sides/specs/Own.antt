@@ -29,7 +29,7 @@ abbrev pub sum_on : Numbered → List Numbered → Side → GoodOffers
 sum_on framework ids s =
     record { agent = s.name; sum = plus_rows [] (offer_rows (used_offers s framework ids)) }
 
--- what good offers give, where they are good on an agent
+-- the agent and the sum of good offers, where they are good on an agent
 abbrev pub good_offers : Numbered → List Numbered → List Side → Option GoodOffers
 good_offers framework ids ss =
     option_map (sum_on framework ids) (find (λ s. is_good s framework ids) ss)

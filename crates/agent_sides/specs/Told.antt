@@ -1,4 +1,4 @@
--- What is told of an account by its agent's name, and what a tick sends to agents.
+-- Look-ups of accounts by their agents' names, and what a tick sends to agents.
 use Rattle.std.specs.Prelude.{ℕ, suc, if◌then◌else◌, List, [], ◌∷◌, Option, Some, None, bytes_eq}
 use Rattle.mails.specs.declared.mail.Command.{Command}
 use Rattle.mails.specs.declared.mail.MasterMail.{MasterMail}
@@ -7,7 +7,7 @@ use Rattle.mails.specs.declared.mail.ToAgent.{ToAgent}
 use Rattle.cluster_model.specs.Sides.{Side}
 use Rattle.offer_book.specs.declared.account.Account.{Account}
 
--- what is told of the first account of a name, or of none
+-- what `tell` returns for the first account of a name, or `none` where there is none
 abbrev pub told_by : {X : Type 0} → List ℕ → (Account → X) → X → List Account → X
 told_by name tell none [] = none
 told_by name tell none (a ∷ as_) =

@@ -87,7 +87,7 @@ pub fn is_one_awaited(entries: &[RosterEntry], name: &AgentName) -> bool
     false
 }
 
-/// Whether update `k` of a task is the last one that was heard of.
+/// Whether update `k` of a task is the last one that was received.
 fn is_last(task: &Booked, k: u32) -> bool
     ensures { result ≡ (task.now.heard == suc k) }
 {
@@ -160,7 +160,8 @@ fn is_heard_last_on(
     any_heard_last(tasks, &account.name, framework, agent, name, key, k)
 }
 
-/// Whether this is the update last heard of a framework's task of this name and key on this agent.
+/// Whether this is the update last received of a framework's task of this name and key on this
+/// agent.
 pub fn is_heard_last_in(
     accounts: &[Account],
     framework: FrameworkId,

@@ -20,7 +20,7 @@ use quantity::Resources;
 use roster::RosterEntry;
 use std::alloc::{AllocError, Global};
 
-/// What offers give that a framework may use together.
+/// The agent of offers that a framework may use together, and their sum.
 #[derive(Drop)]
 pub struct GoodOffers {
     pub agent: AgentName,
@@ -100,9 +100,9 @@ impl Sides {
         self.book.accounts()
     }
 
-    /// The agent on which a framework may use the offers of these ids together, and what these
-    /// have: it has an open session, there are some ids, none stands twice, and each is that of a
-    /// current offer there to the framework.
+    /// The agent on which a framework may use the offers of these ids together, and their sum: it
+    /// has an open session, there are some ids, none is listed twice, and each is that of a current
+    /// offer there to the framework.
     pub fn good_offers(
         &self,
         alloc: Global,

@@ -90,7 +90,7 @@ impl Sides {
         Ok(Sides { roster, book })
     }
 
-    /// The agents stand in byte order of their names, none twice.
+    /// The agents are in byte order of their names, none twice.
     pub fn stand_in_order(&self)
         ensures { are_ordered (side_names self.now) ≡ true }
     {
@@ -113,9 +113,9 @@ impl Sides {
         self.book.withdraw_offers(framework, ids);
     }
 
-    /// Issues a command in the agent's open session and gives its number; where no session is open
-    /// there is no command and no number. `L2 Spent` where the session's last command has the last
-    /// number, `G5 OutOfMemory` where memory was refused.
+    /// Issues a command in the agent's open session and returns its number; where no session is
+    /// open none is issued and `None` is returned. `L2 Spent` where the session's last command has
+    /// the last number, `G5 OutOfMemory` where memory was refused.
     pub fn issue(&mut self, place: usize, command: Command) -> Result<Option<u32>, RosterFault>
         ensures number { IfOk result (λ n. n ≡ told_at place issued_number None self.old) }
         ensures ok { OnOk result (self.new ≡ at_place place (with_command command) self.old) }
@@ -127,10 +127,10 @@ impl Sides {
     }
 
     /// An agent reports that it has opened a session with the master of a run, that it has these
-    /// tasks, and that it owns this total, which stands in the book from then on. The answer tells
-    /// whether the session is opened here; a Report of the open session is no news. `G1 OtherRun`
-    /// where it isn't this run, `G2 OldSession` below the open session, `G3 Closed` where none is
-    /// open and the session isn't above every closed one. It takes no memory.
+    /// tasks, and that it owns this total. Returns whether the session is opened here; then the
+    /// book has these tasks and this total. A Report of the open session changes nothing. `G1
+    /// OtherRun` where it isn't this run, `G2 OldSession` below the open session, `G3 Closed` where
+    /// none is open and the session isn't above every closed one. It takes no memory.
     pub fn report(
         &mut self,
         alloc: Global,
@@ -157,8 +157,8 @@ impl Sides {
         Ok(opens)
     }
 
-    /// The agent is lost: its open session, where there is one, is closed,
-    /// its offers and tasks are gone, and it owns nothing as far as is known. It takes no memory.
+    /// The agent is lost: its open session, where there is one, is closed, its offers and tasks are
+    /// removed, and its total is empty. It takes no memory.
     pub fn lose(&mut self, alloc: Global, place: usize)
         ensures { self.new ≡ at_place place lost self.old }
     {
@@ -170,9 +170,10 @@ impl Sides {
         }
     }
 
-    /// The agent has applied the first `count` commands of a session: the books forget what they
-    /// end. `G2 OldSession`, `G3 Closed` and `G4 NotOpen` where this isn't the open session, `G5
-    /// OutOfMemory` where memory was refused.
+    /// The agent has applied the first `count` commands of a session: tasks whose end one of them
+    /// acknowledges, or whose framework one ends, are removed from the book. `G2 OldSession`, `G3
+    /// Closed` and `G4 NotOpen` where this isn't the open session, `G5 OutOfMemory` where memory
+    /// was refused.
     pub fn applied(
         &mut self,
         alloc: Global,
@@ -197,7 +198,8 @@ impl Sides {
         Ok(())
     }
 
-    /// An update of a task is heard of, where the session is the open one. It takes no memory.
+    /// An update of a task is received; it is recorded where the session is the open one. It takes
+    /// no memory.
     pub fn hear(&mut self, place: usize, session: u32, update: &Heard)
         requires { update.now.k < 4294967295 }
         ensures { (run : ModelRun) → self.new ≡ at_place place
@@ -209,8 +211,8 @@ impl Sides {
         }
     }
 
-    /// Issues a command to the agent of a name, as `issue` does,
-    /// and gives the session and the number.
+    /// Issues a command to the agent of a name, as `issue` does, and returns the session and the
+    /// number.
     pub fn issue_to(
         &mut self,
         name: &AgentName,
@@ -235,7 +237,7 @@ impl Sides {
 
 /// Look-ups.
 impl Sides {
-    /// Where the agent of a name stands.
+    /// The place of the agent of a name, if it is configured.
     pub fn place_of(&self, name: &AgentName) -> Option<usize>
         ensures { result ≡ place_of name.now self.now }
     {
@@ -265,8 +267,8 @@ impl Sides {
         self.book.booked_count()
     }
 
-    /// Whether this is the update last heard of a framework's task
-    /// of this name and key on this agent.
+    /// Whether this is the update last received of a framework's task of this name and key on this
+    /// agent.
     pub fn is_heard_last(
         &self,
         framework: FrameworkId,

@@ -13,10 +13,10 @@ use offer_book::BookFault;
 use std::alloc::Global;
 
 impl Sides {
-    /// Makes an offer at the agent of a name. What is wrong is told in this order: `B1 Unknown`
-    /// where no agent has this name, `B3 Twice` where an offer of this id is current, `B2 NoRoom`
-    /// where the agent's total has no room for the offer beside what is taken of it. `B4
-    /// OutOfMemory` where memory was refused.
+    /// Makes an offer on the agent of a name. Checked in this order: `B1 Unknown` where no agent
+    /// has this name, `B3 Twice` where an offer of this id is current, `B2 NoRoom` where the
+    /// agent's total has no room for the offer beside what is taken of it. `B4 OutOfMemory` where
+    /// memory was refused.
     pub fn offer_to(
         &mut self,
         alloc: Global,
@@ -32,10 +32,10 @@ impl Sides {
         self.book.offer(alloc, name, offer)
     }
 
-    /// Books a task on the agent of a name. What is wrong is told in this order: `B1 Unknown` where
-    /// no agent has this name, `B3 Twice` where a task of this key is booked, `B2 NoRoom` where the
-    /// agent's total has no room for the task's resources beside what is taken of it. `B4
-    /// OutOfMemory` where memory was refused.
+    /// Books a task on the agent of a name. Checked in this order: `B1 Unknown` where no agent has
+    /// this name, `B3 Twice` where a task of this key is booked, `B2 NoRoom` where the agent's
+    /// total has no room for the task's resources beside what is taken of it. `B4 OutOfMemory`
+    /// where memory was refused.
     pub fn book_on(
         &mut self,
         alloc: Global,

@@ -1,4 +1,4 @@
-//! What is told of an agent by its name, and what it tells.
+//! Look-ups and changes by agents' names, and the mails that a tick sends.
 
 ghost use Rattle.std.specs.Prelude.{◌≡◌, ◌<◌, ◌++◌, [], Some, None, Ok, false, flat_map, IfOk, OnOk, OnErr, IfErr};
 ghost use Rattle.mails.specs.declared.mail.AgentMail.TheVariants.{Applied, Update};
@@ -191,7 +191,8 @@ fn send_all(
     Ok(())
 }
 
-/// By agents' names. Of a name that isn't configured nothing is known, and nothing happens.
+/// By agents' names. For a name that isn't configured a look-up returns false, `None` or an empty
+/// list, and a change does nothing.
 impl Sides {
     /// Whether the agent has an open session.
     pub fn is_open(&self, name: &AgentName) -> bool
@@ -217,7 +218,7 @@ impl Sides {
     }
 
     /// Whether a Report of this session, with the master of run `number`, would open it.
-    /// Refused as `report` tells.
+    /// Refused as `report` is.
     pub fn judge_report(
         &self,
         name: &AgentName,
@@ -245,8 +246,8 @@ impl Sides {
         tasks_of(self.book.accounts(), name)
     }
 
-    /// Puts behind other mails what a tick sends to each agent, in order of the agents: a Hello
-    /// where no session is open, else the oldest command that isn't known to be applied, again.
+    /// Appends to `mails` what a tick sends to each agent, in order of the agents: a Hello where no
+    /// session is open, else the oldest command that isn't known to be applied, again.
     pub fn send_again(
         &self,
         alloc: Global,
@@ -267,8 +268,8 @@ impl Sides {
         }
     }
 
-    /// A Report of the agent is heard, as `report` does it;
-    /// where it opens no session nothing happens.
+    /// A Report of the agent is received, as by `report`; where it opens no session nothing
+    /// happens.
     pub fn hear_report(
         &mut self,
         alloc: Global,
@@ -286,7 +287,7 @@ impl Sides {
         }
     }
 
-    /// A count of the agent's applied commands is heard, as `applied` does it.
+    /// A count of the agent's applied commands is received, as by `applied`, and refused as there.
     pub fn hear_applied(
         &mut self,
         alloc: Global,
@@ -307,7 +308,7 @@ impl Sides {
         }
     }
 
-    /// An update of a task on the agent is heard of, as `hear` does it.
+    /// An update of a task on the agent is received, as by `hear`.
     pub fn hear_update(&mut self, name: &AgentName, session: u32, update: &Heard)
         requires { update.now.k < 4294967295 }
         ensures { (run : ModelRun) → self.new ≡ at_name name.now

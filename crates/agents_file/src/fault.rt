@@ -2,7 +2,7 @@
 
 use std::{fmt, io};
 
-/// What a line is told that is no configuration.
+/// The message for a line that is no configuration.
 const WANTED_LINE: &str =
     "X3 BadConfig: the line of the file of the agents is to be as {\"agents\":{\"a1\":{\"cpus\":4,\"mem\":4096}},\"weights\":{\"prod\":2}}, with 1 to 256 agents, names of 1 to 64 ASCII letters, digits, -, _ and ., and up to 8 amounts for each, whole numbers from 1 to 2^40; weights may lack, and names up to 4096 roles, each with a whole number from 1 to 1000";
 

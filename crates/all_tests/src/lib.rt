@@ -1,5 +1,5 @@
 //! Each test of the crates of tests, which are libraries:
-//! so what they stand on is built once for all of them.
+//! so what they depend on is built once for all of them.
 #![tactic(auto)]
 
 #[cfg(test)]

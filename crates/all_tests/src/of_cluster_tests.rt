@@ -53,7 +53,7 @@ fn two_threads_of_100_calls(rt: HostRuntime) {
     assert!(rt; tests::two_threads_of_100_calls(&rt, rt.alloc()));
 }
 
-/// It says so where an agent fell, since no run with ample memory shows it:
+/// Prints a line where an agent failed, since no run with ample memory shows it:
 /// `tests/refused_allocations/commands.py` looks for it.
 #[test]
 fn an_agent_that_fell_is_down(rt: HostRuntime) -> Result<(), Fail> {

@@ -1,4 +1,4 @@
-//! An office behind its HTTP endpoint.
+//! An office with its HTTP endpoint.
 
 use office_tests as tests;
 use std::test::*;

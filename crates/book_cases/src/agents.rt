@@ -1,5 +1,5 @@
-//! An agent over a given record. Commands are of session 1;
-//! all speak of task t1 of framework F1-1 under L1-1.
+//! An agent over a chosen record. Commands are of session 1; all are about task t1 of framework
+//! F1-1 under L1-1.
 
 use crate::answers::{amounts_text, shown, word};
 use crate::words::{amounts, first, number, task};
@@ -11,7 +11,7 @@ use plain_data::Plain;
 use record_text::record_of;
 use std::alloc::Global;
 
-/// The agent that the lines speak of, and a draft that was kept aside.
+/// The agent of the lines' calls, and a draft that isn't committed yet.
 #[derive(Drop)]
 pub struct Kept {
     agent: Option<Agent>,
@@ -43,7 +43,7 @@ fn rebuilt(agent: &mut Option<Agent>, alloc: Global, record: Durable) -> Option<
     come_up(agent, alloc, record)
 }
 
-/// The agent comes up over a record.
+/// The agent is recovered from a record.
 fn recover(agent: &mut Option<Agent>, alloc: Global, text: &str) -> Option<String> {
     match record_of(alloc, text) {
         Ok(record) => rebuilt(agent, alloc, record),
@@ -58,7 +58,7 @@ fn next(agent: &Agent, alloc: Global, cause: Cause) -> Result<Draft, AgentFault>
     agent.next(alloc, cause)
 }
 
-/// The agent prepares what a cause makes of it, and commits that.
+/// The agent prepares a draft at a cause, and commits it.
 fn moved(agent: &mut Agent, alloc: Global, cause: Cause) -> Result<Vec<AgentMail>, AgentFault> {
     let draft = next(agent, alloc, cause)?;
     match agent.commit(draft) {
@@ -171,7 +171,7 @@ fn state_in(text: &str) -> Option<Cause> {
     Some(Cause::Executor(LaunchKey::new(1, 1), state))
 }
 
-/// The executor tells TASK_RUNNING so many times.
+/// The executor reports TASK_RUNNING so many times.
 fn run_times(agent: &mut Agent, alloc: Global, text: &str) -> Option<String> {
     for _ in 0..number(text)? {
         moved(
@@ -184,7 +184,7 @@ fn run_times(agent: &mut Agent, alloc: Global, text: &str) -> Option<String> {
     word(alloc, "ok")
 }
 
-/// The draft that was kept is committed; it is kept again where it is handed back.
+/// The draft that was kept is committed; it is kept again where it is returned.
 fn commit(agent: &mut Agent, draft: &mut Option<Draft>, alloc: Global) -> Option<String> {
     match agent.commit(draft.take()?) {
         Ok(mails) => mails_text(alloc, mails.as_slice()),

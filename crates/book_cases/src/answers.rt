@@ -1,4 +1,4 @@
-//! What is told of an answer.
+//! The texts of answers.
 
 use quantity::Resources;
 use std::alloc::Global;

@@ -104,7 +104,7 @@ fn agent_text(alloc: Global, name: Option<&AgentName>) -> Option<String> {
     }
 }
 
-/// On which agent an offer stands.
+/// On which agent an offer is.
 fn place_of_offer(book: &OfferBook, alloc: Global, text: &str) -> Option<String> {
     let id = OfferId::from_text(text).ok()?;
     agent_text(alloc, book.offer_of(id).map(|(name, _)| name))

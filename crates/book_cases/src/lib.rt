@@ -1,5 +1,5 @@
 //! Says of a line, a call by its name and arguments, what the call answers: of a book of offers and
-//! tasks, shares, sessions, a configuration and an agent over a given record. The program makes
+//! tasks, shares, sessions, a configuration and an agent over a chosen record. The program makes
 //! these calls otherwise, or never with these arguments, so that no history shows them.
 #![tactic(auto)]
 

@@ -1,4 +1,4 @@
-//! Calls of a roster, whose agents are told by their places.
+//! Calls of a roster, whose agents are named by their places.
 
 use crate::answers::{shown, told, word, yes_or_no};
 use crate::words::{agent, first, number};

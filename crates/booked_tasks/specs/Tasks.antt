@@ -14,8 +14,8 @@ has_key key b = same b.job.key key
 abbrev pub key_of : Booked → Numbered
 key_of b = b.job.key
 
--- its end is acknowledged by this: it has ended,
--- and the last update that was heard of is this one and terminal
+-- its end is acknowledged by this: it has ended, and the last update that was received is this one
+-- and terminal
 abbrev pub is_acknowledged : Numbered → ℕ → Booked → Bool
 is_acknowledged key k b = b.ended && same b.job.key key && b.heard == suc k && is_terminal b.state
 

@@ -14,8 +14,8 @@ use names_core::{FrameworkId, LaunchKey};
 use std::alloc::{AllocError, Global};
 use std::collections::BTreeMap;
 
-/// By framework, keys among which those of its tasks are, in the order in which they came.
-/// A key may stay when its task is gone.
+/// By framework, keys among which those of its tasks are, in the order in which they came. A key
+/// may stay when its task has been removed.
 #[derive(Drop)]
 pub(crate) struct Launches {
     by_framework: BTreeMap<FrameworkId, Vec<LaunchKey>>,

@@ -104,7 +104,7 @@ fn end_in(tasks: &mut Vec<Booked>, span: Span, key: LaunchKey)
     }
 }
 
-/// What an update of a task tells.
+/// What an update of a task reports.
 #[derive(Clone, Copy, Drop)]
 pub struct Heard {
     pub key: LaunchKey,
@@ -160,7 +160,8 @@ fn is_gone(task: &Booked, key: LaunchKey, acknowledged: Option<u32>) -> bool
     }
 }
 
-/// Takes out the task of this key, or only if its end is acknowledged by an update's number.
+/// Removes the task of this key; where `acknowledged` is a number, only if the update of that
+/// number acknowledges its end.
 fn take_out(tasks: &mut Vec<Booked>, span: Span, key: LaunchKey, acknowledged: Option<u32>)
     requires { IsSpan (has_key key) tasks.old.items span.from span.to }
     ensures { tasks.new.items ≡ filter (λ b. not (is_gone key acknowledged b)) tasks.old.items }
@@ -208,7 +209,8 @@ fn framework_of(tasks: &[Booked], key: LaunchKey) -> Option<FrameworkId> {
     Some(task.job.framework)
 }
 
-/// The task of this key is gone, or only if its end is acknowledged by an update's number.
+/// Removes the task of this key, as `take_out` does, and its launch where no task of the key is
+/// left.
 fn forget_key(
     tasks: &mut Vec<Booked>,
     launches: &mut Option<Launches>,
@@ -237,7 +239,7 @@ fn take_out_of(tasks: &mut Vec<Booked>, framework: FrameworkId)
     tasks.retain(|task| !is_same_framework(task.job.framework, framework));
 }
 
-/// The tasks of a framework are gone.
+/// Removes the tasks of a framework, and their launches.
 fn forget_framework(
     tasks: &mut Vec<Booked>,
     launches: &mut Option<Launches>,
@@ -465,7 +467,7 @@ impl Tasks {
     }
 
     /// The tasks of a framework, ended ones too, in order. Where keys rise from task to task, and
-    /// memory was granted for the launches, it goes over no task of another framework.
+    /// memory was granted for the launches, it visits no task of another framework.
     pub fn of_framework(
         &self,
         alloc: Global,
@@ -515,7 +517,7 @@ impl Tasks {
         forget_key(&mut self.items, &mut self.launches, are_rising, key, None);
     }
 
-    /// An update of the task of its launch key is heard. It takes no memory.
+    /// Records an update of the task of its launch key. It takes no memory.
     pub fn hear(&mut self, update: &Heard)
         requires { update.now.k < 4294967295 }
         ensures { self.new

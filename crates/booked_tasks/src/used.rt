@@ -89,7 +89,7 @@ fn give_back(sum: &mut Resources, tasks: &[Booked], key: LaunchKey)
     }
 }
 
-/// What the sum is, where it is known, once the tasks of this key have ended or are gone.
+/// What the sum is, where it is known, once the tasks of this key have ended or are removed.
 pub(crate) fn without_key(
     sum: Option<Resources>,
     tasks: &[Booked],
@@ -111,7 +111,7 @@ pub(crate) fn without_key(
     Some(rest)
 }
 
-/// What the sum is, where it is known, once an update of a task is heard.
+/// What the sum is, where it is known, once an update of a task is received.
 pub(crate) fn after_update(
     sum: Option<Resources>,
     tasks: &[Booked],
@@ -145,7 +145,7 @@ fn any_ends_framework(commands: &[Command]) -> bool
     commands.iter().any(|command| ends_framework(command))
 }
 
-/// What the sum is, where it is known, once these commands are applied: an acknowledgement lets go
+/// What the sum is, where it is known, once these commands are applied: an acknowledgement removes
 /// no task that hasn't ended. Where a framework ends the sum isn't known.
 pub(crate) fn after_commands(sum: Option<Resources>, commands: &[Command]) -> Option<Resources>
     ensures { (bs : List Booked) → IsSumIfKnown sum bs

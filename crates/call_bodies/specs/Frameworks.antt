@@ -1,4 +1,4 @@
--- The calls that say no more than whose framework they are.
+-- The calls that name a framework and nothing else.
 use Rattle.std.specs.Prelude.{Result, Ok}
 use Rattle.serde_json.specs.Data.{Data}
 use Rattle.call_members.specs.Answers.{◌>>=◌}

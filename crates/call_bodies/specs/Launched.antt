@@ -36,7 +36,7 @@ abbrev pub still_few : List TaskInfo → List Data → Result (List Data) Refusa
 still_few tasks ds =
     if nat_lt tasks_limit (length tasks + length ds) then Err LimitExceeded else Ok ds
 
--- the tasks of an operation, behind those of the operations before it
+-- the tasks of an operation, appended to those of the operations before it
 unfoldable pub add_operation : List TaskInfo → Data → Result (List TaskInfo) Refusal
 add_operation tasks d = do
   kind ← required members.OperationType (text_of (get (codes "type") d))

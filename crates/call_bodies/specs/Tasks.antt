@@ -1,4 +1,4 @@
--- The calls that speak of launched tasks.
+-- The calls about launched tasks.
 use Rattle.std.specs.Prelude.{List, [], ◌∷◌, ◌++◌, codes, Result, Ok}
 use Rattle.serde_json.specs.Data.{Data}
 use Rattle.serde_json.specs.Find.{get}

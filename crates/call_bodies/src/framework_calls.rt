@@ -1,4 +1,4 @@
-//! The calls that say no more than whose framework they are.
+//! The calls that name a framework and nothing else.
 
 ghost use Rattle.serde_json.specs.View.{view};
 ghost use Rattle.call_members.specs.Answers.{Gives};

@@ -1,4 +1,4 @@
-//! The calls that speak of one launched task.
+//! The calls about one launched task.
 
 ghost use Rattle.serde_json.specs.View.{view};
 ghost use Rattle.call_members.specs.Answers.{Gives};

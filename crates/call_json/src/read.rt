@@ -83,8 +83,8 @@ fn nested_call(alloc: Global, value: &Value) -> Result<Call, CallFault>
 }
 
 /// The call that a JSON value is. A member of another kind than asked for counts as absent, and
-/// members that aren't asked for may hold anything. Of a member that stands twice the last counts.
-/// As of a text, it is J1 where arrays and objects nest deeper than 127 levels.
+/// members that aren't asked for may hold anything. Of a member that is there twice the last
+/// counts. As of a text, it is J1 where arrays and objects nest deeper than 127 levels.
 #[tactic(auto, unfolding(crate::specs::Calls::call_of))]
 pub fn call_of(alloc: Global, value: &Value) -> Result<Call, CallFault>
     ensures { Gives (λ c. c) result (call_of (view value.now)) }

@@ -23,7 +23,7 @@ at_most limit ds = if nat_lt limit (length ds) then Err LimitExceeded else Ok ds
 unfoldable pub short_list_of : Member → ℕ → Option Data → Result (List Data) Refusal
 short_list_of member limit o = required member (list_of o) >>= at_most limit
 
--- one element after another, each joined to what those before it gave
+-- one element after another, each joined to the result of those before it
 abbrev pub each_in : {S : Type 0} → (S → Data → Result S Refusal) → S → List Data → Result S Refusal
 each_in step s [] = Ok s
 each_in step s (d ∷ ds) = step s d >>= λ t. each_in step t ds

@@ -1,4 +1,4 @@
--- What is told of a text that is no call.
+-- The messages of refusals of texts that are no calls.
 use Rattle.std.specs.Prelude.{ℕ, List, codes}
 use Rattle.call_members.specs.declared.fault.Member.{Member}
 use Rattle.call_members.specs.declared.fault.Member.TheVariants as members
@@ -7,7 +7,7 @@ use Rattle.call_members.specs.declared.fault.Refusal.TheVariants.{NotJson, NoTyp
 use Rattle.call_members.specs.declared.fault.CallFault.{CallFault}
 use Rattle.call_members.specs.declared.fault.CallFault.TheVariants.{OutOfMemory, Refused}
 
--- a missing member is told by the names of the members that lead to it, joined by points
+-- a missing member is named by its path: the names of the members that lead to it, joined by points
 unfoldable pub missing_text : Member → List ℕ
 missing_text members.User = codes "J4 Missing subscribe.framework_info.user"
 missing_text members.FrameworkName = codes "J4 Missing subscribe.framework_info.name"

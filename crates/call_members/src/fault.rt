@@ -9,7 +9,7 @@ use std::error::Error;
 use std::fmt;
 
 /// A member that a call of its type has to have. Where an object on a member's path is absent,
-/// the first such member whose path it lies on is missing.
+/// the first such member whose path it is on is missing.
 #[derive(Clone, Copy, Debug, Drop, PartialEq, Eq)]
 pub enum Member {
     User,
@@ -99,8 +99,8 @@ fn missing_text(member: Member) -> &'static str
 }
 
 impl Refusal {
-    /// As an ERROR event tells it: its code, its name and, of a missing member,
-    /// the member's path with points.
+    /// The message of its ERROR event: its code, its name and, of a missing member, the member's
+    /// path with points.
     #[tactic(auto, unfolding(crate::specs::Texts::refusal_text))]
     pub fn as_text(&self) -> &'static str
         ensures text { result.now ≡ refusal_text self.now }

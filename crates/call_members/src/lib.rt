@@ -1,4 +1,4 @@
-//! The members of a call, read from a JSON value, and what is told where one is absent or wrong.
+//! The members of a call, read from a JSON value, and the refusals where one is absent or wrong.
 #![tactic(auto)]
 
 mod fault;

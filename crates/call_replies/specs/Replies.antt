@@ -97,7 +97,7 @@ fault_in (Ok nothing) = None
 fault_in (Err f) = Some f
 
 -- the text is what the records of the input are answered by, in run 1 and without agents,
--- and the fault is what stands behind them
+-- and the fault is the one after them
 abbrev pub IsAnswer : List ℕ → List ℕ → Option FrameFault → Type 0
 IsAnswer input text fault =
     (records : List (List ℕ)) × (s : Standing) × Reads input records s

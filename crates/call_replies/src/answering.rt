@@ -25,7 +25,7 @@ fn new_buffer(alloc: Global) -> Result<Vec<u8>, AllocError>
     vec![in alloc; 0u8; PIECE]
 }
 
-/// The fault that stands where the input ends, if any.
+/// The fault at the end of the input, if any.
 fn fault_at_end(frames: &Reader) -> Option<FrameFault>
     ensures { result ≡ fault_in (end_of frames.now) }
 {
@@ -46,8 +46,8 @@ fn first_master(alloc: Global) -> Result<Master, Stop>
     }
 }
 
-/// Answers the calls that a reader gives, which it reads by this buffer,
-/// by a master that was asked nothing yet.
+/// Answers the calls that a reader returns, read through this buffer, by a master that took no call
+/// yet.
 fn answer_input<R: Read, W: Write>(
     alloc: Global,
     reader: &mut R,
@@ -89,10 +89,10 @@ fn answer_input<R: Read, W: Write>(
     Err(Stop::Device(io::Error::from(ErrorKind::Other)))
 }
 
-/// Answers the calls that a reader gives, in run 1 and without agents, each as soon as its frame is
-/// whole: it writes the frames of all events in order. A call comes on the open stream of its
+/// Answers the calls that a reader returns, in run 1 and without agents, each as soon as its frame
+/// is whole: it writes the frames of all events in order. A call comes on the open stream of its
 /// framework, if there is one. A record that is no call, or whose call is refused, is answered by
-/// an ERROR event with the refusal's text. It tells the fault of a frame that ended the input, if
+/// an ERROR event with the refusal's text. It returns the fault of a frame that ended the input, if
 /// any: `F1 BadSize`, `F2 TooLong`, or `F3 Cut` where the input ends within a frame. `Err` is want
 /// of memory in a frame, a call or the master (`F4`, `J10`, `M5`), or a read or write that failed
 /// (`Z2`).

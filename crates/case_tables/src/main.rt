@@ -1,4 +1,4 @@
-//! Answers the lines of its input: behind the word `named` a call by its name and arguments
+//! Answers the lines of its input: after the word `named` a call by its name and arguments
 //! (`book_cases`), else a kind and a text (`text_cases`).
 #![tactic(auto)]
 

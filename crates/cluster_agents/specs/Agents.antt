@@ -29,7 +29,7 @@ abbrev pub Draws : Option AgentRefusal → KeptAgent → KeptAgent → Result Dr
 Draws None old new due = (d : Draft) × (due ≡ Ok d) × (new ≡ with_part old.part.agent (Some d) old)
 Draws (Some refusal) old new due = (due ≡ Err refusal) × (new ≡ old)
 
--- the open draft was adopted, and its mails given; where none is open nothing changed
+-- the open draft was adopted, and its mails returned; where none is open nothing changed
 abbrev pub AdoptsOne : Option (List AgentMail) → Option Draft → KeptAgent → KeptAgent → Type 0
 AdoptsOne given None old new = (given ≡ None) × (new ≡ old)
 AdoptsOne given (Some d) old new = (given ≡ Some d.mails) × (new ≡ with_part d.after None old)

@@ -1,4 +1,4 @@
--- What is handed to an agent: a cause of its own, or a mail of a number.
+-- What an agent receives: a cause of its own, or a mail of a number.
 use Rattle.std.specs.Prelude.{◌≡◌, ◌-◌, ℕ, ◌==◌, if◌then◌else◌, List, slice_get, Option, Some, None, Result, Ok, Err, bytes_eq, ⊤}
 use Rattle.mails.specs.declared.cause.Cause.{Cause}
 use Rattle.mails.specs.declared.cause.Cause.TheVariants as causes

@@ -1,4 +1,4 @@
--- What a step hands out, and why it may be refused.
+-- What a step delivers, and why it may be refused.
 use Rattle.std.specs.Prelude.{◌≡◌, ◌⊎◌, ℕ, Bool, true, false, not, Option, Some, None, Ok}
 use Rattle.cluster_histories.specs.Clusters.{Cluster}
 use Rattle.cluster_steps.specs.declared.step.Step.{Step}
@@ -10,29 +10,29 @@ use Rattle.cluster_steps.specs.declared.fault.ClusterFault.TheVariants.{NoSuchMa
 use Rattle.cluster_steps.specs.declared.step.StepCause.{StepCause}
 use Rattle.cluster_agents.specs.Moves.{Refuses}
 
--- the number of what a step hands out
+-- the number of what a step delivers
 abbrev pub handed : Step → Option ℕ
 handed (Deliver n) = Some n
 handed (Prepare agent (ByMail n)) = Some n
 handed step = None
 
--- whether a cause is a mail that can't be handed out
+-- whether a cause is a mail that can't be delivered
 abbrev pub is_withheld : (ℕ → Bool) → StepCause → Bool
 is_withheld gives (Start total) = false
 is_withheld gives Again = false
 is_withheld gives (Executor key state) = false
 is_withheld gives (Mail n) = not (gives n)
 
--- the model takes the step, but what it hands out can't be
+-- the model takes the step, but what it delivers can't be
 abbrev pub IsWithheld : Cluster → (ℕ → Bool) → Step → Type 0
 IsWithheld c gives step =
     (n : ℕ) × (d : Done) × (handed step ≡ Some n) × (gives n ≡ false) × (answer c step ≡ Ok d)
 
--- memory was refused, the step is, or what it hands out is withheld
+-- memory was refused, the step is, or what it delivers is withheld
 abbrev pub MayRefuse : Cluster → (ℕ → Bool) → Step → ClusterFault → Type 0
 MayRefuse c gives step fault =
     Refuses c step fault ⊎ ((fault ≡ NoSuchMail) × IsWithheld c gives step)
 
--- what a step hands out can be handed out
+-- what a step delivers can be delivered
 abbrev pub IsGiven : (ℕ → Bool) → Step → Type 0
 IsGiven gives step = (n : ℕ) → handed step ≡ Some n → gives n ≡ true

@@ -40,7 +40,7 @@ kept_part fallen p = record { part = p; is_down = list_any (bytes_eq p.name) fal
 abbrev pub kept_agents : Cluster → List KeptAgent
 kept_agents c = map (kept_part c.fallen) (parts_of c.world.channels)
 
--- the agent of a name stands at a place
+-- the agent of a name is at a place
 abbrev pub StandsAt : Cluster → List ℕ → ℕ → KeptAgent → Type 0
 StandsAt c name place a =
     (place_in name (kept_agents c) ≡ Some place) × (slice_get (kept_agents c) place ≡ Some a)
@@ -55,7 +55,7 @@ ComeInOrder agents sent =
 abbrev pub sending : List Sent → Outputs
 sending sent = record { events = []; closed = []; sent = sent; taken = None }
 
--- a step was made: what it answers, and the agents and the items that then stand for the state;
+-- a step was made: what it answers, and the agents and the items that then represent the state;
 -- master, streams and moment are as they were
 pub record Makes (c : Cluster) (step : Step) (verdict : Verdict) (outputs : Outputs)
     (agents : List KeptAgent) (sent : List Item) : Type 0 where

@@ -1,4 +1,4 @@
--- A step that ended, and brought out nothing.
+-- A step that ended, and has no outputs.
 use Rattle.std.specs.Prelude.{[], None}
 use Rattle.cluster_steps.specs.declared.verdict.Verdict.{Verdict}
 use Rattle.cluster_agents.specs.Moves.{sending}

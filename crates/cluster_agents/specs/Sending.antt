@@ -1,4 +1,4 @@
--- What an agent's commit sends: as an entry tells it, and as it is kept.
+-- What an agent's commit sends: as an entry has it, and as it is stored.
 use Rattle.std.specs.Prelude.{◌≡◌, ℕ, List, map, Option, Some, None, ⊤}
 use Rattle.mails.specs.declared.mail.AgentMail.{AgentMail}
 use Rattle.cluster_model.specs.Agents.{Draft}

@@ -43,7 +43,7 @@ impl Model for ClusterAgent {
 }
 
 impl ClusterAgent {
-    /// The agent that comes up over a record. Memory is asked for its name alone.
+    /// The agent that comes up over a record. It takes memory for its name alone.
     pub fn recover(alloc: Global, durable: Record) -> Result<ClusterAgent, AllocError>
         ensures { IfOk result (λ a. a ≡ record { part = recovered_part durable; is_down = false }) }
     {
@@ -90,7 +90,7 @@ impl ClusterAgent {
         self.agent.is_in_session()
     }
 
-    /// Opens a draft of a cause, or says why there is none.
+    /// Opens a draft of a cause, or returns why there is none.
     pub fn prepare(
         &mut self,
         alloc: Global,
@@ -119,8 +119,8 @@ impl ClusterAgent {
         self.draft.as_ref()
     }
 
-    /// Makes the open draft the agent's, and gives its mails,
-    /// which are to be sent. It takes no memory.
+    /// Makes the open draft the agent's, and returns its mails, which are to be sent; None where
+    /// none is open. It takes no memory.
     pub fn commit(&mut self) -> Option<Vec<AgentMail>>
         ensures { AdoptsOne (option_map (λ mails. mails.items) result) self.old.part.draft self.old
             self.new }
@@ -150,7 +150,7 @@ impl ClusterAgent {
         self.is_down = false;
     }
 
-    /// Falls for want of memory: it is down until it is stopped.
+    /// The agent goes down for want of memory, until it is stopped.
     pub fn fall(&mut self)
         ensures { self.new ≡ goes_down self.old }
     {
@@ -167,7 +167,7 @@ pub fn place_of(agents: &[ClusterAgent], name: &AgentName) -> Option<usize>
     agents.iter().position(|agent| agent.name().is(name))
 }
 
-/// Where the agent of a name stands, or `C8 NoSuchAgent`.
+/// The place of the agent of a name, or `C8 NoSuchAgent`.
 pub fn found(agents: &[ClusterAgent], name: &AgentName) -> Result<usize, ClusterFault>
     ensures place { IfOk result (λ place. place_in name.now agents.now ≡ Some place) }
     ensures within { IfOk result (λ place. place < length agents.now) }

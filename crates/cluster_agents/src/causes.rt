@@ -1,4 +1,4 @@
-//! What is handed to an agent.
+//! What an agent receives.
 
 ghost use Rattle.std.specs.Prelude.{◌≡◌, option_map};
 ghost use Rattle.cluster_agents.specs.Causes.{Causes, ForIt, cause_due, for_it, item_at};

@@ -23,7 +23,7 @@ fn to_master(name: &AgentName, mail: &AgentMail) -> Result<ToMaster, AllocError>
     })
 }
 
-/// The mails of an agent, as they are told and kept.
+/// The mails of an agent, as they are written in the entry and stored.
 fn outgoing_from(
     alloc: Global,
     name: &AgentName,

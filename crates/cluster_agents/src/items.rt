@@ -8,12 +8,12 @@ use std::alloc::{AllocError, Global};
 use std::marker::Model;
 
 /// All calls and mails that were ever sent, in the order of sending:
-/// number n stands at place n - 1.
+/// number n is at place n - 1.
 pub struct Items {
     items: Vec<Item>,
 }
 
-// By hand, so that who drops one goes through none of its parts.
+// By hand, so that the proof of who drops one visits none of its parts.
 impl Drop for Items {
     fn drop(self) {
         let Items { items: _ } = self;
@@ -55,7 +55,7 @@ impl Items {
         self.items.append(&mut more)
     }
 
-    /// Forgets what was added behind so many.
+    /// Removes what was added after the first so many.
     pub fn cut(&mut self, len: usize)
         ensures { self.new ≡ take len self.old }
     {

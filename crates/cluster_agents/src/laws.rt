@@ -25,7 +25,7 @@ use cluster_laws::{
     sent_items_stand, steps_move_agents,
 };
 
-/// A stop is made where the agent stands.
+/// A stop is made where the agent is configured.
 pub fn stops_are_made()
     ensures before { (c : Cluster) (name : List ℕ) (place : ℕ) (a : KeptAgent) (sent : List Item)
         → Reached c → StandIn c sent → StandsAt c name place a
@@ -50,7 +50,7 @@ pub fn stops_are_made()
     steps_move_agents();
 }
 
-/// A commit is made where the agent stands, is up and has an open draft.
+/// A commit is made where the agent is configured, is up and has an open draft.
 pub fn commits_are_made()
     ensures made { (c : Cluster) (name : List ℕ) (place : ℕ) (a : KeptAgent) (d : Draft)
         (sent : List Item) → Reached c → StandIn c sent → StandsAt c name place a
@@ -73,8 +73,8 @@ pub fn commits_are_made()
     steps_move_agents();
 }
 
-/// A draft is opened, or its cause refused, where the agent stands,
-/// is up and has no open draft; or the agent falls.
+/// A draft is opened, or its cause refused, where the agent is configured,
+/// is up and has no open draft; or the agent goes down.
 pub fn prepares_are_made()
     ensures made { (c : Cluster) (name : List ℕ) (place : ℕ) (a new : KeptAgent)
         (cause : StepCause) (given : Cause) (verdict : Verdict) (sent : List Item)

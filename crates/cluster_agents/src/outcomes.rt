@@ -1,4 +1,4 @@
-//! How a step ends, and what it brings out.
+//! How a step ends, and what it outputs.
 
 ghost use Rattle.std.specs.Prelude.{◌≡◌};
 ghost use Rattle.cluster_agents.specs.Moves.{sending};
@@ -12,7 +12,7 @@ use cluster_steps::{Sent, Verdict};
 use listed::Listed;
 use std::alloc::Global;
 
-/// How a step ended and what it brought out: its entry, but for the step.
+/// How a step ended and what it output: its entry, but for the step.
 #[derive(Drop)]
 pub struct Made {
     pub verdict: Verdict,
@@ -21,14 +21,14 @@ pub struct Made {
     pub durable: Option<Record>,
 }
 
-/// Mails, as an entry tells them and as they are kept. Each stands once.
+/// Mails, as they are written in an entry and as they are stored. Each is one value, owned twice.
 #[derive(Drop)]
 pub struct Outgoing {
     pub sent: Listed<Sent>,
     pub items: Listed<Item>,
 }
 
-/// What a step brings out that only sends.
+/// The outputs of a step that only sends.
 pub fn sending(alloc: Global, sent: Listed<Sent>) -> Outputs
     ensures { result ≡ sending sent }
 {
@@ -51,7 +51,7 @@ pub fn made_sending(alloc: Global, sent: Listed<Sent>) -> Made
     }
 }
 
-/// A step that ended in this way and brings out nothing.
+/// A step that ended in this way and has no outputs.
 pub fn ends_with(alloc: Global, verdict: Verdict) -> Made
     ensures { result ≡ ends_with verdict }
 {

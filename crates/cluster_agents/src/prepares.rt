@@ -63,7 +63,7 @@ pub fn draw(agent: &mut ClusterAgent, alloc: Global, cause: Cause) -> Made
     }
 }
 
-/// Whether a cause is a mail that the post can't hand out.
+/// Whether a cause is a mail that the post can't deliver.
 pub fn is_withheld<P: Post>(post: &P, cause: &StepCause) -> bool
     ensures { result ≡ is_withheld (P.gives (P.known post.now)) cause.now }
 {

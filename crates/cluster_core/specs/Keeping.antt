@@ -22,7 +22,7 @@ use Rattle.cluster_parts.specs.declared.parts.Parts.{Parts}
 use Rattle.cluster_core.specs.declared.taken.History.{History}
 use Rattle.cluster_core.specs.declared.taken.Taken.{Taken}
 
--- an entry of a step, and what is given of it
+-- an entry of a step, and what is returned of it
 
 abbrev pub entry_made : Step → Made → Entry
 entry_made step made = record { step = step; verdict = made.verdict; outputs = made.outputs }
@@ -30,7 +30,7 @@ entry_made step made = record { step = step; verdict = made.verdict; outputs = m
 abbrev pub taken_made : Step → Made → Taken
 taken_made step made = record { entry = entry_made step made; durable = made.durable }
 
--- the story that a history tells
+-- the story of a history
 abbrev pub story_of : History → Story
 story_of h =
     record {
@@ -39,7 +39,7 @@ story_of h =
       entries = h.entries.items;
     }
 
--- its story is legal, its parts stand for the state in which the story ends,
+-- its story is legal, its parts represent the state in which the story ends,
 -- and the post has had all that was sent, each item in its direction
 pub record IsKept {T : Type 0} (s : Story) (opened : Outputs) (p : Parts T) (count : ℕ)
     (directions : ℕ → Option Direction) : Type 0 where
@@ -51,8 +51,8 @@ pub record IsKept {T : Type 0} (s : Story) (opened : Outputs) (p : Parts T) (cou
   pub counted : count ≡ length p.served.items
   pub put : ArePut 0 p.config p.served.items directions
 
--- a step was taken: its entry is the one that the model makes of it, and stands behind the others;
--- with a Prepare goes the record of the draft that it opened
+-- a step was taken: its entry is the one that the model makes of it, and is after the others;
+-- with a Prepare comes the record of the draft that it opened
 pub record IsTaken (s : Story) (step : Step) (taken : Taken) (new : Story) : Type 0 where
   pub done : Done
   pub answers : step_marked (state_of s) (marked_of taken.entry) ≡ Ok done
@@ -60,14 +60,14 @@ pub record IsTaken (s : Story) (step : Step) (taken : Taken) (new : Story) : Typ
   pub drafts : taken.durable ≡ record_of step taken.entry.verdict (kept_agents done.after)
   pub tells : new ≡ with_entry s taken.entry
 
--- the model takes the step, but what it hands out can't be
+-- the model takes the step, but what it delivers can't be
 abbrev pub WithheldFrom : Cluster → (ℕ → Bool) → Step → Type 0
 WithheldFrom c gives step =
     (n : ℕ) × (d : Done) × (handed step ≡ Some n) × (gives n ≡ false)
     × (step_marked c (unmarked step) ≡ Ok d)
 
 -- why a step may be refused: memory was, or the model refuses the step so,
--- or what the step hands out is withheld
+-- or what the step delivers is withheld
 abbrev pub IsRefused : Cluster → (ℕ → Bool) → Step → ClusterFault → Type 0
 IsRefused c gives step OutOfMemory = ⊤
 IsRefused c gives step NoSuchMail =
@@ -79,7 +79,7 @@ abbrev pub IsRefusedFirst : Story → ClusterFault → Type 0
 IsRefusedFirst s fault =
     (fault ≡ OutOfMemory) ⊎ ((fault ≡ HistoryFull) × (4294967294 ≤ length s.entries))
 
--- what is known of a cluster: its story, and what it can hand out
+-- what is known of a cluster: its story, and what it can deliver
 pub record Known (P : Type 0) : Type 0 where
   pub story : Story
   pub post : P
@@ -88,8 +88,8 @@ pub record Known (P : Type 0) : Type 0 where
 abbrev pub sent_since : Story → Story → List Post
 sent_since old new = drop (length (state_of old).posts) (state_of new).posts
 
--- what a post knows behind a step that made one story of another:
--- what the step hands out was handed out, and all that it sent was put, each in its direction
+-- what a post knows after a step that made one story of another:
+-- what the step delivers was delivered, and all that it sent was enqueued, each in its direction
 abbrev pub known_after : {K : Type 0} → (K → ℕ → K) → (K → Direction → K) → Story → Step
     → Story → K → K
 known_after with_given with_put old step new k =

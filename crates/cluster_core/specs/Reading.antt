@@ -16,20 +16,20 @@ waiting_in stream c = count_on stream (kept_streams c.streams)
 abbrev pub is_open_in : Numbered → Cluster → Bool
 is_open_in stream c = if c.world.run.serves then is_open stream (Some (master_of c)) else false
 
--- under this number stands a mail to an agent that can be handed out:
+-- under this number is a mail to an agent that can be delivered:
 -- of the mails to it the first that wasn't
 pub record IsNextTo (agent : List ℕ) (c : Cluster) (queued : List Item) (number : ℕ) : Type 0 where
   pub place : ℕ
   pub is : post_at c number ≡ Some (Down agent place)
   pub waits : hands_out queued number ≡ true
 
--- no mail to an agent can be handed out
+-- no mail to an agent can be delivered
 abbrev pub NoneTo : List ℕ → Cluster → List Item → Type 0
 NoneTo agent c queued =
     (number place : ℕ) → post_at c number ≡ Some (Down agent place)
     → hands_out queued number ≡ false
 
--- under this number stands a mail from an agent that can be handed out:
+-- under this number is a mail from an agent that can be delivered:
 -- of the mails from it the first that wasn't
 pub record IsNextFrom (agent : List ℕ) (c : Cluster) (queued : List Item)
     (number : ℕ) : Type 0 where
@@ -37,7 +37,7 @@ pub record IsNextFrom (agent : List ℕ) (c : Cluster) (queued : List Item)
   pub is : post_at c number ≡ Some (Up agent place)
   pub waits : hands_out queued number ≡ true
 
--- no mail from an agent can be handed out
+-- no mail from an agent can be delivered
 abbrev pub NoneFrom : List ℕ → Cluster → List Item → Type 0
 NoneFrom agent c queued =
     (number place : ℕ) → post_at c number ≡ Some (Up agent place) → hands_out queued number ≡ false

@@ -8,7 +8,7 @@ use Rattle.cluster_core.specs.Stories.{Story, history_of, state_of}
 abbrev pub marked_as : Bool → Step → Marked
 marked_as fell step = record { fell = fell; step = step }
 
--- a story went on by a step, or stayed where it is refused
+-- a story went on by a step, or is as it was where the step is refused
 pub record Passes (s : Story) (step : Step) (new : Story) : Type 0 where
   pub fell : Bool
   pub goes_on : history_of new ≡ extended (history_of s) step

@@ -23,11 +23,11 @@ trail_of s = trail (history_of s).happenings (open_world s.setup.run s.records) 
 abbrev pub moments_of : Story → List Moment
 moments_of s = moments s.setup s.records (map marked_of s.entries)
 
--- the framework acknowledges only updates that were handed out before
+-- the framework acknowledges only updates that a Take returned before, on whatever stream
 abbrev pub IsHonest : Numbered → Story → Type 0
 IsHonest framework s = Honest framework (opening s.setup s.records) (map marked_of s.entries)
 
--- a task of the framework was launched under the key, or stood under it at the opening
+-- a task of the framework was launched under the key, or had it in a record at the opening
 abbrev pub IsKeyIn : Story → Numbered → Numbered → Type 0
 IsKeyIn s framework key = IsKeyOf framework key (jobs_of (trail_of s) ++ recorded_jobs s.records)
 
@@ -38,16 +38,16 @@ AcknowledgesInOrder s framework key =
     (acknowledged_by s.records framework key (state_of s).posts)
 
 -- of all that was ever offered and launched, also of tasks that have left their records: no offer
--- id and no launch key is given out twice, each use of offers is covered by offers that were made
+-- id and no launch key is assigned twice, each use of offers is covered by offers that were made
 -- before and that no use before it used, and the offers and the uses are those of the entries
 pub record KeepsTrail (s : Story) : Type 0 where
   pub covered : HasOrigin s.records (state_of s).world (trail_of s)
   pub traced : Traced (moments_of s) (trail_of s)
 
 -- on every agent current offers and live tasks fit what it owns; each task was launched by exactly
--- one entry, which delivered an ACCEPT of its framework, out of offers that older entries told and
--- that no other entry uses, or it stood in a record; each update counts as acknowledged by the
--- task's own framework alone, also the last one, whose Ack takes the task out of its record; an
+-- one entry, which delivered an ACCEPT of its framework, out of offers that older entries sent and
+-- that no other entry uses, or it was in a record; each update counts as acknowledged by the
+-- task's own framework alone, also the last one, whose Ack removes the task from its record; an
 -- honest framework acknowledges in order; and no agent ever lacked room
 pub record Safe (s : Story) : Type 0 where
   pub fits : AllFit (state_of s).world

@@ -22,14 +22,14 @@ use std::alloc::Global;
 /// With the opening's entry, which has the number 0, a history has 4,294,967,295 entries at most.
 const MOST_ENTRIES: u64 = 4_294_967_294;
 
-/// Where the agent of a name stands in the configuration, from 0; none where no agent has the name.
+/// The place of the agent of a name in the configuration, from 0; None where no agent has the name.
 pub fn place_in(agents: &[ConfiguredAgent], name: &AgentName) -> Option<usize>
     ensures { result ≡ place_in name.now agents.now }
 {
     agents.iter().position(|agent| agent.name.is(name))
 }
 
-/// Where the agent of a name stands; each mail's agent does.
+/// The place of the agent of a name, or their count where none has it; each mail's agent has one.
 fn place_or_end(agents: &[ConfiguredAgent], name: &AgentName) -> usize
     ensures { result ≡ place_or_end name.now agents.now }
 {
@@ -50,7 +50,7 @@ fn direction_of(agents: &[ConfiguredAgent], item: &Item) -> Direction
     }
 }
 
-/// Puts all items into the post that were sent behind the first so many, which it has.
+/// Enqueues in the post all items that were sent after the first so many, which it has.
 fn put_all<P: Post>(post: &mut P, agents: &[ConfiguredAgent], items: &[Item], before: usize)
     requires counted { P.count (P.known post.old) ≡ before }
     requires within { before ≤ length items.now }
@@ -70,7 +70,7 @@ fn put_all<P: Post>(post: &mut P, agents: &[ConfiguredAgent], items: &[Item], be
     }
 }
 
-/// Puts all items into the post of a master's part that were sent behind the first so many.
+/// Enqueues in the post of a master's part all items that were sent after the first so many.
 pub fn put_sent<P: Post>(served: &mut Served<P>, agents: &[ConfiguredAgent], before: usize)
     requires counted { P.count (P.known served.old.post) ≡ before }
     requires within { before ≤ length served.old.items }
@@ -88,7 +88,7 @@ pub fn put_sent<P: Post>(served: &mut Served<P>, agents: &[ConfiguredAgent], bef
     put_all(&mut served.post, agents, served.items.as_slice(), before);
 }
 
-/// The number of what a step hands out.
+/// The number of what a step delivers.
 fn handed(step: &Step) -> Option<u64>
     ensures { result ≡ handed step.now }
 {
@@ -102,7 +102,7 @@ fn handed(step: &Step) -> Option<u64>
     }
 }
 
-/// What a step hands out was handed out, and what it sent is put.
+/// What a step delivers was delivered, and what it sent is enqueued.
 fn hand_on<P: Post>(parts: &mut Parts<P>, before: usize, step: &Step)
     requires counted { P.count (P.known parts.old.served.post) ≡ before }
     requires within { before ≤ length parts.old.served.items }
@@ -142,7 +142,7 @@ fn make_room(alloc: Global, history: &mut History) -> Result<Place<Entry>, Clust
     Ok(Place::new(alloc)?)
 }
 
-/// Writes an entry down, for which there is room, and gives it. It takes no memory.
+/// Appends an entry, for which there is room, and returns it. It takes no memory.
 fn write_down(history: &mut History, place: Place<Entry>, step: Step, made: Made) -> Taken
     requires room { vec_len history.old.entries < vec_capacity history.old.entries }
     ensures told { story_of history.new ≡ with_entry (story_of history.old) (entry_made step made) }
@@ -162,8 +162,8 @@ fn write_down(history: &mut History, place: Place<Entry>, step: Step, made: Made
     }
 }
 
-/// Takes a step, for whose entry there is room first. Of several refusals the first is given in the
-/// order C6, C8, C2, C3, C4, C5, C1, C7; C9 may come before any but C6.
+/// Takes a step, for whose entry there is room first. Of several refusals the first is returned in
+/// the order C6, C8, C2, C3, C4, C5, C1, C7; C9 may come before any but C6.
 pub fn advance<P: Post>(
     history: &mut History,
     parts: &mut Parts<P>,

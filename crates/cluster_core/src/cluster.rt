@@ -40,13 +40,13 @@ use std::alloc::Global;
 use std::marker::Model;
 
 /// A master and its agents under one history, whose every entry is a legal step.
-/// What is sent is handed out as the post allows.
+/// What is sent is delivered as the post allows.
 pub struct Cluster<P: Post + Drop> {
     history: History,
     parts: Parts<P>,
 }
 
-// By hand: who drops a cluster calls this, and goes through none of its parts.
+// By hand: who drops a cluster calls this, and the proof visits none of its parts.
 impl<P: Post + Drop> Drop for Cluster<P> {
     fn drop(self) {
         let Cluster {
@@ -70,8 +70,8 @@ impl<P: Post + Drop> Model for Cluster<P> {
 
 impl<P: Post + Drop> Cluster<P> {
     /// The cluster of configured agents, whose totals cover those of their records, that come up
-    /// over these, given in any order, whose first master begins this run and greets each in the
-    /// order of their names. Its rounds of offers go by these weights of roles. Of the faults there
+    /// over these, in any order, whose first master begins this run and sends each a Hello in the
+    /// order of their names. Its rounds of offers use these weights of roles. Of the faults there
     /// is `C9 OutOfMemory` alone.
     pub fn open(
         alloc: Global,
@@ -108,10 +108,10 @@ impl<P: Post + Drop> Cluster<P> {
         })
     }
 
-    /// Takes a step: its entry stands in the history and is given. A step that is refused is no
-    /// entry, and changes nothing. Of several refusals the first is given in the order C6, C8, C2,
-    /// C3, C4, C5, C1, C7; C9, for want of memory, may come before any but C6. A part that runs out
-    /// of memory in mid-step is down, and the entry says so.
+    /// Takes a step: its entry is appended to the history and returned. A step that is refused is
+    /// no entry, and changes nothing. Of several refusals the first is returned in the order C6,
+    /// C8, C2, C3, C4, C5, C1, C7; C9, for want of memory, may come before any but C6. A part that
+    /// runs out of memory in mid-step is down, and the entry says so.
     pub fn step(&mut self, alloc: Global, step: Step) -> Result<Taken, ClusterFault>
         ensures taken { IfOk result (λ taken. IsTaken self.old.story step taken self.new.story) }
         ensures given { IfOk result
@@ -173,7 +173,7 @@ impl<P: Post + Drop> Cluster<P> {
         let _ = &self.history;
     }
 
-    /// A post that hands out all that was put withholds nothing that the model would hand out.
+    /// A post that delivers all that was enqueued withholds nothing that the model would deliver.
     pub fn withholds_nothing(&self)
         ensures { (gives : ℕ → Bool) (step : Step)
             → ((n : ℕ) → 0 < n → n ≤ P.count (P.known self.now.post) → gives n ≡ true)
@@ -189,7 +189,7 @@ impl<P: Post + Drop> Cluster<P> {
         self.history.entries.as_slice()
     }
 
-    /// What the opening brought out: a Hello to every agent.
+    /// The outputs of the opening: a Hello to every agent.
     pub fn opened(&self) -> &Outputs
         ensures { result.now
             ≡ (open_cluster self.now.story.setup self.now.story.records).outputs }

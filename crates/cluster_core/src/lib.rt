@@ -1,6 +1,6 @@
 //! A cluster: one master and its agents under one history. Each entry of the history is a legal
-//! step of the model, whatever calls, deliveries, losses, repeats, reorderings and restarts it is
-//! given, and so the cluster is safe.
+//! step of the model, whatever calls, deliveries, losses, repeats, reorderings and restarts there
+//! are, and so the cluster is safe.
 #![tactic(auto)]
 
 mod advancing;

@@ -1,4 +1,4 @@
-//! The history of a cluster, and what a step gives.
+//! The history of a cluster, and what a step returns.
 
 use agent_core::Record;
 use cluster_entries::Outputs;
@@ -15,12 +15,12 @@ pub struct History {
     pub weights: Weights,
     /// The agents' records at the opening.
     pub records: Vec<Record>,
-    /// What the opening brought out.
+    /// The outputs of the opening.
     pub opened: Outputs,
     pub entries: Vec<KeptEntry>,
 }
 
-/// A step that was taken: its entry, which the history has too and which stands once.
+/// A step that was taken: its entry, which is one value that the history owns too.
 #[derive(Drop)]
 pub struct Taken {
     pub entry: KeptEntry,

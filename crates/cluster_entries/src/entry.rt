@@ -9,7 +9,7 @@ use plain_data::Plain;
 use scheduler_events::StreamEvent;
 use shared_value::Shared;
 
-/// What a step brought out.
+/// What a step output.
 #[derive(Clone, Drop, PartialEq)]
 pub struct Outputs {
     /// In the order made.
@@ -17,7 +17,7 @@ pub struct Outputs {
     pub closed: Listed<StreamId>,
     /// In the order of their numbers.
     pub sent: Listed<Sent>,
-    /// The event that a Take handed out.
+    /// The event that a Take returned.
     pub taken: Option<Shared<StreamEvent>>,
 }
 
@@ -43,7 +43,7 @@ impl Plain for Outputs {
         ))) };
 }
 
-/// A step of a history, with how it ended and what it brought out.
+/// A step of a history, with how it ended and what it output.
 #[derive(Clone, Drop, PartialEq)]
 pub struct Entry {
     pub step: Step,

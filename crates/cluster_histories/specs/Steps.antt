@@ -42,7 +42,7 @@ abbrev pub places : {A : Type 0} → ℕ → List A → List ℕ
 places i [] = []
 places i (x ∷ xs) = i ∷ places (suc i) xs
 
--- the mails behind those that a channel had before
+-- the mails after those that a channel had before
 abbrev pub new_to_agent : Channel → Channel → List MasterMail
 new_to_agent old new = drop (length old.to_agent) new.to_agent
 
@@ -183,7 +183,7 @@ effect_of first d =
 abbrev pub master_does : Cluster → Doing → Result Done ClusterFault
 master_does c d = does c (effect_of [] d)
 
--- what the master does at a mail, which its side hears first
+-- what the master does at a mail, which its side receives first
 abbrev pub master_hears : Cluster → Channel → ℕ → Option AgentMail → Result Done ClusterFault
 master_hears c x place None = Err NoSuchMail
 master_hears c x place (Some mail) =
@@ -228,8 +228,8 @@ loses_agent c x = master_does c (agent_lost (master_of c) x.side)
 abbrev pub hello_to : Channel → Happening
 hello_to x = At x.side.name (ByMaster SendHello)
 
--- a master that stops: all streams close, and a new one of the next run greets every agent;
--- behind the last run none comes
+-- a master that stops: all streams close, and a new one of the next run sends every agent a Hello;
+-- after the last run there is none
 abbrev pub master_stops : Cluster → Effect
 master_stops c =
     if nat_lt c.world.run.number last_run
@@ -276,7 +276,7 @@ abbrev pub stops : Cluster → AgentStep → Channel → Result Done ClusterFaul
 stops c stop x =
     does (up_again c x.side.name) (happening c Fine (At x.side.name (ByAgent stop) ∷ []))
 
--- what a step asks first
+-- what a step requires first
 
 abbrev pub with_master : Cluster → Result Done ClusterFault → Result Done ClusterFault
 with_master c answer = if c.world.run.serves then answer else Err MasterDown
@@ -387,7 +387,7 @@ fallen_answer c StopMaster =
     if nat_lt c.world.run.number last_run then Ok (new_master_falls c) else answer c StopMaster
 fallen_answer c (Take stream) = answer c (Take stream)
 
--- a step, with the mark of its entry: whether the part that it moves ran out of memory
+-- a step, with the mark of its entry: whether the part that it changes ran out of memory
 pub record Marked : Type 0 where
   pub fell : Bool
   pub step : Step
@@ -434,7 +434,7 @@ greets_all c = happening c Fine (map hello_to c.world.channels)
 abbrev pub open_cluster : Setup → List Durable → Done
 open_cluster setup records = let c = opened_over setup records in done c (greets_all c)
 
--- what the opening brought out; the entries behind it, the oldest first;
+-- the outputs of the opening; the entries after it, the oldest first;
 -- all that happened in the channels; and the state after them
 pub record History : Type 0 where
   pub opened : Outputs

@@ -1,5 +1,4 @@
--- What each post stands for: code keeps one list of all that was ever sent,
--- in the order of sending.
+-- The item of each post: code keeps one list of all that was ever sent, in the order of sending.
 use Rattle.std.specs.Prelude.{◌≡◌, ℕ, List, [], ◌∷◌, map, flat_map, slice_get, Option, Some, None, option_map, bytes_eq}
 use Rattle.std.specs.List.{find}
 use Rattle.mails.specs.declared.mail.MasterMail.{MasterMail}
@@ -37,13 +36,13 @@ abbrev pub up_item : List ℕ → ℕ → Option Channel → Option Item
 up_item agent place None = None
 up_item agent place (Some c) = option_map (to_master agent) (slice_get c.to_master place)
 
--- what a post stands for: a call is itself, a mail stands at its place of the channel of its agent
+-- the item of a post: a call is itself, a mail is that at its place in the channel of its agent
 abbrev pub item_of : List Channel → Post → Option Item
 item_of cs (Called stream call) = Some (items.Call stream call)
 item_of cs (Down agent place) = down_item agent place (channel_at agent cs)
 item_of cs (Up agent place) = up_item agent place (channel_at agent cs)
 
--- the items stand for the posts, one for one
+-- the items are those of the posts, one for one
 abbrev pub Stand : List Channel → List Post → List Item → Type 0
 Stand cs posts sent = map (item_of cs) posts ≡ map Some sent
 

@@ -1,4 +1,4 @@
--- What the code owes at each mail that it hands to a part.
+-- What the code owes at each mail that it passes to a part.
 use Rattle.std.specs.Prelude.{◌≡◌, ℕ, true, List, slice_get, Some}
 use Rattle.std.specs.List.{AllByRecursion as Each}
 use Rattle.stream_core.specs.Updates.{are_updates}

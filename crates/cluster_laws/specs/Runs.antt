@@ -28,7 +28,7 @@ IsPlain HaltAll = ⊥
 abbrev pub RefusesAlone : Master → Doing → Type 0
 RefusesAlone m d = (r : MasterRefusal) → d.refusal ≡ Some r → d ≡ refused m r
 
--- no stream opens, or the one with the number behind the last one
+-- no stream opens, or the one with the number after the last one
 abbrev pub OpensNext : Master → Doing → Type 0
 OpensNext m d =
     ((d.opens ≡ []) × (d.registers.last_stream ≡ m.registers.last_stream))
@@ -37,7 +37,7 @@ OpensNext m d =
 abbrev pub ids_of : List Stream → List Numbered
 ids_of streams = map (λ s. s.id) streams
 
--- each id stands before all behind it
+-- each id is before all that follow it
 abbrev pub AreRising : List Numbered → Type 0
 AreRising [] = ⊤
 AreRising (id ∷ ids) = Each (λ later. before id later ≡ true) ids × AreRising ids

@@ -20,8 +20,8 @@ ghost use Rattle.side_fits.specs.Fits.{MailFitsAt};
 
 use cluster_safe::mails_meet_their_premises;
 
-/// The agents keep their names and their order, and no name stands twice.
-/// Each agent's record has its name.
+/// The agents keep their names and their order, and no name occurs twice. Each agent's record has
+/// its name.
 pub fn agents_keep_their_names()
     ensures names { (setup : Setup) (records : List Durable) (steps : List Marked) →
         names_of (history setup records steps).state.world.channels ≡ map (λ d. d.name) records }
@@ -33,15 +33,15 @@ pub fn agents_keep_their_names()
         (history setup records steps).state.world.channels }
 {}
 
-/// The mails of the opening stand for its posts, one for one.
+/// The mails of the opening are the items of its posts, one for one.
 pub fn opening_items_stand()
     ensures { (setup : Setup) (records : List Durable) → GoodOpening setup.run records →
         StandIn (opening setup records).state
         (items_sent [] (open_cluster setup records).outputs.sent) }
 {}
 
-/// Where items stand for all posts, they stand so after each step,
-/// with the items that it sends behind them.
+/// Where items are those of all posts, they are so after each step, with the items that it sends
+/// appended.
 pub fn sent_items_stand()
     ensures { (setup : Setup) (records : List Durable) (steps : List Marked) (s : Marked)
         (d : Done) (sent : List Item) → GoodOpening setup.run records
@@ -64,9 +64,9 @@ pub fn items_are_posts()
         → slice_get sent n ≡ None → slice_get c.posts n ≡ None }
 {}
 
-/// Each mail of an agent that was ever sent tells an update of a number that a record has room for,
-/// where the records of the opening have updates as their type allows, and the tasks that it
-/// reports fit the total that it tells.
+/// Each update that an agent ever sent has a number that a record has room for, where the records
+/// of the opening have updates as their type allows, and the tasks of each Report that haven't
+/// ended fit its total.
 pub fn mails_of_agents_fit()
     ensures number { (setup : Setup) (records : List Durable) (steps : List Marked)
         (sent : List Item) (n : ℕ) (to : ToMaster) → AreRecorded records
@@ -82,8 +82,8 @@ pub fn mails_of_agents_fit()
     mails_meet_their_premises();
 }
 
-/// Each mail to an agent that was ever sent comes in order: a Hello tells a run above 0, and a
-/// Launch that is next has a key behind all those of the record of the agent that it is handed to.
+/// Each mail to an agent that was ever sent comes in order: a Hello names a run above 0, and a
+/// Launch that is next has a key after all those of the record of its agent.
 pub fn mails_to_agents_come_in_order()
     ensures { (setup : Setup) (records : List Durable) (steps : List Marked)
         (sent : List Item) (n : ℕ) (to : ToAgent) → GoodOpening setup.run records

@@ -1,5 +1,5 @@
-//! What the code of a cluster may rest on at each step: what its numbers stand for,
-//! and what each part owes to the others.
+//! What the code of a cluster may rest on at each step: what its numbers mean, and what each part
+//! owes to the others.
 #![tactic(auto)]
 
 mod item;

@@ -16,8 +16,8 @@ ghost use Rattle.mails.specs.declared.cause.Cause.{Cause};
 ghost use Rattle.mails.specs.declared.mail.MasterMail.{MasterMail};
 ghost use Rattle.mails.specs.declared.record.Durable.{Durable};
 
-/// Whatever the master does or hears, and where it falls or stops, each agent and its draft stay as
-/// they are; the opening has the agents as they come up over their records.
+/// Whatever the master does or receives, and where it falls or stops, each agent and its draft stay
+/// as they are; the opening has the agents as they come up over their records.
 pub fn masters_leave_agents()
     ensures does { (c : Cluster) (d : Doing)
         → parts_of (done c (effect_of [] d)).after.world.channels ≡ parts_of c.world.channels }

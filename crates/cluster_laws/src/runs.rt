@@ -32,7 +32,7 @@ pub fn masters_stay_in_their_run()
         (mailed (master_of c) s mail))).after.world.run }
 {}
 
-/// A master opens no stream in a step, or the one with the number behind the last one.
+/// A master opens no stream in a step, or the one with the number after the last one.
 pub fn masters_open_next_streams()
     ensures calls { (m : Master) (stream : Option Numbered) (call : Call)
         → OpensNext m (called m stream call) }
@@ -56,8 +56,8 @@ pub fn weights_stay()
         (history setup records steps).state.weights ≡ setup.weights }
 {}
 
-/// The ids of the streams that were ever opened rise, by run and then by number,
-/// so that none stands twice.
+/// The ids of the streams that were ever opened rise, by run and then by number, so that none
+/// occurs twice.
 pub fn streams_rise()
     ensures { (setup : Setup) (records : List Durable) (steps : List Marked) →
         AreRising (ids_of (history setup records steps).state.streams) }

@@ -39,8 +39,8 @@ pub fn fresh_masters_open()
         → master_in (fresh setup.run agents) ≡ master_of (opened_over setup records) }
 {}
 
-/// What a master refuses, but for a mail, it refuses alone: nothing moves, nothing is told,
-/// and no stream opens or closes.
+/// What a master refuses, but for a mail, it refuses alone: nothing moves, no event is sent, and no
+/// stream opens or closes.
 pub fn refusals_stand_alone()
     ensures calls { (m : Master) (stream : Option Numbered) (call : Call)
         → RefusesAlone m (called m stream call) }

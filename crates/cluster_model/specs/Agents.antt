@@ -126,7 +126,7 @@ reopened a session run =
 abbrev pub reports : Agent → Draft
 reports a = record { after = a; mails = report_of a ∷ fronts a }
 
--- the session behind the last one is opened, with a run
+-- the session after the last one is opened, with a run
 abbrev pub opens_next : Agent → ℕ → ℕ → Result Draft AgentRefusal
 opens_next a last run =
     if nat_le last_number last then Err SessionsSpent else Ok (reports (reopened a (suc last) run))
@@ -167,8 +167,8 @@ tasks_after (EndFramework framework) ts = filter (λ t. not (same t.job.framewor
 abbrev pub is_front_at : Numbered → ℕ → List RecordedTask → Bool
 is_front_at key k ts = list_any (λ t. is_task key t && updates.is_front k t.updates) ts
 
--- the updates that go out with a command, which was applied to one agent and left the other:
--- the next front of a task goes out where its front was just acknowledged
+-- the updates that are sent with a command, which was applied to one agent and left the other: the
+-- next front of a task is sent where its front was just acknowledged
 abbrev pub fronts_after : Command → Agent → Agent → List AgentMail
 fronts_after (Launch job offers) before after = []
 fronts_after (Kill key) before after = front_at key after
@@ -222,7 +222,8 @@ hears_hello a run dead =
     then opens_next a (max a.durable.session dead) run
     else Ok (reports a))
 
--- a command: of the open session only; one that is applied is told again; the next one is applied
+-- a command: of the open session only; one that is applied is reported again; the next one is
+-- applied
 abbrev pub hears_command : Agent → ℕ → ℕ → Command → Result Draft AgentRefusal
 hears_command a session number command =
     if not (a.in_session && session == a.durable.session) then Err OldSession
@@ -239,8 +240,8 @@ hears_mail a (Issued session number command) = hears_command a session number co
 abbrev pub needs_place : TaskState → Bool
 needs_place state = not (is_terminal state)
 
--- a state told by an executor: of a task of the record that hasn't ended;
--- one that isn't terminal only where a place is left
+-- a state reported by an executor: of a task of the record that hasn't ended; one that isn't
+-- terminal only where a place is left
 abbrev pub executes : Agent → Numbered → TaskState → Result Draft AgentRefusal
 executes a key state =
     if not (list_any (is_task key) a.durable.tasks) then Err NoSuchTask
@@ -250,7 +251,7 @@ executes a key state =
     else (let after = with_tasks a (map (stated key state) a.durable.tasks) a.applied in
     Ok (record { after = after; mails = if a.in_session then front_at key after else [] }))))
 
--- the session behind the last one is opened with the master of the record's run
+-- the session after the last one is opened with the master of the record's run
 abbrev pub opens_again : Agent → Result Draft AgentRefusal
 opens_again a = opens_next a a.durable.session a.durable.run
 

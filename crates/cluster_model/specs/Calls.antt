@@ -53,7 +53,7 @@ subscribed m r id role known = record {
   registers = record (with_framework r (subscriber m id role)) { last_stream = suc r.last_stream };
 }
 
--- without id: the next one is given out
+-- without id: the next one is assigned
 abbrev pub on_subscribe : Master → List ℕ → Doing
 on_subscribe m role =
     if nat_le frameworks_limit (length m.registers.frameworks)
@@ -80,7 +80,7 @@ resubscribed m id role None =
     else subscribed m m.registers id role None
 resubscribed m id role (Some f) = subscribed m m.registers id role (Some f)
 
--- an id that this run can't have given out
+-- an id of a later run, or of this one and not yet assigned
 abbrev pub is_unheard_of : Master → Numbered → Bool
 is_unheard_of m id =
     nat_lt m.run.number id.run || (id.run == m.run.number && nat_lt m.registers.last_framework id.n)
@@ -129,7 +129,7 @@ answers_held f p = answers f p.booked.job.name p.booked.state (Some p.agent)
 abbrev pub tasks_limit : ℕ
 tasks_limit = 65536
 
--- what good offers give: their agent, and the sum of the offers
+-- good offers: their agent, and their sum
 pub record Given : Type 0 where
   pub agent : List ℕ
   pub budget : List Row
@@ -271,7 +271,7 @@ on_kill m task agent f (Some p) =
     if p.booked.ended then saying m (answers_held f p)
     else commanding m (side_of m p.agent) (AtSide p.agent (SendKill p.booked.job.key))
 
--- the update last heard of the framework's task of this name and key on this agent
+-- the update last received of the framework's task of this name and key on this agent
 abbrev pub is_last_heard : Framework → List ℕ → List ℕ → Numbered → ℕ → Placed → Bool
 is_last_heard f agent task key k p =
     same p.booked.job.key key && is_task_of f.id task p && bytes_eq p.agent agent
@@ -309,7 +309,7 @@ on_reconcile m (asked ∷ more) f = saying m (flat_map (reconciles m f) (asked �
 
 -- all calls
 
--- the given stream is the open one
+-- the stream of a call is the open one
 abbrev pub is_stream : Numbered → Option Numbered → Bool
 is_stream open_one None = false
 is_stream open_one (Some stream) = same stream open_one

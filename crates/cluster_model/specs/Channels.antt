@@ -74,7 +74,7 @@ agent_step c StopWith = stopped_with c c.draft
 
 pub data ChannelStep : Type 0 where
   ByMaster : (step : SideStep) → ChannelStep
-  Hear : (place : ℕ) → ChannelStep  -- the master hears a mail that the agent sent
+  Hear : (place : ℕ) → ChannelStep  -- the master receives a mail that the agent sent
   ByAgent : (step : AgentStep) → ChannelStep
 
 abbrev pub heard_mail : Run → Channel → Option AgentMail → Channel

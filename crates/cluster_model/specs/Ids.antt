@@ -14,12 +14,12 @@ following a = record { run = a.run; n = suc a.n }
 abbrev pub is_among : List Numbered → Numbered → Bool
 is_among ids id = list_any (λ other. same other id) ids
 
--- the ids, each once, where it stands first
+-- the ids, each once, at its first place
 abbrev pub each_once : List Numbered → List Numbered
 each_once [] = []
 each_once (id ∷ ids) = id ∷ filter (λ other. not (same id other)) (each_once ids)
 
--- some id stands twice
+-- some id is listed twice
 abbrev pub is_repeated : List Numbered → Bool
 is_repeated [] = false
 is_repeated (id ∷ ids) = is_among ids id || is_repeated ids

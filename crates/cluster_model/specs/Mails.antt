@@ -70,7 +70,7 @@ session_opens m s tasks = record {
   registers = without_filters_on s.name m.registers;
 }
 
--- an update of a booked task that isn't older than what was heard goes to its framework
+-- an update of a booked task that isn't older than the last one received goes to its framework
 abbrev pub news_of : Master → List ℕ → Numbered → ℕ → TaskState → Booked → List StreamEvent
 news_of m agent key k state b =
     if same b.job.key key && nat_le b.heard (suc k)
@@ -91,11 +91,11 @@ mailed_as m s mail (Some OtherRun) = refused m OtherRun
 mailed_as m s mail (Some refusal) =
     record (refused m refusal) { moves = AtSide s.name SendHello ∷ [] }
 
--- what goes with a mail of this side's agent, beside what the side hears
+-- what goes with a mail of this side's agent, beside what the mail does to the side
 abbrev pub mailed : Master → Side → AgentMail → Doing
 mailed m s mail = mailed_as m s mail (judged m.run s mail)
 
--- the master, once the side of an agent has heard a mail
+-- the master's sides, once the side of an agent has received a mail
 abbrev pub hear_at : List ℕ → Run → AgentMail → List Side → List Side
 hear_at agent run mail [] = []
 hear_at agent run mail (s ∷ ss) =

@@ -19,7 +19,7 @@ use Rattle.cluster_model.specs.Events.{Event, StreamEvent}
 pub record Registers : Type 0 where
   pub now : ℕ  -- the moment of its last Tick
   pub frameworks : List Framework  -- by id
-  pub last_framework : ℕ  -- how many ids were given out in this run
+  pub last_framework : ℕ  -- how many ids were assigned in this run
   pub last_stream : ℕ
 
 pub record Master : Type 0 where

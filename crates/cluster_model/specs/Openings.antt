@@ -21,12 +21,12 @@ recorded_jobs records = flat_map (λ d. map (λ t. t.job) d.tasks) records
 abbrev pub recorded_offers : List Durable → List Numbered
 recorded_offers records = flat_map (λ d. flat_map (λ t. t.offers) d.tasks) records
 
--- no launch key stands twice
+-- no launch key occurs twice
 abbrev pub KeysOnce : List Job → Type 0
 KeysOnce [] = ⊤
 KeysOnce (j ∷ js) = Each (λ i. i.key ≢ j.key) js × KeysOnce js
 
--- no name stands twice
+-- no name occurs twice
 abbrev pub NamesOnce : List (List ℕ) → Type 0
 NamesOnce [] = ⊤
 NamesOnce (n ∷ ns) = Each (λ m. m ≢ n) ns × NamesOnce ns

@@ -40,7 +40,7 @@ allocated_on framework s =
 abbrev pub allocation_of : Master → Numbered → List Row
 allocation_of m framework = flat_map (allocated_on framework) m.sides
 
--- what the offers of this round give a framework
+-- the rows of this round's offers to a framework
 abbrev pub given_to : Numbered → List MadeOffer → List Row
 given_to framework made =
     flat_map (λ g. if same g.offer.framework framework then g.offer.resources else []) made
@@ -75,7 +75,7 @@ role_share weights cs made role = share (role_rows cs made role) (weight_of weig
 
 -- the least client
 
--- by two shares, and by the tie where they stand alike
+-- by two shares, and by the tie where they compare alike
 abbrev pub stands_first : List Row → Share → Share → Bool → Bool
 stands_first totals a b tie =
     stands_at_most_at totals a b && (tie || not (stands_at_most_at totals b a))
@@ -180,7 +180,7 @@ offers_of made f = tells_offers f (filter (λ g. same g.offer.framework f.id) ma
 abbrev pub making : List RoleWeight → Master → List Move
 making weights m = map (λ g. AtSide g.agent (MakeOffer g.offer)) (round weights m)
 
--- the events tell the offers that are then current and weren't before
+-- the events have the offers that are then current and weren't before
 abbrev pub allocated : List RoleWeight → Master → Doing
 allocated weights m = record {
   refusal = None;

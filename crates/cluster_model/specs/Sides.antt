@@ -30,7 +30,7 @@ pub record Run : Type 0 where
 -- what the master has of one agent
 pub record Side : Type 0 where
   pub name : List ℕ
-  pub total : List Row  -- owned, as the Report of the open session told it; else nothing
+  pub total : List Row  -- owned, by the Report that opened the session; else nothing
   pub is_open : Bool  -- a session is open
   pub session : ℕ  -- the open one
   pub closed : ℕ  -- the greatest that this run has closed, 0 if none
@@ -96,7 +96,7 @@ pub record Sending : Type 0 where
 abbrev pub sends_nothing : Run → Side → Sending
 sends_nothing run s = record { run = run; side = s; sent = [] }
 
--- a command is issued in the open session, with the number behind the last one
+-- a command is issued in the open session, with the number after the last one
 abbrev pub issue : Sending → Command → Sending
 issue x command =
     if x.side.is_open
@@ -200,8 +200,8 @@ withdrawn s ids = record s { offers = filter (λ o. not (is_among ids o.id)) s.o
 
 -- the agent's mails
 
--- an update that is told: the mark of an end stays for good;
--- count and state follow where it isn't older than what was heard
+-- an update that is received: the mark of an end stays for good; count and state follow where it
+-- isn't older than the last one received
 abbrev pub heard_update : Numbered → ℕ → TaskState → Bool → Booked → Booked
 heard_update key k state ended b =
     if same b.job.key key
@@ -233,8 +233,8 @@ last_session s = if s.is_open then s.session else s.closed
 abbrev pub opens : Run → Side → ℕ → ℕ → Bool
 opens run s session number = run.serves && number == run.number && nat_lt (last_session s) session
 
--- the old session is closed, the offers are gone, the books are the reported tasks,
--- and the agent owns the reported total
+-- the old session is closed, the offers are removed, the books are the reported tasks, and the
+-- agent owns the reported total
 abbrev pub opened : Side → ℕ → List Booked → List Row → Side
 opened s session tasks total =
     record s {
@@ -248,7 +248,7 @@ opened s session tasks total =
       booked = tasks;
     }
 
--- a count of applied commands tells something new
+-- a count of commands of the open session: above what is known, at most what was issued
 abbrev pub counts : Side → ℕ → ℕ → Bool
 counts s session count =
     (s.is_open && session == s.session)

@@ -8,28 +8,28 @@ use Rattle.agent_sides.specs.declared.config.ConfiguredAgent.{ConfiguredAgent}
 use Rattle.mails.specs.declared.record.Durable.{Durable}
 use Rattle.mails.specs.declared.record.RecordedTask.{RecordedTask}
 
--- every run in a task lies before this one
+-- every run in a task is before this one
 abbrev pub is_task_before : ℕ → RecordedTask → Bool
 is_task_before run t =
     nat_lt t.job.key.run run && nat_lt t.job.framework.run run
     && list_all (λ id. nat_lt id.run run) t.offers
 
--- every run in a record lies before this one
+-- every run in a record is before this one
 abbrev pub is_before : ℕ → Durable → Bool
 is_before run d = nat_lt d.run run && list_all (is_task_before run) d.tasks
 
 abbrev pub has_key : Numbered → List RecordedTask → Bool
 has_key key tasks = list_any (λ t. same t.job.key key) tasks
 
--- a key stands in both
+-- a key is in both
 abbrev pub share_key : List RecordedTask → List RecordedTask → Bool
 share_key ts others = list_any (λ t. has_key t.job.key others) ts
 
--- no key of these tasks stands in the records behind them
+-- no key of these tasks is in the records after them
 abbrev pub are_keys_new : List RecordedTask → List Durable → Bool
 are_keys_new ts behind = list_all (λ d. not (share_key ts d.tasks)) behind
 
--- no key stands in two records
+-- no key is in two records
 abbrev pub are_keys_apart : List Durable → Bool
 are_keys_apart [] = true
 are_keys_apart (d ∷ ds) = are_keys_new d.tasks ds && are_keys_apart ds
@@ -48,6 +48,6 @@ are_records_of [] (d ∷ ds) = false
 are_records_of (a ∷ as_) [] = false
 are_records_of (a ∷ as_) (d ∷ ds) = is_record_of a d && are_records_of as_ ds
 
--- what is asked of records beside that they are those of the configured agents
+-- what is required of records beside that they are those of the configured agents
 abbrev pub are_good : ℕ → List Durable → Bool
 are_good run records = are_keys_apart records && list_all (is_before run) records

@@ -18,7 +18,7 @@ pub record AreRecordsOf (agents : List ConfiguredAgent) (records : List Durable)
   pub only : (d : Durable) → Contains records d → (a : ConfiguredAgent) × Contains agents a
       × IsRecordOf a d
 
--- the records stand in the order of their agents: one for each, and no other
+-- the records are in the order of their agents: one for each, and no other
 abbrev pub StandInOrder : List ConfiguredAgent → List Durable → Type 0
 StandInOrder [] [] = ⊤
 StandInOrder [] (d ∷ ds) = ⊥

@@ -1,4 +1,4 @@
-//! Whether launch keys stand in one record alone.
+//! Whether each launch key is in one record alone.
 
 ghost use Rattle.std.specs.Prelude.{◌≡◌, true};
 ghost use Rattle.agent_core.specs.Records.{keys_rise};
@@ -39,7 +39,7 @@ fn share_key(one: &[Shared<RecordedTask>], other: &[Shared<RecordedTask>]) -> bo
     false
 }
 
-/// Whether no launch key of a record stands in those behind it.
+/// Whether no launch key of a record is in those after it.
 fn are_keys_new(durable: &Record, behind: &[Record]) -> bool
     ensures { result ≡ are_keys_new durable.now.tasks behind.now }
 {
@@ -52,7 +52,7 @@ fn are_keys_new(durable: &Record, behind: &[Record]) -> bool
     true
 }
 
-/// Whether no launch key stands in two records. It goes over each record once for each other one.
+/// Whether no launch key is in two records. It visits each record once for each other one.
 pub fn are_keys_apart(records: &[Record]) -> bool
     ensures { result ≡ are_keys_apart records.now }
 {

@@ -60,7 +60,7 @@ fn are_tasks_before(tasks: &[Shared<RecordedTask>], run: u16) -> bool
     tasks.iter().all(|task| is_task_before(task, run))
 }
 
-/// Whether every run in a record lies before this one.
+/// Whether every run in a record is before this one.
 fn is_before(durable: &Record, run: u16) -> bool
     ensures { result ≡ is_before run durable.now }
 {
@@ -110,7 +110,7 @@ fn openings_are_decided()
         → are_good run records ≡ true }
 {}
 
-/// Whether a cluster of these agents may be opened over records that stand in their order.
+/// Whether a cluster of these agents may be opened over records that are in their order.
 fn is_good_in_order(config: &Config, records: &[Record], run: Run) -> bool
     ensures { IsTrue result ↔ (GoodOpening run records.now × StandInOrder config.now records.now) }
 {
@@ -121,9 +121,9 @@ fn is_good_in_order(config: &Config, records: &[Record], run: Run) -> bool
         && are_all_before(records, run.number())
 }
 
-/// Sorts records by the names of their agents, and tells whether a cluster of these agents may be
+/// Sorts records by the names of their agents, and returns whether a cluster of these agents may be
 /// opened over them in this run: there is one record for each agent and no other, which the agent's
-/// total covers, no launch key stands twice, and every run in them lies before this one. (That each
+/// total covers, no launch key is in two, and every run in them is before this one. (That each
 /// record's live tasks fit its total holds of every `Record`.)
 pub fn good_opening(config: &Config, records: &mut [Record], run: Run) -> bool
     ensures test { IsTrue result

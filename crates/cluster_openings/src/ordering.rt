@@ -22,7 +22,7 @@ pub(crate) fn sort_by_name(records: &mut [Record])
         .cmp(second.parts().name.as_text()));
 }
 
-/// Puts records that are a good opening in this run in the order of the configured agents.
+/// Sorts records that are a good opening in this run in the order of the configured agents.
 pub fn put_in_order(config: &Config, mut records: Vec<Record>, _run: Run) -> Vec<Record>
     requires good { GoodOpening _run records.items }
     requires records { AreRecordsOf config.now records.items }

@@ -66,7 +66,7 @@ abbrev pub UsedOnce : List Moment → Type 0
 UsedOnce [] = ⊤
 UsedOnce (m ∷ older) = ((o : Offer) → Uses m o → Each (UsesNone o.id) older) × UsedOnce older
 
--- no id stands twice
+-- no id occurs twice
 abbrev pub OffersOnce : List Offer → Type 0
 OffersOnce [] = ⊤
 OffersOnce (o ∷ os) = Each (λ p. p.id ≢ o.id) os × OffersOnce os
@@ -98,7 +98,7 @@ pub record IsOffered (m : Moment) (g : MadeOffer) : Type 0 where
   pub step : m.step.step ≡ Allocate
   pub told : IsTold m.before.registers.frameworks m.did.outputs.events g
 
--- one of these entries made the offer on this agent, and told it to its framework
+-- one of these entries made the offer on this agent, and sent it to its framework
 abbrev pub WasOffered : List Moment → List ℕ → Offer → Type 0
 WasOffered [] agent o = ⊥
 WasOffered (m ∷ older) agent o =
@@ -149,7 +149,7 @@ IsLaunched ms agent j =
     (newer : List Moment) × (m : Moment) × (older : List Moment) ×
     (ms ≡ newer ++ m ∷ older) × Launches newer m older agent j
 
--- the task was launched on this agent by exactly one entry, or stood in its record at the opening
+-- the task was launched on this agent by exactly one entry, or was in its record at the opening
 abbrev pub IsLaunchedOrRecorded : List Durable → List Moment → List ℕ → Job → Type 0
 IsLaunchedOrRecorded records ms agent j =
     IsLaunched ms agent j ⊎ IsOneOf j (recorded_on agent records)

@@ -30,7 +30,7 @@ Traced (m ∷ older) marks =
 
 -- the entry launched the job on this agent: it delivered an ACCEPT of the job's framework, out of
 -- whose offers the job was launched, and each of these was made on the agent by an older entry,
--- which told it to that framework
+-- which sent it to that framework
 pub record LaunchedBy (m : Moment) (older : List Moment) (agent : List ℕ) (j : Job) : Type 0 where
   pub used : Use
   pub here : used.agent ≡ agent
@@ -44,7 +44,7 @@ abbrev pub WasLaunched : List Moment → List ℕ → Job → Type 0
 WasLaunched [] agent j = ⊥
 WasLaunched (m ∷ older) agent j = LaunchedBy m older agent j ⊎ WasLaunched older agent j
 
--- each task of a record was launched on its agent by an entry, or stood there at the opening
+-- each task of a record was launched on its agent by an entry, or was there at the opening
 abbrev pub HaveSources : List Durable → World → List Moment → Type 0
 HaveSources records w ms =
     Each (λ (c : Channel). Each (λ t. WasLaunched ms c.side.name t.job

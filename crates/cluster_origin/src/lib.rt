@@ -26,7 +26,7 @@ pub fn each_task_has_its_origin()
         (moments setup records steps) }
 {}
 
-/// Each offer that was ever made stands in an OFFERS event of the entry that made it, on its
+/// Each offer that was ever made is in an OFFERS event of the entry that made it, on its
 /// framework's stream; and each use of offers is the delivery of an ACCEPT of their framework,
 /// which names them, lists what is launched, and is taken while they are current.
 pub fn marks_come_from_entries()
@@ -34,8 +34,8 @@ pub fn marks_come_from_entries()
         → Traced (moments setup records steps) (trail_after setup records steps) }
 {}
 
-/// Each task was launched by an entry that delivered an ACCEPT of its framework,
-/// out of offers that older entries told that framework, or stood in a record at the opening.
+/// Each task was launched by an entry that delivered an ACCEPT of its framework, out of offers that
+/// older entries sent to that framework, or was in a record at the opening.
 pub fn tasks_come_from_accepts()
     ensures { (setup : Setup) (records : List Durable) (steps : List Marked)
         → GoodOpening setup.run records

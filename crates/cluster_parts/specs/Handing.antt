@@ -1,4 +1,4 @@
--- Why no cause is handed to an agent.
+-- Why an agent receives no cause.
 use Rattle.std.specs.Prelude.{◌≡◌, ◌⊎◌, ℕ, Bool, true, List, Err}
 use Rattle.cluster_laws.specs.declared.item.Item.{Item}
 use Rattle.cluster_steps.specs.declared.fault.ClusterFault.{ClusterFault}

@@ -1,5 +1,5 @@
 -- What is delivered to the master,
--- and how it ends where the master refuses a mail that it has heard.
+-- and how it ends where the master refuses a mail that it received.
 use Rattle.std.specs.Prelude.{◌≡◌, ℕ, List, Option, Some, None, Result, Ok, Err, ⊤}
 use Rattle.mails.specs.declared.mail.ToMaster.{ToMaster}
 use Rattle.mails.specs.declared.refusal.MasterRefusal.{MasterRefusal}
@@ -42,7 +42,7 @@ IsForMaster (Err TimeBack) sent = ⊥
 IsForMaster (Err NoSuchAgent) sent = ⊥
 IsForMaster (Err OutOfMemory) sent = ⊤
 
--- in a state that is reached, and for which these stand, a mail to the master has this number
+-- in a state that is reached, and which these represent, a mail to the master has this number
 pub record HasMail (c : Cluster) (number : ℕ) (to : ToMaster) (master : Option (Option Master))
     (items_sent : List Item) (streams : List KeptStream) : Type 0 where
   pub reached : Reached c
@@ -56,12 +56,12 @@ refusing refusal (verdicts.MasterRefused other) = verdicts.MasterRefused other
 refusing refusal (verdicts.AgentRefused other) = verdicts.AgentRefused other
 refusing refusal verdicts.OutOfMemory = verdicts.OutOfMemory
 
--- why the master refused the mail that it heard, if it did
+-- why the master refused the mail that it received, if it did
 abbrev pub with_refusal : Option MasterRefusal → Made → Made
 with_refusal None made = made
 with_refusal (Some refusal) made = record made { verdict = refusing refusal made.verdict }
 
--- what becomes of what a mail brought out, refused or not
+-- what becomes of the outputs of a mail, refused or not
 abbrev pub SettlesHeard : Result HeardMail MasterFault → Made → Option (Option Master)
     → Option (Option Master) → List Item → List Item → List KeptStream → List KeptStream → Type 0
 SettlesHeard (Ok heard) made m n is js ss ts =

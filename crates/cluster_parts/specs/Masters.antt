@@ -1,4 +1,4 @@
--- What stands for the master's part of a state: the master, all that was sent, and the streams.
+-- What represents the master's part of a state: the master, all that was sent, and the streams.
 use Rattle.std.specs.Prelude.{◌≡◌, ◌⊎◌, ◌++◌, ℕ, if◌then◌else◌, List, [], map, Option, Some, None, Result, Ok, Err}
 use Rattle.scheduler_events.specs.declared.event.Event.{Event}
 use Rattle.names_core.specs.Ids.{Numbered}
@@ -38,7 +38,7 @@ pub record StandsFor (c : Cluster) (master : Option (Option Master)) (items_sent
   pub as_streams : streams ≡ kept_streams c.streams
   pub within : AreWithin c.streams
 
--- a step of the master was made: what it answers, and what then stands for the master's part;
+-- a step of the master was made: what it answers, and what then represents the master's part;
 -- the agents are as they were
 pub record MasterMakes (c : Cluster) (step : Step) (moment : ℕ) (made : Made)
     (master : Option (Option Master)) (items_sent : List Item)
@@ -61,7 +61,7 @@ pub record Does (c : Cluster) (step : Step) (moment : ℕ) (d : Doing) : Type 0 
   pub keeps : KeepsRun c d
   pub alone : RefusesAlone (master_of c) d
 
--- what the master brought out, as an entry tells it
+-- the master's outputs, as they are written in an entry
 
 abbrev pub sent_to : ToAgent → Sent
 sent_to to = sent.ToAgent to
@@ -81,7 +81,7 @@ told_by outs =
 abbrev pub tells : Outs → Made
 tells outs = record { verdict = verdicts.Ok; outputs = told_by outs; durable = None }
 
--- the master has fallen, and nothing else changed
+-- the master is down, and nothing else changed
 pub record Falls (made : Made) (master : Option (Option Master)) (old_items new_items : List Item)
     (old_streams new_streams : List KeptStream) : Type 0 where
   pub is : made ≡ ends_with verdicts.OutOfMemory

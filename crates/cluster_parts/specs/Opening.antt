@@ -24,7 +24,7 @@ up_over d = record { part = recovered_part d; is_down = false }
 abbrev pub new_master : ℕ → List ConfiguredAgent → Master
 new_master run agents = master_of (fresh run agents)
 
--- a new master stands in its place and greets every agent; or memory was refused
+-- a new master serves and sends every agent a Hello; or memory was refused
 abbrev pub Starts : Result Outs MasterFault → Option (Option Master) → ℕ → List ConfiguredAgent
     → Type 0
 Starts (Ok outs) master run agents =
@@ -33,7 +33,7 @@ Starts (Ok outs) master run agents =
 Starts (Err fault.OutOfMemory) master run agents = ⊤
 Starts (Err (fault.Refused refusal)) master run agents = ⊥
 
--- what stands for the opening, and what it brings out
+-- what represents the opening, and what it outputs
 pub record Opens {T : Type 0} (setup : Setup) (records : List Durable) (opened : Opened T) : Type 0 where
   pub agents : opened.agents.items ≡ kept_agents (opening setup records).state
   pub stands : StandsFor (opening setup records).state opened.served.master opened.served.items

@@ -18,14 +18,14 @@ use Rattle.cluster_agents.specs.Moves.{Reached, Refuses, kept_agents}
 use Rattle.cluster_agents.specs.declared.outcomes.Made.{Made}
 use Rattle.cluster_parts.specs.declared.parts.Parts.{Parts}
 
--- the parts stand for a state
+-- the parts represent a state
 pub record Stands {T : Type 0} (c : Cluster) (p : Parts T) : Type 0 where
   pub as_agents : p.agents.items ≡ kept_agents c
   pub as_others : StandsFor c p.served.master p.served.items p.served.streams
   pub as_moment : c.last_tick ≡ p.last_tick
   pub as_run : c.world.run.number ≡ p.run
 
--- they stand for a state that is reached, with the agents of the opening's records
+-- they represent a state that is reached, with the agents of the opening's records
 pub record PartsOf {T : Type 0} (c : Cluster) (p : Parts T) : Type 0 where
   pub reached : Reached c
   pub config : AreAgentsOf p.config reached.records
@@ -53,7 +53,7 @@ abbrev pub record_of : Step → Verdict → List KeptAgent → Option Durable
 record_of (Prepare agent cause) verdict agents = record_prepared verdict agent agents
 record_of step verdict agents = None
 
--- a step was made: what it answers, and the parts that then stand for the state
+-- a step was made: what it answers, and the parts that then represent the state
 pub record Takes {T : Type 0} (c : Cluster) (step : Step) (made : Made) (p : Parts T) : Type 0 where
   pub done : Done
   pub answers : (if fell made.verdict then fallen_answer c step else answer c step) ≡ Ok done
@@ -62,7 +62,7 @@ pub record Takes {T : Type 0} (c : Cluster) (step : Step) (made : Made) (p : Par
   pub drafts : made.durable ≡ record_of step made.verdict p.agents.items
   pub stands : Stands done.after p
 
--- each state that parts stand for takes the step so
+-- each state that parts represent takes the step so
 abbrev pub AllTake : {T : Type 0} → Parts T → Step → Parts T → Made → Type 0
 AllTake old step new made = (c : Cluster) → PartsOf c old → Takes c step made new
 
@@ -76,10 +76,10 @@ AllTakeBy weights old step new made =
 abbrev pub AgentsRefuse : List KeptAgent → Step → ClusterFault → Type 0
 AgentsRefuse agents step fault = (c : Cluster) → agents ≡ kept_agents c → Refuses c step fault
 
--- each state that parts stand for refuses the step so, or memory was refused
+-- each state that parts represent refuses the step so, or memory was refused
 abbrev pub AllRefuse : {T : Type 0} → Parts T → Step → ClusterFault → Type 0
 AllRefuse p step fault = (c : Cluster) → PartsOf c p → Refuses c step fault
 
--- or what the step hands out is withheld
+-- or what the step delivers is withheld
 abbrev pub AllMayRefuse : {T : Type 0} → (ℕ → Bool) → Parts T → Step → ClusterFault → Type 0
 AllMayRefuse gives p step fault = (c : Cluster) → PartsOf c p → MayRefuse c gives step fault

@@ -12,11 +12,11 @@ use Rattle.told_streams.specs.declared.kept.KeptStream.{KeptStream}
 use Rattle.cluster_parts.specs.Masters.{StandsFor}
 use Rattle.cluster_agents.specs.declared.outcomes.Made.{Made}
 
--- the run behind this one; none behind the last one
+-- the run after this one; none after the last one
 abbrev pub run_behind : ℕ → Option ℕ
 run_behind run = if nat_lt run last_run then Some (1 + run) else None
 
--- the master was stopped: how it ends, and what then stands for the master's part in this run;
+-- the master was stopped: how it ends, and what then represents the master's part in this run;
 -- the agents are as they were
 pub record Restarts (c : Cluster) (made : Made) (run : ℕ) (master : Option (Option Master))
     (sent : List Item) (streams : List KeptStream) : Type 0 where

@@ -1,4 +1,4 @@
-//! What was sent to the master comes to it.
+//! What was sent to the master is delivered to it.
 
 ghost use Rattle.std.specs.Prelude.{◌≡◌, ◌+◌, ◌++◌, true, length, is_some, Some, Err, IfOk, IfErr, IfSome, OnErr, List, Option, Result, ℕ};
 ghost use Rattle.cluster_agents.specs.Causes.{item_at};
@@ -48,7 +48,7 @@ enum ForMaster {
     Mail(ToMaster),
 }
 
-/// A mail of an agent that was sent is one that the master may hear,
+/// A mail of an agent that was sent is one that the master may receive,
 /// and what it makes of it is the step's.
 fn mails_are_heard()
     ensures made { (c : Cluster) (number : ℕ) (to : SentMail) (before after : Option ModelMaster)
@@ -110,7 +110,7 @@ fn with_refusal(mut made: Made, refusal: Option<MasterRefusal>) -> Made
 }
 
 impl<P: Post> Served<P> {
-    /// Keeps and tells what a mail brought out, which it may have done though it was refused.
+    /// Stores the outputs of a mail, which it may have had though it was refused, and returns them.
     fn settle_heard(&mut self, alloc: Global, heard: Result<HeardMail, MasterFault>) -> Made
         requires { IfOk heard
             (λ heard. AreRising (kept_ids self.old.streams ++ heard.outs.opened)) }
@@ -131,7 +131,7 @@ impl<P: Post> Served<P> {
 }
 
 impl<P: Post> Parts<P> {
-    /// A mail of an agent that was sent under a number comes to the master.
+    /// A mail of an agent that was sent under a number is delivered to the master.
     fn deliver_mail(
         &mut self,
         alloc: Global,
@@ -157,9 +157,9 @@ impl<P: Post> Parts<P> {
         Ok(self.served.settle_heard(alloc, heard))
     }
 
-    /// A call or a mail that was sent under a number, from 1, comes to the master. It is refused
-    /// with `C2 MasterDown` where no master serves, with `C1 NoSuchMail` where the post can't hand
-    /// the number out, nothing was sent under it or it is a mail to an agent, and with
+    /// A call or a mail that was sent under a number, from 1, is delivered to the master. It is
+    /// refused with `C2 MasterDown` where no master serves, with `C1 NoSuchMail` where the post
+    /// can't deliver the number, nothing was sent under it or it is a mail to an agent, and with
     /// `C9 OutOfMemory`. A master that runs out of memory in the step is down.
     pub(crate) fn deliver(&mut self, alloc: Global, number: u64) -> Result<Made, ClusterFault>
         requires { AreParts self.old }

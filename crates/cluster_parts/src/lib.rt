@@ -1,6 +1,6 @@
 //! The parts of a cluster: its agents, and its master with all that was sent, the streams and the
-//! post; and each step that moves them, a method of `Parts`. At each state that the parts stand for
-//! a step is the model's, or it is refused and they stay as they were.
+//! post; and each step that changes them, a method of `Parts`. At each state that the parts
+//! represent a step is the model's, or it is refused and they don't change.
 #![tactic(auto)]
 
 mod commits;

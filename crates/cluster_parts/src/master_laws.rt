@@ -24,7 +24,7 @@ use cluster_safe::masters_step_alone;
 use told_streams::{kept_streams_follow, no_more_is_taken};
 
 /// A step of the master is made as its answer is settled;
-/// the streams that it opens stand behind all others.
+/// the streams that it opens are after all others.
 pub fn answers_are_made()
     ensures made { (c : Cluster) (s : Step) (moment : ℕ) (doing : Master → Doing)
         (answered : Result Outs MasterFault) (after : Option Master) (made : Made)

@@ -1,4 +1,4 @@
-//! What the master brings out is kept and told.
+//! The master's outputs are stored and written in entries.
 
 ghost use Rattle.std.specs.Prelude.{◌≡◌, ◌+◌, ◌≤◌, ◌++◌, ◌∷◌, [], None, length, map, IfOk, OnOk, OnErr};
 ghost use Rattle.cluster_agents.specs.Outcomes.{ends_with};
@@ -23,7 +23,7 @@ use shared_value::Shared;
 use std::alloc::{AllocError, Global};
 use told_streams::Streams;
 
-/// A mail of the master, as it is told and as it is kept: one value with two owners.
+/// A mail of the master, as it is written in an entry and stored: one value with two owners.
 fn push_mail(
     sent: &mut Vec<Sent>,
     items: &mut Vec<Item>,
@@ -54,7 +54,7 @@ fn push_mails(
     Ok(())
 }
 
-/// The master's mails, as they are told and kept.
+/// The master's mails, as they are written in an entry and stored.
 fn outgoing_to(alloc: Global, mails: &[ToAgent]) -> Result<Outgoing, AllocError>
     ensures sent { IfOk result (λ out. out.sent ≡ map sent_to mails.now) }
     ensures items { IfOk result (λ out. out.items ≡ map item_to mails.now) }
@@ -66,8 +66,8 @@ fn outgoing_to(alloc: Global, mails: &[ToAgent]) -> Result<Outgoing, AllocError>
     done.and(Ok(Outgoing { sent, items }))
 }
 
-/// What the steps of a master move: the master, all that was sent, the streams,
-/// and the post that hands out what was sent.
+/// What the steps of a master change: the master, all that was sent, the streams,
+/// and the post that delivers what was sent.
 #[derive(Drop)]
 pub struct Served<P: Post> {
     /// None where no master serves.
@@ -78,7 +78,7 @@ pub struct Served<P: Post> {
 }
 
 impl<P: Post> Served<P> {
-    /// Keeps what was sent and hears what was told, or neither where memory is refused.
+    /// Stores what was sent and the events on their streams, or neither where memory is refused.
     fn keep(
         &mut self,
         alloc: Global,
@@ -104,7 +104,7 @@ impl<P: Post> Served<P> {
         }
     }
 
-    /// Keeps what is sent, once the post has room for it, and gives it as it is told.
+    /// Stores what is sent, once the post has room for it, and returns it as an entry has it.
     pub(crate) fn keep_sent(
         &mut self,
         alloc: Global,
@@ -125,8 +125,8 @@ impl<P: Post> Served<P> {
         kept.and(Ok(sent))
     }
 
-    /// Keeps and hears what the master brought out, once the post has room for its mails,
-    /// and gives the mails as they are told.
+    /// Stores the master's mails and events, once the post has room for the mails,
+    /// and returns the mails as an entry has them.
     fn send(&mut self, alloc: Global, outs: &Outs) -> Result<Listed<Sent>, AllocError>
         requires { AreRising (kept_ids self.old.streams ++ outs.now.opened) }
         ensures sent { IfOk result (λ sent. sent ≡ map sent_to outs.now.mails) }
@@ -145,7 +145,7 @@ impl<P: Post> Served<P> {
         kept.and(Ok(sent))
     }
 
-    /// What the master brought out, kept and told, once the post has room for its mails.
+    /// The master's outputs, stored and returned, once the post has room for its mails.
     fn tell(&mut self, alloc: Global, outs: Outs) -> Result<Made, AllocError>
         requires { AreRising (kept_ids self.old.streams ++ outs.opened) }
         ensures made { IfOk result (λ made. made ≡ tells outs) }
@@ -171,7 +171,7 @@ impl<P: Post> Served<P> {
         })
     }
 
-    /// The master falls, for want of memory.
+    /// The master goes down, for want of memory.
     fn fall(&mut self, alloc: Global) -> Made
         ensures made { result ≡ ends_with verdicts.OutOfMemory }
         ensures down { self.new ≡ record self.old { master = None } }
@@ -180,8 +180,8 @@ impl<P: Post> Served<P> {
         ends_with(alloc, Verdict::OutOfMemory)
     }
 
-    /// Keeps and tells what the master's answer brought out.
-    /// Where memory was refused the master has fallen, and nothing else changes.
+    /// Stores the outputs of the master's answer and returns them.
+    /// Where memory was refused the master is down, and nothing else changes.
     pub(crate) fn settle(&mut self, alloc: Global, answer: Result<Outs, MasterFault>) -> Made
         requires { IfOk answer (λ outs. AreRising (kept_ids self.old.streams ++ outs.opened)) }
         ensures settled { Settles answer result self.old.master self.new.master self.old.items

@@ -39,7 +39,7 @@ use std::alloc::{AllocError, Global};
 use std::mem;
 use told_streams::Streams;
 
-/// What a cluster has at its opening, and what the opening brings out.
+/// What a cluster has at its opening, and what the opening outputs.
 #[derive(Drop)]
 pub struct Opened<P: Post> {
     pub served: Served<P>,
@@ -47,7 +47,7 @@ pub struct Opened<P: Post> {
     pub outputs: Outputs,
 }
 
-/// A new master that greets every agent stands for the opening,
+/// A new master that sends every agent a Hello represents the opening,
 /// and so do agents that come up over their records.
 fn openings_are_made()
     ensures made { (setup : Setup) (agents : List ConfiguredAgent) (records : List Record)
@@ -74,7 +74,7 @@ fn openings_are_made()
     opening_items_stand();
 }
 
-/// A new master of a run in place of what was there, and its greetings.
+/// A new master of a run in place of what was there, and the Hellos that it sends.
 pub fn start_in(
     master: &mut Option<Master>,
     alloc: Global,
@@ -127,7 +127,8 @@ fn nothing<P: Post>(alloc: Global) -> Opened<P>
     }
 }
 
-/// Agents come up over copies of these records, the first master begins this run and greets each.
+/// Agents come up over copies of these records, and the first master begins this run and sends each
+/// a Hello.
 fn open_over<P: Post>(
     opened: &mut Opened<P>,
     alloc: Global,
@@ -159,7 +160,7 @@ fn open_over<P: Post>(
 }
 
 /// What a cluster of these agents has at its opening: they come up over copies of the records, and
-/// the first master begins this run and greets each. The post has room for the greetings. Of its
+/// the first master begins this run and sends each a Hello. The post has room for these. Of its
 /// faults there is `C9 OutOfMemory` alone.
 pub fn open_parts<P: Post + Drop>(
     alloc: Global,

@@ -26,7 +26,7 @@ pub struct Parts<P: Post> {
     pub last_tick: u32,
 }
 
-// By hand: who drops the parts calls this, and goes through none of them.
+// By hand: who drops the parts calls this, and the proof visits none of them.
 impl<P: Post + Drop> Drop for Parts<P> {
     fn drop(self) {
         let Parts {
@@ -40,8 +40,8 @@ impl<P: Post + Drop> Drop for Parts<P> {
 }
 
 impl<P: Post> Parts<P> {
-    /// Takes a step; a round of offers goes by these weights of roles. The post has room for what
-    /// the step sends. Of several refusals the first is given in the order C8, C2, C3, C4, C5, C1,
+    /// Takes a step; a round of offers uses these weights of roles. The post has room for what the
+    /// step sends. Of several refusals the first is returned in the order C8, C2, C3, C4, C5, C1,
     /// C7; C9, for want of memory, may come before any.
     pub fn take_step(
         &mut self,

@@ -1,4 +1,4 @@
-//! Where the agent of a step stands.
+//! The place of the agent of a step.
 
 ghost use Rattle.std.specs.Prelude.{◌≡◌, ◌<◌, false, length, slice_get, None, Some, IfOk, IfErr, IfSome};
 ghost use Rattle.cluster_agents.specs.Agents.{place_in};
@@ -10,7 +10,7 @@ use cluster_agents::{ClusterAgent, commits_are_made, found, prepares_are_made};
 use cluster_steps::ClusterFault;
 use names_core::AgentName;
 
-/// Where the agent of a name stands, which is up.
+/// The place of the agent of a name, which is up.
 /// It is refused with `C8 NoSuchAgent`, else with `C3 AgentDown`.
 pub(crate) fn found_up(agents: &[ClusterAgent], name: &AgentName) -> Result<usize, ClusterFault>
     ensures place { IfOk result (λ place. place_in name.now agents.now ≡ Some place) }
@@ -30,7 +30,7 @@ pub(crate) fn found_up(agents: &[ClusterAgent], name: &AgentName) -> Result<usiz
     Ok(place)
 }
 
-/// Where the agent of a name stands, which is up and has no open draft. It is refused with
+/// The place of the agent of a name, which is up and has no open draft. It is refused with
 /// `C8 NoSuchAgent`, `C3 AgentDown` or `C4 DraftOpen`, of several the first in this order.
 pub(crate) fn found_free(agents: &[ClusterAgent], name: &AgentName) -> Result<usize, ClusterFault>
     ensures place { IfOk result (λ place. place_in name.now agents.now ≡ Some place) }

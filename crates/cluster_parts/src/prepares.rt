@@ -21,7 +21,7 @@ use std::alloc::Global;
 
 impl<P: Post> Served<P> {
     /// The cause that the agent of a name acts on; none where it is a mail for another agent.
-    /// It is refused with `C1 NoSuchMail`, where the post can't hand the mail out or it is none to
+    /// It is refused with `C1 NoSuchMail`, where the post can't deliver the mail or it is none to
     /// an agent, and with `C9 OutOfMemory`.
     fn cause_handed(
         &self,
@@ -46,7 +46,7 @@ impl<P: Post> Served<P> {
 impl<P: Post> Parts<P> {
     /// The agent opens a draft of what a cause makes of it, or refuses the cause, or runs out of
     /// memory and is down. It is refused with `C8 NoSuchAgent`, `C3 AgentDown`, `C4 DraftOpen` or
-    /// `C1 NoSuchMail` (a mail that the post can't hand out, or that is none to an agent), of
+    /// `C1 NoSuchMail` (a mail that the post can't deliver, or that is none to an agent), of
     /// several the first in this order, and with `C9 OutOfMemory`.
     pub(crate) fn prepare(
         &mut self,

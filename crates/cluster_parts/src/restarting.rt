@@ -40,8 +40,8 @@ use told_streams::kept_streams_follow;
 /// The last run of a master.
 const LAST_RUN: u16 = 65_535;
 
-/// A new master of the next run that greets every agent stands for the state behind a
-/// stop of the master; behind the last run none does.
+/// A new master of the next run that sends every agent a Hello represents the state after a
+/// stop of the master; after the last run none does.
 fn restarts_are_made()
     ensures anew { (c : Cluster) (r : Reached c) (agents : List ConfiguredAgent)
         (answered : Result Outs Fault) (made : MadeSo)
@@ -72,7 +72,7 @@ fn restarts_are_made()
     streams_rise();
 }
 
-/// The run behind this one; none behind the last one.
+/// The run after this one; none after the last one.
 fn run_behind(run: Run) -> Option<Run>
     ensures { result ≡ run_behind run }
 {
@@ -84,9 +84,10 @@ fn run_behind(run: Run) -> Option<Run>
 }
 
 impl<P: Post> Parts<P> {
-    /// The master stops: every stream closes untold, and what waits on it can still be taken. A new
-    /// one begins the next run, with the agents of the configuration, and greets each. Behind the
-    /// last run, 65,535, none comes, and none where memory is refused. It is never refused.
+    /// The master stops: every stream closes without an event, and what waits on it can still be
+    /// taken. A new one begins the next run, with the agents of the configuration, and sends each a
+    /// Hello. After the last run, 65,535, there is none, and none where memory is refused. It is
+    /// never refused.
     pub(crate) fn stop_master(&mut self, alloc: Global) -> Made
         requires { AreParts self.old }
         ensures made { AllTake self.old StopMaster self.new result }

@@ -56,7 +56,7 @@ impl<P: Post> Parts<P> {
     }
 
     /// The master's moment is this one, in seconds. It is refused with `C2 MasterDown` where no
-    /// master serves, else with `C7 TimeBack` where it lies before the last one. A master that runs
+    /// master serves, else with `C7 TimeBack` where it is before the last one. A master that runs
     /// out of memory in the step is down.
     pub(crate) fn tick(&mut self, alloc: Global, now: u32) -> Result<Made, ClusterFault>
         requires { AreParts self.old }
@@ -81,7 +81,7 @@ impl<P: Post> Parts<P> {
         Ok(self.served.settle(alloc, answer))
     }
 
-    /// A call that was sent under a number comes to the master.
+    /// A call that was sent under a number is delivered to the master.
     pub(crate) fn deliver_call(
         &mut self,
         alloc: Global,
@@ -135,7 +135,7 @@ impl<P: Post> Parts<P> {
         Ok(self.served.settle(alloc, answer))
     }
 
-    /// The master takes an agent for lost. It is refused with `C8 NoSuchAgent` where no agent of
+    /// The master marks an agent as lost. It is refused with `C8 NoSuchAgent` where no agent of
     /// this name is configured, else with `C2 MasterDown` where no master serves. A master that
     /// runs out of memory in the step is down.
     pub(crate) fn lose_agent(

@@ -13,7 +13,7 @@ use post_rules::Post;
 use std::alloc::Global;
 
 impl<P: Post> Parts<P> {
-    /// The agent stops, and is up again over its record; an open draft is gone.
+    /// The agent stops, and is up again over its record; an open draft is dropped.
     /// It is refused with `C8 NoSuchAgent` alone.
     pub(crate) fn stop_before(
         &mut self,

@@ -35,9 +35,9 @@ pub record Stake : Type 0 where
   pub states : List TaskState  -- its updates
   pub comes : Bool  -- whether it is a launch that may still come into the record
 
--- what is told of the past beside the channel: all commands ever issued in each session, the
--- greatest session ever opened, the run with which each session is told, the latest run that a
--- Hello told, and the updates that ever stood in the agent's record for each key
+-- what is recorded of the past beside the channel: all commands ever issued in each session, the
+-- greatest session ever opened, the run with which each session is reported, the latest run that a
+-- Hello named, and the updates that were ever in the agent's record for each key
 pub record Past : Type 0 where
   pub ever : ℕ → List Command
   pub peak : ℕ
@@ -91,7 +91,7 @@ abbrev pub Distinct : List Stake → Type 0
 Distinct [] = ⊤
 Distinct (s ∷ ss) = Each (λ t. t.job.key ≢ s.job.key) ss × Distinct ss
 
--- a launch that may still come has a key behind all those before it
+-- a launch that may still come has a key after all those before it
 abbrev pub InOrder : List Stake → Type 0
 InOrder [] = ⊤
 InOrder (s ∷ ss) = Each (λ t. t.comes ≡ true → Less s.job.key t.job.key) ss × InOrder ss
@@ -107,7 +107,7 @@ EndsKept (Kill key ∷ whats) ss = EndsKept whats ss
 EndsKept (Ack key k ∷ whats) ss = EndsKept whats ss
 EndsKept (EndFramework framework ∷ whats) ss = NotOf framework ss × EndsKept whats ss
 
--- no launch of a framework stands behind its end
+-- no launch of a framework follows its end
 abbrev pub Ordered : List Command → Type 0
 Ordered [] = ⊤
 Ordered (Launch job offers ∷ whats) = Ordered whats
@@ -131,7 +131,7 @@ AtMost rows total = (name : List ℕ) → amount name rows ≤ amount name total
 abbrev pub EndedAt : Numbered → List Stake → Type 0
 EndedAt key ss = Each (λ s. s.job.key ≡ key → s.ended ≡ true) ss
 
--- the updates that stood for its key are a beginning of its updates
+-- the updates that were recorded for its key are a beginning of its updates
 abbrev pub Grown : (Numbered → List TaskState) → Stake → Type 0
 Grown sent s = (more : List TaskState) × (s.states ≡ sent s.job.key ++ more)
 
@@ -155,7 +155,7 @@ DownOk p (Issued session number what) =
     (session ≤ p.peak) × ((m : ℕ) × (number ≡ suc m) × (slice_get (p.ever session) m ≡ Some what))
 
 -- a Report isn't ahead of the agent: its session and its total are at most those of the record, and
--- the total is the record's as long as the agent is in that session; until the session is heard of,
+-- the total is the record's as long as the agent is in that session; until the session is opened,
 -- it has all that may be live
 pub record IsReportOf (p : Past) (session : ℕ) (tasks : List Booked) (total : List Row)
     (a : Agent) : Type 0 where
@@ -220,7 +220,7 @@ pub record Facts (p : Past) (l : InRun) : Type 0 where
 abbrev pub Room : InRun → Type 0
 Room l = AtMost (taken l.channel.side) l.total
 
--- with the updates that ever stood in the agent's record
+-- with the updates that were ever in the agent's record
 abbrev pub Kept : (Numbered → List TaskState) → InRun → Type 0
 Kept sent l = (p : Past) × Facts p l × Room l × (p.sent ≡ sent)
 
@@ -243,8 +243,8 @@ RoomForAll c =
     (place : ℕ) (mail : MasterMail) → slice_get c.to_agent place ≡ Some mail
     → HasRoom (hears_mail c.agent mail)
 
--- a record that may stand when a run opens: its live tasks fit, no launch key stands twice,
--- and its run and keys are below the opening's
+-- a record over which a run may open: its live tasks fit, no launch key occurs twice, and its run
+-- and keys are below the opening's
 pub record IsGood (run : ℕ) (d : Durable) : Type 0 where
   pub fits : AtMost (job_rows (live (map task_stake d.tasks))) d.total
   pub once : Distinct (map task_stake d.tasks)

@@ -22,7 +22,7 @@ abbrev pub IsNumbered : Numbered → ℕ → Option updates.Update → Type 0
 IsNumbered key k None = ⊥
 IsNumbered key k (Some uuid) = (uuid.key ≡ key) × (uuid.k ≡ k)
 
--- an event tells it
+-- an event has it
 abbrev pub Tells : Numbered → ℕ → Event → Type 0
 Tells key k (Update status) = IsNumbered key k status.update
 Tells key k event = ⊥
@@ -31,11 +31,11 @@ abbrev pub WasTold : Numbered → ℕ → List StreamEvent → Type 0
 WasTold key k [] = ⊥
 WasTold key k (t ∷ ts) = Tells key k t.event ⊎ WasTold key k ts
 
--- the events that were handed out by the Takes of all entries
+-- the events that the Takes of all entries returned
 abbrev pub handed_in : List Entry → List StreamEvent
 handed_in entries = flat_map (λ e. option_to_list e.outputs.taken) entries
 
--- a call that acknowledges as this framework names an update that was handed out before
+-- a call that acknowledges as this framework names an update that a Take returned before
 abbrev pub IsHonestCall : Numbered → List Entry → Call → Type 0
 IsHonestCall framework entries (Acknowledge f agent task uuid) =
     f ≡ framework → WasTold uuid.key uuid.k (handed_in entries)
@@ -45,8 +45,8 @@ abbrev pub IsHonestStep : Numbered → List Entry → Step → Type 0
 IsHonestStep framework entries (Send stream call) = IsHonestCall framework entries call
 IsHonestStep framework entries step = ⊤
 
--- from this history on, the framework acknowledges only updates that
--- were handed out before, on whatever stream
+-- from this history on, the framework acknowledges only updates that Takes returned before, on
+-- whatever stream
 abbrev pub Honest : Numbered → History → List Marked → Type 0
 Honest framework h [] = ⊤
 Honest framework h (s ∷ ss) =
@@ -81,7 +81,7 @@ abbrev pub acknowledged_by : List Durable → Numbered → Numbered → List Pos
 acknowledged_by records framework key posts =
     fold (noted framework key) (up_to (counted key (recorded_tasks records))) posts
 
--- a task of the framework was launched under the key, or stood under it in a record of the opening
+-- a task of the framework was launched under the key, or was under it in a record of the opening
 abbrev pub IsKeyOf : Numbered → Numbered → List Job → Type 0
 IsKeyOf framework key jobs = (j : Job) × IsOneOf j jobs × (j.key ≡ key) × (j.framework ≡ framework)
 

@@ -1,4 +1,4 @@
--- Offers that are told to their frameworks.
+-- Offers that are sent to their frameworks.
 use Rattle.std.specs.Prelude.{◌≡◌, ◌⊎◌, List, [], ◌∷◌, Some}
 use Rattle.names_core.specs.Ids.{Numbered}
 use Rattle.cluster_model.specs.Events.{MadeOffer, Event, Offers, StreamEvent, offer_of}

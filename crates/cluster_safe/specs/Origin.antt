@@ -77,7 +77,7 @@ abbrev pub trail_after : Setup → List Durable → List Marked → List Mark
 trail_after setup records steps =
     trail (history setup records steps).happenings (open_world setup.run records) []
 
--- what stands in a trail
+-- what is in a trail
 
 -- an offer was made on an agent
 abbrev pub WasMade : List ℕ → Offer → List Mark → Type 0
@@ -114,7 +114,7 @@ jobs_on agent (Made m ∷ older) = jobs_on agent older
 jobs_on agent (Used u ∷ older) =
     if bytes_eq u.agent agent then u.jobs ++ jobs_on agent older else jobs_on agent older
 
--- the tasks that stood in an agent's record at the opening
+-- the tasks that were in an agent's record at the opening
 abbrev pub recorded_on : List ℕ → List Durable → List Job
 recorded_on agent [] = []
 recorded_on agent (d ∷ ds) =
@@ -138,11 +138,11 @@ IsTrail (Made m ∷ older) = NotMade m.offer.id older × IsTrail older
 IsTrail (Used u ∷ older) =
     IsCovered u × Each (λ o. WasMade u.agent o older × NotUsed o.id older) u.offers × IsTrail older
 
--- a job that was launched on an agent, or stood in its record at the opening
+-- a job that was launched on an agent, or was in its record at the opening
 abbrev pub From : List Durable → List ℕ → List Mark → Job → Type 0
 From records agent marks j = IsOneOf j (jobs_on agent marks) ⊎ IsOneOf j (recorded_on agent records)
 
--- each task of a record was launched on its agent by exactly one use, or stood there at the opening
+-- each task of a record was launched on its agent by exactly one use, or was there at the opening
 pub record HasOrigin (records : List Durable) (w : World) (marks : List Mark) : Type 0 where
   pub tasks : Each (λ c. Each (λ t. From records c.side.name marks t.job) c.agent.durable.tasks)
       w.channels

@@ -12,8 +12,8 @@ use Rattle.cluster_model.specs.Sides.{job_rows, unended}
 use Rattle.cluster_model.specs.Channels.{Channel}
 use Rattle.cluster_safe.specs.Facts.{AtMost, Less}
 
--- the key of a Launch that is the next command of the agent's open
--- session is behind all those in its record
+-- the key of a Launch that is the next command of the agent's open session is after all those in
+-- its record
 abbrev pub NextLaunchIsLater : Channel → Type 0
 NextLaunchIsLater c =
     (place session number : ℕ) (job : Job) (offers : List Numbered)
@@ -22,12 +22,12 @@ NextLaunchIsLater c =
     session ≡ c.agent.durable.session → number ≡ suc c.agent.applied
     → Each (λ t. Less t.job.key job.key) c.agent.durable.tasks
 
--- a Hello tells a run above 0
+-- a Hello names a run above 0
 abbrev pub HellosTellRuns : Channel → Type 0
 HellosTellRuns c =
     (place run dead : ℕ) → slice_get c.to_agent place ≡ Some (Hello run dead) → 0 < run
 
--- the tasks of a Report that haven't ended fit the total that it tells
+-- the tasks of a Report that haven't ended fit the total that it reports
 abbrev pub ReportFits : Channel → Type 0
 ReportFits c =
     (place session run : ℕ) (tasks : List Booked) (total : List Row)

@@ -15,26 +15,26 @@ use Rattle.cluster_safe.specs.Acknowledged.{recorded_tasks}
 abbrev pub longer : List TaskState → List TaskState → List TaskState
 longer xs ys = if nat_lt (length xs) (length ys) then ys else xs
 
--- the states that stand in tasks for a key
+-- the longest states of the tasks of a key
 abbrev pub states_under : Numbered → List RecordedTask → List TaskState
 states_under key [] = []
 states_under key (t ∷ ts) =
     if same t.job.key key then longer t.updates.states (states_under key ts)
     else states_under key ts
 
--- the states that stand in the agents' records for a key
+-- the states in the agents' records for a key
 abbrev pub recorded_states : Numbered → World → List TaskState
 recorded_states key w =
     states_under key (flat_map (λ (c : Channel). c.agent.durable.tasks) w.channels)
 
--- the most that stood there while this happened, and what had stood there before
+-- the longest that were there while this happened, or before
 abbrev pub updates_over : Numbered → List Happening → World → List TaskState → List TaskState
 updates_over key [] w before = before
 updates_over key (h ∷ hs) w before =
     updates_over key hs (after w h) (longer before (recorded_states key (after w h)))
 
--- the updates of a key from a world on: states are only added while a task is in its record,
--- so the most that ever stood there are all of them
+-- the updates of a key from a world on: states are only added while a task is in its record, so the
+-- longest that were ever there are all of them
 abbrev pub updates_of : Numbered → List Happening → World → List TaskState
 updates_of key hs start = updates_over key hs start (recorded_states key start)
 
@@ -43,7 +43,7 @@ abbrev pub updates_after : Numbered → Setup → List Durable → List Marked �
 updates_after key setup records steps =
     updates_of key (history setup records steps).happenings (open_world setup.run records)
 
--- the states that stand in the record of one agent for a key
+-- the states in the record of one agent for a key
 abbrev pub states_on : List ℕ → Numbered → List Channel → List TaskState
 states_on agent key [] = []
 states_on agent key (c ∷ cs) =
@@ -59,14 +59,14 @@ sent_over agent key (h ∷ hs) w before =
 abbrev pub updates_on : List ℕ → Numbered → List Happening → World → List TaskState
 updates_on agent key hs start = sent_over agent key hs start (states_on agent key start.channels)
 
--- each task of a record has all updates that ever stood for its key
+-- each task of a record has all updates that were ever recorded for its key
 abbrev pub HaveAllUpdates : List Happening → World → World → Type 0
 HaveAllUpdates hs start w =
     Each (λ (c : Channel). Each (λ (t : RecordedTask). t.updates.states
     ≡ updates_of t.job.key hs start) c.agent.durable.tasks) w.channels
 
--- an update that is told has the state of its number among the updates of its key,
--- and these stand in its agent's record
+-- an update that is sent has the state of its number among the updates of its key, and these were
+-- in its agent's record
 abbrev pub IsUpdateOf : List Happening → World → Option (List ℕ) → updates.Update → TaskState → Type 0
 IsUpdateOf hs start None uuid state = ⊥
 IsUpdateOf hs start (Some agent) uuid state =
@@ -78,7 +78,7 @@ TellsUpdate hs start (Update status) =
     IfSome status.update (λ uuid. IsUpdateOf hs start status.agent uuid status.state)
 TellsUpdate hs start event = ⊤
 
--- so does each update that is told, or handed out by a Take
+-- so has each update that is sent, or returned by a Take
 abbrev pub TellsUpdates : World → History → Type 0
 TellsUpdates start h =
     Each (λ (t : StreamEvent). TellsUpdate h.happenings start t.event) h.opened.events

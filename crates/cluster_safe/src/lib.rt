@@ -47,7 +47,7 @@ pub fn agents_have_room()
 {}
 
 /// Each task was launched by exactly one ACCEPT of its framework, out of offers of its agent that
-/// were made before and that no other ACCEPT uses, or it stood in a record at the opening.
+/// were made before and that no other ACCEPT uses, or it was in a record at the opening.
 pub fn tasks_have_their_origin()
     ensures { (setup : Setup) (records : List Durable) (steps : List Marked)
         → GoodOpening setup.run records
@@ -65,7 +65,7 @@ pub fn acknowledged_by_the_owner()
 {}
 
 /// What a framework has acknowledged of a task of its own, if it acknowledges only updates that
-/// were handed out before, is a beginning of the task's updates over the whole history: 0, 1, 2 and
+/// Takes returned before, is a beginning of the task's updates over the whole history: 0, 1, 2 and
 /// so on without gap.
 pub fn acknowledgements_are_prefixes()
     ensures { (setup : Setup) (records : List Durable) (steps : List Marked)
@@ -83,8 +83,8 @@ pub fn updates_only_grow()
         → OnlyGrow a.durable.tasks d.after.durable.tasks }
 {}
 
-/// Each update that is told or handed out has the state of its number among the updates of its
-/// launch key, which stand in the record of the agent that it names.
+/// Each update that is sent on a stream, or returned by a Take, has the state of its number among
+/// the updates of its launch key, which were in the record of the agent that it names.
 pub fn updates_have_the_states_of_their_numbers()
     ensures told { (setup : Setup) (records : List Durable) (steps : List Marked) →
         GoodOpening setup.run records →
@@ -94,8 +94,8 @@ pub fn updates_have_the_states_of_their_numbers()
         HandsUpdates (open_world setup.run records) (history setup records steps) }
 {}
 
-/// A task in a record has all updates that ever stood for its launch key:
-/// none is lost or changed over stops.
+/// A task in a record has all updates that were ever recorded for its launch key: none is lost or
+/// changed over stops.
 pub fn records_have_all_updates()
     ensures { (setup : Setup) (records : List Durable) (steps : List Marked) →
         GoodOpening setup.run records →
@@ -103,8 +103,8 @@ pub fn records_have_all_updates()
         (history setup records steps).state.world }
 {}
 
-/// All updates of a launch key stand in the record of the agent on which the task was launched,
-/// or stood at the opening.
+/// All updates of a launch key were in the record of the agent on which the task was launched, or
+/// in whose record it was at the opening.
 pub fn updates_stand_with_their_agent()
     ensures { (setup : Setup) (records : List Durable) (steps : List Marked)
         (agent : List ℕ) (j : Job) → GoodOpening setup.run records
@@ -124,8 +124,8 @@ pub fn found_records_open_again()
         → GoodOpening later found }
 {}
 
-/// Of every mail ever sent: a Launch that is next has a key behind all those of its agent's record,
-/// a Hello tells a run above 0, and the tasks of a Report fit the total that it tells.
+/// Of every mail ever sent: a Launch that is next has a key after all those of its agent's record,
+/// a Hello names a run above 0, and the tasks of a Report that haven't ended fit its total.
 pub fn mails_meet_their_premises()
     ensures { (setup : Setup) (records : List Durable) (steps : List Marked)
         → GoodOpening setup.run records
@@ -140,7 +140,7 @@ pub fn masters_step_alone()
     ensures mails { (c : Cluster) (d : Doing)
         → (done c (effect_of [] d)).outputs.sent
         ≡ map MailToAgent (moved (master_of c) d.moves).sent }
-    // At an agent's mail its side hears it first.
+    // At an agent's mail its side receives it first.
     ensures hears { (c : Cluster) (agent : List ℕ) (place : ℕ) (x : Channel) (mail : AgentMail)
         (d : Doing) → channel_of c agent ≡ Some x → slice_get x.to_master place ≡ Some mail
         → (master_of (done c (effect_of (At agent (Hear place) ∷ []) d)).after
@@ -149,8 +149,8 @@ pub fn masters_step_alone()
         ≡ map MailToAgent (moved (having_heard (master_of c) agent mail) d.moves).sent) }
 {}
 
-/// Each offer that enters the current ones in a round is told in an OFFERS event,
-/// on the stream of its framework, which is subscribed.
+/// Each offer that enters the current ones in a round is sent in an OFFERS event, on the stream of
+/// its framework, which is subscribed.
 pub fn entered_offers_are_told()
     ensures { (weights : List RoleWeight) (m : Master)
         → Each (IsTold m.registers.frameworks (allocated weights m).events)

@@ -1,4 +1,5 @@
--- An ACCEPT that is delivered twice launches once; the second delivery tells the state of the held task.
+-- An ACCEPT that is delivered twice launches once;
+-- the second delivery answers with the state of the held task.
 use Rattle.std.specs.Prelude.{ℕ, List, [], ◌∷◌, Some, None}
 use Rattle.names_core.specs.declared.state.TaskState.TheVariants.{Staging}
 use Rattle.mails.specs.declared.mail.Command.TheVariants.{Launch}

@@ -1,4 +1,4 @@
--- A launch is sent, applied, and stands in the record.
+-- A launch is sent, applied, and is in the record.
 use Rattle.std.specs.Prelude.{ℕ, List, [], ◌∷◌, Some, None}
 use Rattle.mails.specs.declared.mail.Command.TheVariants.{Launch}
 use Rattle.mails.specs.declared.mail.MasterMail.TheVariants.{Hello, Issued}

@@ -1,4 +1,4 @@
--- A declined offer is kept back from its framework for five seconds.
+-- A declined offer is withheld from its framework for five seconds.
 use Rattle.std.specs.Prelude.{ℕ, List, [], ◌∷◌, Some, None}
 use Rattle.mails.specs.declared.mail.MasterMail.TheVariants.{Hello}
 use Rattle.mails.specs.declared.mail.AgentMail.TheVariants.{Report}

@@ -1,4 +1,4 @@
--- A Heartbeat goes out fifteen seconds after the last one; time does not run back.
+-- A Heartbeat is sent fifteen seconds after the last one; a moment before the last one is refused.
 use Rattle.std.specs.Prelude.{ℕ, List, [], ◌∷◌, None}
 use Rattle.mails.specs.declared.mail.MasterMail.TheVariants.{Hello}
 use Rattle.mails.specs.declared.mail.AgentMail.TheVariants.{Report}

@@ -1,4 +1,4 @@
--- Behind the last run no master comes.
+-- After the last run there is no master.
 use Rattle.std.specs.Prelude.{ℕ, List, [], ◌∷◌, None}
 use Rattle.mails.specs.declared.mail.MasterMail.TheVariants.{Hello}
 use Rattle.mails.specs.declared.record.Durable.{Durable}

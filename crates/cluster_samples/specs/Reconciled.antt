@@ -1,4 +1,5 @@
--- RECONCILE answers for tasks that are held, says nothing of agents that have not returned, and TASK_LOST of the rest.
+-- RECONCILE is answered for tasks that are held, not for those of agents that have not returned,
+-- and with TASK_LOST for the rest.
 use Rattle.std.specs.Prelude.{ℕ, List, [], ◌∷◌, Some, None, false}
 use Rattle.names_core.specs.declared.state.TaskState.TheVariants.{Running, Lost}
 use Rattle.mails.specs.declared.mail.Command.TheVariants.{Launch}

@@ -1,4 +1,4 @@
--- REVIVE clears the filters, so the offer comes back at once.
+-- REVIVE clears the filters, so the offer is made again at once.
 use Rattle.std.specs.Prelude.{ℕ, List, [], ◌∷◌, Some, None}
 use Rattle.mails.specs.declared.mail.MasterMail.TheVariants.{Hello}
 use Rattle.mails.specs.declared.mail.AgentMail.TheVariants.{Report}

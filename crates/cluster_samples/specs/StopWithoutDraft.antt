@@ -1,4 +1,4 @@
--- An agent that stops without its draft has not launched the task, which is told as lost.
+-- An agent that stops without its draft has not launched the task, which is reported as lost.
 use Rattle.std.specs.Prelude.{ℕ, List, [], ◌∷◌, Some, None}
 use Rattle.names_core.specs.declared.state.TaskState.TheVariants.{Lost}
 use Rattle.mails.specs.declared.mail.Command.TheVariants.{Launch}

@@ -1,4 +1,4 @@
--- An ACCEPT of offers on two agents launches nothing, and gives both offers back without a filter.
+-- An ACCEPT of offers on two agents launches nothing, and returns both offers without a filter.
 use Rattle.std.specs.Prelude.{ℕ, List, [], ◌∷◌, Some, None}
 use Rattle.names_core.specs.declared.state.TaskState.TheVariants.{Lost}
 use Rattle.mails.specs.declared.mail.MasterMail.TheVariants.{Hello}

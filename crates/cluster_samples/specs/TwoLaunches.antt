@@ -1,4 +1,4 @@
--- Two tasks are launched from one offer, and the rest goes to the other framework.
+-- Two tasks are launched from one offer, and the rest is offered to the other framework.
 use Rattle.std.specs.Prelude.{ℕ, List, [], ◌∷◌, Some, None}
 use Rattle.mails.specs.declared.mail.Command.TheVariants.{Launch}
 use Rattle.mails.specs.declared.mail.MasterMail.TheVariants.{Hello, Issued}

@@ -41,13 +41,13 @@ ghost use Rattle.names_core.specs.declared.state.TaskState.TheVariants.{Finished
 ghost use Rattle.cluster_samples.specs.Short.{outcome, run};
 ghost use Rattle.std.specs.Prelude.{◌≡◌, [], ◌∷◌, None, Some, Err, true};
 
-/// A declined offer is kept back from its framework for five seconds.
+/// A declined offer is withheld from its framework for five seconds.
 pub fn declined_offer()
     ensures { outcome (run 1 declined_offer_sample.records declined_offer_sample.steps)
         ≡ declined_offer_sample.expected }
 {}
 
-/// REVIVE clears the filters, so the offer comes back at once.
+/// REVIVE clears the filters, so the offer is made again at once.
 pub fn revived()
     ensures { outcome (run 1 revived_sample.records revived_sample.steps)
         ≡ revived_sample.expected }
@@ -61,13 +61,13 @@ pub fn filtered_rest()
 {}
 
 /// An ACCEPT that is delivered twice launches once;
-/// the second delivery tells the state of the held task.
+/// the second delivery answers with the state of the held task.
 pub fn accepted_twice()
     ensures { outcome (run 1 accepted_twice_sample.records accepted_twice_sample.steps)
         ≡ accepted_twice_sample.expected }
 {}
 
-/// An ACCEPT of offers on two agents launches nothing, and gives both offers back without a filter.
+/// An ACCEPT of offers on two agents launches nothing, and returns both offers without a filter.
 pub fn two_agents()
     ensures { outcome (run 1 two_agents_sample.records two_agents_sample.steps)
         ≡ two_agents_sample.expected }
@@ -97,7 +97,7 @@ pub fn stop_with_draft()
         ≡ stop_with_draft_sample.expected }
 {}
 
-/// An agent that stops without its draft has not launched the task, which is told as lost.
+/// An agent that stops without its draft has not launched the task, which is reported as lost.
 pub fn stop_without_draft()
     ensures { outcome (run 1 stop_without_draft_sample.records stop_without_draft_sample.steps)
         ≡ stop_without_draft_sample.expected }
@@ -110,8 +110,8 @@ pub fn acknowledged()
         ≡ acknowledged_sample.expected }
 {}
 
-/// RECONCILE answers for tasks that are held, says nothing of agents that have not returned,
-/// and TASK_LOST of the rest.
+/// RECONCILE is answered for tasks that are held, not for those of agents that have not returned,
+/// and with TASK_LOST for the rest.
 pub fn reconciled()
     ensures { outcome (run 1 reconciled_sample.records reconciled_sample.steps)
         ≡ reconciled_sample.expected }
@@ -124,13 +124,13 @@ pub fn torn_down()
         ≡ torn_down_sample.expected }
 {}
 
-/// A HEARTBEAT goes out fifteen seconds after the last one; time does not run back.
+/// A HEARTBEAT is sent fifteen seconds after the last one; a moment before the last one is refused.
 pub fn heartbeats()
     ensures { outcome (run 1 heartbeats_sample.records heartbeats_sample.steps)
         ≡ heartbeats_sample.expected }
 {}
 
-/// Two tasks are launched from one offer, and the rest goes to the other framework.
+/// Two tasks are launched from one offer, and the rest is offered to the other framework.
 pub fn two_launches()
     ensures { outcome (run 1 two_launches_sample.records two_launches_sample.steps)
         ≡ two_launches_sample.expected }
@@ -148,7 +148,7 @@ pub fn refused_steps()
         ≡ refused_steps_sample.expected }
 {}
 
-/// Behind the last run no master comes.
+/// After the last run there is no master.
 pub fn last_run()
     ensures { outcome (run 65535 last_run_sample.records last_run_sample.steps)
         ≡ last_run_sample.expected }
@@ -160,7 +160,7 @@ pub fn taken_events()
         ≡ taken_events_sample.expected }
 {}
 
-/// A launch is sent, applied, and stands in the record.
+/// A launch is sent, applied, and is in the record.
 pub fn applied_launch()
     ensures { outcome (run 1 applied_launch_sample.records applied_launch_sample.steps)
         ≡ applied_launch_sample.expected }
@@ -246,7 +246,7 @@ pub fn total_saved()
         ≡ total_saved_sample.expected }
 {}
 
-/// Commands of a session: each once and in order; no room, an end, and nothing behind the end.
+/// Commands of a session: each once and in order; no room, an end, and nothing after the end.
 pub fn commands_of_an_agent()
     ensures launch { next_of (running 1 [] 0) (hears (Issued 1 1 (Launch t1 (id 1 1 ∷ []))))
         ≡ drafts (running 1 launched 1) (Applied 1 1 ∷ []) }

@@ -9,7 +9,7 @@ use thiserror::Error;
 /// Why a step is no entry of the history. Nothing changed.
 #[derive(Clone, Copy, Debug, Drop, PartialEq, Eq, Error)]
 pub enum ClusterFault {
-    /// No such call or mail was sent, or it can't be handed out, or it isn't for this receiver;
+    /// No such call or mail was sent, or it can't be delivered, or it isn't for this receiver;
     /// no such stream was opened, or nothing is left to take of it.
     #[error("C1 NoSuchMail")]
     NoSuchMail,

@@ -16,7 +16,7 @@ pub enum StepCause {
     Start(Option<Resources>),
     /// It sends again what isn't acknowledged.
     Again,
-    /// The executor of the task of this key tells a state: TASK_RUNNING,
+    /// The executor of the task of this key reports a state: TASK_RUNNING,
     /// TASK_FINISHED or TASK_FAILED.
     Executor(LaunchKey, TaskState),
     Mail(u64),
@@ -54,19 +54,19 @@ impl Plain for Keep {
 /// What happens in a cluster. Calls and mails have numbers from 1, in the order of their sending.
 #[derive(Clone, Debug, PartialEq)]
 pub enum Step {
-    /// A framework sends a call on a stream, or on none. The call stands once,
-    /// and who delivers it shares it.
+    /// A framework sends a call on a stream, or on none. The call is one value,
+    /// which who delivers it shares.
     Send {
         stream: Option<StreamId>,
         call: Shared<Call>,
     },
-    /// The call or the agent's mail of this number comes to the master.
+    /// The call or the agent's mail of this number is delivered to the master.
     Deliver(u64),
     /// The master makes a round of offers.
     Allocate,
     /// The master's moment is this one, in seconds.
     Tick(u32),
-    /// The master takes an agent for lost.
+    /// The master marks an agent as lost.
     LoseAgent(AgentName),
     /// A framework hangs a stream up.
     HangUp(StreamId),
@@ -88,7 +88,7 @@ pub enum Step {
     Take(StreamId),
 }
 
-// By hand, so that who drops one goes through none of its parts.
+// By hand, so that the proof of who drops one visits none of its parts.
 impl Drop for Step {
     fn drop(self) {
         match self {

@@ -12,7 +12,7 @@ pub enum Verdict {
     Ok,
     MasterRefused(MasterRefusal),
     AgentRefused(AgentRefusal),
-    /// The part that the step moves ran out of memory, and is down.
+    /// The part that the step changes ran out of memory, and is down.
     OutOfMemory,
 }
 
@@ -22,8 +22,8 @@ impl Plain for Verdict {
     ghost decided = { Prim.search rules };
 }
 
-/// A call or a mail that was sent. A call is its step's; a mail stands once,
-/// and who delivers it shares it.
+/// A call or a mail that was sent. A call is its step's; a mail is one value,
+/// which who delivers it shares.
 #[derive(Clone, Drop, PartialEq)]
 pub enum Sent {
     Call,

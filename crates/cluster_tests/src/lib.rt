@@ -1,4 +1,4 @@
-//! Tests of clusters, each a function that says whether it passed.
+//! Tests of clusters, each a function that returns whether it passed.
 #![tactic(auto)]
 
 mod of_cluster_core_opening;

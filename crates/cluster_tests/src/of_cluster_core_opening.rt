@@ -129,7 +129,7 @@ fn greets_a_first(cluster: &Cluster<EverSent>) -> bool {
     is_to(sent.first(), "a") && is_to(sent.get(1), "b")
 }
 
-/// Whether a cluster that is opened over these records greets a first.
+/// Whether a cluster that is opened over these records sends a Hello to a, and then one to b.
 fn greets(alloc: Global, config: Config, mut records: Vec<Record>) -> bool {
     let run = Run::new(1);
     if !good_opening(&config, records.as_mut_slice(), run) {
@@ -165,7 +165,7 @@ fn first_other_opening(alloc: Global) -> Option<usize> {
     None
 }
 
-/// Which records are a good opening; agents are greeted in the order of their names.
+/// Which records are a good opening; a Hello is sent to the agents in the order of their names.
 pub fn records_are_a_good_opening(alloc: Global) -> bool {
     greets_by_name(alloc) == Some(true) && first_other_opening(alloc).is_none()
 }

@@ -1,4 +1,5 @@
-//! A cluster that is opened over a record of run 1, one in the last run, and one whose agent falls.
+//! A cluster that is opened over a record of run 1, one in the last run,
+//! and one whose agent goes down.
 
 ghost use Rattle.std.specs.Prelude.{◌<◌};
 
@@ -15,7 +16,7 @@ use step_lines::{read_config, read_step};
 
 const AGENT: &str = r#"{"agents":{"a1":{"cpus":4,"mem":4096}}}"#;
 
-/// The agent's record of run 1, with a task that has told nothing yet.
+/// The agent's record of run 1, with a task that has reported nothing yet.
 const RECORD: &str =
     r#"{"name":"a1","run":1,"session":1,"tasks":[{"acked":0,"framework":"F1-1","key":"L1-1","name":"t1","offers":["O1-1"],"resources":{"cpus":2,"mem":1024},"updates":[]}],"total":{"cpus":4,"mem":4096},"version":1}"#;
 
@@ -59,7 +60,7 @@ fn open(alloc: Global, text: Option<&str>, run: Run) -> Option<Cluster<EverSent>
     opened(alloc, config, records, run)
 }
 
-// These have no clause, so that the proof of a test doesn't carry the cluster.
+// These have no clause, so that the proof of a test doesn't include the cluster.
 
 fn step(cluster: &mut Cluster<EverSent>, alloc: Global, step: Step) -> Option<ClusterFault> {
     match cluster.step(alloc, step) {
@@ -168,7 +169,7 @@ const UP: [Row; 4] = [
     (r#"{"step":"prepare","agent":"a1","cause":"start"}"#, None),
 ];
 
-/// The same of an agent that fell.
+/// The same of an agent that went down.
 const DOWN: [Row; 4] = [
     (
         r#"{"step":"prepare","agent":"a1","cause":"again"}"#,
@@ -193,8 +194,8 @@ fn first_fell(cluster: &Cluster<EverSent>) -> bool {
     }
 }
 
-/// Whether the agent falls at its first draft;
-/// none where a step is answered otherwise than it should be then.
+/// Whether the agent goes down at its first draft;
+/// None where a step is answered otherwise than it should be then.
 fn falls_in(cluster: &mut Cluster<EverSent>, alloc: Global) -> Option<bool> {
     if !is_refused(cluster, alloc, PREPARE, None) {
         return None;
@@ -219,7 +220,7 @@ fn falls(alloc: Global) -> Option<bool> {
 }
 
 /// Where the memory of its first draft is refused, an agent is down until it stops and is
-/// recovered. Whether one fell; none where a step is answered otherwise than it should be.
+/// recovered. Whether one went down; None where a step is answered otherwise than it should be.
 pub fn an_agent_that_fell_is_down(alloc: Global) -> Option<bool> {
     falls(alloc)
 }

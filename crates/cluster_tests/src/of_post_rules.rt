@@ -1,9 +1,9 @@
-//! What can be handed out of what was put.
+//! What can be delivered of what was enqueued.
 
 use post_rules::{Direction, EverSent, Post, Queues};
 use std::alloc::Global;
 
-/// What was put can be handed out, again and again, and nothing else.
+/// What was enqueued can be delivered, again and again, and nothing else.
 pub fn what_was_put_can_be_handed_out(alloc: Global) -> bool {
     let mut post = EverSent::empty();
     match post.reserve(alloc, 2) {
@@ -17,7 +17,7 @@ pub fn what_was_put_can_be_handed_out(alloc: Global) -> bool {
     !before && post.can_give(2) && again && !post.can_give(0) && !post.can_give(3)
 }
 
-/// Whether queues of two calls hand out the second, and then no more.
+/// Whether queues of two calls deliver the second, and then no more.
 fn hand_out_once(post: &mut Queues) -> bool {
     let first = post.can_give(2) && !post.can_give(0) && !post.can_give(3);
     if post.can_give(2) {
@@ -26,7 +26,7 @@ fn hand_out_once(post: &mut Queues) -> bool {
     first && post.can_give(1) && !post.can_give(2)
 }
 
-/// A call is handed out once.
+/// A call is delivered once.
 pub fn a_call_is_handed_out_once(alloc: Global) -> bool {
     let mut post = Queues::empty();
     match post.reserve(alloc, 2) {
@@ -38,7 +38,7 @@ pub fn a_call_is_handed_out_once(alloc: Global) -> bool {
     hand_out_once(&mut post)
 }
 
-/// Whether queues of four mails hand out the first, and then the one behind it in its queue.
+/// Whether queues of four mails deliver the first, and then the one after it in its queue.
 fn hand_out_in_order(post: &mut Queues) -> bool {
     let first = post.can_give(1) && post.can_give(2) && post.can_give(3) && !post.can_give(4);
     if post.can_give(1) {
@@ -47,7 +47,7 @@ fn hand_out_in_order(post: &mut Queues) -> bool {
     first && !post.can_give(1) && post.can_give(2) && post.can_give(3) && post.can_give(4)
 }
 
-/// Mails are handed out in the order of their queue.
+/// Mails are delivered in the order of their queue.
 pub fn mails_are_handed_out_in_the_order_of_their_queue(alloc: Global) -> bool {
     let mut post = Queues::empty();
     match post.reserve(alloc, 4) {

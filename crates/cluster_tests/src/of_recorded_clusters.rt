@@ -61,8 +61,9 @@ fn steps_of(alloc: Global, lines: &[&str]) -> Option<Vec<Step>> {
     Some(steps)
 }
 
-// These have no clause, so that the proof of what follows them doesn't carry the office. What is recorded is a parameter of theirs: at each exit of a function
-// that owns an office the proof goes through all that the office is made of, and of a parameter it knows nothing.
+// These have no clause, so that the proof of what follows them doesn't include the office. What is
+// recorded is a parameter of theirs: at each exit of a function that owns an office the proof
+// visits all that the office is made of, and of a parameter it knows nothing.
 
 /// The pass of a new seat that took all steps.
 fn pass_of<C: Recorded, L: ledger::Ledger, R: Wait>(
@@ -241,7 +242,7 @@ pub fn two_seats_have_their_entries<R: Threads + Wait + Sync>(rt: &R, alloc: Glo
     have_their_entries(&one_behind_the_other(rt, alloc))
 }
 
-/// 100 steps, in which a second goes by each time.
+/// 100 steps, in which a second passes each time.
 fn seconds(alloc: Global) -> Option<Vec<Step>> {
     let mut steps = Vec::new(alloc);
     for second in 1..=100u32 {

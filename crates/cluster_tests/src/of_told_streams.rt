@@ -18,7 +18,7 @@ fn rescind(run: u16, stream: u32, offer: u32) -> StreamEvent
     }
 }
 
-/// Three streams of two runs; offers 1 and 3 are told on the first one, 2 on the last one,
+/// Three streams of two runs; offers 1 and 3 are sent on the first one, 2 on the last one,
 /// and 4 on one that was never opened.
 fn three_streams(alloc: Global) -> Option<Streams> {
     let mut streams = Streams::new(alloc);

@@ -31,7 +31,7 @@ IsTaken words = fault_of command_line words ≡ []
 abbrev pub IsWantOfMemory : Error → Type 0
 IsWantOfMemory e = kind_of e ≡ OutOfMemory
 
--- the name of a command, and the options that were given, are this action's
+-- the name of a command, and the options after it, are this action's
 abbrev pub IsAction : Text → List Row → Action → Type 0
 IsAction name rows Calls = name ≡ codes "calls"
 IsAction name rows Replay = name ≡ codes "replay"

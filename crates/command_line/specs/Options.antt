@@ -16,7 +16,7 @@ asked_for a = record a { required = true }
 abbrev pub number_in : ℕ → ℕ → Rule → Rule
 number_in least most a = record a { parser = Some (Unsigned least most) }
 
--- with what stands for it where it isn't given
+-- with its default value
 abbrev pub otherwise : Text → Rule → Rule
 otherwise value a = record a { defaults = value ∷ [] }
 
@@ -38,11 +38,11 @@ task_seconds = otherwise (codes "10") (number_in 0 86400 (option (codes "task-se
 abbrev pub connections : Rule
 connections = otherwise (codes "0") (number_in 0 18446744073709551615 (option (codes "conns")))
 
--- with the options that have to be given
+-- with the options that are required
 abbrev pub with_required : App → App
 with_required a = with_rule (with_rule (with_rule a port) agents) state
 
--- and with those that needn't
+-- and with those that aren't
 abbrev pub with_optional : App → App
 with_optional a = with_rule (with_rule (with_rule a interval) task_seconds) connections
 
@@ -50,7 +50,7 @@ with_optional a = with_rule (with_rule (with_rule a interval) task_seconds) conn
 abbrev pub serve_command : App
 serve_command = with_optional (with_required (new_app (codes "serve")))
 
--- an option has this number of so many bits in decimal digits, which a plus may stand before
+-- an option has this number of so many bits in decimal digits, after an optional plus
 pub record HasNumber (bits : ℕ) (rows : List Row) (id : Text) (n : ℕ) : Type 0 where
   pub text : Text
   pub found : one_of id rows ≡ Some text

@@ -165,7 +165,7 @@ pub fn taken_words_ask()
 {}
 
 /// The action that the words of a command line ask for, the program's name first.
-/// A fault tells what is wrong with them, or holds the help that they ask for.
+/// A fault says what is wrong with them, or holds the help that they ask for.
 pub fn command_of<'a>(alloc: Global, words: &'a [&'a str]) -> Result<Action<'a>, Error>
     ensures asked { IfOk result (AsksFor (texts words.entry.now)) }
     ensures taken { IfOk result (λ _. IsTaken (texts words.entry.now)) }

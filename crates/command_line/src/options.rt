@@ -152,7 +152,7 @@ fn connections<'a>(alloc: Global) -> Arg<'a>
     .default_value("0")
 }
 
-/// With the options that have to be given.
+/// With the options that are required.
 fn with_required<'a>(alloc: Global, command: Command<'a>) -> Result<Command<'a>, AllocError>
     ensures { IfOk result (λ more. app_of more ≡ options.with_required (app_of command.entry)) }
 {
@@ -161,7 +161,7 @@ fn with_required<'a>(alloc: Global, command: Command<'a>) -> Result<Command<'a>,
     with_agents.arg(state(alloc))
 }
 
-/// With the options that needn't be given.
+/// With the options that aren't required.
 fn with_optional<'a>(alloc: Global, command: Command<'a>) -> Result<Command<'a>, AllocError>
     ensures { IfOk result (λ more. app_of more ≡ options.with_optional (app_of command.entry)) }
 {

@@ -1,5 +1,4 @@
-//! What holds of offers: the function's contract is a law,
-//! and its call brings the law into a proof.
+//! What holds of offers: the function's contract is a law, and its call adds the law to a proof.
 
 ghost use Rattle.current_offers.specs.Laws.{IdsNameOffers};
 

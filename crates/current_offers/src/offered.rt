@@ -58,7 +58,7 @@ pub(crate) fn sum_with(
     plus_offer(alloc, known, offer)
 }
 
-/// What the sum is, where it is known, once an offer is gone.
+/// What the sum is, where it is known, once an offer is removed.
 pub(crate) fn without(sum: Option<Resources>, offer: &Offer) -> Option<Resources>
     ensures { IsLessIfKnown result sum offer.now.resources }
 {

@@ -20,7 +20,7 @@ pub enum Turn {
     Wait,
     /// Its step is answered.
     Answer,
-    /// It asks no more.
+    /// Its step isn't answered.
     End,
 }
 
@@ -108,7 +108,7 @@ pub struct Office<C: Recorded, L: ledger::Ledger> {
     groups: Groups,
 }
 
-// By hand, so that who drops one goes through none of its parts.
+// By hand, so that the proof of who drops one visits none of its parts.
 impl<C: Recorded + Drop, L: ledger::Ledger> Drop for Office<C, L> {
     fn drop(self) {
         let Office { desk: _, groups: _ } = self;
@@ -134,12 +134,12 @@ impl<C: Recorded, L: ledger::Ledger> Office<C, L> {
         self.desk.lock(rt).open_seat(alloc)
     }
 
-    /// Wakes those whom an answer may let go on.
+    /// Wakes those who may go on after an answer.
     fn wake(&self, answered: &Answered<C::Entry, C::Given>) {
         self.groups.wake(C::frees(&answered.receipt.entry));
     }
 
-    /// Answers a call: the pass gets its receipt, which is given back too, with what goes with it.
+    /// Answers a call: the pass gets its receipt, which is returned too, with what comes with it.
     /// Refusals: O1 for a pass of another history, with how many entries there are at that moment,
     /// O2, O3 and O4.
     pub fn call<R: Wait>(
@@ -167,7 +167,7 @@ impl<C: Recorded, L: ledger::Ledger> Office<C, L> {
     }
 
     /// Waits for what is awaited, until a look at what is recorded says what to do.
-    /// It gives the locked desk, unless a step isn't to be answered.
+    /// It returns the locked desk, or None where a step isn't to be answered.
     fn await_turn<R: Wait, F: Fn(&C) -> Turn>(
         &self,
         rt: &R,
@@ -188,9 +188,10 @@ impl<C: Recorded, L: ledger::Ledger> Office<C, L> {
         unreachable!()
     }
 
-    /// Waits for what is awaited, until a look at what is recorded says what to do, then answers the
-    /// step, if it is to, as `call` does. It looks again behind each step that may have brought that
-    /// out. Once the office is finished nobody waits, and it isn't answered. Refusals: as of `call`.
+    /// Waits for what is awaited, until a look at what is recorded says what to do, then answers
+    /// the step, if it is to, as `call` does. It looks again after each step that may have output
+    /// that. Once the office is finished nobody waits, and it isn't answered. Refusals: as of
+    /// `call`.
     pub fn wait_call<R: Wait, F: Fn(&C) -> Turn>(
         &self,
         rt: &R,
@@ -224,7 +225,7 @@ impl<C: Recorded, L: ledger::Ledger> Office<C, L> {
     }
 
     /// Waits for what is awaited, for so many seconds at most, while a look at what is recorded
-    /// finds nothing. It gives the locked desk.
+    /// finds nothing. It returns the locked desk.
     fn await_found<'a, T: Drop, R: Wait + Clock, F: Fn(&C) -> Result<Option<T>, C::Fault>>(
         &'a self,
         rt: &R,
@@ -240,9 +241,9 @@ impl<C: Recorded, L: ledger::Ledger> Office<C, L> {
             .wait_for(rt, group, desk, seconds, |desk| waits_at(&*desk, look))
     }
 
-    /// Waits for what is awaited, for so many seconds at most, until a look at what is recorded finds
-    /// something; it was so in one state, and may have changed since. Refusals: O1 for a pass of
-    /// another history, and O2, O3 or O4 for a fault that the look gives.
+    /// Waits for what is awaited, for so many seconds at most, until a look at what is recorded
+    /// finds something; it was so in one state, and may have changed since. Refusals: O1 for a pass
+    /// of another history, and O2, O3 or O4 for a fault that the look returns.
     pub fn wait_for<T: Drop, R: Wait + Clock, F: Fn(&C) -> Result<Option<T>, C::Fault>>(
         &self,
         rt: &R,
@@ -277,9 +278,9 @@ impl<C: Recorded, L: ledger::Ledger> Office<C, L> {
         self.groups.wake(u64::MAX);
     }
 
-    /// Closes the office over the passes that are handed in, as `Desk::close` says: for each the
-    /// entries of its seat are its receipts, each once and in order. Refusal: O1; the desk and the
-    /// passes come back. It waits for nobody.
+    /// Closes the office over these passes, as `Desk::close` does: for each the entries of its seat
+    /// are its receipts, each once and in order. Refusal: O1; the desk and the passes are returned.
+    /// It waits for nobody.
     pub fn close(
         self,
         passes: Passes<C::Entry, L>,

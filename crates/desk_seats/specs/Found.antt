@@ -26,7 +26,7 @@ IsRefusedCall {C} {F = F} history sound kind may_refuse p step fault =
     × MayRefuseCall kind (λ (f : F). may_refuse d.recorded step f) (length (history d.recorded) + 1)
     d.opened p.seat p.seen fault
 
--- some desk ends a wait of the pass so, where a look gives such faults in a state
+-- some desk ends a wait of the pass so, where a look returns such faults in a state
 abbrev pub IsRefusedWait : {C E F : Type 0} → (C → List E) → (C → Type 0) → (F → FaultKind)
     → (C → F → Type 0) → PassState E → OfficeFault F → Type 0
 IsRefusedWait {C} {F = F} history sound kind gives p fault =

@@ -30,7 +30,7 @@ pub record AnswersBy {S E : Type 0} (step_of : E → S) (old new : PassState E) 
   pub later : old.seen ≤ r.number
   pub pushed : new ≡ with_receipt old r
 
--- a receipt is of one more entry, of this seat, behind all others
+-- a receipt is of one more entry, of this seat, after all others
 pub record Enters {C E : Type 0} (history : C → List E) (old : DeskState C) (seat : ℕ)
     (r : Receipt E) (new : DeskState C) : Type 0 where
   pub entry : history new.recorded ≡ history old.recorded ++ r.entry ∷ []
@@ -45,8 +45,8 @@ pub record Unchanged {C E : Type 0} (history : C → List E) (alike : C → C �
   pub seats : new.seats ≡ old.seats
   pub total : new.total ≡ old.total
 
--- in a sound state the step was taken: its entry is one more, behind all others,
--- under the receipt's number, and this was given with it
+-- in a sound state the step was taken: its entry is one more, after all others,
+-- under the receipt's number, and this was returned with it
 pub record IsTaken {C S E G : Type 0} (history : C → List E) (sound : C → Type 0)
     (takes : C → S → E → G → C → Type 0) (step : S) (a : Answered E G) : Type 0 where
   pub old : C

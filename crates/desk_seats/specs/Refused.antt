@@ -5,7 +5,7 @@ use Rattle.desk_seats.specs.declared.fault.FaultKind.TheVariants.{HistoryFull as
 use Rattle.desk_seats.specs.declared.fault.OfficeFault.{OfficeFault}
 use Rattle.desk_seats.specs.declared.fault.OfficeFault.TheVariants.{ForeignPass, HistoryFull, OutOfMemory, Core, SeatsSpent}
 
--- what an office says of the fault of a refused step
+-- with which fault an office refuses for the fault of a refused step
 abbrev pub refused_by : {F : Type 0} → FaultKind → F → OfficeFault F
 refused_by FullHistory fault = HistoryFull
 refused_by NoMemory fault = OutOfMemory
@@ -40,7 +40,7 @@ abbrev pub IsForeign : ℕ → ℕ → ℕ → ℕ → Type 0
 IsForeign entries opened seat seen = IsUnopened opened seat ⊎ (entries < seen)
 
 -- why a wait of a pass ends in a fault, where the history has so many entries with its opening:
--- the pass is foreign, or a look gives a fault
+-- the pass is foreign, or a look returns a fault
 abbrev pub MayRefuseWait : {F : Type 0} → (F → FaultKind) → (F → Type 0) → ℕ → ℕ → ℕ → ℕ
     → OfficeFault F → Type 0
 MayRefuseWait {F} kind gives entries opened seat seen fault =

@@ -1,8 +1,8 @@
--- Receipts that are walked by their numbers.
+-- Receipts that are visited by their numbers.
 use Rattle.std.specs.Prelude.{◌≡◌, ℕ, ◌+◌, ◌-◌, ◌<◌, List, [], ◌∷◌, Some, slice_get, ⊤}
 use Rattle.desk_seats.specs.declared.desk.pass.Receipt.{Receipt}
 
--- a receipt is of an entry of the seat, where the first entry of all stands behind number b
+-- a receipt is of an entry of the seat, where the first entry of all has number b + 1
 abbrev pub IsOfSeat : {E : Type 0} → ℕ → ℕ → List ℕ → List E → Receipt E → Type 0
 IsOfSeat seat b ss es r =
     (slice_get ss (r.number - (b + 1)) ≡ Some seat)

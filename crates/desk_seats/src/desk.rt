@@ -34,7 +34,7 @@ pub struct Desk<C: Recorded, L: ledger::Ledger> {
     rest: Share<L>,
 }
 
-// By hand, so that who drops one goes through none of its parts.
+// By hand, so that the proof of who drops one visits none of its parts.
 impl<C: Recorded + Drop, L: ledger::Ledger> Drop for Desk<C, L> {
     fn drop(self) {
         let Desk {
@@ -67,7 +67,7 @@ impl<C: Recorded, L: ledger::Ledger> Model for Desk<C, L> {
         d.book.total d.rest.parts };
 }
 
-/// What an office says of the fault of a refused step: O2, O3 or O4.
+/// With which fault an office refuses for the fault of a refused step: O2, O3 or O4.
 pub fn refusal<C: Recorded>(fault: C::Fault) -> OfficeFault<C::Fault>
     ensures { result ≡ refused_by (C.kind_of fault) fault }
 {
@@ -134,7 +134,7 @@ impl<C: Recorded, L: ledger::Ledger> Desk<C, L> {
         let _ = &self.seats;
     }
 
-    /// What is true of every desk, whatever it was asked.
+    /// What is true of every desk, whatever steps it took.
     pub fn is_sound(&self)
         ensures { IsFound C.history C.sound self.now }
     {
@@ -241,7 +241,7 @@ impl<C: Recorded, L: ledger::Ledger> Desk<C, L> {
     }
 
     /// Answers a call: one entry more with the seat of the pass, which gets its receipt. The
-    /// receipt is given back too, with what goes with it. Refusals: O1 for a pass of an unopened
+    /// receipt is returned too, with what comes with it. Refusals: O1 for a pass of an unopened
     /// seat or one that has seen more than there is, O2, O3 and O4.
     pub fn answer(
         &mut self,

@@ -1,5 +1,5 @@
 //! A recorded thing, and the seat of each of its entries: each step that is taken is an entry of
-//! its history, and has the seat of the caller who asked for it. Nothing here waits.
+//! its history, and has the seat of the caller who requested it. Nothing here waits.
 #![tactic(auto)]
 
 mod desk;

@@ -1,4 +1,4 @@
-//! What a desk stands over.
+//! What a desk records.
 
 ghost use Rattle.std.specs.Prelude.{◌≡◌, ◌≤◌, ◌++◌, ◌∷◌, [], ◌↔◌, List, Some, IsTrue, IfOk, IfErr, OnErr, length, slice_get};
 ghost use Rattle.desk_seats.specs.declared.fault.FaultKind.{FaultKind};
@@ -6,7 +6,7 @@ ghost use Rattle.desk_seats.specs.declared.fault.FaultKind.{FaultKind};
 use crate::fault::FaultKind;
 use std::alloc::Global;
 
-/// The entry of a step that was taken, and what goes with it.
+/// The entry of a step that was taken, and what comes with it.
 #[derive(Drop)]
 pub struct Entered<E, G> {
     pub entry: E,
@@ -15,14 +15,14 @@ pub struct Entered<E, G> {
 
 /// What takes one step after another, and records each that it took.
 pub trait Recorded: Drop {
-    /// What it is asked.
+    /// What a caller requests.
     type Step: Drop;
 
-    /// A step that was taken, with what became of it. It stands once:
-    /// what is handed on is one more owner of it.
+    /// A step that was taken, with what became of it. It is one value:
+    /// a copy is one more owner of it.
     type Entry: Drop;
 
-    /// What goes with the entry of a step. It is given once, to who asked for the step,
+    /// What comes with the entry of a step. It is returned once, to who requested the step,
     /// and nobody else keeps it.
     type Given: Drop;
 
@@ -35,16 +35,16 @@ pub trait Recorded: Drop {
     /// The entries since the opening, the oldest first.
     ghost history: { Self → List Self.Entry };
 
-    /// What an entry was asked.
+    /// The step of an entry.
     ghost step_of: { Self.Entry → Self.Step };
 
     /// What a fault means.
     ghost kind_of: { Self.Fault → FaultKind };
 
-    /// What is true of it whatever it was asked.
+    /// What is true of it whatever steps it took.
     ghost sound: { Self → Type 0 };
 
-    /// The one state took this step with this entry and gave this, which left the other state.
+    /// The one state took this step with this entry and returned this, which left the other state.
     ghost takes: { Self → Self.Step → Self.Entry → Self.Given → Self → Type 0 };
 
     /// This state may refuse this step so.
@@ -86,11 +86,11 @@ pub trait Recorded: Drop {
     /// The group of those who wait for this, from 0 to 63; a greater one is taken modulo 64.
     fn group_of(awaited: &Self::Awaited) -> u32;
 
-    /// Which of 64 groups of waiting callers the step may let go on, a bit for each:
-    /// those who wait for what it brought out.
+    /// Which of 64 groups of waiting callers may go on after the step, a bit for each:
+    /// those who wait for what it output.
     fn frees(entry: &Self::Entry) -> u64;
 
-    /// Whatever it was asked, it is sound.
+    /// Whatever steps it took, it is sound.
     fn is_sound(&self)
         ensures { sound self.now };
 

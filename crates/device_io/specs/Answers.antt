@@ -1,8 +1,8 @@
--- What is told on lines, one after another.
+-- The answers to lines, one after another.
 use Rattle.std.specs.Prelude.{◌≡◌, true, false, ℕ, List, [], ◌∷◌, ◌++◌}
 use Rattle.device_io.specs.Texts.{all_lines}
 
--- what is told on each line, each behind the lines before it
+-- the answer to each line, after the lines before it
 unfoldable pub told_all : {S : Type 0} → (S → List ℕ → List ℕ) → (S → List ℕ → S) → S
     → List (List ℕ) → List ℕ
 told_all told after s [] = []
@@ -12,7 +12,7 @@ unfoldable pub after_all : {S : Type 0} → (S → List ℕ → S) → S → Lis
 after_all after s [] = s
 after_all after s (l ∷ ls) = after_all after (after s l) ls
 
--- what is told on a text: on each of its lines, and at its end
+-- the answer to a text: to each of its lines, and at its end
 abbrev pub answer : {S : Type 0} → (S → List ℕ → List ℕ) → (S → List ℕ → S) → (S → List ℕ) → S
     → List ℕ → List ℕ
 answer told after ending s text =

@@ -19,7 +19,7 @@ with_byte s b =
 unfoldable pub lines_of : List ℕ → Lines
 lines_of text = fold with_byte no_lines text
 
--- the last line, if there is one behind the last line feed
+-- the last line, if there is one after the last line feed
 abbrev pub last_line : List ℕ → List (List ℕ)
 last_line [] = []
 last_line (b ∷ bs) = (b ∷ bs) ∷ []

@@ -35,7 +35,7 @@ fn write_all<W: Write>(text: &[u8], writer: &mut W) -> Result<(), Stop>
     }
 }
 
-/// Writes what is told on a line.
+/// Writes the answer to a line.
 fn answer_one<T: Teller, W: Write>(
     alloc: Global,
     teller: &mut T,
@@ -56,7 +56,7 @@ fn answer_one<T: Teller, W: Write>(
     write_all(&text, writer)
 }
 
-/// Writes what is told on lines, each before the next one is looked at.
+/// Writes the answers to lines, each before the next line is looked at.
 fn answer_all<T: Teller, W: Write>(
     alloc: Global,
     teller: &mut T,
@@ -78,7 +78,7 @@ fn answer_all<T: Teller, W: Write>(
     Ok(())
 }
 
-/// Writes what is told on the last line, which no line feed ended, where it has a byte.
+/// Writes the answer to the last line, which no line feed ended, where it has a byte.
 fn answer_last<T: Teller, W: Write>(
     alloc: Global,
     teller: &mut T,
@@ -111,7 +111,7 @@ fn write_end<T: Teller, W: Write>(alloc: Global, teller: &T, writer: &mut W) -> 
     write_all(&text, writer)
 }
 
-/// Writes what is told on the last line, and at the end.
+/// Writes the answers to the last line and at the end.
 fn answer_end<T: Teller, W: Write>(
     alloc: Global,
     teller: &mut T,
@@ -132,7 +132,7 @@ fn answer_end<T: Teller, W: Write>(
     write_end(alloc, teller, writer)
 }
 
-/// Answers the text that a reader gives, which it reads by this buffer.
+/// Answers the text that a reader returns, read through this buffer.
 fn answer_pieces<R: Read, T: Teller, W: Write>(
     alloc: Global,
     reader: &mut R,
@@ -182,7 +182,7 @@ fn new_buffer(alloc: Global) -> Result<Vec<u8>, AllocError>
     vec![in alloc; 0u8; PIECE]
 }
 
-/// Answers the text that a reader gives, line by line: what is told on a line is written as soon as
+/// Answers the text that a reader returns, line by line: the answer to a line is written as soon as
 /// the line has ended. A line feed ends a line; the last may lack it. Where the teller takes no
 /// further line, nothing further is read.
 pub fn answer_lines<R: Read, T: Teller, W: Write>(

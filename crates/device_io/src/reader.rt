@@ -11,7 +11,7 @@ use std::mem;
 /// Of a longer one the reader keeps one byte more, and no further ones.
 pub const LONGEST_LINE: usize = 1_048_576;
 
-/// Where a reader stands on its text: what it keeps of the line that hasn't ended yet.
+/// A reader of a text: what it keeps of the line that hasn't ended yet.
 #[derive(Drop)]
 pub struct Reader {
     rest: Vec<u8>,
@@ -35,7 +35,7 @@ impl Reader {
         }
     }
 
-    /// Takes the next piece of the text, of any length, and gives the lines that it ends.
+    /// Takes the next piece of the text, of any length, and returns the lines that it ends.
     pub fn feed(&mut self, alloc: Global, piece: &[u8]) -> Result<Vec<Vec<u8>>, AllocError>
         ensures { IfOk result
             (λ lines. (text : List ℕ) (before : List (List ℕ)) → Reads text before self.old

@@ -5,23 +5,23 @@ ghost use Rattle.device_io.specs.Texts.{kept};
 
 use std::alloc::{AllocError, Global};
 
-/// Something that tells a text on each line that it is given, until it takes no further ones, and a
-/// text at the end. Lines stand without their line feeds. Of a line of more than 1,048,576 bytes
-/// only the first 1,048,577 are given.
+/// Something that answers each line with a text, until it takes no further ones, and has a text for
+/// the end. Lines are without their line feeds. Of a line of more than 1,048,576 bytes only the
+/// first 1,048,577 are passed.
 pub trait Teller {
-    /// What it tells on a line.
+    /// Its answer to a line.
     ghost told: { Self → List ℕ → List ℕ };
 
-    /// How it stands behind a line.
+    /// Its state after a line.
     ghost after: { Self → List ℕ → Self };
 
     /// Whether it takes a further line.
     ghost goes_on: { Self → Bool };
 
-    /// What it tells at the end.
+    /// Its answer at the end.
     ghost ending: { Self → List ℕ };
 
-    /// Takes a line. Where memory is refused nothing is known of how it stands.
+    /// Answers a line. Where memory is refused nothing is known of its state.
     fn tell(&mut self, alloc: Global, line: &[u8]) -> Result<Vec<u8>, AllocError>
         ensures told { IfOk result (λ text. text.items ≡ told self.old line.now) }
         ensures after { OnOk result (self.new ≡ after self.old line.now) };
@@ -32,11 +32,11 @@ pub trait Teller {
     fn end(&self, alloc: Global) -> Result<Vec<u8>, AllocError>
         ensures { IfOk result (λ text. text.items ≡ ending self.now) };
 
-    /// Where it takes no further line, one tells nothing and changes nothing.
+    /// Where it takes no further line, the answer to one is empty, and its state stays.
     ghost stays: { (s : Self) (line : List ℕ) → goes_on s ≡ false → (told s line ≡ [])
         × (after s line ≡ s) };
 
-    /// What is kept of a line is enough.
+    /// What is kept of a line determines its answer, and the state after it.
     ghost enough: { (s : Self) (line : List ℕ) → (told s (kept line) ≡ told s line)
         × (after s (kept line) ≡ after s line) };
 }

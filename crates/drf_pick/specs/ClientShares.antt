@@ -9,7 +9,7 @@ use Rattle.drf_pick.specs.declared.client_share.ClientPlace.{ClientPlace}
 use Rattle.drf_pick.specs.declared.client_share.RoleShare.{RoleShare}
 use Rattle.drf_pick.specs.declared.client_share.ClientShare.{ClientShare}
 
--- where a framework and a role stand
+-- the places of a framework and a role
 pub record IsPlaceOf (t : Tally) (f : Numbered) (role : List ℕ) (p : ClientPlace) : Type 0 where
   pub holder : position (is_holder f) t.holders ≡ Some p.holder
   pub by_role : position (is_role role) t.roles ≡ Some p.role

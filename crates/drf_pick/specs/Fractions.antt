@@ -6,7 +6,7 @@ use Rattle.share_sums.specs.Dominant.{IsDominant}
 use Rattle.drf_pick.specs.Shares.{Holder, RoleSum, is_holder, is_role}
 pub use Rattle.share_sums.specs.Dominant.{Part}
 
--- the dominant share of each stands at its place; there may be more parts behind them
+-- the dominant share of each is at its place; there may be more parts after them
 abbrev pub AreDominant : {X : Type 0} → (X → List Row) → List Row → List X → List Part → Type 0
 AreDominant held totals [] fs = ⊤
 AreDominant held totals (x ∷ xs) [] = ⊥

@@ -40,7 +40,7 @@ TestIsRelation = (totals : List Row) (a b : Share) → ArePositive totals
 abbrev pub SameShare : Share → Share → Type 0
 SameShare a b = SameAmounts a.held b.held × (a.weight ≡ b.weight)
 
--- shares of the same amounts stand alike
+-- how two shares compare depends on amounts and weights alone
 abbrev pub AmountsDecide : Type 0
 AmountsDecide =
     (totals : List Row) (a b : Share) (totals' : List Row) (a' b' : Share) → ArePositive totals
@@ -53,7 +53,7 @@ pub record Weighed : Type 0 where
   pub share : Share
   pub some : 0 < share.weight
 
--- any two of some weight stand in the order, and it goes on from one to the next
+-- the order compares any two of some weight, and is transitive
 abbrev pub StandingIsOrder : Type 0
 StandingIsOrder =
     (totals : List Row) → ArePositive totals

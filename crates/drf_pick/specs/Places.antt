@@ -1,4 +1,4 @@
--- Where roles stand.
+-- The places of roles.
 use Rattle.std.specs.Prelude.{◌≡◌, ℕ, List, Option}
 use Rattle.std.specs.List.{position}
 use Rattle.drf_pick.specs.Shares.{RoleSum, is_role}

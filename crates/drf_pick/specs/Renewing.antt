@@ -1,4 +1,4 @@
--- Who was given something, and whose fractions are made anew for it.
+-- Holders that hold something, and whose fractions are computed anew for it.
 use Rattle.std.specs.Prelude.{◌≡◌, ◌⊎◌, ◌<◌, ⊤, ℕ, suc, List, [], ◌∷◌}
 use Rattle.std.specs.List.{AllByRecursion}
 use Rattle.quantity.specs.declared.rows.Row.{Row}
@@ -11,7 +11,7 @@ abbrev pub AllBut : {X : Type 0} → (X → Type 0) → (ℕ → Type 0) → Lis
 AllBut P left [] = ⊤
 AllBut P left (x ∷ xs) = (P x ⊎ left 0) × AllBut P (λ i. left (suc i)) xs
 
--- the dominant share of each holder stands at its place, but at places that are left
+-- the dominant share of each holder is at its place, but at places that are left
 abbrev pub DominantBut : (ℕ → Type 0) → List Row → List Holder → List Part → Type 0
 DominantBut left totals [] fs = ⊤
 DominantBut left totals (h ∷ hs) [] = ⊥

@@ -11,7 +11,7 @@ pub use Rattle.drf_pick.specs.declared.holder.RoleSum.{RoleSum}
 
 pub record Tally : Type 0 where
   pub totals : List Row  -- what all agents own
-  pub holders : List Holder  -- the frameworks that a role was told of, with what they hold
+  pub holders : List Holder  -- the frameworks that are registered with a role, with what they hold
   pub roles : List RoleSum  -- with what their frameworks hold, and their weights
 
 abbrev pub is_holder : Numbered → Holder → Bool
@@ -45,7 +45,7 @@ abbrev pub given_roles : List Row → Option Holder → List RoleSum → List Ro
 given_roles rows None rs = rs
 given_roles rows (Some h) rs = at_first (is_role h.role) (role_holding rows) rs
 
--- a framework holds more, and so does its role; one that no role was told of counts for nobody
+-- a framework holds more, and so does its role; nothing changes where it isn't registered
 abbrev pub given : Numbered → List Row → Tally → Tally
 given framework rows t = record t {
   holders = given_holders framework rows t.holders;
@@ -69,8 +69,8 @@ with_holder framework role t None = record t {
   roles = roles_with role t.roles (find (is_role role) t.roles);
 }
 
--- a framework of this role is known, and holds nothing yet;
--- the first role that is told of a framework counts
+-- a framework is registered with this role, and holds nothing yet; one that is registered already
+-- keeps its role
 abbrev pub with_role : Numbered → List ℕ → Tally → Tally
 with_role framework role t = with_holder framework role t (find (is_holder framework) t.holders)
 
@@ -142,22 +142,22 @@ restarted weights totals t = record {
   roles = map (reweighed weights) t.roles;
 }
 
--- no framework stands twice
+-- no framework is listed twice
 abbrev pub HoldersOnce : List Holder → Type 0
 HoldersOnce [] = ⊤
 HoldersOnce (h ∷ hs) = (find (is_holder h.framework) hs ≡ None) × HoldersOnce hs
 
--- the framework is behind the last one, by their ids
+-- the framework is after the last one, by their ids
 abbrev pub is_behind : Option Numbered → Numbered → Bool
 is_behind None framework = true
 is_behind (Some last) framework = before last framework
 
--- no framework is behind the last one
+-- no framework is after the last one
 abbrev pub AreUpTo : Option Numbered → List Holder → Type 0
 AreUpTo None hs = hs ≡ []
 AreUpTo (Some last) hs = AllByRecursion (λ h. before last h.framework ≡ false) hs
 
--- no role stands twice
+-- no role is listed twice
 abbrev pub RolesOnce : List RoleSum → Type 0
 RolesOnce [] = ⊤
 RolesOnce (r ∷ rs) = (find (is_role r.role) rs ≡ None) × RolesOnce rs

@@ -19,7 +19,7 @@ pub struct RoleShare {
     pub(crate) weight: u16,
 }
 
-/// Where a framework and its role stand in shares. They stay there when more is given.
+/// The places of a framework and its role in shares. They stay when the framework holds more.
 #[derive(Clone, Copy, Drop)]
 pub struct ClientPlace {
     pub(crate) holder: usize,
@@ -33,8 +33,7 @@ pub struct ClientShare {
     pub(crate) role: RoleShare,
 }
 
-/// A framework's fraction; nothing where no role was told of it.
-/// It is likely to stand at this place.
+/// A framework's fraction; nothing where it isn't registered. `guess` is its likely place.
 fn fraction_of(shares: &Shares, guess: usize, framework: FrameworkId) -> Fraction
     ensures { IsDominant shares.now.totals (held_by shares.now framework) result }
 {
@@ -65,8 +64,8 @@ fn role_share_of(shares: &Shares, holder: usize, role: &RoleName) -> RoleShare
 }
 
 impl ClientPlace {
-    /// The places of a framework and its role, where both are known. `guess` says where the
-    /// framework is likely to stand. It takes no memory.
+    /// The places of a framework and its role, where both are known. `guess` is the likely place of
+    /// the framework. It takes no memory.
     pub fn of(
         shares: &Shares,
         framework: FrameworkId,
@@ -103,9 +102,9 @@ impl ClientShare {
         self.own.is_nothing()
     }
 
-    /// The shares of a framework and of its role. `place` says where the framework is likely to
-    /// stand among those that a role was told of, in that order, from 0; it goes faster where it
-    /// does, and no answer hangs on it. It takes no memory.
+    /// The shares of a framework and of its role. `place` is the likely place of the framework,
+    /// from 0, among those that are registered, in order of registration; the search is shorter
+    /// where it is right, and no answer depends on it. It takes no memory.
     pub fn of(shares: &Shares, framework: FrameworkId, role: &RoleName, place: usize) -> ClientShare
         ensures { IsClientShare shares.now framework role.now result }
     {
@@ -115,7 +114,7 @@ impl ClientShare {
         }
     }
 
-    /// The shares of the framework and the role that stand at these places. It takes no memory.
+    /// The shares of the framework and the role at these places. It takes no memory.
     pub fn at(shares: &Shares, place: ClientPlace) -> ClientShare
         requires holder { place.holder < length shares.now.holders }
         requires role { place.role < length shares.now.roles }

@@ -9,7 +9,7 @@ use crate::holder::{Holder, RoleSum};
 use share_sums::{Fraction, Sum};
 use std::alloc::{AllocError, Global};
 
-/// One that comes behind so many, and holds nothing, has its fraction.
+/// Keeps so many fractions, and appends that of a holder of nothing.
 pub(crate) fn keep_nothing(fractions: &mut Vec<Fraction>, count: usize) -> Result<(), AllocError>
     ensures ok { OnOk result (fractions.new.items
         ≡ take count fractions.old.items ++ nothing ∷ []) }

@@ -25,13 +25,13 @@ use std::mem;
 pub struct Holdings {
     totals: Sum,
     holders: Vec<Holder>,
-    /// The last of the holders' frameworks, by their ids: one behind it is none of them.
+    /// The last of the holders' frameworks, by their ids: one after it is none of them.
     last: Option<FrameworkId>,
     roles: Roles,
-    /// For each holder the place of its role. It is tried first; no answer hangs on it.
+    /// For each holder the place of its role. It is tried first; no answer depends on it.
     role_places: Vec<usize>,
-    /// The places of the holders that were given something since nobody held anything.
-    /// No other holder holds anything.
+    /// The places of the holders whose sums were increased since nobody held anything. No other
+    /// holder holds anything.
     given: Vec<usize>,
     /// Fractions, each nothing, for the holders' shares that are made next.
     fractions: Vec<Fraction>,
@@ -49,8 +49,8 @@ impl Model for Holdings {
         × (HoldNothingBut s.given.items s.holders.items × AreNothing s.fractions.items) };
 }
 
-/// The place of a framework's holder.
-/// It is found at once where the holders stand in the order of their frameworks' ids.
+/// The place of a framework's holder. It is found by halving where the holders are in the order of
+/// their frameworks' ids.
 fn holder_place(holders: &[Holder], framework: FrameworkId) -> Option<usize>
     requires { HoldersOnce holders.now }
     ensures { result ≡ position (is_holder framework) holders.now }
@@ -62,7 +62,7 @@ fn holder_place(holders: &[Holder], framework: FrameworkId) -> Option<usize>
     holders.iter().position(|holder| holder.is_of(framework))
 }
 
-/// Whether a framework is behind the last one.
+/// Whether a framework is after the last one.
 fn is_behind(last: Option<FrameworkId>, framework: FrameworkId) -> bool
     ensures { result ≡ is_behind last framework }
 {
@@ -91,7 +91,7 @@ fn find_holder(holders: &[Holder], guess: usize, framework: FrameworkId) -> Opti
     Some(&holders[place])
 }
 
-/// Whether one of these holders is the framework's. No holder is behind the last one.
+/// Whether one of these holders is the framework's. No holder is after the last one.
 fn is_known(holders: &[Holder], last: Option<FrameworkId>, framework: FrameworkId) -> bool
     requires once { HoldersOnce holders.now }
     requires up_to { AreUpTo last holders.now }
@@ -103,7 +103,7 @@ fn is_known(holders: &[Holder], last: Option<FrameworkId>, framework: FrameworkI
     find_holder(holders, holders.len(), framework).is_some()
 }
 
-/// The last one, where this framework comes.
+/// The last framework once this one is added.
 fn later(last: Option<FrameworkId>, framework: FrameworkId) -> FrameworkId
     ensures { (hs : List Holder) (role : List ℕ) → AreUpTo last hs
         → AreUpTo (Some result) (hs ++ holder_of framework role ∷ []) }
@@ -118,13 +118,13 @@ fn later(last: Option<FrameworkId>, framework: FrameworkId) -> FrameworkId
     }
 }
 
-/// Where the role of the holder at a place is likely to stand.
+/// The likely place of the role of the holder at a place.
 fn guess_at(role_places: &[usize], place: usize) -> usize {
     role_places.get(place).copied().unwrap_or(0)
 }
 
-/// Keeps the place of a holder that is given something. It is kept already where the holder
-/// holds something.
+/// Stores the place of a holder whose sum is about to increase. It is stored already where the
+/// holder holds something.
 fn note(given: &mut Vec<usize>, holders: &[Holder], place: usize) -> Result<(), AllocError>
     requires within { place < length holders.now }
     requires given { HoldNothingBut given.old.items holders.now }
@@ -223,7 +223,7 @@ fn empty_all(holders: &mut Vec<Holder>, alloc: Global, given: &[usize])
     }
 }
 
-/// Where the role of the last holder is likely to stand.
+/// The likely place of the role of the last holder.
 fn last_place(role_places: &[usize]) -> usize {
     role_places.last().copied().unwrap_or(0)
 }
@@ -307,7 +307,7 @@ impl Holdings {
         &self.roles
     }
 
-    /// The places of the holders that were given something since nobody held anything.
+    /// The places of the holders whose sums were increased since nobody held anything.
     pub(crate) fn given(&self) -> &[usize]
         ensures { HoldNothingBut result.now self.now.holders }
     {
@@ -345,8 +345,8 @@ impl Holdings {
     }
 
     /// Nobody holds anything any more, agents own this together, and each role has its weight among
-    /// these. The frameworks stay known. It takes no memory, and time only for what was given since
-    /// nobody held anything and for each role.
+    /// these. The frameworks stay known. It takes no memory, and time only for the holders whose
+    /// sums were increased since nobody held anything, and for each role.
     pub fn restart(&mut self, alloc: Global, totals: Sum, weights: &Weights)
         ensures { self.new ≡ restarted weights.now totals self.old }
     {
@@ -363,8 +363,8 @@ impl Holdings {
         self.totals = totals;
     }
 
-    /// A framework has this role; it holds nothing yet. Of several roles that are told of a
-    /// framework the first counts. It fails for want of memory alone, and then changes nothing.
+    /// Registers a framework with this role; it holds nothing yet. One that is registered already
+    /// keeps its role. It fails for want of memory alone, and then changes nothing.
     pub fn role(
         &mut self,
         alloc: Global,
@@ -389,8 +389,8 @@ impl Holdings {
         Ok(())
     }
 
-    /// A role has this weight from now on, 1 to 1,000; one that was given none has 1.
-    /// It fails for want of memory alone, and then changes nothing.
+    /// A role has this weight from now on, 1 to 1,000; one whose weight was never set has 1. It
+    /// fails for want of memory alone, and then changes nothing.
     pub fn weigh(&mut self, alloc: Global, role: &RoleName, weight: u16) -> Result<(), AllocError>
         requires { IsWeight weight }
         ensures ok { OnOk result (self.new ≡ weighed role.now weight self.old) }
@@ -402,9 +402,9 @@ impl Holdings {
         Ok(())
     }
 
-    /// A framework holds more, and so does its role; what a framework holds that no role was told
-    /// of counts for nobody. It takes no memory where both hold some of each name.
-    /// It fails for want of memory alone, and then changes nothing.
+    /// A framework holds more, and so does its role; nothing changes where the framework isn't
+    /// registered. It takes no memory where both hold some of each name. It fails for want of
+    /// memory alone, and then changes nothing.
     pub fn give(
         &mut self,
         alloc: Global,
@@ -429,8 +429,8 @@ impl Holdings {
         )
     }
 
-    /// A framework and its role hold less. `P1 NotHeld` where no role was told of the framework,
-    /// or where it or its role holds less of some name; a refusal changes nothing.
+    /// A framework and its role hold less. `P1 NotHeld` where the framework isn't registered, or
+    /// where it or its role holds less of some name; a refusal changes nothing.
     pub(crate) fn back(
         &mut self,
         alloc: Global,

@@ -1,5 +1,4 @@
-//! What holds of shares: each function's contract is a law,
-//! and its call brings the law into a proof.
+//! What holds of shares: each function's contract is a law, and its call adds the law to a proof.
 
 ghost use Rattle.drf_pick.specs.Laws.{TestIsRelation, AmountsDecide, StandingIsOrder, SumsAdd, PicksLeast};
 
@@ -9,7 +8,7 @@ pub fn test_is_relation()
     ensures { TestIsRelation }
 {}
 
-/// How two stand depends on the amounts of each name and on the weights alone.
+/// How two compare depends on the amounts of each name and on the weights alone.
 pub fn amounts_decide()
     ensures { AmountsDecide }
 {}

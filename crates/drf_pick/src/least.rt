@@ -108,8 +108,8 @@ pub fn comes_before(
     comes_by_role(shares, first_role, one.role, second_role, other.role)
 }
 
-/// The better one of the best so far and a client, with its shares.
-/// `place` says where the client is likely to stand.
+/// The better one of the best so far and a client, with its shares. `place` is the likely place of
+/// the client.
 fn better_client<'a>(
     shares: &Shares,
     best: Option<&'a Client>,
@@ -166,9 +166,9 @@ fn are_sound(shares: &Shares)
 }
 
 /// The client that stands least: its role stands at most at each other's, ties by the roles' names,
-/// and within its role it stands at most at each other, ties by the frameworks' ids. What a role or
-/// a framework holds that the shares were told nothing of is nothing. None only where there is no
-/// client. It takes no memory.
+/// and within its role it stands at most at each other, ties by the frameworks' ids. A role or a
+/// framework that isn't registered in the shares holds nothing. None only where there is no client.
+/// It takes no memory.
 pub fn pick(shares: &Shares, clients: &[Client]) -> Option<FrameworkId>
     ensures some { IfSome result (IsPicked shares.now clients.now) }
     ensures none { IfNone result (clients.now ≡ []) }

@@ -15,7 +15,7 @@ use std::alloc::{AllocError, Global};
 use std::collections::BTreeMap;
 use std::marker::Model;
 
-/// Sums of roles of which none stands twice. A role is found by its name in logarithmic time.
+/// Sums of roles, none listed twice. A role is found by its name in logarithmic time.
 #[derive(Drop)]
 pub(crate) struct Roles {
     sums: Vec<RoleSum>,

@@ -19,7 +19,7 @@ use std::marker::Model;
 #[derive(Drop)]
 pub struct Shares {
     pub(crate) holdings: Holdings,
-    /// For each holder, at its place, its dominant share; there may be more behind them.
+    /// For each holder, at its place, its dominant share; there may be more after them.
     pub(crate) fractions: Vec<Fraction>,
     /// The same for each role.
     pub(crate) role_fractions: Vec<Fraction>,
@@ -84,8 +84,8 @@ impl Shares {
         }
     }
 
-    /// The shares of what is held. It takes time only for what was given since nobody held
-    /// anything, for frameworks that are new, and for each role.
+    /// The shares of what is held. It takes time only for the holders whose sums were increased
+    /// since nobody held anything, for frameworks that are new, and for each role.
     pub fn of(alloc: Global, holdings: Holdings) -> Result<Shares, AllocError>
         ensures { IfOk result (λ shares. shares ≡ holdings) }
     {
@@ -101,8 +101,8 @@ impl Shares {
         })
     }
 
-    /// What is held, without shares. It takes no memory, and time only for what was given since
-    /// nobody held anything.
+    /// What is held, without shares. It takes no memory, and time only for the holders whose sums
+    /// were increased since nobody held anything.
     pub fn into_holdings(self) -> Holdings
         ensures { result ≡ self }
     {
@@ -141,8 +141,8 @@ impl Shares {
         Ok(())
     }
 
-    /// A framework has this role; it holds nothing yet. Of several roles that are told of a
-    /// framework the first counts. `P2 OutOfMemory` changes nothing.
+    /// Registers a framework with this role; it holds nothing yet. One that is registered already
+    /// keeps its role. `P2 OutOfMemory` changes nothing.
     pub fn role(
         &mut self,
         alloc: Global,
@@ -159,8 +159,8 @@ impl Shares {
         Ok(())
     }
 
-    /// A role has this weight from now on, 1 to 1,000; one that was given none has 1.
-    /// `P2 OutOfMemory` changes nothing.
+    /// A role has this weight from now on, 1 to 1,000; one whose weight was never set has 1. `P2
+    /// OutOfMemory` changes nothing.
     pub fn weigh(&mut self, alloc: Global, role: &RoleName, weight: u16) -> Result<(), SharesFault>
         requires { IsWeight weight }
         ensures ok { OnOk result (self.new ≡ weighed role.now weight self.old) }
@@ -172,8 +172,8 @@ impl Shares {
         Ok(())
     }
 
-    /// A framework holds more, and so does its role; what a framework holds that no role was told
-    /// of counts for nobody. `P2 OutOfMemory` changes nothing.
+    /// A framework holds more, and so does its role; nothing changes where the framework isn't
+    /// registered. `P2 OutOfMemory` changes nothing.
     pub fn give(
         &mut self,
         alloc: Global,
@@ -211,8 +211,8 @@ impl Shares {
         }
     }
 
-    /// A framework and its role hold less. `P1 NotHeld` where no role was told of the framework,
-    /// or where it or its role holds less of some name; a refusal changes nothing.
+    /// A framework and its role hold less. `P1 NotHeld` where the framework isn't registered, or
+    /// where it or its role holds less of some name; a refusal changes nothing.
     pub fn back(
         &mut self,
         alloc: Global,

@@ -11,7 +11,7 @@ use Rattle.mails.specs.declared.task.Job.{Job}
 use Rattle.mails.specs.declared.record.RecordedTask.{RecordedTask}
 use Rattle.mails.specs.declared.record.Durable.{Durable}
 
--- amounts, each behind a space
+-- amounts, each after a space
 
 unfoldable pub amount_text : Row → List ℕ
 amount_text row = 32 ∷ (row.name ++ (58 ∷ decimal row.amount))
@@ -20,7 +20,7 @@ abbrev pub amounts_text : List Row → List ℕ
 amounts_text [] = codes " -"
 amounts_text (r ∷ rs) = flat_map amount_text (r ∷ rs)
 
--- the state that was told last, TASK_STAGING before the first
+-- the state of the last update, TASK_STAGING before the first
 abbrev pub last_state : List TaskState → TaskState
 last_state states = slice_index_or states (length states - 1) Staging
 

@@ -16,7 +16,7 @@ use Rattle.entry_lines.specs.Words.{step_word, verdict_text, fault_text}
 unfoldable pub line : List ℕ → List ℕ → List ℕ
 line front body = front ++ (body ++ 10 ∷ [])
 
--- what stands before the body of a line
+-- the beginnings of lines
 
 unfoldable pub number_front : ℕ → List ℕ
 number_front number = decimal number ++ 32 ∷ []
@@ -35,7 +35,7 @@ event_line mark e = line (event_front mark e.stream) (event_text e.event)
 abbrev pub closed_line : Numbered → List ℕ
 closed_line stream = line (codes "x ") (id_text 83 stream)
 
--- the line of what was sent under this number; of a call its type is told
+-- the line of what was sent under this number; of a call its type is printed
 abbrev pub sent_line : List ℕ → ℕ → Sent → List ℕ
 sent_line word number Call = line (mail_front number (codes "master")) word
 sent_line word number (ToAgent to) = line (mail_front number to.agent) (to_agent_form to)

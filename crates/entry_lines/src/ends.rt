@@ -106,7 +106,7 @@ fn agent_front(alloc: Global, name: &AgentName) -> Result<Vec<u8>, AllocError>
 }
 
 /// An agent's lines: what it owns by its record, what of that is offered and what its live tasks
-/// hold; then a line for each task of its record, an ended one too. Amounts stand in byte order of
+/// hold; then a line for each task of its record, an ended one too. Amounts are in byte order of
 /// their names.
 pub fn agent_text(
     alloc: Global,

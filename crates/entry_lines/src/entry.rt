@@ -131,7 +131,7 @@ fn push_outputs(
     push_taken(alloc, text, &outputs.taken)
 }
 
-/// One line: a number, and what is told behind it.
+/// One line: a number, and the text after it.
 fn numbered_line(alloc: Global, number: u64, told: &str) -> Result<Vec<u8>, AllocError>
     ensures { IfOk result (λ text. text.items ≡ line (number_front number) told.now) }
 {
@@ -143,8 +143,8 @@ fn numbered_line(alloc: Global, number: u64, told: &str) -> Result<Vec<u8>, Allo
 
 /// The lines of the entry of the step with this number: its verdict; then the events, the closed
 /// streams, and the calls and mails, which are numbered from `first` on; then the event that it
-/// took. Of a call that was sent the type alone is told. `AllocError` too for an entry whose part
-/// ran out of memory, which has no lines.
+/// took. Of a call that was sent the type alone is printed. `AllocError` too for an entry whose
+/// part ran out of memory, which has no lines.
 pub fn entry_text(
     alloc: Global,
     number: u64,

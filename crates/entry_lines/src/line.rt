@@ -17,7 +17,7 @@ pub(crate) fn push_line(text: &mut Vec<u8>, front: &str, body: &[u8]) -> Result<
     Ok(())
 }
 
-/// What stands before a verdict.
+/// The beginning of the line of a verdict.
 #[tactic(auto, unfolding(crate::specs::Lines::number_front))]
 pub(crate) fn number_front(alloc: Global, number: u64) -> Result<String, AllocError>
     ensures { IfOk result (λ text. string_bytes text ≡ number_front number) }
@@ -25,7 +25,7 @@ pub(crate) fn number_front(alloc: Global, number: u64) -> Result<String, AllocEr
     format!(in alloc; "{number} ")
 }
 
-/// What stands before an event, behind the mark of its line.
+/// The beginning of the line of an event: this mark, and the stream's id.
 #[tactic(auto, unfolding(crate::specs::Lines::event_front))]
 pub(crate) fn event_front(alloc: Global, mark: &str, stream: StreamId) -> Result<String, AllocError>
     ensures { IfOk result (λ text. string_bytes text ≡ event_front mark.now stream) }
@@ -36,7 +36,7 @@ pub(crate) fn event_front(alloc: Global, mark: &str, stream: StreamId) -> Result
     format!(in alloc; "{mark} {id} ")
 }
 
-/// What stands before the mail of this number.
+/// The beginning of the line of the mail with this number.
 #[tactic(auto, unfolding(crate::specs::Lines::mail_front))]
 pub(crate) fn mail_front(alloc: Global, number: u64, receiver: &str) -> Result<String, AllocError>
     ensures { IfOk result (λ text. string_bytes text ≡ mail_front number receiver.now) }

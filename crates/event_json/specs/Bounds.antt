@@ -29,7 +29,7 @@ pub record AreOffers (offers : List Offer) : Type 0 where
   pub few : length offers ≤ 256
   pub each : AllByRecursion IsOffer offers
 
--- the state of a named task; an agent that is told has a name
+-- the state of a named task; its agent, if there is one, has a name
 pub record IsStatus (s : TaskStatus) : Type 0 where
   pub task : IsName s.task
   pub agent : IfSome s.agent IsName

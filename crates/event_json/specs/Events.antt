@@ -13,7 +13,7 @@ use Rattle.scheduler_events.specs.declared.event.Event.TheVariants.{Subscribed, 
 abbrev pub type_data : List ℕ → Data
 type_data kind = only (codes "type") (string kind)
 
--- a member before the type, and one behind it
+-- a member before the type, and one after it
 abbrev pub before_type : List ℕ → Data → List ℕ → Data
 before_type name body kind =
     object (member name body (member (codes "type") (string kind) no_members))

@@ -14,7 +14,7 @@ row_data row = object
     (member (codes "scalar") (only (codes "value") (number (unsigned row.amount)))
     (member (codes "type") (string (codes "SCALAR")) no_members))))
 
--- members, and the name of the agent's host put to them
+-- members with the name of the agent's host
 abbrev pub hosted : List ℕ → Members → Data
 hosted agent ms = object (put (codes "hostname") (string agent) ms)
 

@@ -11,7 +11,7 @@ abbrev pub with_agent : Option (List ℕ) → Members → Members
 with_agent None others = others
 with_agent (Some agent) others = member (codes "agent_id") (id_data agent) others
 
--- the id of an update put to members, where there is one
+-- members with the id of an update, where there is one
 abbrev pub with_uuid : Option (List ℕ) → Members → Members
 with_uuid None others = others
 with_uuid (Some uuid) others = put (codes "uuid") (string uuid) others

@@ -10,7 +10,7 @@ use names_core::{FrameworkId, OfferId};
 use serde_json::{Map, Value, put};
 use std::alloc::{AllocError, Global};
 
-/// Puts a text under a name.
+/// Inserts a text under a name.
 pub fn put_text(
     members: &mut Map<String, Value>,
     alloc: Global,

@@ -12,7 +12,7 @@ use scheduler_events::Offer;
 use serde_json::{Map, Value, put};
 use std::alloc::{AllocError, Global};
 
-/// Puts the members of an amount into an empty object.
+/// Inserts the members of an amount into an empty object.
 #[tactic(auto, unfolding(crate::specs::Offers::row_data))]
 fn put_row(members: &mut Map<String, Value>, alloc: Global, row: &Row) -> Result<(), AllocError>
     requires { members.old.entries ≡ [] }
@@ -43,7 +43,7 @@ fn rows_value(alloc: Global, rows: &[Row]) -> Result<Value, AllocError>
     Ok(Value::Array(values))
 }
 
-/// Puts the members of an offer into an empty object, all but the name of its agent's host.
+/// Inserts the members of an offer into an empty object, all but the name of its agent's host.
 #[tactic(auto, unfolding(crate::specs::Offers::offer_data))]
 fn put_offer(
     members: &mut Map<String, Value>,

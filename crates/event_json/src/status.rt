@@ -13,7 +13,7 @@ use scheduler_events::TaskStatus;
 use serde_json::{Map, Value, put};
 use std::alloc::{AllocError, Global};
 
-/// Puts the agent, where there is one, into an empty object.
+/// Inserts the agent, where there is one, into an empty object.
 fn put_agent(
     members: &mut Map<String, Value>,
     alloc: Global,
@@ -31,7 +31,7 @@ fn put_agent(
     put(members, alloc, "agent_id", id)
 }
 
-/// Puts the id of an update, where there is one.
+/// Inserts the id of an update, where there is one.
 fn put_uuid(
     members: &mut Map<String, Value>,
     alloc: Global,
@@ -49,7 +49,7 @@ fn put_uuid(
     put(members, alloc, "uuid", Value::String(uuid))
 }
 
-/// Puts the members of a state into an empty object.
+/// Inserts the members of a state into an empty object.
 fn put_status(
     members: &mut Map<String, Value>,
     alloc: Global,

@@ -121,7 +121,7 @@ fn value_of(alloc: Global, event: &Event) -> Result<Value, AllocError>
 }
 
 /// The text of an event: compact JSON (RFC 8259),
-/// in which an object's members stand in byte order of their names.
+/// in which an object's members are in byte order of their names.
 pub fn write_event(alloc: Global, event: &Event) -> Result<Vec<u8>, AllocError>
     ensures text { IfOk result (λ text. text.items ≡ event_text event.now) }
     ensures fits { IfOk result (λ text. length text.items ≤ longest) }

@@ -34,7 +34,7 @@ Splits text (body ∷ others) rest =
 abbrev pub record_text : List ℕ → List ℕ
 record_text body = decimal (length body) ++ 10 ∷ body
 
--- What stands first on a text: a record and what follows it,
+-- What a text begins with: a record and what follows it,
 -- a size line or data not yet whole, or a fault.
 pub data First : Type 0 where
   whole : List ℕ → List ℕ → First
@@ -56,12 +56,12 @@ unfoldable pub first : List ℕ → First
 first text =
     judged (take_while is_ascii_digit text) (drop (length (take_while is_ascii_digit text)) text)
 
--- Where a reader stands: in a rest that is no whole record and has shown no fault, or at a fault.
+-- The state of a reader: a rest that is no whole record and has no fault, or a fault.
 pub record State : Type 0 where
   pub rest : List ℕ
   pub fault : Option FrameFault
 
--- After the whole text, with these records, a reader stands so.
+-- After the whole text, with these records, a reader has this rest, or this fault.
 abbrev pub Ends : List ℕ → List (List ℕ) → List ℕ → Option FrameFault → Type 0
 Ends text records rest None = Splits text records rest × (first rest ≡ partial)
 Ends text records rest (Some f) =

@@ -1,4 +1,4 @@
-//! The size line that stands first in a record.
+//! The size line at the beginning of a record.
 
 ghost use Rattle.std.specs.Prelude.{true, ◌≡◌, ◌≤◌, ◌<◌, ◌∷◌, [], length, take_while, IfOk, IfErr};
 ghost use Rattle.std.specs.Char.{is_ascii_digit};
@@ -24,7 +24,7 @@ pub enum Line {
     Faulty { taken: usize, fault: FrameFault },
 }
 
-/// How many digits stand in front.
+/// How many digits the text begins with.
 fn count_digits(text: &[u8]) -> usize
     ensures { result ≡ length (take_while is_ascii_digit text.now) }
 {
@@ -44,7 +44,7 @@ fn value_of(digits: &[u8]) -> u128
     value
 }
 
-/// The size that a line says, by its digits and the byte behind them. `F1` for no digits, another
+/// The size that a line says, by its digits and the byte after them. `F1` for no digits, another
 /// byte than a line feed, or a number over 2^64 - 1; `F2` for a size over the limit.
 fn size_of(digits: &[u8], stop: u8) -> Result<usize, FrameFault>
     requires { IsOpenLine digits.now }

@@ -1,4 +1,4 @@
-//! RecordIO: records on a byte stream, each behind its size in decimal digits and a line feed,
+//! RecordIO: records on a byte stream, each preceded by its size in decimal digits and a line feed,
 //! as the event streams and the calls of the Mesos scheduler HTTP API are framed.
 #![tactic(auto)]
 

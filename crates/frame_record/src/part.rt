@@ -1,4 +1,4 @@
-//! The record that has come in part.
+//! The record that was read in part.
 
 ghost use Rattle.std.specs.Prelude.{◌≡◌, ◌≤◌, ◌<◌, ◌+◌, ◌-◌, ◌*◌, ◌++◌, ◌↔◌, [], None, Some, length, max, min, take, drop, vec_capacity, IfOk, IfSome, IsTrue, OnOk, MatchOption};
 ghost use Rattle.frame_record.specs.Records.{Splits, first, partial};
@@ -44,7 +44,7 @@ fn make_room(kept: &mut Vec<u8>, size: usize, more: usize) -> Result<(), AllocEr
     Ok(())
 }
 
-/// Takes data bytes until there are as many as the size says, and tells how many it took.
+/// Takes data bytes until there are as many as the size says, and returns how many it took.
 fn take_data(kept: &mut Vec<u8>, size: usize, piece: &[u8]) -> Result<usize, AllocError>
     requires { length kept.old.items ≤ size }
     ensures taken { IfOk result (λ taken. taken ≤ length piece.now) }
@@ -71,7 +71,7 @@ impl Part {
         }
     }
 
-    /// Whether nothing of a record has come.
+    /// Whether nothing of a record was read.
     pub fn is_empty(&self) -> bool
         ensures { IsTrue result ↔ (text_of self.now ≡ []) }
     {
@@ -89,7 +89,7 @@ impl Part {
         }
     }
 
-    /// Gives the data where they are whole, and begins anew.
+    /// Returns the data where they are whole, and is empty from then on.
     fn finish(&mut self, alloc: Global, size: usize) -> Option<Vec<u8>>
         requires line { IsSizeLine self.old.line.items size }
         requires within { length self.old.body.items ≤ size }
@@ -108,7 +108,7 @@ impl Part {
         Some(mem::replace(&mut self.body, Vec::new(alloc)))
     }
 
-    /// Takes data behind a whole size line, which ends there in the piece.
+    /// Takes data after a whole size line, which ends at `start` in the piece.
     fn fill(
         &mut self,
         alloc: Global,

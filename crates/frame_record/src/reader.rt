@@ -10,8 +10,7 @@ use crate::part::{Part, Pulled};
 use std::alloc::Global;
 use std::marker::Model;
 
-/// Where a reader stands on its stream: it keeps the record that is not whole yet, or the fault
-/// that it met.
+/// A reader of a stream. It keeps the record that is not whole yet, or the fault that it met.
 #[derive(Drop)]
 pub struct Reader {
     part: Part,
@@ -29,7 +28,7 @@ impl Model for Reader {
     ghost invariant = { λ r. IsGoing r.fault r.part };
 }
 
-/// What a piece brought: the records that it completed, in order, and the fault behind them,
+/// What a piece held: the records that it completed, in order, and the fault after them,
 /// if one was met (`F1` or `F2`).
 #[derive(Drop)]
 pub struct Fed {
@@ -37,7 +36,7 @@ pub struct Fed {
     pub fault: Option<FrameFault>,
 }
 
-/// What a piece brings behind a fault: nothing but the fault. `F4` where memory ran out.
+/// What is pulled after a fault: nothing but the fault. `F4` where memory ran out.
 fn pulled_after(fault: FrameFault) -> Result<Pulled, FrameFault>
     ensures ok { IfOk result (λ pulled.
         (pulled.taken ≡ 0) × (pulled.item ≡ None) × (pulled.fault ≡ Some fault)) }
@@ -67,11 +66,11 @@ impl Reader {
     }
 
     /// Takes from the front of the next piece up to the end of the first record or fault, or all of
-    /// it, and gives that record or fault (`F1` or `F2`). What it didn't take, the caller gives
-    /// again. A fault is told at the byte that makes it one. `Err` is want of memory (`F4`). After
-    /// a fault each later call takes nothing and gives the same one. The time is linear in the
-    /// bytes taken, however small the pieces are; data are copied into the record that is given,
-    /// and room for them is made as they come.
+    /// it, and returns that record or fault (`F1` or `F2`). What it didn't take, the caller passes
+    /// again. A fault is returned at the byte that makes it one. `Err` is want of memory (`F4`).
+    /// After a fault each later call takes nothing and returns the same one. The time is linear in
+    /// the bytes taken, however small the pieces are; data are copied into the record that is
+    /// returned, and room for them is made as they come.
     pub fn pull(&mut self, alloc: Global, piece: &[u8]) -> Result<Pulled, FrameFault>
         ensures taken { IfOk result (λ pulled. pulled.taken ≤ length piece.now) }
         // Over any pieces, the records are those of the whole text, and so is the fault.
@@ -79,7 +78,7 @@ impl Reader {
             (λ pulled. (text : List ℕ) (before : List (List ℕ)) → Reads text before self.old
             → Reads (text ++ take pulled.taken piece.now)
             (before ++ item_of pulled.item) self.new) }
-        // Nothing waits behind a record; a piece that brings neither record nor fault is taken whole.
+        // After a record nothing is kept; a piece without its end or a fault is taken whole.
         ensures whole { IfOk result (λ pulled.
             MatchOption pulled.item (pulled.fault ≡ None → pulled.taken ≡ length piece.now)
             (λ item. (self.new.rest ≡ []) × (0 < pulled.taken) × (pulled.fault ≡ None))) }
@@ -111,10 +110,10 @@ impl Reader {
         }
     }
 
-    /// Takes the next piece of the stream, of any length, and gives the records that are whole now.
-    /// A fault is told at the byte that makes it one. After `F1`, `F2` or `F4` each later call
-    /// gives no record and the same fault. The time is linear in the bytes fed, however small the
-    /// pieces are.
+    /// Takes the next piece of the stream, of any length, and returns the records that are whole
+    /// now. A fault is returned at the byte that makes it one. After `F1`, `F2` or `F4` each later
+    /// call returns no record and the same fault. The time is linear in the bytes fed, however
+    /// small the pieces are.
     pub fn feed(&mut self, alloc: Global, piece: &[u8]) -> Result<Fed, FrameFault>
         // Over any pieces, the records are those of the whole text, and so is the fault.
         ensures reads { IfOk result
@@ -151,7 +150,7 @@ impl Reader {
         }
     }
 
-    /// Pulls until the piece gives no further record.
+    /// Pulls until the piece completes no further record.
     fn pull_all(&mut self, alloc: Global, piece: &[u8]) -> Result<Vec<Vec<u8>>, FrameFault>
         requires { self.old.fault ≡ None }
         ensures { IfOk result
@@ -196,7 +195,7 @@ pub fn first_records_stay()
         → (others : List (List ℕ)) × (all ≡ records ++ others) }
 {}
 
-/// Behind a fault nothing more is read.
+/// After a fault nothing more is read.
 pub fn fault_stays()
     ensures { (text more : List ℕ) (records : List (List ℕ)) (s : State) (f : FrameFault)
         → s.fault ≡ Some f → Reads text records s → Reads (text ++ more) records s }

@@ -28,12 +28,12 @@ AreOfOneRole fs = (role : List ℕ) × HaveRole role fs
 abbrev pub with_id : Numbered → List Framework → Option Framework
 with_id id fs = find (λ f. same f.id id) fs
 
--- how many of the first stand before an id
+-- how many of the first frameworks are before an id
 abbrev pub place_of : Numbered → List Framework → ℕ
 place_of id [] = 0
 place_of id (f ∷ fs) = if before f.id id then suc (place_of id fs) else 0
 
--- the framework's id stands at a place
+-- the framework's id is at a place
 abbrev pub is_at : ℕ → Framework → List Framework → Bool
 is_at place f fs = nat_lt place (length fs) && same (slice_index_or fs place f).id f.id
 

@@ -1,4 +1,4 @@
--- Where open streams lead.
+-- The index of open streams.
 use Rattle.std.specs.Prelude.{◌≡◌, true, if◌then◌else◌, ◌↔◌, List, map, Option, Some, None, option_and_then}
 use Rattle.std.specs.Ordering.{nat_cmp, ordering_then}
 use Rattle.std.specs.declared.cmp.Ordering.{Ordering}
@@ -8,15 +8,15 @@ use Rattle.mails.specs.declared.framework.Framework.{Framework}
 use Rattle.cluster_model.specs.Calls.{is_stream}
 use Rattle.frameworks.specs.Frameworks.{are_ordered, with_id}
 
--- streams stand by run, then by number
+-- the order of streams: by run, then by number
 abbrev pub stream_cmp : Numbered → Numbered → Ordering
 stream_cmp a b = ordering_then (nat_cmp a.run b.run) (nat_cmp a.n b.n)
 
--- the framework that a stream leads to
+-- the framework of a stream in the index
 abbrev pub led_by : BTreeMap Numbered Numbered → Numbered → Option Numbered
 led_by index stream = get stream_cmp index stream
 
--- this stream, if it is one, leads nowhere; others lead where they led
+-- without this stream, if it is one; others keep their framework
 abbrev pub without : Option Numbered → (Numbered → Option Numbered) → Numbered → Option Numbered
 without shut leads stream = if is_stream stream shut then None else leads stream
 
@@ -27,7 +27,7 @@ streams_of fs = map (λ f. f.stream) fs
 abbrev pub open_stream : Numbered → List Framework → Option Numbered
 open_stream id fs = option_and_then (λ f. f.stream) (with_id id fs)
 
--- a stream leads to just that framework whose open stream it is
+-- a stream is in the index with just that framework whose open stream it is
 abbrev pub LeadToOpen : (Numbered → Option Numbered) → List Framework → Type 0
 LeadToOpen leads fs =
     (stream id : Numbered) → (leads stream ≡ Some id) ↔ (open_stream id fs ≡ Some stream)

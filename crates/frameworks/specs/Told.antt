@@ -1,4 +1,4 @@
--- Shares that are kept from one round to the next, and the frameworks that they were told of.
+-- Shares that are kept from one round to the next, and the frameworks registered in them.
 use Rattle.std.specs.Prelude.{◌≡◌, List, [], map, take, fold, IfSome}
 use Rattle.quantity.specs.declared.rows.Row.{Row}
 use Rattle.mails.specs.declared.framework.Framework.{Framework}
@@ -21,12 +21,12 @@ abbrev pub introduces : List RoleWeight → Tally → Client → Tally
 introduces weights t c =
     weighed c.role (weight_of weights c.role) (with_role c.framework c.role t)
 
--- shares that start anew are those that were told of just these frameworks, one after another
+-- shares that start anew are those in which just these frameworks are registered, one after another
 abbrev pub Remembers : List Client → Tally → Type 0
 Remembers cs t =
     (weights : List RoleWeight) (totals : List Row) → restarted weights totals t
     ≡ fold (introduces weights) (owning totals) cs
 
--- the shares, if any are kept, were told of the first frameworks, so many
+-- where shares are kept, the first `count` frameworks are registered in them
 abbrev pub AreTold : List Framework → Told → Type 0
 AreTold fs told = IfSome told.holdings (Remembers (clients_of (take told.count fs)))

@@ -18,7 +18,7 @@ use std::alloc::{AllocError, Global};
 /// Seconds between two heartbeats on a stream.
 const HEARTBEAT_SECONDS: u64 = 15;
 
-/// Puts a framework in its place by id, in place of what was there.
+/// Inserts a framework at its place by id; one of the same id is replaced.
 pub fn put(frameworks: &mut Vec<Framework>, framework: Framework) -> Result<(), AllocError>
     requires { are_ordered frameworks.old.items ≡ true }
     ensures ok { OnOk result (frameworks.new.items ≡ put_framework framework frameworks.old.items) }

@@ -110,8 +110,8 @@ fn filtered_until(filters: &[Filter], agent: &AgentName, free: &Resources) -> u6
     until
 }
 
-/// A moment, in seconds, before which a framework may not be offered what is free on an agent,
-/// as it stands.
+/// A moment, in seconds, before which a framework may not be offered what is free on an agent, as
+/// long as it doesn't change.
 pub fn refused_until(framework: &Framework, agent: &AgentName, free: &Resources) -> u64
     ensures { (now : ℕ) → now < result
         → may_be_offered now agent.now free.now framework.now ≡ false }

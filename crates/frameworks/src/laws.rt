@@ -2,7 +2,7 @@
 
 ghost use Rattle.frameworks.specs.Frameworks.{PutsAreChanges};
 
-/// To put a changed framework in its place is to change it there.
+/// Inserting a changed framework at its place changes it there.
 pub fn puts_are_changes()
     ensures { PutsAreChanges }
 {}

@@ -28,7 +28,7 @@ pub fn place_in(frameworks: &[Framework], id: FrameworkId) -> usize
     frameworks.partition_point(|framework| is_before(framework.id, id))
 }
 
-/// Whether this framework's id stands at a place.
+/// Whether this framework's id is at a place.
 pub fn is_at(frameworks: &[Framework], place: usize, framework: &Framework) -> bool
     ensures { result ≡ is_at place framework.now frameworks.now }
 {

@@ -91,7 +91,7 @@ fn start_for(
     })
 }
 
-/// It is of the frameworks behind it too, as far as these aren't eligible at this moment.
+/// Extends a start by the frameworks after it, as far as these aren't eligible at this moment.
 fn go_on(start: &mut Start, frameworks: &[Framework], now: u32)
     requires start { IsStart frameworks.now start.old }
     requires later { now < start.old.until }
@@ -177,7 +177,7 @@ impl Starts {
     }
 
     /// How many of the first frameworks may not be offered what is free on an agent at this moment.
-    /// `place` says where the agent stands among all; what is known of it is kept there.
+    /// `place` is the agent's place among all; what is known of the agent is kept there.
     pub fn passed_over(
         &mut self,
         place: usize,

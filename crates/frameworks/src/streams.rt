@@ -12,7 +12,7 @@ use names_core::{FrameworkId, StreamId};
 use std::alloc::AllocError;
 use std::collections::BTreeMap;
 
-/// This stream, if it is one, leads nowhere any more.
+/// Removes this stream, if it is one, from the index.
 pub fn shut(by_stream: &mut BTreeMap<StreamId, FrameworkId>, stream: Option<StreamId>)
     ensures { (s : Numbered) → led_by by_stream.new s ≡ without stream (led_by by_stream.old) s }
 {
@@ -21,8 +21,8 @@ pub fn shut(by_stream: &mut BTreeMap<StreamId, FrameworkId>, stream: Option<Stre
     }
 }
 
-/// Puts a framework in its place by id, and its open stream into the index. A stream that leads to
-/// a framework is refused.
+/// Inserts a framework at its place by id, and its open stream into the index, in place of the one
+/// that the framework had. It fails for want of memory, and where the stream is in the index.
 pub fn put_open(
     frameworks: &mut Vec<Framework>,
     by_stream: &mut BTreeMap<StreamId, FrameworkId>,

@@ -23,7 +23,7 @@ use std::marker::Model;
 use std::mem;
 
 /// The frameworks that are known in a run, in the order of their ids. What a round of offers keeps
-/// for the next one stands beside them; no answer hangs on it.
+/// for the next one is stored beside them; no answer depends on it.
 pub struct Frameworks {
     items: Vec<Framework>,
     by_stream: BTreeMap<StreamId, FrameworkId>,
@@ -210,7 +210,8 @@ impl Frameworks {
     {
         edit::beat_in(&mut self.items, now);
     }
-    /// What frameworks held in the round before, and of how many of the first of them it was told.
+    /// What frameworks held in the round before, and how many of the first ones are registered in
+    /// it; nothing and 0 where it isn't kept.
     pub fn take_holdings(&mut self, alloc: Global) -> (Holdings, usize)
         ensures told { Remembers (clients_of (take result.1 self.old)) result.0 }
         ensures few { result.1 ≤ length self.old }

@@ -13,11 +13,11 @@ use names_core::{FrameworkId, RoleName};
 use std::alloc::Global;
 use std::mem;
 
-/// What frameworks held in the round before, and how many of the first frameworks it was told of.
+/// What frameworks held in the round before, and how many of the first ones are registered in it.
 #[derive(Drop)]
 pub(crate) struct Told {
-    /// None where a round has it, and where a framework that it was told of has another role or
-    /// place since.
+    /// None where a round has it, and where a framework that is registered in it has another role
+    /// or place since.
     holdings: Option<Holdings>,
     count: usize,
 }
@@ -41,7 +41,7 @@ impl Told {
         }
     }
 
-    /// The frameworks from a place on may be others than those that it was told of.
+    /// The frameworks from a place on may be others than those that are registered in it.
     fn cut(&mut self, place: usize)
         ensures { (fs gs : List model.Framework) → take place gs ≡ take place fs
             → AreTold fs self.old → AreTold gs self.new }
@@ -51,8 +51,8 @@ impl Told {
         }
     }
 
-    /// A framework of this id and role is about to be put in its place: holdings that were told of
-    /// another there are dropped.
+    /// A framework of this id and role is about to be inserted at its place: holdings in which
+    /// another is registered there are dropped.
     pub(crate) fn cut_for(&mut self, frameworks: &[Framework], id: FrameworkId, role: &RoleName)
         requires told { AreTold frameworks.now self.old }
         requires ordered { are_ordered frameworks.now ≡ true }
@@ -66,7 +66,8 @@ impl Told {
         }
     }
 
-    /// The holdings, and how many of the first frameworks they were told of.
+    /// The holdings, and how many of the first frameworks are registered in them; nothing and 0
+    /// where none are kept.
     pub(crate) fn take(&mut self, alloc: Global, frameworks: &[Framework]) -> (Holdings, usize)
         requires { AreTold frameworks.now self.old }
         ensures told { Remembers (clients_of (take result.1 frameworks.now)) result.0 }

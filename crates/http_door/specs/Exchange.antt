@@ -26,7 +26,7 @@ use Rattle.http_door.specs.Deeds.{Deed, calls, nexts, hangs_up, taken}
 abbrev pub chunks : List Event → List ℕ
 chunks events = flat_map (λ event. event_chunk (event_text event)) events
 
--- the text of a stream that was closed behind these events
+-- the text of a stream that was closed after these events
 abbrev pub stream_text : Numbered → List Event → List ℕ
 stream_text stream events = subscribed_response stream ++ (chunks events ++ last_chunk)
 
@@ -50,7 +50,7 @@ pub data Responds (plan : Plan) (body : List ℕ) (on : Bool) (deeds : List Deed
       ∷ (taken stream events ++ nexts stream (Ok None) ∷ []) → text ≡ stream_text stream events
       → Responds plan body on deeds text
 
--- the line that goes out before the body
+-- the line that is sent before the body
 abbrev pub interim : Plan → List ℕ
 interim plan = if plan.expects then continue_response else []
 
@@ -72,7 +72,7 @@ pub data Refuses (input : List ℕ) (ended : Type 0) (fault : RequestFault)
       → RefusesBody plan.body after ended fault → before ≡ interim plan
       → Refuses input ended fault before
 
--- the input is a request that is answered so, and the connection goes on behind it
+-- the input is a request that is answered so, and the connection goes on after it
 pub record Answers (input : List ℕ) (deed : Deed) (sent rest : List ℕ) : Type 0 where
   pub plan : Plan
   pub body : List ℕ
@@ -112,7 +112,7 @@ pub record Exchange (input : List ℕ) (ended : Type 0) (deeds : List Deed)
 
 -- ---- connections that break off
 
--- what was asked of a stream behind its events, before it was hung up
+-- what was asked of a stream after its events, before it was hung up
 pub data IsLastAsked (stream : Numbered) (deeds : List Deed) : Type 0 where
   nothing : deeds ≡ [] → IsLastAsked stream deeds
   closed : deeds ≡ nexts stream (Ok None) ∷ [] → IsLastAsked stream deeds

@@ -1,4 +1,4 @@
--- What the ends in memory read and write.
+-- What the inlet and the outlet in memory read and write.
 use Rattle.std.proofs.Common.{refl, sym, ap, ◌∙◌, append_assoc, append-nil}
 use Rattle.std.specs.Prelude.{◌≡◌, ℕ, List, [], ◌++◌}
 use Rattle.http_door.specs.declared.memory.Source.{Source}

@@ -46,7 +46,7 @@ Streams (Err f) stream deeds sent =
     (events : List Event) × (last : List Deed) × (k : ℕ) × IsLastAsked stream last
     × (deeds ≡ taken stream events ++ last) × (sent ≡ take k (stream_text stream events))
 
--- the same of the part behind the response's head
+-- the same of the part after the response's head
 abbrev pub SendsEvents : Result Unit LinkFault → Numbered → List Deed → List ℕ → Type 0
 SendsEvents (Ok u) stream deeds sent =
     (events : List Event) × (deeds ≡ taken stream events ++ nexts stream (Ok None) ∷ [])
@@ -111,7 +111,7 @@ RespondsToPlan (Ok true) plan input ended deeds sent rest =
 RespondsToPlan (Ok false) plan input ended deeds sent rest = EndsPlan plan input ended deeds sent
 RespondsToPlan (Err f) plan input ended deeds sent rest = StallsPlan plan input ended deeds sent
 
--- one turn: it goes on behind an answer, ends the connection, or breaks off
+-- one turn: it goes on after an answer, ends the connection, or breaks off
 abbrev pub Turns : Result Bool LinkFault → List ℕ → Type 0 → List Deed → List ℕ → List ℕ → Type 0
 Turns (Ok true) input ended deeds sent rest =
     (deed : Deed) × (deeds ≡ deed ∷ []) × Answers input deed sent rest

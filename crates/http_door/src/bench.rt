@@ -32,7 +32,7 @@ pub trait Bench {
     fn next_events(&mut self, stream: StreamId) -> Result<Option<Event>, AllocError>
         ensures { does self.old (nexts stream result) self.new };
 
-    /// The connection of a stream that this bench opened is gone.
+    /// The connection of a stream that this bench opened has ended.
     fn hang_up(&mut self, stream: StreamId)
         ensures { does self.old (hangs_up stream) self.new };
 }

@@ -38,7 +38,7 @@ fn refuse_last<O: Outlet>(
     }
 }
 
-/// Asks the bench a call, and sends its answer.
+/// Passes a call to the bench, and sends its answer.
 fn answer_call<O: Outlet, B: Bench, G: Gate>(
     alloc: Global,
     outlet: &mut O,
@@ -171,7 +171,7 @@ fn turn<I: Inlet, O: Outlet, B: Bench, G: Gate>(
 }
 
 /// Serves one connection until it ends. Requests may follow one another without waiting (RFC 9112,
-/// section 9.3.2). What was read behind the last one that was answered is lost. An `Err` ends the
+/// section 9.3.2). What was read after the last one that was answered is lost. An `Err` ends the
 /// connection too; a stream that it had opened is hung up by then.
 pub fn serve_conn<I: Inlet, O: Outlet, B: Bench, G: Gate>(
     alloc: Global,

@@ -1,8 +1,8 @@
-//! What stands around each call.
+//! What is called before and after each call.
 
-/// What stands around each call of a connection.
+/// What is called before and after each call of a connection.
 pub trait Gate {
-    /// Lets a call begin, and gives its number.
+    /// Returns once a call may begin, with its number.
     fn before(&self) -> u64;
 
     /// The call with this number was answered.

@@ -1,5 +1,6 @@
-//! The scheduler's HTTP endpoint, one connection at a time: calls are read from any inlet and put
-//! to any bench, and its answers go to any outlet (RFC 9112; Mesos scheduler HTTP API).
+//! The scheduler's HTTP endpoint, one connection at a time: calls are read from any inlet and
+//! passed to any bench, and its answers are written to any outlet (RFC 9112; Mesos scheduler HTTP
+//! API).
 #![tactic(auto)]
 
 mod bench;

@@ -1,4 +1,4 @@
-//! Ends in memory.
+//! An inlet and an outlet in memory.
 
 ghost use Rattle.std.specs.Prelude.{◌≡◌, ℕ, ◌+◌, ◌<◌, ◌≤◌, List, [], ◌∷◌, ◌++◌, length, drop, vec_len};
 ghost use Rattle.http_door.specs.Memory.{SourceReads, SinkWrites, has_ended, source_faults, sink_faults, source_reads_nothing, source_reads_more, sink_writes_nothing, sink_writes_more};
@@ -6,7 +6,7 @@ ghost use Rattle.http_door.specs.Memory.{SourceReads, SinkWrites, has_ended, sou
 use crate::outlet::Outlet;
 use http_request::Inlet;
 
-/// Takes the first bytes away.
+/// Removes the first bytes.
 fn drop_front(bytes: &mut Vec<u8>, count: usize)
     requires { count ≤ vec_len bytes.old }
     ensures { bytes.new.items ≡ drop count bytes.old.items }
@@ -16,7 +16,8 @@ fn drop_front(bytes: &mut Vec<u8>, count: usize)
     bytes.truncate(left);
 }
 
-/// Gives its bytes at most `most` at a time, and fails once `turns` reads were made.
+/// Returns its bytes at most `most` at a time, or one where that is 0, and fails once `turns` reads
+/// were made.
 #[derive(Drop)]
 pub struct Source {
     pub bytes: Vec<u8>,

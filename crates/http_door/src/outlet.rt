@@ -1,8 +1,8 @@
-//! Where the bytes of a connection go.
+//! Where the bytes of a connection are written.
 
 ghost use Rattle.std.specs.Prelude.{◌≡◌, ◌<◌, ◌≤◌, ℕ, List, [], ◌++◌, length, take, IfSome, OnSome, IfNone};
 
-/// Where bytes go.
+/// Where bytes are written.
 pub trait Outlet {
     /// From the one state to the other exactly these bytes were written.
     ghost writes: { Self → List ℕ → Self → Type 0 };

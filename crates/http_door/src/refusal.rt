@@ -19,9 +19,9 @@ pub enum BenchFault {
     MasterDown,
     /// The history takes no further entry.
     HistoryFull,
-    /// Memory ran out before the master saw the call.
+    /// Memory ran out before the master received the call.
     OutOfMemory,
-    /// The call was sent, and can't be handed to the master.
+    /// The call was sent, and can't be delivered to the master.
     NoSuchMail,
     /// The bench isn't one of the history's.
     ForeignPass,

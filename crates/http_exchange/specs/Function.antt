@@ -40,7 +40,7 @@ ends_spent (over none asked says) = false
 ends_spent (refuses_early fault before refuses asked says) = false
 ends_spent (responded plan body rest text has responds says) = is_spent responds
 
--- behind how many answered requests the reading of a call ran out of memory
+-- after how many answered requests the reading of a call ran out of memory
 abbrev pub spent_at : {input : List ℕ} {ended : Type 0} {deeds : List Deed} {sent : List ℕ}
     → Exchange input ended deeds sent → Option ℕ
 spent_at exchange = if ends_spent exchange.ends then Some (length exchange.before) else None

@@ -1,4 +1,4 @@
-//! The law that an exchange over HTTP is a function: one input and one bench give one exchange.
+//! The law that an exchange over HTTP is a function: one input and one bench have one exchange.
 #![tactic(auto)]
 
 ghost use Rattle.http_exchange.specs.Function.{IsFunction};

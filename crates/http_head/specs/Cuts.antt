@@ -10,7 +10,7 @@ use Rattle.http_head.specs.declared.cut.Scan.{Scan}
 abbrev pub max_part : ℕ
 max_part = 16384
 
--- the byte ends the part: it is the line feed of an empty line behind a line, or of the one line
+-- the byte ends the part: it is the line feed of an empty line after a line, or of the one line
 abbrev pub is_last : Place → ℕ → Bool
 is_last Front b = false
 is_last FrontCr b = false
@@ -19,7 +19,7 @@ is_last Start b = b == 10
 is_last StartCr b = b == 10
 is_last Line b = b == 10
 
--- the place behind one more byte
+-- the place after one more byte
 abbrev pub place_after : Place → ℕ → Place
 place_after Front b = if b == 10 then Front else (if b == 13 then FrontCr else Inside)
 place_after FrontCr b = if b == 10 then Front else Inside
@@ -28,7 +28,7 @@ place_after Start b = if b == 10 then Start else (if b == 13 then StartCr else I
 place_after StartCr b = if b == 10 then Start else Inside
 place_after Line b = Line
 
--- the place behind a text that begins at a place
+-- the place after a text that begins at a place
 unfoldable pub place_behind : Place → List ℕ → Place
 place_behind place [] = place
 place_behind place (b ∷ bs) = place_behind (place_after place b) bs
@@ -54,7 +54,7 @@ pub record IsCut (place : Place) (text : List ℕ) : Type 0 where
 abbrev pub IsBlank : List ℕ → Type 0
 IsBlank text = place_behind Front text ≡ Front
 
--- so many bytes of a text were looked through, and the part doesn't end in them
+-- so many bytes of a text were searched, and the part doesn't end in them
 pub record HasSeen (scan : Scan) (bytes : List ℕ) : Type 0 where
   pub within : scan.seen ≤ length bytes
   pub none : cut_len scan.start (take scan.seen bytes) ≡ None

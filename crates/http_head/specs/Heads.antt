@@ -36,7 +36,7 @@ values_of name [] = []
 values_of name (f ∷ fields) =
     if eq_ignore_case f.0 name then f.1 ∷ values_of name fields else values_of name fields
 
--- those among the fields that stand in a buffer
+-- the same, of fields whose bytes are in a buffer
 abbrev pub values_in : List ℕ → List HeaderSpan → List ℕ → List (List ℕ)
 values_in buf headers name = values_of name (map (header_bytes buf) headers)
 
@@ -46,17 +46,17 @@ values_in buf headers name = values_of name (map (header_bytes buf) headers)
 abbrev pub is_number : List ℕ → Bool
 is_number text = nat_lt 0 (length text) && list_all is_ascii_digit text
 
--- the body that a Content-Length gives
+-- the body by a Content-Length
 abbrev pub sized_by : List ℕ → Result Body RequestFault
 sized_by text =
     if is_number text then (if nat_le (digits_value 10 text) max_body
     then Ok (Sized (digits_value 10 text)) else Err TooLong) else Err BadBody
 
--- the body that a Transfer-Encoding gives
+-- the body by a Transfer-Encoding
 abbrev pub coded_by : List ℕ → Result Body RequestFault
 coded_by text = if eq_ignore_case text (codes "chunked") then Ok Chunked else Err BadBody
 
--- the body that all of both give: one at most
+-- the body by all of both, which are one at most
 abbrev pub body_by : List (List ℕ) → List (List ℕ) → Result Body RequestFault
 body_by [] [] = Ok (Sized 0)
 body_by [] (text ∷ []) = coded_by text

@@ -7,18 +7,18 @@ ghost use Rattle.http_head.specs.Cuts.{is_last, place_after, cut_len, HasSeen};
 /// with their line ends and empty lines.
 pub const MAX_PART: usize = 16_384;
 
-/// Where in a part of a request the next byte stands.
+/// Where in a part of a request the next byte is.
 #[derive(Clone, Copy, Drop, PartialEq, Eq)]
 pub enum Place {
     /// At the start of a line, with nothing but empty lines before it. A head begins here.
     Front,
-    /// The same, behind a CR.
+    /// The same, after a CR.
     FrontCr,
     /// In a line that isn't empty.
     Inside,
     /// At the start of a line that may be the last, empty one. Trailers begin here.
     Start,
-    /// The same, behind a CR.
+    /// The same, after a CR.
     StartCr,
     /// In a part of one line. A chunk's line begins here.
     Line,
@@ -46,20 +46,20 @@ impl Place {
     }
 }
 
-/// How far a text was looked through for the end of the part that it begins with,
-/// so that no byte is looked at twice.
+/// How far a text was searched for the end of the part that it begins with, so that no byte is
+/// examined twice.
 #[derive(Clone, Copy, Drop)]
 pub struct Scan {
     /// What begins the part.
     pub start: Place,
-    /// Where the next byte stands.
+    /// Where the next byte is.
     pub place: Place,
-    /// So many bytes were looked at, and don't end the part.
+    /// So many bytes were examined, and don't end the part.
     pub seen: usize,
 }
 
 impl Scan {
-    /// Nothing was looked at yet.
+    /// Nothing was examined yet.
     pub fn new(start: Place) -> Scan
         ensures start { result.start ≡ start }
         ensures place { result.place ≡ start }
@@ -73,7 +73,7 @@ impl Scan {
     }
 
     /// How many bytes the part has, once its end is there.
-    /// Only bytes that weren't looked at before are looked at.
+    /// Only bytes that weren't examined before are examined.
     pub fn look(&mut self, bytes: &[u8]) -> Option<usize>
         requires { HasSeen self.old bytes.now }
         ensures cut { result ≡ cut_len self.old.start bytes.now }

@@ -21,7 +21,8 @@ pub enum RequestFault {
     WrongMedia,
     /// The body is over its limit.
     TooLong,
-    /// The length fields give no length, or the body is cut short or its chunks don't parse.
+    /// There is more than one length field or an invalid one, or the body is cut short or its
+    /// chunks don't parse.
     BadBody,
 }
 

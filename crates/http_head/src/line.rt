@@ -7,7 +7,7 @@ ghost use Rattle.http_head.specs.Lines.{IsLine, IsTrailers};
 use httparse::spans::{EMPTY_HEADER_SPAN, parse_headers};
 use httparse::{Status, parse_chunk_size};
 
-/// The size that a chunk's line gives, which was cut at its line feed (RFC 9112, section 7.1).
+/// The size in a chunk's line, which was cut at its line feed (RFC 9112, section 7.1).
 /// `None` where it doesn't parse.
 pub fn judge_line(text: &[u8]) -> Option<u64>
     ensures some { IfSome result (λ size. (l : ChunkLine) × IsLine text.now l

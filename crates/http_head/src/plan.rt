@@ -1,4 +1,4 @@
-//! How a request goes on behind its head.
+//! How a request goes on after its head.
 
 use names_core::StreamId;
 
@@ -14,13 +14,13 @@ pub enum Body {
     Chunked,
 }
 
-/// How a request goes on behind its head.
+/// How a request goes on after its head.
 #[derive(Clone, Copy, Drop)]
 pub struct Plan {
     pub body: Body,
     /// Whether the client waits for an interim response before it sends the body.
     pub expects: bool,
-    /// Whether the connection ends behind the response.
+    /// Whether the connection ends after the response.
     pub closes: bool,
     /// The event stream of the framework that calls, where the head names one.
     pub stream: Option<StreamId>,

@@ -81,7 +81,7 @@ pub data LacksData (input : List ℕ) (ended : Type 0) (size : ℕ) : Type 0 whe
   other : (bytes two rest : List ℕ) → input ≡ bytes ++ (two ++ rest) → length bytes ≡ size
       → length two ≡ 2 → two ≢ line_end → LacksData input ended size
 
--- behind so many bytes of a body, the front of the input is neither a chunk nor the end
+-- after so many bytes of a body, the front of the input is neither a chunk nor the end
 pub data RefusesChunk (input : List ℕ) (ended : Type 0) (before : ℕ)
     (fault : RequestFault) : Type 0 where
   line : fault ≡ BadBody → LacksLine input ended → RefusesChunk input ended before fault

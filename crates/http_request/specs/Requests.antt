@@ -1,4 +1,4 @@
--- What stands at the front of the bytes that a client sends: a head that parses,
+-- What the bytes that a client sends begin with: a head that parses,
 -- or what is refused, or nothing more.
 use Rattle.std.specs.Prelude.{◌≡◌, ℕ, ◌<◌, ◌≤◌, List, ◌++◌, length, take, None, Err}
 use Rattle.httparse.specs.Grammar.{RequestHead}

@@ -103,7 +103,7 @@ fn read_sized<I: Inlet>(
 }
 
 /// Reads a body that comes so until it is there whole, and takes it, or until it is refused.
-/// Nothing behind it is taken.
+/// Nothing after it is taken.
 pub fn read_body<I: Inlet>(
     alloc: Global,
     inlet: &mut I,

@@ -21,7 +21,7 @@ pub enum Step {
     Refused(RequestFault),
 }
 
-/// Takes the line of a chunk, and gives its size. `None` where there is none.
+/// Takes the line of a chunk, and returns its size. `None` where there is none.
 fn take_line<I: Inlet>(inlet: &mut I, unread: &mut Unread) -> Result<Option<u64>, LinkFault>
     requires { I.faults inlet.old < u64.MAX }
     ensures found { (more : List ℕ) × I.reads inlet.old more inlet.new
@@ -63,7 +63,7 @@ fn take_trailers<I: Inlet>(inlet: &mut I, unread: &mut Unread) -> Result<bool, L
     }
 }
 
-/// Takes the line end behind the data of a chunk, and says whether it is there.
+/// Takes the line end after the data of a chunk, and says whether it is there.
 fn take_line_end<I: Inlet>(inlet: &mut I, unread: &mut Unread) -> Result<bool, LinkFault>
     requires { I.faults inlet.old < u64.MAX }
     ensures found { (more : List ℕ) × I.reads inlet.old more inlet.new

@@ -21,7 +21,7 @@ pub enum Part {
 }
 
 /// Reads until a part that begins at this place is there whole, is too long, or can't come.
-/// Each byte is looked at once.
+/// Each byte is examined once.
 pub fn next_part<I: Inlet>(
     inlet: &mut I,
     unread: &mut Unread,

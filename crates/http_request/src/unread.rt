@@ -29,7 +29,7 @@ impl Model for Unread {
     ghost invariant = { λ u. u.taken ≤ vec_len u.bytes };
 }
 
-/// Takes the first bytes away.
+/// Removes the first bytes.
 fn drop_front(bytes: &mut Vec<u8>, count: usize)
     requires { count ≤ vec_len bytes.old }
     ensures { bytes.new.items ≡ drop count bytes.old.items }
@@ -39,7 +39,7 @@ fn drop_front(bytes: &mut Vec<u8>, count: usize)
     bytes.truncate(left);
 }
 
-/// Reads once, into what stands behind the first so many bytes, and says how many came.
+/// Reads once, into the bytes after the first `front` ones, and returns how many were read.
 fn read_behind<I: Inlet>(inlet: &mut I, bytes: &mut [u8], front: usize) -> Option<usize>
     requires room { front < length bytes.old }
     requires countable { I.faults inlet.old < u64.MAX }
@@ -57,7 +57,7 @@ fn read_behind<I: Inlet>(inlet: &mut I, bytes: &mut [u8], front: usize) -> Optio
     inlet.read(&mut bytes[front..])
 }
 
-/// Reads once, right behind the bytes, so that what comes isn't copied, and says how many came.
+/// Reads once, directly after the bytes, so that none is copied, and returns how many were read.
 fn read_more<I: Inlet>(inlet: &mut I, bytes: &mut Vec<u8>) -> Result<usize, LinkFault>
     requires { I.faults inlet.old < u64.MAX }
     ensures came { (more : List ℕ) × I.reads inlet.old more inlet.new
@@ -100,7 +100,7 @@ impl Unread {
         &self.bytes[self.taken..]
     }
 
-    /// Takes the first bytes away.
+    /// Removes the first bytes.
     pub fn skip(&mut self, count: usize)
         requires { count ≤ length self.old }
         ensures { self.new ≡ drop count self.old }

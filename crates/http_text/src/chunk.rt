@@ -5,7 +5,7 @@ ghost use Rattle.http_text.specs.Responses.{chunk_line, record_line, event_chunk
 
 use std::alloc::{AllocError, Global};
 
-/// What stands in an event's chunk before its text.
+/// What is in an event's chunk before its text.
 #[derive(Drop)]
 pub struct SizeLines {
     /// The size line of the chunk.

@@ -8,7 +8,7 @@ use names_core::StreamId;
 use std::alloc::{AllocError, Global};
 
 /// The response to a request that is refused with this text, which is its body with a line feed.
-/// The connection ends behind it.
+/// The connection ends after it.
 #[tactic(auto, unfolding(crate::specs::Responses::refusal_response))]
 pub fn refusal_response(alloc: Global, status: Status, text: &str) -> Result<Vec<u8>, AllocError>
     ensures { IfOk result (λ v. v.items ≡ refusal_response status text.now) }

@@ -23,7 +23,7 @@ pub enum Status {
 }
 
 impl Status {
-    /// The status line, and behind that of 405 the field `Allow`.
+    /// The status line, and after that of 405 the field `Allow`.
     pub(crate) fn lines(self) -> &'static str
         ensures { result.now ≡ status_lines self }
     {

@@ -1,4 +1,4 @@
-//! The jobs that wait for their workers, and the benches that workers gave back.
+//! The jobs that wait for their workers, and the benches that workers returned.
 
 ghost use Rattle.std.specs.Prelude.{◌≡◌, ◌==◌, ◌<◌, ◌≤◌, ◌+◌, ◌-◌, ◌++◌, ◌∷◌, [], not, if◌then◌else◌, is_ok, IfOk, OnErr, IfErr, Some, vec_len, vec_capacity};
 
@@ -52,7 +52,7 @@ impl<J: Drop, B: Drop> Floor<J, B> {
         Ok(true)
     }
 
-    /// Leaves a job for the worker that starts next. Without memory the job comes back.
+    /// Adds a job for the worker that starts next. Without memory the job is returned.
     pub fn put(&mut self, job: J) -> Result<(), AllocFailed<J>>
         ensures put { self.new.jobs.items ≡ (if is_ok result then self.old.jobs.items ++ job ∷ []
             else self.old.jobs.items) }
@@ -63,7 +63,7 @@ impl<J: Drop, B: Drop> Floor<J, B> {
         self.jobs.push(job)
     }
 
-    /// Takes the job that was left last.
+    /// Takes the job that was added last.
     pub fn take(&mut self) -> Option<J>
         ensures taken { (job : J) → result ≡ Some job
             → self.old.jobs.items ≡ self.new.jobs.items ++ job ∷ [] }
@@ -73,7 +73,7 @@ impl<J: Drop, B: Drop> Floor<J, B> {
         self.jobs.pop()
     }
 
-    /// A worker ends, and gives its bench back.
+    /// A worker ends, and returns its bench.
     pub fn leave(&mut self, bench: B)
         ensures given { 0 < self.old.running → self.new.benches.items ≡ self.old.benches.items
             ++ bench ∷ [] }
@@ -87,7 +87,7 @@ impl<J: Drop, B: Drop> Floor<J, B> {
         self.benches.push_reserved(bench);
     }
 
-    /// The benches that were given back.
+    /// The benches that were returned.
     pub fn into_benches(self) -> Vec<B>
         ensures { result.items ≡ self.benches.items }
     {

@@ -18,7 +18,7 @@ pub struct Job<I: Inlet + Drop, O: Outlet + Drop, B: Bench + Drop> {
 
 impl<I: Inlet + Drop, O: Outlet + Drop, B: Bench + Drop> Job<I, O, B> {
     /// Serves the connection until it ends or breaks off, closes both of its ends,
-    /// and gives back the bench that took its calls.
+    /// and returns the bench that took its calls.
     pub fn serve<G: Gate>(self, alloc: Global, gate: &G) -> B
         ensures { (deeds : List Deed) × Chain B.does self.bench deeds result }
     {

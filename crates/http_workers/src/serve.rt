@@ -19,7 +19,7 @@ struct Shop<I: Inlet + Drop, O: Outlet + Drop, B: Bench + Drop> {
     left: Condvar,
 }
 
-/// What a worker does: it serves one connection, and gives the bench back.
+/// What a worker does: it serves one connection, and returns the bench.
 fn work<I: Inlet + Drop, O: Outlet + Drop, B: Bench + Drop, G: Gate, R: Wait>(
     rt: &R,
     alloc: Global,
@@ -47,7 +47,7 @@ fn start<
     scope.spawn(move || work(rt, alloc, shop, gate)).is_ok()
 }
 
-/// Gives back the bench of a connection that no worker serves.
+/// Returns the bench of a connection that no worker serves to the floor.
 fn give_back<I: Inlet + Drop, O: Outlet + Drop, B: Bench + Drop, R: Wait>(
     rt: &R,
     shop: &Shop<I, O, B>,
@@ -64,7 +64,7 @@ fn give_back<I: Inlet + Drop, O: Outlet + Drop, B: Bench + Drop, R: Wait>(
 }
 
 /// Has a worker of its own serve a connection, once one was admitted. Where none starts,
-/// one bench is given back unserved.
+/// one bench is returned unused.
 fn employ<
     's,
     E,
@@ -209,9 +209,9 @@ fn serve_shop<
 /// took from the arrivals, in no order. Room for a bench is reserved before its connection is
 /// taken, so none is lost for want of memory. A fault, `H8 OutOfMemory` or `H9 NoThread`, ends the
 /// accepting alone: workers that run go on to the end of their connections; the connection that no
-/// worker was found for is closed unanswered, and its bench is given back too. A connection that
-/// breaks off (`H7 LinkFault`, `H8 OutOfMemory`) ends alone. No contract can say which benches come
-/// back or that a worker gets on, since nothing but its type is known of what workers share.
+/// worker was found for is closed unanswered, and its bench is returned too. A connection that
+/// breaks off (`H7 LinkFault`, `H8 OutOfMemory`) ends alone. No contract can say which benches are
+/// returned or that a worker gets on, since nothing but its type is known of what workers share.
 pub fn serve_all<A: Arrivals, G: Gate + Sync, R: Threads + Wait + Sync>(
     rt: &R,
     alloc: Global,

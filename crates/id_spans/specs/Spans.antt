@@ -1,4 +1,4 @@
--- Where what has an id stands in a list.
+-- The places of what has an id in a list.
 use Rattle.std.specs.Prelude.{◌≡◌, ◌≤◌, ℕ, Bool, true, false, List, [], ◌∷◌, length, take, drop}
 use Rattle.std.specs.List.{AllByRecursion, list_any}
 use Rattle.names_core.specs.Ids.{Numbered, same, before}
@@ -12,7 +12,7 @@ AreRisingBy id [] = Unit {0}
 AreRisingBy id (x ∷ xs) =
     AllByRecursion (λ y. before (id x) (id y) ≡ true) xs × AreRisingBy id xs
 
--- where it is told that ids rise, they do
+-- where the flag is set, ids rise
 abbrev pub AreRisingIfTold : {X : Type 0} → (X → Numbered) → Bool → List X → Type 0
 AreRisingIfTold id told xs = told ≡ true → AreRisingBy id xs
 

@@ -1,5 +1,5 @@
-//! Lists of what has an id, a number that is counted in each run: whether the ids rise,
-//! and where in the list an id stands.
+//! Lists of what has an id, a number that is counted in each run: whether the ids rise, and the
+//! places of an id in the list.
 #![tactic(auto)]
 
 mod has_id;

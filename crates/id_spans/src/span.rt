@@ -1,4 +1,4 @@
-//! Where in a list an id stands.
+//! The places of an id in a list.
 
 ghost use Rattle.std.specs.Prelude.{◌≡◌, ◌++◌, ◌∷◌, [], true};
 ghost use Rattle.id_spans.specs.Spans.{AllBefore, AreRisingBy, AreRisingIfTold, IsSpan, has_id};
@@ -32,7 +32,7 @@ fn found_by_halving<T: HasId, K: HasId>(items: &[T], id: &K) -> Span
     Span { from, to }
 }
 
-/// Places outside of which no item has this id: at most one where it is told that ids rise.
+/// Places outside of which no item has this id: at most one where the flag says that ids rise.
 pub fn span_of<T: HasId, K: HasId>(items: &[T], are_rising: bool, id: &K) -> Span
     requires { AreRisingIfTold T.id are_rising items.now }
     ensures { IsSpan (has_id T.id (K.id id.now)) items.now result.from result.to }

@@ -7,7 +7,7 @@ use names_core::{Run, StreamId};
 use scheduler_events::{Event, StreamEvent};
 use std::alloc::{AllocError, Global};
 
-/// A master, and what it told its streams that wasn't taken yet.
+/// A master, and the events on its streams that weren't taken yet.
 #[derive(Drop)]
 pub struct Desk {
     alloc: Global,
@@ -29,7 +29,7 @@ impl Desk {
         }
     }
 
-    /// Keeps what a step told.
+    /// Keeps the events of a step.
     fn hear(&mut self, events: Vec<StreamEvent>) -> Option<()> {
         for told in events {
             self.told.push(told).ok()?;
@@ -57,7 +57,7 @@ impl Desk {
     }
 }
 
-/// The answer to a call that opened this stream, if it did, where all that it told was heard.
+/// The answer to a call that opened this stream, if it did, where all its events were kept.
 fn answer_of(opened: Option<StreamId>, heard: Option<()>) -> Answer {
     match (heard, opened) {
         (Some(()), Some(stream)) => Answer::Opened(stream),
@@ -83,7 +83,7 @@ impl Bench for Desk {
         }
     }
 
-    /// Where nothing is told any more, the stream is as closed.
+    /// Where no event is left, the stream counts as closed.
     fn next_events(&mut self, stream: StreamId) -> Result<Option<Event>, AllocError> {
         Ok(self.take(stream))
     }
@@ -159,7 +159,7 @@ impl Beside {
         }
     }
 
-    /// The other connection, and the moment behind it.
+    /// The other connection, and the moment after it.
     fn meanwhile(&mut self) -> Option<()> {
         match self.other.take() {
             Some(request) => {

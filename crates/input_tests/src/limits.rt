@@ -9,7 +9,7 @@ const BODY: &str =
 const HEAD: &str =
     "POST /api/v1/scheduler HTTP/1.1\r\nContent-Type: application/json\r\nContent-Length: 75\r\n\r\n";
 
-/// The head with the body behind it.
+/// The head, and the body after it.
 const SUBSCRIBE: &str =
     "POST /api/v1/scheduler HTTP/1.1\r\nContent-Type: application/json\r\nContent-Length: 75\r\n\r\n{\"type\":\"SUBSCRIBE\",\"subscribe\":{\"framework_info\":{\"user\":\"u\",\"name\":\"n\"}}}";
 
@@ -52,7 +52,7 @@ fn is_opened(alloc: Global, request: &str) -> bool {
     }
 }
 
-/// Whether an input that ends behind so many bytes is answered so:
+/// Whether an input that ends after so many bytes is answered so:
 /// first the head is refused, then the body.
 fn ends_at(alloc: Global, length: usize) -> bool {
     let want = if length < HEAD.len() {

@@ -15,7 +15,7 @@ const SUBSCRIBE_TWICE: &[u8] =
     b"75\n{\"type\":\"SUBSCRIBE\",\"subscribe\":{\"framework_info\":{\"user\":\"u\",\"name\":\"n\"}}}75\n{\"type\":\"SUBSCRIBE\",\"subscribe\":{\"framework_info\":{\"user\":\"u\",\"name\":\"n\"}}}";
 
 /// What is written last: a framework more is refused,
-/// one that subscribes again is told so on its stream and has another.
+/// one that subscribes again receives an ERROR event on its stream and has another.
 const LIMITED: &[u8] =
     b"55\n{\"error\":{\"message\":\"M4 LimitExceeded\"},\"type\":\"ERROR\"}60\n{\"error\":{\"message\":\"Framework failed over\"},\"type\":\"ERROR\"}100\n{\"subscribed\":{\"framework_id\":{\"value\":\"F1-1\"},\"heartbeat_interval_seconds\":15},\"type\":\"SUBSCRIBED\"}";
 
@@ -51,7 +51,7 @@ pub fn frameworks_are_limited(alloc: Global) -> bool {
     }
 }
 
-/// A reader that gives a byte at a time, and fails after so many.
+/// A reader that returns a byte at a time, and fails after so many.
 #[derive(Drop)]
 struct Slow<'a> {
     left: &'a [u8],

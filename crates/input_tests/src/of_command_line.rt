@@ -51,7 +51,7 @@ fn asks_for<'a>(alloc: Global, words: &'a [&'a str], action: Action<'a>) -> bool
     }
 }
 
-/// Which kind of fault the words give; none where they ask for an action.
+/// Which kind of fault the words have; none where they ask for an action.
 fn fault_of<'a>(alloc: Global, words: &'a [&'a str]) -> Option<ErrorKind> {
     match command_of(alloc, words) {
         Ok(_) => None,
@@ -120,7 +120,7 @@ const CALLS_NOW: [&str; 3] = ["mesos_node", "calls", "now"];
 
 const NO_PORT: [&str; 4] = ["mesos_node", "serve", "--agents=f", "--state=s"];
 
-/// Words that ask for no action give the fault that they have.
+/// Words that ask for no action are refused with the fault that they have.
 pub fn words_are_refused(alloc: Global) -> bool {
     fault_of(alloc, &HELP) == Some(ErrorKind::DisplayHelp)
         && fault_of(alloc, &CALLS_HELP) == Some(ErrorKind::DisplayHelp)

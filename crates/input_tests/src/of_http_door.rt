@@ -80,7 +80,7 @@ const BODIES: [(&str, &str); 7] = [
 const REVIVE: &str =
     "POST /api/v1/scheduler HTTP/1.1\r\nContent-Type: application/json\r\nContent-Length: 49\r\n\r\n{\"type\":\"REVIVE\",\"framework_id\":{\"value\":\"F1-1\"}}";
 
-/// Accepts or refuses each call, and gives so many events on a stream.
+/// Accepts or refuses each call, and returns so many events of a stream.
 #[derive(Drop)]
 struct Script {
     accepts: bool,
@@ -194,7 +194,7 @@ pub fn a_stream(alloc: Global) -> bool {
     is_sent(alloc, SUBSCRIBE, STREAM, true)
 }
 
-/// How a connection ends whose outlet fails behind the head and the four parts of the first chunk,
+/// How a connection ends whose outlet fails after the head and the four parts of the first chunk,
 /// whether its stream is hung up, and how much was sent.
 fn broken_off(alloc: Global, bytes: Vec<u8>) -> (Result<(), LinkFault>, bool, usize) {
     let mut source = Source {

@@ -1,7 +1,7 @@
 use http_head::{Body, Place, RequestFault, Scan, are_trailers, judge_head, judge_line};
 use std::alloc::Global;
 
-/// A head with these lines behind the start line and the media type.
+/// A head with these lines after the start line and the media type.
 fn head(alloc: Global, fields: &str) -> Option<String> {
     format!(in alloc;
         "POST /api/v1/scheduler HTTP/1.1\r\nContent-Type: application/json\r\n{fields}\r\n"
@@ -131,7 +131,7 @@ fn cut_at(text: &[u8], place: Place) -> Option<usize> {
     scan.look(text)
 }
 
-/// Where a head, a line and the lines behind a body end.
+/// Where a head, a line and the lines after a body end.
 pub fn parts_are_cut() -> bool {
     for (text, place, want) in PARTS {
         if cut_at(text, place) != want {
@@ -161,7 +161,7 @@ fn lines_are_judged() -> bool {
     true
 }
 
-/// The size lines of chunks, and the fields behind the last one.
+/// The size lines of chunks, and the fields after the last one.
 pub fn chunk_lines_and_trailers() -> bool {
     let taken = are_trailers(b"\r\n") && are_trailers(b"a: b\nc:\r\n\n");
     let refused = !are_trailers(b"a b\r\n\r\n") && !are_trailers(b"a: b\r\n");

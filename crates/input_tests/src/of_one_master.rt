@@ -14,7 +14,7 @@ const AGAIN: &str =
 const TEARDOWN: &str =
     "POST /api/v1/scheduler HTTP/1.1\r\nContent-Type: application/json\r\nContent-Length: 51\r\n\r\n{\"framework_id\":{\"value\":\"F1-1\"},\"type\":\"TEARDOWN\"}";
 
-/// A stream that is told of another subscription, and ends.
+/// A stream that receives an ERROR event at another subscription, and ends.
 const FAILED_OVER: &str =
     "HTTP/1.1 200 OK\r\nContent-Type: application/json\r\nTransfer-Encoding: chunked\r\nMesos-Stream-Id: S1-1\r\n\r\n68\r\n100\n{\"subscribed\":{\"framework_id\":{\"value\":\"F1-1\"},\"heartbeat_interval_seconds\":15},\"type\":\"SUBSCRIBED\"}\r\n3f\r\n60\n{\"error\":{\"message\":\"Framework failed over\"},\"type\":\"ERROR\"}\r\n0\r\n\r\n";
 
@@ -61,7 +61,8 @@ fn get(alloc: Global, bench: &mut Beside, first: &str, second: &str) -> bool {
     }
 }
 
-/// The framework subscribes again on another connection: its first stream is told so, and ends.
+/// The framework subscribes again on another connection: its first stream receives an ERROR event,
+/// and ends.
 pub fn a_framework_fails_over(alloc: Global) -> bool {
     match beside(alloc, AGAIN, 1) {
         Some(mut bench) => get(alloc, &mut bench, FAILED_OVER, OTHER_STREAM),
@@ -70,7 +71,7 @@ pub fn a_framework_fails_over(alloc: Global) -> bool {
 }
 
 /// Whether the first connection breaks off at the heartbeat,
-/// behind the head and the four parts of the first chunk, and the other one was refused beside it.
+/// after the head and the four parts of the first chunk, and the other one was refused beside it.
 fn breaks_off(alloc: Global, bench: &mut Beside) -> bool {
     match subscribes(alloc, bench, 5) {
         Some(reply) => {

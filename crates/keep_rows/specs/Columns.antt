@@ -1,4 +1,4 @@
--- What a column of a row tells.
+-- The value in a column of a row.
 use Rattle.std.specs.Prelude.{◌≡◌, ◌^◌, ⊤, ℕ, ◌&&◌, nat_lt, nat_le, if◌then◌else◌, List, Option, Some, None, Result, Ok, Err, pos}
 use Rattle.std.specs.Str.{is_utf8}
 use Rattle.sqlite.specs.declared.types.Value.{Value}

@@ -36,12 +36,12 @@ pub record IsReady (s : State) : Type 0 where
   pub committed : s.committed ≡ s.now
   pub mode : s.in_transaction ≡ false
 
--- what a refusal leaves: a store that is shut, or one that is ready and has what it had
+-- what a refusal leaves: a store that is closed, or one that is ready and has what it had
 pub record Stays (old new : State) : Type 0 where
   pub ready : IsTrue new.is_open → IsReady new
   pub same : IsTrue new.is_open → new.now ≡ old.now
 
--- a want of memory is named, and another fault of the store is carried
+-- want of memory is a fault of its own, and another fault of the store is wrapped
 abbrev pub fault_for : Error → KeepFault
 fault_for (SqliteFailure OutOfMemory) = fault.OutOfMemory
 fault_for e = fault.Store e
@@ -108,7 +108,7 @@ place_of key = key.run * 2 ^ 32 + key.n
 abbrev pub task_row : Numbered → List ℕ → Row
 task_row key body = Int (pos (place_of key)) ∷ Int (pos key.run) ∷ Int (pos key.n) ∷ Text body ∷ []
 
--- the row of the head: its total stands in rows of agent_total
+-- the row of the head: its total is in rows of agent_total
 abbrev pub head_row : List ℕ → ℕ → ℕ → Row
 head_row name run session =
     Int (pos 1) ∷ Null ∷ Text name ∷ Int (pos run) ∷ Int (pos session) ∷ Text (codes "{}")
@@ -147,7 +147,7 @@ pub record Empties (at : ℕ) (old new : Trees) : Type 0 where
   pub lone : IsLone (old at) → new at ≡ []
   pub others : SparesOthers at old new
 
--- the row at this place is gone, and no other that has a number above 0 for its rowid
+-- the row at this place is deleted, and no other that has a number above 0 for its rowid
 pub record Cuts (place : ℕ) (old new : Trees) : Type 0 where
   pub had : (r : Row) → Has (new 3) r → Has (old 3) r × (rowid r ≢ Int (pos place))
   pub kept : (r : Row) (other : ℕ) → Has (old 3) r → rowid r ≡ Int (pos other) → 0 < other

@@ -1,4 +1,4 @@
--- What rows of agent_total tell of an agent's total.
+-- An agent's total, of rows of agent_total.
 use Rattle.std.specs.Prelude.{◌≡◌, ◌+◌, ℕ, Bool, true, nat_le, if◌then◌else◌, List, [], ◌∷◌, length, Option, Some, None}
 use Rattle.std.specs.Str.{is_utf8}
 use Rattle.std.specs.List.{AllByRecursion}
@@ -14,7 +14,7 @@ abbrev pub amount_of : Option (List ℕ) → Option ℕ → Option Amount
 amount_of (Some name) (Some n) = if is_resource_name name then Some (row name n) else None
 amount_of _ _ = None
 
--- the amount that a row of name and amount tells, where the name is a resource's
+-- the amount in a row of name and amount, where the name is a resource's
 unfoldable pub amount_told : Row → Option Amount
 amount_told shown = amount_of (text_at (column shown 0)) (amount_at (column shown 1))
 
@@ -22,7 +22,7 @@ abbrev pub before_all : Option Amount → Option (List Amount) → Option (List 
 before_all (Some r) (Some rs) = Some (r ∷ rs)
 before_all _ _ = None
 
--- the amounts that rows tell, where each tells one
+-- the amounts in rows, where each has one
 abbrev pub amounts_told : List Row → Option (List Amount)
 amounts_told [] = Some []
 amounts_told (shown ∷ more) = before_all (amount_told shown) (amounts_told more)
@@ -31,7 +31,7 @@ abbrev pub summed : Bool → Option (List Amount) → Option (List Amount)
 summed true (Some rs) = Some (plus_rows [] rs)
 summed _ _ = None
 
--- the total that rows tell, at most eight: the sum of their amounts, by name
+-- the total of rows, at most eight: the sum of their amounts, by name
 abbrev pub total_told : List Row → Option (List Amount)
 total_told rows = summed (nat_le (length rows) names_limit) (amounts_told rows)
 
@@ -51,7 +51,7 @@ pub record HasNoAmount (old new : Trees) : Type 0 where
   pub none : new 5 ≡ []
   pub others : SparesOthers 5 old new
 
--- rows of these amounts were put in where there were none
+-- rows of these amounts were inserted where there were none
 pub record PutsAmounts (rs : List Amount) (old new : Trees) : Type 0 where
   pub rows : old 5 ≡ [] → new 5 ≡ amount_rows 1 rs
   pub others : SparesOthers 5 old new

@@ -16,7 +16,7 @@ pub fn place_of(key: LaunchKey) -> i64
     place as i64
 }
 
-/// Takes the row of a task out.
+/// Deletes the row of a task.
 pub fn cut_task<S: Alter>(tx: &mut Transaction<'_, S>, key: LaunchKey) -> Result<usize, Error>
     ensures same_reference { tx.new.conn.ghost_name ≡ tx.old.conn.ghost_name }
     ensures quiet { Survives (state S.Store tx.old.conn.now) (state S.Store tx.new.conn.now)
@@ -28,7 +28,7 @@ pub fn cut_task<S: Alter>(tx: &mut Transaction<'_, S>, key: LaunchKey) -> Result
     tx.execute("DELETE FROM agent_task WHERE rowid = ?1", params![place])
 }
 
-/// Puts a row in for a task that has none.
+/// Inserts a row for a task that has none.
 pub fn put_task<S: Alter>(
     tx: &mut Transaction<'_, S>,
     key: LaunchKey,
@@ -47,7 +47,7 @@ pub fn put_task<S: Alter>(
     )
 }
 
-/// Puts the head's row in where there is none.
+/// Inserts the head's row where there is none.
 pub fn put_head<S: Alter>(
     tx: &mut Transaction<'_, S>,
     name: &str,
@@ -66,7 +66,7 @@ pub fn put_head<S: Alter>(
     )
 }
 
-/// Takes the head's row out.
+/// Deletes the head's row.
 pub fn clear_heads<S: Alter>(tx: &mut Transaction<'_, S>) -> Result<usize, Error>
     ensures same_reference { tx.new.conn.ghost_name ≡ tx.old.conn.ghost_name }
     ensures quiet { Survives (state S.Store tx.old.conn.now) (state S.Store tx.new.conn.now)
@@ -77,7 +77,7 @@ pub fn clear_heads<S: Alter>(tx: &mut Transaction<'_, S>) -> Result<usize, Error
     tx.execute("DELETE FROM agent_head", &[])
 }
 
-/// Takes the row of a record's text out.
+/// Deletes the row of a record's text.
 pub fn clear_records<S: Alter>(tx: &mut Transaction<'_, S>) -> Result<usize, Error>
     ensures same_reference { tx.new.conn.ghost_name ≡ tx.old.conn.ghost_name }
     ensures quiet { Survives (state S.Store tx.old.conn.now) (state S.Store tx.new.conn.now)
@@ -88,7 +88,7 @@ pub fn clear_records<S: Alter>(tx: &mut Transaction<'_, S>) -> Result<usize, Err
     tx.execute("DELETE FROM agent_record", &[])
 }
 
-/// Takes the rows of all tasks out.
+/// Deletes the rows of all tasks.
 pub fn clear_tasks<S: Alter>(tx: &mut Transaction<'_, S>) -> Result<usize, Error>
     ensures same_reference { tx.new.conn.ghost_name ≡ tx.old.conn.ghost_name }
     ensures quiet { Survives (state S.Store tx.old.conn.now) (state S.Store tx.new.conn.now)
@@ -113,7 +113,7 @@ pub fn read_places<S: Alter>(tx: &mut Transaction<'_, S>) -> Result<Vec<Row>, Er
     tx.query_all("SELECT rowid FROM agent_task", &[])
 }
 
-/// Puts a row in for an amount of a total, at a rowid that is free.
+/// Inserts a row for an amount of a total, at a rowid that is free.
 pub fn put_amount<S: Alter>(
     tx: &mut Transaction<'_, S>,
     place: u32,
@@ -133,7 +133,7 @@ pub fn put_amount<S: Alter>(
     )
 }
 
-/// Takes the rows of a total out.
+/// Deletes the rows of a total.
 pub fn clear_amounts<S: Alter>(tx: &mut Transaction<'_, S>) -> Result<usize, Error>
     ensures same_reference { tx.new.conn.ghost_name ≡ tx.old.conn.ghost_name }
     ensures quiet { Survives (state S.Store tx.old.conn.now) (state S.Store tx.new.conn.now)

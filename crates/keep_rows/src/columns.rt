@@ -1,4 +1,4 @@
-//! What a column of a row tells.
+//! The value in a column of a row.
 
 ghost use Rattle.std.specs.Prelude.{string_bytes};
 ghost use Rattle.sqlite.specs.Order.{column};

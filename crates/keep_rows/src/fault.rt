@@ -1,4 +1,4 @@
-//! Why a store gives no answer.
+//! Why a store doesn't answer.
 
 ghost use Rattle.std.specs.Prelude.{◌≡◌, ◌≢◌};
 ghost use Rattle.keep_rows.specs.Tables.{fault_for};
@@ -15,7 +15,7 @@ pub enum KeepFault {
     /// What is kept is no record, or the tables are others.
     #[error("K2 Damaged")]
     Damaged,
-    /// Run 65,535 was given out, and there is none behind it.
+    /// Run 65,535 was assigned, and there is none after it.
     #[error("K3 RunsSpent")]
     RunsSpent,
     /// Memory ran out, the store's or that of a text.
@@ -49,7 +49,7 @@ pub fn fault_of(error: sqlite::Error) -> KeepFault
     }
 }
 
-/// Rows are others than was known of them.
+/// The rows aren't those that were known of.
 pub fn corrupt() -> KeepFault
     ensures { (result ≢ KeepFault.Damaged) × (result ≢ KeepFault.RunsSpent) }
 {

@@ -1,5 +1,5 @@
 //! The rows of a store of an agent's record and of the master's last run: the statements that make
-//! its tables, read them and change them, and what columns and the rows of a total tell.
+//! its tables, read them and change them, and the values in columns and in the rows of a total.
 #![tactic(auto)]
 
 pub mod changes;

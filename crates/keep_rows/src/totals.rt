@@ -20,8 +20,9 @@ use std::alloc::Global;
 /// A total has no more names.
 const NAMES_LIMIT: usize = 8;
 
-/// Adds the amount that a row of name and amount tells to a total.
-/// K1 where its name was there before and the sum is too much for a total.
+/// Adds the amount in a row of name and amount to a total. K1 where its name was there before and
+/// the sum is too much for a total, K2 where the row has no amount of a resource, K4 for want of
+/// memory.
 #[tactic(auto, unfolding(crate::specs::Totals::amount_told))]
 fn add_amount(alloc: Global, total: &mut Resources, row: &Row) -> Result<(), KeepFault>
     ensures added { OnOk result ((r : Amount) × (amount_told row.now ≡ Some r)
@@ -39,8 +40,8 @@ fn add_amount(alloc: Global, total: &mut Resources, row: &Row) -> Result<(), Kee
     }
 }
 
-/// The total that rows of name and amount tell, whatever their order. K1 where a name comes twice
-/// and the sum is too much for a total, K2 where a row tells no amount of a resource or there are
+/// The total of rows of name and amount, whatever their order. K1 where a name comes twice
+/// and the sum is too much for a total, K2 where a row has no amount of a resource or there are
 /// more than eight, K4 for want of memory.
 pub fn total_of(alloc: Global, rows: &[Row]) -> Result<Resources, KeepFault>
     ensures told { (held : List Shown) → IsPermutation held rows.now
@@ -62,7 +63,8 @@ pub fn total_of(alloc: Global, rows: &[Row]) -> Result<Resources, KeepFault>
     Ok(total)
 }
 
-/// Takes the rows of a total out, and looks whether any is left.
+/// Deletes the rows of a total, and checks that none is left. K1 for an error of the store or where
+/// one is left, K4 for want of memory.
 fn forget_amounts<S: Alter>(tx: &mut Transaction<'_, S>) -> Result<(), KeepFault>
     ensures same_reference { tx.new.conn.ghost_name ≡ tx.old.conn.ghost_name }
     ensures quiet { Survives (state S.Store tx.old.conn.now) (state S.Store tx.new.conn.now)
@@ -81,7 +83,7 @@ fn forget_amounts<S: Alter>(tx: &mut Transaction<'_, S>) -> Result<(), KeepFault
     }
 }
 
-/// Puts the row of an amount in.
+/// Inserts the row of an amount.
 fn add_row<S: Alter>(
     tx: &mut Transaction<'_, S>,
     place: u32,
@@ -103,7 +105,7 @@ fn add_row<S: Alter>(
     }
 }
 
-/// Puts the rows of amounts in, at rowids from 1 on.
+/// Inserts the rows of amounts, at rowids from 1 on.
 fn add_rows<S: Alter>(tx: &mut Transaction<'_, S>, rows: &[quantity::Row]) -> Result<(), KeepFault>
     requires { AreRows rows.now }
     ensures same_reference { tx.new.conn.ghost_name ≡ tx.old.conn.ghost_name }

@@ -1,4 +1,4 @@
--- What an opened store keeps of an older form, and what is told of what a store keeps.
+-- What an opened store keeps of an older form, and what is read of what a store keeps.
 use Rattle.std.specs.Prelude.{◌≡◌, ◌≢◌, ◌<◌, ◌^◌, ⊤, ℕ, suc, true, List, [], ◌∷◌, Option, Some, None, pos}
 use Rattle.std.specs.Str.{IsUtf8}
 use Rattle.std.specs.Option.{MatchOption}
@@ -26,11 +26,11 @@ second_kept db = record { body = body_in (db 0) (db 2) (db 3) []; last = last_in
 abbrev pub first_kept : Trees → Kept
 first_kept db = record { body = value_in (db 0); last = last_in (db 1) }
 
--- no record, and no run given out
+-- no record, and no run assigned
 abbrev pub nothing : Kept
 nothing = record { body = None; last = 0 }
 
--- with one run more given out
+-- with one run more assigned
 abbrev pub with_run : Kept → Kept
 with_run kept = with_last (suc kept.last) kept
 
@@ -54,11 +54,11 @@ IsDamaged body =
     (body ≢ None) × ((d : Durable) (text : List ℕ) → HoldsText body text → IsUtf8 text
     → IsRecordText d text → ⊥)
 
--- what stands in the row of the table run_number, if there is one
+-- what is in the row of the table run_number, if there is one
 abbrev pub run_in : Trees → Option Value
 run_in db = value_in (db 1)
 
--- the last run that a row tells, 0 where there is no row
+-- the last run in a row, 0 where there is no row
 abbrev pub TellsRun : Option Value → ℕ → Type 0
 TellsRun None n = n ≡ 0
 TellsRun (Some value) n = value ≡ Int (pos n)
@@ -75,17 +75,17 @@ abbrev pub shown_last : List Row → ℕ
 shown_last [] = 0
 shown_last (row ∷ more) = whole (column row 0)
 
--- each row tells the task that stands at its place in the list
+-- each row is read as the task at its place in the list
 abbrev pub AreTold : List Row → List RecordedTask → Type 0
 AreTold [] [] = ⊤
 AreTold [] (task ∷ tasks) = ⊥
 AreTold (row ∷ rows) [] = ⊥
 AreTold (row ∷ rows) (task ∷ tasks) = (told row ≡ Some task) × AreTold rows tasks
 
--- some row tells no task
+-- some row can't be read as a task
 abbrev pub SomeUntold : List Row → Type 0
 SomeUntold rows = (row : Row) × Has rows row × (told row ≡ None)
 
--- a row stands at the place of the task that it tells
+-- a row is at the place of the task that it is read as
 abbrev pub IsPlaced : Row → Type 0
 IsPlaced row = (task : RecordedTask) → told row ≡ Some task → TellsTask row task

@@ -46,7 +46,7 @@ fn options(rt: &HostRuntime) -> Result<Options, Error> {
     })
 }
 
-/// A connection to the files at a path. `S` stands for what they hold, and `start` is its value.
+/// A connection to the files at a path. `S` represents what they hold, and `start` is its value.
 /// What is left of files that no connection is opened to is dropped.
 pub fn connect<S: Start>(
     rt: &HostRuntime,

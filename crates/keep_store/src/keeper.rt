@@ -32,10 +32,10 @@ use std::marker::Model;
 use std::mem;
 
 /// A store of an agent's record and of the master's last run, over any store of SQLite.
-/// After a refusal by K1 or K4 of a save or of a next run it is opened again.
+/// After a refusal by K1 or K4 of a save or of a next run the caller opens it again.
 pub struct Keeper<S: Alter> {
     conn: Connection<S>,
-    /// Whether no save failed, and no run was given out, since it was opened.
+    /// Whether no save failed, and no run was assigned, since it was opened.
     is_ready: bool,
     /// The tasks that were saved or loaded last, unless nothing is known of the rows.
     seen: Option<Listed<Shared<RecordedTask>>>,
@@ -97,7 +97,7 @@ fn first_number(rows: &[Row]) -> Result<u32, KeepFault>
     }
 }
 
-/// The last run that was given out, or 0.
+/// The last run that was assigned, or 0.
 fn last_run<S: Alter>(conn: &mut Connection<S>) -> Result<u32, KeepFault>
     ensures clean { HasCleanDisk (state S.Store conn.new) → HasCleanDisk (state S.Store conn.old) }
     ensures unspent { IfErr result (λ e. e ≢ KeepFault.RunsSpent) }
@@ -122,7 +122,7 @@ fn last_run<S: Alter>(conn: &mut Connection<S>) -> Result<u32, KeepFault>
 impl<S: Alter + Drop> Keeper<S> {
     /// The keeper over a connection. Its tables are made where there is none yet, and those that
     /// are lacking beside the two of a store that kept a record as one text, and beside the four of
-    /// one that kept a total in its head. A refusal hands the connection back: K1 for an error of
+    /// one that kept a total in its head. A refusal returns the connection: K1 for an error of
     /// the store, K2 where the tables aren't those of a keeper or the connection is in a
     /// transaction, K4 for want of memory.
     pub fn adopt(mut conn: Connection<S>) -> Result<Keeper<S>, (KeepFault, Connection<S>)>
@@ -221,8 +221,8 @@ impl<S: Alter> Keeper<S> {
     }
 
     /// Keeps a record in place of the one before, in one transaction. K1 for an error of the store,
-    /// K4 for want of memory; then the keeper is opened again, and `load` tells which of the two
-    /// stands.
+    /// K4 for want of memory; then the caller opens the keeper again, and `load` returns the one of
+    /// the two that is kept.
     pub fn save(&mut self, alloc: Global, durable: &Record) -> Result<(), KeepFault>
         ensures clean { HasCleanDisk (state S.Store self.new)
             → HasCleanDisk (state S.Store self.old) }
@@ -254,8 +254,9 @@ impl<S: Alter> Keeper<S> {
     }
 
     /// The next run of the master, one more than the last, from 1; it is committed before it is
-    /// answered. K1 for an error of the store, K2 where what is kept is no number, K3 where run
-    /// 65,535 was given out, K4 for want of memory. After K1 and K4 the keeper is opened again.
+    /// returned. K1 for an error of the store, K2 where what is kept is no number, K3 where run
+    /// 65,535 was assigned, K4 for want of memory. After K1 and K4 the caller opens the keeper
+    /// again.
     pub fn next_run(&mut self) -> Result<u32, KeepFault>
         ensures clean { HasCleanDisk (state S.Store self.new)
             → HasCleanDisk (state S.Store self.old) }

@@ -50,7 +50,7 @@ fn keeper_over<S: Alter + Drop>(
 }
 
 impl<S: Start> Keeper<FileStore<FileFrom<S>>> {
-    /// Opens the files at a path, or makes them. `S` stands for what they hold,
+    /// Opens the files at a path, or makes them. `S` represents what they hold,
     /// and `start` is its value. Refusals are those of `adopt`.
     pub fn open_from(
         rt: &HostRuntime,

@@ -16,7 +16,7 @@ use plain_data::Plain;
 use shared_value::Shared;
 use sqlite::Row;
 
-/// Whether a row of rowid, run, number and body stands at the place of its task.
+/// Whether a row of rowid, run, number and body is at the place of its task.
 /// False also where memory runs out.
 fn is_placed(row: &Row) -> bool
     ensures { IsTrue result → IsPlaced row.now }
@@ -28,7 +28,7 @@ fn is_placed(row: &Row) -> bool
     place == u64::from(run) * 4_294_967_296 + u64::from(number)
 }
 
-/// Whether each row of rowid, run, number and body stands at the place of its task.
+/// Whether each row of rowid, run, number and body is at the place of its task.
 fn are_placed(rows: &[Row]) -> bool
     ensures { IsTrue result → AllByRecursion IsPlaced rows.now }
 {
@@ -40,7 +40,7 @@ fn are_placed(rows: &[Row]) -> bool
     true
 }
 
-/// The tasks of a record that was found with a head, where each row stands at its task's place.
+/// The tasks of a record that was found with a head, where each row is at its task's place.
 pub fn seen_in(rows: &Rows, found: &Option<Record>) -> Option<Listed<Shared<RecordedTask>>>
     requires told { (d : Durable) → found.now ≡ Some d → length rows.now.heads.items ≢ 0
         → AreTold rows.now.tasks.items d.tasks × AllByRecursion IsPut d.tasks }

@@ -1,4 +1,4 @@
-//! What rows tell of a record.
+//! A record, read of rows.
 
 ghost use Rattle.std.specs.Prelude.{◌≡◌, ◌≢◌, ◌⊎◌, true, false, Some, None, IfOk, IfErr, IsErrOf, IsPermutation, List, [], length, string_bytes};
 ghost use Rattle.sqlite.specs.Tree.{Trees};
@@ -118,7 +118,7 @@ fn first_total(own: Resources, amounts: &[Row]) -> Result<Resources, KeepFault>
     }
 }
 
-/// In version 2 a head has no total of its own, but that which the rows of its amounts tell.
+/// In version 2 a head has no total of its own, but that of the rows of its amounts.
 fn second_total(alloc: Global, own: Resources, amounts: &[Row]) -> Result<Resources, KeepFault>
     ensures told { (held : List Shown) → IsPermutation held amounts.now
         → IfOk result (λ total. total_by 2 own held ≡ Some total) }
@@ -197,7 +197,7 @@ fn tasks_in(alloc: Global, rows: &[Row]) -> Result<Vec<Shared<RecordedTask>>, Ke
 }
 
 /// The record of a head with these tasks.
-/// `K1` where the tasks don't come by their keys, as they were asked for.
+/// `K1` where the tasks aren't in the order of their keys, by which the query sorts them.
 fn record_with(
     alloc: Global,
     head: &Row,
@@ -225,7 +225,7 @@ fn record_with(
     Ok(Some(found))
 }
 
-/// The record that the rows of the four tables tell, as queries show them.
+/// The record in the rows of the four tables, as queries show them.
 pub fn record_shown(
     alloc: Global,
     records: &[Row],

@@ -127,7 +127,7 @@ fn is_simple(table: &Table) -> bool
         && !table.is_counted
 }
 
-/// The table of an id, which is 1, and the columns that it has behind it.
+/// The table of an id, which is 1, and the columns that it has after it.
 fn is_lone(table: &Table, name: &[u8], tree: u32) -> bool
     ensures { (columns : List Column) → IsTrue result → table.now.columns ≡ id_column ∷ columns
         → table.now ≡ lone_table name.now tree columns }

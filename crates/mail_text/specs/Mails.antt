@@ -26,7 +26,7 @@ only name d = object (member name d no_members)
 abbrev pub pair : List ℕ → Data → List ℕ → Data → Data
 pair a x b y = object (put b y (member a x no_members))
 
--- an agent and its session put to members
+-- members with an agent and its session
 abbrev pub of_agent : List ℕ → ℕ → Members → Members
 of_agent agent session ms =
     put (codes "session") (whole session) (put (codes "agent") (string agent) ms)
@@ -90,7 +90,7 @@ booked_data t = object
     (member (codes "sent") (whole t.heard)
     (member (codes "state") (string (state_text t.state)) no_members)))))))
 
--- members, and whether a task has ended put to them
+-- members, and one that says whether a task has ended
 abbrev pub ending : Bool → Members → Data
 ending ended ms = object (put (codes "ended") (boolean ended) ms)
 

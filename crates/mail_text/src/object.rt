@@ -8,7 +8,7 @@ ghost use Rattle.mail_text.specs.Mails.{of_agent, only, pair};
 use serde_json::{Map, Value, put};
 use std::alloc::{AllocError, Global};
 
-/// Puts a text under a name.
+/// Inserts a text under a name.
 pub fn put_text(
     members: &mut Map<String, Value>,
     alloc: Global,
@@ -22,7 +22,7 @@ pub fn put_text(
     put(members, alloc, name, text)
 }
 
-/// Puts an agent and its session.
+/// Inserts an agent and its session.
 pub fn put_origin(
     members: &mut Map<String, Value>,
     alloc: Global,

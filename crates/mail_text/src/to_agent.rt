@@ -12,7 +12,7 @@ use record_text::{framework_value, key_value, offers_value, put_job};
 use serde_json::{Map, Value, put};
 use std::alloc::{AllocError, Global};
 
-/// Puts the members of a launch into an empty object.
+/// Inserts the members of a launch into an empty object.
 #[tactic(auto, unfolding(crate::specs::Mails::launch_data))]
 fn put_launch(
     members: &mut Map<String, Value>,
@@ -82,7 +82,7 @@ fn hello_value(alloc: Global, run: u32, dead: u32) -> Result<Value, AllocError>
     only(alloc, "hello", body)
 }
 
-/// Puts the members of a numbered command into an empty object.
+/// Inserts the members of a numbered command into an empty object.
 #[tactic(auto, unfolding(crate::specs::Mails::issued_data))]
 fn put_issued(
     members: &mut Map<String, Value>,
@@ -130,7 +130,7 @@ fn value_of(alloc: Global, to: &ToAgent) -> Result<Value, AllocError>
 }
 
 /// The text of a mail to an agent: compact JSON (RFC 8259),
-/// in which an object's members stand in byte order of their names. A Hello doesn't name its agent.
+/// in which an object's members are in byte order of their names. A Hello doesn't name its agent.
 pub fn to_agent_text(alloc: Global, to: &ToAgent) -> Result<String, AllocError>
     ensures { IfOk result (λ text. string_bytes text ≡ to_agent_form to.now) }
 {

@@ -14,7 +14,7 @@ use record_text::{amounts_value, key_value, put_job};
 use serde_json::{Map, Value, put};
 use std::alloc::{AllocError, Global};
 
-/// Puts the members of a task into an empty object, all but whether it has ended.
+/// Inserts the members of a task into an empty object, all but whether it has ended.
 #[tactic(auto, unfolding(crate::specs::Mails::booked_data))]
 fn put_booked(
     members: &mut Map<String, Value>,
@@ -50,7 +50,7 @@ fn tasks_value(alloc: Global, tasks: &[Booked]) -> Result<Value, AllocError>
     Ok(Value::Array(values))
 }
 
-/// Puts the members of a report into an empty object.
+/// Inserts the members of a report into an empty object.
 #[tactic(auto, unfolding(crate::specs::Mails::report_data))]
 fn put_report(
     members: &mut Map<String, Value>,
@@ -98,7 +98,7 @@ fn applied_value(alloc: Global, agent: &str, session: u32, count: u32) -> Result
     only(alloc, "applied", Value::Object(members))
 }
 
-/// Puts the members of an update into an empty object, all but its agent and session.
+/// Inserts the members of an update into an empty object, all but its agent and session.
 fn put_told(
     members: &mut Map<String, Value>,
     alloc: Global,
@@ -157,8 +157,8 @@ fn value_of(alloc: Global, to: &ToMaster) -> Result<Value, AllocError>
     }
 }
 
-/// The text of a mail from an agent: compact JSON (RFC 8259), in which an object's members stand in
-/// byte order of their names, and a report's tasks as it has them, with the total behind them.
+/// The text of a mail from an agent: compact JSON (RFC 8259), in which an object's members are in
+/// byte order of their names, and a report's tasks in its own order, followed by the total.
 pub fn to_master_text(alloc: Global, to: &ToMaster) -> Result<String, AllocError>
     ensures { IfOk result (λ text. string_bytes text ≡ to_master_form to.now) }
 {

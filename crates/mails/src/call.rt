@@ -62,7 +62,7 @@ pub enum Call {
         offers: Listed<OfferId>,
         refuse_seconds: u32,
     },
-    /// Takes back what was refused and suppressed.
+    /// Removes all filters, and asks for offers again.
     Revive {
         framework: FrameworkId,
     },
@@ -76,7 +76,7 @@ pub enum Call {
         task: TaskName,
         agent: Option<AgentName>,
     },
-    /// Tells that a status update was received.
+    /// Reports that a status update was received.
     Acknowledge {
         framework: FrameworkId,
         agent: AgentName,

@@ -1,4 +1,4 @@
-//! What moves an agent.
+//! The causes that an agent acts on.
 
 ghost use Rattle.std.proofs.Common.{rules};
 
@@ -15,7 +15,7 @@ pub enum Cause {
     Start(Option<Resources>),
     /// A mail from the master, which may be for another agent.
     Mail(ToAgent),
-    /// The executor of the task of this key tells a state: TASK_RUNNING,
+    /// The executor of the task of this key reports a state: TASK_RUNNING,
     /// TASK_FINISHED or TASK_FAILED.
     Executor(LaunchKey, TaskState),
     /// It sends again what isn't acknowledged.

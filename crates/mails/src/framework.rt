@@ -1,4 +1,4 @@
-//! What the master knows of a framework.
+//! What the master records of a framework.
 
 use listed::Listed;
 use names_core::{AgentName, FrameworkId, RoleName, StreamId};
@@ -20,7 +20,7 @@ pub struct Filter {
 pub struct Framework {
     pub id: FrameworkId,
     pub role: RoleName,
-    /// The open stream on which it is told of events.
+    /// The open stream on which it receives events.
     pub stream: Option<StreamId>,
     /// Whether it asked for no more offers.
     pub suppressed: bool,

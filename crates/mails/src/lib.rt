@@ -1,4 +1,4 @@
-//! What travels between frameworks, master and agents, and what an agent keeps: plain data.
+//! What frameworks, the master and agents send each other, and what an agent keeps: plain data.
 #![tactic(auto)]
 
 mod call;

@@ -57,9 +57,9 @@ pub struct Booked {
     pub job: Job,
     /// Whether it has ended for good.
     pub ended: bool,
-    /// How many of its updates were heard of; in a report, how many were sent.
+    /// How many of its updates were received; in a report, how many were sent.
     pub heard: u32,
-    /// The state of the last update that was heard of, or TASK_STAGING.
+    /// The state of the last update that was received, or TASK_STAGING.
     pub state: TaskState,
 }
 

@@ -22,8 +22,8 @@ fn tell_mark(number: u64, mark: Mark, marks: &mut String) -> Result<(), AllocErr
     writeln!(marks, "marked {number} {how}")
 }
 
-/// Takes the step of a line, and tells how it was refused memory, if it was,
-/// on a line of the marks. A line of white space is passed over.
+/// Takes the step of a line, and adds a line to the marks where it was refused memory. A line of
+/// white space is passed over.
 fn take_line(
     cluster: &mut Cluster<EverSent>,
     alloc: Global,
@@ -41,8 +41,8 @@ fn take_line(
     Ok(())
 }
 
-/// Takes the steps of the lines behind the first,
-/// and gives a line for each that was refused memory.
+/// Takes the steps of the lines after the first, and returns a line for each that was refused
+/// memory.
 fn take_lines(
     cluster: &mut Cluster<EverSent>,
     alloc: Global,
@@ -57,7 +57,7 @@ fn take_lines(
     Ok(marks)
 }
 
-/// What is told at the end: the table, and the marked steps.
+/// The text at the end: the table, and the marked steps.
 fn end_text(
     cluster: &Cluster<EverSent>,
     alloc: Global,
@@ -68,7 +68,7 @@ fn end_text(
     Ok(text)
 }
 
-/// Takes the steps of the lines behind the first, and gives what is told at the end.
+/// Takes the steps of the lines after the first, and returns the text at the end.
 fn run_lines(
     cluster: &mut Cluster<EverSent>,
     alloc: Global,
@@ -81,7 +81,7 @@ fn run_lines(
     }
 }
 
-/// Runs the history that lines tell, and gives what is told at its end.
+/// Runs the history of these lines, and returns the text at its end.
 pub(crate) fn run_history(alloc: Global, lines: &[String]) -> Result<Vec<u8>, Stop> {
     let Some((first, rest)) = lines.split_first() else {
         return Err(Stop::Line(LineRefusal::BadConfig));

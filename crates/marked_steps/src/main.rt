@@ -1,10 +1,10 @@
-//! Runs the history that standard input tells, in the lines of the replayer, to its end, though
-//! memory be refused. A step that is refused memory is marked. The part that it made fall, if it
-//! did, comes up again: an agent over its record, a master in the next run. Then the history goes
-//! on. At its end the program prints the replayer's table, and a line for each marked step: its
-//! line's number, from 1, with `refused` where it is no entry and nothing changed, or `fell`. The
-//! status is 0; 2 where a line is refused (X1, X2, X3); 3 where memory is refused to anything but a
-//! step, or the input or the output fails.
+//! Runs the history on standard input, in the lines of the replayer, to its end, even where memory
+//! is refused. A step that is refused memory is marked. The part that fails in it, if one does, is
+//! restarted: an agent over its record, a master in the next run. Then the history goes on. At its
+//! end the program prints the replayer's table, and a line for each marked step: its
+//! line's number, from 1, with `refused` where it is no entry and nothing changed, or `fell` where
+//! a part failed. The status is 0; 2 where a line is refused (X1, X2, X3); 3 where memory is
+//! refused to anything but a step, or the input or the output fails.
 #![tactic(auto)]
 
 mod history;
@@ -26,7 +26,7 @@ fn read_lines(rt: &HostRuntime) -> io::Result<Vec<String>> {
     Ok(lines)
 }
 
-/// Runs the history, and prints what is told at its end.
+/// Runs the history, and prints the text at its end.
 fn run(rt: &HostRuntime) -> Result<(), Stop> {
     let lines = read_lines(rt)?;
     let text = run_history(rt.alloc(), &lines)?;

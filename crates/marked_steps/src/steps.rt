@@ -10,7 +10,7 @@ use std::alloc::{AllocError, Global};
 pub(crate) enum Mark {
     /// It is no entry, and nothing changed.
     Refused,
-    /// Its part ran out of memory in mid-step, and came up again.
+    /// Its part ran out of memory in the step, and was restarted.
     Fell,
 }
 
@@ -23,8 +23,8 @@ impl Mark {
     }
 }
 
-/// The step that brings the part up again that a step made fall: a Prepare its agent,
-/// over its record, and any other the master.
+/// The step that restarts the part that failed in a step: in a Prepare its agent, over its record,
+/// and in any other the master.
 fn recovery_of(step: &Step) -> Result<Step, AllocError> {
     match step {
         Step::Prepare { agent, .. } => Ok(Step::StopAgent {
@@ -35,7 +35,7 @@ fn recovery_of(step: &Step) -> Result<Step, AllocError> {
     }
 }
 
-/// Whether a part came up by a step.
+/// Whether a step restarted a part.
 fn is_up(taken: &Result<Taken, ClusterFault>) -> bool {
     match taken {
         Ok(taken) => taken.entry.get().verdict == Verdict::Ok,
@@ -43,7 +43,7 @@ fn is_up(taken: &Result<Taken, ClusterFault>) -> bool {
     }
 }
 
-/// Brings the part up again that a step made fall. It fails where that is refused memory too.
+/// Restarts the part that failed in a step. It fails where that is refused memory too.
 fn bring_up(
     cluster: &mut Cluster<EverSent>,
     alloc: Global,
@@ -58,7 +58,7 @@ fn bring_up(
     }
 }
 
-/// Brings the part up again that the step of an entry made fall, if it did.
+/// Restarts the part that failed in the step of an entry, if one did.
 fn recover(
     cluster: &mut Cluster<EverSent>,
     alloc: Global,
@@ -70,8 +70,8 @@ fn recover(
     }
 }
 
-/// Takes a step, and tells how it was refused memory, if it was.
-/// It fails where the part that fell doesn't come up again.
+/// Takes a step, and returns how it was refused memory, if it was. It fails where the part that
+/// failed can't be restarted.
 pub(crate) fn take_step(
     cluster: &mut Cluster<EverSent>,
     alloc: Global,

@@ -20,7 +20,7 @@ pub(crate) enum Stop {
 }
 
 impl Stop {
-    /// The exit status that tells it.
+    /// Its exit status.
     pub(crate) fn status(&self) -> u8 {
         match self {
             Stop::Line(_) => 2,

@@ -149,11 +149,11 @@ fn accept_as(
 /// Launches tasks on offers (Mesos scheduler HTTP API, ACCEPT). The offers are good where there are
 /// some, none is named twice, and all are current, the framework's own, and of one agent with an
 /// open session. Then they are withdrawn, and each task in order that isn't held already is
-/// launched from what is left of their sum; a task of another agent, one that asks for nothing, and
-/// one that isn't covered are told to be in error; what is left in the end isn't offered to the
+/// launched from what is left of their sum; for a task of another agent, one that asks for nothing,
+/// and one that isn't covered TASK_ERROR is sent; what is left in the end isn't offered to the
 /// framework again for so many seconds. Where the offers aren't good, those that are current and
-/// its own are withdrawn, and tasks that aren't held are told to be lost. A held task is answered
-/// its state. Refused as `State::admit` tells, and `M4 LimitExceeded` where more than 65,536 tasks
+/// its own are withdrawn, and TASK_LOST is sent for tasks that aren't held. For a held task its
+/// state is sent. Refused as `State::admit` is, and `M4 LimitExceeded` where more than 65,536 tasks
 /// would be booked, or launch keys or the command numbers of the agent would be spent, if all tasks
 /// were launched.
 pub fn accept(

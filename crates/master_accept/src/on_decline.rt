@@ -121,7 +121,7 @@ fn refuse_each(
 
 /// Offers aren't wanted (Mesos scheduler HTTP API, DECLINE): those of these ids that are current
 /// and the framework's own are withdrawn, and what each has isn't offered to it again on its agent
-/// for so many seconds. Others are passed over. Refused as `State::admit` tells.
+/// for so many seconds. Others are passed over. Refused as `State::admit` is.
 pub fn decline(
     state: &mut State,
     alloc: Global,

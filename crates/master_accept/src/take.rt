@@ -33,11 +33,11 @@ pub struct Progress {
     pub launched: Listed<Booked>,
     /// What is left of the offers.
     pub rest: Resources,
-    /// The number of the last launch key that was given out.
+    /// The number of the last launch key that was assigned.
     pub last_key: u32,
 }
 
-/// What an answer tells of a held task.
+/// What is sent of a held task.
 #[derive(Drop)]
 pub struct HeldTask {
     pub name: TaskName,

@@ -1,4 +1,4 @@
--- What RECONCILE tells, task by task.
+-- What RECONCILE sends, task by task.
 use Rattle.std.specs.Prelude.{ℕ, if◌then◌else◌, List, [], ◌∷◌, fold, map, Option, Some, None, option_map}
 use Rattle.std.specs.Ordering.{nat_cmp, ordering_then}
 use Rattle.std.specs.declared.cmp.Ordering.{Ordering}

@@ -20,7 +20,7 @@ subscribed_on m r id role known = record {
   registers = record (with_framework r (subscriber m id role)) { last_stream = suc r.last_stream };
 }
 
--- a framework comes with its id: its open stream, if it is known
+-- a framework subscribes with its id: its open stream, if it is known
 abbrev pub resubscribed_as : Master → Numbered → List ℕ → Option (Option Numbered) → Doing
 resubscribed_as m id role None =
     if nat_le frameworks_limit (length m.registers.frameworks) then refused m LimitExceeded

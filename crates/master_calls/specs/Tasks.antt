@@ -1,4 +1,4 @@
--- What is told of a held task, and what KILL and ACKNOWLEDGE do with one.
+-- What is sent of a held task, and what KILL and ACKNOWLEDGE do with one.
 use Rattle.std.specs.Prelude.{ℕ, Bool, if◌then◌else◌, List, Option, Some, None}
 use Rattle.names_core.specs.Ids.{Numbered}
 use Rattle.names_core.specs.declared.state.TaskState.{TaskState}
@@ -30,7 +30,7 @@ kills m stream task agent (Some held) =
     if held.ended then saying m (tells_task stream held.name held.state (Some held.agent))
     else commanding m (side_of m held.agent) (AtSide held.agent (SendKill held.key))
 
--- ACKNOWLEDGE of an update that is the one last heard, or isn't
+-- ACKNOWLEDGE of an update that is the one last received, or isn't
 abbrev pub acks : Master → List ℕ → Numbered → ℕ → Bool → Doing
 acks m agent key k is_last =
     if is_last then commanding m (side_of m agent) (AtSide agent (SendAck key k)) else nothing m

@@ -15,7 +15,7 @@ use names_core::{AgentName, FrameworkId, LaunchKey, StreamId, TaskName, TaskStat
 use plain_data::Plain;
 use std::alloc::{AllocError, Global};
 
-/// What an answer tells of a booked task.
+/// What is sent of a booked task.
 #[derive(Drop)]
 pub struct HeldTask {
     pub name: TaskName,
@@ -123,9 +123,9 @@ fn kill_held(
 }
 
 /// Ends a task (Mesos scheduler HTTP API, KILL): a command goes to the agent of a booked task that
-/// hasn't ended; of one that has ended its state is told, and of one that isn't booked that it is
-/// lost. Refused as `State::admit` tells, and `M4 LimitExceeded` where the agent's session has no
-/// command number left.
+/// hasn't ended; for one that has ended its state is sent, and for one that isn't booked TASK_LOST.
+/// Refused as `State::admit` is, and `M4 LimitExceeded` where the agent's session has no command
+/// number left.
 pub fn kill(
     state: &mut State,
     alloc: Global,
@@ -149,9 +149,9 @@ pub fn kill(
 }
 
 /// A status update was received (Mesos scheduler HTTP API, ACKNOWLEDGE): where it is the last one
-/// that was heard of the framework's task of this name and key on this agent, a command goes there;
-/// else nothing happens. Refused as `State::admit` tells, and `M4 LimitExceeded` where the agent's
-/// session has no command number left.
+/// that the master received of the framework's task of this name and key on this agent, a command
+/// goes there; else nothing happens. Refused as `State::admit` is, and `M4 LimitExceeded` where the
+/// agent's session has no command number left.
 pub fn acknowledge(
     state: &mut State,
     alloc: Global,

@@ -38,7 +38,7 @@ fn copy_agent(alloc: Global, agent: &Option<AgentName>) -> Result<Option<AgentNa
     }
 }
 
-/// What is told of a task that is held, or isn't.
+/// Sends the state of a task that is held; of one that isn't, TASK_LOST or nothing.
 fn reconcile_as(
     state: &mut State,
     alloc: Global,
@@ -129,7 +129,7 @@ fn gather_tasks(
     Ok(())
 }
 
-/// Goes over the framework's tasks on an agent, and no others.
+/// Adds the framework's tasks on an agent that haven't ended.
 fn gather_on(
     live: &mut BTreeMap<LaunchKey, HeldTask>,
     alloc: Global,
@@ -201,11 +201,11 @@ fn reconcile_asked(
     tell_all(state, stream, live)
 }
 
-/// Tells the states of tasks (Mesos scheduler HTTP API, RECONCILE), in the order asked: of one that
-/// is booked its state; of one that isn't that it is lost, where the agent that it is thought to be
-/// on, or where none is named every agent, has opened a session in this run or isn't configured;
-/// else nothing. Where no task is named, the states of all the framework's tasks that haven't ended
-/// are told, by their launch keys. Refused as `State::admit` tells.
+/// Sends the states of tasks (Mesos scheduler HTTP API, RECONCILE), in the order asked: of one that
+/// is booked its state; of one that isn't TASK_LOST, where the agent that it is thought to be on,
+/// or where none is named every agent, has opened a session in this run or isn't configured; else
+/// nothing. Where no task is named, the states of all the framework's tasks that haven't ended are
+/// sent, by their launch keys. Refused as `State::admit` is.
 pub fn reconcile(
     state: &mut State,
     alloc: Global,

@@ -10,7 +10,7 @@ use names_core::{FrameworkId, StreamId};
 use std::alloc::Global;
 
 /// The framework is offered resources again, and what it refused too (Mesos scheduler HTTP API,
-/// REVIVE). Refused as `State::admit` tells.
+/// REVIVE). Refused as `State::admit` is.
 pub fn revive(
     state: &mut State,
     alloc: Global,
@@ -29,8 +29,8 @@ pub fn revive(
     Ok(())
 }
 
-/// The framework asks for no more offers (Mesos scheduler HTTP API, SUPPRESS).
-/// Refused as `State::admit` tells.
+/// The framework asks for no more offers (Mesos scheduler HTTP API, SUPPRESS). Refused as
+/// `State::admit` is.
 pub fn suppress(
     state: &mut State,
     given: Option<StreamId>,

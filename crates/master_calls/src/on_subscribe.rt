@@ -53,7 +53,7 @@ fn enter(
     state.tell(stream, Event::Subscribed { framework: id })
 }
 
-/// The framework is subscribed on a new stream; its open one, if any, is told and closed.
+/// The framework is subscribed on a new stream; its open one, if any, gets an ERROR and is closed.
 fn subscribe_on(
     state: &mut State,
     alloc: Global,
@@ -137,7 +137,7 @@ fn resubscribe_as(
     }
 }
 
-/// A framework comes with the id that it was given.
+/// A framework subscribes with the id that was assigned to it.
 fn resubscribe(
     state: &mut State,
     alloc: Global,
@@ -163,9 +163,10 @@ fn resubscribe(
 }
 
 /// Opens an event stream for a new framework, or for the one with this id (Mesos scheduler HTTP
-/// API, SUBSCRIBE). `M3 NoSuchFramework` where this run can't have given the id out; `M4
-/// LimitExceeded` where 4,096 frameworks are known, or the numbers of frameworks or of streams are
-/// spent.
+/// API, SUBSCRIBE); one that was torn down gets an ERROR on it, and it is closed. `M3
+/// NoSuchFramework` where the id is of a later run, or of this one and not yet assigned; `M4
+/// LimitExceeded` where 4,096 other frameworks are known, or the numbers of frameworks or of
+/// streams are spent.
 pub fn subscribe(
     state: &mut State,
     alloc: Global,

@@ -46,7 +46,7 @@ fn end(
 
 /// Ends a framework (Mesos scheduler HTTP API, TEARDOWN): its offers are withdrawn, its stream
 /// closes, and it may not call again in this run. A command goes to each agent with booked tasks of
-/// it, which stay booked until the agent has applied it. Refused as `State::admit` tells, and `M4
+/// it, which stay booked until the agent has applied it. Refused as `State::admit` is, and `M4
 /// LimitExceeded` where the session of one of these agents has no command number left.
 pub fn teardown(
     state: &mut State,

@@ -21,7 +21,7 @@ use Rattle.agent_sides.specs.Named.{mailed_by}
 use Rattle.side_fits.specs.Fits.{SidesFit}
 pub use Rattle.master_core.specs.declared.master.HeardMail.{HeardMail}
 
--- what a step brings out
+-- the outputs of a step
 abbrev pub outs_of : Master → Doing → Outs
 outs_of m d =
     record {
@@ -44,7 +44,7 @@ Answers (Err (Refused refusal)) None after doing = ⊥
 Answers (Err (Refused refusal)) (Some m) after doing =
     ((doing m).refusal ≡ Some refusal) × (after ≡ Some m)
 
--- A mail was heard, and what goes with it was done; why it was refused is told.
+-- A mail was received, and what goes with it was done; why it was refused is returned.
 abbrev pub Hears : Result HeardMail MasterFault → Option Master → Option Master → List ℕ → AgentMail
     → Type 0
 Hears (Ok heard) None after agent mail = ⊥
@@ -70,7 +70,7 @@ is_open stream (Some m) = list_any (λ f. is_stream stream f.stream) m.registers
 
 -- ---- for private clauses
 
--- what a master has between its steps: nothing to bring out, and sides that fit what the agents own
+-- what a master has between its steps: no outputs, and sides that fit what the agents own
 abbrev pub IsRest : State → Type 0
 IsRest s = (s.outs ≡ no_outs) × SidesFit (run_of s) s.sides
 
@@ -83,7 +83,7 @@ abbrev pub of_memory : Result Unit AllocError → Result Unit MasterFault
 of_memory (Ok x) = Ok x
 of_memory (Err e) = Err OutOfMemory
 
--- what a step that was done brought out is handed out; where it wanted memory there is no state
+-- the outputs of a step that was done are returned; where it wanted memory there is no state
 abbrev pub Settled : Result Unit MasterFault → Option State → Option State → Result Outs MasterFault
     → Type 0
 Settled (Ok x) None new result = (new ≡ None) × (result ≡ Err OutOfMemory)

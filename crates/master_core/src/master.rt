@@ -53,7 +53,7 @@ impl Model for Master {
     ghost invariant = { λ m. IsAtRest m.state };
 }
 
-/// What a mail brought out, and why it was refused, if it was.
+/// The outputs of a mail, and why it was refused, if it was.
 #[derive(Drop)]
 pub struct HeardMail {
     pub outs: Outs,
@@ -125,7 +125,7 @@ impl Master {
     /// - `M1 NotSubscribed` where its framework has no open stream,
     /// - `M2 WrongStream` where it didn't come with its framework's open stream,
     /// - `M3 NoSuchFramework` where its framework is unknown in this run or torn down, or a SUBSCRIBE has an id that was
-    ///   never given out,
+    ///   never assigned,
     /// - `M4 LimitExceeded` where 4,096 frameworks are known, 65,536 tasks would be booked, or numbers are spent.
     ///
     /// `M5 OutOfMemory` leaves the master down: it answers so for ever.
@@ -195,14 +195,14 @@ impl Master {
         settle(&mut self.state, alloc, done)
     }
 
-    /// A mail of an agent (Mesos paper, section 3.5). Why it is refused stands beside what it
-    /// brings out: `G1 OtherRun` for a Report to a master of another run, and with a Hello to the
+    /// Receives a mail of an agent (Mesos paper, section 3.5). Why it is refused is returned beside
+    /// its outputs: `G1 OtherRun` for a Report to a master of another run, and with a Hello to the
     /// agent `G2 OldSession` below the open session, `G3 Closed` where none is open and this one is
     /// closed, `G4 NotOpen` where no Report has opened it. Nothing happens where the agent isn't
-    /// configured.
+    /// configured. `M5 OutOfMemory` leaves the master down.
     ///
-    /// The caller owes that an update has a number that an agent's record has room for,
-    /// and that what a Report tells hasn't ended fits the total that it tells.
+    /// The caller owes that an update has a number that an agent's record has room for, and that
+    /// the tasks of a Report that haven't ended fit its total.
     pub fn mail(
         &mut self,
         alloc: Global,

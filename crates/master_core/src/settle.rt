@@ -1,4 +1,4 @@
-//! What stands behind a step.
+//! What follows a step.
 
 ghost use Rattle.std.specs.Prelude.{◌≡◌, Some};
 ghost use Rattle.master_core.specs.Steps.{Settled};
@@ -7,7 +7,7 @@ use master_state::{MasterFault, Outs, State};
 use std::alloc::Global;
 use std::mem;
 
-/// Hands out what a step brought out. A master whose step wanted memory is down: it has no state.
+/// Returns the outputs of a step. A master whose step wanted memory is down: it has no state.
 pub fn settle(
     state: &mut Option<State>,
     alloc: Global,

@@ -1,4 +1,4 @@
--- The tasks that a Report tells of, found by their launch keys and by their frameworks.
+-- The tasks of a Report, found by their launch keys and by their frameworks.
 use Rattle.std.specs.Prelude.{List, [], fold}
 use Rattle.std.specs.Ordering.{nat_cmp, ordering_then}
 use Rattle.std.specs.declared.cmp.Ordering.{Ordering}

@@ -21,13 +21,13 @@ use Rattle.master_state.specs.States.{ordered}
 use Rattle.master_state.specs.Works.{Work, done, master_of, work_of}
 use Rattle.master_mails.specs.Tells.{loss_of, rescind_of}
 
--- what a master holds, once the side of an agent has heard a mail
+-- what a master holds, once the side of an agent has received a mail
 abbrev pub having_heard : List ℕ → AgentMail → Work → Work
 having_heard agent mail w =
     record w { moved = record w.moved { sides = hear_at agent w.moved.run mail w.moved.sides } }
 
--- an agent's mail was heard, with what goes with it, and why it is refused is told;
--- where memory was refused nothing is told
+-- an agent's mail was received, with what goes with it, and why it is refused is returned; where
+-- memory was refused nothing is claimed
 abbrev pub Answered : Result (Option MasterRefusal) AllocError → State → State → List ℕ → AgentMail
     → Type 0
 Answered (Ok refusal) before after agent mail =
@@ -47,7 +47,7 @@ without_filters agent s = record s { frameworks = map (clear_on agent) s.framewo
 abbrev pub with_lost : List ℕ → State → State
 with_lost agent s = record s { sides = at_name agent lost s.sides }
 
--- what is told of an agent's offers and of its booked tasks that aren't reported
+-- the events of an agent's offers and of its booked tasks that aren't reported
 abbrev pub rescinded : List ℕ → State → State
 rescinded agent s =
     with_told (flat_map (rescind_of s.frameworks) (told_of agent (λ t. t.offers) [] s.sides)) s

@@ -1,4 +1,4 @@
--- What frameworks are told, where the master knows these frameworks.
+-- Events that are sent to frameworks, where the master knows these.
 use Rattle.std.specs.Prelude.{ℕ, suc, ◌&&◌, nat_le, if◌then◌else◌, List, [], Some, None}
 use Rattle.names_core.specs.Ids.{Numbered, same}
 use Rattle.names_core.specs.declared.state.TaskState.TheVariants.{Lost}
@@ -31,7 +31,7 @@ abbrev pub updated_event : List ℕ → Heard → Booked → Event
 updated_event agent u b =
     update_event b.job.name u.state (Some agent) (Some (record { key = u.key; k = u.k }))
 
--- an update of a booked task that isn't older than what was heard
+-- an update of a booked task that isn't older than the last one received
 abbrev pub news : List Framework → List ℕ → Heard → Booked → List StreamEvent
 news fs agent u b =
     if same b.job.key u.key && nat_le b.heard (suc u.k)

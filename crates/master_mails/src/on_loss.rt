@@ -26,9 +26,9 @@ fn lose_open(state: &mut State, alloc: Global, agent: &AgentName) -> Result<(), 
 }
 
 /// An agent that has an open session is lost: its offers are rescinded, its booked tasks that
-/// haven't ended are lost, subscribed frameworks are told of its failure, and filters on it end;
-/// its session is closed, it leaves the books, and a Hello goes to it. Nothing happens where no
-/// session is open, and where no agent of this name is configured.
+/// haven't ended are lost, FAILURE is sent to subscribed frameworks, and filters on it end; its
+/// session is closed, its offers and tasks are removed, and a Hello goes to it. Nothing happens
+/// where no session is open, and where no agent of this name is configured.
 pub fn lose_agent(state: &mut State, alloc: Global, agent: &AgentName) -> Result<(), AllocError>
     ensures { OnOk result (work_of state.new
         ≡ done (lost_by (master_of state.old) agent.now) (work_of state.old)) }

@@ -92,14 +92,15 @@ fn hear_update(
     Ok(None)
 }
 
-/// A mail of an agent (Mesos paper, section 3.5). A Report opens a session where it is of this run
-/// and above every session that was open or is closed: the agent's offers are rescinded, its booked
-/// tasks that aren't reported are lost, filters on it end, and the reported tasks are its books,
-/// with the reported total. An update goes to the framework of its task, and a count of applied
-/// commands lets go what they end. The answer is why the mail is refused, if it is: `G1 OtherRun`
-/// for a Report to a master of another run, and with a Hello to the agent `G2 OldSession` below the
-/// open session, `G3 Closed` where none is open and this one is closed, `G4 NotOpen` where no
-/// Report has opened it. Nothing happens where no agent of this name is configured.
+/// Receives a mail of an agent (Mesos paper, section 3.5). A Report opens a session where it is of
+/// this run and above the open session, or where none is open above every closed one: the agent's
+/// offers are rescinded, its booked tasks that aren't reported and haven't ended are lost, filters
+/// on it end, and the reported tasks are its books, with the reported total. An update goes to the
+/// framework of its task, and after a count of applied commands the tasks are removed whose end
+/// these acknowledge, or whose framework they end. Returns why the mail is refused, if it is: `G1
+/// OtherRun` for a Report to a master of another run, and with a Hello to the agent `G2 OldSession`
+/// below the open session, `G3 Closed` where none is open and this one is closed, `G4 NotOpen`
+/// where no Report has opened it. Nothing happens where no agent of this name is configured.
 pub fn mail(
     state: &mut State,
     alloc: Global,

@@ -1,4 +1,4 @@
-//! The tasks that a Report tells of.
+//! The tasks of a Report.
 
 ghost use Rattle.std.specs.Prelude.{◌≡◌, List, [], fold, IfOk, OnOk};
 ghost use Rattle.std.specs.BTreeMap.{is_at};

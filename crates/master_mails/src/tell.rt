@@ -197,7 +197,8 @@ pub fn tell_beats(
     Ok(())
 }
 
-/// An update is news of a booked task: it has the task's key, and is not older than what was heard.
+/// An update is news of a booked task: it has the task's key, and isn't older than the last
+/// received.
 fn is_news(task: &Booked, update: &Heard) -> bool
     ensures { result ≡ (same task.now.job.key update.now.key
         && nat_le task.now.heard (suc update.now.k)) }
@@ -248,7 +249,8 @@ fn tell_news_of(
     }
 }
 
-/// An update of a booked task goes to its framework, where it isn't older than what was heard.
+/// An update of a booked task is sent to its framework, where it isn't older than the last one
+/// received.
 pub fn tell_news(
     alloc: Global,
     frameworks: &Frameworks,

@@ -1,4 +1,4 @@
--- Offers that are made at their agents, and told to their frameworks.
+-- Offers that are made on their agents, and sent to their frameworks.
 use Rattle.std.specs.Prelude.{ℕ, List, [], ◌∷◌, filter, fold, map, Option, Some, None}
 use Rattle.names_core.specs.Ids.{Numbered, same}
 use Rattle.mails.specs.declared.framework.Framework.{Framework}

@@ -1,4 +1,4 @@
-//! Offers are made at their agents, and told to their frameworks.
+//! Offers are made on their agents, and sent to their frameworks.
 
 ghost use Rattle.std.specs.Prelude.{◌≡◌, ◌++◌, ◌≤◌, true, filter, flat_map, length, IfOk, OnOk};
 ghost use Rattle.std.specs.List.Sorted.{IsNonDecreasing, IsPermutation};
@@ -152,8 +152,8 @@ fn ordered_places(
     Ok(places)
 }
 
-/// Tells each framework with offers and an open stream of these, in one event,
-/// in the order of the frameworks. They are found by halving, with no pass over all frameworks.
+/// Sends one event with its offers to each framework that has some and an open stream, in the order
+/// of the frameworks. They are found by halving, with no pass over all frameworks.
 pub fn tell_all(
     events: &mut Listed<StreamEvent>,
     alloc: Global,

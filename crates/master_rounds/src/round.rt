@@ -15,7 +15,7 @@ use round_shares::shares_of;
 use scheduler_events::Offer;
 use std::alloc::{AllocError, Global};
 
-/// The offers of a round, and the number of the offer behind them. What the next round needs of the
+/// The offers of a round, and the number of the offer after them. What the next round needs of the
 /// shares, and where the search for each agent ended, is kept with the frameworks.
 fn next_offers(
     state: &mut State,
@@ -38,8 +38,8 @@ fn next_offers(
 
 /// A round of offers: the agents with an open session are visited in order of their names, and what
 /// is free on each goes whole to the eligible framework that stands least by the weights of roles.
-/// Each framework with new offers is told of them in one event. The shares, and where the search
-/// for each agent ended, are kept for the next round; no answer hangs on them.
+/// Each framework with new offers receives them in one event. The shares, and where the search for
+/// each agent ended, are kept for the next round; no answer depends on them.
 pub fn allocate(state: &mut State, alloc: Global, weights: &Weights) -> Result<(), AllocError>
     requires { SidesFit (run_of state.old) state.old.sides }
     ensures { OnOk result (work_of state.new

@@ -62,7 +62,8 @@ done d w = record {
   closes = w.closes ++ d.closes;
 }
 
--- a step was done, or it was refused and nothing changed; where memory was refused nothing is told
+-- a step was done, or it was refused and nothing changed; where memory was refused nothing is
+-- claimed
 abbrev pub Gave : {T : Type 0} → Result T MasterFault → State → State → Doing → Type 0
 Gave (Ok x) before after d = (d.refusal ≡ None) × (work_of after ≡ done d (work_of before))
 Gave (Err OutOfMemory) before after d = Unit {0}

@@ -1,5 +1,5 @@
-//! What the master knows in its run, what a step brings out of it,
-//! and the steps that can't be refused (Mesos scheduler HTTP API; Mesos paper, section 3.1).
+//! What the master knows in its run, the outputs of a step, and the steps that can't be refused
+//! (Mesos scheduler HTTP API; Mesos paper, section 3.1).
 #![tactic(auto)]
 
 mod admit;

@@ -12,7 +12,7 @@ use scheduler_events::StreamEvent;
 use std::alloc::{AllocError, Global};
 use std::mem;
 
-/// What a step brings out.
+/// The outputs of a step.
 #[derive(Drop)]
 pub struct Outs {
     /// In the order made.
@@ -23,13 +23,13 @@ pub struct Outs {
     pub mails: Listed<ToAgent>,
 }
 
-/// What the master knows in its run, and what the step that it is in has brought out so far.
+/// What the master knows in its run, and the outputs so far of the step that it is in.
 #[derive(Drop)]
 pub struct State {
     pub run: Run,
     /// The frameworks that were torn down in this run, in order.
     pub torn: Listed<FrameworkId>,
-    /// The number of the last launch key that was given out in this run, 0 for none.
+    /// The number of the last launch key that was assigned in this run, 0 for none.
     pub last_key: u32,
     /// The number of the next offer, from 1; above 4,294,967,295 the offers are spent.
     pub next_offer: u64,
@@ -37,7 +37,7 @@ pub struct State {
     /// The moment of the last tick, in seconds.
     pub moment: u32,
     pub frameworks: Frameworks,
-    /// The number of the last framework id that was given out in this run, 0 for none.
+    /// The number of the last framework id that was assigned in this run, 0 for none.
     pub last_framework: u32,
     /// The number of the last stream that was opened in this run, 0 for none.
     pub last_stream: u32,
@@ -77,7 +77,7 @@ impl State {
         })
     }
 
-    /// Hands out what was brought out so far. It takes no memory.
+    /// Returns the outputs so far, and keeps none. It takes no memory.
     pub fn take_outs(&mut self, alloc: Global) -> Outs
         ensures outs { result ≡ self.old.outs }
         ensures state { self.new ≡ cleared self.old }

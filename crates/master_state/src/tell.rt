@@ -11,7 +11,7 @@ use scheduler_events::{Event, StreamEvent, TaskStatus};
 use std::alloc::{AllocError, Global};
 
 impl State {
-    /// An event goes out on a stream.
+    /// An event is sent on a stream.
     pub fn tell(&mut self, stream: StreamId, event: Event) -> Result<(), AllocError>
         ensures { OnOk result (self.new ≡ told stream event self.old) }
     {
@@ -19,7 +19,7 @@ impl State {
         Ok(())
     }
 
-    /// The state of a task goes out on a stream, without an id that has to be acknowledged.
+    /// The state of a task is sent on a stream, without an id that has to be acknowledged.
     pub fn tell_task(
         &mut self,
         stream: StreamId,
@@ -58,7 +58,7 @@ impl State {
         Ok(stream)
     }
 
-    /// A mail goes out.
+    /// A mail is sent.
     pub fn send(&mut self, mail: ToAgent) -> Result<(), AllocError>
         ensures { OnOk result (self.new ≡ sent mail self.old) }
     {

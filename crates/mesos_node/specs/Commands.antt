@@ -5,7 +5,7 @@ use Rattle.device_io.specs.Writes.{AppendsFront}
 use Rattle.frame_record.specs.declared.fault.FrameFault.{FrameFault}
 use Rattle.call_replies.specs.Replies.{IsAnswer}
 
--- the answer to the input was written, behind whose records this fault stands
+-- the answer to the input was written, which ends with this fault, if there is one
 abbrev pub Answers : List ℕ → Option FrameFault → Option (List ℕ) → Option (List ℕ) → Type 0
 Answers input fault old new = (text : List ℕ) × IsAnswer input text fault × Appends old new text
 

@@ -16,8 +16,8 @@ pub(crate) const REFUSED: u8 = 2;
 /// Memory, the input or the output failed.
 pub(crate) const FAILED: u8 = 3;
 
-/// Tells on standard error why a command ended, and gives its status: 2 where its input is refused,
-/// 3 where memory, a store or a device failed.
+/// Prints on standard error why a command ended, and returns its status: 2 where its input is
+/// refused, 3 where memory, a store or a device failed.
 pub(crate) fn tell<F: fmt::Display + Drop>(
     rt: &HostRuntime,
     fault: &F,

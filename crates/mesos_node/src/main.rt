@@ -41,7 +41,7 @@ fn texts_of(alloc: Global, words: &[String]) -> io::Result<Vec<&str>> {
     Ok(texts)
 }
 
-/// Does what the words name, or tells why they name nothing.
+/// Does what the words name, or prints why they name nothing.
 fn run_words<R: Net<Listener = TcpListener, Stream = TcpStream> + Threads + Wait + Clock + Sync>(
     rt: &HostRuntime,
     threads: &R,

@@ -1,5 +1,5 @@
 //! The command `serve`: a cluster that runs over a folder of records,
-//! with what is said on standard error, and the exit status.
+//! with what is printed on standard error, and the exit status.
 
 ghost use Rattle.std.specs.Prelude.{◌≡◌, IfOk};
 ghost use Rattle.std.specs.Io.KnownBytes.{Keeps};
@@ -33,7 +33,7 @@ use std::time::Clock;
 /// One part for each seat, and one for the desk.
 const PARTS: u64 = 1 << 32;
 
-/// Serves the cluster of a folder, and gives the table at its end.
+/// Serves the cluster of a folder, and returns the table at its end.
 fn serve_folder<R: Threads + Wait + Clock + Sync>(
     rt: &HostRuntime,
     threads: &R,
@@ -74,7 +74,7 @@ fn serve_folder<R: Threads + Wait + Clock + Sync>(
 }
 
 /// Serves the cluster of the folder and the agents that the options name,
-/// and gives the table at its end. It says on standard error where it serves, once it does.
+/// and returns the table at its end. It prints on standard error where it serves, once it does.
 fn serve<R: Net<Listener = TcpListener, Stream = TcpStream> + Threads + Wait + Clock + Sync>(
     rt: &HostRuntime,
     threads: &R,
@@ -94,7 +94,7 @@ fn serve<R: Net<Listener = TcpListener, Stream = TcpStream> + Threads + Wait + C
     serve_folder(rt, threads, options, config, folder, &listener)
 }
 
-/// Tells on standard error why a cluster isn't served, or isn't any more.
+/// Prints on standard error why a cluster isn't served, or isn't any more.
 fn tell_fault(rt: &HostRuntime, fault: &ServeFault) -> ExitCode
     ensures { exit_status result ≡ status_of_fault (is_refusal fault.now) }
 {

@@ -1,5 +1,5 @@
 //! The commands that read one stream to its end and write another: `calls` and `replay`,
-//! with what each says on standard error, and its exit status.
+//! with what each prints on standard error, and its exit status.
 
 ghost use Rattle.std.specs.Prelude.{◌≡◌, None, Some, IfSome, is_some, true};
 ghost use Rattle.std.specs.Io.KnownBytes.{Appends};
@@ -16,9 +16,9 @@ use replays::replay;
 use std::io::{Read, Write};
 use std::process::ExitCode;
 
-/// Answers the calls that a reader gives, and tells on standard error why it ended before the input
-/// did, if so. The status is 0, or 2 where a frame is none (`F1 BadSize`, `F2 TooLong`, `F3 Cut`),
-/// and 3 where memory, the reader or the writer failed (`F4`, `J10`, `M5`, `Z2`).
+/// Answers the calls that a reader returns, and prints on standard error why it ended before the
+/// input did, if so. The status is 0, or 2 where a frame is none (`F1 BadSize`, `F2 TooLong`,
+/// `F3 Cut`), and 3 where memory, the reader or the writer failed (`F4`, `J10`, `M5`, `Z2`).
 pub(crate) fn run_calls<R: Read, W: Write>(
     rt: &HostRuntime,
     reader: &mut R,
@@ -45,25 +45,25 @@ pub(crate) fn run_calls<R: Read, W: Write>(
     }
 }
 
-/// Replays the steps that a reader gives, one in each line behind the first, and tells on standard
-/// error why it ended before the input did, if so. The status is 0, or 2 where a line is no step or
-/// the first is no configuration (`X1 NotAStep`, `X2 BadCall`, `X3 BadConfig`), and 3 where memory,
-/// the reader or the writer failed (`C9 OutOfMemory`, `Z2 DeviceFault`).
+/// Replays the steps that a reader returns, one in each line after the first, and prints on
+/// standard error why it ended before the input did, if so. The status is 0, or 2 where a line is
+/// no step or the first is no configuration (`X1 NotAStep`, `X2 BadCall`, `X3 BadConfig`), and 3
+/// where memory, the reader or the writer failed (`C9 OutOfMemory`, `Z2 DeviceFault`).
 pub(crate) fn run_replay<R: Read, W: Write>(
     rt: &HostRuntime,
     reader: &mut R,
     writer: &mut W,
 ) -> ExitCode
     ensures status { IsStatus (exit_status result) }
-    // At 0 all lines are replayed, and what comes of them is written,
+    // At 0 all lines are replayed, and the answers to them are written,
     ensures ended { exit_status result ≡ 0
         → IfSome (R.remaining reader.old) (λ input. (replay_fault input ≡ None)
         × Appends (W.contents writer.old) (W.contents writer.new) (replay_text input)) }
-    // at 2 what comes of the lines before the one that is refused,
+    // at 2 the answers to the lines before the one that is refused,
     ensures refused { exit_status result ≡ 2
         → IfSome (R.remaining reader.old) (λ input. (is_some (replay_fault input) ≡ true)
         × Appends (W.contents writer.old) (W.contents writer.new) (replay_text input)) }
-    // and at 3 a beginning of it.
+    // and at 3 a beginning of them.
     ensures failed { exit_status result ≡ 3
         → IfSome (R.remaining reader.old)
         (λ input. AppendsFront (W.contents writer.old) (W.contents writer.new)

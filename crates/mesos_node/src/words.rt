@@ -23,9 +23,9 @@ fn status_of_kind(kind: ErrorKind) -> u8
     }
 }
 
-/// Tells why the words of the command line name no action, on standard error, or the help that they
-/// ask for, on standard output. The status is 0 for help, 3 where memory was refused, and else 2;
-/// what `clap` can't write is its `io::Error`.
+/// Prints why the words of the command line name no action, on standard error, or the help that
+/// they ask for, on standard output. The status is 0 for help, 3 where memory was refused, and else
+/// 2; what `clap` can't write is its `io::Error`.
 pub(crate) fn tell_words(rt: &HostRuntime, fault: &clap::Error) -> io::Result<ExitCode>
     ensures { IfOk result (λ code. exit_status code ≡ status_of_kind (kind_of fault.now)) }
 {
@@ -33,8 +33,8 @@ pub(crate) fn tell_words(rt: &HostRuntime, fault: &clap::Error) -> io::Result<Ex
     Ok(ExitCode::from(status_of_kind(fault.kind())))
 }
 
-/// Tells why the words of the command line can't be had: one isn't UTF-8, with status 2,
-/// or memory is refused, with status 3.
+/// Prints on standard error why the words of the command line can't be had: one isn't UTF-8, with
+/// status 2, or memory is refused, with status 3.
 pub(crate) fn tell_unread(rt: &HostRuntime, fault: &io::Error) -> ExitCode
     ensures { exit_status result ≡ status_of_unread (error_kind fault.now) }
 {

@@ -18,7 +18,7 @@ pub record InRange (i : Numbered) : Type 0 where
 abbrev pub same : Numbered → Numbered → Bool
 same a b = a.n == b.n && a.run == b.run
 
--- ids stand by run, then by number
+-- the order of ids: by run, then by number
 abbrev pub before : Numbered → Numbered → Bool
 before a b = nat_lt a.run b.run || (a.run == b.run && nat_lt a.n b.n)
 

@@ -17,13 +17,13 @@ pub record IsUpdate (u : Update) : Type 0 where
   pub k_fits : u.k < 4096
 
 -- the run, the launch's number, the version 8, the variant 10, and k;
--- numbers stand with the high byte first
+-- numbers are big-endian
 abbrev pub update_bytes : Update → List ℕ
 update_bytes u =
     to_be_bytes w16 u.key.run
     ++ (to_be_bytes w32 u.key.n ++ (128 ∷ 0 ∷ 128 ∷ 0 ∷ 0 ∷ 0 ∷ to_be_bytes w32 u.k))
 
--- what stands at the places of the run, the number and k
+-- the values at the places of the run, the number and k
 abbrev pub fields_of : List ℕ → Update
 fields_of bytes = record {
   key =

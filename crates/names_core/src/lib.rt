@@ -1,4 +1,4 @@
-//! The ids and names that frameworks, agents and the master speak of, and the states of a task.
+//! The ids and names that frameworks, agents and the master use, and the states of a task.
 #![tactic(auto)]
 
 mod agent;

@@ -46,7 +46,7 @@ impl OfferId {
         OfferId { run, n }
     }
 
-    /// The run of the master that gave the id out.
+    /// The run of the master that issued the id.
     pub fn run(&self) -> u16
         ensures { result ≡ self.now.run }
     {

@@ -5,7 +5,7 @@ ghost use Rattle.std.specs.Prelude.{◌≡◌, ◌<◌};
 use std::marker::Model;
 
 /// A run of the master, from 1 to 65,535:
-/// each start of the master has the next number, which its ids carry.
+/// each start of the master has the next number, which its ids contain.
 #[derive(Clone, Copy, Debug, Drop, PartialEq, Eq, PartialOrd, Ord)]
 pub struct Run {
     number: u16,

@@ -6,10 +6,10 @@ ghost use Rattle.names_core.specs.declared.state.TaskState.{TaskState};
 
 use plain_data::Plain;
 
-/// The task states of the Mesos scheduler HTTP API that this cluster manager tells.
+/// The task states of the Mesos scheduler HTTP API that this cluster manager reports.
 #[derive(Clone, Copy, Debug, Drop, PartialEq, Eq)]
 pub enum TaskState {
-    /// Launched, and its executor has told nothing yet.
+    /// Launched, and its executor has reported no state yet.
     Staging,
     Running,
     /// Ended by itself, successfully.

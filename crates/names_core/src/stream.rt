@@ -11,7 +11,7 @@ use std::alloc::Global;
 use std::marker::Model;
 
 /// A stream of events to a framework, counted from 1 in each run of the master.
-/// It is what the header `Mesos-Stream-Id` of the scheduler HTTP API carries.
+/// It is the value of the header `Mesos-Stream-Id` of the scheduler HTTP API.
 #[derive(Clone, Copy, Debug, Drop, PartialEq, Eq, PartialOrd, Ord)]
 pub struct StreamId {
     run: u16,
@@ -47,7 +47,7 @@ impl StreamId {
         StreamId { run, n }
     }
 
-    /// The run of the master that gave the id out.
+    /// The run of the master that issued the id.
     pub fn run(&self) -> u16
         ensures { result ≡ self.now.run }
     {

@@ -10,7 +10,7 @@ use std::alloc::{AllocError, Global};
 use std::fmt;
 use std::marker::Model;
 
-/// The name that a framework gives a task, its `task_id`:
+/// The name of a task, its `task_id`, which its framework chooses:
 /// 1 to 255 bytes of UTF-8 without control characters, space, slash and backslash.
 pub struct TaskName {
     text: String,

@@ -7,18 +7,18 @@ use Rattle.std.specs.Char.{is_ascii_digit}
 abbrev pub is_token_byte : ℕ → Bool
 is_token_byte b = is_ascii_digit b || (b == 43) || (b == 45) || (b == 46) || (b == 101) || (b == 69)
 
--- whether a backslash takes along what stands behind these bytes;
--- the first says whether one takes along their own first
+-- whether a backslash escapes the byte after these bytes; the first argument says whether one
+-- escapes the first of them
 abbrev pub takes_next : Bool → List ℕ → Bool
 takes_next taken [] = taken
 takes_next taken (b ∷ bs) = takes_next (not taken && (b == 92)) bs
 
--- a backslash takes along each quote in these bytes
+-- a backslash escapes each quote in these bytes
 abbrev pub NoQuoteEnds : List ℕ → Type 0
 NoQuoteEnds bs =
     (before after : List ℕ) → bs ≡ before ++ 34 ∷ after → takes_next false before ≡ true
 
--- a string: from a quote to the next quote that no backslash takes along, or to the end of the text
+-- a string: from a quote to the next quote that no backslash escapes, or to the end of the text
 abbrev pub IsString : List ℕ → List ℕ → Type 0
 IsString piece rest =
     (inner : List ℕ) × NoQuoteEnds inner

@@ -16,7 +16,7 @@ lacks_point text = list_all (λ b. not (is_point b)) text
 abbrev pub without_minus : List ℕ → List ℕ
 without_minus number = if slice_index number 0 == 45 then drop 1 number else number
 
--- digits, behind an optional minus
+-- digits, after an optional minus
 abbrev pub is_whole : List ℕ → Bool
 is_whole number =
     nat_lt 0 (length (without_minus number)) && list_all is_ascii_digit (without_minus number)
@@ -32,8 +32,8 @@ trimmed piece =
 
 -- ---- the pieces of a text, computed
 
--- how many bytes a string takes behind its first quote;
--- the first says whether a backslash takes the next one along
+-- how many bytes a string has after its first quote; the first argument says whether a backslash
+-- escapes the next one
 unfoldable pub string_len : Bool → List ℕ → ℕ
 string_len taken [] = 0
 string_len true (b ∷ bs) = 1 + string_len false bs

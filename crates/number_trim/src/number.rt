@@ -5,7 +5,7 @@ ghost use Rattle.std.specs.List.{list_all, position_or_len};
 ghost use Rattle.std.specs.Char.{is_ascii_digit};
 ghost use Rattle.number_trim.specs.Trim.{is_point, without_minus, is_whole, is_zeros, trimmed};
 
-/// Where the first point stands, or the length.
+/// The place of the first point, or the length.
 fn point_place(piece: &[u8]) -> usize
     ensures place { result ≡ position_or_len is_point piece.now }
     ensures inside { result ≤ length piece.now }

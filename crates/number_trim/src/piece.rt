@@ -4,7 +4,7 @@ ghost use Rattle.std.specs.Prelude.{◌≡◌, ◌≤◌, ◌<◌, false, length
 ghost use Rattle.number_trim.specs.Cuts.{is_token_byte};
 ghost use Rattle.number_trim.specs.Trim.{string_len, piece_len};
 
-/// Where a string ends, in the text behind its first quote.
+/// Where a string ends, in the text after its first quote.
 #[tactic(auto, unfolding(crate::specs::Trim::string_len))]
 fn string_end(text: &[u8]) -> usize
     ensures len { result ≡ string_len false text.now }

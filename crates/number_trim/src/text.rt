@@ -23,7 +23,7 @@ fn is_trimmed(piece: &[u8]) -> bool
     trimmed(piece).len() < piece.len()
 }
 
-/// How many bytes stand before the first number that is trimmed; all where none is.
+/// How many bytes there are before the first number that is trimmed; all where none is.
 fn kept_len(text: &[u8]) -> usize
     ensures inside { result ≤ length text.now }
     ensures kept { trim text.now ≡ take result text.now ++ trim (drop result text.now) }
@@ -56,9 +56,9 @@ fn push_trimmed(out: &mut Vec<u8>, text: &[u8]) -> Result<(), AllocError>
 }
 
 /// The text with its whole numbers as such. Outside strings each longest run of digits, `+`, `-`,
-/// `.`, `e` and `E` that is an optional minus, digits, a point and zeros becomes what stands before
-/// the point; everything else stays. The text needn't be JSON. Where nothing is trimmed the text
-/// itself is lent, and no memory is asked for.
+/// `.`, `e` and `E` that is an optional minus, digits, a point and zeros becomes what is before the
+/// point; everything else stays. The text needn't be JSON. Where nothing is trimmed the text itself
+/// is returned, borrowed, and no memory is allocated.
 pub fn trim(alloc: Global, text: &[u8]) -> Result<CowSlice<'_, u8>, AllocError>
     ensures value { IfOk result (λ out. cow_slice_items out ≡ trim text.now) }
     ensures lent { trim text.now ≡ text.now → IsOkAnd result IsBorrowedSlice }

@@ -68,7 +68,7 @@ abbrev pub reopened_on : List ℕ → List Booked → List Row → List Account
     → Result (List Account) BookFault
 reopened_on name tasks total as_ = changed name (reopened tasks total) as_
 
--- an update of a task on it is heard of
+-- an update of a task on it is received
 abbrev pub heard_on : List ℕ → Heard → List Account → Result (List Account) BookFault
 heard_on name update as_ = changed name (hearing update.key update.k update.state update.ended) as_
 

@@ -1,4 +1,4 @@
--- What a refusal tells.
+-- Which refusal is returned.
 use Rattle.std.specs.Prelude.{◌≡◌, Result, Err}
 use Rattle.offer_book.specs.declared.fault.BookFault.{BookFault}
 use Rattle.offer_book.specs.declared.fault.BookFault.TheVariants.{Unknown, NoRoom, Twice, OutOfMemory}

@@ -60,7 +60,7 @@ abbrev pub AreKeysOf : Names → Numbered → List ℕ → Option Keys → Type 
 AreKeysOf names framework name keys =
     (key : Numbered) → may_have names framework name key ≡ true → may_be keys key ≡ true
 
--- the key is behind the last one
+-- the key is after the last one
 abbrev pub is_past : Option Numbered → Numbered → Bool
 is_past None key = true
 is_past (Some last) key = before last key
@@ -78,7 +78,7 @@ AreNamed names bs = AllByRecursion (IsNamed names) bs
 abbrev pub AreAllNamed : Names → List Account → Type 0
 AreAllNamed names as_ = AllByRecursion (λ a. AreNamed names a.booked) as_
 
--- no key up to the one is behind the other
+-- no key up to the one is after the other
 abbrev pub ReachesAsFar : Option Numbered → Option Numbered → Type 0
 ReachesAsFar one other =
     (key : Numbered) → is_past one key ≡ false → is_past other key ≡ false

@@ -55,8 +55,8 @@ impl Account {
         self.booked = Tasks::new(alloc);
     }
 
-    /// The total less current offers and booked tasks that haven't ended.
-    /// Where the sums of the offers and of the booked tasks are known it doesn't go over them.
+    /// The total less current offers and booked tasks that haven't ended. Where the sums of the
+    /// offers and of the booked tasks are known it visits none of them.
     pub fn free(&self, alloc: Global) -> Result<Resources, AllocError>
         ensures rest { IfOk result (λ rest. rest ≡ free self.now) }
         ensures less { IfOk result (λ rest. (name : List ℕ)
@@ -69,8 +69,8 @@ impl Account {
         Ok(rest)
     }
 
-    /// Whether the total has room for more resources beside what is taken of it.
-    /// Where the sums of the offers and of the booked tasks are known it doesn't go over them.
+    /// Whether the total has room for more resources beside what is taken of it. Where the sums of
+    /// the offers and of the booked tasks are known it visits none of them.
     pub fn fits(&self, alloc: Global, more: &Resources) -> Result<bool, AllocError>
         ensures { IfOk result (λ is_within. is_within ≡ fits self.now more.now) }
     {

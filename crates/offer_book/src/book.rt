@@ -284,7 +284,7 @@ fn booked_count(accounts: &[Account]) -> u128
     count
 }
 
-/// Forgets a name whose task is gone.
+/// Removes a name whose only key is that of a task that is no longer booked.
 fn forget_name(names: &mut Names, accounts: &[Account], framework: FrameworkId, name: &TaskName)
     ensures { AreAllNamed names.old accounts.now → AreAllNamed names.new accounts.now }
 {
@@ -296,8 +296,8 @@ fn forget_name(names: &mut Names, accounts: &[Account], framework: FrameworkId, 
     }
 }
 
-/// Keeps the name of a task that is about to be booked,
-/// and forgets names of tasks that are gone where they are many.
+/// Stores the name of a task that is about to be booked, and removes names of tasks that are no
+/// longer booked where they are many.
 fn note(names: &mut Names, accounts: &[Account], task: &Booked)
     ensures noted { IsNamed names.new task.now }
     ensures kept { AreAllNamed names.old accounts.now → AreAllNamed names.new accounts.now }
@@ -336,7 +336,8 @@ impl OfferBook {
         booked_count(&self.accounts)
     }
 
-    /// Whether a task of this key is booked. One behind all keys isn't looked for.
+    /// Whether a task of this key is booked. A key after those of all booked tasks isn't searched
+    /// for.
     fn is_booked(&self, key: LaunchKey) -> bool
         ensures { result ≡ is_booked key self.now }
     {
@@ -361,8 +362,8 @@ impl OfferBook {
     }
 
     /// The booked task of a framework with this name, if any, and its agent. Of several it is one
-    /// that hasn't ended, if there is one, and of these the one with the least launch key. It goes
-    /// over the tasks only where memory is refused, or where a name is given to several tasks.
+    /// that hasn't ended, if there is one, and of these the one with the least launch key. It
+    /// visits all tasks only where memory was refused, or where several booked tasks had the name.
     pub fn held(&self, framework: FrameworkId, name: &TaskName) -> Option<(&AgentName, &Booked)>
         ensures { option_map (λ t. place t.0.now t.1.now) result
             ≡ held framework name.now self.now }
@@ -408,9 +409,9 @@ impl OfferBook {
         free_in(&self.accounts, alloc, name)
     }
 
-    /// Offers resources of an agent. What is wrong is told in this order: `B1 Unknown` where no
-    /// agent of this name is in, `B3 Twice` where an offer of this id is current, `B2 NoRoom` where
-    /// the agent's total has no room for the resources beside what is taken of it.
+    /// Offers resources of an agent. Checked in this order: `B1 Unknown` where no agent of this
+    /// name is in, `B3 Twice` where an offer of this id is current, `B2 NoRoom` where the agent's
+    /// total has no room for the resources beside what is taken of it.
     pub fn offer(&mut self, alloc: Global, name: &AgentName, offer: Offer) -> Result<(), BookFault>
         ensures ok { OnOk result (offered name.now offer self.old ≡ Ok self.new) }
         ensures refused { IfErr result
@@ -433,9 +434,9 @@ impl OfferBook {
         Ok(())
     }
 
-    /// Books a task on an agent. What is wrong is told in this order: `B1 Unknown` where no agent
-    /// of this name is in, `B3 Twice` where a task of this key is booked, `B2 NoRoom` where the
-    /// agent's total has no room for the task's resources beside what is taken of it.
+    /// Books a task on an agent. Checked in this order: `B1 Unknown` where no agent of this name is
+    /// in, `B3 Twice` where a task of this key is booked, `B2 NoRoom` where the agent's total has
+    /// no room for the task's resources beside what is taken of it.
     pub fn book(&mut self, alloc: Global, name: &AgentName, task: Booked) -> Result<(), BookFault>
         ensures ok { OnOk result (booked name.now task self.old ≡ Ok self.new) }
         ensures refused { IfErr result (λ fault. IsRefusal fault (booked name.now task self.old)) }
@@ -476,7 +477,7 @@ impl OfferBook {
     }
 }
 
-/// What the master hears of agents, and offers that are gone.
+/// What the master receives from agents, and offers that are withdrawn.
 impl OfferBook {
     /// Withdraws all offers to a framework. It takes no memory.
     pub fn withdraw_of(&mut self, framework: FrameworkId)
@@ -509,9 +510,9 @@ impl OfferBook {
         withdraw_on(&mut self.accounts, name, framework, ids)
     }
 
-    /// An agent's session opens or ends: its offers are gone, the reported tasks take the place of
-    /// those that are booked, and the agent owns the reported total. `B1 Unknown` where no agent of
-    /// this name is in. It isn't refused for want of memory.
+    /// An agent's session opens or ends: its offers are removed, the reported tasks replace those
+    /// that are booked, and the agent owns the reported total. `B1 Unknown` where no agent of this
+    /// name is in. It isn't refused for want of memory.
     pub fn reopen(
         &mut self,
         alloc: Global,
@@ -528,8 +529,8 @@ impl OfferBook {
         reopen_on(&mut self.accounts, alloc, name, tasks, total)
     }
 
-    /// An update of a task on an agent is heard of.
-    /// `B1 Unknown` where no agent of this name is in. It takes no memory.
+    /// An update of a task on an agent is received. `B1 Unknown` where no agent of this name is in.
+    /// It takes no memory.
     pub fn hear(&mut self, name: &AgentName, update: &Heard) -> Result<(), BookFault>
         requires { update.now.k < 4294967295 }
         ensures ok { OnOk result (heard_on name.now update.now self.old ≡ Ok self.new) }
@@ -540,8 +541,9 @@ impl OfferBook {
         hear_on(&mut self.accounts, name, update)
     }
 
-    /// Forgets what an agent's applying of these commands lets go.
-    /// `B1 Unknown` where no agent of this name is in. It takes no memory.
+    /// An agent has applied these commands: a task is removed whose end is acknowledged by one, or
+    /// whose framework one ends. `B1 Unknown` where no agent of this name is in. It takes no
+    /// memory.
     pub fn forget_by(&mut self, name: &AgentName, commands: &[Command]) -> Result<(), BookFault>
         ensures ok { OnOk result (applied_on name.now commands.now self.old ≡ Ok self.new) }
         ensures refused { IfErr result

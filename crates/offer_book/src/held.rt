@@ -49,8 +49,8 @@ fn better<'a>(
     }
 }
 
-/// Of a task that was found before, if any, and the tasks of an agent that a framework gave this
-/// name: the one that hasn't ended, then the one with the least launch key.
+/// Of a task that was found before, if any, and the tasks of a framework with this name on an
+/// agent: the one that hasn't ended, then the one with the least launch key.
 pub fn first_among<'a>(
     before: Option<(&'a AgentName, &'a Booked)>,
     agent: &'a AgentName,

@@ -1,5 +1,4 @@
-//! What holds of books: each function's contract is a law,
-//! and its call brings the law into a proof.
+//! What holds of books: each function's contract is a law, and its call adds the law to a proof.
 
 ghost use Rattle.offer_book.specs.Laws.{RestOfRestIsSum, RoomIsFree};
 

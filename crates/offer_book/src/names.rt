@@ -15,7 +15,7 @@ use std::collections::BTreeMap;
 /// So many names are kept whatever is booked.
 const LEAST_LIMIT: u128 = 1000;
 
-/// A name, with the framework that gave it to a task.
+/// A task's name, with the task's framework.
 #[derive(PartialEq, Eq, PartialOrd, Ord, Drop)]
 pub(crate) struct Given {
     framework: FrameworkId,
@@ -29,8 +29,8 @@ pub(crate) struct Keys {
     pub(crate) only: Option<LaunchKey>,
 }
 
-/// Names among which those of all booked tasks are, with their keys.
-/// A name may stay when its task is gone.
+/// Names among which those of all booked tasks are, with their keys. A name may stay when its task
+/// has been removed.
 #[derive(Drop)]
 pub(crate) struct Names {
     alloc: Global,
@@ -39,7 +39,7 @@ pub(crate) struct Names {
     is_whole: bool,
     /// With more names than this it is time to see how many tasks are booked.
     limit: u128,
-    /// No booked task has a launch key behind it.
+    /// No booked task has a launch key after it.
     last: Option<LaunchKey>,
 }
 
@@ -117,7 +117,7 @@ impl Names {
         }
     }
 
-    /// Whether a key is behind those of all booked tasks.
+    /// Whether a key is after those of all booked tasks.
     pub(crate) fn is_past(&self, key: LaunchKey) -> bool
         ensures { result ≡ is_past self.now.last key }
     {

@@ -11,7 +11,7 @@ use current_offers::Offers;
 use mails::{Booked, Offer};
 use quantity::Resources;
 
-/// Takes away what offers have.
+/// Subtracts what offers have.
 fn take_offers(rest: &mut Resources, offers: &[Offer])
     requires { AreRows rest.old }
     ensures rest { rest.new ≡ rest_of rest.old (offer_rows offers.now) }
@@ -44,7 +44,7 @@ fn take_task(rest: &mut Resources, task: &Booked)
     }
 }
 
-/// Takes away what tasks use that haven't ended.
+/// Subtracts what tasks use that haven't ended.
 fn take_tasks(rest: &mut Resources, tasks: &[Booked])
     requires { AreRows rest.old }
     ensures rest { rest.new ≡ rest_of rest.old (job_rows (unended tasks.now)) }
@@ -66,7 +66,7 @@ pub(crate) fn take_booked(rest: &mut Resources, tasks: &Tasks)
     }
 }
 
-/// Takes away a part, or tells that there is less.
+/// Subtracts a part; where there is less of some name it subtracts nothing and returns false.
 pub(crate) fn cover_part(rest: &mut Resources, part: &Resources) -> bool
     requires { AreRows rest.old }
     ensures covered { result ≡ covers rest.old part.now }
@@ -80,7 +80,7 @@ pub(crate) fn cover_part(rest: &mut Resources, part: &Resources) -> bool
     true
 }
 
-/// Takes away what offers have, or tells that there is less.
+/// Subtracts what offers have, or returns false where there is less of some name.
 fn cover_offers(rest: &mut Resources, offers: &[Offer]) -> bool
     requires { AreRows rest.old }
     ensures covered { result ≡ covers rest.old (offer_rows offers.now) }
@@ -120,7 +120,7 @@ fn cover_task(rest: &mut Resources, task: &Booked) -> bool
     cover_part(rest, &task.job.resources)
 }
 
-/// Takes away what tasks use that haven't ended, or tells that there is less.
+/// Subtracts what tasks use that haven't ended, or returns false where there is less of some name.
 fn cover_tasks(rest: &mut Resources, tasks: &[Booked]) -> bool
     requires { AreRows rest.old }
     ensures { result ≡ covers rest.old (job_rows (unended tasks.now)) }
@@ -133,8 +133,8 @@ fn cover_tasks(rest: &mut Resources, tasks: &[Booked]) -> bool
     true
 }
 
-/// Whether there is as much as the tasks use that haven't ended.
-/// Where their sum is known it doesn't go over them.
+/// Whether there is as much as the tasks use that haven't ended. Where their sum is known it visits
+/// none of them.
 pub(crate) fn cover_booked(rest: &mut Resources, tasks: &Tasks) -> bool
     requires { AreRows rest.old }
     ensures { result ≡ covers rest.old (job_rows (unended tasks.now)) }

@@ -89,6 +89,6 @@ turn_of None is_open = turns.Answer
 turn_of (Some waiting) is_open =
     if nat_lt 0 waiting then turns.Answer else (if is_open then turns.Wait else turns.End)
 
--- a call of the model opened one stream, and its last event stands on it
+-- a call of the model opened one stream, and its last event is on it
 abbrev pub EndsOnOpened : Doing → Type 0
 EndsOnOpened d = (told : StreamEvent) × (last_of d.events ≡ Some told) × (d.opens ≡ told.stream ∷ [])

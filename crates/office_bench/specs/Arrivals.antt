@@ -3,7 +3,7 @@ use Rattle.std.specs.Prelude.{◌≡◌, ◌⊎◌, ◌<◌, ◌≤◌, ℕ, Boo
 use Rattle.desk_seats.specs.Receipts.{PassState}
 use Rattle.cluster_entries.specs.declared.entry.Entry.{Entry}
 
--- the pass by which the office is asked, how many connections are taken at most (0 is no limit),
+-- the pass by which the office is read, how many connections are taken at most (0 is no limit),
 -- how many were taken, how many failed since the last that was taken, and whether the office is
 -- finished
 pub record ArrivalsState : Type 0 where
@@ -13,7 +13,7 @@ pub record ArrivalsState : Type 0 where
   pub failures : ℕ
   pub finished : Bool
 
--- no more connections come: as many were taken as may be, 64 in a row failed,
+-- there are no more connections: as many were taken as may be, 64 in a row failed,
 -- or the office is finished
 abbrev pub HasEnded : ArrivalsState → Type 0
 HasEnded a = ((0 < a.limit) × (a.limit ≤ a.taken)) ⊎ (64 ≤ a.failures) ⊎ (a.finished ≡ true)

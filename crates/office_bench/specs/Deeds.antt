@@ -43,7 +43,7 @@ pub record Refuses (is_taken : Taking) (old : PassState Entry) (stream : Option 
   pub answers : answer ≡ Refused fault
   pub sends : (new ≡ old) ⊎ Steps is_taken old (Send stream call) new
 
--- the next event of a stream is the one that a Take handed out.
+-- the next event of a stream is the one that a Take returned.
 -- None is taken where the answer is None, and at most one where memory is refused
 abbrev pub Nexts : Taking → PassState Entry → Numbered → Result (Option Event) AllocError
     → PassState Entry → Type 0

@@ -8,7 +8,7 @@ use Rattle.office_bench.specs.Deeds.{Does, RefusesAll}
 use Rattle.office_bench.specs.declared.seating.Seating.{Seating}
 use Rattle.office_bench.specs.declared.seating.Seating.TheVariants.{Seat, Refusing}
 
--- a seat did what a seat does, and stays; without a seat each call is refused by one fault
+-- a seat did what a seat does, and is still open; without a seat each call is refused by one fault
 abbrev pub SeatingDoes : {D L R : Type 0} → Taking → Seating D L R → Deed → Seating D L R → Type 0
 SeatingDoes is_taken (Seat old) deed (Seat new) = Does is_taken old deed new
 SeatingDoes is_taken (Seat old) deed (Refusing fault) = ⊥

@@ -27,7 +27,7 @@ const PAUSE: u64 = 50;
 /// How long a write may wait for a client that doesn't read, in seconds.
 const WRITE_SECONDS: u64 = 30;
 
-/// Waits for the next connection. What is written goes out at once,
+/// Waits for the next connection. What is written is sent at once,
 /// and a write that waits for longer than 30 seconds fails.
 fn accept(listener: &TcpListener) -> io::Result<(TcpInlet, TcpOutlet)>
     ensures { IfOk result (λ ends. (ends.0.faults ≡ 0) × (ends.1.faults ≡ 0)) }
@@ -46,7 +46,7 @@ pub struct TcpArrivals<'a, D: Running, L: ledger::Ledger, R: Wait + Clock> {
     rt: &'a R,
     alloc: Global,
     office: &'a Office<D, L>,
-    /// The seat by which the office is asked whether it is finished.
+    /// The seat by which is read whether the office is finished.
     pass: Pass<KeptEntry, L>,
     listener: &'a TcpListener,
     /// How many connections are taken at most; 0 is no limit.
@@ -103,21 +103,21 @@ impl<'a, D: Running, L: ledger::Ledger, R: Wait + Clock> TcpArrivals<'a, D, L, R
         }
     }
 
-    /// The pass of its seat, to be handed in at the office's close.
+    /// The pass of its seat, for the office's close.
     pub fn into_pass(self) -> Pass<KeptEntry, L>
         ensures { result ≡ self.entry.pass }
     {
         self.pass
     }
 
-    /// Whether no more connections come since 64 in a row failed.
+    /// Whether there are no more connections because 64 in a row failed.
     pub fn has_failed(&self) -> bool
         ensures { result ≡ nat_le 64 self.now.failures }
     {
         self.failures >= FAILURES
     }
 
-    /// Whether the office is finished; who looks at it finds something at once otherwise.
+    /// Whether the office is finished; a look at it finds something at once otherwise.
     fn is_office_finished(&self) -> bool {
         let found = self.office.wait_for(
             self.rt,
@@ -132,7 +132,7 @@ impl<'a, D: Running, L: ledger::Ledger, R: Wait + Clock> TcpArrivals<'a, D, L, R
         }
     }
 
-    /// Whether no more connections come.
+    /// Whether there are no more connections.
     fn has_ended(&mut self) -> bool
         ensures { IsTrue result → HasEnded self.new }
     {
@@ -150,7 +150,7 @@ impl<'a, D: Running, L: ledger::Ledger, R: Wait + Clock> TcpArrivals<'a, D, L, R
     }
 
     /// Waits for the next connection. Where it fails there is none; since the next would fail at
-    /// once where the system lacks descriptors or memory, a while goes by.
+    /// once where the system lacks descriptors or memory, it waits for 50 milliseconds then.
     fn take(&mut self) -> Option<(TcpInlet, TcpOutlet)>
         ensures { IfSome result (λ ends. (ends.0.faults ≡ 0) × (ends.1.faults ≡ 0)) }
     {

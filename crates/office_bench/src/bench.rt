@@ -60,7 +60,7 @@ impl<'a, D: Running, L: ledger::Ledger, R: Wait> SeatBench<'a, D, L, R> {
         }
     }
 
-    /// The pass of its seat, to be handed in at the office's close.
+    /// The pass of its seat, for the office's close.
     pub fn into_pass(self) -> Pass<KeptEntry, L>
         ensures { result ≡ self.entry }
     {
@@ -78,7 +78,7 @@ impl<'a, D: Running, L: ledger::Ledger, R: Wait> SeatBench<'a, D, L, R> {
         }
     }
 
-    /// The step that sends a call. The call stands once from then on.
+    /// The step that sends a call. The call is one value from then on.
     fn sending(&self, stream: Option<StreamId>, call: Call) -> Result<Step, BenchFault>
         ensures step { IfOk result (λ step. step ≡ Send stream call) }
         ensures refused { IfErr result IsOfOffice }
@@ -89,7 +89,7 @@ impl<'a, D: Running, L: ledger::Ledger, R: Wait> SeatBench<'a, D, L, R> {
         }
     }
 
-    /// Sends a call, and gives its number.
+    /// Sends a call, and returns its number.
     fn send(&mut self, stream: Option<StreamId>, call: Call) -> Result<u64, BenchFault>
         ensures sent { IfOk result (λ number. (a : Got Entry GivenSo)
             × Answers D.is_taken self.old (Send stream call) a self.new × (number ≡ call_number a)) }
@@ -118,8 +118,8 @@ impl<'a, D: Running, L: ledger::Ledger, R: Wait> SeatBench<'a, D, L, R> {
 
     /// Waits until an event of a stream can be taken, and takes it. None where no event comes,
     /// since the stream is closed and all its events were taken, or the office is finished. A bench
-    /// has one word for an event that it can't give, want of memory, at which the connection breaks
-    /// off: each refusal is told so, that none passes for the end of a stream.
+    /// has one fault for an event that it can't return, want of memory, at which the connection is
+    /// closed: each refusal is that fault, so that none passes for the end of a stream.
     fn wait(&mut self, stream: StreamId) -> Result<Option<Answered<KeptEntry, Given>>, AllocError>
         ensures taken { IfOk result
             (λ answered. MatchOption answered (self.new ≡ self.old)

@@ -1,4 +1,4 @@
-//! An office's refusals, as a client is told them.
+//! An office's refusals, as a client receives them.
 
 ghost use Rattle.std.specs.Prelude.{◌≡◌};
 ghost use Rattle.office_bench.specs.Answers.{IsOfOffice, bench_fault, step_fault};

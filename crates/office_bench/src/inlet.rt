@@ -6,8 +6,8 @@ use device_io::read_some;
 use http_door::Inlet;
 use std::net::TcpStream;
 
-/// What a client sends over TCP. No contract can say which bytes a socket gives: of what was read
-/// only the failures are counted, and that the input has ended is what a read without bytes said.
+/// What a client sends over TCP. No contract can say which bytes a socket returns: of what was
+/// read only the failures are counted, and a read without bytes is the end of the input.
 #[derive(Drop)]
 pub struct TcpInlet {
     stream: TcpStream,

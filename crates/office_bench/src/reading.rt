@@ -48,7 +48,7 @@ pub(crate) fn answer_of(subscribes: bool, entry: &Entry) -> Answer
     }
 }
 
-/// The event that a Take's entry hands out.
+/// The event that a Take's entry has.
 pub(crate) fn taken_event(entry: &Entry) -> Result<Event, AllocError>
     ensures { IfOk result (λ event. option_map (λ told. told.event) entry.now.outputs.taken
         ≡ Some event) }
@@ -71,7 +71,7 @@ pub(crate) fn turn_on<D: Running>(cluster: &D, stream: StreamId) -> Turn
     }
 }
 
-/// The last event of an accepted SUBSCRIBE stands on the one stream that the call opened:
+/// The last event of an accepted SUBSCRIBE is on the one stream that the call opened:
 /// it is SUBSCRIBED, or ERROR for a framework that was torn down.
 pub fn subscriptions_end_on_their_stream()
     ensures { (m : Master) (given : Option Numbered) (framework : Option Numbered) (role : List ℕ)

@@ -39,7 +39,7 @@ fn reads_last(alloc: Global, stream: &mut TcpStream, want: &str) -> bool {
     stream.read_to_end(&mut got).is_ok() && got.as_slice() == want.as_bytes()
 }
 
-/// A client, with a seat of its own by which it moves the cluster.
+/// A client, with a seat of its own by which it has the cluster take steps.
 #[derive(Drop)]
 pub struct Client<'a, L: ledger::Ledger, R: Wait + Clock> {
     rt: &'a R,
@@ -124,7 +124,7 @@ impl<
         self.office.finish(self.rt);
     }
 
-    /// Does a move, and says whether it went as it is to go.
+    /// Does a move, and returns whether it went as it is to go.
     fn goes(&mut self, goes: Move) -> bool {
         match goes {
             Move::Ask(request) => self.ask(request),
@@ -143,7 +143,7 @@ impl<
     }
 
     /// Plays a script, once the agent has reported,
-    /// and says how many moves of it went as they are to go before one didn't.
+    /// and returns how many moves of it went as they are to go before one didn't.
     fn plays(&mut self, script: &[Move]) -> usize {
         if !self.reports() {
             return 0;

@@ -26,7 +26,7 @@ impl<'a, R: Clock> Overlap<'a, R> {
         }
     }
 
-    /// Whether the call was held, and let go by the answer to the next.
+    /// Whether the call was held, and released by the answer to the next.
     pub fn has_overlapped(&self) -> bool {
         self.overlapped.load(Ordering::SeqCst) == 1
     }

@@ -1,5 +1,5 @@
-//! Tests of an office behind its HTTP endpoint, over loopback,
-//! each a function that says whether it passed.
+//! Tests of an office with its HTTP endpoint, over loopback,
+//! each a function that returns whether it passed.
 #![tactic(auto)]
 
 mod client;

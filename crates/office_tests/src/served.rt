@@ -29,7 +29,7 @@ use std::time::Clock;
 pub struct Closed {
     /// How many moves of the script went as they are to go.
     pub moves: usize,
-    /// Whether a call was held, and let go by the answer to the next.
+    /// Whether a call was held, and released by the answer to the next.
     pub overlapped: bool,
     /// How many streams were hung up.
     pub hang_ups: usize,
@@ -96,7 +96,7 @@ impl<L: ledger::Ledger> Left<L> {
         }
     }
 
-    /// Hands a pass in, and counts its receipts.
+    /// Adds a pass for the close, and counts its receipts.
     fn hand_in(&mut self, pass: Pass<KeptEntry, L>) {
         let count = pass.receipts().len() as u64;
         self.receipts = self.receipts.saturating_add(count);
@@ -105,7 +105,7 @@ impl<L: ledger::Ledger> Left<L> {
         }
     }
 
-    /// Hands in the passes of all connections.
+    /// Adds the passes of all connections for the close.
     fn hand_in_all<R: Wait>(&mut self, seats: Vec<Seating<'_, RecordedCluster, L, R>>) {
         for seat in seats {
             match seat.into_pass() {
@@ -164,7 +164,7 @@ fn join<
     left.hand_in_all(seats);
 }
 
-/// Serves a client that plays a script, and says whether it could.
+/// Serves a client that plays a script, and returns whether it could.
 fn serve<
     'x,
     L: ledger::Ledger + Send + Sync,
@@ -188,7 +188,7 @@ fn where_accounted(accounted: bool, closed: Closed) -> Option<Closed> {
     if accounted { Some(closed) } else { None }
 }
 
-/// How many entries an office has at its close, and what a look tells of them.
+/// How many entries an office has at its close, and what a look returns of them.
 fn closed_of<C: Recorded, L: ledger::Ledger, T, F: Fn(&C) -> T>(
     office: Office<C, L>,
     passes: Passes<C::Entry, L>,
@@ -246,7 +246,7 @@ pub fn served<
 }
 
 /// Whether who waits on a stream that was never opened is refused: no step is taken,
-/// and the stream isn't told to have ended.
+/// and the stream isn't reported to have ended.
 fn is_refused<L: ledger::Ledger, R: Wait>(
     rt: &R,
     alloc: Global,

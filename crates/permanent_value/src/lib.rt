@@ -1,4 +1,4 @@
-//! Values that stand once, for as long as the program runs, and have any number of owners.
+//! Values that are stored once, for as long as the program runs, and have any number of owners.
 #![tactic(auto)]
 
 ghost use Rattle.std.specs.Prelude.{◌≡◌, ◌<◌, vec_len, vec_capacity};
@@ -34,8 +34,7 @@ impl<T: Drop> Place<T> {
         })
     }
 
-    /// Puts the value there for as long as the program runs.
-    /// It takes no memory, and none is given back.
+    /// Stores the value for as long as the program runs. It takes no memory, and none is freed.
     pub fn fill<'a>(self, value: T) -> Permanent<'a, T>
     where
         T: 'a,

@@ -37,7 +37,7 @@ impl<T: Plain> Plain for Option<T> {
     ghost decided = { Prim.search rules };
 }
 
-/// Adds copies of values behind others.
+/// Appends copies of values to others.
 pub fn push_copies<T: Plain + Drop>(values: &mut Vec<T>, more: &[T]) -> Result<(), AllocError>
     ensures { OnOk result (values.new.items ≡ values.old.items ++ more.now) }
 {

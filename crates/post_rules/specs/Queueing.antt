@@ -1,15 +1,15 @@
--- Calls and queues of mails, of which each is handed out once.
+-- Calls and queues of mails, of which each is delivered once.
 use Rattle.std.specs.Prelude.{◌≡◌, ◌<◌, IfSome, ℕ, zero, suc, ◌-◌, List, [], ◌∷◌, ◌++◌, Bool, true, false, ◌&&◌, ◌||◌, not, ◌==◌, nat_lt, set, take, Option, None, Some, option_map, unwrap_or}
 use Rattle.std.specs.List.{slice_get, list_all}
 use Rattle.post_rules.specs.declared.direction.Direction.{Direction}
 use Rattle.post_rules.specs.declared.direction.Direction.TheVariants.{ToAgent, FromAgent}
 
--- something that was put, and whether it was handed out
+-- something that was sent, and whether it was delivered
 pub record Item : Type 0 where
   pub direction : Direction
   pub given : Bool
 
--- the mails to one agent stand in one queue, and so do those from it; a call stands in none
+-- the mails to one agent are in one queue, and so are those from it; a call is in none
 abbrev pub same_queue : Direction → Direction → Bool
 same_queue (ToAgent a) (ToAgent b) = a == b
 same_queue (FromAgent a) (FromAgent b) = a == b
@@ -19,16 +19,16 @@ same_queue d e = false
 abbrev pub nothing_waits : Direction → List Item → Bool
 nothing_waits d items = list_all (λ i. i.given || not (same_queue d i.direction)) items
 
--- it wasn't handed out, and of those before it nothing in its queue waits
+-- it wasn't delivered, and of those before it nothing in its queue waits
 abbrev pub is_next : List Item → Option Item → Bool
 is_next before None = false
 is_next before (Some item) = not item.given && nothing_waits item.direction before
 
--- what is handed out next: each call, and of each queue the first that waits; numbers are from 1
+-- what is delivered next: each call, and of each queue the first that waits; numbers are from 1
 abbrev pub hands_out : List Item → ℕ → Bool
 hands_out items n = nat_lt 0 n && is_next (take (n - 1) items) (slice_get items (n - 1))
 
--- the direction in which a number was put
+-- the direction in which a number was sent
 abbrev pub direction_in : List Item → ℕ → Option Direction
 direction_in items zero = None
 direction_in items (suc place) = option_map (λ i. i.direction) (slice_get items place)
@@ -42,27 +42,27 @@ IsFirstWaiting d items n =
 abbrev pub handed_over : Item → Item
 handed_over i = record { direction = i.direction; given = true }
 
--- this number, from 1, was handed out
+-- this number, from 1, was delivered
 abbrev pub WasGiven : List Item → ℕ → Type 0
 WasGiven items n = (0 < n) × (i : Item) × (slice_get items (n - 1) ≡ Some i) × (i.given ≡ true)
 
--- all mails that were put before it in its queue were handed out
+-- all mails that were sent before it in its queue were delivered
 abbrev pub AreBeforeGiven : List Item → ℕ → Type 0
 AreBeforeGiven items n =
     (m : ℕ) (i j : Item) → 0 < m → m < n → slice_get items (m - 1) ≡ Some i
     → slice_get items (n - 1) ≡ Some j → same_queue j.direction i.direction ≡ true
     → WasGiven items m
 
--- one more was put
+-- one more was sent
 abbrev pub with_put : List Item → Direction → List Item
 with_put items d = items ++ record { direction = d; given = false } ∷ []
 
--- the item of this number was handed out
+-- the item of this number was delivered
 abbrev pub with_given : List Item → ℕ → List Item
 with_given items n =
     unwrap_or (option_map (λ i. set items (n - 1) (handed_over i)) (slice_get items (n - 1))) items
 
--- what was put, in order, and how many more can be put without memory
+-- what was sent, in order, and how many more can be added without memory
 pub record Post : Type 0 where
   pub items : List Item
   pub room : ℕ

@@ -1,4 +1,4 @@
--- How queues are kept: with each item the numbers of the one before it and of the one behind it in
+-- How queues are kept: with each item the numbers of the one before it and of the one after it in
 -- its queue, of each queue the number of its last, and with that one the number of the first that
 -- waits there.
 use Rattle.std.specs.Prelude.{◌≡◌, ◌<◌, ◌≤◌, ℕ, suc, zero, ◌-◌, List, true, false, take, length, map, nat_eq, set, unwrap_or, option_map, Some}
@@ -34,7 +34,7 @@ given_sent s = record { direction = s.direction; previous = s.previous; given = 
 abbrev pub items_of : List Sent → List Item
 items_of sent = map item_of sent
 
--- how many numbers are left behind so many; the last is 4,294,967,295
+-- how many numbers are left after so many; the last is 4,294,967,295
 abbrev pub numbers_left : ℕ → ℕ
 numbers_left count = 4294967295 - count
 
@@ -47,7 +47,7 @@ pub record IsLast (d : Direction) (sent : List Sent) (last : ℕ) : Type 0 where
   pub above : (i : ℕ) (s : Sent) → last ≤ i → slice_get sent i ≡ Some s
       → same_queue d s.direction ≡ false
 
--- each queue is handed out in order, and with each item the number of the one before it is kept
+-- each queue is delivered in order, and with each item the number of the one before it is kept
 pub record AreInOrder (sent : List Sent) : Type 0 where
   pub chained : (i : ℕ) (s : Sent) → slice_get sent i ≡ Some s
       → IsLast s.direction (take i sent) s.previous
@@ -65,12 +65,12 @@ abbrev pub IsFirstOrNone : Direction → List Item → ℕ → Type 0
 IsFirstOrNone d items zero = nothing_waits d items ≡ true
 IsFirstOrNone d items (suc n) = IsFirstWaiting d items (suc n)
 
--- what stands before this number, and all of it where there is no such number
+-- what was sent before this number, and all of it where the number is 0
 abbrev pub before : ℕ → List Sent → List Sent
 before zero sent = sent
 before (suc n) sent = take n sent
 
--- of the queue of a direction, the one behind this number has the number `next`,
+-- of the queue of a direction, the one after this number has the number `next`,
 -- or there is none and `next` is 0
 pub record IsFollowed (d : Direction) (sent : List Sent) (number next : ℕ) : Type 0 where
   pub last : IsLast d (before next sent) number
@@ -78,14 +78,14 @@ pub record IsFollowed (d : Direction) (sent : List Sent) (number next : ℕ) : T
   pub found : (s : Sent) → 0 < next → slice_get sent (next - 1) ≡ Some s
       → same_queue d s.direction ≡ true
 
--- the number that the link of the last in a queue tells as the first that waits there,
--- 0 where there is no last
+-- the number of the first that waits in a queue, by the link of the queue's last, 0 where there is
+-- no last
 abbrev pub first_in : List Link → ℕ → ℕ
 first_in links zero = 0
 first_in links (suc place) =
     unwrap_or (option_map (λ (k : Link). k.first) (slice_get links place)) 0
 
--- the first that waits once one more is put
+-- the first that waits once one more is added
 abbrev pub first_with : ℕ → ℕ → ℕ
 first_with zero number = number
 first_with (suc waiting) number = suc waiting
@@ -103,7 +103,7 @@ with_first (suc place) number links =
     unwrap_or (option_map (λ (k : Link). set links place (record { next = k.next; first = number }))
     (slice_get links place)) links
 
--- with each mail the number of the one behind it in its queue is kept,
+-- with each mail the number of the one after it in its queue is kept,
 -- and with the last of each queue that of the first that waits there
 pub record AreLinked (sent : List Sent) (m : LastsByAgent) (links : List Link) : Type 0 where
   pub as_many : length links ≡ length sent

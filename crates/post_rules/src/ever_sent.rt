@@ -7,7 +7,7 @@ use crate::direction::Direction;
 use crate::post::Post;
 use std::alloc::{AllocError, Global};
 
-/// All that was ever put can be handed out, in any order and any number of times.
+/// All that was ever sent can be delivered, in any order and any number of times.
 #[derive(Drop)]
 pub struct EverSent {
     count: u64,

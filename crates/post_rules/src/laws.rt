@@ -1,11 +1,11 @@
-//! What queues hand out over time.
+//! What queues deliver over time.
 
 ghost use Rattle.std.specs.Prelude.{◌≡◌, true, false, List, ℕ};
 ghost use Rattle.post_rules.specs.Queueing.{AreBeforeGiven, Item, WasGiven, hands_out, with_given, with_put};
 ghost use Rattle.post_rules.specs.declared.direction.Direction.{Direction};
 
-/// A number that queues handed out isn't handed out again, whatever is put and handed out since;
-/// and when a mail is handed out, all mails that were put before it in its queue were.
+/// A number that queues delivered isn't delivered again, whatever is sent and delivered since; and
+/// when a mail is delivered, all mails that were sent before it in its queue were.
 pub fn queues_hand_out_once()
     ensures given { (items : List Item) (n : ℕ) → hands_out items n ≡ true
         → WasGiven (with_given items n) n }

@@ -1,4 +1,4 @@
-//! Which of all that was ever sent can be handed out: rules by number, without the contents.
+//! Which of all that was ever sent can be delivered: rules by number, without the contents.
 #![tactic(auto)]
 
 mod direction;

@@ -1,4 +1,4 @@
-//! What can be handed out.
+//! What can be delivered.
 
 ghost use Rattle.std.specs.Prelude.{◌≡◌, ◌<◌, ◌≤◌, ℕ, suc, Bool, true, Option, IfSome, OnOk};
 ghost use Rattle.post_rules.specs.declared.direction.Direction.{Direction as Way};
@@ -6,35 +6,35 @@ ghost use Rattle.post_rules.specs.declared.direction.Direction.{Direction as Way
 use crate::direction::Direction;
 use std::alloc::{AllocError, Global};
 
-/// Of all that was put, by its number from 1, what can be handed out now.
+/// Of all that was sent, by its number from 1, what can be delivered now.
 pub trait Post {
-    /// What is known of all that was put, and of what was handed out.
+    /// What is known of all that was sent, and of what was delivered.
     ghost Known: { Type 0 };
 
     ghost known: { Self → Self.Known };
 
-    /// What is known before anything was put.
+    /// What is known before anything was sent.
     ghost nothing: { Self.Known };
 
-    /// What is known once one more was put, in this direction.
+    /// What is known once one more was sent, in this direction.
     ghost with_put: { Self.Known → Way → Self.Known };
 
-    /// What is known once this number was handed out.
+    /// What is known once this number was delivered.
     ghost with_given: { Self.Known → ℕ → Self.Known };
 
-    /// How many were put.
+    /// How many were sent.
     ghost count: { Self.Known → ℕ };
 
-    /// What can be handed out now.
+    /// Whether a number can be delivered now.
     ghost gives: { Self.Known → ℕ → Bool };
 
-    /// The direction in which a number was put; None where the post doesn't keep it.
+    /// The direction in which a number was sent; None where the post doesn't keep it.
     ghost direction_at: { Self.Known → ℕ → Option Way };
 
-    /// How many more can be put without memory.
+    /// How many more can be added without memory.
     ghost room: { Self → ℕ };
 
-    /// Nothing was put yet.
+    /// Nothing was sent yet.
     fn empty() -> Self
         ensures known { known result ≡ nothing }
         ensures count { count nothing ≡ 0 };
@@ -44,7 +44,7 @@ pub trait Post {
         ensures room { OnOk result (more ≤ room self.new) }
         ensures known { known self.new ≡ known self.old };
 
-    /// Puts one more, which has the next number. Of those before the same can be handed out.
+    /// Adds one more, which has the next number. Of those before the same can be delivered.
     fn put(&mut self, direction: Direction)
         requires { 0 < room self.old }
         ensures known { known self.new ≡ with_put (known self.old) direction }
@@ -57,11 +57,11 @@ pub trait Post {
         ensures directions { (n : ℕ) → n ≤ count (known self.old)
             → direction_at (known self.new) n ≡ direction_at (known self.old) n };
 
-    /// Whether this number can be handed out.
+    /// Whether this number can be delivered.
     fn can_give(&self, n: u64) -> bool
         ensures { result ≡ gives (known self.now) n };
 
-    /// This number was handed out.
+    /// Records that this number was delivered.
     fn given(&mut self, n: u64)
         requires { gives (known self.old) n ≡ true }
         ensures known { known self.new ≡ with_given (known self.old) n }
@@ -70,6 +70,6 @@ pub trait Post {
         ensures directions { (n : ℕ)
             → direction_at (known self.new) n ≡ direction_at (known self.old) n };
 
-    /// What can be handed out was put.
+    /// What can be delivered was sent.
     ghost was_put: { (k : Self.Known) (n : ℕ) → gives k n ≡ true → (0 < n) × (n ≤ count k) };
 }

@@ -1,4 +1,4 @@
-//! Queues of what was put.
+//! Queues of what was sent.
 
 ghost use Rattle.std.specs.Prelude.{◌≡◌, ◌<◌, ◌≤◌, ℕ, suc, true, false, length, IfNone, IfSome, Some};
 ghost use Rattle.post_rules.specs.Queueing.{IsFirstWaiting, Item, direction_in, hands_out, nothing_waits, with_given, with_put};
@@ -9,7 +9,7 @@ use crate::stores::Stores;
 use std::alloc::{AllocError, Global};
 use std::marker::Model;
 
-/// Each call is handed out once, and the mails to an agent, and those from it,
+/// Each call is delivered once, and the mails to an agent, and those from it,
 /// once and in their order.
 #[derive(Drop)]
 pub struct Queues {
@@ -65,15 +65,15 @@ impl Post for Queues {
         Ok(())
     }
 
-    // What is put waits behind all that was put,
+    // What is added waits after all that was sent before,
     fn put(&mut self, direction: Direction)
         requires { 0 < self.old.room }
         ensures items { self.new.items ≡ with_put self.old.items direction }
         ensures room { self.old.room ≤ suc self.new.room }
-        // leaves what can be handed out of that as it was,
+        // leaves what can be delivered of that as it was,
         ensures older { (n : ℕ) → n ≤ length self.old.items
             → hands_out self.new.items n ≡ hands_out self.old.items n }
-        // and can be handed out at once if nothing in its queue waits.
+        // and can be delivered at once if nothing in its queue waits.
         ensures newest { hands_out self.new.items (suc (length self.old.items))
             ≡ nothing_waits direction self.old.items }
         // Its direction is kept, and so are those before.
@@ -94,7 +94,7 @@ impl Post for Queues {
         }
     }
 
-    // What was handed out has its mark, and isn't handed out again.
+    // What was delivered is marked, and isn't delivered again.
     fn given(&mut self, n: u64)
         requires { hands_out self.old.items n ≡ true }
         ensures count { length self.new.items ≡ length self.old.items }

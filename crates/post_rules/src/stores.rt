@@ -10,7 +10,7 @@ use std::alloc::{AllocError, Global};
 use std::collections::HashMap;
 use std::marker::Model;
 
-/// Something that was put.
+/// Something that was sent.
 #[derive(Drop)]
 struct Sent {
     direction: Direction,
@@ -29,14 +29,14 @@ struct Lasts {
 /// What is kept of an item's queue beside it.
 #[derive(Clone, Copy)]
 struct Link {
-    /// The number of the one behind it in its queue; 0 where there is none.
+    /// The number of the one after it in its queue; 0 where there is none.
     next: u32,
     /// Of the last in a queue, the number of the first that waits there; 0 where nothing does.
     /// Of others it says nothing.
     first: u32,
 }
 
-/// All that was put, each with its link, and the last numbers of each agent.
+/// All that was sent, each with its link, and the last numbers of each agent.
 #[derive(Drop)]
 pub(crate) struct Stores {
     sent: Vec<Sent>,
@@ -143,7 +143,7 @@ fn first_in(links: &[Link], last: u32) -> u32
     }
 }
 
-/// Which is the first that waits once this number is put,
+/// Which is the first that waits once this number is added,
 /// where the first that waited before has that one, or none did and it is 0.
 fn first_with(waiting: u32, number: u32) -> u32
     ensures { result ≡ first_with waiting number }
@@ -163,7 +163,7 @@ fn set_first(links: &mut Vec<Link>, last: u32, number: u32)
     }
 }
 
-/// This number is the one behind that number in its queue, if there is one.
+/// This number is the one after that number in its queue, if there is one.
 fn set_next(links: &mut Vec<Link>, before: u32, number: u32)
     requires { before ≤ length links.old.items }
     ensures items { links.new.items ≡ with_next before number links.old.items }
@@ -175,7 +175,7 @@ fn set_next(links: &mut Vec<Link>, before: u32, number: u32)
     }
 }
 
-/// How many numbers are left where so many were put.
+/// How many numbers are left where so many were sent.
 fn numbers_left(count: usize) -> usize
     ensures { result ≡ numbers_left count }
 {
@@ -217,7 +217,7 @@ impl Stores {
         self.lasts.reserve(more)
     }
 
-    /// What is put waits behind all that was put.
+    /// What is added waits after all that was sent before.
     pub(crate) fn put(&mut self, direction: Direction)
         requires { 0 < self.old.room }
         ensures items { self.new.items ≡ with_put self.old.items direction }
@@ -267,7 +267,7 @@ impl Stores {
         Some(u64::from(first))
     }
 
-    /// What was handed out has its mark.
+    /// What was delivered is marked.
     pub(crate) fn given(&mut self, n: u64)
         requires { hands_out self.old.items n ≡ true }
         ensures count { length self.new.items ≡ length self.old.items }

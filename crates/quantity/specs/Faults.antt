@@ -1,4 +1,4 @@
--- What a refusal tells.
+-- When a refusal is the one that is due.
 use Rattle.std.specs.Prelude.{◌≡◌, Result, Err}
 use Rattle.quantity.specs.declared.fault.QuantityFault.{QuantityFault}
 use Rattle.quantity.specs.declared.fault.QuantityFault.TheVariants.{OutOfMemory, TooLarge, NotCovered, TooManyNames, BadName}

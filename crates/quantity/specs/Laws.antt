@@ -15,7 +15,7 @@ AmountsAddUp =
     (name : List ℕ) (rows others : List Row)
     → amount name (rows ++ others) ≡ amount name rows + amount name others
 
--- the test by rows is "at most, for every name"; the rows may stand in any order,
+-- the test by rows is "at most, for every name"; the rows may be in any order,
 -- and a name may have many
 abbrev pub CoversIsAtLeast : Type 0
 CoversIsAtLeast = (total rows : List Row) → IsTrue (covers total rows) ↔ AtLeast total rows

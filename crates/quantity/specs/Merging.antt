@@ -1,11 +1,11 @@
--- Walking over rows in order, side by side.
+-- Merging two lists of rows in order.
 use Rattle.std.specs.Prelude.{ℕ, ◌+◌, Bool, nat_eq, if◌then◌else◌, List, [], ◌∷◌, ◌++◌, take, drop}
 use Rattle.std.specs.List.{prefix_len}
 use Rattle.std.specs.Cmp.Lexicographic.{pointwise, slice_cmp}
 use Rattle.std.specs.Ordering.{nat_cmp, is_lt}
 use Rattle.quantity.specs.Rows.{Row, part_of, row}
 
--- the row's name stands before this one
+-- the row's name is before this one
 abbrev pub is_below : List ℕ → Row → Bool
 is_below name r = is_lt (slice_cmp nat_cmp r.name name)
 
@@ -22,7 +22,7 @@ abbrev pub front_amount : List ℕ → List Row → ℕ
 front_amount name [] = 0
 front_amount name (r ∷ rows) = part_of name r
 
--- the rows behind this name, where it may stand first
+-- the rows without the first, where it has this name
 abbrev pub rows_past : List ℕ → List Row → List Row
 rows_past name [] = []
 rows_past name (r ∷ rows) = if pointwise nat_eq r.name name then rows else r ∷ rows

@@ -1,4 +1,4 @@
-//! What holds of rows: each function's contract is a law, and its call brings the law into a proof.
+//! Laws of rows: each function's contract is a law, which a proof has by calling the function.
 
 ghost use Rattle.quantity.specs.Laws.{AmountsAddUp, CoversIsAtLeast, AmountsDetermineRows, SumsAddUp, RestsAreLess, RestsAreRows, RestsJoin};
 

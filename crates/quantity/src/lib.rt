@@ -1,4 +1,4 @@
-//! Amounts of named resources: what an agent owns, an offer gives and a task uses.
+//! Amounts of named resources: what an agent owns, an offer contains and a task uses.
 #![tactic(auto)]
 
 mod fault;

@@ -76,8 +76,8 @@ impl Resources {
         rows::covers(&self.rows, &other.rows)
     }
 
-    /// Adds an amount of one name; an amount of 0 adds nothing. What is wrong is told in this
-    /// order: `Q5 BadName` for a text that names no resource, `Q2 TooLarge` for a sum over 2^40,
+    /// Adds an amount of one name; an amount of 0 adds nothing. Checked in this order: `Q5 BadName`
+    /// for a text that names no resource, `Q2 TooLarge` for a sum over 2^40,
     /// `Q4 TooManyNames` for a ninth name. A refusal changes nothing.
     pub fn add(&mut self, alloc: Global, name: &str, amount: u64) -> Result<(), QuantityFault>
         ensures ok { OnOk result (added name.now amount self.old ≡ Ok self.new) }
@@ -122,7 +122,7 @@ impl Resources {
         Ok(rest)
     }
 
-    /// Takes away what `other` has of each name,
+    /// Subtracts what `other` has of each name,
     /// or all there is where `other` has more. It takes no memory.
     pub fn reduce_by(&mut self, other: &Resources)
         ensures rest { self.new ≡ rest_of self.old other.now }

@@ -74,7 +74,7 @@ fn front_amount(rows: &[Row], name: &str) -> u64
     }
 }
 
-/// The rows behind this name, where it may stand first.
+/// The rows without the first, where it has this name.
 fn rows_past<'a>(rows: &'a [Row], name: &str) -> &'a [Row]
     ensures { result.now ≡ rows_past name.now rows.now }
 {
@@ -110,7 +110,7 @@ pub(crate) fn covers(total: &[Row], rows: &[Row]) -> bool
     true
 }
 
-/// Takes away from each row what others have of its name; rows with nothing left stay.
+/// Subtracts from each row what others have of its name; rows with nothing left stay.
 fn take_away(rows: &mut [Row], others: &[Row])
     requires rows_ordered { IsStrictlySortedBy name_order rows.old }
     requires others_ordered { IsStrictlySortedBy name_order others.now }
@@ -125,8 +125,8 @@ fn take_away(rows: &mut [Row], others: &[Row])
     }
 }
 
-/// Adds to a sum the rows that stand before another row,
-/// and that row with what there is of its name. It gives the rows that stand behind.
+/// Appends to a sum the rows before another row, and that row with what there is of its name. It
+/// returns the rows after it.
 fn push_sum<'a>(
     alloc: Global,
     sum: &mut Vec<Row>,

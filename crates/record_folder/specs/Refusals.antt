@@ -21,7 +21,7 @@ IsStoreRefusal (TotalDiffers name) = ⊥
 IsStoreRefusal NoCluster = ⊥
 IsStoreRefusal fault = ⊤
 
--- an agent's file gives no record: as above, or its store failed
+-- an agent's file has no record: as above, or its store failed
 abbrev pub IsFileRefusal : ConfiguredAgent → FolderFault → Type 0
 IsFileRefusal a (TotalDiffers name) = string_bytes name ≡ a.name
 IsFileRefusal a NoCluster = ⊥

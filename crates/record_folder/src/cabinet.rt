@@ -37,12 +37,12 @@ impl<'a> RecordFile<'a> {
     }
 }
 
-/// A store over files, where it is open. All that is asked of one goes through one function.
+/// A store over files, where it is open. All requests to one are in one function.
 pub(crate) struct OpenFiles {
     keeper: Option<Keeper<FileStore<FileFrom<Unknown>>>>,
 }
 
-// By hand: who drops one calls this, and goes through none of its store.
+// By hand: who drops one calls this, and the proof visits none of its store.
 impl Drop for OpenFiles {
     fn drop(self) {
         let OpenFiles { keeper: _ } = self;
@@ -55,7 +55,7 @@ impl OpenFiles {
         OpenFiles { keeper: None }
     }
 
-    /// Has the store at a place do what is asked. It stays open, and is closed after a fault.
+    /// Has the store at a place answer a request. It stays open, and is closed after a fault.
     pub(crate) fn ask(
         &mut self,
         place: &FilePlace<'_>,
@@ -73,7 +73,7 @@ pub struct FileCabinet<'a> {
     store: OpenFiles,
 }
 
-// By hand: who drops a cabinet calls this, and goes through none of its parts.
+// By hand: who drops a cabinet calls this, and the proof visits none of its parts.
 impl<'a> Drop for FileCabinet<'a> {
     fn drop(self) {
         let FileCabinet { place: _, store: _ } = self;
@@ -98,7 +98,8 @@ impl<'a> Cabinet for FileCabinet<'a> {
 
     type Fault = KeepFault;
 
-    // What a store over files has kept is known to nobody; what a save leaves in a store is said of `Keeper::save`.
+    // Nothing is known of what a store over files has kept; what a save leaves in a store is
+    // in the clauses of `Keeper::save`.
     ghost saved = { λ _ _. true };
 
     fn save(&mut self, alloc: Global, durable: &Record) -> Result<(), KeepFault> {

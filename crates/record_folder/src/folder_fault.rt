@@ -7,7 +7,7 @@ use keep_store::KeepFault;
 use std::alloc::{AllocError, AllocFailed};
 use std::fmt;
 
-/// Why a folder gives no cluster.
+/// Why a folder has no cluster.
 #[derive(Debug, Drop)]
 pub enum FolderFault {
     /// The store at this path failed, or keeps what it shouldn't: `K1 Store`, `K2 Damaged`,

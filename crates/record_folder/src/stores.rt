@@ -1,4 +1,4 @@
-//! The stores at places, and what is asked of them.
+//! The stores at places, and the requests to them.
 
 use agent_core::Record;
 use keep_store::{KeepFault, Keeper};
@@ -39,23 +39,23 @@ impl<'a> Place for FilePlace<'a> {
     }
 }
 
-/// What is asked of a store.
+/// A request to a store.
 #[derive(Clone, Copy, Drop)]
 pub(crate) enum Request<'r> {
     /// It is opened anew, and takes the master's next run.
     NextRun,
-    /// It is opened anew, and gives the record that it keeps.
+    /// It is opened anew, and returns the record that it keeps.
     Load,
     /// It keeps this record in place of the one before. It is opened where it isn't open.
     Save(&'r Record),
 }
 
-/// What a store gives that has done what was asked.
+/// The answer of a store to a request.
 #[derive(Drop)]
 pub(crate) struct Given {
-    /// The run that was taken; None where none was asked for, or the number is that of no run.
+    /// The run that was taken; None where none was requested, or the number is that of no run.
     pub run: Option<Run>,
-    /// The record that it keeps; None where none was asked for, or none was ever kept.
+    /// The record that it keeps; None where none was requested, or none was ever kept.
     pub record: Option<Record>,
 }
 
@@ -66,7 +66,7 @@ fn run_of(number: u32) -> Option<Run> {
     }
 }
 
-/// A store, with what it gives where it does what is asked.
+/// A store, with its answer to a request.
 fn answered<S: Alter + Drop>(
     mut keeper: Keeper<S>,
     alloc: Global,
@@ -102,7 +102,7 @@ fn take<P: Place>(
     }
 }
 
-/// Has the store at a place do what is asked. It stays open, and is closed after a fault.
+/// Has the store at a place answer a request. It stays open, and is closed after a fault.
 pub(crate) fn ask_at<P: Place>(
     place: &P,
     open: &mut Option<Keeper<P::Store>>,

@@ -1,4 +1,4 @@
--- What a store keeps: an agent's record, and the last run of the master that was given out.
+-- What a store keeps: an agent's record, and the last run of the master that was assigned.
 use Rattle.std.specs.Prelude.{◌≡◌, ◌≢◌, ◌⊎◌, ◌<◌, ◌^◌, ◌==◌, ⊤, ℕ, true, nat_lt, if◌then◌else◌, List, [], ◌∷◌, map, Option, Some, None, pos}
 use Rattle.std.specs.Str.{IsUtf8, is_utf8}
 use Rattle.std.specs.List.{AllByRecursion}
@@ -20,7 +20,7 @@ use Rattle.mails.specs.declared.record.Durable.{Durable}
 use Rattle.record_text.specs.Texts.{record_form, task_form}
 use Rattle.record_text.specs.Written.{IsTask}
 
--- ---- what a row tells
+-- ---- what is read of a row
 
 -- the task of a row of agent_task: its body is the written form of a task that has the row's key
 unfoldable pub told : Row → Option RecordedTask
@@ -31,14 +31,14 @@ told row = do
   task ← task_in body
   where_true (same task.job.key (record { run = run; n = n })) task
 
--- a task put among others by its key, in place of one that has it
+-- a task inserted among others by its key, in place of one that has it
 abbrev pub put_task : RecordedTask → List RecordedTask → List RecordedTask
 put_task t [] = t ∷ []
 put_task t (s ∷ ts) =
     if nat_lt (place_of s.job.key) (place_of t.job.key) then s ∷ put_task t ts
     else (if nat_lt (place_of t.job.key) (place_of s.job.key) then t ∷ s ∷ ts else t ∷ ts)
 
--- the tasks that the rows tell, by their keys
+-- the tasks of the rows, by their keys
 abbrev pub tasks_in : List Row → Option (List RecordedTask)
 tasks_in [] = Some []
 tasks_in (row ∷ rows) = told row >>= λ task. tasks_in rows >>= λ tasks. Some (put_task task tasks)
@@ -59,7 +59,7 @@ where_none [] found = found
 where_none (x ∷ xs) found = None
 
 -- the total of a head of a version: 1, its own, beside no row of agent_total; 2,
--- that which these rows tell, where its own is empty
+-- that of these rows, where its own is empty
 abbrev pub total_by : ℕ → List Amount → List Row → Option (List Amount)
 total_by version own amounts =
     if version == 1 then where_none amounts (Some own)
@@ -86,8 +86,8 @@ abbrev pub text_of : Option Durable → Value
 text_of None = Null
 text_of (Some d) = Text (record_form d)
 
--- what is kept of an agent's record: the text in agent_record, or that of the record which the
--- head, the tasks and the amounts tell; no text where there are rows of both forms, or tasks or
+-- what is kept of an agent's record: the text in agent_record, or that of the record of the
+-- head, the tasks and the amounts; no text where there are rows of both forms, or tasks or
 -- amounts without a head
 abbrev pub body_in : List Row → List Row → List Row → List Row → Option Value
 body_in [] [] [] [] = None
@@ -103,7 +103,7 @@ body_in (row ∷ more) [] (task ∷ tasks) amounts = Some Null
 body_in (row ∷ more) (head ∷ heads) tasks amounts = Some Null
 
 -- what a database keeps: an agent's record as a text, if there is one,
--- and the last run that was given out, 0 where none was
+-- and the last run that was assigned, 0 where none was
 pub record Kept : Type 0 where
   pub body : Option Value
   pub last : ℕ
@@ -125,17 +125,17 @@ kept_in db = record { body = body_in (db 0) (db 2) (db 3) (db 5); last = last_in
 abbrev pub with_record : Durable → Kept → Kept
 with_record d kept = record { body = Some (Text (record_form d)); last = kept.last }
 
--- with this as the last run that was given out
+-- with this as the last run that was assigned
 abbrev pub with_last : ℕ → Kept → Kept
 with_last run kept = record { body = kept.body; last = run }
 
--- ---- for private clauses: what the shown rows say
+-- ---- for private clauses: what is in the shown rows
 
--- a row at its place tells a task
+-- a row is that of a task, at its place
 abbrev pub TellsTask : Row → RecordedTask → Type 0
 TellsTask row task = (told row ≡ Some task) × (rowid row ≡ Int (pos (place_of task.job.key)))
 
--- the rows tell these tasks, each at its place
+-- the rows are those of these tasks, each at its place
 pub record Tells (rows : List Row) (Is : RecordedTask → Type 0) : Type 0 where
   pub each : (row : Row) → Has rows row → (task : RecordedTask) × Is task × TellsTask row task
   pub all : (task : RecordedTask) → Is task → (row : Row) × Has rows row × (told row ≡ Some task)
@@ -194,7 +194,7 @@ IsHeadSeen None = ⊤
 IsHeadSeen (Some seen) = IsHead seen
 
 -- the head and the rows of its total are those that were seen last, if any were,
--- and no record stands as one text
+-- and no record is kept as one text
 abbrev pub KnowsHead : Option Durable → Trees → Type 0
 KnowsHead None db = ⊤
 KnowsHead (Some d) db =
@@ -215,14 +215,14 @@ pub record HasNoTask (old new : Trees) : Type 0 where
   pub none : new 3 ≡ []
   pub others : SparesOthers 3 old new
 
--- the row of the head is this one, and no record stands as one text
+-- the row of the head is this one, and no record is kept as one text
 pub record ReplacesHead (row : Row) (old new : Trees) : Type 0 where
   pub records : IsLone (old 0) → new 0 ≡ []
   pub heads : IsLone (old 2) → new 2 ≡ row ∷ []
   pub others : (t : ℕ) → t ≢ 0 → t ≢ 2 → IsTable t → new t ≡ old t
 
 -- where the head was the one that was seen last,
--- it and the rows of its total are those of this record, and no record stands as one text
+-- it and the rows of its total are those of this record, and no record is kept as one text
 pub record HasHead (seen : Option Durable) (d : Durable) (old new : Trees) : Type 0 where
   pub records : KnowsHead seen old → IsLone (old 0) → new 0 ≡ []
   pub heads : KnowsHead seen old → IsLone (old 2) → new 2 ≡ head_row d.name d.run d.session ∷ []

@@ -10,6 +10,6 @@ LeavesEither old new change =
     HasCleanDisk new → (db : Trees) → new.may_leave db → (kept_in db ≡ kept_in old.now.trees)
     ⊎ (kept_in db ≡ change (kept_in old.now.trees))
 
--- a stop behind a call leaves what is kept then, and nothing else
+-- a stop after a call leaves what is kept then, and nothing else
 abbrev pub Stands : State → Type 0
 Stands s = IsTrue s.is_open → (db : Trees) → s.may_leave db → kept_in db ≡ kept_in s.committed.trees

@@ -6,7 +6,7 @@ ghost use Rattle.keep_rows.specs.Tables.{fault_for};
 use keep_rows::KeepFault;
 use sqlite::Error;
 
-/// `keep_rows::fault_of` as a function of a public module, which can be handed to `map_err`, here
+/// `keep_rows::fault_of` as a function of a public module, which can be passed to `map_err`, here
 /// and in the crates above.
 pub fn fault_of(error: Error) -> KeepFault
     ensures { result ≡ fault_for error }

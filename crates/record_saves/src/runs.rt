@@ -1,4 +1,4 @@
-//! The runs of the master, given out one after another.
+//! The runs of the master, assigned one after another.
 
 ghost use Rattle.std.specs.Prelude.{◌≡◌, ◌≢◌, ◌≤◌, ◌+◌, IfOk, IfErr, OnErr, IsErrOf};
 ghost use Rattle.sqlite.specs.State.{HasCleanDisk};
@@ -12,10 +12,11 @@ use keep_rows::KeepFault;
 use keep_rows::statements::write_last;
 use sqlite::{Alter, Connection};
 
-/// The last run that is given out.
+/// The last run that is assigned.
 const LAST_RUN: u32 = 65_535;
 
-/// Gives out the run behind this one, which was the last; it is committed before it is answered.
+/// Assigns the run after this one, which was the last; it is committed before it is returned.
+/// K1 for an error of the store, K3 where the last one was 65,535, K4 for want of memory.
 pub fn run_behind<S: Alter>(conn: &mut Connection<S>, last: u32) -> Result<u32, KeepFault>
     ensures clean { HasCleanDisk (state S.Store conn.new) → HasCleanDisk (state S.Store conn.old) }
     ensures given { IsReady (state S.Store conn.old) → HasCleanDisk (state S.Store conn.new)

@@ -73,8 +73,8 @@ fn write_amounts<S: Alter>(
     write_total(tx, total)
 }
 
-/// Takes out the row of a record that is kept as one text and that of the head,
-/// and puts the head's row in.
+/// Deletes the row of a record that is kept as one text and that of the head,
+/// and inserts the head's row.
 fn replace_head<S: Alter>(
     tx: &mut Transaction<'_, S>,
     name: &str,
@@ -92,7 +92,7 @@ fn replace_head<S: Alter>(
     put_head(tx, name, run, session)
 }
 
-/// Writes the head and the rows of its total, and takes out the row of a record that is kept as one
+/// Writes the head and the rows of its total, and deletes the row of a record that is kept as one
 /// text, unless `head` is known to be there and has the same parts.
 fn write_head<S: Alter>(
     tx: &mut Transaction<'_, S>,
@@ -119,7 +119,7 @@ fn write_head<S: Alter>(
     }
 }
 
-/// Writes the rows of a record, and gives the tasks back that it has.
+/// Writes the rows of a record, and returns the tasks that it has.
 /// The rows of `seen` are known to be there.
 fn write_rows<S: Alter>(
     tx: &mut Transaction<'_, S>,
@@ -201,7 +201,7 @@ pub fn head_seen(alloc: Global, head: Option<Durable>, durable: &Durable) -> Opt
     })
 }
 
-/// Keeps a record in place of the one before, in one transaction, and gives the tasks back that it
+/// Keeps a record in place of the one before, in one transaction, and returns the tasks that it
 /// has. The rows of `seen` and of `head` are known to be there, and where there is none all are
 /// written anew.
 pub fn save_record<S: Alter>(

@@ -20,7 +20,7 @@ use shared_value::Shared;
 use sqlite::{Alter, Transaction};
 use std::alloc::{AllocError, Global};
 
-/// Takes the rows of all tasks out, and looks whether any is left.
+/// Deletes the rows of all tasks, and checks that none is left.
 fn forget_tasks<S: Alter>(tx: &mut Transaction<'_, S>) -> Result<(), KeepFault>
     ensures same_reference { tx.new.conn.ghost_name ≡ tx.old.conn.ghost_name }
     ensures quiet { Survives (state S.Store tx.old.conn.now) (state S.Store tx.new.conn.now)
@@ -41,7 +41,7 @@ fn forget_tasks<S: Alter>(tx: &mut Transaction<'_, S>) -> Result<(), KeepFault>
 }
 
 /// The tasks whose rows are there: those that were seen last,
-/// or none where these aren't known and all rows were taken out.
+/// or none where these aren't known and all rows were deleted.
 fn begin_tasks<S: Alter>(
     tx: &mut Transaction<'_, S>,
     alloc: Global,
@@ -77,8 +77,8 @@ fn stands_at(tasks: &[Shared<RecordedTask>], at: usize, task: &Shared<RecordedTa
     at < tasks.len() && tasks[at].is_same(task)
 }
 
-/// Whether a task is one of these, which come by their keys. It is searched for only if it stands
-/// at neither of two guessed indexes. False may be wrong where they don't come so.
+/// Whether a task is one of these, which are in the order of their keys. It is searched for only if
+/// it is at neither of two guessed indexes. False may be wrong where they aren't in this order.
 fn is_among(
     tasks: &[Shared<RecordedTask>],
     task: &Shared<RecordedTask>,
@@ -97,7 +97,7 @@ fn is_among(
     }
 }
 
-/// Takes the row of the task at an index out.
+/// Deletes the row of the task at an index.
 fn cut_at<S: Alter>(
     tx: &mut Transaction<'_, S>,
     tasks: &mut Vec<Shared<RecordedTask>>,
@@ -124,7 +124,7 @@ fn cut_at<S: Alter>(
     }
 }
 
-/// Takes the rows of those tasks out that aren't among the wanted ones, the last first.
+/// Deletes the rows of those tasks that aren't among the wanted ones, the last first.
 fn cut_others<S: Alter>(
     tx: &mut Transaction<'_, S>,
     tasks: &mut Vec<Shared<RecordedTask>>,
@@ -152,7 +152,7 @@ fn cut_others<S: Alter>(
     Ok(())
 }
 
-/// Puts the row of a task in.
+/// Inserts the row of a task.
 fn add_task<S: Alter>(
     tx: &mut Transaction<'_, S>,
     alloc: Global,
@@ -174,7 +174,7 @@ fn add_task<S: Alter>(
     }
 }
 
-/// Puts a task in at an index, which has one more owner then.
+/// Inserts a task at an index, which has one more owner then.
 fn insert_shared(
     tasks: &mut Vec<Shared<RecordedTask>>,
     at: usize,
@@ -191,7 +191,7 @@ fn insert_shared(
     }
 }
 
-/// Puts the row of a task in, and the task at an index.
+/// Inserts the row of a task, and the task at an index.
 fn add_at<S: Alter>(
     tx: &mut Transaction<'_, S>,
     alloc: Global,
@@ -219,7 +219,7 @@ fn add_at<S: Alter>(
     add_task(tx, alloc, task)
 }
 
-/// Puts the row of a task in unless it stands at an index. One there that has its key is the task.
+/// Inserts the row of a task unless it is at an index. One there that has its key is the task.
 fn add_other<S: Alter>(
     tx: &mut Transaction<'_, S>,
     alloc: Global,
@@ -251,7 +251,7 @@ fn add_other<S: Alter>(
     add_at(tx, alloc, tasks, at, task)
 }
 
-/// Puts the rows of those wanted tasks in that have none yet.
+/// Inserts the rows of those wanted tasks that have none yet.
 fn add_others<S: Alter>(
     tx: &mut Transaction<'_, S>,
     alloc: Global,
@@ -277,7 +277,7 @@ fn add_others<S: Alter>(
     Ok(())
 }
 
-/// Takes the rows of those tasks out that aren't wanted, and puts in those of the others that are.
+/// Deletes the rows of those tasks that aren't wanted, and inserts those of the others that are.
 fn fit_tasks<S: Alter>(
     tx: &mut Transaction<'_, S>,
     alloc: Global,
@@ -304,8 +304,8 @@ fn fit_tasks<S: Alter>(
     Ok(())
 }
 
-/// Writes the rows of those tasks that weren't seen as they are, takes those of other ones out,
-/// and gives the tasks back.
+/// Writes the rows of those tasks that weren't seen as they are, deletes those of other ones,
+/// and returns the tasks.
 pub fn write_tasks<S: Alter>(
     tx: &mut Transaction<'_, S>,
     alloc: Global,

@@ -1,4 +1,4 @@
--- Reading a record and its parts: what each function gives.
+-- Reading a record and its parts: what each function returns.
 use Rattle.std.specs.Prelude.{◌≡◌, ℕ, ◌^◌, Bool, List, [], ◌∷◌, ◌++◌, codes, bytes_eq, ◌||◌, nat_lt, Option, None, Some, Result, Ok, Err, if◌then◌else◌}
 use Rattle.std.specs.Result.{result_ok}
 use Rattle.serde_json.specs.Data.{Data, Items, no_items, item, Members, no_members, member}
@@ -64,7 +64,7 @@ id_in letter name d = text_in name d >>= id_of letter
 
 -- ---- lists
 
--- what is read of one value, behind what was read before
+-- what is read of one value, appended to what was read before
 abbrev pub adds : {A : Type 0} → (Data → Option A) → List A → Data → Option (List A)
 adds f xs d = f d >>= λ x. Some (xs ++ x ∷ [])
 

@@ -46,7 +46,7 @@ record_data version d = object
     (member (codes "total") (amounts d.total)
     (member (codes "version") (whole version) no_members))))))
 
--- the framework, key, name and resources of a task put to members
+-- members with the framework, key, name and resources of a task
 abbrev pub with_job : Job → Members → Members
 with_job job ms =
     put (codes "resources") (amounts job.resources)
@@ -54,7 +54,7 @@ with_job job ms =
     (put (codes "key") (string (id_text 76 job.key))
     (put (codes "framework") (string (id_text 70 job.framework)) ms)))
 
--- members, and the version put to them
+-- members with the version
 abbrev pub versioned : ℕ → Members → Data
 versioned version ms = object (put (codes "version") (whole version) ms)
 

@@ -1,4 +1,4 @@
-//! Why a text gives no record.
+//! Why a text is not read as a record.
 
 ghost use Rattle.std.specs.Prelude.{◌≡◌};
 ghost use Rattle.record_text.specs.declared.fault.RecordFault.TheVariants.{OutOfMemory};

@@ -18,7 +18,7 @@ use serde_json::Value;
 use shared_value::Shared;
 use std::alloc::{AllocError, Global};
 
-/// The written form of a task: compact JSON, as it stands in its record's.
+/// The written form of a task: compact JSON, as it is in its record's.
 pub fn task_text(alloc: Global, task: &RecordedTask) -> Result<String, AllocError>
     ensures text { IfOk result (λ text. string_bytes text ≡ task_form task.now) }
     ensures is_task { IfOk result (λ _. IsTask task.now) }
@@ -44,7 +44,7 @@ pub fn task_of_text(alloc: Global, text: &str) -> Result<Shared<RecordedTask>, R
     Ok(task)
 }
 
-/// The written form of a total: compact JSON, as it stands in its record's.
+/// The written form of a total: compact JSON, as it is in its record's.
 pub fn total_text(alloc: Global, total: &Resources) -> Result<String, AllocError>
     ensures text { IfOk result (λ text. string_bytes text ≡ total_form total.now) }
     ensures ordered { AreRows total.now }

@@ -86,7 +86,7 @@ pub fn key_value(alloc: Global, key: &LaunchKey) -> Result<Value, AllocError>
     }
 }
 
-/// Puts the framework, key, name and resources of a task.
+/// Inserts the framework, key, name and resources of a task.
 pub fn put_job(members: &mut Map<String, Value>, alloc: Global, job: &Job) -> Result<(), AllocError>
     ensures members { OnOk result (members_view members.new.entries
         ≡ with_job job.now (members_view members.old.entries)) }
@@ -102,7 +102,7 @@ pub fn put_job(members: &mut Map<String, Value>, alloc: Global, job: &Job) -> Re
     put(members, alloc, "resources", resources)
 }
 
-/// Puts the members of a task into an empty object.
+/// Inserts the members of a task into an empty object.
 #[tactic(auto, unfolding(crate::specs::Texts::task_data))]
 fn put_task(
     members: &mut Map<String, Value>,
@@ -142,7 +142,7 @@ fn tasks_value(alloc: Global, tasks: &[Shared<RecordedTask>]) -> Result<Value, A
     Ok(Value::Array(values))
 }
 
-/// Puts the members of a record into an empty object, all but its version.
+/// Inserts the members of a record into an empty object, all but its version.
 fn put_record(
     members: &mut Map<String, Value>,
     alloc: Global,
@@ -176,8 +176,8 @@ fn record_value(alloc: Global, durable: &Durable, version: u64) -> Result<Value,
     Ok(Value::Object(members))
 }
 
-/// The written form of a record: compact JSON (RFC 8259), in which an object's members stand in
-/// byte order of their names, and tasks by launch key; its version is 2.
+/// The written form of a record: compact JSON (RFC 8259), in which an object's members are in byte
+/// order of their names, and tasks by launch key; its version is 2.
 pub fn record_text(alloc: Global, durable: &Durable) -> Result<String, AllocError>
     ensures text { IfOk result (λ text. string_bytes text ≡ record_form durable.now) }
     ensures durable { IfOk result (λ _. IsDurable durable.now) }

@@ -10,7 +10,7 @@ use Rattle.recorded_clusters.specs.Recording.{IsSound, MayRefuse, Recorded, Take
 use Rattle.running_clusters.specs.declared.given.Given.{Given}
 
 -- in a sound state the cluster took the step: its entry is the receipt's,
--- under the receipt's number, and this was given with it
+-- under the receipt's number, and this was returned with it
 abbrev pub IsTakenBy : Step → Answered Entry Given → Type 0
 IsTakenBy step a =
     IsTaken (λ (c : Recorded). c.story.entries) (λ c. IsSound c)

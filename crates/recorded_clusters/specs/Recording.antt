@@ -28,8 +28,8 @@ pub record IsSound (c : Recorded) : Type 0 where
   pub legal : IsLegal c.story
   pub safe : Safe c.story
 
--- a step was taken: what it hands out was its queue's first, and isn't handed out again;
--- what it sends has the numbers behind those of all that was sent before
+-- a step was taken: what it delivers was its queue's first, and isn't delivered again;
+-- what it sends has the numbers after those of all that was sent before
 pub record Takes (old : Recorded) (step : Step) (entry : Entry) (given : Given)
     (new : Recorded) : Type 0 where
   pub taken : IsTaken old.story step (record { entry = entry; durable = given.durable }) new.story
@@ -42,7 +42,7 @@ pub record Takes (old : Recorded) (step : Step) (entry : Entry) (given : Given)
 abbrev pub MayRefuse : Recorded → Step → ClusterFault → Type 0
 MayRefuse c step fault = IsRefused (state_of c.story) (hands_out c.post.items) step fault
 
--- they tell the same story, and hand out the same
+-- they have the same story, and deliver the same
 pub record AreAlike (old new : Recorded) : Type 0 where
   pub story : new.story ≡ old.story
   pub post : new.post.items ≡ old.post.items

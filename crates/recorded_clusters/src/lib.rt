@@ -1,4 +1,4 @@
-//! A cluster as a desk stands over it, and as an office runs it: what it hands out it hands out once,
+//! A cluster as a desk records it, and as an office runs it: what it delivers it delivers once,
 //! its mails in their order.
 #![tactic(auto)]
 

@@ -1,4 +1,4 @@
-//! A cluster as a desk stands over it: it takes one step after another, and records each.
+//! A cluster as a desk records it: it takes one step after another, and records each.
 
 ghost use Rattle.std.specs.Prelude.{◌≡◌, IfNone, IfSome, option_map};
 ghost use Rattle.cluster_agents.specs.Agents.{agent_in, is_in_session_in, recorded_in};
@@ -17,12 +17,12 @@ use running_clusters::{Awaited, Given, KeptEntry, Running, groups_of};
 use std::alloc::Global;
 use std::marker::Model;
 
-/// A cluster each of whose calls is handed out once, and its mails once and in their order.
+/// A cluster each of whose calls is delivered once, and its mails once and in their order.
 pub struct RecordedCluster {
     cluster: Cluster<Queues>,
 }
 
-// By hand, so that who drops one goes through none of its parts.
+// By hand, so that the proof of who drops one visits none of its parts.
 impl Drop for RecordedCluster {
     fn drop(self) {
         let RecordedCluster { cluster: _ } = self;

@@ -38,7 +38,7 @@ fn stated_one(
     }
 }
 
-/// The tasks once a state came to the task of a key, unless it has ended.
+/// The tasks once a state was added to the task of a key, unless it has ended.
 /// There has to be a place for the state.
 pub fn stated_all(
     alloc: Global,
@@ -157,7 +157,7 @@ fn has_full_task(key: LaunchKey, tasks: &[Shared<RecordedTask>]) -> bool
     tasks.iter().any(|task| is_of_key(key, task) && task.updates.states().len() >= 4095)
 }
 
-/// Whether a state finds no place at the task of this key.
+/// Whether there is no place for a state at the task of this key.
 pub fn lacks_place(key: LaunchKey, state: TaskState, tasks: &[Shared<RecordedTask>]) -> bool
     ensures { result
         ≡ (needs_place state && list_any (λ t. is_task key t && is_full t.updates) tasks.now) }

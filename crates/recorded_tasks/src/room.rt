@@ -13,7 +13,7 @@ use quantity::Resources;
 use shared_value::Shared;
 use std::alloc::{AllocError, Global};
 
-/// Takes resources away where they are covered, and tells whether they were.
+/// Subtracts resources where they are covered, and returns whether they were.
 fn take(rest: &mut Resources, resources: &Resources) -> bool
     ensures covered { (more : List Row) → covers rest.old (resources.now ++ more)
         ≡ (result && covers rest.new more) }

@@ -5,7 +5,7 @@ use Rattle.cluster_steps.specs.declared.fault.ClusterFault.{ClusterFault}
 use Rattle.entry_lines.specs.Lines.{entry_text, refused_text}
 use Rattle.cluster_core.specs.Stories.{Story, with_entry}
 
--- what is told of a step, its cluster's story then, and how many calls and mails it sent
+-- the text of a step, its cluster's story then, and how many calls and mails it sent
 pub record Outcome : Type 0 where
   pub text : List ℕ
   pub story : Story

@@ -1,4 +1,4 @@
--- What is told of the agents at the end of a history.
+-- The text of the agents at the end of a history.
 use Rattle.std.specs.Prelude.{ℕ, List, [], ◌++◌}
 use Rattle.std.specs.List.{flat_map}
 use Rattle.mails.specs.declared.record.Durable.{Durable}

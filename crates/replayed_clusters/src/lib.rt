@@ -1,4 +1,4 @@
-//! A cluster that is replayed: what is told of its opening and of each step,
+//! A cluster that is replayed: the texts of its opening and of each step,
 //! and the table at the end of a history.
 #![tactic(auto)]
 

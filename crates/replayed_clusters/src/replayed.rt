@@ -19,7 +19,7 @@ use role_weights::Weights;
 use std::alloc::{AllocError, Global};
 use std::marker::Model;
 
-/// A cluster of which all that was ever sent can be handed out, with its history.
+/// A cluster of which all that was ever sent can be delivered, with its history.
 #[derive(Drop)]
 pub struct Replayed {
     cluster: Cluster<EverSent>,
@@ -73,7 +73,7 @@ impl Replayed {
     }
 
     /// Takes a step. It is `C9 OutOfMemory` too where a part of the cluster ran out of memory,
-    /// and then nothing is said of how the cluster stands.
+    /// and then nothing is said of the cluster's state.
     pub fn step(&mut self, alloc: Global, step: Step) -> Result<KeptEntry, ClusterFault>
         ensures taken { IfOk result (λ entry. (due self.old step ≡ Ok entry)
             × (self.new ≡ with_entry self.old entry)) }

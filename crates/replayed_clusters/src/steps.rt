@@ -1,4 +1,4 @@
-//! What is told of steps.
+//! The texts of steps.
 
 ghost use Rattle.std.specs.Prelude.{◌≡◌, length, IfOk, Some};
 ghost use Rattle.entry_lines.specs.Lines.{entry_text, opening_text};
@@ -12,14 +12,14 @@ use cluster_steps::{ClusterFault, Step};
 use entry_lines::{entry_text, opening_text, refused_text};
 use std::alloc::{AllocError, Global};
 
-/// What is told, and how many calls and mails were sent.
+/// A text, and how many calls and mails were sent.
 #[derive(Drop)]
 pub struct Telling {
     pub text: Vec<u8>,
     pub sent: u64,
 }
 
-/// What is told of a cluster's opening.
+/// The text of a cluster's opening.
 pub fn tell_opening(alloc: Global, cluster: &Replayed) -> Result<Telling, AllocError>
     ensures text { IfOk result (λ told. told.text.items ≡ opening_text (greetings cluster.now)) }
     ensures sent { IfOk result (λ told. told.sent ≡ length (greetings cluster.now)) }
@@ -31,7 +31,7 @@ pub fn tell_opening(alloc: Global, cluster: &Replayed) -> Result<Telling, AllocE
     Ok(Telling { text, sent })
 }
 
-/// What is told of an entry.
+/// The text of an entry.
 fn tell_entry(alloc: Global, number: u64, first: u64, entry: &Entry) -> Result<Telling, AllocError>
     ensures text { IfOk result (λ told. Some told.text.items ≡ entry_text number first entry.now) }
     ensures sent { IfOk result (λ told. told.sent ≡ length entry.now.outputs.sent) }
@@ -42,8 +42,8 @@ fn tell_entry(alloc: Global, number: u64, first: u64, entry: &Entry) -> Result<T
     Ok(Telling { text, sent })
 }
 
-/// Takes the step of this number, and tells what comes of it;
-/// the first call or mail that it sends has the number `first`.
+/// Takes the step with this number, and returns its text; the first call or mail that it sends has
+/// the number `first`.
 pub fn take_step(
     cluster: &mut Replayed,
     alloc: Global,

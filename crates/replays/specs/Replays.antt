@@ -15,7 +15,7 @@ use Rattle.replayed_clusters.specs.Outcomes.{Outcome, outcome}
 use Rattle.replayed_clusters.specs.Tables.{table}
 use Rattle.cluster_core.specs.Stories.{Story}
 
--- how a replay stands behind some lines: its cluster's story, of which there is none before the
+-- the state of a replay after some lines: its cluster's story, of which there is none before the
 -- first line; how many lines and steps there were, and how many calls and mails were sent; and the
 -- line that ended it, if one did, with its refusal
 pub record Replay : Type 0 where
@@ -28,7 +28,7 @@ pub record Replay : Type 0 where
 abbrev pub beginning : Replay
 beginning = record { story = None; lines = 0; steps = 0; sent = 0; fault = None }
 
--- what is told on a line, and how the replay stands behind it
+-- the answer to a line, and the replay after it
 pub record Told : Type 0 where
   pub text : List ℕ
   pub after : Replay
@@ -86,7 +86,7 @@ abbrev pub by_line : Replay → Option Story → List ℕ → Told
 by_line r None line = opens r (read_config line)
 by_line r (Some s) line = if is_passed_over line then passed r else takes r s (read_step line)
 
--- what a line brings; behind a refused line nothing more
+-- the answer to a line; after a refused one it is empty, and the replay stays
 unfoldable pub tells : Replay → List ℕ → Told
 tells r line = if is_some r.fault then record { text = []; after = r } else by_line r r.story line
 
@@ -99,7 +99,7 @@ after r line = (tells r line).after
 abbrev pub goes_on : Replay → Bool
 goes_on r = not (is_some r.fault)
 
--- at the end stand the agents with their tasks, and the number of entries
+-- at the end the agents with their tasks, and the number of entries
 
 abbrev pub table_of : Option Story → List ℕ
 table_of None = []

@@ -22,8 +22,8 @@ impl fmt::Display for LineStop {
 /// Why a replay came to no end. What was written by then is a beginning of what was due.
 #[derive(Debug, Drop, Error)]
 pub enum ReplayStop {
-    /// Memory was refused on this line, from 1: to read it, to take its step or to tell what came
-    /// of it. At the end of the input it is the line behind the last.
+    /// Memory was refused on this line, from 1: to read it, to take its step or to write its
+    /// answer. At the end of the input it is the line after the last.
     #[error("{line} C9 OutOfMemory")]
     Memory { line: u64 },
     /// Standard input or output failed.

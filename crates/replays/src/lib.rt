@@ -1,4 +1,4 @@
-//! Replays: the steps of a cluster, read line by line, with what each brings out.
+//! Replays: the steps of a cluster, read line by line, with the answer to each.
 #![tactic(auto)]
 
 mod fault;

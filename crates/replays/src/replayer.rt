@@ -16,8 +16,8 @@ use std::marker::Model;
 use std::mem;
 use step_lines::{Configuration, LineFault, LineRefusal, read_config, read_step};
 
-/// Tells what comes of the lines of a replay: the first says which agents there are,
-/// and each other one is a step.
+/// Answers the lines of a replay: the first says which agents there are, and each other one is a
+/// step.
 #[derive(Drop)]
 pub struct Replayer {
     /// None before the first line.

@@ -44,11 +44,11 @@ fn replay_with<R: Read, W: Write>(
     }
 }
 
-/// Replays the text that a reader gives: its first line says which agents there are, and each other
-/// one is a step of their cluster, all of whose calls and mails can be handed out for ever. Behind
-/// each line it writes what comes of it, and at the end the agents, their tasks, and the number of
-/// entries. It tells the line that ended it, if one did: `X1 NotAStep`, `X2 BadCall`, or `X3
-/// BadConfig`.
+/// Replays the text that a reader returns: its first line says which agents there are, and each
+/// other one is a step of their cluster, all of whose calls and mails can be delivered any number
+/// of times. After each line it writes the answer to it, and at the end the agents, their tasks,
+/// and the number of entries. It returns the line that ended it, if one did: `X1 NotAStep`,
+/// `X2 BadCall`, or `X3 BadConfig`.
 pub fn replay<R: Read, W: Write>(
     alloc: Global,
     reader: &mut R,

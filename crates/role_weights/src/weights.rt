@@ -8,7 +8,7 @@ use std::alloc::{AllocError, Global};
 use std::collections::BTreeMap;
 use std::marker::Model;
 
-/// The weights of roles, whole numbers from 1 to 1,000. A role that has been given none has 1.
+/// The weights of roles, whole numbers from 1 to 1,000. A role for which none was set has 1.
 pub struct Weights {
     entries: BTreeMap<String, u16>,
 }
@@ -49,7 +49,7 @@ impl Weights {
         self.entries.get(role.as_text()).copied().unwrap_or(1)
     }
 
-    /// Gives a role a weight, in place of the one before. It fails for want of memory alone.
+    /// Sets the weight of a role, in place of the one before. It fails for want of memory alone.
     pub fn set(&mut self, alloc: Global, role: &RoleName, weight: u16) -> Result<(), AllocError>
         requires { IsWeight weight }
         ensures ok { OnOk result (self.new ≡ with_weight role.now weight self.old) }

@@ -1,4 +1,4 @@
--- What a refusal tells.
+-- Which refusal is returned.
 use Rattle.std.specs.Prelude.{◌≡◌, Bool, true, Option, Some}
 use Rattle.mails.specs.declared.refusal.MasterRefusal.{MasterRefusal}
 use Rattle.roster.specs.declared.fault.RosterFault.{RosterFault}
@@ -10,7 +10,7 @@ IsIssueRefusal spent (Refused refusal) = ⊥
 IsIssueRefusal spent Spent = spent ≡ true
 IsIssueRefusal spent OutOfMemory = Unit {0}
 
--- a count isn't heard: the mail is refused, or memory was refused
+-- a count isn't recorded: the mail is refused, or memory was refused
 abbrev pub IsAppliedRefusal : Option MasterRefusal → RosterFault → Type 0
 IsAppliedRefusal due (Refused refusal) = due ≡ Some refusal
 IsAppliedRefusal due Spent = ⊥

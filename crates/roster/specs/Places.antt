@@ -3,7 +3,7 @@ use Rattle.std.specs.Prelude.{ℕ, zero, suc, List, [], ◌∷◌, Option, bytes
 use Rattle.std.specs.List.{position}
 use Rattle.cluster_model.specs.Sides.{Side}
 
--- where the agent of a name stands
+-- the place of the agent of a name
 abbrev pub place_of : List ℕ → List Side → Option ℕ
 place_of name ss = position (λ s. bytes_eq s.name name) ss
 
@@ -13,7 +13,7 @@ at_place i change [] = []
 at_place zero change (s ∷ ss) = change s ∷ ss
 at_place (suc i) change (s ∷ ss) = s ∷ at_place i change ss
 
--- what is told of the side at a place, or of none past the end
+-- what `tell` returns for the side at a place, or `none` past the end
 abbrev pub told_at : {X : Type 0} → ℕ → (Side → X) → X → List Side → X
 told_at i tell none [] = none
 told_at zero tell none (s ∷ ss) = tell s

@@ -25,7 +25,7 @@ abbrev pub reported : ℕ → Side → ℕ → ℕ → Result Bool MasterRefusal
 reported run s session number =
     answered (judged_report run s session number) (report_opens run s session number)
 
--- (what the agent owns, and its tasks, stand elsewhere)
+-- (what the agent owns, and its tasks, are kept elsewhere)
 abbrev pub after_report : ℕ → ℕ → ℕ → Side → Side
 after_report run session number s =
     if report_opens run s session number then opened s session [] [] else s

@@ -15,7 +15,7 @@ use std::marker::Model;
 use stream_core::{LinkOut, StreamFault};
 
 /// A configured agent: its open session in this run, if any, the commands issued in it, and the
-/// greatest session that this run has closed. (What the agent owns stands with its offers and
+/// greatest session that this run has closed. (What the agent owns is kept with its offers and
 /// booked tasks.)
 pub struct RosterEntry {
     name: AgentName,

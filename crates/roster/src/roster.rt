@@ -124,7 +124,7 @@ impl Roster {
         }
     }
 
-    /// Adds a configured agent behind the others: it has not yet opened a session in this run.
+    /// Adds a configured agent after the others: it has not yet opened a session in this run.
     pub fn add_agent(&mut self, alloc: Global, name: AgentName) -> Result<(), AllocError>
         ensures ok { OnOk result (self.new ≡ self.old ++ new_side name ∷ []) }
         ensures err { OnErr result (self.new ≡ self.old) }
@@ -139,17 +139,17 @@ impl Roster {
         self.entries.as_slice()
     }
 
-    /// Where the agent of a name stands.
+    /// The place of the agent of a name, if it is configured.
     pub fn place_of(&self, name: &AgentName) -> Option<usize>
         ensures { result ≡ place_of name.now self.now }
     {
         place_in(&self.entries, name)
     }
 
-    /// An agent reports that it has opened a session with the master of a run. The answer tells
-    /// whether the session is opened here; a Report of the open session is no news. `G1 OtherRun`
-    /// where it isn't this run, `G2 OldSession` below the open session, `G3 Closed` where none is
-    /// open and the session isn't above every closed one. It takes no memory.
+    /// An agent reports that it has opened a session with the master of a run. Returns whether the
+    /// session is opened here; a Report of the open session changes nothing. `G1 OtherRun` where it
+    /// isn't this run, `G2 OldSession` below the open session, `G3 Closed` where none is open and
+    /// the session isn't above every closed one. It takes no memory.
     pub fn report(
         &mut self,
         alloc: Global,
@@ -165,16 +165,16 @@ impl Roster {
         report_in(&mut self.entries, alloc, place, run, session, number)
     }
 
-    /// Closes the open session, where there is one; its commands are gone. It takes no memory.
+    /// Closes the open session, where there is one; its commands are removed. It takes no memory.
     pub fn close_session(&mut self, alloc: Global, place: usize)
         ensures { self.new ≡ at_place place lost self.old }
     {
         close_in(&mut self.entries, alloc, place);
     }
 
-    /// Issues a command in the open session and gives its number; where no session is open there is
-    /// no command and no number. `L2 Spent` where the session's last command has the last number,
-    /// `G5 OutOfMemory` where memory was refused.
+    /// Issues a command in the open session and returns its number; where no session is open none
+    /// is issued and `None` is returned. `L2 Spent` where the session's last command has the last
+    /// number, `G5 OutOfMemory` where memory was refused.
     pub fn issue(&mut self, place: usize, command: Command) -> Result<Option<u32>, RosterFault>
         ensures number { IfOk result (λ n. n ≡ told_at place issued_number None self.old) }
         ensures ok { OnOk result (self.new ≡ at_place place (with_command command) self.old) }
@@ -185,8 +185,8 @@ impl Roster {
         issue_in(&mut self.entries, place, command)
     }
 
-    /// The first `count` commands of a session are applied: gives those that weren't known to be,
-    /// in order. Refused as `judge` tells; `G5 OutOfMemory` where memory was refused.
+    /// The first `count` commands of a session are applied: returns those that weren't known to be,
+    /// in order. Refused as by `judge`; `G5 OutOfMemory` where memory was refused.
     pub fn applied(
         &mut self,
         alloc: Global,

@@ -27,8 +27,8 @@ pub(crate) enum Eligibility {
     ByFilters,
 }
 
-/// What stays of a framework over a round: whether resources may be offered to it,
-/// and where it stands in the shares.
+/// What stays of a framework over a round: whether resources may be offered to it, and its place in
+/// the shares.
 #[derive(Drop)]
 pub struct Candidate {
     pub(crate) eligibility: Eligibility,

@@ -151,7 +151,7 @@ fn give_all(holdings: &mut Holdings, alloc: Global, accounts: &[Account]) -> Res
     Ok(())
 }
 
-/// What is held is counted anew, by what agents own. More frameworks are told of.
+/// Counts anew what is held, by what agents own, and registers more frameworks.
 fn fill(
     holdings: &mut Holdings,
     alloc: Global,
@@ -172,10 +172,10 @@ fn fill(
     Ok(())
 }
 
-/// The shares of a round: what the agents with an open session own, the frameworks with their
-/// roles and the weights of these, and their current offers and booked tasks that haven't ended,
-/// on every agent. It takes what was kept of the round before, so that only frameworks that came
-/// since are gone through.
+/// The shares of a round: what the agents with an open session own, the frameworks with their roles
+/// and the weights of these, and their current offers and booked tasks that haven't ended, on every
+/// agent. It takes what was kept of the round before, so that only frameworks that aren't
+/// registered in that are visited.
 pub fn shares_of(
     alloc: Global,
     weights: &Weights,

@@ -15,9 +15,9 @@ use mails::Framework;
 use names_core::{AgentName, FrameworkId};
 use quantity::Resources;
 
-/// The better one of the best so far and a framework, if what is free may be offered to that.
-/// Its filters are read only where it stands before the best so far, whose shares are given.
-/// `place` says where the framework stands among all frameworks.
+/// The better one of the best so far and a framework, if what is free may be offered to that. Its
+/// filters are read only where it stands before the best so far, if there is one, whose shares are
+/// passed. `place` is the place of the framework among all frameworks.
 fn better_eligible<'a>(
     shares: &Shares,
     best: Option<&'a Framework>,
@@ -56,8 +56,8 @@ fn better_eligible<'a>(
     best
 }
 
-/// The frameworks stand in the order of their ids, so where all have the same role, none behind one
-/// that holds nothing stands before it. None in front of the first is eligible.
+/// The frameworks are in the order of their ids, so where all have the same role, none after one
+/// that holds nothing stands before it. None of the first `first` is eligible.
 fn best_of<'a>(
     shares: &Shares,
     frameworks: &'a [Framework],

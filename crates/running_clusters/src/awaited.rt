@@ -1,4 +1,4 @@
-//! Who waits for what a step brings out, in 64 groups: those of streams, and those of agents.
+//! Who waits for what a step outputs, in 64 groups: those of streams, and those of agents.
 
 use cluster_entries::Entry;
 use cluster_steps::{Sent, Step, Verdict};
@@ -27,8 +27,8 @@ impl Awaited {
     }
 
     /// That time passes. No group is free of callers: in this one those wait too who take events of
-    /// the streams whose numbers are divisible by 32, and a step that tells such a stream something
-    /// wakes the caller, which waits on.
+    /// the streams whose numbers are divisible by 32, and a step that sends an event on such a
+    /// stream wakes the caller, which waits on.
     pub fn time() -> Awaited {
         Awaited { group: 0 }
     }
@@ -89,7 +89,7 @@ fn ends_a_part(entry: &Entry) -> bool {
     matches!(entry.step, Step::StopMaster) || matches!(entry.verdict, Verdict::OutOfMemory)
 }
 
-/// The groups of those who wait for what a step brought out, a bit for each.
+/// The groups of those who wait for what a step output, a bit for each.
 pub fn groups_of(entry: &Entry) -> u64 {
     if ends_a_part(entry) {
         return u64::MAX;

@@ -1,8 +1,8 @@
-//! What is given of a step with its entry.
+//! What is returned of a step with its entry.
 
 use agent_core::Record;
 
-/// What goes with the entry of a step that was taken.
+/// What comes with the entry of a step that was taken.
 #[derive(Drop)]
 pub struct Given {
     /// The record of the draft that a Prepare opened;

@@ -1,4 +1,4 @@
-//! Entries of a history, each of which stands once.
+//! Entries of a history, each of which is one value.
 
 ghost use Rattle.std.specs.Prelude.{◌≡◌};
 
@@ -7,13 +7,13 @@ use permanent_value::{Permanent, Place};
 use std::marker::Model;
 use std::ops::Deref;
 
-/// An entry of a history. It stands once, for as long as the program runs: its owners share it.
-/// (The type has no lifetime of its own, so that threads may hand it on.)
+/// An entry of a history. It is one value, for as long as the program runs: its owners share it.
+/// (The type has no lifetime of its own, so that threads may pass it on.)
 pub struct KeptEntry {
     entry: Permanent<'static, Entry>,
 }
 
-// By hand, so that who drops one goes through none of its parts.
+// By hand, so that the proof of who drops one visits none of its parts.
 impl Drop for KeptEntry {
     fn drop(self) {
         let KeptEntry { entry: _ } = self;
@@ -29,7 +29,7 @@ impl Model for KeptEntry {
 }
 
 impl KeptEntry {
-    /// Puts an entry into its place. It takes no memory.
+    /// Writes an entry into its place. It takes no memory.
     pub fn new(place: Place<Entry>, entry: Entry) -> KeptEntry
         ensures { result ≡ entry }
     {

@@ -1,4 +1,4 @@
-//! What who stands around a cluster that runs sees of it: the entries of its steps, what goes with
+//! What the callers of a cluster that runs see of it: the entries of its steps, what comes with
 //! them, and what is looked at in it.
 #![tactic(auto)]
 

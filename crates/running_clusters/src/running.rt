@@ -1,4 +1,4 @@
-//! A cluster that runs, as a desk stands over it.
+//! A cluster that runs, as a desk records it.
 
 ghost use Rattle.std.specs.Prelude.{◌≡◌, ℕ, Bool, Option};
 ghost use Rattle.cluster_entries.specs.declared.entry.Entry.{Entry};
@@ -19,7 +19,7 @@ use cluster_steps::{ClusterFault, Step};
 use desk_seats::Recorded;
 use names_core::{AgentName, StreamId};
 
-/// A cluster that runs. An agent's thread, the master's time and connections know it by this alone.
+/// A cluster that runs. An agent's thread, the ticker and connections use it by this trait alone.
 pub trait Running: Recorded<
     Step = Step,
     Entry = KeptEntry,
@@ -42,10 +42,10 @@ pub trait Running: Recorded<
     /// The record of an agent; None where no such agent is configured.
     fn durable(&self, agent: &AgentName) -> Option<&Record>;
 
-    /// The number of the first mail to an agent that wasn't handed out.
+    /// The number of the first mail to an agent that wasn't delivered; None where there is none.
     fn first_mail(&self, agent: &AgentName) -> Option<u64>;
 
-    /// The number of the first mail from an agent that wasn't handed out.
+    /// The number of the first mail from an agent that wasn't delivered; None where there is none.
     fn first_mail_from(&self, agent: &AgentName) -> Option<u64>;
 
     /// Whether an agent has an open session.
@@ -59,7 +59,7 @@ pub trait Running: Recorded<
     fn is_open(&self, stream: StreamId) -> bool
         ensures { result ≡ is_open_on self.now stream };
 
-    /// An entry was asked its step.
+    /// The step of an entry is the one that was requested.
     ghost asks_its_step: { (entry : Entry) → Self.step_of entry ≡ entry.step };
 
     /// What a desk over it answers, it took so.

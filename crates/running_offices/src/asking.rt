@@ -1,4 +1,4 @@
-//! A step that an office is asked for.
+//! Steps that a caller requests of an office.
 
 ghost use Rattle.std.specs.Prelude.{◌≡◌, IfErr, IfOk, MatchOption, OnErr};
 ghost use Rattle.running_offices.specs.Answering.{Answers};

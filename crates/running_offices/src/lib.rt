@@ -1,4 +1,4 @@
-//! An office over a cluster that runs: the steps that it is asked, by the words of `Running`.
+//! An office over a cluster that runs, and the steps that callers request of it.
 #![tactic(auto)]
 
 mod asking;

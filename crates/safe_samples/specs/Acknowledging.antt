@@ -43,7 +43,7 @@ foreign =
       filters = [];
     }
 
--- it acknowledges the update that the master last heard
+-- it acknowledges the update that the master last received
 abbrev pub foreign_calls : List Post
 foreign_calls = Called (Some (id 2 1)) (Acknowledge (id 2 1) n_a1 n_t1 (uuid (id 1 1) 0)) ∷ []
 

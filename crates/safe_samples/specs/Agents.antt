@@ -1,5 +1,5 @@
 -- An agent of 4 CPUs that reports to a master, in a world of its own;
--- and a step of the master there that is given.
+-- and what a step of the master makes of that world.
 use Rattle.std.specs.Prelude.{ℕ, List, [], ◌∷◌, ◌++◌}
 use Rattle.names_core.specs.Ids.{Numbered}
 use Rattle.quantity.specs.declared.rows.Row.{Row}
@@ -21,7 +21,7 @@ cpus amount = row (99 ∷ 112 ∷ 117 ∷ 115 ∷ []) amount ∷ []
 abbrev pub job_of_two : Numbered → Job
 job_of_two key = job key (id 1 1) n_t1 (cpus 2)
 
--- the agent hears a Hello, and the master its Report
+-- the agent receives a Hello, and the master its Report
 abbrev pub reporting : List Happening
 reporting =
     At n_a1 (ByMaster SendHello) ∷ At n_a1 (ByAgent (DrawMail 0)) ∷ At n_a1 (ByAgent Adopt)

@@ -10,7 +10,7 @@ use Rattle.cluster_histories.specs.Steps.{history, unmarked, unweighted}
 use Rattle.cluster_samples.specs.Short.{id, wanted}
 use Rattle.safe_samples.specs.Agents.{n_a1, n_t1, cpus}
 
--- the agent hears the Hello, and the master its Report
+-- the agent receives the Hello, and the master its Report
 abbrev pub reports : List Step
 reports = Prepare n_a1 (ByMail 1) ∷ Commit n_a1 ∷ Deliver 2 ∷ []
 
@@ -24,7 +24,7 @@ launches =
     Send (Some (id 1 1)) (Accept (id 1 1) (id 1 1 ∷ []) (wanted n_t1 n_a1 (cpus 2) ∷ []) 5)
     ∷ Deliver 4 ∷ Prepare n_a1 (ByMail 5) ∷ Commit n_a1 ∷ []
 
--- the master hears the first update of the task that the agent reported
+-- the master receives the first update of the task that the agent reported
 abbrev pub updates : List Step
 updates = Deliver 3 ∷ []
 

@@ -30,14 +30,14 @@ no_task = durable n_a1 (cpus 4) 0 0 [] ∷ []
 abbrev pub offered : World
 offered = after_all (reporting ++ offering (id 1 1) (id 1 1) ∷ []) (open_world 1 no_task)
 
--- a task was launched out of that, and stands in the agent's record,
+-- a task was launched out of that, and is in the agent's record,
 -- in the session that the first Report opened
 abbrev pub launched : World
 launched =
     after_all (At n_a1 (ByMaster (LaunchFrom (id 1 1) (id 1 1 ∷ []) (job_of_two (id 1 1) ∷ [])))
     ∷ applying 1) offered
 
--- a task of two updates, none of them acknowledged, of which the master has heard the first
+-- a task of two updates, none of them acknowledged, of which the master has received the first
 abbrev pub with_updates : List Durable
 with_updates =
     durable n_a1 (cpus 4) 0 1 (task (job_of_two (id 1 1)) (id 1 1 ∷ []) (Running ∷ Finished ∷ []) 0

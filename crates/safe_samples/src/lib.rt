@@ -1,7 +1,7 @@
 //! Samples of the safety law: short runs of the model at one agent, of which the checker computes
-//! that the law holds. The step at issue goes through a word of its own, which is the model's; each
-//! wrong body of `must-fail` stands in the place of such a word, and then the law is false at the
-//! end of the run.
+//! that the law holds. The step at issue has a definition of its own, which is the model's; each
+//! wrong body of `must-fail` replaces such a definition, and then the law is false at the end of
+//! the run.
 #![tactic(auto)]
 
 ghost use Rattle.cluster_model.specs.Channels.{AllFit, open_world};
@@ -56,7 +56,8 @@ pub fn accepted_offers_are_gone()
     ensures { AllFit after_accept }
 {}
 
-/// The Report that opened a session, heard again in it, replaces no task that was launched since.
+/// The Report that opened a session, received again in it, replaces no task that was launched
+/// since.
 pub fn repeated_reports_replace_nothing()
     ensures { AllFit after_repeat }
 {}

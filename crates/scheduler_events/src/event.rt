@@ -8,7 +8,7 @@ use crate::status::TaskStatus;
 use names_core::{AgentName, FrameworkId, OfferId};
 use plain_data::Plain;
 
-/// What the master tells a framework, as in the events of the Mesos scheduler HTTP API.
+/// What the master sends to a framework (Mesos scheduler HTTP API, Events).
 #[derive(Clone, PartialEq)]
 pub enum Event {
     /// The stream is open, for the framework of this id.
@@ -19,11 +19,11 @@ pub enum Event {
     Rescind { offer: OfferId },
     /// What became of a task.
     Update { status: TaskStatus },
-    /// An agent is gone.
+    /// An agent was lost.
     Failure { agent: AgentName },
     /// The framework did something wrong, or may not go on.
     Error { message: Message },
-    /// Nothing, so that the stream isn't silent.
+    /// No content; it is sent at intervals, so that the stream isn't idle.
     Heartbeat,
 }
 

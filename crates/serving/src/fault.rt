@@ -9,7 +9,7 @@ use running_clusters::ClusterFault;
 use std::fmt;
 
 /// Why a cluster stops running before its last connection was taken.
-/// What was answered by then stands.
+/// What was answered by then stays valid.
 #[derive(Drop)]
 pub enum ServingFault {
     /// An agent's record couldn't be kept.

@@ -19,7 +19,7 @@ use std::thread;
 use std::thread::{JoinHandle, Scope, Threads};
 use std::time::Clock;
 
-/// Hands a pass in. Where memory is refused for it, the entries of its seat aren't accounted for.
+/// Collects a pass. Where memory is refused for it, the entries of its seat aren't accounted for.
 fn hand_in<L: ledger::Ledger>(
     passes: &mut Passes<KeptEntry, L>,
     pass: Pass<KeptEntry, L>,
@@ -41,7 +41,7 @@ fn first_fault(
     }
 }
 
-/// Hands in the passes of connections that had a seat, and gives the first fault.
+/// Collects the passes of connections that had a seat, and returns the first fault.
 fn hand_in_all<D: Running, L: ledger::Ledger, R: Wait>(
     passes: &mut Passes<KeptEntry, L>,
     benches: Vec<Seating<'_, D, L, R>>,
@@ -65,7 +65,7 @@ fn why_ended(fault: Option<HttpFault>, has_failed: bool) -> Result<(), ServingFa
 }
 
 /// Serves the connections of a listener, each with a seat of its own,
-/// until no more come and all have ended. The passes of their seats are handed in.
+/// until no more come and all have ended. The passes of their seats are collected.
 fn serve_connections<
     D: Running + Send + Sync,
     L: ledger::Ledger + Send + Sync,
@@ -87,7 +87,7 @@ fn serve_connections<
     first_fault(ended, handed)
 }
 
-/// Waits for the threads to end, and hands their passes in. It gives the first fault that one left.
+/// Waits for the threads to end, and collects their passes. It returns the first fault.
 fn join_all<L: ledger::Ledger, R: Threads>(
     rt: &R,
     threads: Vec<JoinHandle<Leaver<L>>>,
@@ -198,7 +198,7 @@ fn opened<D: Running, L: ledger::Ledger>(alloc: Global, cluster: D, blank: Blank
     Office::new(desk)
 }
 
-/// What a look at what a desk recorded gives; the history is dropped then. (Of a desk over a
+/// What `look` returns on what a desk recorded; the history is dropped then. (Of a desk over a
 /// cluster, whose entries are references, the borrow checker can't follow that in place.)
 pub fn read_recorded<C: Recorded, T, F: Fn(&C) -> T>(history: SeatedHistory<C>, look: F) -> T
     requires { F.IsAlwaysCallable look }
@@ -208,10 +208,10 @@ pub fn read_recorded<C: Recorded, T, F: Fn(&C) -> T>(history: SeatedHistory<C>, 
 }
 
 /// Runs a cluster of agents whose records are kept in files, until so many connections as its pace
-/// says have come and ended, and gives its whole history, with the seat of each entry. Each
+/// says have come and ended, and returns its whole history, with the seat of each entry. Each
 /// connection has a seat, as has each agent and the master's time. Where an agent's record can't be
 /// kept any more, where memory or a thread is refused, or where connection after connection fails,
-/// it ends too, once the connections that there are have ended; the fault tells why.
+/// it ends too, once the connections that there are have ended; the fault says why.
 pub fn serve_cluster<
     D: Running + Send + Sync,
     L: ledger::Ledger + Send + Sync,

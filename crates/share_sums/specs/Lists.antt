@@ -1,4 +1,4 @@
--- What stands in a list.
+-- Membership in a list.
 use Rattle.std.specs.Prelude.{◌≡◌, ◌⊎◌, List, [], ◌∷◌}
 
 abbrev pub Among : {X : Type 0} → X → List X → Type 0

@@ -10,7 +10,8 @@ use std::marker::Model;
 use std::ops::Deref;
 use std::sync::Arc;
 
-/// A value that its owners share. It stands once on the heap, and is dropped with its last owner.
+/// A value that its owners share. It is stored once on the heap, and is dropped with its last
+/// owner.
 #[derive(Drop)]
 pub struct Shared<T> {
     arc: Arc<T>,

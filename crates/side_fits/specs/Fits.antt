@@ -16,7 +16,7 @@ FitsTotal s = AtLeast s.total (taken s)
 abbrev pub AllFitTotals : List Side → Type 0
 AllFitTotals ss = AllByRecursion FitsTotal ss
 
--- the tasks of a Report that haven't ended fit the total that it tells
+-- the tasks of a Report that haven't ended fit the total that it reports
 abbrev pub MailFits : AgentMail → Type 0
 MailFits (Report session number tasks total) = AtLeast total (job_rows (unended tasks))
 MailFits (Applied session count) = ⊤
@@ -32,7 +32,7 @@ ReportsNothing (Report session number tasks total) = tasks ≡ []
 ReportsNothing (Applied session count) = ⊤
 ReportsNothing (Update session key k state ended) = ⊤
 
--- it fits, whatever total it tells
+-- it fits, whatever total it reports
 abbrev pub NothingFits : Type 0
 NothingFits =
     (agent : List ℕ) (mail : AgentMail) (ss : List Side) → ReportsNothing mail
@@ -47,7 +47,7 @@ abbrev pub MovesKeepFits : Type 0
 MovesKeepFits =
     (moves : List Move) (x : Moved) → AllFitTotals x.sides → AllFitTotals (move_all moves x).sides
 
--- and whatever it hears, where what is reported fits
+-- and whatever it receives, where what is reported fits
 abbrev pub HearingKeepsFits : Type 0
 HearingKeepsFits =
     (run : Run) (s : Side) (mail : AgentMail) → MailFits mail → FitsTotal s
@@ -58,7 +58,7 @@ HearingAtKeepsFits =
     (agent : List ℕ) (run : Run) (mail : AgentMail) (ss : List Side) → MailFitsAt agent mail ss
     → AllFitTotals ss → AllFitTotals (hear_at agent run mail ss)
 
--- the ids of current offers stand before the next one
+-- the ids of current offers are before the next one
 abbrev pub OffersBefore : Numbered → Side → Type 0
 OffersBefore next s = AllByRecursion (λ o. before o.id next ≡ true) s.offers
 
@@ -66,8 +66,8 @@ OffersBefore next s = AllByRecursion (λ o. before o.id next ≡ true) s.offers
 abbrev pub most_sides : ℕ
 most_sides = 256
 
--- what holds of a master's sides in its run: what is taken fits,
--- offers have ids that were given out, these are numbered from 1, and the agents are few
+-- what holds of a master's sides in its run: what is taken fits, offers have ids that were
+-- assigned, these are numbered from 1, and the agents are few
 pub record SidesFit (run : Run) (ss : List Side) : Type 0 where
   pub totals : AllFitTotals ss
   pub ids : AllByRecursion (OffersBefore run.next_offer) ss
@@ -80,7 +80,7 @@ MovesKeepSides =
     (moves : List Move) (x : Moved) → SidesFit x.run x.sides
     → SidesFit (move_all moves x).run (move_all moves x).sides
 
--- and so does what it hears, where what is reported fits
+-- and so does what it receives, where what is reported fits
 abbrev pub HearingKeepsSides : Type 0
 HearingKeepsSides =
     (agent : List ℕ) (run : Run) (mail : AgentMail) (ss : List Side) → MailFitsAt agent mail ss

@@ -11,14 +11,14 @@ pub fn steps_keep_fits()
     ensures { StepsKeepFits }
 {}
 
-/// So do all moves of the master, one after another;
-/// and current offers keep ids that stand before the next one.
+/// So do all moves of the master, one after another; and current offers keep ids that are before
+/// the next one.
 pub fn moves_keep_fits()
     ensures fits { MovesKeepFits }
     ensures sides { MovesKeepSides }
 {}
 
-/// So does a mail of an agent, where the tasks that it reports fit the total that it tells.
+/// So does a mail of an agent, where the tasks of a Report that haven't ended fit its total.
 pub fn hearing_keeps_fits()
     ensures side { HearingKeepsFits }
     ensures at_agent { HearingAtKeepsFits }

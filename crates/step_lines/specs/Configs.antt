@@ -21,8 +21,7 @@ use Rattle.step_lines.specs.Lines.{longest_line}
 abbrev pub configured : {A : Type 0} → Option A → Result A LineRefusal
 configured o = or_refused BadConfig o
 
--- an agent that no other of this name stands before,
--- and of whom there are not 256 yet, stands in its place
+-- an agent is inserted at its place, where no other has its name and there are fewer than 256
 abbrev pub joined : ConfiguredAgent → List ConfiguredAgent → Option (List ConfiguredAgent)
 joined a agents =
     where_true (not (has_name a.name agents)) agents >>= λ others.

@@ -58,7 +58,7 @@ named_cause text total =
 abbrev pub told_in : Data → Option StepCause
 told_in d = key_in d >>= λ key. state_in d >>= λ state. Some (Executor key state)
 
--- a mail's number, or a cause by its name with what a start brings, or a launch key and a state
+-- a mail's number, or a cause by its name with the total of a start, or a launch key and a state
 abbrev pub cause_in : Data → Option StepCause
 cause_in d =
     if is_some (get (codes "mail") d) then (number_in (codes "mail") d >>= λ n. Some (Mail n))

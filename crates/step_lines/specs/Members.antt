@@ -42,7 +42,7 @@ stream_in d = text_in (codes "stream") d >>= id_of 83
 abbrev pub key_in : Data → Option Numbered
 key_in d = text_in (codes "launch") d >>= id_of 76
 
--- the states that an executor tells
+-- the states that an executor reports
 unfoldable pub told_state : List ℕ → Option TaskState
 told_state text =
     if bytes_eq text (codes "TASK_RUNNING") then Some Running

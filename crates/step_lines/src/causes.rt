@@ -41,7 +41,7 @@ fn named_cause(alloc: Global, text: &str, total: Option<&Value>) -> Result<StepC
     }
 }
 
-/// What an executor tells.
+/// The state that an executor reports, with its task's key.
 fn told_in(value: &Value) -> Option<StepCause>
     ensures { result ≡ lines.told_in (view value.now) }
 {
@@ -49,7 +49,7 @@ fn told_in(value: &Value) -> Option<StepCause>
     Some(StepCause::Executor(key, state_in(value)?))
 }
 
-/// A mail by its number, a cause by its name, or the state that an executor tells.
+/// A mail by its number, a cause by its name, or the state that an executor reports.
 pub fn cause_in(alloc: Global, value: &Value) -> Result<StepCause, LineFault>
     ensures { Gives (λ c. c) result (wanted (lines.cause_in (view value.now))) }
 {

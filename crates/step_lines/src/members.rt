@@ -78,7 +78,7 @@ fn told_state(text: &str) -> Option<TaskState>
     }
 }
 
-/// The state that an executor tells.
+/// The state that an executor reports.
 pub fn state_in(value: &Value) -> Option<TaskState>
     ensures { result ≡ members.state_in (view value.now) }
 {

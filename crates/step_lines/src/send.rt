@@ -36,7 +36,7 @@ fn send_members(value: &Value) -> usize
     if value.get("stream").is_some() { 3 } else { 2 }
 }
 
-/// A Send of a call, which stands once from then on.
+/// A Send of a call, which is stored once and shared.
 fn sent(alloc: Global, stream: Option<StreamId>, call: Call) -> Result<Step, LineFault>
     ensures { Gives (λ s. s) result (Ok (Send stream call)) }
 {

@@ -50,7 +50,7 @@ fn rows_of(
 }
 
 /// What an agent owns, which may be nothing: up to 8 amounts, each a whole number from 1 to 2^40.
-/// All else is refused as told.
+/// Every other value is refused with `refusal`.
 pub fn total_of(alloc: Global, refusal: LineRefusal, value: &Value) -> Result<Resources, LineFault>
     ensures { Gives (λ r. r) result (or_refused refusal (totals.total_of (view value.now))) }
 {

@@ -1,4 +1,4 @@
-//! Tests of records in stores, each a function that says whether it passed;
+//! Tests of records in stores, each a function that returns whether it passed;
 //! and files in memory that stop, for stores that others test.
 #![tactic(auto)]
 

@@ -1,5 +1,5 @@
 //! A keeper over a store in memory: what is saved is loaded, and runs are counted.
-//! What is no record, and what is no run, stands in files of `tests/serve`.
+//! What is no record, and what is no run, is in files of `tests/serve`.
 
 use crate::records::{OTHER_TASKS, TASKS, load, save};
 use keep_store::{KeepFault, Keeper};
@@ -9,7 +9,7 @@ use std::alloc::Global;
 /// Which of the two records is kept, 0 where there is none.
 type Found = Result<Option<usize>, KeepFault>;
 
-/// What a keeper loads, the runs that it gives, and what it loads then.
+/// What a keeper loads, the runs that it assigns, and what it loads then.
 type Answers = (
     Found,
     (Result<u32, KeepFault>, Result<u32, KeepFault>),
@@ -43,7 +43,7 @@ fn adopted<S: Alter + Drop>(conn: Connection<S>) -> Option<Keeper<S>> {
     Keeper::adopt(conn).ok()
 }
 
-/// What a keeper answers that is adopted again behind another.
+/// What a keeper answers that is adopted again after another.
 fn answers_when_adopted<S: Alter + Drop>(keeper: Keeper<S>, alloc: Global) -> Option<Answers> {
     let mut again = adopted(keeper.into_connection())?;
     Some(answers(&mut again, alloc))
@@ -73,7 +73,7 @@ const SAVED: Answers = (Ok(Some(2)), (Ok(3), Ok(4)), Ok(Some(2)));
 
 const AGAIN: Answers = (Ok(Some(2)), (Ok(5), Ok(6)), Ok(Some(2)));
 
-/// What was saved last is what is loaded, also behind a reopening.
+/// What was saved last is what is loaded, also after a reopening.
 pub fn the_last_saved_is_loaded(alloc: Global) -> bool {
     all_answers_in_memory(alloc) == Some((NEW, SAVED, AGAIN))
 }

@@ -1,5 +1,5 @@
-//! A keeper over a store of version 1, which its first save moves to version 2;
-//! and rows of version 2 that tell no record.
+//! A keeper over a store of version 1, which its first save migrates to version 2;
+//! and rows of version 2 that are no record.
 
 use crate::older_forms::{write_rows, write_text};
 use crate::records::{OWNS_4, OWNS_8, load, save};
@@ -62,7 +62,7 @@ fn has_second_version<S: Alter>(conn: &mut Connection<S>) -> bool {
         )
 }
 
-/// Whether a store of version 1 gives its record, and that of the next save behind it,
+/// Whether a store of version 1 returns its record, and that of the next save after it,
 /// which it then has in version 2.
 fn is_moved<S: Alter + Drop>(alloc: Global, conn: Connection<S>) -> bool {
     let Ok(mut keeper) = Keeper::adopt(conn) else {
@@ -73,7 +73,7 @@ fn is_moved<S: Alter + Drop>(alloc: Global, conn: Connection<S>) -> bool {
     answers == [Ok(Some(1)), Ok(Some(2))] && has_second_version(&mut conn)
 }
 
-/// A record that stands as one text is loaded, and moved by a save.
+/// A record that is kept as one text is loaded, and migrated by a save.
 pub fn a_text_is_moved(alloc: Global) -> bool {
     match Connection::open_in_memory(alloc) {
         Ok(mut conn) => write_text(alloc, &mut conn, OWNS_4) && is_moved(alloc, conn),
@@ -81,7 +81,7 @@ pub fn a_text_is_moved(alloc: Global) -> bool {
     }
 }
 
-/// A record in rows with its total in the head is loaded, and moved by a save.
+/// A record in rows with its total in the head is loaded, and migrated by a save.
 pub fn rows_of_version_1_are_moved(alloc: Global) -> bool {
     match Connection::open_in_memory(alloc) {
         Ok(mut conn) => write_rows(&mut conn) && is_moved(alloc, conn),
@@ -89,7 +89,7 @@ pub fn rows_of_version_1_are_moved(alloc: Global) -> bool {
     }
 }
 
-/// What is done to the rows of `OWNS_8` in version 2, so that they tell no record.
+/// What is done to the rows of `OWNS_8` in version 2, so that they are no record.
 const DAMAGES: [&str; 12] = [
     "INSERT INTO agent_total VALUES ('disk', 0)",
     "INSERT INTO agent_total VALUES ('disk', -1)",
@@ -129,7 +129,7 @@ fn is_refused(alloc: Global, damage: &str) -> bool {
     }
 }
 
-/// Rows that tell no record are K2.
+/// Rows that are no record are K2.
 pub fn rows_that_do_not_fit_are_refused(alloc: Global) -> bool {
     DAMAGES.iter().all(|damage| is_refused(alloc, damage))
 }

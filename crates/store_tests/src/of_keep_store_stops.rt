@@ -1,5 +1,6 @@
 //! A keeper in memory whose database file or whose journal stops working after so many calls: what
-//! is found afterwards is the record before or the new one as a whole, and no run is given twice.
+//! is found afterwards is the record before or the new one as a whole, and each run is assigned
+//! once.
 
 use crate::disks::{Calls, Contents, NO_STOP, calls_of, nothing};
 use crate::older_forms::{write_rows, write_text};
@@ -22,9 +23,9 @@ struct Plan<'a> {
 struct Answers {
     /// How many of the records were kept, by the one that it loaded.
     found: Option<usize>,
-    /// How many of them were kept, by those that it was said to have saved.
+    /// How many of them were kept, by those that it answered to have saved.
     saved: usize,
-    /// Which run it gave.
+    /// Which run it assigned.
     run: Option<u32>,
 }
 
@@ -92,7 +93,7 @@ fn visited_at(
     }
 }
 
-/// The files in which the record of a text is kept and run 1 was given out.
+/// The files in which the record of a text is kept and run 1 was assigned.
 fn rows(alloc: Global, text: &str) -> Option<Contents> {
     let plan = Plan {
         texts: &[text],
@@ -145,7 +146,7 @@ impl<'a> Visitor for Writing<'a> {
     }
 }
 
-/// The files of a store of an older form, in which run 1 was given out.
+/// The files of a store of an older form, in which run 1 was assigned.
 fn older_files(alloc: Global, form: Older<'_>) -> Option<Contents> {
     let is_written = false;
     let mut writing = Writing { form, is_written };
@@ -153,13 +154,13 @@ fn older_files(alloc: Global, form: Older<'_>) -> Option<Contents> {
     if writing.is_written { Some(left) } else { None }
 }
 
-/// The last run that was given out before: where a record was kept, run 1 was.
+/// The last run that was assigned before: where a record was kept, run 1 was.
 fn run_before(plan: Plan<'_>) -> u32 {
     if plan.kept > 0 { 1 } else { 0 }
 }
 
-/// The last record that was said to be saved, or the one behind it;
-/// and a run above each that was given.
+/// The last record that was answered to be saved, or the one after it;
+/// and a run above each that was assigned.
 fn is_kept(plan: Plan<'_>, told: Answers, found: Answers) -> bool {
     let is_record = found.found == Some(told.saved)
         || found.found == Some(told.saved.saturating_add(1));
@@ -201,7 +202,7 @@ fn is_whole(
 }
 
 /// At how many calls of the journal, or of the database file, a stop was tried, until none came.
-/// None where a stop left neither record or a run was given twice, or where there always was a
+/// None where a stop left neither record or a run was assigned twice, or where there always was a
 /// stop.
 fn stops_from(
     alloc: Global,

@@ -4,7 +4,7 @@
 use sqlite::{Alter, Connection, params};
 use std::alloc::Global;
 
-/// The tables of a store that keeps a record as one text, with run 1 given out.
+/// The tables of a store that keeps a record as one text, with run 1 assigned.
 const TABLES_OF_TEXT: &str =
     "CREATE TABLE agent_record (id INTEGER PRIMARY KEY CHECK (id = 1), body TEXT NOT NULL);
 CREATE TABLE run_number (id INTEGER PRIMARY KEY CHECK (id = 1), last INTEGER NOT NULL);

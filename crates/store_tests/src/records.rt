@@ -22,7 +22,7 @@ pub const TASKS: &str =
 pub const OTHER_TASKS: &str =
     r#"{"name":"a1","run":2,"session":3,"tasks":[{"acked":1,"framework":"F1-1","key":"L1-1","name":"t1","offers":["O1-1"],"resources":{"cpus":1},"updates":["TASK_RUNNING"]},{"acked":0,"framework":"F1-1","key":"L1-2","name":"t2","offers":["O1-1"],"resources":{"cpus":1},"updates":["TASK_RUNNING","TASK_FINISHED"]},{"acked":0,"framework":"F1-1","key":"L2-1","name":"t4","offers":["O2-1"],"resources":{"cpus":2},"updates":[]}],"total":{"cpus":8},"version":2}"#;
 
-/// It in session 1 with a task of which nothing was told yet, on cpus 4 and mem 4096.
+/// It in session 1 with a task of which nothing was reported yet, on cpus 4 and mem 4096.
 pub const OWNS_4: &str =
     r#"{"name":"a1","run":1,"session":1,"tasks":[{"acked":0,"framework":"F1-1","key":"L1-1","name":"t1","offers":["O1-1"],"resources":{"cpus":2,"mem":1024},"updates":[]}],"total":{"cpus":4,"mem":4096},"version":2}"#;
 
@@ -30,8 +30,8 @@ pub const OWNS_4: &str =
 pub const OWNS_8: &str =
     r#"{"name":"a1","run":1,"session":1,"tasks":[{"acked":0,"framework":"F1-1","key":"L1-1","name":"t1","offers":["O1-1"],"resources":{"cpus":2,"mem":1024},"updates":[]}],"total":{"cpus":8,"mem":8192},"version":2}"#;
 
-// What is made of a keeper stands in functions that have it by reference and have no clause: so the proof of a test carries neither what a keeper owns
-// nor the state of each call.
+// What is made of a keeper is in functions that have it by reference and have no clause: so the
+// proof of a test includes neither what a keeper owns nor the state of each call.
 fn record(alloc: Global, text: &str) -> Option<Record> {
     Record::of(alloc, record_of(alloc, text).ok()?).ok()?
 }

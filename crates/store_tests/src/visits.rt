@@ -1,6 +1,6 @@
-//! Visits of files in memory: each opens a store over them, does one thing, and gives them back.
+//! Visits of files in memory: each opens a store over them, does one thing, and returns them.
 //! What is done is written for every store, so that one function alone has one over files at hand:
-//! the prover goes through all laws of that type there, which takes half a minute and more.
+//! the prover visits all laws of that type there, which takes half a minute and more.
 
 use crate::disks::{Calls, Contents, NO_STOP, connected, contents_of, disks_of};
 use agent_core::Record;
@@ -9,7 +9,7 @@ use sqlite::{Alter, Connection, FileStore, Files};
 use sqlite_disk::Disk;
 use std::alloc::{AllocError, Global};
 
-/// A store over disks, which it gives back.
+/// A store over disks, which it returns.
 pub(crate) trait OverDisks: Alter + Drop {
     type Disks: Drop;
 
@@ -44,7 +44,7 @@ pub(crate) fn closed<S: OverDisks>(keeper: Keeper<S>) -> S::Disks {
 
 /// Does something with a store over disks.
 pub(crate) trait Visitor {
-    /// Does it, and gives the disks back.
+    /// Does it, and returns the disks.
     fn over<S: OverDisks>(
         &mut self,
         alloc: Global,
@@ -52,7 +52,7 @@ pub(crate) trait Visitor {
     ) -> S::Disks;
 }
 
-/// What is left of files of these contents, which stop after so many calls, behind a visit and a
+/// What is left of files of these contents, which stop after so many calls, after a visit and a
 /// stop: all that was written, or what was synced alone. None for want of memory.
 pub(crate) fn visit<V: Visitor>(
     alloc: Global,

@@ -23,7 +23,7 @@ is_spent l = nat_le last_number (issued_count l)
 abbrev pub issued : {C : Type 0} → C → Link C → Link C
 issued command l = record { waiting = l.waiting ++ command ∷ []; known = l.known }
 
--- a count of applied commands that tells something new
+-- whether a count of applied commands is above the known one, and not over what was issued
 abbrev pub is_news : {C : Type 0} → ℕ → Link C → Bool
 is_news count l = nat_lt l.known count && nat_le count (issued_count l)
 

@@ -42,7 +42,7 @@ most_updates = 4096
 abbrev pub is_full : Updates → Bool
 is_full u = nat_le 4095 (length u.states)
 
--- a terminal state stands last, if at all
+-- no state but the last is terminal
 abbrev pub ends_last : List TaskState → Bool
 ends_last states = not (list_any is_terminal (take (length states - 1) states))
 

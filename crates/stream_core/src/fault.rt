@@ -17,7 +17,7 @@ pub enum StreamFault {
     /// The update isn't the first one that isn't acknowledged.
     #[error("U1 NotFront")]
     NotFront,
-    /// A terminal state stands.
+    /// The task has a terminal state.
     #[error("U2 Closed")]
     Closed,
     /// Only a terminal state has room.

@@ -62,7 +62,7 @@ impl<C> LinkOut<C> {
 }
 
 impl<C: Drop> LinkOut<C> {
-    /// Issues a command and gives its number. L2 where every number is used,
+    /// Issues a command and returns its number. L2 where every number is used,
     /// U4 where memory ran out.
     pub fn issue(&mut self, command: C) -> Result<u32, StreamFault>
         ensures number { IfOk result (λ n. n ≡ suc (issued_count self.old)) }
@@ -79,8 +79,9 @@ impl<C: Drop> LinkOut<C> {
         Ok(self.known + self.waiting.len() as u32)
     }
 
-    /// The first `count` commands are applied: gives those that weren't known to be, in order.
-    /// A count over what was issued, or not above what is known, gives none and changes nothing.
+    /// The first `count` commands are applied: returns those that weren't known to be, in order.
+    /// For a count over what was issued, or not above what is known, it returns none and changes
+    /// nothing.
     pub fn applied(&mut self, alloc: Global, count: u32) -> Result<Vec<C>, AllocError>
         ensures newly { IfOk result (λ commands. commands.items ≡ newly_applied count self.old) }
         ensures ok { OnOk result (self.new ≡ applied count self.old) }

@@ -12,7 +12,7 @@ use std::alloc::{AllocError, Global};
 use std::marker::Model;
 
 /// The states of a task in the order in which they came, and how many of the first are
-/// acknowledged. A terminal state stands last; there are at most 4,096 states, the last of these a
+/// acknowledged. A terminal state is the last one; there are at most 4,096 states, the 4,096th a
 /// terminal one.
 #[derive(Debug)]
 pub struct Updates {
@@ -47,7 +47,7 @@ fn has_terminal(states: &[TaskState]) -> bool
     states.iter().any(|state| state.is_terminal())
 }
 
-/// Whether a terminal state stands at most last.
+/// Whether no state but the last is terminal.
 fn ends_last(states: &[TaskState]) -> bool
     ensures { result ≡ ends_last states.now }
 {
@@ -58,7 +58,7 @@ fn ends_last(states: &[TaskState]) -> bool
 }
 
 impl Updates {
-    /// Of a task that was launched and has told nothing yet.
+    /// Of a task that was launched and has sent no update yet.
     pub fn new(alloc: Global) -> Updates
         ensures { result ≡ record { states = []; acknowledged = 0 } }
     {
@@ -85,7 +85,7 @@ impl Updates {
 }
 
 impl Updates {
-    /// Whether a terminal state stands.
+    /// Whether one of the states is terminal.
     pub fn has_ended(&self) -> bool
         ensures { result ≡ has_ended self.now }
     {
@@ -114,8 +114,8 @@ impl Updates {
         self.has_ended() && self.states.len() <= self.acknowledged as usize
     }
 
-    /// Adds the next state. U2 where a terminal state stands, at any length; U3 where none stands,
-    /// the state isn't terminal and 4,095 states stand; U4 where memory ran out.
+    /// Adds the next state. U2 where there is a terminal state, at any length; U3 where there is
+    /// none, the new state isn't terminal and there are 4,095 states; U4 where memory ran out.
     pub fn push(&mut self, state: TaskState) -> Result<(), StreamFault>
         ensures ok { OnOk result (self.new ≡ pushed state self.old) }
         ensures open { OnOk result (has_ended self.old ≡ false) }

@@ -1,5 +1,5 @@
 //! Amounts of resources, as `cpus:4 mem:4096`, or `-` where there are none.
-//! Two lists stand with ` and ` between them.
+//! Two lists have ` and ` between them.
 
 use plain_data::Plain;
 use quantity::{QuantityFault, Resources};

@@ -23,7 +23,7 @@ pub fn message(alloc: Global, text: &str) -> Result<String, AllocError> {
     written(alloc, &Event::Error { message })
 }
 
-/// What is told of task t1 where it has finished with this update, and its agent isn't told.
+/// The status of task t1 where it has finished with this update, without its agent.
 fn status(alloc: Global, text: &str) -> Result<TaskStatus, NameFault> {
     Ok(TaskStatus {
         task: TaskName::from_text(alloc, "t1")?,

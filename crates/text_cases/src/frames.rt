@@ -3,7 +3,7 @@
 use frame_record::{FrameFault, Pulled, Reader, encode};
 use std::alloc::{AllocError, Global};
 
-/// So many bytes at the front of a longer text are told.
+/// So many bytes at the front of a longer text are printed.
 const TOLD: usize = 20;
 
 /// How many bytes there are, and the text of the first ones.
@@ -27,7 +27,7 @@ fn push_records(told: &mut String, records: &[Vec<u8>]) -> Result<(), AllocError
     Ok(())
 }
 
-/// Gives a reader one more piece, and tells the records that come of it.
+/// Feeds a reader one more piece, and writes the records that it returns.
 fn push_fed(
     told: &mut String,
     alloc: Global,
@@ -39,8 +39,8 @@ fn push_fed(
     Ok(fed.fault)
 }
 
-/// Gives a reader the text in pieces of this size, and tells the records;
-/// what the last piece is answered with.
+/// Feeds a reader the text in pieces of this size, and writes the records; returns the answer to
+/// the last piece.
 fn push_all(
     told: &mut String,
     alloc: Global,
@@ -55,8 +55,8 @@ fn push_all(
     Ok(last)
 }
 
-/// The records of the text behind the first word, read in pieces of as many bytes as that word
-/// says; then what the last piece and the end are answered with.
+/// The records of the text after the first word, read in pieces of as many bytes as that word
+/// says; then the answers to the last piece and to the end.
 pub fn frames(alloc: Global, text: &str) -> Result<String, AllocError> {
     let (size, text) = text.split_once(' ').unwrap_or((text, ""));
     let size = size.parse().unwrap_or(1);
@@ -67,8 +67,8 @@ pub fn frames(alloc: Global, text: &str) -> Result<String, AllocError> {
     Ok(told)
 }
 
-/// Pulls from a piece until it gives no further record,
-/// and tells of each pull how many bytes it took, the record and the fault.
+/// Pulls from a piece until it completes no further record, and writes of each pull how many bytes
+/// it took, the record and the fault.
 fn push_pulls(
     told: &mut String,
     alloc: Global,
@@ -100,8 +100,8 @@ fn push_all_pulls(
     Ok(())
 }
 
-/// What is pulled from the text behind the first word,
-/// which comes in pieces of as many bytes as that word says; then what the end is answered with.
+/// What is pulled from the text after the first word,
+/// which comes in pieces of as many bytes as that word says; then the answer to the end.
 pub fn pulls(alloc: Global, text: &str) -> Result<String, AllocError> {
     let (size, text) = text.split_once(' ').unwrap_or((text, ""));
     let size = size.parse().unwrap_or(1);

@@ -4,7 +4,7 @@ use names_core::{LaunchKey, TaskState};
 use std::alloc::{AllocError, Global};
 use stream_core::{LinkIn, LinkOut, StreamFault, Updates};
 
-/// Whether the first of two launch keys stands before the other.
+/// Whether the first of two launch keys is before the other.
 pub fn earlier(alloc: Global, text: &str) -> Result<String, AllocError> {
     let (first, other) = text.split_once(' ').unwrap_or((text, ""));
     let is_earlier = LaunchKey::from_text(first).ok() < LaunchKey::from_text(other).ok();

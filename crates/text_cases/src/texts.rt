@@ -89,7 +89,7 @@ fn config(alloc: Global, text: &str) -> Result<String, AllocError> {
     }
 }
 
-/// The weight of a role, whose name stands before the first blank.
+/// The weight of a role, whose name is before the first blank.
 fn weight(alloc: Global, text: &str) -> Result<String, AllocError> {
     let Some((name, line)) = text.split_once(' ') else {
         return "no blank".to_string(alloc);

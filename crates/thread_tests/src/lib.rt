@@ -1,4 +1,4 @@
-//! Tests over several threads, each a function that says whether it passed: callers of one desk,
+//! Tests over several threads, each a function that returns whether it passed: callers of one desk,
 //! and connections that are served at once.
 #![tactic(auto)]
 

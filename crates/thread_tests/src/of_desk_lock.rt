@@ -53,7 +53,7 @@ impl Recorded for Adder {
 
     type Entry = Added;
 
-    /// The sum behind the step.
+    /// The sum after the step.
     type Given = u64;
 
     type Fault = FaultKind;
@@ -165,7 +165,7 @@ fn adds_without_receipt<L: ledger::Ledger>(
     refuses(alloc, desk) && desk.apply(alloc, seat, 1).is_ok()
 }
 
-/// Whether the close is refused, which hands desk and passes back.
+/// Whether the close is refused, which returns desk and passes.
 fn stays_open<L: ledger::Ledger>(office: Office<Adder, L>, passes: Passes<Added, L>) -> bool {
     match office.close(passes) {
         Ok(_) => false,
@@ -216,7 +216,7 @@ pub fn a_foreign_receipt(alloc: Global) -> bool {
     foreign::<Brand>(alloc, Blank::new(PARTS))
 }
 
-/// Waits until the sum is 7, and adds 1. Once it was told to wait, the flag says so.
+/// Waits until the sum is 7, and adds 1. Once its look answered `Wait`, the flag says so.
 fn wait_and_add<L: ledger::Ledger, R: Wait>(
     rt: &R,
     alloc: Global,
@@ -247,7 +247,7 @@ fn is_waited_for<R: Clock>(rt: &R, waits: &AtomicBool) -> bool {
     false
 }
 
-/// Adds 7 once the other waits: who is told to wait has the lock until it does.
+/// Adds 7 once the other waits: who is answered `Wait` has the lock until it does.
 /// Where it doesn't wait in time the 7 is added all the same, so that both end.
 fn add<L: ledger::Ledger, R: Wait + Clock>(
     rt: &R,
@@ -470,7 +470,7 @@ fn refusing<L: ledger::Ledger, R: Wait + Clock>(rt: &R, alloc: Global, blank: Bl
     }
 }
 
-/// What an office says of a step that is refused by a fault of each kind.
+/// How an office refuses a step that is refused by a fault of each kind.
 pub fn refused_steps<R: Wait + Clock>(rt: &R, alloc: Global) -> bool {
     refusing::<Brand, _>(rt, alloc, Blank::new(PARTS))
 }

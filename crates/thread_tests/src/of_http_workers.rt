@@ -25,7 +25,7 @@ const SUBSCRIBE: &str =
 const STREAM: &str =
     "HTTP/1.1 200 OK\r\nContent-Type: application/json\r\nTransfer-Encoding: chunked\r\nMesos-Stream-Id: S1-1\r\n\r\n68\r\n100\n{\"subscribed\":{\"framework_id\":{\"value\":\"F1-1\"},\"heartbeat_interval_seconds\":15},\"type\":\"SUBSCRIBED\"}\r\n0\r\n\r\n";
 
-/// Accepts each call, and gives one event on a stream.
+/// Accepts each call, and returns one event on a stream.
 #[derive(Drop)]
 struct Script {
     calls: u32,
@@ -124,7 +124,7 @@ fn requests_of(alloc: Global, request: &str, count: usize) -> Option<Waiting> {
     Some(Waiting { alloc, requests })
 }
 
-/// Whether each of so many benches came back, and took one call.
+/// Whether each of so many benches was returned, and took one call.
 fn each_took_one_call(benches: &[Script], count: usize) -> bool {
     benches.len() == count && benches.iter().all(|bench| bench.calls == 1)
 }

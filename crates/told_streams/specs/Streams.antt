@@ -13,7 +13,7 @@ kept_ids streams = map (λ s. s.id) streams
 abbrev pub is_kept_as : Numbered → KeptStream → Bool
 is_kept_as id s = same s.id id
 
--- hearing
+-- adding events
 
 abbrev pub hearing : List StreamEvent → KeptStream → KeptStream
 hearing events s = record { id = s.id; waiting = s.waiting ++ told_on s.id events }
@@ -21,7 +21,7 @@ hearing events s = record { id = s.id; waiting = s.waiting ++ told_on s.id event
 abbrev pub opened_stream : Numbered → KeptStream
 opened_stream id = record { id = id; waiting = [] }
 
--- the opened streams stand behind the others, and each has the events on it behind those that wait
+-- the opened streams are after the others, and the events on each are appended to those that wait
 abbrev pub heard : List Numbered → List StreamEvent → List KeptStream → List KeptStream
 heard opened events streams = map (hearing events) (streams ++ map opened_stream opened)
 

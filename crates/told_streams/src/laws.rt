@@ -11,8 +11,7 @@ ghost use Rattle.names_core.specs.Ids.{Numbered};
 ghost use Rattle.told_streams.specs.Kept.{AreWithin, kept_stream, kept_streams, untaken};
 ghost use Rattle.told_streams.specs.Streams.{heard, kept_ids, next_on, stream_kept, taken};
 
-/// What a step of the model makes of its streams is what `hear` and
-/// `take` make of those that are kept of them.
+/// `hear` and `take` change the kept streams as a step of the model changes its own.
 pub fn kept_streams_follow()
     ensures hears { (streams : List Stream) (opens : List Numbered) (told : List StreamEvent)
         → AreWithin streams → kept_streams (streams_after streams opens told)
@@ -24,7 +23,7 @@ pub fn kept_streams_follow()
 {}
 
 /// A stream of the model is found among those that are kept,
-/// and what waits first on it is what a Take hands out.
+/// and the first event that waits on it is the one that a Take returns.
 pub fn kept_streams_are_found()
     ensures streams { (c : Cluster) (id : Numbered)
         → stream_kept id (kept_streams c.streams) ≡ option_map kept_stream (stream_at c id) }
@@ -45,7 +44,7 @@ pub fn no_more_is_taken()
         AreWithin (history setup records steps).state.streams }
 {}
 
-/// The streams that a step opens rise above those that stand.
+/// The ids of the streams that a step opens are in order, and after those of the streams before.
 pub fn opened_streams_rise()
     ensures { (setup : Setup) (records : List Durable) (steps : List Marked) (s : Marked)
         (d : Done) (opens : List Numbered) (told : List StreamEvent)

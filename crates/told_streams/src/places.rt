@@ -54,7 +54,7 @@ fn push_one(streams: &mut Vec<KeptStream>, event: &StreamEvent) -> Result<(), Al
     Ok(())
 }
 
-/// Takes the last event of a stream out again.
+/// Removes an event that was the last to be pushed on its stream.
 fn drop_one(streams: &mut Vec<KeptStream>, event: &StreamEvent)
     requires { AreRising (kept_ids streams.old.items) }
     ensures before { (before : List Kept) → streams.old.items
@@ -66,7 +66,7 @@ fn drop_one(streams: &mut Vec<KeptStream>, event: &StreamEvent)
     }
 }
 
-/// Pushes events on their streams until memory is refused, and tells how many.
+/// Pushes events on their streams until memory is refused, and returns how many were pushed.
 fn push_some(streams: &mut Vec<KeptStream>, alloc: Global, events: &[StreamEvent]) -> usize
     requires { AreRising (kept_ids streams.old.items) }
     ensures bound { result ≤ length events.now }
@@ -80,7 +80,7 @@ fn push_some(streams: &mut Vec<KeptStream>, alloc: Global, events: &[StreamEvent
     events.len()
 }
 
-/// Takes events that were the last to be pushed out again.
+/// Removes events that were the last to be pushed.
 fn drop_all(streams: &mut Vec<KeptStream>, events: &[StreamEvent])
     requires { AreRising (kept_ids streams.old.items) }
     ensures { (before : List Kept) → streams.old.items ≡ map (hearing events.now) before

@@ -48,8 +48,8 @@ impl Streams {
         }
     }
 
-    /// Opens streams behind the others, and adds each event to those that wait on its stream; an
-    /// event on a stream that was never opened is heard by nobody. An `AllocError` changes nothing.
+    /// Opens streams after the others, and appends each event to those that wait on its stream; an
+    /// event on a stream that was never opened is dropped. An `AllocError` changes nothing.
     pub fn hear(
         &mut self,
         alloc: Global,
@@ -85,7 +85,7 @@ impl Streams {
         Some(stream_at(&self.streams, id)?.waiting.len())
     }
 
-    /// Takes the first event that waits on a stream out; none where the stream was never opened,
+    /// Removes and returns the first event that waits on a stream; none where it was never opened,
     /// or nothing waits. It takes no memory.
     pub fn take(&mut self, id: StreamId) -> Option<Event>
         ensures event { result ≡ next_on id self.old }

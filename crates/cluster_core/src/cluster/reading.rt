@@ -45,7 +45,7 @@ impl<P: Post + Drop> Cluster<P> {
 }
 
 impl Cluster<Queues> {
-    /// The number of the first mail to an agent that wasn't handed out, None where there is none.
+    /// The number of the first mail to an agent that wasn't delivered, None where there is none.
     pub fn first_mail(&self, agent: &AgentName) -> Option<u64>
         ensures first { IfSome result
             (IsNextTo agent.now (state_of self.now.story) self.now.post.items) }
@@ -61,7 +61,7 @@ impl Cluster<Queues> {
             .first_waiting(Direction::ToAgent(place))
     }
 
-    /// The number of the first mail from an agent to the master that wasn't handed out,
+    /// The number of the first mail from an agent to the master that wasn't delivered,
     /// None where there is none.
     pub fn first_mail_from(&self, agent: &AgentName) -> Option<u64>
         ensures first { IfSome result

@@ -56,11 +56,10 @@ impl<C: Recorded, L: ledger::Ledger> Desk<C, L> {
         SeatedHistory { recorded, seats }
     }
 
-    /// Closes the desk over the passes that are handed in: for each the entries of its seat are its
-    /// receipts, each once and in order. It takes time in the number of the receipts. Refusal: O1,
-    /// where the receipts of a pass aren't its seat's entries; the desk and the passes come back as
-    /// they were. Either way there are at least as many entries as the passes have receipts
-    /// together.
+    /// Closes the desk over these passes: for each the entries of its seat are its receipts, each
+    /// once and in order. It takes time in the number of the receipts. Refusal: O1, where the
+    /// receipts of a pass aren't its seat's entries; the desk and the passes are returned as they
+    /// were. Either way there are at least as many entries as the passes have receipts together.
     pub fn close(
         self,
         passes: Passes<C::Entry, L>,

@@ -14,7 +14,7 @@ pub struct Receipt<E> {
     pub entry: E,
 }
 
-/// The receipt of a step that was answered, and what is given with it and stands in no pass.
+/// The receipt of a step that was answered, and what is returned with it and is in no pass.
 #[derive(Drop)]
 pub struct Answered<E, G> {
     pub receipt: Receipt<E>,

@@ -1,4 +1,4 @@
-//! The passes that are handed in at a close.
+//! The passes over which a desk is closed.
 
 ghost use Rattle.std.specs.Prelude.{◌≡◌, ◌+◌, ◌++◌, ◌∷◌, [], IfErr, OnOk, OnErr, length, option_map, option_to_list, unwrap_or};
 ghost use Rattle.desk_seats.specs.Receipts.{PassState};
@@ -9,7 +9,7 @@ use std::marker::Model;
 use std::sync::ledger;
 use std::sync::ledger::Share;
 
-/// Passes that are handed in. Their shares of the count are put together,
+/// Passes over which a desk is closed. Their shares of the count are merged,
 /// so that they can be compared with its total.
 #[derive(Drop)]
 pub struct Passes<E, L: ledger::Ledger> {
@@ -62,7 +62,7 @@ impl<E, L: ledger::Ledger> Passes<E, L> {
         self.slips.len()
     }
 
-    /// Hands in one more. Without memory it comes back.
+    /// Adds one more. Where memory is refused it is returned.
     pub fn push(&mut self, pass: Pass<E, L>) -> Result<(), AllocFailed<Pass<E, L>>>
         ensures pushed { OnOk result (self.new ≡ self.old ++ pass ∷ []) }
         ensures unchanged { OnErr result (self.new ≡ self.old) }
@@ -77,7 +77,7 @@ impl<E, L: ledger::Ledger> Passes<E, L> {
         Ok(())
     }
 
-    /// Takes back the one that was handed in last.
+    /// Removes the one that was added last, and returns it.
     pub fn pop(&mut self) -> Option<Pass<E, L>>
         ensures { self.old ≡ self.new ++ option_to_list result }
     {
