@@ -9,7 +9,7 @@ use mails::{Durable, RecordedTask};
 use names_core::{AgentName, LaunchKey};
 use plain_data::Plain;
 use quantity::Resources;
-use recorded_tasks::{is_before, room_beside};
+use recorded_tasks::room_beside;
 use shared_value::Shared;
 use std::alloc::{AllocError, Global};
 use std::marker::Model;
@@ -57,7 +57,7 @@ fn is_behind(last: Option<LaunchKey>, key: LaunchKey) -> bool
 {
     match last {
         None => true,
-        Some(last) => is_before(last, key),
+        Some(last) => last < key,
     }
 }
 

@@ -8,7 +8,7 @@ ghost use Rattle.agent_core.specs.Spared.{command_spares, spares};
 
 use crate::state::State;
 use mails::{Cause, Command, MasterMail, RecordedTask};
-use recorded_tasks::{is_of_key, is_same_framework};
+use recorded_tasks::is_of_key;
 use shared_value::Shared;
 
 /// Whether a command names neither a task nor its framework.
@@ -18,7 +18,7 @@ fn command_spares(command: &Command, task: &RecordedTask) -> bool
     match command {
         Command::Launch(..) => true,
         Command::Kill(key) | Command::Ack(key, _) => !is_of_key(*key, task),
-        Command::EndFramework(framework) => !is_same_framework(task.job.framework, *framework),
+        Command::EndFramework(framework) => task.job.framework != *framework,
     }
 }
 

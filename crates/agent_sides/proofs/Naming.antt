@@ -12,10 +12,6 @@ use Rattle.cluster_model.specs.Ids.{bytes_before}
 use Rattle.agent_sides.specs.Configs.{are_ordered, has_name, names_of, place_for, with_agent}
 use Rattle.agent_sides.specs.declared.config.ConfiguredAgent.{ConfiguredAgent}
 
--- the order of texts is the byte order
-pub before_text : (xs ys : List ℕ) (o : Ordering) → o ≡ slice_cmp nat_cmp xs ys → is_lt o ≡ bytes_before xs ys
-before_text = same_from_slice_cmp nat_cmp is_lt bytes_before refl (λ _ _. refl) (λ _ _. refl) (λ x y xs ys o h. grind (arith, nat_tests))
-
 pub both_true : (x y : Bool) → (x && y) ≡ true → (x ≡ true) × (y ≡ true)
 both_true true y e = (refl, e)
 both_true false y e = absurd cc

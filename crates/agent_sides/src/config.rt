@@ -1,7 +1,6 @@
 //! The configuration: which agents there are.
 
 ghost use Rattle.std.specs.Prelude.{◌≡◌, ◌≤◌, ◌<◌, [], true, false, length, nat_le, OnOk, OnErr, IfErr};
-ghost use Rattle.cluster_model.specs.Ids.{bytes_before};
 ghost use Rattle.agent_sides.specs.Configs.{IsConfigRefusal, are_ordered, has_name, most_agents, names_of, place_for, with_agent};
 ghost use Rattle.agent_sides.specs.declared.config.ConfigFault.TheVariants.{OutOfMemory};
 
@@ -76,19 +75,13 @@ impl Model for Config {
         × (length config.agents.items ≤ most_agents) };
 }
 
-fn is_before(name: &AgentName, other: &AgentName) -> bool
-    ensures { result ≡ bytes_before name.now other.now }
-{
-    name.as_text().cmp(other.as_text()).is_lt()
-}
-
 fn place_for(agents: &[ConfiguredAgent], name: &AgentName) -> usize
     ensures place { result ≡ place_for name.now agents.now }
     ensures within { result ≤ length agents.now }
 {
     let mut place = 0;
     for agent in agents {
-        if !is_before(&agent.name, name) {
+        if !agent.name.is_before(name) {
             return place;
         }
         place += 1;

@@ -97,13 +97,13 @@ fn is_last(task: &Booked, k: u32) -> bool
 fn is_key(task: &Booked, key: LaunchKey) -> bool
     ensures { result ≡ same task.now.job.key key }
 {
-    task.job.key.number() == key.number() && task.job.key.run() == key.run()
+    task.job.key == key
 }
 
 fn is_framework(task: &Booked, framework: FrameworkId) -> bool
     ensures { result ≡ same task.now.job.framework framework }
 {
-    task.job.framework.number() == framework.number() && task.job.framework.run() == framework.run()
+    task.job.framework == framework
 }
 
 fn is_heard_last(

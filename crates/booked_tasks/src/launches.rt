@@ -7,8 +7,6 @@ ghost use Rattle.mails.specs.declared.task.Booked.{Booked};
 ghost use Rattle.booked_tasks.specs.Tasks.{has_key};
 ghost use Rattle.booked_tasks.specs.Launches.{HasAllBut, HasOthers, HasTasks, HasTasksIfKnown, is_task_of, keys_of};
 
-use crate::ids::is_same_launch;
-use id_spans::is_before;
 use mails::Booked;
 use names_core::{FrameworkId, LaunchKey};
 use std::alloc::{AllocError, Global};
@@ -26,11 +24,11 @@ fn place_of(keys: &[LaunchKey], key: LaunchKey) -> Option<usize>
     ensures { IfSome result (λ place. (place < length keys.now)
         × (same (slice_index_or keys.now place key) key ≡ true)) }
 {
-    let place = keys.partition_point(|other| is_before(other, &key));
-    if place < keys.len() && is_same_launch(keys[place], key) {
+    let place = keys.partition_point(|other| *other < key);
+    if place < keys.len() && keys[place] == key {
         return Some(place);
     }
-    keys.iter().position(|other| is_same_launch(*other, key))
+    keys.iter().position(|other| *other == key)
 }
 
 fn take_out(keys: &mut Vec<LaunchKey>, key: LaunchKey)

@@ -2,10 +2,8 @@
 //! and what an update and an applied command make of them.
 #![tactic(auto)]
 
-mod ids;
 mod launches;
 mod tasks;
 mod used;
 
-pub use ids::{is_same_framework, is_same_launch};
 pub use tasks::{Heard, Tasks};

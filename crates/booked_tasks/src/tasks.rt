@@ -9,7 +9,6 @@ ghost use Rattle.booked_tasks.specs.Tasks.{has_tasks_of, has_key, key_of, ended,
 ghost use Rattle.booked_tasks.specs.Used.{IsSum};
 ghost use Rattle.booked_tasks.specs.Launches.{AreKeys, HasTasksIfKnown, has_launched, is_task_of, tasks_of};
 
-use crate::ids::{is_same_framework, is_same_launch};
 use crate::launches::{self, Launches};
 use crate::used;
 use id_spans::{Span, are_rising, goes_on_rising, span_of};
@@ -64,7 +63,7 @@ impl Model for Tasks {
 fn has_key(task: &Booked, key: LaunchKey) -> bool
     ensures { result ≡ has_key key task.now }
 {
-    is_same_launch(task.job.key, key)
+    task.job.key == key
 }
 
 fn has_tasks_of(tasks: &[Booked], framework: FrameworkId) -> bool
@@ -72,7 +71,7 @@ fn has_tasks_of(tasks: &[Booked], framework: FrameworkId) -> bool
 {
     tasks
         .iter()
-        .any(|task| is_same_framework(task.job.framework, framework))
+        .any(|task| task.job.framework == framework)
 }
 
 fn find_in(tasks: &[Booked], key: LaunchKey) -> Option<&Booked>
@@ -90,7 +89,7 @@ fn is_booked(tasks: &[Booked], key: LaunchKey) -> bool
 fn end_one(task: &mut Booked, key: LaunchKey)
     ensures { task.new ≡ ended key task.old }
 {
-    if is_same_launch(task.job.key, key) {
+    if task.job.key == key {
         task.ended = true;
     }
 }
@@ -120,7 +119,7 @@ fn hear_one(task: &mut Booked, update: &Heard)
     ensures { task.new ≡ heard_update update.now.key update.now.k update.now.state update.now.ended
         task.old }
 {
-    if is_same_launch(task.job.key, update.key) {
+    if task.job.key == update.key {
         let count = update.k + 1;
         if update.ended {
             task.ended = true;
@@ -236,7 +235,7 @@ fn forget_key(
 fn take_out_of(tasks: &mut Vec<Booked>, framework: FrameworkId)
     ensures { tasks.new.items ≡ filter (λ b. not (is_task_of framework b)) tasks.old.items }
 {
-    tasks.retain(|task| !is_same_framework(task.job.framework, framework));
+    tasks.retain(|task| task.job.framework != framework);
 }
 
 /// Removes the tasks of a framework, and their launches.
@@ -298,7 +297,7 @@ fn forget_all(
 fn has_launched(task: &Booked, framework: FrameworkId, key: LaunchKey) -> bool
     ensures { result ≡ has_launched framework key task.now }
 {
-    is_same_launch(task.job.key, key) && is_same_framework(task.job.framework, framework)
+    task.job.key == key && task.job.framework == framework
 }
 
 fn any_launched(tasks: &[Booked], framework: FrameworkId, key: LaunchKey) -> bool
@@ -334,7 +333,7 @@ fn all_of(
 {
     let mut found = Vec::new(alloc);
     for task in tasks {
-        if is_same_framework(task.job.framework, framework) {
+        if task.job.framework == framework {
             found.push(task)?;
         }
     }

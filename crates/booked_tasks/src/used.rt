@@ -10,7 +10,6 @@ ghost use Rattle.id_spans.specs.Spans.{IsSpan};
 ghost use Rattle.booked_tasks.specs.Tasks.{has_key, ended};
 ghost use Rattle.booked_tasks.specs.Used.{unended_rows, freed_rows, ends_framework, IsSumIfKnown};
 
-use crate::ids::is_same_launch;
 use crate::tasks::Heard;
 use id_spans::Span;
 use mails::{Booked, Command};
@@ -76,7 +75,7 @@ pub(crate) fn sum_with(
 fn give_back_one(sum: &mut Resources, task: &Booked, key: LaunchKey)
     ensures { IsMinus sum.new sum.old (freed_rows key task.now) }
 {
-    if !task.ended && is_same_launch(task.job.key, key) {
+    if !task.ended && task.job.key == key {
         sum.reduce_by(&task.job.resources);
     }
 }

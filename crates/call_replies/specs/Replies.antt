@@ -18,7 +18,7 @@ use Rattle.master_state.specs.States.{fresh}
 use Rattle.master_state.specs.Works.{master_of}
 use Rattle.scheduler_events.specs.declared.stream_event.StreamEvent.{StreamEvent}
 use Rattle.master_core.specs.Steps.{outs_of}
-use Rattle.master_core.specs.Texts as master_texts
+use Rattle.mails.specs.Refusals.{master_refusal_text}
 
 -- the framework that a call is of, where it has an id
 abbrev pub framework_of_call : Call → Option Numbered
@@ -59,7 +59,7 @@ abbrev pub reply_by : Master → Doing → Option MasterRefusal → Reply
 reply_by m d None =
     record { events = map event_in (outs_of m d).events; after = Some (after_doing m d) }
 reply_by m d (Some refusal) =
-    record { events = Error (master_texts.refusal_text refusal) ∷ []; after = Some m }
+    record { events = Error (master_refusal_text refusal) ∷ []; after = Some m }
 
 abbrev pub answered : Master → Doing → Reply
 answered m d = reply_by m d d.refusal

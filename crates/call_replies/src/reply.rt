@@ -7,7 +7,6 @@ ghost use Rattle.frame_record.specs.Firsts.{bodies};
 ghost use Rattle.call_json.specs.Calls.{read_call};
 ghost use Rattle.call_members.specs.Texts as call_texts;
 ghost use Rattle.scheduler_events.specs.declared.event.Event.TheVariants.{Error};
-ghost use Rattle.master_core.specs.Texts as master_texts;
 ghost use Rattle.call_replies.specs.Replies.{after_all, event_in, frame, frames, framework_of_call, replies, reply, stream_given};
 
 use crate::fault::Stop;
@@ -15,7 +14,7 @@ use call_json::{Call, CallFault, read_call};
 use device_io::put;
 use event_json::write_event;
 use frame_record::{FrameFault, encode};
-use master_core::{Master, MasterFault, refusal_text};
+use master_core::{Master, MasterFault};
 use names_core::{FrameworkId, StreamId};
 use scheduler_events::{Event, Message, StreamEvent};
 use std::alloc::Global;
@@ -93,7 +92,7 @@ fn answer(alloc: Global, master: &mut Master, call: Call) -> Result<Vec<u8>, Sto
     let given = stream_given(master, &call);
     match master.call(alloc, given, call) {
         Ok(outs) => event_frames(alloc, outs.events.as_slice()),
-        Err(MasterFault::Refused(refusal)) => error_frame(alloc, refusal_text(refusal)),
+        Err(MasterFault::Refused(refusal)) => error_frame(alloc, refusal.as_text()),
         Err(MasterFault::OutOfMemory) => Err(Stop::MasterMemory),
     }
 }

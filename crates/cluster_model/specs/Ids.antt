@@ -2,6 +2,7 @@
 use Rattle.std.specs.Prelude.{ℕ, suc, Bool, true, false, not, ◌&&◌, ◌||◌, ◌==◌, nat_lt, List, [], ◌∷◌, filter}
 use Rattle.std.specs.List.{list_any}
 use Rattle.names_core.specs.Ids.{Numbered, same}
+pub use Rattle.names_core.specs.Names.{bytes_before}
 
 -- the first number of a run
 abbrev pub first_of_run : ℕ → Numbered
@@ -23,12 +24,6 @@ each_once (id ∷ ids) = id ∷ filter (λ other. not (same id other)) (each_onc
 abbrev pub is_repeated : List Numbered → Bool
 is_repeated [] = false
 is_repeated (id ∷ ids) = is_among ids id || is_repeated ids
-
--- byte order
-abbrev pub bytes_before : List ℕ → List ℕ → Bool
-bytes_before xs [] = false
-bytes_before [] (y ∷ ys) = true
-bytes_before (x ∷ xs) (y ∷ ys) = nat_lt x y || (x == y && bytes_before xs ys)
 
 abbrev pub is_empty : {A : Type 0} → List A → Bool
 is_empty [] = true

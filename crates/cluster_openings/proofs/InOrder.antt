@@ -8,7 +8,8 @@ use Rattle.std.specs.Cmp.Lexicographic.{bytes_decides, slice_cmp}
 use Rattle.std.proofs.lemmas.Cmp.{nat_list_cmp_total}
 use Rattle.std.proofs.lemmas.List.Sorted.{Contains-permutation, IsPermutation-sym, ranks_by, sorted_far}
 use Rattle.mails.specs.declared.record.Durable.{Durable}
-use Rattle.agent_sides.proofs.Naming.{before_text, else_after}
+use Rattle.agent_sides.proofs.Naming.{else_after}
+use Rattle.names_core.proofs.Order.{before_text}
 use Rattle.agent_sides.specs.Configs.{are_ordered, names_of}
 use Rattle.agent_sides.specs.declared.config.ConfiguredAgent.{ConfiguredAgent}
 use Rattle.cluster_model.specs.Ids.{bytes_before}

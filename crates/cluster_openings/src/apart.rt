@@ -2,19 +2,11 @@
 
 ghost use Rattle.std.specs.Prelude.{◌≡◌, true};
 ghost use Rattle.agent_core.specs.Records.{keys_rise};
-ghost use Rattle.names_core.specs.Ids.{before};
 ghost use Rattle.cluster_openings.specs.Openable.{are_keys_apart, are_keys_new, share_key};
 
 use agent_core::Record;
 use mails::RecordedTask;
-use names_core::LaunchKey;
 use shared_value::Shared;
-
-fn is_before(key: LaunchKey, other: LaunchKey) -> bool
-    ensures { result ≡ before key other }
-{
-    key.run() < other.run() || (key.run() == other.run() && key.number() < other.number())
-}
 
 /// Whether a launch key stands in both of two lists of tasks, in which keys rise.
 /// It goes over each once.
@@ -28,9 +20,9 @@ fn share_key(one: &[Shared<RecordedTask>], other: &[Shared<RecordedTask>]) -> bo
         let Some((its, others)) = right.split_first() else {
             return false;
         };
-        if is_before(task.job.key, its.job.key) {
+        if task.job.key < its.job.key {
             left = tasks;
-        } else if is_before(its.job.key, task.job.key) {
+        } else if its.job.key < task.job.key {
             right = others;
         } else {
             return true;

@@ -10,7 +10,7 @@ ghost use Rattle.current_offers.specs.Offers.{IsOffered, has_offer, are_good, is
 ghost use Rattle.current_offers.specs.Withdrawals.{is_withdrawn};
 ghost use Rattle.current_offers.specs.declared.offers.Withdrawn.TheVariants.{Named};
 
-use crate::ids::{is_among, is_repeated, is_same_offer};
+use crate::ids::is_repeated;
 use crate::offered;
 use id_spans::{Span, goes_on_rising, span_of};
 use mails::Offer;
@@ -67,32 +67,30 @@ pub(crate) enum Withdrawn {
 fn is_of(offer: &Offer, framework: FrameworkId) -> bool
     ensures { result ≡ is_of framework offer.now }
 {
-    offer.framework.number() == framework.number() && offer.framework.run() == framework.run()
+    offer.framework == framework
 }
 
 /// Whether an offer is one to this framework and has one of these ids.
 pub fn is_named(offer: &Offer, framework: FrameworkId, ids: &[OfferId]) -> bool
     ensures { result ≡ is_named framework ids.now offer.now }
 {
-    is_of(offer, framework) && is_among(ids, offer.id)
+    is_of(offer, framework) && ids.contains(&offer.id)
 }
 
 fn is_withdrawn(offer: &Offer, withdrawn: &Withdrawn) -> bool
     ensures { result ≡ is_withdrawn withdrawn.now offer.now }
 {
     match withdrawn {
-        Withdrawn::WithId(id) => is_same_offer(offer.id, *id),
+        Withdrawn::WithId(id) => offer.id == *id,
         Withdrawn::Of(framework) => is_of(offer, *framework),
-        Withdrawn::Named(framework, id) => {
-            is_of(offer, *framework) && is_same_offer(offer.id, *id)
-        }
+        Withdrawn::Named(framework, id) => is_of(offer, *framework) && offer.id == *id,
     }
 }
 
 fn has_offer(offers: &[Offer], framework: FrameworkId, id: OfferId) -> bool
     ensures { result ≡ has_offer offers.now framework id }
 {
-    offers.iter().any(|offer| is_of(offer, framework) && is_same_offer(offer.id, id))
+    offers.iter().any(|offer| is_of(offer, framework) && offer.id == id)
 }
 
 fn has_all(offers: &[Offer], framework: FrameworkId, ids: &[OfferId]) -> bool
@@ -104,13 +102,13 @@ fn has_all(offers: &[Offer], framework: FrameworkId, ids: &[OfferId]) -> bool
 fn find_in(offers: &[Offer], id: OfferId) -> Option<&Offer>
     ensures { option_copied result ≡ find (is_offered_as id) offers.now }
 {
-    offers.iter().find(|offer| is_same_offer(offer.id, id))
+    offers.iter().find(|offer| offer.id == id)
 }
 
 fn is_offered(offers: &[Offer], id: OfferId) -> bool
     ensures { result ≡ list_any (is_offered_as id) offers.now }
 {
-    offers.iter().any(|offer| is_same_offer(offer.id, id))
+    offers.iter().any(|offer| offer.id == id)
 }
 
 impl Offers {

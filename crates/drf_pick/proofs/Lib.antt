@@ -1,7 +1,6 @@
 pub mod PlacesKept
 pub mod Orders
 pub mod Standing
-pub mod Names
 pub mod Places
 pub mod Picks
 pub mod Once

@@ -20,7 +20,7 @@ use Rattle.drf_pick.specs.Shares.{AreWeighed}
 use Rattle.drf_pick.specs.Laws.{ArePositive, PicksLeast, Weighed}
 use Rattle.drf_pick.proofs.Orders.{comes_first, first_preorder}
 use Rattle.drf_pick.proofs.Standing.{standing_is_order}
-use Rattle.drf_pick.proofs.Names.{before_text}
+use Rattle.names_core.proofs.Order.{before_text}
 
 -- ids
 

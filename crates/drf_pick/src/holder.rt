@@ -1,7 +1,6 @@
 //! Frameworks and roles, with what they hold.
 
 ghost use Rattle.std.specs.Prelude.{◌≡◌};
-ghost use Rattle.names_core.specs.Ids.{before};
 ghost use Rattle.drf_pick.specs.Shares.{is_holder, is_role, holder_of, role_sum_of};
 
 use names_core::{FrameworkId, RoleName};
@@ -46,7 +45,7 @@ impl Holder {
     pub(crate) fn is_of(&self, framework: FrameworkId) -> bool
         ensures { result ≡ is_holder framework self.now }
     {
-        self.framework.number() == framework.number() && self.framework.run() == framework.run()
+        self.framework == framework
     }
 }
 
@@ -66,11 +65,4 @@ impl RoleSum {
     {
         self.role.is(role)
     }
-}
-
-/// Ids stand by run, and then by number.
-pub(crate) fn is_before(id: FrameworkId, other: FrameworkId) -> bool
-    ensures { result ≡ before id other }
-{
-    id.run() < other.run() || (id.run() == other.run() && id.number() < other.number())
 }

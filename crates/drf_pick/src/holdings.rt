@@ -8,7 +8,7 @@ ghost use Rattle.drf_pick.specs.Shares.{AreUpTo, Holder, HoldersOnce, emptied, r
 ghost use Rattle.drf_pick.specs.Renewing.{AreNothing, HoldNothingBut};
 ghost use Rattle.share_sums.specs.Lists.{Among};
 
-use crate::holder::{Holder, is_before};
+use crate::holder::Holder;
 use crate::roles::Roles;
 use names_core::{FrameworkId, RoleName};
 use plain_data::Plain;
@@ -55,7 +55,7 @@ fn holder_place(holders: &[Holder], framework: FrameworkId) -> Option<usize>
     requires { HoldersOnce holders.now }
     ensures { result ≡ position (is_holder framework) holders.now }
 {
-    let place = holders.partition_point(|holder| is_before(holder.framework, framework));
+    let place = holders.partition_point(|holder| holder.framework < framework);
     if place < holders.len() && holders[place].is_of(framework) {
         return Some(place);
     }
@@ -68,7 +68,7 @@ fn is_behind(last: Option<FrameworkId>, framework: FrameworkId) -> bool
 {
     match last {
         None => true,
-        Some(last) => is_before(last, framework),
+        Some(last) => last < framework,
     }
 }
 
@@ -111,7 +111,7 @@ fn later(last: Option<FrameworkId>, framework: FrameworkId) -> FrameworkId
     let Some(last) = last else {
         return framework;
     };
-    if is_before(last, framework) {
+    if last < framework {
         framework
     } else {
         last

@@ -3,7 +3,6 @@
 ghost use Rattle.std.specs.Prelude.{◌≡◌, [], None, fold, IfNone, IfSome, bytes_eq};
 ghost use Rattle.std.specs.List.{position};
 ghost use Rattle.std.specs.Option.{option_copied};
-ghost use Rattle.cluster_model.specs.Ids.{bytes_before};
 ghost use Rattle.share_sums.specs.Dominant.{IsDominant};
 ghost use Rattle.drf_pick.specs.Laws.{ArePositive};
 ghost use Rattle.drf_pick.specs.Shares.{AreWeighed, is_role};
@@ -11,16 +10,10 @@ ghost use Rattle.drf_pick.specs.Least.{IsPicked, better_client, comes_before, co
 ghost use Rattle.drf_pick.specs.ClientShares.{IsRoleShare, IsClientShare};
 
 use crate::client_share::{ClientShare, RoleShare};
-use crate::holder::{Client, is_before};
+use crate::holder::Client;
 use crate::shares::Shares;
 use names_core::{FrameworkId, RoleName};
 use share_sums::Fraction;
-
-fn is_name_before(name: &RoleName, other: &RoleName) -> bool
-    ensures { result ≡ bytes_before name.now other.now }
-{
-    name.as_text().cmp(other.as_text()).is_lt()
-}
 
 /// Whether the first framework is served rather than the second, which is of the same role.
 fn comes_within_role(
@@ -35,7 +28,7 @@ fn comes_within_role(
     ensures { result ≡ comes_within_role shares.now first second }
 {
     let _ordered = shares.holdings.totals().rows();
-    one.is_at_most(1, other, 1) && (!other.is_at_most(1, one, 1) || is_before(first, second))
+    one.is_at_most(1, other, 1) && (!other.is_at_most(1, one, 1) || first < second)
 }
 
 /// Whether the frameworks of the first role are served rather than those of the second,
@@ -57,7 +50,7 @@ fn comes_by_role(
         && (!other
             .fraction
             .is_at_most(other.weight, one.fraction, one.weight)
-            || is_name_before(first, second))
+            || first.is_before(second))
 }
 
 /// Whether two roles are one, where each has its place among these if it is known.

@@ -11,7 +11,8 @@ use Rattle.cluster_entries.specs.declared.entry.Outputs.{Outputs}
 use Rattle.cluster_entries.specs.declared.entry.Entry.{Entry}
 use Rattle.cluster_steps.specs.declared.step.Step.{Step}
 use Rattle.cluster_steps.specs.declared.fault.ClusterFault.{ClusterFault}
-use Rattle.entry_lines.specs.Words.{step_word, verdict_text, fault_text}
+use Rattle.entry_lines.specs.Words.{step_word, verdict_text}
+use Rattle.cluster_steps.specs.Faults.{fault_text}
 
 unfoldable pub line : List ℕ → List ℕ → List ℕ
 line front body = front ++ (body ++ 10 ∷ [])

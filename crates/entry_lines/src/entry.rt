@@ -5,7 +5,7 @@ ghost use Rattle.std.specs.List.{flat_map};
 ghost use Rattle.entry_lines.specs.Lines.{closed_line, entry_text, event_line, line, number_front, opening_text, outputs_text, refused_text, sent_line, sent_lines, taken_lines};
 
 use crate::line::{event_front, mail_front, number_front, push_line};
-use crate::words::{fault_text, step_word, verdict_text};
+use crate::words::{step_word, verdict_text};
 use cluster_entries::{Entry, Outputs};
 use cluster_steps::{ClusterFault, Sent, Step};
 use event_json::write_event;
@@ -176,5 +176,5 @@ pub fn opening_text(alloc: Global, sent: &[Sent]) -> Result<Vec<u8>, AllocError>
 pub fn refused_text(alloc: Global, number: u64, fault: ClusterFault) -> Result<Vec<u8>, AllocError>
     ensures { IfOk result (λ text. text.items ≡ refused_text number fault) }
 {
-    numbered_line(alloc, number, fault_text(fault))
+    numbered_line(alloc, number, fault.as_text())
 }

@@ -15,6 +15,6 @@ mod told;
 pub use edit::is_due;
 pub use filters::refuses;
 pub use laws::puts_are_changes;
-pub use look::{is_before, place_in};
+pub use look::place_in;
 pub use starts::Starts;
 pub use table::Frameworks;

@@ -2,7 +2,7 @@
 
 ghost use Rattle.std.specs.Prelude.{◌≡◌, ◌≤◌, true, length, option_map, IsTrue};
 ghost use Rattle.std.specs.List.{position};
-ghost use Rattle.names_core.specs.Ids.{before, same};
+ghost use Rattle.names_core.specs.Ids.{same};
 ghost use Rattle.frameworks.specs.Frameworks.{are_ordered, is_at, place_of, with_id, AreOfOneRole, HaveRole};
 ghost use Rattle.frameworks.specs.OpenStreams.{open_stream};
 ghost use Rattle.frameworks.specs.Told.{clients_of};
@@ -12,20 +12,13 @@ ghost use Rattle.mails.specs.declared.framework.Framework as model;
 use mails::Framework;
 use names_core::{FrameworkId, RoleName, StreamId};
 
-/// Ids stand by run, and then by number.
-pub fn is_before(id: FrameworkId, other: FrameworkId) -> bool
-    ensures { result ≡ before id other }
-{
-    id.run() < other.run() || (id.run() == other.run() && id.number() < other.number())
-}
-
 /// How many frameworks of the first stand before an id, found by halving.
 pub fn place_in(frameworks: &[Framework], id: FrameworkId) -> usize
     requires { are_ordered frameworks.now ≡ true }
     ensures place { result ≡ place_of id frameworks.now }
     ensures within { result ≤ length frameworks.now }
 {
-    frameworks.partition_point(|framework| is_before(framework.id, id))
+    frameworks.partition_point(|framework| framework.id < id)
 }
 
 /// Whether this framework's id is at a place.

@@ -2,6 +2,7 @@
 use Rattle.std.specs.Prelude.{ℕ, List, codes}
 use Rattle.mails.specs.declared.refusal.MasterRefusal.{MasterRefusal}
 use Rattle.mails.specs.declared.refusal.MasterRefusal.TheVariants as master
+use Rattle.mails.specs.Refusals.{master_refusal_text}
 use Rattle.call_members.specs.declared.fault.CallFault.{CallFault}
 use Rattle.call_members.specs.declared.fault.CallFault.TheVariants as calls
 use Rattle.call_members.specs.Texts.{fault_text}
@@ -14,16 +15,6 @@ use Rattle.http_door.specs.declared.refusal.BenchFault.TheVariants as faults
 use Rattle.http_door.specs.declared.refusal.Refusal.{Refusal}
 use Rattle.http_door.specs.declared.refusal.Refusal.TheVariants.{Request, Call, Bench}
 
-unfoldable pub master_text : MasterRefusal → List ℕ
-master_text master.OtherRun = codes "G1 OtherRun"
-master_text master.OldSession = codes "G2 OldSession"
-master_text master.Closed = codes "G3 Closed"
-master_text master.NotOpen = codes "G4 NotOpen"
-master_text master.NotSubscribed = codes "M1 NotSubscribed"
-master_text master.WrongStream = codes "M2 WrongStream"
-master_text master.NoSuchFramework = codes "M3 NoSuchFramework"
-master_text master.LimitExceeded = codes "M4 LimitExceeded"
-
 abbrev pub master_status : MasterRefusal → Status
 master_status master.OtherRun = ServiceUnavailable
 master_status master.OldSession = ServiceUnavailable
@@ -35,7 +26,7 @@ master_status master.NoSuchFramework = BadRequest
 master_status master.LimitExceeded = ServiceUnavailable
 
 unfoldable pub bench_text : BenchFault → List ℕ
-bench_text (faults.Master refusal) = master_text refusal
+bench_text (faults.Master refusal) = master_refusal_text refusal
 bench_text faults.MasterOutOfMemory = codes "M5 OutOfMemory"
 bench_text faults.MasterDown = codes "C2 MasterDown"
 bench_text faults.HistoryFull = codes "C6 HistoryFull"

@@ -1,7 +1,7 @@
 //! Why a request is refused.
 
 ghost use Rattle.std.specs.Prelude.{◌≡◌};
-ghost use Rattle.http_door.specs.Refusals.{master_text, master_status, bench_text, bench_status, refusal_text, refusal_status};
+ghost use Rattle.http_door.specs.Refusals.{master_status, bench_text, bench_status, refusal_text, refusal_status};
 
 use call_members::CallFault;
 use http_head::RequestFault;
@@ -40,22 +40,6 @@ pub enum Refusal {
     Bench(BenchFault),
 }
 
-#[tactic(auto, unfolding(crate::specs::Refusals::master_text))]
-fn master_text(refusal: MasterRefusal) -> &'static str
-    ensures { result.now ≡ master_text refusal }
-{
-    match refusal {
-        MasterRefusal::OtherRun => "G1 OtherRun",
-        MasterRefusal::OldSession => "G2 OldSession",
-        MasterRefusal::Closed => "G3 Closed",
-        MasterRefusal::NotOpen => "G4 NotOpen",
-        MasterRefusal::NotSubscribed => "M1 NotSubscribed",
-        MasterRefusal::WrongStream => "M2 WrongStream",
-        MasterRefusal::NoSuchFramework => "M3 NoSuchFramework",
-        MasterRefusal::LimitExceeded => "M4 LimitExceeded",
-    }
-}
-
 fn master_status(refusal: MasterRefusal) -> Status
     ensures { result ≡ master_status refusal }
 {
@@ -78,7 +62,7 @@ impl BenchFault {
         ensures { result.now ≡ bench_text self }
     {
         match self {
-            BenchFault::Master(refusal) => master_text(refusal),
+            BenchFault::Master(refusal) => refusal.as_text(),
             BenchFault::MasterOutOfMemory => "M5 OutOfMemory",
             BenchFault::MasterDown => "C2 MasterDown",
             BenchFault::HistoryFull => "C6 HistoryFull",

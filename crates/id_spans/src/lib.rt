@@ -5,5 +5,5 @@
 mod has_id;
 mod span;
 
-pub use has_id::{HasId, is_before};
+pub use has_id::HasId;
 pub use span::{Span, are_rising, goes_on_rising, span_of};

@@ -25,29 +25,16 @@ pub struct Refuser {
     pub seconds: u32,
 }
 
-fn is_same(id: OfferId, other: OfferId) -> bool
-    ensures { result ≡ same id other }
-{
-    id.number() == other.number() && id.run() == other.run()
-}
-
 fn is_among(ids: &[OfferId], id: OfferId) -> bool
     ensures { result ≡ is_among ids.now id }
 {
-    for other in ids {
-        if is_same(*other, id) {
-            return true;
-        }
-    }
-    false
+    ids.contains(&id)
 }
 
 fn is_own(offer: &Offer, framework: FrameworkId, id: OfferId) -> bool
     ensures { result ≡ (is_of framework offer.now && same offer.now.id id) }
 {
-    offer.framework.number() == framework.number()
-        && offer.framework.run() == framework.run()
-        && is_same(offer.id, id)
+    offer.framework == framework && offer.id == id
 }
 
 fn refuse_if_own(

@@ -91,9 +91,7 @@ fn reconcile_each(
 fn is_live(task: &Booked, framework: FrameworkId) -> bool
     ensures { result ≡ (same task.now.job.framework framework && not task.now.ended) }
 {
-    task.job.framework.number() == framework.number()
-        && task.job.framework.run() == framework.run()
-        && !task.ended
+    task.job.framework == framework && !task.ended
 }
 
 fn gather_task(

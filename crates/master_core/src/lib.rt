@@ -5,10 +5,8 @@
 mod answer;
 mod master;
 mod offered;
-mod refusal;
 mod settle;
 
 pub use agent_sides::{Config, ConfigFault};
 pub use master::{HeardMail, Master};
 pub use master_state::{MasterFault, Outs};
-pub use refusal::refusal_text;

@@ -13,7 +13,7 @@ use booked_tasks::Heard;
 use frameworks::{Frameworks, is_due};
 use listed::Listed;
 use mails::{Booked, Framework, Offer};
-use names_core::{AgentName, FrameworkId, LaunchKey, StreamId, TaskState, UpdateId};
+use names_core::{AgentName, FrameworkId, StreamId, TaskState, UpdateId};
 use plain_data::Plain;
 use scheduler_events::{Event, StreamEvent, TaskStatus};
 use std::alloc::{AllocError, Global};
@@ -57,12 +57,6 @@ pub fn tell_rescinds(
         tell_rescind(frameworks, offer, events)?;
     }
     Ok(())
-}
-
-fn is_same_key(key: LaunchKey, other: LaunchKey) -> bool
-    ensures { result ≡ same key other }
-{
-    key.number() == other.number() && key.run() == other.run()
 }
 
 fn is_reported(tasks: &Reported, task: &Booked) -> bool
@@ -203,7 +197,7 @@ fn is_news(task: &Booked, update: &Heard) -> bool
     ensures { result ≡ (same task.now.job.key update.now.key
         && nat_le task.now.heard (suc update.now.k)) }
 {
-    is_same_key(task.job.key, update.key) && u64::from(task.heard) <= u64::from(update.k) + 1
+    task.job.key == update.key && u64::from(task.heard) <= u64::from(update.k) + 1
 }
 
 fn updated(

@@ -50,7 +50,7 @@ pub fn offer_all(sides: &mut Sides, alloc: Global, offers: &[Offer]) -> Result<(
 fn is_for(offer: &Offer, framework: FrameworkId) -> bool
     ensures { result ≡ same offer.now.framework framework }
 {
-    offer.framework.number() == framework.number() && offer.framework.run() == framework.run()
+    offer.framework == framework
 }
 
 fn copied(offer: &Offer) -> Result<Offer, AllocError>

@@ -1,30 +1,12 @@
 //! What each call but SUBSCRIBE is first asked.
 
 ghost use Rattle.std.specs.Prelude.{◌≡◌};
-ghost use Rattle.names_core.specs.Ids.{same};
 ghost use Rattle.cluster_model.specs.Ids.{is_among};
 ghost use Rattle.master_state.specs.Works.{admission, admission_of, admission_on, master_of};
 
 use crate::state::State;
 use mails::MasterRefusal;
 use names_core::{FrameworkId, StreamId};
-
-fn is_same(id: FrameworkId, other: FrameworkId) -> bool
-    ensures { result ≡ same id other }
-{
-    id.number() == other.number() && id.run() == other.run()
-}
-
-fn is_among(ids: &[FrameworkId], id: FrameworkId) -> bool
-    ensures { result ≡ is_among ids.now id }
-{
-    for other in ids {
-        if is_same(*other, id) {
-            return true;
-        }
-    }
-    false
-}
 
 fn admit_on(given: Option<StreamId>, open_stream: StreamId) -> Result<StreamId, MasterRefusal>
     ensures { result ≡ admission_on given open_stream }
@@ -65,7 +47,7 @@ impl State {
     pub fn is_torn(&self, framework: FrameworkId) -> bool
         ensures { result ≡ is_among self.now.torn framework }
     {
-        is_among(self.torn.as_slice(), framework)
+        self.torn.as_slice().contains(&framework)
     }
 
     /// The open stream of a framework that calls on it. `M3 NoSuchFramework` where the framework

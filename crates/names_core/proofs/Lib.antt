@@ -1,2 +1,3 @@
 pub mod IdTexts
+pub mod Order
 pub mod UpdateTexts

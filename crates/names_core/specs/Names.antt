@@ -1,5 +1,5 @@
 -- Names of roles, tasks and agents, as bytes of UTF-8.
-use Rattle.std.specs.Prelude.{ℕ, ◌+◌, ◌*◌, ◌%◌, ◌^◌, List, Bool, not, length, fold, ◌&&◌, ◌||◌, ◌==◌, nat_lt, nat_le}
+use Rattle.std.specs.Prelude.{ℕ, ◌+◌, ◌*◌, ◌%◌, ◌^◌, List, [], ◌∷◌, Bool, true, false, not, length, fold, ◌&&◌, ◌||◌, ◌==◌, nat_lt, nat_le}
 use Rattle.std.specs.List.{list_all}
 use Rattle.std.specs.Char.{is_ascii_alphanumeric}
 
@@ -31,6 +31,12 @@ is_name text = is_named_by is_name_byte 255 text
 -- the name of an agent that a configuration may have
 unfoldable pub is_configured : List ℕ → Bool
 is_configured text = is_named_by is_configured_byte 64 text
+
+-- byte order
+abbrev pub bytes_before : List ℕ → List ℕ → Bool
+bytes_before xs [] = false
+bytes_before [] (y ∷ ys) = true
+bytes_before (x ∷ xs) (y ∷ ys) = nat_lt x y || (x == y && bytes_before xs ys)
 
 -- a number of a name, by which most names that differ are told apart
 

@@ -1,10 +1,10 @@
 //! The names of agents.
 
 ghost use Rattle.std.specs.Prelude.{◌≡◌, ◌↔◌, ◌⊎◌, true, false, bytes_eq, IfOk, IfErr};
-ghost use Rattle.names_core.specs.Names.{is_name, is_configured};
+ghost use Rattle.names_core.specs.Names.{is_name, is_configured, bytes_before};
 
 use crate::fault::NameFault;
-use crate::name::{is_configured_name, is_plain_name, name_number};
+use crate::name::{is_configured_name, is_plain_name, is_text_before, name_number};
 use plain_data::Plain;
 use std::alloc::{AllocError, Global};
 use std::fmt;
@@ -64,6 +64,13 @@ impl AgentName {
         ensures { result ≡ bytes_eq self.now other.now }
     {
         self.number == other.number && self.as_text() == other.as_text()
+    }
+
+    /// Whether it comes before another name in byte order.
+    pub fn is_before(&self, other: &AgentName) -> bool
+        ensures { result ≡ bytes_before self.now other.now }
+    {
+        is_text_before(self.as_text(), other.as_text())
     }
 
     /// Whether a configuration may have an agent of this name: 1 to 64 ASCII letters,

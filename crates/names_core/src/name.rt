@@ -2,7 +2,7 @@
 
 ghost use Rattle.std.specs.Prelude.{◌≡◌};
 ghost use Rattle.std.specs.List.{list_all};
-ghost use Rattle.names_core.specs.Names.{is_role_byte, is_name_byte, is_configured_byte, is_role, is_name, is_configured, name_number};
+ghost use Rattle.names_core.specs.Names.{is_role_byte, is_name_byte, is_configured_byte, is_role, is_name, is_configured, bytes_before, name_number};
 
 fn all_role_bytes(text: &[u8]) -> bool
     ensures { result ≡ list_all is_role_byte text.now }
@@ -42,6 +42,13 @@ pub fn is_configured_name(text: &str) -> bool
     ensures { result ≡ is_configured text.now }
 {
     !text.is_empty() && text.len() <= 64 && all_configured_bytes(text.as_bytes())
+}
+
+/// Whether a text comes before another in byte order.
+pub fn is_text_before(text: &str, other: &str) -> bool
+    ensures { result ≡ bytes_before text.now other.now }
+{
+    text.cmp(other).is_lt()
 }
 
 /// A number of a name, by which most names that differ are told apart.

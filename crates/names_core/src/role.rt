@@ -1,10 +1,10 @@
 //! The names of roles.
 
 ghost use Rattle.std.specs.Prelude.{◌≡◌, ◌↔◌, ◌⊎◌, true, false, bytes_eq, IfOk, IfErr};
-ghost use Rattle.names_core.specs.Names.{is_role};
+ghost use Rattle.names_core.specs.Names.{bytes_before, is_role};
 
 use crate::fault::NameFault;
-use crate::name::is_role_name;
+use crate::name::{is_role_name, is_text_before};
 use plain_data::Plain;
 use std::alloc::{AllocError, Global};
 use std::marker::Model;
@@ -60,6 +60,13 @@ impl RoleName {
         ensures { result ≡ bytes_eq self.now other.now }
     {
         self.as_text() == other.as_text()
+    }
+
+    /// Whether it comes before another name in byte order.
+    pub fn is_before(&self, other: &RoleName) -> bool
+        ensures { result ≡ bytes_before self.now other.now }
+    {
+        is_text_before(self.as_text(), other.as_text())
     }
 }
 

@@ -6,8 +6,6 @@ ghost use Rattle.offer_book.specs.Held.{place, is_of_name, first_at, first_at_ke
 ghost use Rattle.offer_book.specs.Found.{made, offer_of, task_of};
 
 use crate::account::Account;
-use booked_tasks::{is_same_framework, is_same_launch};
-use id_spans::is_before;
 use mails::{Booked, Offer};
 use names_core::{AgentName, FrameworkId, LaunchKey, OfferId, TaskName};
 
@@ -16,16 +14,16 @@ fn stands_before(agent: &AgentName, task: &Booked, other_agent: &AgentName, othe
     ensures { result ≡ stands_before (place agent.now task.now) (place other_agent.now other.now) }
 {
     if task.ended {
-        other.ended && is_before(&task.job.key, &other.job.key)
+        other.ended && task.job.key < other.job.key
     } else {
-        other.ended || is_before(&task.job.key, &other.job.key)
+        other.ended || task.job.key < other.job.key
     }
 }
 
 fn is_task_of(task: &Booked, framework: FrameworkId, name: &TaskName) -> bool
     ensures { result ≡ is_of_name framework name.now task.now }
 {
-    is_same_framework(task.job.framework, framework) && task.job.name.is(name)
+    task.job.framework == framework && task.job.name.is(name)
 }
 
 fn better<'a>(
@@ -97,7 +95,7 @@ fn first_of_task<'a>(
         ≡ first_at_key framework name.now key agent.entry.now
         (option_map (λ h. place h.0.now h.1.now) before.entry) task.entry.now }
 {
-    if is_same_launch(task.job.key, key) && is_task_of(task, framework, name) {
+    if task.job.key == key && is_task_of(task, framework, name) {
         better(before, agent, task)
     } else {
         before

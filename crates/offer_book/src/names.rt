@@ -5,8 +5,6 @@ ghost use Rattle.names_core.specs.Ids.{Numbered};
 ghost use Rattle.offer_book.specs.Named.{has_only, has_given, is_past, may_be, AreKeysOf, HasAllGiven, HasOtherGiven, IsNamed, AreNamed, AreAllNamed, Keeps, KeepsOthers, ReachesAsFar};
 
 use crate::account::Account;
-use booked_tasks::is_same_launch;
-use id_spans::is_before;
 use mails::Booked;
 use names_core::{FrameworkId, LaunchKey, TaskName};
 use std::alloc::{AllocError, Global};
@@ -51,7 +49,7 @@ fn later(last: Option<LaunchKey>, key: LaunchKey) -> LaunchKey
     let Some(last) = last else {
         return key;
     };
-    if is_before(&last, &key) { key } else { last }
+    if last < key { key } else { last }
 }
 
 /// The keys of a name with one key more.
@@ -75,7 +73,7 @@ fn has_only(keys: Option<Keys>, key: LaunchKey) -> bool
     };
     match known.only {
         None => false,
-        Some(only) => is_same_launch(only, key),
+        Some(only) => only == key,
     }
 }
 
@@ -123,7 +121,7 @@ impl Names {
     {
         match self.last {
             None => true,
-            Some(last) => is_before(&last, &key),
+            Some(last) => last < key,
         }
     }
 

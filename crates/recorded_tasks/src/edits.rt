@@ -6,7 +6,6 @@ ghost use Rattle.stream_core.specs.Updates.{is_done, is_full};
 ghost use Rattle.cluster_model.specs.Agents.{is_task, has_ended, is_front_at, stated, acknowledged, needs_place};
 ghost use Rattle.names_core.specs.Ids.{same};
 
-use crate::ids::{is_same_framework, is_same_key};
 use mails::RecordedTask;
 use names_core::{FrameworkId, LaunchKey, TaskState};
 use plain_data::Plain;
@@ -17,7 +16,7 @@ use std::alloc::{AllocError, Global};
 pub fn is_of_key(key: LaunchKey, task: &RecordedTask) -> bool
     ensures { result ≡ is_task key task.now }
 {
-    is_same_key(task.job.key, key)
+    task.job.key == key
 }
 
 fn stated_one(
@@ -107,7 +106,7 @@ pub fn without_framework(
 {
     let mut kept = Vec::new(alloc);
     for task in tasks {
-        if !is_same_framework(task.job.framework, framework) {
+        if task.job.framework != framework {
             kept.push(task.share()?)?;
         }
     }

@@ -4,7 +4,6 @@
 
 mod edits;
 mod fronts;
-mod ids;
 mod keys;
 mod room;
 
@@ -13,6 +12,5 @@ pub use edits::{
     stated_all, without_framework,
 };
 pub use fronts::{all_reported, push_fronts, push_fronts_at};
-pub use ids::is_same_framework;
-pub use keys::{is_before, is_behind_all};
+pub use keys::is_behind_all;
 pub use room::room_beside;

@@ -90,6 +90,6 @@ impl KeptStream {
     pub(crate) fn is(&self, id: StreamId) -> bool
         ensures { result ≡ is_kept_as id self.now }
     {
-        self.id.number() == id.number() && self.id.run() == id.run()
+        self.id == id
     }
 }

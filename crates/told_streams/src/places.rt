@@ -4,7 +4,6 @@ ghost use Rattle.std.specs.Prelude.{◌≡◌, ◌++◌, ◌∷◌, [], ◌≤�
 ghost use Rattle.std.specs.List.{position};
 ghost use Rattle.std.specs.Option.{option_copied};
 ghost use Rattle.cluster_laws.specs.Runs.{AreRising};
-ghost use Rattle.names_core.specs.Ids.{before};
 ghost use Rattle.told_streams.specs.Streams.{KeptStream as Kept, heard, hearing, is_kept_as, kept_ids, next_on, opened_stream, stream_kept, taken};
 
 use crate::kept::KeptStream;
@@ -13,19 +12,12 @@ use plain_data::Plain;
 use scheduler_events::{Event, StreamEvent};
 use std::alloc::{AllocError, Global};
 
-/// Ids stand by run, and then by number.
-fn is_before(id: StreamId, other: StreamId) -> bool
-    ensures { result ≡ before id other }
-{
-    id.run() < other.run() || (id.run() == other.run() && id.number() < other.number())
-}
-
 /// The place of a stream, found by halving.
 fn place_of(streams: &[KeptStream], id: StreamId) -> Option<usize>
     requires { AreRising (kept_ids streams.now) }
     ensures { result ≡ position (is_kept_as id) streams.now }
 {
-    let place = streams.partition_point(|stream| is_before(stream.id, id));
+    let place = streams.partition_point(|stream| stream.id < id);
     if place < streams.len() && streams[place].is(id) {
         return Some(place);
     }

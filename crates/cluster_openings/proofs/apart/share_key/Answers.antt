@@ -10,8 +10,8 @@ returns-in_default-split_first c =
     let none : length c.loop-task.right.now ≡ 0 = search rules in
     sym (shared_with_none c.loop-task.left.now c.loop-task.right.now none) ∙ c.loop-task.invariant.rest
 
-pub loop-task-preserved-then-is_before : goal.loop-task-preserved-then-is_before
-loop-task-preserved-then-is_before c =
+pub loop-task-preserved-then-lt : goal.loop-task-preserved-then-lt
+loop-task-preserved-then-lt c =
     let t = c.in-Some.task.now in
     let ts = c.in-Some.tasks.now in
     let u = c.in-Some-split_first.its.now in

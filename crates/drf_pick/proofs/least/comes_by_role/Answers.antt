@@ -38,7 +38,7 @@ returns-else-not-is_at_most c =
     let forth : c.is_at_most.result ≡ is_at_most f a.weight g b.weight = c.is_at_most.ensures ∙ by_weights f c.args.one.weight a.weight g c.args.other.weight b.weight one.weight other.weight in
     let back : c.is_at_most-then-is_at_most.result ≡ is_at_most g b.weight f a.weight = c.is_at_most-then-is_at_most.ensures ∙ by_weights g c.args.other.weight b.weight f c.args.one.weight a.weight other.weight one.weight in
     let also = sym back ∙ c.if-not-is_at_most.false in
-    c.is_name_before.ensures ∙ sym (is_tied t.totals a b f g (bytes_before c.args.first.now c.args.second.now) two (sym forth ∙ c.if-is_at_most.true) also)
+    c.is_before.ensures ∙ sym (is_tied t.totals a b f g (bytes_before c.args.first.now c.args.second.now) two (sym forth ∙ c.if-is_at_most.true) also)
 
 pub returns-else-is_at_most : goal.returns-else-is_at_most
 returns-else-is_at_most c =

@@ -1,4 +1,4 @@
-use Rattle.std.proofs.Common.{◌≡◌, true, false, not, ap, sym, subst, ◌∙◌}
+use Rattle.std.proofs.Common.{rules, ◌≡◌, true, false, not, ap, sym, subst, ◌∙◌}
 use Rattle.names_core.specs.Ids.{before}
 use Rattle.cluster_model.specs.Rounds.{Share, share}
 use Rattle.share_sums.specs.Dominant.{is_at_most}
@@ -32,7 +32,8 @@ returns-else-not-is_at_most c =
     let two : Compared t.totals a b f g = record { sum = sum; one = c.requires.one; other = c.requires.other } in
     let under : is_at_most f 1 g 1 ≡ true = sym c.is_at_most.ensures ∙ c.if-is_at_most.true in
     let also : is_at_most g 1 f 1 ≡ true = sym c.is_at_most-then-is_at_most.ensures ∙ c.if-not-is_at_most.false in
-    c.is_before.ensures ∙ sym (is_tied t.totals a b f g (before c.args.first c.args.second) two under also)
+    let is : c.lt.result ≡ before c.args.first c.args.second = search rules in
+    is ∙ sym (is_tied t.totals a b f g (before c.args.first c.args.second) two under also)
 
 pub returns-else-is_at_most : goal.returns-else-is_at_most
 returns-else-is_at_most c =
