@@ -20,7 +20,7 @@ use Rattle.mails.specs.declared.mail.MasterMail.TheVariants.{Hello, Issued}
 use Rattle.mails.specs.declared.record.RecordedTask.{RecordedTask}
 use Rattle.mails.specs.declared.refusal.AgentRefusal.{AgentRefusal}
 use Rattle.mails.specs.declared.refusal.AgentRefusal.TheVariants.{NotForMe, OldSession, NotNext, NoSuchTask, Ended, NoRoom, UpdatesFull, SessionsSpent, TotalLess}
-use Rattle.cluster_model.specs.Agents.{Agent, Draft, acknowledged, applies, executes, front_at, has_ended, has_room, hears_command, hears_hello, hears_mail, is_task, launched_task, needs_place, next_of, opens_again, opens_next, owning, reopened, reports, starts, stated, tasks_after, with_tasks}
+use Rattle.cluster_model.specs.Agents.{Agent, Draft, acknowledged, applies, executes, front_at, has_ended, has_room, receives_command, receives_hello, receives_mail, is_task, launched_task, needs_place, next_of, opens_again, opens_next, owning, reopened, reports, starts, stated, tasks_after, with_tasks}
 use Rattle.cluster_model.specs.Ids.{last_number}
 use Rattle.agent_core.specs.Records.{none_is_done}
 use Rattle.agent_core.specs.Spared.{command_spares, mail_spares, spares}
@@ -81,13 +81,13 @@ unfolding Keeps
 starts_keeps n a None = opens_keeps n a a.durable.session a.durable.run
 starts_keeps n a (Some total) = keeps_if n a.durable.tasks (covers total a.durable.total) (opens_again (owning total a)) (Err TotalLess) (λ e. opens_keeps n (owning total a) a.durable.session a.durable.run) (λ e. tt)
 
-hello_keeps : (n : ℕ) (a : Agent) (run dead : ℕ) → Keeps n a.durable.tasks (hears_hello a run dead)
+hello_keeps : (n : ℕ) (a : Agent) (run dead : ℕ) → Keeps n a.durable.tasks (receives_hello a run dead)
 unfolding Keeps
 hello_keeps n a run dead =
     keeps_if n a.durable.tasks (nat_lt run a.durable.run) (Err OldSession) (if (nat_lt a.durable.run run || nat_le a.durable.session dead) || not a.in_session then opens_next a (max a.durable.session dead) run else Ok (reports a)) (λ e. tt)
     (λ e. keeps_if n a.durable.tasks ((nat_lt a.durable.run run || nat_le a.durable.session dead) || not a.in_session) (opens_next a (max a.durable.session dead) run) (Ok (reports a)) (λ d. opens_keeps n a (max a.durable.session dead) run) (λ d. refl))
 
-command_keeps : (n : ℕ) (a : Agent) (session number : ℕ) (command : Command) → none_is_done a.durable.tasks ≡ true → n ≤ length a.durable.tasks → list_all (command_spares command) (take n a.durable.tasks) ≡ true → Keeps n a.durable.tasks (hears_command a session number command)
+command_keeps : (n : ℕ) (a : Agent) (session number : ℕ) (command : Command) → none_is_done a.durable.tasks ≡ true → n ≤ length a.durable.tasks → list_all (command_spares command) (take n a.durable.tasks) ≡ true → Keeps n a.durable.tasks (receives_command a session number command)
 unfolding Keeps
 command_keeps n a session number command undone within h =
     keeps_if n a.durable.tasks (not (a.in_session && session == a.durable.session)) (Err OldSession) third (λ e. tt)
@@ -104,7 +104,7 @@ command_keeps n a session number command undone within h =
     third : Result Draft AgentRefusal
     third = if nat_le number a.applied then Ok (record { after = a; mails = Applied a.durable.session a.applied ∷ [] }) else second
 
-mail_keeps : (n : ℕ) (a : Agent) (m : MasterMail) → none_is_done a.durable.tasks ≡ true → n ≤ length a.durable.tasks → list_all (mail_spares m) (take n a.durable.tasks) ≡ true → Keeps n a.durable.tasks (hears_mail a m)
+mail_keeps : (n : ℕ) (a : Agent) (m : MasterMail) → none_is_done a.durable.tasks ≡ true → n ≤ length a.durable.tasks → list_all (mail_spares m) (take n a.durable.tasks) ≡ true → Keeps n a.durable.tasks (receives_mail a m)
 mail_keeps n a (Hello run dead) undone within h = hello_keeps n a run dead
 mail_keeps n a (Issued session number command) undone within h = command_keeps n a session number command undone within h
 
@@ -132,7 +132,7 @@ unfolding Keeps
 keeps_all n a (Start total) undone within h = keeps_if n a.durable.tasks (a.durable.run == 0) (Err OldSession) (starts a total) (λ e. tt) (λ e. starts_keeps n a total)
 keeps_all n a Again undone within h = refl
 keeps_all n a (Executor key state) undone within h = state_keeps n a key state h
-keeps_all n a (Mail to) undone within h = keeps_if n a.durable.tasks (bytes_eq to.agent a.durable.name) (hears_mail a to.mail) (Err NotForMe) (λ e. mail_keeps n a to.mail undone within h) (λ e. tt)
+keeps_all n a (Mail to) undone within h = keeps_if n a.durable.tasks (bytes_eq to.agent a.durable.name) (receives_mail a to.mail) (Err NotForMe) (λ e. mail_keeps n a to.mail undone within h) (λ e. tt)
 
 pub kept_front : (n : ℕ) (a : Agent) (cause : Cause) (d : Draft) → none_is_done a.durable.tasks ≡ true → n ≤ length a.durable.tasks → list_all (spares cause) (take n a.durable.tasks) ≡ true → next_of a cause ≡ Ok d → take n a.durable.tasks ≡ take n d.after.durable.tasks
 unfolding Keeps

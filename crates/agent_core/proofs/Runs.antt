@@ -17,9 +17,9 @@ use Rattle.mails.specs.declared.mail.MasterMail.{MasterMail}
 use Rattle.mails.specs.declared.mail.MasterMail.TheVariants.{Hello, Issued}
 use Rattle.mails.specs.declared.refusal.AgentRefusal.{AgentRefusal}
 use Rattle.mails.specs.declared.refusal.AgentRefusal.TheVariants.{NotForMe, OldSession, NotNext, NoSuchTask, Ended, NoRoom, UpdatesFull, SessionsSpent, TotalLess}
-use Rattle.cluster_model.specs.Agents.{Agent, Draft, applies, executes, front_at, has_ended, has_room, hears_command, hears_hello, hears_mail, is_task, needs_place, next_of, opens_again, opens_next, owning, reopened, reports, starts, stated, with_tasks}
+use Rattle.cluster_model.specs.Agents.{Agent, Draft, applies, executes, front_at, has_ended, has_room, receives_command, receives_hello, receives_mail, is_task, needs_place, next_of, opens_again, opens_next, owning, reopened, reports, starts, stated, with_tasks}
 use Rattle.cluster_model.specs.Ids.{last_number}
-use Rattle.agent_core.specs.Drafts.{hears_in_order, is_in_order, is_with_run}
+use Rattle.agent_core.specs.Drafts.{receives_in_order, is_in_order, is_with_run}
 
 -- the draft has an open session with a run, or none
 WithRun : Result Draft AgentRefusal → Type 0
@@ -39,13 +39,13 @@ unfolding WithRun
 starts_run a None h = opens_run a a.durable.session a.durable.run h
 starts_run a (Some total) h = run_if (covers total a.durable.total) (opens_again (owning total a)) (Err TotalLess) (λ e. opens_run (owning total a) a.durable.session a.durable.run h) (λ e. tt)
 
-hello_run : (a : Agent) (run dead : ℕ) → is_with_run a ≡ true → nat_lt 0 run ≡ true → WithRun (hears_hello a run dead)
+hello_run : (a : Agent) (run dead : ℕ) → is_with_run a ≡ true → nat_lt 0 run ≡ true → WithRun (receives_hello a run dead)
 unfolding WithRun
 hello_run a run dead k h =
     run_if (nat_lt run a.durable.run) (Err OldSession) (if (nat_lt a.durable.run run || nat_le a.durable.session dead) || not a.in_session then opens_next a (max a.durable.session dead) run else Ok (reports a)) (λ e. tt)
     (λ e. run_if ((nat_lt a.durable.run run || nat_le a.durable.session dead) || not a.in_session) (opens_next a (max a.durable.session dead) run) (Ok (reports a)) (λ d. opens_run a (max a.durable.session dead) run h) (λ d. k))
 
-command_run : (a : Agent) (session number : ℕ) (command : Command) → is_with_run a ≡ true → WithRun (hears_command a session number command)
+command_run : (a : Agent) (session number : ℕ) (command : Command) → is_with_run a ≡ true → WithRun (receives_command a session number command)
 unfolding WithRun
 command_run a session number command k =
     run_if (not (a.in_session && session == a.durable.session)) (Err OldSession) third (λ e. tt)
@@ -62,7 +62,7 @@ command_run a session number command k =
     third : Result Draft AgentRefusal
     third = if nat_le number a.applied then Ok (record { after = a; mails = Applied a.durable.session a.applied ∷ [] }) else second
 
-mail_run : (a : Agent) (m : MasterMail) → is_with_run a ≡ true → hears_in_order a m ≡ true → WithRun (hears_mail a m)
+mail_run : (a : Agent) (m : MasterMail) → is_with_run a ≡ true → receives_in_order a m ≡ true → WithRun (receives_mail a m)
 mail_run a (Hello run dead) k h = hello_run a run dead k h
 mail_run a (Issued session number command) k h = command_run a session number command k
 
@@ -90,7 +90,7 @@ unfolding WithRun
 run_all a (Start total) k h = run_if (a.durable.run == 0) (Err OldSession) (starts a total) (λ e. tt) (λ e. starts_run a total (grind (arith, nat_tests)))
 run_all a Again k h = k
 run_all a (Executor key state) k h = state_run a key state k
-run_all a (Mail to) k h = run_if (bytes_eq to.agent a.durable.name) (hears_mail a to.mail) (Err NotForMe) (λ e. mail_run a to.mail k (rw e at h)) (λ e. tt)
+run_all a (Mail to) k h = run_if (bytes_eq to.agent a.durable.name) (receives_mail a to.mail) (Err NotForMe) (λ e. mail_run a to.mail k (rw e at h)) (λ e. tt)
 
 pub draft_with_run : (a : Agent) (cause : Cause) (d : Draft) → is_with_run a ≡ true → is_in_order a cause ≡ true → next_of a cause ≡ Ok d → is_with_run d.after ≡ true
 unfolding WithRun

@@ -34,9 +34,9 @@ abbrev pub next_draft : Next → Draft
 next_draft n = record { after = agent_of n.after; mails = n.mails.items }
 
 -- the front of one task, or nothing
-abbrev pub told_front : Option Numbered → Agent → List AgentMail
-told_front None a = []
-told_front (Some key) a = front_at key a
+abbrev pub reported_front : Option Numbered → Agent → List AgentMail
+reported_front None a = []
+reported_front (Some key) a = front_at key a
 
 -- the next command is applied and leaves these tasks
 abbrev pub applied_with : Agent → List RecordedTask → Option Numbered → Draft
@@ -44,7 +44,7 @@ applied_with a tasks told = record {
   after = with_tasks a tasks (suc a.applied);
   mails =
       Applied a.durable.session (suc a.applied)
-      ∷ told_front told (with_tasks a tasks (suc a.applied));
+      ∷ reported_front told (with_tasks a tasks (suc a.applied));
 }
 
 -- a state is added to the task of a key
@@ -56,8 +56,8 @@ after_state a key state = record {
       (with_tasks a (map (stated key state) a.durable.tasks) a.applied) else [];
 }
 
-abbrev pub told_again : Agent → Draft
-told_again a = record { after = a; mails = Applied a.durable.session a.applied ∷ [] }
+abbrev pub reported_again : Agent → Draft
+reported_again a = record { after = a; mails = Applied a.durable.session a.applied ∷ [] }
 
 -- the draft that is due was prepared, or its refusal returned, or memory ran out
 abbrev pub Prepares : Result Next AgentFault → Result Draft AgentRefusal → Type 0
@@ -88,9 +88,9 @@ abbrev pub is_next_command : Agent → ℕ → ℕ → Bool
 is_next_command a session number =
     a.in_session && session == a.durable.session && number == suc a.applied
 
-abbrev pub hears_in_order : Agent → MasterMail → Bool
-hears_in_order a (Hello run dead) = nat_lt 0 run
-hears_in_order a (Issued session number command) =
+abbrev pub receives_in_order : Agent → MasterMail → Bool
+receives_in_order a (Hello run dead) = nat_lt 0 run
+receives_in_order a (Issued session number command) =
     not (is_next_command a session number) || launches_in_order a command
 
 -- what a caller owes: a Hello is of a run above 0,
@@ -99,4 +99,4 @@ abbrev pub is_in_order : Agent → Cause → Bool
 is_in_order a (Start total) = true
 is_in_order a Again = true
 is_in_order a (Executor key state) = true
-is_in_order a (Mail to) = not (bytes_eq to.agent a.durable.name) || hears_in_order a to.mail
+is_in_order a (Mail to) = not (bytes_eq to.agent a.durable.name) || receives_in_order a to.mail

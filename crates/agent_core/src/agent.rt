@@ -93,7 +93,7 @@ impl Agent {
     {
         match cause {
             Cause::Mail(to) => !to.agent.is(&self.state.parts().name)
-                || self.state.hears_in_order(&to.mail),
+                || self.state.receives_in_order(&to.mail),
             _ => true,
         }
     }

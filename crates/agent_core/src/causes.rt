@@ -1,8 +1,8 @@
 //! What an agent prepares at a cause.
 
 ghost use Rattle.std.specs.Prelude.{◌≡◌, ◌<◌, true, Ok, IfOk};
-ghost use Rattle.cluster_model.specs.Agents.{reports, opens_again, opens_next, hears_hello, hears_mail, executes, next_of};
-ghost use Rattle.agent_core.specs.Drafts.{agent_of, next_draft, after_state, hears_in_order, is_in_order, is_next_command, is_with_run, launches_in_order, Prepares};
+ghost use Rattle.cluster_model.specs.Agents.{reports, opens_again, opens_next, receives_hello, receives_mail, executes, next_of};
+ghost use Rattle.agent_core.specs.Drafts.{agent_of, next_draft, after_state, receives_in_order, is_in_order, is_next_command, is_with_run, launches_in_order, Prepares};
 
 use crate::commands::Next;
 use crate::fault::AgentFault;
@@ -38,9 +38,9 @@ impl State {
         Ok(after.reporting(alloc)?)
     }
 
-    fn hear_hello(&self, alloc: Global, run: u32, dead: u32) -> Result<Next, AgentFault>
+    fn receive_hello(&self, alloc: Global, run: u32, dead: u32) -> Result<Next, AgentFault>
         requires { 0 < run }
-        ensures { Prepares result (hears_hello (agent_of self.now) run dead) }
+        ensures { Prepares result (receives_hello (agent_of self.now) run dead) }
     {
         let session = self.parts().session;
         if run < self.parts().run {
@@ -53,18 +53,18 @@ impl State {
         Ok(after.reporting(alloc)?)
     }
 
-    fn hear_mail(&self, alloc: Global, mail: MasterMail) -> Result<Next, AgentFault>
+    fn receive_mail(&self, alloc: Global, mail: MasterMail) -> Result<Next, AgentFault>
         requires run { is_with_run (agent_of self.now) ≡ true }
-        requires order { hears_in_order (agent_of self.now) mail ≡ true }
-        ensures { Prepares result (hears_mail (agent_of self.now) mail) }
+        requires order { receives_in_order (agent_of self.now) mail ≡ true }
+        ensures { Prepares result (receives_mail (agent_of self.now) mail) }
     {
         match mail {
-            MasterMail::Hello { run, dead } => self.hear_hello(alloc, run, dead),
+            MasterMail::Hello { run, dead } => self.receive_hello(alloc, run, dead),
             MasterMail::Issued {
                 session,
                 number,
                 command,
-            } => self.hear_command(alloc, session, number, command),
+            } => self.receive_command(alloc, session, number, command),
         }
     }
 
@@ -102,7 +102,7 @@ impl State {
     }
 
     /// A state that has a place is added to the task of a key.
-    fn told_state(
+    fn with_state(
         &self,
         alloc: Global,
         key: LaunchKey,
@@ -133,7 +133,7 @@ impl State {
         if lacks_place(key, state, self.tasks()) {
             return Err(AgentFault::Refused(AgentRefusal::UpdatesFull));
         }
-        Ok(self.told_state(alloc, key, state)?)
+        Ok(self.with_state(alloc, key, state)?)
     }
 
     fn launches_in_order(&self, command: &Command) -> bool
@@ -157,8 +157,8 @@ impl State {
     /// Whether a mail for this agent is a Hello of a run above 0, or a command that isn't the next
     /// one of the open session, or one that launches no task under a key that isn't after all
     /// launch keys of the record.
-    pub fn hears_in_order(&self, mail: &MasterMail) -> bool
-        ensures { result ≡ hears_in_order (agent_of self.now) mail.now }
+    pub fn receives_in_order(&self, mail: &MasterMail) -> bool
+        ensures { result ≡ receives_in_order (agent_of self.now) mail.now }
     {
         match mail {
             MasterMail::Hello { run, .. } => *run > 0,
@@ -183,7 +183,7 @@ impl State {
                 if !to.agent.is(&self.parts().name) {
                     return Err(AgentFault::Refused(AgentRefusal::NotForMe));
                 }
-                self.hear_mail(alloc, to.mail)
+                self.receive_mail(alloc, to.mail)
             }
         }
     }

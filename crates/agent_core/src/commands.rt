@@ -1,10 +1,10 @@
 //! What an agent prepares at a command.
 
 ghost use Rattle.std.specs.Prelude.{◌≡◌, ◌<◌, true, Ok, IfOk, IfSome, is_some, suc};
-ghost use Rattle.cluster_model.specs.Agents.{has_room, hears_command, applies, tasks_after};
+ghost use Rattle.cluster_model.specs.Agents.{has_room, receives_command, applies, tasks_after};
 ghost use Rattle.mails.specs.declared.mail.Command.TheVariants.{Launch};
 ghost use Rattle.mails.specs.declared.mail.MasterMail.TheVariants.{Issued};
-ghost use Rattle.agent_core.specs.Drafts.{agent_of, applied_with, hears_in_order, is_with_run, launches_in_order, next_draft, Prepares, told_again};
+ghost use Rattle.agent_core.specs.Drafts.{agent_of, applied_with, receives_in_order, is_with_run, launches_in_order, next_draft, Prepares, reported_again};
 ghost use Rattle.agent_core.specs.Records.{HasRoom, is_record, with_other_tasks};
 
 use crate::fault::AgentFault;
@@ -132,8 +132,8 @@ impl State {
     }
 
     /// Nothing changes, and the count of applied commands is sent again.
-    fn tell_again(&self, alloc: Global) -> Result<Next, AllocError>
-        ensures { IfOk result (λ n. next_draft n ≡ told_again (agent_of self.now)) }
+    fn report_again(&self, alloc: Global) -> Result<Next, AllocError>
+        ensures { IfOk result (λ n. next_draft n ≡ reported_again (agent_of self.now)) }
     {
         let after = self.copy()?;
         let mut mails = Vec::new(alloc);
@@ -145,7 +145,7 @@ impl State {
     }
 
     /// At the command with this number of a session.
-    pub fn hear_command(
+    pub fn receive_command(
         &self,
         alloc: Global,
         session: u32,
@@ -153,14 +153,15 @@ impl State {
         command: Command,
     ) -> Result<Next, AgentFault>
         requires run { is_with_run (agent_of self.now) ≡ true }
-        requires order { hears_in_order (agent_of self.now) (Issued session number command) ≡ true }
-        ensures { Prepares result (hears_command (agent_of self.now) session number command) }
+        requires order { receives_in_order (agent_of self.now) (Issued session number command)
+            ≡ true }
+        ensures { Prepares result (receives_command (agent_of self.now) session number command) }
     {
         if !(self.in_session && session == self.parts().session) {
             return Err(AgentFault::Refused(AgentRefusal::OldSession));
         }
         if number <= self.link.count() {
-            return Ok(self.tell_again(alloc)?);
+            return Ok(self.report_again(alloc)?);
         }
         let mut link = self.link;
         if link.take(number).is_err() {

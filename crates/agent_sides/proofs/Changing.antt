@@ -10,7 +10,7 @@ use Rattle.mails.specs.declared.refusal.MasterRefusal.TheVariants.{OldSession, C
 use Rattle.names_core.specs.Ids.{Numbered}
 use Rattle.names_core.specs.declared.state.TaskState.{TaskState}
 use Rattle.mails.specs.declared.mail.AgentMail.TheVariants.{Applied, Update}
-use Rattle.cluster_model.specs.Sides.{Run as ModelRun, Side, counts, heard, last_session, lost}
+use Rattle.cluster_model.specs.Sides.{Run as ModelRun, Side, counts, received, last_session, lost}
 use Rattle.agent_sides.specs.Looks.{is_session}
 use Rattle.cluster_model.specs.Mails.{judged_session}
 use Rattle.roster.specs.Sessions.{after_applied, after_report, newly, answered, judged_report, report_opens, reported, with_command}
@@ -160,18 +160,18 @@ entered_behind name total as_ new present e = by (find (is_named_so name) as_) r
 
 -- updates and counts of applied commands
 
-pub hearing_joins : (run : ModelRun) (session : ℕ) (key : Numbered) (k : ℕ) (state : TaskState) (ended : Bool) (s : Side) (a : Account) → is_session session s ≡ true
-    → join s (accounts.hearing key k state ended a) ≡ heard run (join s a) (Update session key k state ended)
-hearing_joins run session key k state ended s a h = rw h refl
+pub receiving_joins : (run : ModelRun) (session : ℕ) (key : Numbered) (k : ℕ) (state : TaskState) (ended : Bool) (s : Side) (a : Account) → is_session session s ≡ true
+    → join s (accounts.receiving key k state ended a) ≡ received run (join s a) (Update session key k state ended)
+receiving_joins run session key k state ended s a h = rw h refl
 
-pub hearing_stays : (run : ModelRun) (session : ℕ) (key : Numbered) (k : ℕ) (state : TaskState) (ended : Bool) (s : Side) (a : Account) → is_session session s ≡ false
-    → join s a ≡ heard run (join s a) (Update session key k state ended)
-hearing_stays run session key k state ended s a h = rw h refl
+pub receiving_stays : (run : ModelRun) (session : ℕ) (key : Numbered) (k : ℕ) (state : TaskState) (ended : Bool) (s : Side) (a : Account) → is_session session s ≡ false
+    → join s a ≡ received run (join s a) (Update session key k state ended)
+receiving_stays run session key k state ended s a h = rw h refl
 
-pub applied_joins : (run : ModelRun) (session count : ℕ) (s : Side) (a : Account) → join (after_applied session count s) (accounts.after_commands (newly session count s) a) ≡ heard run (join s a) (Applied session count)
+pub applied_joins : (run : ModelRun) (session count : ℕ) (s : Side) (a : Account) → join (after_applied session count s) (accounts.after_commands (newly session count s) a) ≡ received run (join s a) (Applied session count)
 applied_joins run session count s a = by (counts s session count) refl
   where
-    by : (b : Bool) → counts s session count ≡ b → join (after_applied session count s) (accounts.after_commands (newly session count s) a) ≡ heard run (join s a) (Applied session count)
+    by : (b : Bool) → counts s session count ≡ b → join (after_applied session count s) (accounts.after_commands (newly session count s) a) ≡ received run (join s a) (Applied session count)
     by true h = rw h refl
     by false h = rw h refl
 

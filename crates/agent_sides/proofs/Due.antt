@@ -13,7 +13,7 @@ use Rattle.offer_book.specs.declared.fault.BookFault.TheVariants.{Unknown, NoRoo
 use Rattle.offer_book.specs.Faults.{IsRefusal}
 use Rattle.agent_sides.specs.Changes.{offering, with_offer, with_task}
 use Rattle.agent_sides.specs.Joined.{AreApart, AreOfOne, Fit, IsIn, join, joined}
-use Rattle.agent_sides.specs.Looks.{at_name, told_of}
+use Rattle.agent_sides.specs.Looks.{at_name, value_of}
 use Rattle.agent_sides.specs.Taking.{booked_at, booked_on, fits, is_booked, is_offered, offered_at, offered_to}
 use Rattle.agent_sides.proofs.Apart.{apart_more, or_parts}
 use Rattle.agent_sides.proofs.Joining.{KeepsAccount}
@@ -37,16 +37,16 @@ named_book name g h same (s ∷ ss) (a ∷ as_) one present =
     by true ih = ap (λ t. t ∷ joined ss as_) (same s a)
     by false ih = ap (λ ts. join s a ∷ ts) ih
 
-told_agent : {X : Type 0} (name : List ℕ) (of : Option Account → X) (tell : Side → X) → ((s : Side) (a : Account) → of (Some a) ≡ tell (join s a)) → (ss : List Side) (as_ : List Account) → AreOfOne ss as_ → AllByRecursion IsIn as_
-    → of (books.agent_of name as_) ≡ told_of name tell (of None) (joined ss as_)
-told_agent name of tell same [] [] one present = refl
-told_agent name of tell same [] (a ∷ as_) one present = absurd one
-told_agent name of tell same (s ∷ ss) [] one present = absurd one
-told_agent name of tell same (s ∷ ss) (a ∷ as_) one present =
+told_agent : {X : Type 0} (name : List ℕ) (of : Option Account → X) (field : Side → X) → ((s : Side) (a : Account) → of (Some a) ≡ field (join s a)) → (ss : List Side) (as_ : List Account) → AreOfOne ss as_ → AllByRecursion IsIn as_
+    → of (books.agent_of name as_) ≡ value_of name field (of None) (joined ss as_)
+told_agent name of field same [] [] one present = refl
+told_agent name of field same [] (a ∷ as_) one present = absurd one
+told_agent name of field same (s ∷ ss) [] one present = absurd one
+told_agent name of field same (s ∷ ss) (a ∷ as_) one present =
     ap (λ v. of (cond v (Some a) (books.agent_of name as_))) (agent_is name s a one.0 present.0)
-    ∙ by (bytes_eq s.name name) (told_agent name of tell same ss as_ one.1 present.1)
+    ∙ by (bytes_eq s.name name) (told_agent name of field same ss as_ one.1 present.1)
   where
-    by : (v : Bool) → of (books.agent_of name as_) ≡ told_of name tell (of None) (joined ss as_) → of (cond v (Some a) (books.agent_of name as_)) ≡ cond v (tell (join s a)) (told_of name tell (of None) (joined ss as_))
+    by : (v : Bool) → of (books.agent_of name as_) ≡ value_of name field (of None) (joined ss as_) → of (cond v (Some a) (books.agent_of name as_)) ≡ cond v (field (join s a)) (value_of name field (of None) (joined ss as_))
     by true ih = same s a
     by false ih = ih
 
@@ -104,9 +104,9 @@ refusal_lifts ss due of lifts OutOfMemory is = is
 pub record IsDone (name : List ℕ) (twice : Bool) (test : Side → Bool) (after new ss : List Side) : Type 0 where
   pub once : twice ≡ false
   pub is : new ≡ after
-  pub room : told_of name test false ss ≡ true
+  pub room : value_of name test false ss ≡ true
 
-pub done_where : (name : List ℕ) (twice : Bool) (test : Side → Bool) (after new ss : List Side) → told_of name (λ s. cond twice (Err Twice) (cond (test s) (Ok after) (Err NoRoom))) (Err Unknown) ss ≡ Ok new
+pub done_where : (name : List ℕ) (twice : Bool) (test : Side → Bool) (after new ss : List Side) → value_of name (λ s. cond twice (Err Twice) (cond (test s) (Ok after) (Err NoRoom))) (Err Unknown) ss ≡ Ok new
     → IsDone name twice test after new ss
 done_where name twice test after new [] e = absurd cc
 done_where name twice test after new (s ∷ ss) e = by (bytes_eq s.name name) refl e (done_where name twice test after new ss)
@@ -119,12 +119,12 @@ done_where name twice test after new (s ∷ ss) e = by (bytes_eq s.name name) re
     here false true a b c q = record { once = a; is = cc; room = rw c b }
     here false false a b c q = absurd cc
 
-    by : (v : Bool) → bytes_eq s.name name ≡ v → cond v (due twice (test s)) (told_of name (λ t. due twice (test t)) (Err Unknown) ss) ≡ Ok new
-        → (told_of name (λ t. due twice (test t)) (Err Unknown) ss ≡ Ok new → IsDone name twice test after new ss) → IsDone name twice test after new (s ∷ ss)
+    by : (v : Bool) → bytes_eq s.name name ≡ v → cond v (due twice (test s)) (value_of name (λ t. due twice (test t)) (Err Unknown) ss) ≡ Ok new
+        → (value_of name (λ t. due twice (test t)) (Err Unknown) ss ≡ Ok new → IsDone name twice test after new ss) → IsDone name twice test after new (s ∷ ss)
     by true v q behind = here twice (test s) refl refl v q
     by false v q behind = let d = behind q in record { once = d.once; is = d.is; room = rw v d.room }
 
-offering_there : (name : List ℕ) (o : Offer) (ss : List Side) → is_offered o.id ss ≡ false → told_of name (fits o.resources) false ss ≡ true → at_name name (with_offer o) ss ≡ at_name name (offering o) ss
+offering_there : (name : List ℕ) (o : Offer) (ss : List Side) → is_offered o.id ss ≡ false → value_of name (fits o.resources) false ss ≡ true → at_name name (with_offer o) ss ≡ at_name name (offering o) ss
 offering_there name o [] once room = refl
 offering_there name o (s ∷ ss) once room = by (bytes_eq s.name name) refl room (offering_there name o ss parts.1)
   where
@@ -135,8 +135,8 @@ offering_there name o (s ∷ ss) once room = by (bytes_eq s.name name) refl room
     made true is here = rw (parts.0, is) refl
     made false is here = absurd cc
 
-    by : (v : Bool) → bytes_eq s.name name ≡ v → cond v (fits o.resources s) (told_of name (fits o.resources) false ss) ≡ true
-        → (told_of name (fits o.resources) false ss ≡ true → at_name name (with_offer o) ss ≡ at_name name (offering o) ss)
+    by : (v : Bool) → bytes_eq s.name name ≡ v → cond v (fits o.resources s) (value_of name (fits o.resources) false ss) ≡ true
+        → (value_of name (fits o.resources) false ss ≡ true → at_name name (with_offer o) ss ≡ at_name name (offering o) ss)
         → cond v (with_offer o s ∷ ss) (s ∷ at_name name (with_offer o) ss) ≡ cond v (offering o s ∷ ss) (s ∷ at_name name (offering o) ss)
     by true v q behind = ap (λ t. t ∷ ss) (made (fits o.resources s) refl q)
     by false v q behind = ap (λ ts. s ∷ ts) (behind q)

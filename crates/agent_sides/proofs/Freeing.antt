@@ -6,24 +6,24 @@ use Rattle.cluster_model.specs.Sides.{Side}
 use Rattle.cluster_model.specs.Rounds.{free}
 use Rattle.offer_book.specs.Accounts as accounts
 use Rattle.offer_book.specs.declared.account.Account.{Account}
-use Rattle.roster.specs.Places.{told_at}
+use Rattle.roster.specs.Places.{value_at}
 use Rattle.agent_sides.specs.Free.{open_part}
 use Rattle.agent_sides.specs.Joined.{join, joined}
 
-pub joined_past : {X : Type 0} (i : ℕ) (tell : Side → X) (none : X) (ss : List Side) (as_ : List Account) → ((length ss ≤ i) ⊎ (length as_ ≤ i)) → none ≡ told_at i tell none (joined ss as_)
-joined_past i tell none [] as_ past = refl
-joined_past i tell none (s ∷ ss) [] past = refl
-joined_past zero tell none (s ∷ ss) (a ∷ as_) (inl past) = absurd (omega arith)
-joined_past zero tell none (s ∷ ss) (a ∷ as_) (inr past) = absurd (omega arith)
-joined_past (suc i) tell none (s ∷ ss) (a ∷ as_) (inl past) = joined_past i tell none ss as_ (inl (omega arith))
-joined_past (suc i) tell none (s ∷ ss) (a ∷ as_) (inr past) = joined_past i tell none ss as_ (inr (omega arith))
+pub joined_past : {X : Type 0} (i : ℕ) (field : Side → X) (none : X) (ss : List Side) (as_ : List Account) → ((length ss ≤ i) ⊎ (length as_ ≤ i)) → none ≡ value_at i field none (joined ss as_)
+joined_past i field none [] as_ past = refl
+joined_past i field none (s ∷ ss) [] past = refl
+joined_past zero field none (s ∷ ss) (a ∷ as_) (inl past) = absurd (omega arith)
+joined_past zero field none (s ∷ ss) (a ∷ as_) (inr past) = absurd (omega arith)
+joined_past (suc i) field none (s ∷ ss) (a ∷ as_) (inl past) = joined_past i field none ss as_ (inl (omega arith))
+joined_past (suc i) field none (s ∷ ss) (a ∷ as_) (inr past) = joined_past i field none ss as_ (inr (omega arith))
 
-pub joined_here : {X : Type 0} (i : ℕ) (tell : Side → X) (none : X) (ss : List Side) (as_ : List Account) (s : Side) (a : Account) → i < length ss → i < length as_ → s ≡ get_or ss i s → a ≡ get_or as_ i a
-    → tell (join s a) ≡ told_at i tell none (joined ss as_)
-joined_here i tell none [] as_ s a within fits is was = absurd (omega arith)
-joined_here i tell none (t ∷ ss) [] s a within fits is was = absurd (omega arith)
-joined_here zero tell none (t ∷ ss) (b ∷ as_) s a within fits is was = ap (λ x. tell (join x a)) is ∙ ap (λ x. tell (join t x)) was
-joined_here (suc i) tell none (t ∷ ss) (b ∷ as_) s a within fits is was = joined_here i tell none ss as_ s a (omega arith) (omega arith) is was
+pub joined_here : {X : Type 0} (i : ℕ) (field : Side → X) (none : X) (ss : List Side) (as_ : List Account) (s : Side) (a : Account) → i < length ss → i < length as_ → s ≡ get_or ss i s → a ≡ get_or as_ i a
+    → field (join s a) ≡ value_at i field none (joined ss as_)
+joined_here i field none [] as_ s a within fits is was = absurd (omega arith)
+joined_here i field none (t ∷ ss) [] s a within fits is was = absurd (omega arith)
+joined_here zero field none (t ∷ ss) (b ∷ as_) s a within fits is was = ap (λ x. field (join x a)) is ∙ ap (λ x. field (join t x)) was
+joined_here (suc i) field none (t ∷ ss) (b ∷ as_) s a within fits is was = joined_here i field none ss as_ s a (omega arith) (omega arith) is was
 
 -- what an account leaves is what is free of the side
 pub free_joins : (s : Side) (a : Account) → accounts.free a ≡ free (join s a)

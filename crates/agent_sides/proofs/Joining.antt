@@ -1,7 +1,7 @@
 -- Changes of the roster and of the book are changes of the sides.
 use Rattle.std.proofs.Common.{◌≡◌, ℕ, zero, suc, ◌<◌, ◌≤◌, length, get_or, arith, List, [], ◌∷◌, map, refl, sym, ap, subst, ◌∙◌, Result, Ok, Err, OnOk, OnErr, IfOk, IfErr}
 use Rattle.cluster_model.specs.Sides.{Side}
-use Rattle.roster.specs.Places.{at_place, told_at}
+use Rattle.roster.specs.Places.{at_place, value_at}
 use Rattle.offer_book.specs.declared.account.Account.{Account}
 use Rattle.std.specs.List.{AllByRecursion}
 use Rattle.agent_sides.specs.Configs.{are_ordered}
@@ -64,12 +64,12 @@ one_roster (suc i) f keeps (s ∷ ss) (a ∷ as_) one = (one.0, one_roster i f k
 
 -- what is told of a side's session
 
-pub joined_told : {X : Type 0} (i : ℕ) (tell : Side → X) (none : X) → ((s : Side) (a : Account) → tell s ≡ tell (join s a)) → (ss : List Side) (as_ : List Account) → AreOfOne ss as_ → told_at i tell none ss ≡ told_at i tell none (joined ss as_)
-joined_told i tell none same [] [] one = refl
-joined_told i tell none same [] (a ∷ as_) one = absurd one
-joined_told i tell none same (s ∷ ss) [] one = absurd one
-joined_told zero tell none same (s ∷ ss) (a ∷ as_) one = same s a
-joined_told (suc i) tell none same (s ∷ ss) (a ∷ as_) one = joined_told i tell none same ss as_ one.1
+pub joined_told : {X : Type 0} (i : ℕ) (field : Side → X) (none : X) → ((s : Side) (a : Account) → field s ≡ field (join s a)) → (ss : List Side) (as_ : List Account) → AreOfOne ss as_ → value_at i field none ss ≡ value_at i field none (joined ss as_)
+joined_told i field none same [] [] one = refl
+joined_told i field none same [] (a ∷ as_) one = absurd one
+joined_told i field none same (s ∷ ss) [] one = absurd one
+joined_told zero field none same (s ∷ ss) (a ∷ as_) one = same s a
+joined_told (suc i) field none same (s ∷ ss) (a ∷ as_) one = joined_told i field none same ss as_ one.1
 
 -- what is so of the one is so of the other
 
@@ -96,43 +96,43 @@ either_way P (Err e) now changed before ok err c b = subst P (sym err) b
 
 -- a place in the roster
 
-pub told_here : {X : Type 0} (i : ℕ) (tell : Side → X) (none : X) (ss : List Side) (s : Side) → i < length ss → s ≡ get_or ss i s → tell s ≡ told_at i tell none ss
-told_here i tell none [] s within is = absurd (omega arith)
-told_here zero tell none (t ∷ ts) s within is = ap tell is
-told_here (suc i) tell none (t ∷ ts) s within is = told_here i tell none ts s (omega arith) is
+pub told_here : {X : Type 0} (i : ℕ) (field : Side → X) (none : X) (ss : List Side) (s : Side) → i < length ss → s ≡ get_or ss i s → field s ≡ value_at i field none ss
+told_here i field none [] s within is = absurd (omega arith)
+told_here zero field none (t ∷ ts) s within is = ap field is
+told_here (suc i) field none (t ∷ ts) s within is = told_here i field none ts s (omega arith) is
 
-pub told_past : {X : Type 0} (i : ℕ) (tell : Side → X) (none : X) (ss : List Side) → length ss ≤ i → none ≡ told_at i tell none ss
-told_past i tell none [] past = refl
-told_past zero tell none (t ∷ ts) past = absurd (omega arith)
-told_past (suc i) tell none (t ∷ ts) past = told_past i tell none ts (omega arith)
+pub told_past : {X : Type 0} (i : ℕ) (field : Side → X) (none : X) (ss : List Side) → length ss ≤ i → none ≡ value_at i field none ss
+told_past i field none [] past = refl
+told_past zero field none (t ∷ ts) past = absurd (omega arith)
+told_past (suc i) field none (t ∷ ts) past = told_past i field none ts (omega arith)
 
 -- an entry and an account change together, where something is told of the entry
 
-pub joined_when : {X : Type 0} (i : ℕ) (f h : Side → Side) (g : Account → Account) (tell : Side → X) (none told : X) → ((s : Side) (a : Account) → tell s ≡ told → join (f s) (g a) ≡ h (join s a))
-    → (ss : List Side) (as_ : List Account) → AreOfOne ss as_ → told_at i tell none ss ≡ told → joined (at_place i f ss) (joins.at_place i g as_) ≡ at_place i h (joined ss as_)
-joined_when i f h g tell none told same [] [] one is = refl
-joined_when i f h g tell none told same [] (a ∷ as_) one is = absurd one
-joined_when i f h g tell none told same (s ∷ ss) [] one is = absurd one
-joined_when zero f h g tell none told same (s ∷ ss) (a ∷ as_) one is = rw (same s a is) refl
-joined_when (suc i) f h g tell none told same (s ∷ ss) (a ∷ as_) one is = rw (joined_when i f h g tell none told same ss as_ one.1 is) refl
+pub joined_when : {X : Type 0} (i : ℕ) (f h : Side → Side) (g : Account → Account) (field : Side → X) (none told : X) → ((s : Side) (a : Account) → field s ≡ told → join (f s) (g a) ≡ h (join s a))
+    → (ss : List Side) (as_ : List Account) → AreOfOne ss as_ → value_at i field none ss ≡ told → joined (at_place i f ss) (joins.at_place i g as_) ≡ at_place i h (joined ss as_)
+joined_when i f h g field none told same [] [] one is = refl
+joined_when i f h g field none told same [] (a ∷ as_) one is = absurd one
+joined_when i f h g field none told same (s ∷ ss) [] one is = absurd one
+joined_when zero f h g field none told same (s ∷ ss) (a ∷ as_) one is = rw (same s a is) refl
+joined_when (suc i) f h g field none told same (s ∷ ss) (a ∷ as_) one is = rw (joined_when i f h g field none told same ss as_ one.1 is) refl
 
 -- an entry changes alone, where something is told of it
-pub joined_if : {X : Type 0} (i : ℕ) (f h : Side → Side) (tell : Side → X) (none told : X) → ((s : Side) (a : Account) → tell s ≡ told → join (f s) a ≡ h (join s a))
-    → (ss : List Side) (as_ : List Account) → AreOfOne ss as_ → told_at i tell none ss ≡ told → joined (at_place i f ss) as_ ≡ at_place i h (joined ss as_)
-joined_if i f h tell none told same [] [] one is = refl
-joined_if i f h tell none told same [] (a ∷ as_) one is = absurd one
-joined_if i f h tell none told same (s ∷ ss) [] one is = absurd one
-joined_if zero f h tell none told same (s ∷ ss) (a ∷ as_) one is = rw (same s a is) refl
-joined_if (suc i) f h tell none told same (s ∷ ss) (a ∷ as_) one is = rw (joined_if i f h tell none told same ss as_ one.1 is) refl
+pub joined_if : {X : Type 0} (i : ℕ) (f h : Side → Side) (field : Side → X) (none told : X) → ((s : Side) (a : Account) → field s ≡ told → join (f s) a ≡ h (join s a))
+    → (ss : List Side) (as_ : List Account) → AreOfOne ss as_ → value_at i field none ss ≡ told → joined (at_place i f ss) as_ ≡ at_place i h (joined ss as_)
+joined_if i f h field none told same [] [] one is = refl
+joined_if i f h field none told same [] (a ∷ as_) one is = absurd one
+joined_if i f h field none told same (s ∷ ss) [] one is = absurd one
+joined_if zero f h field none told same (s ∷ ss) (a ∷ as_) one is = rw (same s a is) refl
+joined_if (suc i) f h field none told same (s ∷ ss) (a ∷ as_) one is = rw (joined_if i f h field none told same ss as_ one.1 is) refl
 
 -- nothing changes, where something is told of the entry
-pub joined_same : {X : Type 0} (i : ℕ) (h : Side → Side) (tell : Side → X) (none told : X) → ((s : Side) (a : Account) → tell s ≡ told → join s a ≡ h (join s a))
-    → (ss : List Side) (as_ : List Account) → AreOfOne ss as_ → told_at i tell none ss ≡ told → joined ss as_ ≡ at_place i h (joined ss as_)
-joined_same i h tell none told same [] [] one is = refl
-joined_same i h tell none told same [] (a ∷ as_) one is = absurd one
-joined_same i h tell none told same (s ∷ ss) [] one is = absurd one
-joined_same zero h tell none told same (s ∷ ss) (a ∷ as_) one is = ap (λ t. t ∷ joined ss as_) (same s a is)
-joined_same (suc i) h tell none told same (s ∷ ss) (a ∷ as_) one is = ap (λ ts. join s a ∷ ts) (joined_same i h tell none told same ss as_ one.1 is)
+pub joined_same : {X : Type 0} (i : ℕ) (h : Side → Side) (field : Side → X) (none told : X) → ((s : Side) (a : Account) → field s ≡ told → join s a ≡ h (join s a))
+    → (ss : List Side) (as_ : List Account) → AreOfOne ss as_ → value_at i field none ss ≡ told → joined ss as_ ≡ at_place i h (joined ss as_)
+joined_same i h field none told same [] [] one is = refl
+joined_same i h field none told same [] (a ∷ as_) one is = absurd one
+joined_same i h field none told same (s ∷ ss) [] one is = absurd one
+joined_same zero h field none told same (s ∷ ss) (a ∷ as_) one is = ap (λ t. t ∷ joined ss as_) (same s a is)
+joined_same (suc i) h field none told same (s ∷ ss) (a ∷ as_) one is = ap (λ ts. join s a ∷ ts) (joined_same i h field none told same ss as_ one.1 is)
 
 -- names stay, and offers stay apart
 
@@ -179,19 +179,19 @@ joined_names (s ∷ ss) (a ∷ as_) one = ap (λ ns. s.name ∷ ns) (joined_name
 
 -- an account changes by what is told of the entry, which changes too
 
-pub joined_by : {X : Type 0} (i : ℕ) (f h : Side → Side) (g : X → Account → Account) (tell : Side → X) (none : X) → ((s : Side) (a : Account) → join (f s) (g (tell s) a) ≡ h (join s a))
-    → (ss : List Side) (as_ : List Account) → AreOfOne ss as_ → joined (at_place i f ss) (joins.at_place i (g (told_at i tell none ss)) as_) ≡ at_place i h (joined ss as_)
-joined_by i f h g tell none same [] [] one = refl
-joined_by i f h g tell none same [] (a ∷ as_) one = absurd one
-joined_by i f h g tell none same (s ∷ ss) [] one = absurd one
-joined_by zero f h g tell none same (s ∷ ss) (a ∷ as_) one = rw (same s a) refl
-joined_by (suc i) f h g tell none same (s ∷ ss) (a ∷ as_) one = rw (joined_by i f h g tell none same ss as_ one.1) refl
+pub joined_by : {X : Type 0} (i : ℕ) (f h : Side → Side) (g : X → Account → Account) (field : Side → X) (none : X) → ((s : Side) (a : Account) → join (f s) (g (field s) a) ≡ h (join s a))
+    → (ss : List Side) (as_ : List Account) → AreOfOne ss as_ → joined (at_place i f ss) (joins.at_place i (g (value_at i field none ss)) as_) ≡ at_place i h (joined ss as_)
+joined_by i f h g field none same [] [] one = refl
+joined_by i f h g field none same [] (a ∷ as_) one = absurd one
+joined_by i f h g field none same (s ∷ ss) [] one = absurd one
+joined_by zero f h g field none same (s ∷ ss) (a ∷ as_) one = rw (same s a) refl
+joined_by (suc i) f h g field none same (s ∷ ss) (a ∷ as_) one = rw (joined_by i f h g field none same ss as_ one.1) refl
 
 -- an account changes alone, where something is told of the entry
-pub joined_where : {X : Type 0} (i : ℕ) (h : Side → Side) (g : Account → Account) (tell : Side → X) (none told : X) → ((s : Side) (a : Account) → tell s ≡ told → join s (g a) ≡ h (join s a))
-    → (ss : List Side) (as_ : List Account) → AreOfOne ss as_ → told_at i tell none ss ≡ told → joined ss (joins.at_place i g as_) ≡ at_place i h (joined ss as_)
-joined_where i h g tell none told same [] [] one is = refl
-joined_where i h g tell none told same [] (a ∷ as_) one is = absurd one
-joined_where i h g tell none told same (s ∷ ss) [] one is = absurd one
-joined_where zero h g tell none told same (s ∷ ss) (a ∷ as_) one is = ap (λ t. t ∷ joined ss as_) (same s a is)
-joined_where (suc i) h g tell none told same (s ∷ ss) (a ∷ as_) one is = ap (λ ts. join s a ∷ ts) (joined_where i h g tell none told same ss as_ one.1 is)
+pub joined_where : {X : Type 0} (i : ℕ) (h : Side → Side) (g : Account → Account) (field : Side → X) (none told : X) → ((s : Side) (a : Account) → field s ≡ told → join s (g a) ≡ h (join s a))
+    → (ss : List Side) (as_ : List Account) → AreOfOne ss as_ → value_at i field none ss ≡ told → joined ss (joins.at_place i g as_) ≡ at_place i h (joined ss as_)
+joined_where i h g field none told same [] [] one is = refl
+joined_where i h g field none told same [] (a ∷ as_) one is = absurd one
+joined_where i h g field none told same (s ∷ ss) [] one is = absurd one
+joined_where zero h g field none told same (s ∷ ss) (a ∷ as_) one is = ap (λ t. t ∷ joined ss as_) (same s a is)
+joined_where (suc i) h g field none told same (s ∷ ss) (a ∷ as_) one is = ap (λ ts. join s a ∷ ts) (joined_where i h g field none told same ss as_ one.1 is)

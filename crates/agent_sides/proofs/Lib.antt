@@ -1,10 +1,10 @@
-pub mod Heard
+pub mod TaskUpdate
 pub mod Joining
 pub mod Changing
 pub mod Apart
 pub mod Naming
 pub mod Looking
-pub mod Telling
+pub mod AtNames
 pub mod Owning
 pub mod Freeing
 pub mod Placing

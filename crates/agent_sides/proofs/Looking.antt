@@ -6,13 +6,13 @@ use Rattle.std.proofs.lemmas.List.Quantifiers.{position-Some}
 use Rattle.std.proofs.lemmas.Bool.Decides.{nat_tests}
 use Rattle.cluster_model.specs.Sides.{Side}
 use Rattle.cluster_model.specs.Masters.{may_have_numbers, placed_on}
-use Rattle.roster.specs.Places.{at_place, place_of, told_at}
+use Rattle.roster.specs.Places.{at_place, place_of, value_at}
 use Rattle.roster.specs.Sessions.{issued_number}
 use Rattle.offer_book.specs.declared.account.Account.{Account}
 use Rattle.offer_book.specs.Books.{booked_count}
 use Rattle.offer_book.specs.Held as held
 use Rattle.agent_sides.specs.Joined.{AreOfOne, join, joined}
-use Rattle.agent_sides.specs.Looks.{all_placed, at_name, next_command, told_of}
+use Rattle.agent_sides.specs.Looks.{all_placed, at_name, next_command, value_of}
 
 -- booked tasks
 
@@ -89,17 +89,17 @@ named_at name f ss i d e =
     let first = position-Some (λ s. bytes_eq s.name name) ss i d e in
     first_named name f ss i d first.0 first.1 first.2
 
-first_told : {X : Type 0} (name : List ℕ) (tell : Side → X) (none : X) (ss : List Side) (i : ℕ) (d : Side) → i < length ss → bytes_eq (get_or ss i d).name name ≡ true → ((k : ℕ) → k < i → bytes_eq (get_or ss k d).name name ≡ false)
-    → told_at i tell none ss ≡ told_of name tell none ss
-first_told name tell none [] i d within is before = absurd (omega arith)
-first_told name tell none (s ∷ ss) zero d within is before = rw is refl
-first_told name tell none (s ∷ ss) (suc i) d within is before =
-    rw (before 0 (omega arith)) (first_told name tell none ss i d (omega arith) is (λ k lt. before (suc k) (omega arith)))
+first_told : {X : Type 0} (name : List ℕ) (field : Side → X) (none : X) (ss : List Side) (i : ℕ) (d : Side) → i < length ss → bytes_eq (get_or ss i d).name name ≡ true → ((k : ℕ) → k < i → bytes_eq (get_or ss k d).name name ≡ false)
+    → value_at i field none ss ≡ value_of name field none ss
+first_told name field none [] i d within is before = absurd (omega arith)
+first_told name field none (s ∷ ss) zero d within is before = rw is refl
+first_told name field none (s ∷ ss) (suc i) d within is before =
+    rw (before 0 (omega arith)) (first_told name field none ss i d (omega arith) is (λ k lt. before (suc k) (omega arith)))
 
-pub told_named : {X : Type 0} (name : List ℕ) (tell : Side → X) (none : X) (ss : List Side) (i : ℕ) (d : Side) → place_of name ss ≡ Some i → told_at i tell none ss ≡ told_of name tell none ss
-told_named name tell none ss i d e =
+pub told_named : {X : Type 0} (name : List ℕ) (field : Side → X) (none : X) (ss : List Side) (i : ℕ) (d : Side) → place_of name ss ≡ Some i → value_at i field none ss ≡ value_of name field none ss
+told_named name field none ss i d e =
     let first = position-Some (λ s. bytes_eq s.name name) ss i d e in
-    first_told name tell none ss i d first.0 first.1 first.2
+    first_told name field none ss i d first.0 first.1 first.2
 
 -- no side of a name
 
@@ -121,19 +121,19 @@ none_named name f (s ∷ ss) past = by (bytes_eq s.name name) refl (none_named n
     by true h ih = absurd (omega (arith, rw h at past))
     by false h ih = ap (λ ts. s ∷ ts) (ih (omega (arith, rw h at past)))
 
-none_told : {X : Type 0} (name : List ℕ) (tell : Side → X) (none : X) (ss : List Side) → length ss ≤ first_of name ss → none ≡ told_of name tell none ss
-none_told name tell none [] past = refl
-none_told name tell none (s ∷ ss) past = by (bytes_eq s.name name) refl (none_told name tell none ss)
+none_told : {X : Type 0} (name : List ℕ) (field : Side → X) (none : X) (ss : List Side) → length ss ≤ first_of name ss → none ≡ value_of name field none ss
+none_told name field none [] past = refl
+none_told name field none (s ∷ ss) past = by (bytes_eq s.name name) refl (none_told name field none ss)
   where
-    by : (b : Bool) → bytes_eq s.name name ≡ b → (length ss ≤ first_of name ss → none ≡ told_of name tell none ss) → none ≡ cond b (tell s) (told_of name tell none ss)
+    by : (b : Bool) → bytes_eq s.name name ≡ b → (length ss ≤ first_of name ss → none ≡ value_of name field none ss) → none ≡ cond b (field s) (value_of name field none ss)
     by true h ih = absurd (omega (arith, rw h at past))
     by false h ih = ih (omega (arith, rw h at past))
 
 pub unnamed : (name : List ℕ) (f : Side → Side) (ss : List Side) → place_of name ss ≡ None → ss ≡ at_name name f ss
 unnamed name f ss e = none_named name f ss (nowhere (first_of name ss) (length ss) e)
 
-pub untold : {X : Type 0} (name : List ℕ) (tell : Side → X) (none : X) (ss : List Side) → place_of name ss ≡ None → none ≡ told_of name tell none ss
-untold name tell none ss e = none_told name tell none ss (nowhere (first_of name ss) (length ss) e)
+pub untold : {X : Type 0} (name : List ℕ) (field : Side → X) (none : X) (ss : List Side) → place_of name ss ≡ None → none ≡ value_of name field none ss
+untold name field none ss e = none_told name field none ss (nowhere (first_of name ss) (length ss) e)
 
 -- session and number of a command
 
@@ -144,7 +144,7 @@ next_number s n e = by s.is_open refl
     by true h = ap (λ m. option_map (λ k. (s.session, k)) m) e ∙ rw h refl
     by false h = ap (λ m. option_map (λ k. (s.session, k)) m) e ∙ rw h refl
 
-pub numbered : (i : ℕ) (ss : List Side) (n : Option ℕ) → n ≡ told_at i issued_number None ss → option_map (λ m. (told_at i (λ s. s.session) 0 ss, m)) n ≡ told_at i next_command None ss
+pub numbered : (i : ℕ) (ss : List Side) (n : Option ℕ) → n ≡ value_at i issued_number None ss → option_map (λ m. (value_at i (λ s. s.session) 0 ss, m)) n ≡ value_at i next_command None ss
 numbered i [] n e = ap (λ m. option_map (λ k. (0, k)) m) e
 numbered zero (s ∷ ss) n e = next_number s n e
 numbered (suc i) (s ∷ ss) n e = numbered i ss n e

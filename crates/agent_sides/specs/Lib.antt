@@ -5,5 +5,5 @@ pub mod Joined
 pub mod Looks
 pub mod Named
 pub mod Own
-pub mod Told
+pub mod ByName
 pub mod Taking

@@ -11,10 +11,11 @@ at_name name change [] = []
 at_name name change (s ∷ ss) =
     if bytes_eq s.name name then change s ∷ ss else s ∷ at_name name change ss
 
--- what `tell` returns for the first side of a name, or `none` where there is none
-abbrev pub told_of : {X : Type 0} → List ℕ → (Side → X) → X → List Side → X
-told_of name tell none [] = none
-told_of name tell none (s ∷ ss) = if bytes_eq s.name name then tell s else told_of name tell none ss
+-- what `field` returns for the first side of a name, or `none` where there is none
+abbrev pub value_of : {X : Type 0} → List ℕ → (Side → X) → X → List Side → X
+value_of name field none [] = none
+value_of name field none (s ∷ ss) =
+    if bytes_eq s.name name then field s else value_of name field none ss
 
 -- the session and the number of the next command, where a session is open
 abbrev pub next_command : Side → Option (ℕ × ℕ)
@@ -33,7 +34,7 @@ abbrev pub all_placed : List Side → List Placed
 all_placed ss = flat_map placed_on ss
 
 -- the update last received of a framework's task of this name and key on this agent
-abbrev pub is_heard_last : Numbered → List ℕ → List ℕ → Numbered → ℕ → Placed → Bool
-is_heard_last framework agent task key k p =
+abbrev pub is_received_last : Numbered → List ℕ → List ℕ → Numbered → ℕ → Placed → Bool
+is_received_last framework agent task key k p =
     same p.booked.job.key key && is_task_of framework task p && bytes_eq p.agent agent
-    && p.booked.heard == suc k
+    && p.booked.received == suc k

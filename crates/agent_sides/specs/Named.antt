@@ -3,12 +3,12 @@ use Rattle.std.specs.Prelude.{ℕ, List}
 use Rattle.mails.specs.declared.mail.AgentMail.{AgentMail}
 use Rattle.cluster_model.specs.Masters.{Doing, Master, nothing}
 use Rattle.cluster_model.specs.Mails.{agent_lost, mailed}
-use Rattle.agent_sides.specs.Looks.{told_of}
+use Rattle.agent_sides.specs.Looks.{value_of}
 
 -- what is done when the agent of this name is lost; nothing where it isn't configured
 abbrev pub lost_by : Master → List ℕ → Doing
-lost_by m agent = told_of agent (agent_lost m) (nothing m) m.sides
+lost_by m agent = value_of agent (agent_lost m) (nothing m) m.sides
 
 -- what goes with a mail of the agent of this name; nothing where it isn't configured
 abbrev pub mailed_by : Master → List ℕ → AgentMail → Doing
-mailed_by m agent mail = told_of agent (λ s. mailed m s mail) (nothing m) m.sides
+mailed_by m agent mail = value_of agent (λ s. mailed m s mail) (nothing m) m.sides

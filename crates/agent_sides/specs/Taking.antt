@@ -10,7 +10,7 @@ use Rattle.cluster_model.specs.Sides.{Side, taken}
 use Rattle.offer_book.specs.declared.fault.BookFault.{BookFault}
 use Rattle.offer_book.specs.declared.fault.BookFault.TheVariants.{Unknown, NoRoom, Twice}
 use Rattle.agent_sides.specs.Changes.{with_offer, with_task}
-use Rattle.agent_sides.specs.Looks.{at_name, told_of}
+use Rattle.agent_sides.specs.Looks.{at_name, value_of}
 
 -- an offer of this id is current, on any agent
 abbrev pub is_offered : Numbered → List Side → Bool
@@ -31,7 +31,7 @@ offered_at name o ss s =
 
 -- an offer is made at the agent of a name, where its total has room for it
 abbrev pub offered_to : List ℕ → Offer → List Side → Result (List Side) BookFault
-offered_to name o ss = told_of name (offered_at name o ss) (Err Unknown) ss
+offered_to name o ss = value_of name (offered_at name o ss) (Err Unknown) ss
 
 abbrev pub booked_at : List ℕ → Booked → List Side → Side → Result (List Side) BookFault
 booked_at name b ss s =
@@ -40,4 +40,4 @@ booked_at name b ss s =
 
 -- a task is booked on the agent of a name, where its total has room for it
 abbrev pub booked_on : List ℕ → Booked → List Side → Result (List Side) BookFault
-booked_on name b ss = told_of name (booked_at name b ss) (Err Unknown) ss
+booked_on name b ss = value_of name (booked_at name b ss) (Err Unknown) ss

@@ -3,7 +3,7 @@
 ghost use Rattle.std.specs.Prelude.{◌≡◌, None, length, option_map, IfOk};
 ghost use Rattle.std.specs.List.{AllByRecursion};
 ghost use Rattle.quantity.specs.Rows.{AreRows};
-ghost use Rattle.roster.specs.Places.{told_at};
+ghost use Rattle.roster.specs.Places.{value_at};
 ghost use Rattle.agent_sides.specs.Free.{open_part};
 ghost use Rattle.agent_sides.specs.Joined.{AreOfOne, joined};
 
@@ -22,7 +22,7 @@ fn open_part_in<'a>(
 ) -> Result<Option<(&'a AgentName, Resources)>, AllocError>
     requires { AreOfOne entries.now accounts.now }
     ensures { IfOk result (λ part. option_map (λ p. (p.0.now, p.1)) part
-        ≡ told_at place open_part None (joined entries.entry.now accounts.now)) }
+        ≡ value_at place open_part None (joined entries.entry.now accounts.now)) }
 {
     if place >= entries.len() {
         return Ok(None);
@@ -68,7 +68,7 @@ impl Sides {
         place: usize,
     ) -> Result<Option<(&AgentName, Resources)>, AllocError>
         ensures { IfOk result (λ part. option_map (λ p. (p.0.now, p.1)) part
-            ≡ told_at place open_part None self.now) }
+            ≡ value_at place open_part None self.now) }
     {
         open_part_in(self.roster.entries(), self.book.accounts(), alloc, place)
     }

@@ -2,6 +2,7 @@
 //! current offers and booked tasks (Mesos paper, sections 3.1 and 3.5).
 #![tactic(auto)]
 
+mod by_name;
 mod config;
 mod free;
 mod look;
@@ -9,7 +10,6 @@ mod own;
 mod placed;
 mod sides;
 mod taking;
-mod told;
 
 pub use config::{Config, ConfigFault, ConfiguredAgent};
 pub use own::GoodOffers;

@@ -5,8 +5,8 @@ ghost use Rattle.std.specs.List.{find, list_any};
 ghost use Rattle.names_core.specs.Ids.{same};
 ghost use Rattle.cluster_model.specs.Masters.{has_returned, may_have_numbers};
 ghost use Rattle.offer_book.specs.Held.{all_placed, place, placed_on};
-ghost use Rattle.roster.specs.Places.{told_at};
-ghost use Rattle.agent_sides.specs.Looks.{is_heard_last, is_session};
+ghost use Rattle.roster.specs.Places.{value_at};
+ghost use Rattle.agent_sides.specs.Looks.{is_received_last, is_session};
 
 use mails::Booked;
 use names_core::{AgentName, FrameworkId, LaunchKey, TaskName};
@@ -15,7 +15,7 @@ use roster::RosterEntry;
 
 /// Whether the agent at a place has an open session.
 pub fn is_open_in(entries: &[RosterEntry], place: usize) -> bool
-    ensures { result ≡ told_at place (λ s. s.is_open) false entries.now }
+    ensures { result ≡ value_at place (λ s. s.is_open) false entries.now }
 {
     if place >= entries.len() {
         return false;
@@ -25,7 +25,7 @@ pub fn is_open_in(entries: &[RosterEntry], place: usize) -> bool
 
 /// The open session of the agent at a place; 0 where none is open, and past the end.
 pub fn session_in(entries: &[RosterEntry], place: usize) -> u32
-    ensures { result ≡ told_at place (λ s. s.session) 0 entries.now }
+    ensures { result ≡ value_at place (λ s. s.session) 0 entries.now }
 {
     if place >= entries.len() {
         return 0;
@@ -41,7 +41,7 @@ fn is_session(entry: &RosterEntry, session: u32) -> bool
 
 /// Whether this is the open session of the agent at a place.
 pub fn is_session_in(entries: &[RosterEntry], place: usize, session: u32) -> bool
-    ensures { result ≡ told_at place (is_session session) false entries.now }
+    ensures { result ≡ value_at place (is_session session) false entries.now }
 {
     if place >= entries.len() {
         return false;
@@ -89,9 +89,9 @@ pub fn is_one_awaited(entries: &[RosterEntry], name: &AgentName) -> bool
 
 /// Whether update `k` of a task is the last one that was received.
 fn is_last(task: &Booked, k: u32) -> bool
-    ensures { result ≡ (task.now.heard == suc k) }
+    ensures { result ≡ (task.now.received == suc k) }
 {
-    task.heard > 0 && task.heard - 1 == k
+    task.received > 0 && task.received - 1 == k
 }
 
 fn is_key(task: &Booked, key: LaunchKey) -> bool
@@ -106,7 +106,7 @@ fn is_framework(task: &Booked, framework: FrameworkId) -> bool
     task.job.framework == framework
 }
 
-fn is_heard_last(
+fn is_received_last(
     task: &Booked,
     on: &AgentName,
     framework: FrameworkId,
@@ -115,7 +115,7 @@ fn is_heard_last(
     key: LaunchKey,
     k: u32,
 ) -> bool
-    ensures { result ≡ is_heard_last framework agent.now name.now key k (place on.now task.now) }
+    ensures { result ≡ is_received_last framework agent.now name.now key k (place on.now task.now) }
 {
     is_key(task, key)
         && is_framework(task, framework)
@@ -124,7 +124,7 @@ fn is_heard_last(
         && is_last(task, k)
 }
 
-fn any_heard_last(
+fn any_received_last(
     tasks: &[Booked],
     on: &AgentName,
     framework: FrameworkId,
@@ -133,11 +133,11 @@ fn any_heard_last(
     key: LaunchKey,
     k: u32,
 ) -> bool
-    ensures { result ≡ list_any (λ b. is_heard_last framework agent.now name.now key k
+    ensures { result ≡ list_any (λ b. is_received_last framework agent.now name.now key k
         (place on.now b)) tasks.now }
 {
     for task in tasks {
-        if is_heard_last(task, on, framework, agent, name, key, k) {
+        if is_received_last(task, on, framework, agent, name, key, k) {
             return true;
         }
     }
@@ -145,7 +145,7 @@ fn any_heard_last(
 }
 
 /// Only the tasks of the key are looked at.
-fn is_heard_last_on(
+fn is_received_last_on(
     account: &Account,
     framework: FrameworkId,
     agent: &AgentName,
@@ -153,16 +153,16 @@ fn is_heard_last_on(
     key: LaunchKey,
     k: u32,
 ) -> bool
-    ensures { result ≡ list_any (is_heard_last framework agent.now name.now key k)
+    ensures { result ≡ list_any (is_received_last framework agent.now name.now key k)
         (placed_on account.now) }
 {
     let tasks = account.booked.part_of(key);
-    any_heard_last(tasks, &account.name, framework, agent, name, key, k)
+    any_received_last(tasks, &account.name, framework, agent, name, key, k)
 }
 
 /// Whether this is the update last received of a framework's task of this name and key on this
 /// agent.
-pub fn is_heard_last_in(
+pub fn is_received_last_in(
     accounts: &[Account],
     framework: FrameworkId,
     agent: &AgentName,
@@ -170,11 +170,11 @@ pub fn is_heard_last_in(
     key: LaunchKey,
     k: u32,
 ) -> bool
-    ensures { result ≡ list_any (is_heard_last framework agent.now name.now key k)
+    ensures { result ≡ list_any (is_received_last framework agent.now name.now key k)
         (all_placed accounts.now) }
 {
     for account in accounts {
-        if is_heard_last_on(account, framework, agent, name, key, k) {
+        if is_received_last_on(account, framework, agent, name, key, k) {
             return true;
         }
     }

@@ -1,13 +1,13 @@
 //! Changes of the book at the places of the roster's agents.
 
 ghost use Rattle.std.specs.Prelude.{◌≡◌, ◌<◌};
-ghost use Rattle.offer_book.specs.Accounts.{after_commands, hearing, reopened, without_named};
+ghost use Rattle.offer_book.specs.Accounts.{after_commands, receiving, reopened, without_named};
 ghost use Rattle.agent_sides.specs.Joined.{Fit, at_place};
 
 use listed::Listed;
 use mails::{Booked, Command};
 use names_core::{FrameworkId, OfferId};
-use offer_book::{Heard, OfferBook};
+use offer_book::{OfferBook, TaskUpdate};
 use quantity::Resources;
 use roster::RosterEntry;
 use std::alloc::Global;
@@ -28,14 +28,19 @@ pub(crate) fn reopen_at(
     }
 }
 
-pub(crate) fn hear_at(entries: &[RosterEntry], book: &mut OfferBook, place: usize, update: &Heard)
+pub(crate) fn receive_at(
+    entries: &[RosterEntry],
+    book: &mut OfferBook,
+    place: usize,
+    update: &TaskUpdate,
+)
     requires small { update.now.k < 4294967295 }
     requires fit { Fit entries.now book.old }
     ensures { book.new ≡ at_place place
-        (hearing update.now.key update.now.k update.now.state update.now.ended) book.old }
+        (receiving update.now.key update.now.k update.now.state update.now.ended) book.old }
 {
     if place < entries.len() {
-        let _heard = book.hear(entries[place].name(), update);
+        let _received = book.receive(entries[place].name(), update);
     }
 }
 

@@ -3,25 +3,25 @@
 ghost use Rattle.std.specs.Prelude.{◌≡◌, ◌<◌, ◌++◌, ◌∷◌, [], Some, None, Ok, Err, true, false, not, ◌&&◌, bytes_eq, map, length, option_map, OnOk, OnErr, IfOk, IfErr};
 ghost use Rattle.std.specs.List.{AllByRecursion, find, list_any};
 ghost use Rattle.mails.specs.declared.mail.AgentMail.TheVariants.{Applied, Update};
-ghost use Rattle.cluster_model.specs.Sides.{Run as ModelRun, heard, lost};
+ghost use Rattle.cluster_model.specs.Sides.{Run as ModelRun, received, lost};
 ghost use Rattle.cluster_model.specs.Masters.{has_returned, held_among, is_of, may_have_numbers};
 ghost use Rattle.cluster_model.specs.Mails.{in_session};
 ghost use Rattle.cluster_model.specs.Sides.{is_named};
 ghost use Rattle.roster.specs.Sessions.{issued_number, is_spent, reported, with_command};
-ghost use Rattle.roster.specs.Places.{at_place, place_of, told_at};
+ghost use Rattle.roster.specs.Places.{at_place, place_of, value_at};
 ghost use Rattle.roster.specs.Faults.{IsAppliedRefusal, IsIssueRefusal};
 ghost use Rattle.offer_book.specs.Held.{place};
 ghost use Rattle.agent_sides.specs.Configs.{are_ordered};
 ghost use Rattle.agent_sides.specs.Joined.{IsIn, side_names};
 ghost use Rattle.agent_sides.specs.Changes.{account_of, reporting, side_of};
-ghost use Rattle.agent_sides.specs.Looks.{all_placed, at_name, is_heard_last, next_command, told_of, withdrawing};
+ghost use Rattle.agent_sides.specs.Looks.{all_placed, at_name, is_received_last, next_command, value_of, withdrawing};
 
 use crate::config::{Config, ConfiguredAgent};
 use crate::{look, placed};
 use listed::Listed;
 use mails::{Booked, Command, MasterRefusal};
 use names_core::{AgentName, FrameworkId, LaunchKey, OfferId, Run, TaskName};
-use offer_book::{Heard, OfferBook, ids_name_offers};
+use offer_book::{OfferBook, TaskUpdate, ids_name_offers};
 use plain_data::Plain;
 use quantity::Resources;
 use roster::{Roster, RosterFault};
@@ -117,10 +117,10 @@ impl Sides {
     /// open none is issued and `None` is returned. `L2 Spent` where the session's last command has
     /// the last number, `G5 OutOfMemory` where memory was refused.
     pub fn issue(&mut self, place: usize, command: Command) -> Result<Option<u32>, RosterFault>
-        ensures number { IfOk result (λ n. n ≡ told_at place issued_number None self.old) }
+        ensures number { IfOk result (λ n. n ≡ value_at place issued_number None self.old) }
         ensures ok { OnOk result (self.new ≡ at_place place (with_command command) self.old) }
-        ensures numbers { OnOk result (told_at place is_spent false self.old ≡ false) }
-        ensures refused { IfErr result (IsIssueRefusal (told_at place is_spent false self.old)) }
+        ensures numbers { OnOk result (value_at place is_spent false self.old ≡ false) }
+        ensures refused { IfErr result (IsIssueRefusal (value_at place is_spent false self.old)) }
         ensures err { OnErr result (self.new ≡ self.old) }
     {
         self.roster.issue(place, command)
@@ -141,7 +141,7 @@ impl Sides {
         tasks: Listed<Booked>,
         total: Resources,
     ) -> Result<bool, MasterRefusal>
-        ensures answer { result ≡ told_at place (λ s. reported run s session number) (Ok false)
+        ensures answer { result ≡ value_at place (λ s. reported run s session number) (Ok false)
             self.old }
         ensures sides { self.new ≡ at_place place (reporting run session number tasks total)
             self.old }
@@ -182,12 +182,12 @@ impl Sides {
         count: u32,
     ) -> Result<(), RosterFault>
         ensures ok { (run : ModelRun)
-            → OnOk result (self.new ≡ at_place place (λ s. heard run s (Applied session count))
+            → OnOk result (self.new ≡ at_place place (λ s. received run s (Applied session count))
             self.old) }
-        ensures judged { OnOk result (told_at place (λ s. in_session s session) None self.old
+        ensures judged { OnOk result (value_at place (λ s. in_session s session) None self.old
             ≡ None) }
         ensures refused { IfErr result
-            (IsAppliedRefusal (told_at place (λ s. in_session s session) None self.old)) }
+            (IsAppliedRefusal (value_at place (λ s. in_session s session) None self.old)) }
         ensures err { OnErr result (self.new ≡ self.old) }
     {
         let commands = match self.roster.applied(alloc, place, session, count) {
@@ -200,14 +200,14 @@ impl Sides {
 
     /// An update of a task is received; it is recorded where the session is the open one. It takes
     /// no memory.
-    pub fn hear(&mut self, place: usize, session: u32, update: &Heard)
+    pub fn receive(&mut self, place: usize, session: u32, update: &TaskUpdate)
         requires { update.now.k < 4294967295 }
         ensures { (run : ModelRun) → self.new ≡ at_place place
-            (λ s. heard run s (Update session update.now.key update.now.k update.now.state
+            (λ s. received run s (Update session update.now.key update.now.k update.now.state
             update.now.ended)) self.old }
     {
         if look::is_session_in(self.roster.entries(), place, session) {
-            placed::hear_at(self.roster.entries(), &mut self.book, place, update);
+            placed::receive_at(self.roster.entries(), &mut self.book, place, update);
         }
     }
 
@@ -218,9 +218,10 @@ impl Sides {
         name: &AgentName,
         command: Command,
     ) -> Result<Option<(u32, u32)>, RosterFault>
-        ensures number { IfOk result (λ n. n ≡ told_of name.now next_command None self.old) }
+        ensures number { IfOk result (λ n. n ≡ value_of name.now next_command None self.old) }
         ensures ok { OnOk result (self.new ≡ at_name name.now (with_command command) self.old) }
-        ensures refused { IfErr result (IsIssueRefusal (told_of name.now is_spent false self.old)) }
+        ensures refused { IfErr result
+            (IsIssueRefusal (value_of name.now is_spent false self.old)) }
         ensures err { OnErr result (self.new ≡ self.old) }
     {
         let Some(place) = self.place_of(name) else {
@@ -246,7 +247,7 @@ impl Sides {
 
     /// The open session of the agent at a place; 0 where none is open, and past the end.
     pub fn session_at(&self, place: usize) -> u32
-        ensures { result ≡ told_at place (λ s. s.session) 0 self.now }
+        ensures { result ≡ value_at place (λ s. s.session) 0 self.now }
     {
         look::session_in(self.roster.entries(), place)
     }
@@ -269,7 +270,7 @@ impl Sides {
 
     /// Whether this is the update last received of a framework's task of this name and key on this
     /// agent.
-    pub fn is_heard_last(
+    pub fn is_received_last(
         &self,
         framework: FrameworkId,
         agent: &AgentName,
@@ -277,10 +278,10 @@ impl Sides {
         key: LaunchKey,
         k: u32,
     ) -> bool
-        ensures { result ≡ list_any (is_heard_last framework agent.now name.now key k)
+        ensures { result ≡ list_any (is_received_last framework agent.now name.now key k)
             (all_placed self.now) }
     {
-        look::is_heard_last_in(self.book.accounts(), framework, agent, name, key, k)
+        look::is_received_last_in(self.book.accounts(), framework, agent, name, key, k)
     }
 
     /// Whether so many command numbers are left in the session of the

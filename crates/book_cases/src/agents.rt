@@ -112,7 +112,7 @@ fn mails_text(alloc: Global, mails: &[AgentMail]) -> Option<String> {
 }
 
 /// `ok` and the mails that the cause sends, or the refusal.
-fn told(agent: &mut Agent, alloc: Global, cause: Cause) -> Option<String> {
+fn answer_text(agent: &mut Agent, alloc: Global, cause: Cause) -> Option<String> {
     match moved(agent, alloc, cause) {
         Ok(mails) => mails_text(alloc, mails.as_slice()),
         Err(fault) => shown(alloc, &fault),
@@ -242,7 +242,7 @@ fn keep(agent: &Agent, draft: &mut Option<Draft>, alloc: Global, text: &str) -> 
 
 fn act(agent: &mut Agent, alloc: Global, kind: &str, text: &str) -> Option<String> {
     let cause = cause_of(agent, alloc, kind, text)?;
-    told(agent, alloc, cause)
+    answer_text(agent, alloc, cause)
 }
 
 pub fn answer(kept: &mut Kept, alloc: Global, kind: &str, text: &str) -> Option<String> {

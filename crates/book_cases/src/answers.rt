@@ -23,7 +23,7 @@ pub fn amounts_text(alloc: Global, resources: &Resources) -> Option<String> {
 }
 
 /// `ok`, or the refusal.
-pub fn told<E: Display>(alloc: Global, answer: &Result<(), E>) -> Option<String> {
+pub fn answer_text<E: Display>(alloc: Global, answer: &Result<(), E>) -> Option<String> {
     match answer {
         Ok(()) => word(alloc, "ok"),
         Err(fault) => shown(alloc, fault),

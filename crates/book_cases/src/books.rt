@@ -1,6 +1,6 @@
 //! Calls of a book by the names of its agents.
 
-use crate::answers::{amounts_text, shown, told, word};
+use crate::answers::{amounts_text, answer_text, shown, word};
 use crate::words::{agent, amounts, first, task};
 use mails::{Booked, Job, Offer};
 use names_core::{AgentName, FrameworkId, LaunchKey, OfferId, TaskState};
@@ -43,7 +43,7 @@ fn booked_in(alloc: Global, text: &str) -> Option<Booked> {
     Some(Booked {
         job,
         ended: false,
-        heard: 0,
+        received: 0,
         state: TaskState::Staging,
     })
 }
@@ -52,12 +52,12 @@ fn enter(book: &mut OfferBook, alloc: Global, text: &str) -> Option<String> {
     let (name, rest) = first(text);
     let total = amounts(alloc, rest)?;
     let name = agent(alloc, name)?;
-    told(alloc, &book.enter_agent(alloc, name, total))
+    answer_text(alloc, &book.enter_agent(alloc, name, total))
 }
 
 fn leave(book: &mut OfferBook, alloc: Global, text: &str) -> Option<String> {
     let name = agent(alloc, text)?;
-    told(alloc, &book.drop_agent(alloc, &name))
+    answer_text(alloc, &book.drop_agent(alloc, &name))
 }
 
 fn free(book: &OfferBook, alloc: Global, text: &str) -> Option<String> {
@@ -72,29 +72,29 @@ fn offer(book: &mut OfferBook, alloc: Global, text: &str) -> Option<String> {
     let (name, rest) = first(text);
     let name = agent(alloc, name)?;
     let offer = offer_in(alloc, rest)?;
-    told(alloc, &book.offer(alloc, &name, offer))
+    answer_text(alloc, &book.offer(alloc, &name, offer))
 }
 
 fn withdraw(book: &mut OfferBook, alloc: Global, text: &str) -> Option<String> {
     let id = OfferId::from_text(text).ok()?;
-    told(alloc, &book.withdraw(id))
+    answer_text(alloc, &book.withdraw(id))
 }
 
 fn book_task(book: &mut OfferBook, alloc: Global, text: &str) -> Option<String> {
     let (name, rest) = first(text);
     let name = agent(alloc, name)?;
     let task = booked_in(alloc, rest)?;
-    told(alloc, &book.book(alloc, &name, task))
+    answer_text(alloc, &book.book(alloc, &name, task))
 }
 
 fn end(book: &mut OfferBook, alloc: Global, text: &str) -> Option<String> {
     let key = LaunchKey::from_text(text).ok()?;
-    told(alloc, &book.end_task(key))
+    answer_text(alloc, &book.end_task(key))
 }
 
 fn forget(book: &mut OfferBook, alloc: Global, text: &str) -> Option<String> {
     let key = LaunchKey::from_text(text).ok()?;
-    told(alloc, &book.forget(key))
+    answer_text(alloc, &book.forget(key))
 }
 
 fn agent_text(alloc: Global, name: Option<&AgentName>) -> Option<String> {

@@ -1,6 +1,6 @@
 //! A configuration.
 
-use crate::answers::told;
+use crate::answers::answer_text;
 use crate::words::{agent, amounts, first};
 use agent_sides::Config;
 use std::alloc::Global;
@@ -10,5 +10,5 @@ pub fn add(config: &mut Config, alloc: Global, text: &str) -> Option<String> {
     let (name, rest) = first(text);
     let total = amounts(alloc, rest)?;
     let name = agent(alloc, name)?;
-    told(alloc, &config.add(name, total))
+    answer_text(alloc, &config.add(name, total))
 }

@@ -1,6 +1,6 @@
 //! Calls of a roster, whose agents are named by their places.
 
-use crate::answers::{shown, told, word, yes_or_no};
+use crate::answers::{answer_text, shown, word, yes_or_no};
 use crate::words::{agent, first, number};
 use mails::Command;
 use names_core::{LaunchKey, Run};
@@ -17,7 +17,7 @@ fn three(text: &str) -> Option<(usize, u32, u32)> {
 fn add(roster: &mut Roster, alloc: Global, text: &str) -> Option<String> {
     let name = agent(alloc, text)?;
     let added = roster.add_agent(alloc, name);
-    told(alloc, &added)
+    answer_text(alloc, &added)
 }
 
 /// A Report of a session, of a run, to a master of run 1.

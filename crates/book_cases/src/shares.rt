@@ -1,6 +1,6 @@
 //! Calls of shares.
 
-use crate::answers::{told, word};
+use crate::answers::{answer_text, word};
 use crate::words::{amounts, first};
 use drf_pick::{Client, Shares, pick};
 use names_core::{FrameworkId, RoleName};
@@ -8,19 +8,19 @@ use std::alloc::Global;
 
 fn enter(shares: &mut Shares, alloc: Global, text: &str) -> Option<String> {
     let total = amounts(alloc, text)?;
-    told(alloc, &shares.enter(alloc, &total))
+    answer_text(alloc, &shares.enter(alloc, &total))
 }
 
 fn leave(shares: &mut Shares, alloc: Global, text: &str) -> Option<String> {
     let total = amounts(alloc, text)?;
-    told(alloc, &shares.leave(alloc, &total))
+    answer_text(alloc, &shares.leave(alloc, &total))
 }
 
 fn role(shares: &mut Shares, alloc: Global, text: &str) -> Option<String> {
     let (framework, role) = first(text);
     let framework = FrameworkId::from_text(framework).ok()?;
     let role = RoleName::from_text(alloc, role).ok()?;
-    told(alloc, &shares.role(alloc, framework, &role))
+    answer_text(alloc, &shares.role(alloc, framework, &role))
 }
 
 fn weigh(shares: &mut Shares, alloc: Global, text: &str) -> Option<String> {
@@ -30,21 +30,21 @@ fn weigh(shares: &mut Shares, alloc: Global, text: &str) -> Option<String> {
     if weight < 1 || weight > 1_000 {
         return None;
     }
-    told(alloc, &shares.weigh(alloc, &role, weight))
+    answer_text(alloc, &shares.weigh(alloc, &role, weight))
 }
 
 fn give(shares: &mut Shares, alloc: Global, text: &str) -> Option<String> {
     let (framework, rest) = first(text);
     let framework = FrameworkId::from_text(framework).ok()?;
     let resources = amounts(alloc, rest)?;
-    told(alloc, &shares.give(alloc, framework, &resources))
+    answer_text(alloc, &shares.give(alloc, framework, &resources))
 }
 
 fn back(shares: &mut Shares, alloc: Global, text: &str) -> Option<String> {
     let (framework, rest) = first(text);
     let framework = FrameworkId::from_text(framework).ok()?;
     let resources = amounts(alloc, rest)?;
-    told(alloc, &shares.back(alloc, framework, &resources))
+    answer_text(alloc, &shares.back(alloc, framework, &resources))
 }
 
 fn least(alloc: Global, picked: Option<FrameworkId>) -> Option<String> {

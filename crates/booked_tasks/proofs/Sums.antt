@@ -13,7 +13,7 @@ use Rattle.mails.specs.declared.task.Booked.{Booked}
 use Rattle.mails.specs.declared.mail.Command.{Command}
 use Rattle.mails.specs.declared.mail.Command.TheVariants.{Launch, Kill, Ack, EndFramework}
 use Rattle.names_core.specs.States.{is_terminal}
-use Rattle.cluster_model.specs.Sides.{heard_update, forget, forget_all}
+use Rattle.cluster_model.specs.Sides.{received_update, forget, forget_all}
 use Rattle.booked_tasks.specs.Tasks.{has_key, ended}
 use Rattle.booked_tasks.specs.Used.{unended_rows, freed_rows, used, freed, ends_framework, IsSum, IsSumIfKnown}
 
@@ -24,7 +24,7 @@ module _ (name : List ℕ) where
   used_cons : (b : Booked) (bs : List Booked) → used name (b ∷ bs) ≡ amount name (unended_rows b) + used name bs
   used_cons b bs = by_case b.ended
     where
-      by_case : (v : Bool) → used name (record { job = b.job; ended = v; heard = b.heard; state = b.state } ∷ bs) ≡ amount name (unended_rows (record { job = b.job; ended = v; heard = b.heard; state = b.state })) + used name bs
+      by_case : (v : Bool) → used name (record { job = b.job; ended = v; received = b.received; state = b.state } ∷ bs) ≡ amount name (unended_rows (record { job = b.job; ended = v; received = b.received; state = b.state })) + used name bs
       by_case true = zero_left (used name bs)
       by_case false = amount-append name b.job.resources _
 
@@ -49,26 +49,26 @@ module _ (name : List ℕ) where
   ended_parts : (key : Numbered) (b : Booked) → amount name (unended_rows (ended key b)) + amount name (freed_rows key b) ≡ amount name (unended_rows b)
   ended_parts key b = by_case (has_key key b)
     where
-      by_case : (v : Bool) → amount name (unended_rows (cond v (record { job = b.job; ended = true; heard = b.heard; state = b.state }) b)) + amount name (cond v (unended_rows b) []) ≡ amount name (unended_rows b)
+      by_case : (v : Bool) → amount name (unended_rows (cond v (record { job = b.job; ended = true; received = b.received; state = b.state }) b)) + amount name (cond v (unended_rows b) []) ≡ amount name (unended_rows b)
       by_case true = sym (zero_left (amount name (unended_rows b)))
       by_case false = omega arith
 
-  heard_parts : (key : Numbered) (k : ℕ) (state : TaskState) (b : Booked) → amount name (unended_rows (heard_update key k state true b)) + amount name (freed_rows key b) ≡ amount name (unended_rows b)
-  heard_parts key k state b = by_case (has_key key b) refl
+  received_parts : (key : Numbered) (k : ℕ) (state : TaskState) (b : Booked) → amount name (unended_rows (received_update key k state true b)) + amount name (freed_rows key b) ≡ amount name (unended_rows b)
+  received_parts key k state b = by_case (has_key key b) refl
     where
       or_true : (v : Bool) → (v || true) ≡ true
       or_true true = refl
       or_true false = refl
 
-      by_case : (v : Bool) → has_key key b ≡ v → amount name (unended_rows (heard_update key k state true b)) + amount name (freed_rows key b) ≡ amount name (unended_rows b)
+      by_case : (v : Bool) → has_key key b ≡ v → amount name (unended_rows (received_update key k state true b)) + amount name (freed_rows key b) ≡ amount name (unended_rows b)
       by_case true is = rw (is, or_true b.ended) (sym (zero_left (amount name (unended_rows b))))
       by_case false is = rw is (omega arith)
 
   pub ended_used : (key : Numbered) (bs : List Booked) → used name (map (ended key) bs) + freed name key bs ≡ used name bs
   ended_used key bs = changed_by key (ended key) (ended_parts key) bs
 
-  pub heard_used : (key : Numbered) (k : ℕ) (state : TaskState) (bs : List Booked) → used name (map (heard_update key k state true) bs) + freed name key bs ≡ used name bs
-  heard_used key k state bs = changed_by key (heard_update key k state true) (heard_parts key k state) bs
+  pub received_used : (key : Numbered) (k : ℕ) (state : TaskState) (bs : List Booked) → used name (map (received_update key k state true) bs) + freed name key bs ≡ used name bs
+  received_used key k state bs = changed_by key (received_update key k state true) (received_parts key k state) bs
 
   pub forgotten_used : (key : Numbered) (bs : List Booked) → used name (filter (λ b. not (has_key key b)) bs) + freed name key bs ≡ used name bs
   forgotten_used key [] = refl
@@ -91,17 +91,17 @@ module _ (name : List ℕ) where
   or_false true = refl
   or_false false = refl
 
-  goes_on : (key : Numbered) (k : ℕ) (state : TaskState) (b : Booked) → unended_rows (heard_update key k state false b) ≡ unended_rows b
+  goes_on : (key : Numbered) (k : ℕ) (state : TaskState) (b : Booked) → unended_rows (received_update key k state false b) ≡ unended_rows b
   goes_on key k state b = by_case (has_key key b) refl
     where
-      by_case : (v : Bool) → has_key key b ≡ v → unended_rows (heard_update key k state false b) ≡ unended_rows b
+      by_case : (v : Bool) → has_key key b ≡ v → unended_rows (received_update key k state false b) ≡ unended_rows b
       by_case true is = rw (is, or_false b.ended) refl
       by_case false is = rw is refl
 
-  pub going_used : (key : Numbered) (k : ℕ) (state : TaskState) (bs : List Booked) → used name (map (heard_update key k state false) bs) ≡ used name bs
+  pub going_used : (key : Numbered) (k : ℕ) (state : TaskState) (bs : List Booked) → used name (map (received_update key k state false) bs) ≡ used name bs
   going_used key k state [] = refl
   going_used key k state (b ∷ bs) =
-      omega (arith, used_cons (heard_update key k state false b) (map (heard_update key k state false) bs), used_cons b bs, ap (amount name) (goes_on key k state b), going_used key k state bs)
+      omega (arith, used_cons (received_update key k state false b) (map (received_update key k state false) bs), used_cons b bs, ap (amount name) (goes_on key k state b), going_used key k state bs)
 
   -- acknowledgements let go no task that hasn't ended
 
@@ -123,7 +123,7 @@ module _ (name : List ℕ) where
   forget_used : (command : Command) (bs : List Booked) → ends_framework command ≡ false → used name (forget command bs) ≡ used name bs
   forget_used (Launch job offers) bs goes = refl
   forget_used (Kill key) bs goes = refl
-  forget_used (Ack key k) bs goes = only_ended (λ b. b.ended && same b.job.key key && b.heard == suc k && is_terminal b.state) (λ b is. rw is refl) bs
+  forget_used (Ack key k) bs goes = only_ended (λ b. b.ended && same b.job.key key && b.received == suc k && is_terminal b.state) (λ b is. rw is refl) bs
   forget_used (EndFramework framework) bs goes = absurd cc
 
   pub commands_used : (commands : List Command) (bs : List Booked) → list_any ends_framework commands ≡ false → used name (forget_all commands bs) ≡ used name bs
@@ -156,13 +156,13 @@ freed_turn key sum rest new bs i b below here was minus =
 pub sum_ended : (key : Numbered) (sum rest : List Row) (bs : List Booked) → IsSum sum bs → IsMinus rest sum (flat_map (freed_rows key) bs) → IsSum rest (map (ended key) bs)
 sum_ended key sum rest bs is minus name = omega (arith, is name, minus name, ended_used name key bs)
 
-pub sum_heard : (key : Numbered) (k : ℕ) (state : TaskState) (sum rest : List Row) (bs : List Booked) → IsSum sum bs → IsMinus rest sum (flat_map (freed_rows key) bs) → IsSum rest (map (heard_update key k state true) bs)
-sum_heard key k state sum rest bs is minus name = omega (arith, is name, minus name, heard_used name key k state bs)
+pub sum_received : (key : Numbered) (k : ℕ) (state : TaskState) (sum rest : List Row) (bs : List Booked) → IsSum sum bs → IsMinus rest sum (flat_map (freed_rows key) bs) → IsSum rest (map (received_update key k state true) bs)
+sum_received key k state sum rest bs is minus name = omega (arith, is name, minus name, received_used name key k state bs)
 
 pub sum_forgotten : (key : Numbered) (sum rest : List Row) (bs : List Booked) → IsSum sum bs → IsMinus rest sum (flat_map (freed_rows key) bs) → IsSum rest (filter (λ b. not (has_key key b)) bs)
 sum_forgotten key sum rest bs is minus name = omega (arith, is name, minus name, forgotten_used name key bs)
 
-pub sum_going : (key : Numbered) (k : ℕ) (state : TaskState) (sum : Option (List Row)) (bs : List Booked) → IsSumIfKnown sum bs → IsSumIfKnown sum (map (heard_update key k state false) bs)
+pub sum_going : (key : Numbered) (k : ℕ) (state : TaskState) (sum : Option (List Row)) (bs : List Booked) → IsSumIfKnown sum bs → IsSumIfKnown sum (map (received_update key k state false) bs)
 sum_going key k state None bs is = tt
 sum_going key k state (Some sum) bs is = λ name. is name ∙ sym (going_used name key k state bs)
 

@@ -17,7 +17,8 @@ key_of b = b.job.key
 -- its end is acknowledged by this: it has ended, and the last update that was received is this one
 -- and terminal
 abbrev pub is_acknowledged : Numbered → ℕ → Booked → Bool
-is_acknowledged key k b = b.ended && same b.job.key key && b.heard == suc k && is_terminal b.state
+is_acknowledged key k b =
+    b.ended && same b.job.key key && b.received == suc k && is_terminal b.state
 
 -- it is the task of this key, and its end is acknowledged where that is asked for
 abbrev pub is_gone : Numbered → Option ℕ → Booked → Bool
@@ -27,5 +28,6 @@ is_gone key (Some k) b = is_acknowledged key k b
 -- a task with this key has ended
 abbrev pub ended : Numbered → Booked → Booked
 ended key b =
-    if has_key key b then record { job = b.job; ended = true; heard = b.heard; state = b.state }
+    if has_key key b
+    then record { job = b.job; ended = true; received = b.received; state = b.state }
     else b

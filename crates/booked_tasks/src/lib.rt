@@ -6,4 +6,4 @@ mod launches;
 mod tasks;
 mod used;
 
-pub use tasks::{Heard, Tasks};
+pub use tasks::{TaskUpdate, Tasks};

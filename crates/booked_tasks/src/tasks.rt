@@ -1,7 +1,7 @@
 //! The booked tasks of one agent.
 
 ghost use Rattle.std.specs.Prelude.{◌≡◌, ◌++◌, ◌∷◌, [], not, filter, flat_map, map, ◌<◌, OnOk, OnErr, IfOk, IfSome};
-ghost use Rattle.cluster_model.specs.Sides.{heard_update, forget, forget_all};
+ghost use Rattle.cluster_model.specs.Sides.{received_update, forget, forget_all};
 ghost use Rattle.std.specs.List.{find, list_any};
 ghost use Rattle.std.specs.Option.{option_copied};
 ghost use Rattle.id_spans.specs.Spans.{AreRisingIfTold, IsSpan};
@@ -69,9 +69,7 @@ fn has_key(task: &Booked, key: LaunchKey) -> bool
 fn has_tasks_of(tasks: &[Booked], framework: FrameworkId) -> bool
     ensures { result ≡ has_tasks_of framework tasks.now }
 {
-    tasks
-        .iter()
-        .any(|task| task.job.framework == framework)
+    tasks.iter().any(|task| task.job.framework == framework)
 }
 
 fn find_in(tasks: &[Booked], key: LaunchKey) -> Option<&Booked>
@@ -105,7 +103,7 @@ fn end_in(tasks: &mut Vec<Booked>, span: Span, key: LaunchKey)
 
 /// What an update of a task reports.
 #[derive(Clone, Copy, Drop)]
-pub struct Heard {
+pub struct TaskUpdate {
     pub key: LaunchKey,
     /// The update's number.
     pub k: u32,
@@ -114,39 +112,39 @@ pub struct Heard {
     pub ended: bool,
 }
 
-fn hear_one(task: &mut Booked, update: &Heard)
+fn receive_one(task: &mut Booked, update: &TaskUpdate)
     requires { update.now.k < 4294967295 }
-    ensures { task.new ≡ heard_update update.now.key update.now.k update.now.state update.now.ended
-        task.old }
+    ensures { task.new ≡ received_update update.now.key update.now.k update.now.state
+        update.now.ended task.old }
 {
     if task.job.key == update.key {
         let count = update.k + 1;
         if update.ended {
             task.ended = true;
         }
-        if task.heard <= count {
-            task.heard = count;
+        if task.received <= count {
+            task.received = count;
             task.state = update.state;
         }
     }
 }
 
-fn hear_in(tasks: &mut Vec<Booked>, span: Span, update: &Heard)
+fn receive_in(tasks: &mut Vec<Booked>, span: Span, update: &TaskUpdate)
     requires counted { update.now.k < 4294967295 }
     requires span { IsSpan (has_key update.now.key) tasks.old.items span.from span.to }
     ensures { tasks.new.items
-        ≡ map (heard_update update.now.key update.now.k update.now.state update.now.ended)
+        ≡ map (received_update update.now.key update.now.k update.now.state update.now.ended)
         tasks.old.items }
 {
     for i in span.from..span.to {
-        hear_one(&mut tasks[i], update);
+        receive_one(&mut tasks[i], update);
     }
 }
 
 fn is_acknowledged(task: &Booked, key: LaunchKey, k: u32) -> bool
     ensures { result ≡ is_acknowledged key k task.now }
 {
-    let is_last = task.heard > 0 && task.heard - 1 == k;
+    let is_last = task.received > 0 && task.received - 1 == k;
     task.ended && has_key(task, key) && is_last && task.state.is_terminal()
 }
 
@@ -517,15 +515,15 @@ impl Tasks {
     }
 
     /// Records an update of the task of its launch key. It takes no memory.
-    pub fn hear(&mut self, update: &Heard)
+    pub fn receive(&mut self, update: &TaskUpdate)
         requires { update.now.k < 4294967295 }
         ensures { self.new
-            ≡ map (heard_update update.now.key update.now.k update.now.state update.now.ended)
+            ≡ map (received_update update.now.key update.now.k update.now.state update.now.ended)
             self.old }
     {
         let span = span_of(&self.items, self.are_rising, &update.key);
         self.sum = used::after_update(self.sum.take(), &self.items, span, update);
-        hear_in(&mut self.items, span, update);
+        receive_in(&mut self.items, span, update);
     }
 
     /// The agent has applied these commands: a task is forgotten whose end is acknowledged by one,

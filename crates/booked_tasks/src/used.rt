@@ -5,12 +5,12 @@ ghost use Rattle.std.specs.List.{list_any};
 ghost use Rattle.quantity.specs.Rows.{IsPlus, IsMinus};
 ghost use Rattle.mails.specs.declared.task.Booked.{Booked};
 ghost use Rattle.names_core.specs.declared.state.TaskState.{TaskState};
-ghost use Rattle.cluster_model.specs.Sides.{heard_update, forget_all};
+ghost use Rattle.cluster_model.specs.Sides.{received_update, forget_all};
 ghost use Rattle.id_spans.specs.Spans.{IsSpan};
 ghost use Rattle.booked_tasks.specs.Tasks.{has_key, ended};
 ghost use Rattle.booked_tasks.specs.Used.{unended_rows, freed_rows, ends_framework, IsSumIfKnown};
 
-use crate::tasks::Heard;
+use crate::tasks::TaskUpdate;
 use id_spans::Span;
 use mails::{Booked, Command};
 use names_core::LaunchKey;
@@ -98,8 +98,8 @@ pub(crate) fn without_key(
     requires sum { IsSumIfKnown sum tasks.now }
     requires span { IsSpan (has_key key) tasks.now span.from span.to }
     ensures ended { IsSumIfKnown result (map (ended key) tasks.now) }
-    ensures heard { (k : ℕ) (state : TaskState)
-        → IsSumIfKnown result (map (heard_update key k state true) tasks.now) }
+    ensures received { (k : ℕ) (state : TaskState)
+        → IsSumIfKnown result (map (received_update key k state true) tasks.now) }
     ensures forgotten { IsSumIfKnown result (filter (λ b. not (has_key key b)) tasks.now) }
 {
     let Some(known) = sum else {
@@ -115,12 +115,12 @@ pub(crate) fn after_update(
     sum: Option<Resources>,
     tasks: &[Booked],
     span: Span,
-    update: &Heard,
+    update: &TaskUpdate,
 ) -> Option<Resources>
     requires sum { IsSumIfKnown sum tasks.now }
     requires span { IsSpan (has_key update.now.key) tasks.now span.from span.to }
     ensures { let u = update.now in
-        IsSumIfKnown result (map (heard_update u.key u.k u.state u.ended) tasks.now) }
+        IsSumIfKnown result (map (received_update u.key u.k u.state u.ended) tasks.now) }
 {
     if update.ended {
         without_key(sum, tasks, span, update.key)

@@ -5,7 +5,7 @@ use Rattle.mails.specs.declared.record.Durable.{Durable}
 use Rattle.mails.specs.declared.mail.MasterMail.{MasterMail}
 use Rattle.mails.specs.declared.cause.Cause.{Cause}
 use Rattle.cluster_model.specs.Ids.{last_number}
-use Rattle.cluster_model.specs.Agents.{Draft, hears_mail, next_of, recovered}
+use Rattle.cluster_model.specs.Agents.{Draft, receives_mail, next_of, recovered}
 use Rattle.cluster_model.specs.Channels.{Channel, AgentStep, Draw, DrawMail, Adopt, StopWithout, StopWith, At, ByAgent, agent_step, is_own}
 use Rattle.cluster_histories.specs.Clusters.{Cluster, Stream, master_of}
 use Rattle.cluster_steps.specs.declared.verdict.Sent.{Sent}
@@ -13,7 +13,7 @@ use Rattle.cluster_steps.specs.declared.step.Step.{Step}
 use Rattle.cluster_steps.specs.declared.fault.ClusterFault.TheVariants.{HistoryFull}
 use Rattle.cluster_steps.specs.declared.verdict.Verdict.{Verdict}
 use Rattle.cluster_model.specs.Openings.{GoodOpening, NamesOnce}
-use Rattle.cluster_histories.specs.Steps.{Setup, Done, Marked, answer, done, fallen_answer, happening, hears, history, step_marked, streams_after}
+use Rattle.cluster_histories.specs.Steps.{Setup, Done, Marked, answer, done, fallen_answer, happening, receives, history, step_marked, streams_after}
 use Rattle.cluster_laws.specs.declared.item.Item.{Item}
 use Rattle.cluster_laws.specs.Items.{StandIn, call_of, items_sent, names_of, new_items}
 use Rattle.cluster_laws.specs.Parts.{IsSilent, Part, from_agent, part_of, parts_of}
@@ -34,7 +34,7 @@ pub record Laws : Type 0 where
   pub commits : (c : Cluster) (verdict : Verdict) (agent : List ℕ) (place : ℕ) (x : Channel) (d : Draft) → NamesOnce (names_of c.world.channels) → slice_get c.world.channels place ≡ Some x → x.side.name ≡ agent → x.draft ≡ Some d →
       (done c (happening c verdict (At agent (ByAgent Adopt) ∷ []))).outputs.sent ≡ map (from_agent agent) d.mails
   pub draws : (x : Channel) (cause : Cause) (d : Draft) → is_own cause ≡ true → x.draft ≡ None → next_of x.agent cause ≡ Ok d → part_of (agent_step x (Draw cause)) ≡ record { name = x.side.name; agent = x.agent; draft = Some d }
-  pub draws_mail : (x : Channel) (place : ℕ) (mail : MasterMail) (d : Draft) → slice_get x.to_agent place ≡ Some mail → x.draft ≡ None → hears_mail x.agent mail ≡ Ok d →
+  pub draws_mail : (x : Channel) (place : ℕ) (mail : MasterMail) (d : Draft) → slice_get x.to_agent place ≡ Some mail → x.draft ≡ None → receives_mail x.agent mail ≡ Ok d →
       part_of (agent_step x (DrawMail place)) ≡ record { name = x.side.name; agent = x.agent; draft = Some d }
   pub adopts : (x : Channel) (d : Draft) → x.draft ≡ Some d → part_of (agent_step x Adopt) ≡ record { name = x.side.name; agent = d.after; draft = None }
   pub stops_without : (x : Channel) → part_of (agent_step x StopWithout) ≡ record { name = x.side.name; agent = recovered x.agent; draft = None }
@@ -69,15 +69,15 @@ pub append_nothing : {A : Type 0} (xs : List A) → xs ++ [] ≡ xs
 append_nothing {A = A} [] = refl
 append_nothing {A = A} (x ∷ xs) = ap (λ (ys : List A). x ∷ ys) (append_nothing xs)
 
-unheard : (s : Stream) → hears [] s ≡ s
-unheard s = ap (λ es. record s { events = es }) (append_nothing s.events)
+unreceived : (s : Stream) → receives [] s ≡ s
+unreceived s = ap (λ es. record s { events = es }) (append_nothing s.events)
 
-all_unheard : (streams : List Stream) → map (hears []) streams ≡ streams
-all_unheard [] = refl
-all_unheard (s ∷ ss) = rw (unheard s, all_unheard ss) refl
+all_unreceived : (streams : List Stream) → map (receives []) streams ≡ streams
+all_unreceived [] = refl
+all_unreceived (s ∷ ss) = rw (unreceived s, all_unreceived ss) refl
 
 pub quiet_streams : (streams : List Stream) → streams_after streams [] [] ≡ streams
-quiet_streams streams = ap (map (hears [])) (append_nothing streams) ∙ all_unheard streams
+quiet_streams streams = ap (map (receives [])) (append_nothing streams) ∙ all_unreceived streams
 
 -- ---- one agent's step
 

@@ -15,7 +15,7 @@ use Rattle.mails.specs.declared.refusal.AgentRefusal.{AgentRefusal}
 use Rattle.mails.specs.declared.refusal.AgentRefusal.TheVariants.{NotForMe}
 use Rattle.names_core.specs.Ids.{Numbered}
 use Rattle.agent_core.specs.Drafts.{is_in_order}
-use Rattle.cluster_model.specs.Agents.{Draft, hears_mail, next_of, recovered}
+use Rattle.cluster_model.specs.Agents.{Draft, receives_mail, next_of, recovered}
 use Rattle.cluster_model.specs.Channels.{Channel, AgentStep, Draw, DrawMail, StopWithout, agent_step}
 use Rattle.cluster_histories.specs.Clusters.{Cluster, Post, Called, Down, Up}
 use Rattle.cluster_steps.specs.declared.step.Step.TheVariants.{Prepare}
@@ -103,15 +103,15 @@ draws_down more c x n k to down n_is here recorded for none =
     let same : down.1 ≡ x = (let s : Some down.1 ≡ Some x = sym down.3 ∙ ap (channel_of c) for ∙ here in cc) in
     let mail : slice_get x.to_agent place ≡ Some to.mail = subst (λ (y : Channel). slice_get y.to_agent place ≡ Some to.mail) same down.4 in
     let post : post_at c n ≡ Some (Down to.agent place) = subst (λ (m : ℕ). post_at c m ≡ Some (Down to.agent place)) (sym n_is) down.2 in
-    let hears : next_of x.agent (causes.Mail to) ≡ hears_mail x.agent to.mail = if_it_is_down (bytes_eq to.agent x.agent.durable.name) (hears_mail x.agent to.mail) (Err NotForMe) (ap (bytes_eq to.agent) (recorded ∙ sym for) ∙ bytes_refl to.agent) in
+    let receives : next_of x.agent (causes.Mail to) ≡ receives_mail x.agent to.mail = if_it_is_down (bytes_eq to.agent x.agent.durable.name) (receives_mail x.agent to.mail) (Err NotForMe) (ap (bytes_eq to.agent) (recorded ∙ sym for) ∙ bytes_refl to.agent) in
     record {
       step = DrawMail place;
       silent = tt;
       asks = ap (draws_mail c x) post
           ∙ if_it_is_down (bytes_eq to.agent x.side.name) (draws_mail_at c x place (slice_get x.to_agent place)) (does c (happening c (AgentRefused NotForMe) [])) (ap (bytes_eq to.agent) (sym for) ∙ bytes_refl to.agent)
           ∙ ap (draws_mail_at c x place) mail
-          ∙ ap (drafts c x (DrawMail place)) (sym hears);
-      becomes = λ d e. more.laws.draws_mail x place to.mail d mail none (sym hears ∙ e);
+          ∙ ap (drafts c x (DrawMail place)) (sym receives);
+      becomes = λ d e. more.laws.draws_mail x place to.mail d mail none (sym receives ∙ e);
     }
 
 some_some : (given : Cause) (o : Option Cause) → Some o ≡ Some (Some given) → o ≡ Some given
@@ -363,7 +363,7 @@ prepare_refused more c name place a cause faults.OutOfMemory sent stand e at is_
 
 unsent_or_taken_at : (c : Cluster) (x : Channel) (place : ℕ) (o : Option MasterMail) → (draws_mail_at c x place o ≡ Err NoSuchMail) ⊎ ((d : Done) × (draws_mail_at c x place o ≡ Ok d))
 unsent_or_taken_at c x place None = inl refl
-unsent_or_taken_at c x place (Some mail) = by (hears_mail x.agent mail)
+unsent_or_taken_at c x place (Some mail) = by (receives_mail x.agent mail)
   where
     by : (r : Result Draft AgentRefusal) → (drafts c x (DrawMail place) r ≡ Err NoSuchMail) ⊎ ((d : Done) × (drafts c x (DrawMail place) r ≡ Ok d))
     by (Ok draft) = inr (_, refl)

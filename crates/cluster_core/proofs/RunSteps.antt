@@ -29,9 +29,9 @@ taken_passes s new step taken t =
     let same : e.step ≡ step = ap (λ (x : Entry). x.step) t.makes in
     record {
       fell = fell e.verdict;
-      goes_on = ap history_of t.tells ∙ history_more s e ∙ ap (λ (x : Step). extended (history_of s) x (step_marked (state_of s) (marked_as (fell e.verdict) x))) same;
-      same_setup = ap (λ (x : Story). x.setup) t.tells;
-      same_records = ap (λ (x : Story). x.records) t.tells;
+      goes_on = ap history_of t.is_history ∙ history_more s e ∙ ap (λ (x : Step). extended (history_of s) x (step_marked (state_of s) (marked_as (fell e.verdict) x))) same;
+      same_setup = ap (λ (x : Story). x.setup) t.is_history;
+      same_records = ap (λ (x : Story). x.records) t.is_history;
     }
 
 passed_over : (s new : Story) (step : Step) (r : ClusterFault) → new ≡ s → step_marked (state_of s) (unmarked step) ≡ Err r → Passes s step new
@@ -75,7 +75,7 @@ none_ran setup records s e = record {
   of_steps = refl;
   opened = ap (λ (x : Story). x.setup) e;
   over = ap (λ (x : Story). x.records) e;
-  tells = ap history_of e;
+  is_history = ap history_of e;
 }
 
 pub one_ran : (setup : Setup) (records : List Durable) (steps : List Step) (s new : Story) (step : Step) → Ran setup records steps s → Passes s step new → Ran setup records (steps ++ step ∷ []) new
@@ -86,5 +86,5 @@ one_ran setup records steps s new step r p =
       of_steps = map_step_more r.marks m ∙ ap (λ (ss : List Step). ss ++ step ∷ []) r.of_steps;
       opened = p.same_setup ∙ r.opened;
       over = p.same_records ∙ r.over;
-      tells = p.goes_on ∙ ap (λ (h : History). extended h m.step (step_marked h.state m)) r.tells ∙ sym (extended_more (opening setup records) r.marks m);
+      is_history = p.goes_on ∙ ap (λ (h : History). extended h m.step (step_marked h.state m)) r.is_history ∙ sym (extended_more (opening setup records) r.marks m);
     }

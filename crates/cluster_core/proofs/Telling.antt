@@ -174,7 +174,7 @@ takes_on law s q step made l h t =
       answers = made_marks law s step made q l h t;
       makes = rw (t.ends, t.brings) refl;
       drafts = t.drafts ∙ ap (record_of step made.verdict) t.stands.as_agents;
-      tells = refl;
+      is_history = refl;
     }
 
 pub stays : {T : Type 0} → (s : Story) (opened : Outputs) (p q : Parts T) (count more : ℕ) (ways news : ℕ → Option Direction) → IsKept s opened p count ways → Same p q → more ≡ count → ((n : ℕ) → news n ≡ ways n) → IsKept s opened q more news

@@ -58,7 +58,7 @@ pub record IsTaken (s : Story) (step : Step) (taken : Taken) (new : Story) : Typ
   pub answers : step_marked (state_of s) (marked_of taken.entry) ≡ Ok done
   pub makes : taken.entry ≡ entry_of step done
   pub drafts : taken.durable ≡ record_of step taken.entry.verdict (kept_agents done.after)
-  pub tells : new ≡ with_entry s taken.entry
+  pub is_history : new ≡ with_entry s taken.entry
 
 -- the model takes the step, but what it delivers can't be
 abbrev pub WithheldFrom : Cluster → (ℕ → Bool) → Step → Type 0

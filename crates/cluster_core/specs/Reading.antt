@@ -5,8 +5,8 @@ use Rattle.cluster_histories.specs.Clusters.{Cluster, Down, Up, master_of}
 use Rattle.cluster_histories.specs.Steps.{post_at}
 use Rattle.master_core.specs.Steps.{is_open}
 use Rattle.post_rules.specs.Queueing.{Item, hands_out}
-use Rattle.told_streams.specs.Kept.{kept_streams}
-use Rattle.told_streams.specs.Streams.{count_on}
+use Rattle.event_streams.specs.Kept.{kept_streams}
+use Rattle.event_streams.specs.Streams.{count_on}
 
 -- how many events of a stream nobody took yet, where it was ever opened
 abbrev pub waiting_in : Numbered → Cluster → Option ℕ

@@ -24,4 +24,4 @@ pub record Ran (setup : Setup) (records : List Durable) (steps : List Step)
   pub of_steps : map (λ m. m.step) marks ≡ steps
   pub opened : s.setup ≡ setup
   pub over : s.records ≡ records
-  pub tells : history_of s ≡ history setup records marks
+  pub is_history : history_of s ≡ history setup records marks

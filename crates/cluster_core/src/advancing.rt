@@ -145,7 +145,8 @@ fn make_room(alloc: Global, history: &mut History) -> Result<Place<Entry>, Clust
 /// Appends an entry, for which there is room, and returns it. It takes no memory.
 fn write_down(history: &mut History, place: Place<Entry>, step: Step, made: Made) -> Taken
     requires room { vec_len history.old.entries < vec_capacity history.old.entries }
-    ensures told { story_of history.new ≡ with_entry (story_of history.old) (entry_made step made) }
+    ensures entry_kept { story_of history.new
+        ≡ with_entry (story_of history.old) (entry_made step made) }
     ensures opened { history.new.opened ≡ history.old.opened }
     ensures taken { result ≡ taken_made step made }
 {

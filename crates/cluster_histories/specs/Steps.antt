@@ -13,9 +13,9 @@ use Rattle.mails.specs.declared.refusal.AgentRefusal.TheVariants.{NotForMe}
 use Rattle.mails.specs.declared.refusal.MasterRefusal.{MasterRefusal}
 use Rattle.role_weights.specs.Weights.{RoleWeight}
 use Rattle.cluster_model.specs.Ids.{last_number, last_run}
-use Rattle.cluster_model.specs.Agents.{Draft, next_of, hears_mail}
+use Rattle.cluster_model.specs.Agents.{Draft, next_of, receives_mail}
 use Rattle.cluster_model.specs.Sides.{SendHello}
-use Rattle.cluster_model.specs.Channels.{Channel, World, Happening, At, TearDown, Restart, Halt, ByMaster, Hear, ByAgent, AgentStep, Draw, DrawMail, Adopt, StopWithout, StopWith, after, after_all, open_world}
+use Rattle.cluster_model.specs.Channels.{Channel, World, Happening, At, TearDown, Restart, Halt, ByMaster, Receive, ByAgent, AgentStep, Draw, DrawMail, Adopt, StopWithout, StopWith, after, after_all, open_world}
 use Rattle.cluster_model.specs.Events.{Event, StreamEvent}
 use Rattle.cluster_model.specs.Masters.{Registers, Doing, Move, AtSide, TearDownAll, RestartAll, HaltAll, new_registers}
 use Rattle.cluster_model.specs.Calls.{called}
@@ -84,17 +84,20 @@ posts_by (h ∷ hs) w = let next =
 
 -- streams
 
-abbrev pub told_on : Numbered → List StreamEvent → List Event
-told_on stream told = flat_map (λ t. if same t.stream stream then t.event ∷ [] else []) told
+abbrev pub events_on : Numbered → List StreamEvent → List Event
+events_on stream sent_events =
+    flat_map (λ t. if same t.stream stream then t.event ∷ [] else []) sent_events
 
 abbrev pub new_stream : Numbered → Stream
 new_stream id = record { id = id; events = []; taken = 0 }
 
-abbrev pub hears : List StreamEvent → Stream → Stream
-hears told s = record { id = s.id; events = s.events ++ told_on s.id told; taken = s.taken }
+abbrev pub receives : List StreamEvent → Stream → Stream
+receives sent_events s =
+    record { id = s.id; events = s.events ++ events_on s.id sent_events; taken = s.taken }
 
 abbrev pub streams_after : List Stream → List Numbered → List StreamEvent → List Stream
-streams_after streams opens told = map (hears told) (streams ++ map new_stream opens)
+streams_after streams opens sent_events =
+    map (receives sent_events) (streams ++ map new_stream opens)
 
 -- what a step does
 
@@ -184,17 +187,17 @@ abbrev pub master_does : Cluster → Doing → Result Done ClusterFault
 master_does c d = does c (effect_of [] d)
 
 -- what the master does at a mail, which its side receives first
-abbrev pub master_hears : Cluster → Channel → ℕ → Option AgentMail → Result Done ClusterFault
-master_hears c x place None = Err NoSuchMail
-master_hears c x place (Some mail) =
-    does c (effect_of (At x.side.name (Hear place) ∷ []) (mailed (master_of c) x.side mail))
+abbrev pub master_receives : Cluster → Channel → ℕ → Option AgentMail → Result Done ClusterFault
+master_receives c x place None = Err NoSuchMail
+master_receives c x place (Some mail) =
+    does c (effect_of (At x.side.name (Receive place) ∷ []) (mailed (master_of c) x.side mail))
 
 abbrev pub channel_of : Cluster → List ℕ → Option Channel
 channel_of c agent = find (λ x. bytes_eq x.side.name agent) c.world.channels
 
 abbrev pub delivers_up : Cluster → ℕ → Option Channel → Result Done ClusterFault
 delivers_up c place None = Err NoSuchMail
-delivers_up c place (Some x) = master_hears c x place (slice_get x.to_master place)
+delivers_up c place (Some x) = master_receives c x place (slice_get x.to_master place)
 
 abbrev pub delivers : Cluster → Option Post → Result Done ClusterFault
 delivers c None = Err NoSuchMail
@@ -249,7 +252,7 @@ draws c x cause = drafts c x (Draw cause) (next_of x.agent cause)
 
 abbrev pub draws_mail_at : Cluster → Channel → ℕ → Option MasterMail → Result Done ClusterFault
 draws_mail_at c x place None = Err NoSuchMail
-draws_mail_at c x place (Some mail) = drafts c x (DrawMail place) (hears_mail x.agent mail)
+draws_mail_at c x place (Some mail) = drafts c x (DrawMail place) (receives_mail x.agent mail)
 
 abbrev pub draws_mail : Cluster → Channel → Option Post → Result Done ClusterFault
 draws_mail c x None = Err NoSuchMail

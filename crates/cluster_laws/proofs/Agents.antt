@@ -11,11 +11,11 @@ use Rattle.mails.specs.declared.refusal.AgentRefusal.{AgentRefusal}
 use Rattle.mails.specs.declared.refusal.AgentRefusal.TheVariants.{TotalLess}
 use Rattle.quantity.specs.declared.rows.Row.{Row}
 use Rattle.quantity.specs.Rows.{covers}
-use Rattle.cluster_model.specs.Agents.{Agent, Draft, hears_mail, next_of, opens_again, owning, recovered, recovered_from, starts}
+use Rattle.cluster_model.specs.Agents.{Agent, Draft, receives_mail, next_of, opens_again, owning, recovered, recovered_from, starts}
 use Rattle.cluster_model.specs.Sides.{Run, Side, halted, restarted, side_step}
-use Rattle.cluster_model.specs.Channels.{Channel, AgentStep, Draw, DrawMail, Adopt, StopWithout, StopWith, drawn, drawn_mail, adopted, stopped_with, is_own, agent_step, ChannelStep, ByMaster, Hear, ByAgent, heard_mail, happens, World, Happening, At, TearDown, Restart, Halt, behind, in_front, at_agent, with_side, after, open_channel}
+use Rattle.cluster_model.specs.Channels.{Channel, AgentStep, Draw, DrawMail, Adopt, StopWithout, StopWith, drawn, drawn_mail, adopted, stopped_with, is_own, agent_step, ChannelStep, ByMaster, Receive, ByAgent, received_mail, happens, World, Happening, At, TearDown, Restart, Halt, behind, in_front, at_agent, with_side, after, open_channel}
 use Rattle.cluster_laws.proofs.Lists.{each_append}
-use Rattle.cluster_laws.proofs.Sides.{side_name, heard_name}
+use Rattle.cluster_laws.proofs.Sides.{side_name, received_name}
 
 abbrev pub AllOk : (Draft → Type 0) → Result Draft AgentRefusal → Type 0
 AllOk P (Ok d) = P d
@@ -44,7 +44,7 @@ DraftOk P M (Some d) = Makes P M d
 -- what the rules of an agent keep
 pub record Rules (P : List ℕ → Agent → Type 0) (M : AgentMail → Type 0) : Type 0 where
   pub next : (name : List ℕ) (a : Agent) (cause : Cause) → is_own cause ≡ true → P name a → AllOk (Makes (P name) M) (next_of a cause)
-  pub hears : (name : List ℕ) (a : Agent) (mail : MasterMail) → P name a → AllOk (Makes (P name) M) (hears_mail a mail)
+  pub receives : (name : List ℕ) (a : Agent) (mail : MasterMail) → P name a → AllOk (Makes (P name) M) (receives_mail a mail)
   pub stops : (name : List ℕ) (a : Agent) → P name a → P name (recovered a)
 
 pub record ChannelOk (P : List ℕ → Agent → Type 0) (M : AgentMail → Type 0) (c : Channel) : Type 0 where
@@ -59,7 +59,7 @@ drawn_ok P M c None (Ok new) ok h = record { agent = ok.agent; draft = h; ups = 
 
 drawn_mail_ok : (P : List ℕ → Agent → Type 0) (M : AgentMail → Type 0) (c : Channel) (o : Option MasterMail) → Rules P M → ChannelOk P M c → ChannelOk P M (drawn_mail c o)
 drawn_mail_ok P M c None rules ok = ok
-drawn_mail_ok P M c (Some mail) rules ok = drawn_ok P M c c.draft (hears_mail c.agent mail) ok (rules.hears c.side.name c.agent mail ok.agent)
+drawn_mail_ok P M c (Some mail) rules ok = drawn_ok P M c c.draft (receives_mail c.agent mail) ok (rules.receives c.side.name c.agent mail ok.agent)
 
 adopted_ok : (P : List ℕ → Agent → Type 0) (M : AgentMail → Type 0) (c : Channel) (o : Option Draft) → ChannelOk P M c → DraftOk (P c.side.name) M o → ChannelOk P M (adopted c o)
 adopted_ok P M c None ok h = ok
@@ -80,13 +80,13 @@ agent_ok P M c StopWith rules ok = stopped_ok P M c c.draft rules ok ok.draft
 resided : (P : List ℕ → Agent → Type 0) (M : AgentMail → Type 0) (c : Channel) (s : Side) (down : List MasterMail) → s.name ≡ c.side.name → ChannelOk P M c → ChannelOk P M (record c { side = s; to_agent = down })
 resided P M c s down e ok = record { agent = subst (λ n. P n c.agent) (sym e) ok.agent; draft = subst (λ n. DraftOk (P n) M c.draft) (sym e) ok.draft; ups = ok.ups }
 
-heard_ok : (P : List ℕ → Agent → Type 0) (M : AgentMail → Type 0) (run : Run) (c : Channel) (o : Option AgentMail) → ChannelOk P M c → ChannelOk P M (heard_mail run c o)
-heard_ok P M run c None ok = ok
-heard_ok P M run c (Some mail) ok = let s = heard_name run c.side mail in record { agent = subst (λ n. P n c.agent) (sym s) ok.agent; draft = subst (λ n. DraftOk (P n) M c.draft) (sym s) ok.draft; ups = ok.ups }
+received_ok : (P : List ℕ → Agent → Type 0) (M : AgentMail → Type 0) (run : Run) (c : Channel) (o : Option AgentMail) → ChannelOk P M c → ChannelOk P M (received_mail run c o)
+received_ok P M run c None ok = ok
+received_ok P M run c (Some mail) ok = let s = received_name run c.side mail in record { agent = subst (λ n. P n c.agent) (sym s) ok.agent; draft = subst (λ n. DraftOk (P n) M c.draft) (sym s) ok.draft; ups = ok.ups }
 
 happens_ok : (P : List ℕ → Agent → Type 0) (M : AgentMail → Type 0) (run : Run) (c : Channel) (step : ChannelStep) → Rules P M → ChannelOk P M c → ChannelOk P M (happens run c step).channel
 happens_ok P M run c (ByMaster step) rules ok = resided P M c (side_step run c.side step).side (c.to_agent ++ (side_step run c.side step).sent) (side_name run c.side step) ok
-happens_ok P M run c (Hear place) rules ok = heard_ok P M run c (slice_get c.to_master place) ok
+happens_ok P M run c (Receive place) rules ok = received_ok P M run c (slice_get c.to_master place) ok
 happens_ok P M run c (ByAgent step) rules ok = agent_ok P M c step rules ok
 
 at_ok : (P : List ℕ → Agent → Type 0) (M : AgentMail → Type 0) (agent : List ℕ) (step : ChannelStep) (run : Run) (cs : List Channel) → Rules P M → Each (ChannelOk P M) cs → Each (ChannelOk P M) (at_agent agent step run cs).channels

@@ -8,8 +8,8 @@ use Rattle.mails.specs.declared.cause.Cause.TheVariants.{Start, Executor, Again}
 use Rattle.mails.specs.declared.refusal.AgentRefusal.{AgentRefusal}
 use Rattle.mails.specs.declared.refusal.AgentRefusal.TheVariants.{NotForMe}
 use Rattle.cluster_model.specs.Ids.{last_number, last_run}
-use Rattle.cluster_model.specs.Agents.{Draft, hears_mail, next_of}
-use Rattle.cluster_model.specs.Channels.{Channel, AgentStep, Draw, DrawMail, Adopt, StopWithout, StopWith, Hear, ByAgent, At, Restart, Halt, after_all}
+use Rattle.cluster_model.specs.Agents.{Draft, receives_mail, next_of}
+use Rattle.cluster_model.specs.Channels.{Channel, AgentStep, Draw, DrawMail, Adopt, StopWithout, StopWith, Receive, ByAgent, At, Restart, Halt, after_all}
 use Rattle.cluster_model.specs.Events.{Event}
 use Rattle.cluster_model.specs.Masters.{Doing, new_registers}
 use Rattle.cluster_model.specs.Calls.{called}
@@ -25,7 +25,7 @@ use Rattle.cluster_steps.specs.declared.fault.ClusterFault.{ClusterFault}
 use Rattle.cluster_steps.specs.declared.fault.ClusterFault.TheVariants.{MasterDown, AgentDown, DraftOpen, NoDraft, HistoryFull, TimeBack}
 use Rattle.cluster_steps.specs.declared.verdict.Verdict.TheVariants.{Ok as Fine, AgentRefused, OutOfMemory as Fell}
 use Rattle.cluster_model.specs.Openings.{NamesOnce}
-use Rattle.cluster_histories.specs.Steps.{Effect, Done, done, does, happening, effect_of, master_does, master_hears, channel_of, delivers_up, delivers, post_at, with_tick, ticks_at, stream_at, hangs_up, loses_agent, hello_to, drafts, draws_mail_at, draws_mail, prepares, commits, up_again, stops, with_master, at_channel, is_fallen, if_up, by_draft, without_draft, with_draft, takes_event, takes, answer, master_falls, new_master_falls, fallen_too, agent_falls, instead, fallen_answer, Marked, step_marked}
+use Rattle.cluster_histories.specs.Steps.{Effect, Done, done, does, happening, effect_of, master_does, master_receives, channel_of, delivers_up, delivers, post_at, with_tick, ticks_at, stream_at, hangs_up, loses_agent, hello_to, drafts, draws_mail_at, draws_mail, prepares, commits, up_again, stops, with_master, at_channel, is_fallen, if_up, by_draft, without_draft, with_draft, takes_event, takes, answer, master_falls, new_master_falls, fallen_too, agent_falls, instead, fallen_answer, Marked, step_marked}
 use Rattle.cluster_laws.specs.Items.{names_of, Item, StandIn, items_sent, call_of}
 use Rattle.cluster_laws.proofs.Sent.{happened_stand, stand_append}
 
@@ -61,13 +61,13 @@ beside_follows calls c other e w p n v f = record {
 master_follows : (calls : List Item) (c : Cluster) (d : Doing) → Follows calls c (master_does c d)
 master_follows calls c d = effect_follows calls c (effect_of [] d)
 
-hears_follows : (calls : List Item) (c : Cluster) (x : Channel) (place : ℕ) (mail : Option AgentMail) → Follows calls c (master_hears c x place mail)
-hears_follows calls c x place None = tt
-hears_follows calls c x place (Some mail) = effect_follows calls c (effect_of (At x.side.name (Hear place) ∷ []) (mailed (master_of c) x.side mail))
+receives_follows : (calls : List Item) (c : Cluster) (x : Channel) (place : ℕ) (mail : Option AgentMail) → Follows calls c (master_receives c x place mail)
+receives_follows calls c x place None = tt
+receives_follows calls c x place (Some mail) = effect_follows calls c (effect_of (At x.side.name (Receive place) ∷ []) (mailed (master_of c) x.side mail))
 
 delivers_up_follows : (calls : List Item) (c : Cluster) (place : ℕ) (x : Option Channel) → Follows calls c (delivers_up c place x)
 delivers_up_follows calls c place None = tt
-delivers_up_follows calls c place (Some x) = hears_follows calls c x place (slice_get x.to_master place)
+delivers_up_follows calls c place (Some x) = receives_follows calls c x place (slice_get x.to_master place)
 
 delivers_follows : (calls : List Item) (c : Cluster) (p : Option Post) → Follows calls c (delivers c p)
 delivers_follows calls c None = tt
@@ -88,7 +88,7 @@ drafts_follows calls c x step (Err refusal) = effect_follows calls c (happening 
 
 draws_mail_at_follows : (calls : List Item) (c : Cluster) (x : Channel) (place : ℕ) (o : Option MasterMail) → Follows calls c (draws_mail_at c x place o)
 draws_mail_at_follows calls c x place None = tt
-draws_mail_at_follows calls c x place (Some mail) = drafts_follows calls c x (DrawMail place) (hears_mail x.agent mail)
+draws_mail_at_follows calls c x place (Some mail) = drafts_follows calls c x (DrawMail place) (receives_mail x.agent mail)
 
 draws_mail_follows : (calls : List Item) (c : Cluster) (x : Channel) (p : Option Post) → Follows calls c (draws_mail c x p)
 draws_mail_follows calls c x None = tt

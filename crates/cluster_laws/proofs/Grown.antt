@@ -5,12 +5,12 @@ use Rattle.std.proofs.lemmas.Bool.{cond_both}
 use Rattle.mails.specs.declared.mail.MasterMail.{MasterMail}
 use Rattle.mails.specs.declared.mail.AgentMail.{AgentMail}
 use Rattle.mails.specs.declared.refusal.AgentRefusal.{AgentRefusal}
-use Rattle.cluster_model.specs.Agents.{Draft, hears_mail, next_of}
+use Rattle.cluster_model.specs.Agents.{Draft, receives_mail, next_of}
 use Rattle.cluster_model.specs.Sides.{Run, Side, halted, restarted, side_step}
-use Rattle.cluster_model.specs.Channels.{Channel, AgentStep, Draw, DrawMail, Adopt, StopWithout, StopWith, drawn, drawn_mail, adopted, stopped_with, is_own, agent_step, ChannelStep, ByMaster, Hear, ByAgent, heard_mail, happens, World, Happening, At, TearDown, Restart, Halt, behind, in_front, at_agent, with_side, after, after_all}
+use Rattle.cluster_model.specs.Channels.{Channel, AgentStep, Draw, DrawMail, Adopt, StopWithout, StopWith, drawn, drawn_mail, adopted, stopped_with, is_own, agent_step, ChannelStep, ByMaster, Receive, ByAgent, received_mail, happens, World, Happening, At, TearDown, Restart, Halt, behind, in_front, at_agent, with_side, after, after_all}
 use Rattle.cluster_laws.specs.Items.{names_of}
 use Rattle.cluster_laws.proofs.Lists.{cons_same}
-use Rattle.cluster_laws.proofs.Sides.{SameName, side_name, heard_name}
+use Rattle.cluster_laws.proofs.Sides.{SameName, side_name, received_name}
 
 -- what an agent does in its channel
 
@@ -29,7 +29,7 @@ drawn_itself c None (Ok new) = record { side = refl; down = refl; up = ([], sym 
 
 drawn_mail_itself : (c : Channel) (o : Option MasterMail) → ByItself c (drawn_mail c o)
 drawn_mail_itself c None = itself c
-drawn_mail_itself c (Some mail) = drawn_itself c c.draft (hears_mail c.agent mail)
+drawn_mail_itself c (Some mail) = drawn_itself c c.draft (receives_mail c.agent mail)
 
 adopted_itself : (c : Channel) (o : Option Draft) → ByItself c (adopted c o)
 adopted_itself c None = itself c
@@ -56,13 +56,13 @@ pub record GrownOne (old new : Channel) : Type 0 where
 one_same : (c : Channel) → GrownOne c c
 one_same c = record { name = refl; down = ([], sym (append-nil c.to_agent)); up = ([], sym (append-nil c.to_master)) }
 
-heard_grown : (run : Run) (c : Channel) (o : Option AgentMail) → GrownOne c (heard_mail run c o)
-heard_grown run c None = one_same c
-heard_grown run c (Some mail) = record { name = heard_name run c.side mail; down = ([], sym (append-nil c.to_agent)); up = ([], sym (append-nil c.to_master)) }
+received_grown : (run : Run) (c : Channel) (o : Option AgentMail) → GrownOne c (received_mail run c o)
+received_grown run c None = one_same c
+received_grown run c (Some mail) = record { name = received_name run c.side mail; down = ([], sym (append-nil c.to_agent)); up = ([], sym (append-nil c.to_master)) }
 
 pub happens_grown : (run : Run) (c : Channel) (step : ChannelStep) → GrownOne c (happens run c step).channel
 happens_grown run c (ByMaster step) = record { name = side_name run c.side step; down = ((side_step run c.side step).sent, refl); up = ([], sym (append-nil c.to_master)) }
-happens_grown run c (Hear place) = heard_grown run c (slice_get c.to_master place)
+happens_grown run c (Receive place) = received_grown run c (slice_get c.to_master place)
 happens_grown run c (ByAgent step) =
     let i = agent_itself c step in
     record { name = ap (λ (s : Side). s.name) i.side; down = ([], i.down ∙ sym (append-nil c.to_agent)); up = i.up }

@@ -19,7 +19,7 @@ use Rattle.cluster_histories.specs.Clusters.{sides_of}
 use Rattle.cluster_model.specs.Openings.{NamesOnce}
 use Rattle.cluster_safe.specs.Facts.{Less}
 use Rattle.cluster_safe.specs.Premises.{MeetsPremises, NextLaunchIsLater, ReportFits}
-use Rattle.agent_core.specs.Drafts.{hears_in_order, is_in_order, is_next_command, launches_in_order}
+use Rattle.agent_core.specs.Drafts.{receives_in_order, is_in_order, is_next_command, launches_in_order}
 use Rattle.side_fits.specs.Fits.{MailFits, MailFitsAt}
 use Rattle.cluster_laws.specs.Items.{names_of, channel_at, item_of}
 use Rattle.cluster_laws.specs.declared.item.Item.TheVariants as items
@@ -49,11 +49,11 @@ launch_behind x place session number (Kill key) later e next = refl
 launch_behind x place session number (Ack key k) later e next = refl
 launch_behind x place session number (EndFramework framework) later e next = refl
 
-mail_in_order : (x : Channel) (place : ℕ) (mail : MasterMail) → MeetsPremises x → slice_get x.to_agent place ≡ Some mail → hears_in_order x.agent mail ≡ true
+mail_in_order : (x : Channel) (place : ℕ) (mail : MasterMail) → MeetsPremises x → slice_get x.to_agent place ≡ Some mail → receives_in_order x.agent mail ≡ true
 mail_in_order x place (Hello run dead) h e = let lt : 0 < run = h.hello place run dead e in grind (arith, nat_tests)
 mail_in_order x place (Issued session number command) h e = by (is_next_command x.agent session number) refl
   where
-    by : (b : Bool) → is_next_command x.agent session number ≡ b → hears_in_order x.agent (Issued session number command) ≡ true
+    by : (b : Bool) → is_next_command x.agent session number ≡ b → receives_in_order x.agent (Issued session number command) ≡ true
     by false n = rw n refl
     by true n = rw n (launch_behind x place session number command h.launch e n)
 

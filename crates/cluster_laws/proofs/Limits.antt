@@ -22,7 +22,7 @@ use Rattle.mails.specs.declared.cause.Cause.TheVariants.{Start, Mail, Executor, 
 use Rattle.mails.specs.declared.refusal.AgentRefusal.{AgentRefusal}
 use Rattle.mails.specs.declared.refusal.AgentRefusal.TheVariants.{OldSession, NotNext, NoSuchTask, Ended, NoRoom, UpdatesFull, SessionsSpent}
 use Rattle.cluster_model.specs.Ids.{last_number}
-use Rattle.cluster_model.specs.Agents.{Agent, Draft, has_ended, is_task, state_at, front_of, fronts, front_at, owning, reopened, reports, opens_next, starts, stated, acknowledged, launched_task, tasks_after, is_front_at, fronts_after, with_tasks, after_command, applies, has_room, hears_mail, needs_place, executes, next_of}
+use Rattle.cluster_model.specs.Agents.{Agent, Draft, has_ended, is_task, state_at, front_of, fronts, front_at, owning, reopened, reports, opens_next, starts, stated, acknowledged, launched_task, tasks_after, is_front_at, fronts_after, with_tasks, after_command, applies, has_room, receives_mail, needs_place, executes, next_of}
 use Rattle.cluster_model.specs.Channels.{Channel, is_own}
 use Rattle.cluster_histories.specs.Clusters.{Post}
 use Rattle.cluster_histories.specs.Steps.{Setup, Marked, history}
@@ -131,7 +131,7 @@ after_fits (Kill key) before a h = front_at_fits key a h
 after_fits (Ack key k) before a h = cond_both (is_front_at key k before.durable.tasks) (front_at key a) [] (Each FitsRecord) (λ e. front_at_fits key a h) (λ e. tt)
 after_fits (EndFramework framework) before a h = tt
 
-mail_good : (a : Agent) (m : MasterMail) → AreWithin a.durable.tasks → AllOk Good (hears_mail a m)
+mail_good : (a : Agent) (m : MasterMail) → AreWithin a.durable.tasks → AllOk Good (receives_mail a m)
 mail_good a (Hello run dead) h =
     all_if (nat_lt run a.run) (Err OldSession) (if (nat_lt a.run run || nat_le a.session dead) || not a.in_session then opens_next a (max a.session dead) run else Ok (reports a)) Good (λ e. tt)
     (λ e. all_if ((nat_lt a.run run || nat_le a.session dead) || not a.in_session) (opens_next a (max a.session dead) run) (Ok (reports a)) Good (λ d. opens_good a (max a.session dead) run h) (λ d. (h, (tt, fronts_fit a h))))
@@ -199,7 +199,7 @@ next_good a (Executor key state) own h = executes_good a key state h
 limits_kept : Rules Roomy FitsRecord
 limits_kept = record {
   next = λ name a cause own h. next_good a cause own h;
-  hears = λ name a mail h. mail_good a mail h;
+  receives = λ name a mail h. mail_good a mail h;
   stops = λ name a h. h;
 }
 

@@ -9,9 +9,9 @@ use Rattle.mails.specs.declared.record.Durable.{Durable}
 use Rattle.cluster_model.specs.Ids.{last_run}
 use Rattle.mails.specs.declared.cause.Cause.{Cause}
 use Rattle.mails.specs.declared.refusal.AgentRefusal.{AgentRefusal}
-use Rattle.cluster_model.specs.Agents.{Draft, hears_mail, next_of, recovered}
+use Rattle.cluster_model.specs.Agents.{Draft, receives_mail, next_of, recovered}
 use Rattle.cluster_model.specs.Sides.{Run, Side, halted, restarted, side_step, SendHello, new_run}
-use Rattle.cluster_model.specs.Channels.{Channel, AgentStep, Draw, DrawMail, Adopt, StopWithout, StopWith, drawn, drawn_mail, adopted, stopped_with, is_own, agent_step, ChannelStep, ByMaster, Hear, ByAgent, heard_mail, happens, World, Happening, At, TearDown, Restart, Halt, behind, in_front, at_agent, with_side, after, after_all, open_channel, open_world}
+use Rattle.cluster_model.specs.Channels.{Channel, AgentStep, Draw, DrawMail, Adopt, StopWithout, StopWith, drawn, drawn_mail, adopted, stopped_with, is_own, agent_step, ChannelStep, ByMaster, Receive, ByAgent, received_mail, happens, World, Happening, At, TearDown, Restart, Halt, behind, in_front, at_agent, with_side, after, after_all, open_channel, open_world}
 use Rattle.cluster_model.specs.Masters.{Move, AtSide, TearDownAll, RestartAll, HaltAll, Doing, new_registers}
 use Rattle.cluster_histories.specs.Clusters.{Cluster, Post, sides_of, master_of}
 use Rattle.cluster_steps.specs.declared.verdict.Sent.TheVariants.{ToMaster as MailToMaster}
@@ -22,14 +22,14 @@ use Rattle.cluster_histories.specs.Steps.{Setup, posts_in, sent_in, sent_between
 use Rattle.cluster_laws.specs.Items.{names_of}
 use Rattle.cluster_laws.specs.Parts.{part_of, parts_of, recovered_part, IsSilent, from_agent, greeting, anew, next_master}
 use Rattle.cluster_laws.proofs.Lists.{each_at, bytes_refl, bytes_differ, cons_same, append_same, drop_all}
-use Rattle.cluster_laws.proofs.Sides.{side_name, heard_name}
+use Rattle.cluster_laws.proofs.Sides.{side_name, received_name}
 use Rattle.cluster_laws.proofs.Grown.{agent_itself}
 
 -- the master's happenings
 
 abbrev pub IsMasters : Happening → Type 0
 IsMasters (At agent (ByMaster step)) = ⊤
-IsMasters (At agent (Hear place)) = ⊤
+IsMasters (At agent (Receive place)) = ⊤
 IsMasters (At agent (ByAgent step)) = ⊥
 IsMasters (TearDown framework) = ⊤
 IsMasters Restart = ⊤
@@ -37,19 +37,19 @@ IsMasters Halt = ⊤
 
 abbrev IsSides : ChannelStep → Type 0
 IsSides (ByMaster step) = ⊤
-IsSides (Hear place) = ⊤
+IsSides (Receive place) = ⊤
 IsSides (ByAgent step) = ⊥
 
 same_part : (c : Channel) (s : Side) (down : List MasterMail) → s.name ≡ c.side.name → part_of (record c { side = s; to_agent = down }) ≡ part_of c
 same_part c s down e = ap (λ n. record { name = n; agent = c.agent; draft = c.draft }) e
 
-heard_part : (run : Run) (c : Channel) (o : Option AgentMail) → part_of (heard_mail run c o) ≡ part_of c
-heard_part run c None = refl
-heard_part run c (Some mail) = ap (λ (n : List ℕ). record { name = n; agent = c.agent; draft = c.draft }) (heard_name run c.side mail)
+received_part : (run : Run) (c : Channel) (o : Option AgentMail) → part_of (received_mail run c o) ≡ part_of c
+received_part run c None = refl
+received_part run c (Some mail) = ap (λ (n : List ℕ). record { name = n; agent = c.agent; draft = c.draft }) (received_name run c.side mail)
 
 happens_part : (run : Run) (c : Channel) (step : ChannelStep) → IsSides step → part_of (happens run c step).channel ≡ part_of c
 happens_part run c (ByMaster step) h = same_part c (side_step run c.side step).side (c.to_agent ++ (side_step run c.side step).sent) (side_name run c.side step)
-happens_part run c (Hear place) h = heard_part run c (slice_get c.to_master place)
+happens_part run c (Receive place) h = received_part run c (slice_get c.to_master place)
 happens_part run c (ByAgent step) h = absurd h
 
 at_parts : (agent : List ℕ) (step : ChannelStep) (run : Run) (cs : List Channel) → IsSides step → parts_of (at_agent agent step run cs).channels ≡ parts_of cs
@@ -66,7 +66,7 @@ sides_parts f same (c ∷ cs) = cons_same (part_of (with_side f c)) (part_of c) 
 
 world_parts : (w : World) (h : Happening) → IsMasters h → parts_of (after w h).channels ≡ parts_of w.channels
 world_parts w (At agent (ByMaster step)) h = at_parts agent (ByMaster step) w.run w.channels tt
-world_parts w (At agent (Hear place)) h = at_parts agent (Hear place) w.run w.channels tt
+world_parts w (At agent (Receive place)) h = at_parts agent (Receive place) w.run w.channels tt
 world_parts w (At agent (ByAgent step)) h = absurd h
 world_parts w (TearDown framework) h = refl
 world_parts w Restart h = sides_parts restarted (λ s. refl) w.channels
@@ -90,8 +90,8 @@ hellos_masters (c ∷ cs) = (tt, hellos_masters cs)
 pub moved_parts : (c : Cluster) (d : Doing) → parts_of (done c (effect_of [] d)).after.world.channels ≡ parts_of c.world.channels
 moved_parts c d = all_parts (map happening_of d.moves) c.world (moves_masters d.moves)
 
-pub heard_parts : (c : Cluster) (agent : List ℕ) (place : ℕ) (d : Doing) → parts_of (done c (effect_of (At agent (Hear place) ∷ []) d)).after.world.channels ≡ parts_of c.world.channels
-heard_parts c agent place d = all_parts (At agent (Hear place) ∷ map happening_of d.moves) c.world (tt, moves_masters d.moves)
+pub received_parts : (c : Cluster) (agent : List ℕ) (place : ℕ) (d : Doing) → parts_of (done c (effect_of (At agent (Receive place) ∷ []) d)).after.world.channels ≡ parts_of c.world.channels
+received_parts c agent place d = all_parts (At agent (Receive place) ∷ map happening_of d.moves) c.world (tt, moves_masters d.moves)
 
 pub fallen_parts : (c : Cluster) → parts_of (master_falls c).after.world.channels ≡ parts_of c.world.channels
 fallen_parts c = all_parts (Halt ∷ []) c.world (tt, tt)
@@ -184,7 +184,7 @@ drawn_up c None (Ok new) = refl
 
 drawn_mail_up : (c : Channel) (o : Option MasterMail) → (drawn_mail c o).to_master ≡ c.to_master
 drawn_mail_up c None = refl
-drawn_mail_up c (Some mail) = drawn_up c c.draft (hears_mail c.agent mail)
+drawn_mail_up c (Some mail) = drawn_up c c.draft (receives_mail c.agent mail)
 
 stopped_up : (c : Channel) (o : Option Draft) → (stopped_with c o).to_master ≡ c.to_master
 stopped_up c None = refl
@@ -230,7 +230,7 @@ commit_sends c verdict agent place x d once e name draft =
 pub draws : (x : Channel) (cause : Cause) (d : Draft) → is_own cause ≡ true → x.draft ≡ None → next_of x.agent cause ≡ Ok d → part_of (agent_step x (Draw cause)) ≡ record { name = x.side.name; agent = x.agent; draft = Some d }
 draws x cause d own none e = rw own (rw (none, e) refl)
 
-pub draws_mail : (x : Channel) (place : ℕ) (mail : MasterMail) (d : Draft) → slice_get x.to_agent place ≡ Some mail → x.draft ≡ None → hears_mail x.agent mail ≡ Ok d → part_of (agent_step x (DrawMail place)) ≡ record { name = x.side.name; agent = x.agent; draft = Some d }
+pub draws_mail : (x : Channel) (place : ℕ) (mail : MasterMail) (d : Draft) → slice_get x.to_agent place ≡ Some mail → x.draft ≡ None → receives_mail x.agent mail ≡ Ok d → part_of (agent_step x (DrawMail place)) ≡ record { name = x.side.name; agent = x.agent; draft = Some d }
 draws_mail x place mail d there none e = rw there (rw (none, e) refl)
 
 pub adopts : (x : Channel) (d : Draft) → x.draft ≡ Some d → part_of (agent_step x Adopt) ≡ record { name = x.side.name; agent = d.after; draft = None }

@@ -15,7 +15,7 @@ use Rattle.mails.specs.declared.cause.Cause.TheVariants.{Start, Mail, Executor, 
 use Rattle.mails.specs.declared.refusal.AgentRefusal.{AgentRefusal}
 use Rattle.mails.specs.declared.refusal.AgentRefusal.TheVariants.{OldSession, NotNext, NoSuchTask, Ended, NoRoom, UpdatesFull, SessionsSpent}
 use Rattle.cluster_model.specs.Ids.{last_number}
-use Rattle.cluster_model.specs.Agents.{Agent, Draft, has_ended, is_task, front_at, owning, reopened, reports, opens_next, starts, stated, with_tasks, applies, has_room, hears_mail, needs_place, executes, next_of}
+use Rattle.cluster_model.specs.Agents.{Agent, Draft, has_ended, is_task, front_at, owning, reopened, reports, opens_next, starts, stated, with_tasks, applies, has_room, receives_mail, needs_place, executes, next_of}
 use Rattle.cluster_model.specs.Channels.{is_own}
 use Rattle.cluster_histories.specs.Steps.{Setup, Marked, history}
 use Rattle.cluster_laws.proofs.Lists.{each_all}
@@ -28,7 +28,7 @@ KeepsName a d = d.after.durable.name ≡ a.durable.name
 opens_name : (a : Agent) (last run : ℕ) → AllOk (KeepsName a) (opens_next a last run)
 opens_name a last run = all_if (nat_le last_number last) (Err SessionsSpent) (Ok (reports (reopened a (suc last) run))) (KeepsName a) (λ e. tt) (λ e. refl)
 
-mail_name : (a : Agent) (m : MasterMail) → AllOk (KeepsName a) (hears_mail a m)
+mail_name : (a : Agent) (m : MasterMail) → AllOk (KeepsName a) (receives_mail a m)
 mail_name a (Hello run dead) =
     all_if (nat_lt run a.run) (Err OldSession) (if (nat_lt a.run run || nat_le a.session dead) || not a.in_session then opens_next a (max a.session dead) run else Ok (reports a)) (KeepsName a) (λ e. tt)
     (λ e. all_if ((nat_lt a.run run || nat_le a.session dead) || not a.in_session) (opens_next a (max a.session dead) run) (Ok (reports a)) (KeepsName a) (λ d. opens_name a (max a.session dead) run) (λ d. refl))
@@ -80,7 +80,7 @@ made name a h r ok = all_wider (KeepsName a) (Makes (HasName name) AnyMail) (λ 
 names_kept : Rules HasName AnyMail
 names_kept = record {
   next = λ name a cause own h. made name a h (next_of a cause) (next_name a cause own);
-  hears = λ name a mail h. made name a h (hears_mail a mail) (mail_name a mail);
+  receives = λ name a mail h. made name a h (receives_mail a mail) (mail_name a mail);
   stops = λ name a h. h;
 }
 

@@ -16,8 +16,8 @@ use Rattle.role_weights.specs.Weights.{RoleWeight}
 use Rattle.cluster_model.specs.Ids.{last_number}
 use Rattle.cluster_model.specs.Sides.{Side, opens, is_named, MakeOffer, SendKill, SendAck, SendEnd, SendHello, Lose}
 use Rattle.cluster_model.specs.Events.{MadeOffer, Failure}
-use Rattle.cluster_model.specs.Masters.{Framework, Registers, Master, Move, AtSide, TearDownAll, Doing, nothing, refused, saying, moving, framework_of, is_torn, with_framework, tells_all, Placed, all_booked, held, is_of, withdraws_on, withdraws, without_filters_on, side_of, has_numbers, may_have_numbers}
-use Rattle.cluster_model.specs.Calls.{frameworks_limit, to_list, subscribed, removed, resubscribed, is_unheard_of, sides_with_tasks, on_teardown, answers_held, Given, good_side, given_by, Accepting, accepts_all, accepted_as, passes_limits, accepted_from, on_accept, on_decline, on_revive, on_suppress, commanding, on_kill, is_last_heard, on_acknowledge, on_reconcile, is_stream, on_its_stream, by_known, called}
+use Rattle.cluster_model.specs.Masters.{Framework, Registers, Master, Move, AtSide, TearDownAll, Doing, nothing, refused, saying, moving, framework_of, is_torn, with_framework, events_to_all, Placed, all_booked, held, is_of, withdraws_on, withdraws, without_filters_on, side_of, has_numbers, may_have_numbers}
+use Rattle.cluster_model.specs.Calls.{frameworks_limit, to_list, subscribed, removed, resubscribed, is_unassigned, sides_with_tasks, on_teardown, answers_held, Given, good_side, given_by, Accepting, accepts_all, accepted_as, passes_limits, accepted_from, on_accept, on_decline, on_revive, on_suppress, commanding, on_kill, is_last_received, on_acknowledge, on_reconcile, is_stream, on_its_stream, by_known, called}
 use Rattle.cluster_model.specs.Mails.{judged, rescinds, loses, is_to_end, session_opens, goes_with, mailed_as, mailed, ticks, ticked, agent_lost, hung_up_by, hung_up}
 use Rattle.cluster_model.specs.Rounds.{round, allocated}
 use Rattle.cluster_laws.specs.Runs.{IsPlain, OpensNext}
@@ -86,7 +86,7 @@ reconciled m (a ∷ more) f = plain m (on_reconcile m (a ∷ more) f) tt refl re
 pub called_ordinary : (m : Master) (stream : Option Numbered) (call : Call) → Ordinary m (called m stream call)
 called_ordinary m stream (Subscribe None role) = if_ordinary m (nat_le frameworks_limit (length m.registers.frameworks) || nat_le last_number m.registers.last_framework || nat_le last_number m.registers.last_stream) (refused m LimitExceeded) (subscribed m (record m.registers { last_framework = suc m.registers.last_framework }) (record { run = m.run.number; n = suc m.registers.last_framework }) role None) (refuses m LimitExceeded)
     (subscribes m (record m.registers { last_framework = suc m.registers.last_framework }) (record { run = m.run.number; n = suc m.registers.last_framework }) role None refl)
-called_ordinary m stream (Subscribe (Some id) role) = if_ordinary m (is_unheard_of m id) (refused m NoSuchFramework) (if nat_le last_number m.registers.last_stream then refused m LimitExceeded else (if is_torn m id then removed m else resubscribed m id role (framework_of m id))) (refuses m NoSuchFramework)
+called_ordinary m stream (Subscribe (Some id) role) = if_ordinary m (is_unassigned m id) (refused m NoSuchFramework) (if nat_le last_number m.registers.last_stream then refused m LimitExceeded else (if is_torn m id then removed m else resubscribed m id role (framework_of m id))) (refuses m NoSuchFramework)
     (if_ordinary m (nat_le last_number m.registers.last_stream) (refused m LimitExceeded) (if is_torn m id then removed m else resubscribed m id role (framework_of m id)) (refuses m LimitExceeded)
     (if_ordinary m (is_torn m id) (removed m) (resubscribed m id role (framework_of m id)) (record { moves = tt; opens = inr (refl, refl) }) (resubscribes m id role (framework_of m id))))
 called_ordinary m stream (Teardown framework) = known_too m stream (framework_of m framework) (on_teardown m) (tears_down m)
@@ -98,7 +98,7 @@ called_ordinary m stream (Revive framework) = known_too m stream (framework_of m
 called_ordinary m stream (Suppress framework) = known_too m stream (framework_of m framework) (on_suppress m) (λ f. plain m (on_suppress m f) tt refl refl)
 called_ordinary m stream (calls.Kill framework task agent) = known_too m stream (framework_of m framework) (λ f. on_kill m task agent f (held m f.id task)) (λ f. kills m task agent f (held m f.id task))
 called_ordinary m stream (Acknowledge framework agent task uuid) = known_too m stream (framework_of m framework) (on_acknowledge m agent task uuid.key uuid.k)
-    (λ f. if_ordinary m (list_any (is_last_heard f agent task uuid.key uuid.k) (all_booked m)) (commanding m (side_of m agent) (AtSide agent (SendAck uuid.key uuid.k))) (nothing m) (commands m (side_of m agent) (AtSide agent (SendAck uuid.key uuid.k)) tt) (does_nothing m))
+    (λ f. if_ordinary m (list_any (is_last_received f agent task uuid.key uuid.k) (all_booked m)) (commanding m (side_of m agent) (AtSide agent (SendAck uuid.key uuid.k))) (nothing m) (commands m (side_of m agent) (AtSide agent (SendAck uuid.key uuid.k)) tt) (does_nothing m))
 called_ordinary m stream (Reconcile framework tasks) = known_too m stream (framework_of m framework) (on_reconcile m tasks) (reconciled m tasks)
 
 goes : (m : Master) (s : Side) (mail : AgentMail) → Ordinary m (goes_with m s mail)
@@ -128,7 +128,7 @@ pub lost_ordinary : (m : Master) (s : Side) → Ordinary m (agent_lost m s)
 lost_ordinary m s = if_ordinary m s.is_open lost (nothing m) (plain m lost (tt, (tt, tt)) refl refl) (does_nothing m)
   where
     lost : Doing
-    lost = record { refusal = None; moves = AtSide s.name Lose ∷ AtSide s.name SendHello ∷ []; events = rescinds m s.offers ++ loses m s.name s.booked ++ tells_all m.registers.frameworks (Failure s.name); opens = []; closes = []; registers = without_filters_on s.name m.registers }
+    lost = record { refusal = None; moves = AtSide s.name Lose ∷ AtSide s.name SendHello ∷ []; events = rescinds m s.offers ++ loses m s.name s.booked ++ events_to_all m.registers.frameworks (Failure s.name); opens = []; closes = []; registers = without_filters_on s.name m.registers }
 
 hung_by : (m : Master) (stream : Numbered) (o : Option Framework) → Ordinary m (hung_up_by m stream o)
 hung_by m stream None = does_nothing m

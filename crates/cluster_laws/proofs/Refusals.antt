@@ -13,8 +13,8 @@ use Rattle.role_weights.specs.Weights.{RoleWeight}
 use Rattle.cluster_model.specs.Ids.{last_number}
 use Rattle.cluster_model.specs.Sides.{Side, SendKill, SendAck, SendEnd, SendHello, Lose}
 use Rattle.cluster_model.specs.Events.{Failure}
-use Rattle.cluster_model.specs.Masters.{Framework, Master, Move, AtSide, TearDownAll, Doing, nothing, refused, saying, moving, framework_of, is_torn, with_framework, tells_all, Placed, all_booked, held, is_of, withdraws, without_filters_on, side_of, has_numbers, may_have_numbers}
-use Rattle.cluster_model.specs.Calls.{frameworks_limit, to_list, subscribed, removed, resubscribed, is_unheard_of, sides_with_tasks, on_teardown, answers_held, Given, good_side, given_by, Accepting, accepts_all, accepted_as, passes_limits, accepted_from, on_accept, on_decline, on_revive, on_suppress, commanding, on_kill, is_last_heard, on_acknowledge, on_reconcile, is_stream, on_its_stream, by_known, called}
+use Rattle.cluster_model.specs.Masters.{Framework, Master, Move, AtSide, TearDownAll, Doing, nothing, refused, saying, moving, framework_of, is_torn, with_framework, events_to_all, Placed, all_booked, held, is_of, withdraws, without_filters_on, side_of, has_numbers, may_have_numbers}
+use Rattle.cluster_model.specs.Calls.{frameworks_limit, to_list, subscribed, removed, resubscribed, is_unassigned, sides_with_tasks, on_teardown, answers_held, Given, good_side, given_by, Accepting, accepts_all, accepted_as, passes_limits, accepted_from, on_accept, on_decline, on_revive, on_suppress, commanding, on_kill, is_last_received, on_acknowledge, on_reconcile, is_stream, on_its_stream, by_known, called}
 use Rattle.cluster_model.specs.Mails.{rescinds, loses, ticked, agent_lost, hung_up_by, hung_up}
 use Rattle.cluster_model.specs.Rounds.{allocated}
 use Rattle.cluster_laws.specs.Runs.{RefusesAlone}
@@ -65,7 +65,7 @@ reconciled m (a ∷ more) f = fine m (on_reconcile m (a ∷ more) f) refl
 pub calls_alone : (m : Master) (stream : Option Numbered) (call : Call) → RefusesAlone m (called m stream call)
 calls_alone m stream (Subscribe None role) = if_alone m (nat_le frameworks_limit (length m.registers.frameworks) || nat_le last_number m.registers.last_framework || nat_le last_number m.registers.last_stream) (refused m LimitExceeded) (subscribed m (record m.registers { last_framework = suc m.registers.last_framework }) (record { run = m.run.number; n = suc m.registers.last_framework }) role None) (alone m LimitExceeded)
     (fine m (subscribed m (record m.registers { last_framework = suc m.registers.last_framework }) (record { run = m.run.number; n = suc m.registers.last_framework }) role None) refl)
-calls_alone m stream (Subscribe (Some id) role) = if_alone m (is_unheard_of m id) (refused m NoSuchFramework) (if nat_le last_number m.registers.last_stream then refused m LimitExceeded else (if is_torn m id then removed m else resubscribed m id role (framework_of m id))) (alone m NoSuchFramework)
+calls_alone m stream (Subscribe (Some id) role) = if_alone m (is_unassigned m id) (refused m NoSuchFramework) (if nat_le last_number m.registers.last_stream then refused m LimitExceeded else (if is_torn m id then removed m else resubscribed m id role (framework_of m id))) (alone m NoSuchFramework)
     (if_alone m (nat_le last_number m.registers.last_stream) (refused m LimitExceeded) (if is_torn m id then removed m else resubscribed m id role (framework_of m id)) (alone m LimitExceeded)
     (if_alone m (is_torn m id) (removed m) (resubscribed m id role (framework_of m id)) (fine m (removed m) refl) (resubscribes m id role (framework_of m id))))
 calls_alone m stream (Teardown framework) = known_too m stream (framework_of m framework) (on_teardown m) (tears_down m)
@@ -77,14 +77,14 @@ calls_alone m stream (Revive framework) = known_too m stream (framework_of m fra
 calls_alone m stream (Suppress framework) = known_too m stream (framework_of m framework) (on_suppress m) (λ f. fine m (on_suppress m f) refl)
 calls_alone m stream (calls.Kill framework task agent) = known_too m stream (framework_of m framework) (λ f. on_kill m task agent f (held m f.id task)) (λ f. kills m task agent f (held m f.id task))
 calls_alone m stream (Acknowledge framework agent task uuid) = known_too m stream (framework_of m framework) (on_acknowledge m agent task uuid.key uuid.k)
-    (λ f. if_alone m (list_any (is_last_heard f agent task uuid.key uuid.k) (all_booked m)) (commanding m (side_of m agent) (AtSide agent (SendAck uuid.key uuid.k))) (nothing m) (commands m (side_of m agent) (AtSide agent (SendAck uuid.key uuid.k))) (fine m (nothing m) refl))
+    (λ f. if_alone m (list_any (is_last_received f agent task uuid.key uuid.k) (all_booked m)) (commanding m (side_of m agent) (AtSide agent (SendAck uuid.key uuid.k))) (nothing m) (commands m (side_of m agent) (AtSide agent (SendAck uuid.key uuid.k))) (fine m (nothing m) refl))
 calls_alone m stream (Reconcile framework tasks) = known_too m stream (framework_of m framework) (on_reconcile m tasks) (reconciled m tasks)
 
 pub losses_alone : (m : Master) (s : Side) → RefusesAlone m (agent_lost m s)
 losses_alone m s = if_alone m s.is_open lost (nothing m) (fine m lost refl) (fine m (nothing m) refl)
   where
     lost : Doing
-    lost = record { refusal = None; moves = AtSide s.name Lose ∷ AtSide s.name SendHello ∷ []; events = rescinds m s.offers ++ loses m s.name s.booked ++ tells_all m.registers.frameworks (Failure s.name); opens = []; closes = []; registers = without_filters_on s.name m.registers }
+    lost = record { refusal = None; moves = AtSide s.name Lose ∷ AtSide s.name SendHello ∷ []; events = rescinds m s.offers ++ loses m s.name s.booked ++ events_to_all m.registers.frameworks (Failure s.name); opens = []; closes = []; registers = without_filters_on s.name m.registers }
 
 hung_by : (m : Master) (stream : Numbered) (o : Option Framework) → RefusesAlone m (hung_up_by m stream o)
 hung_by m stream None = fine m (nothing m) refl

@@ -11,7 +11,7 @@ use Rattle.mails.specs.declared.mail.MasterMail.TheVariants.{Issued}
 use Rattle.mails.specs.declared.mail.AgentMail.{AgentMail}
 use Rattle.mails.specs.declared.mail.AgentMail.TheVariants.{Report, Applied, Update}
 use Rattle.cluster_model.specs.Ids.{following, is_among}
-use Rattle.cluster_model.specs.Sides.{Run, Side, Sending, sends_nothing, issue, books, offer_rows, Launching, may_launch, launch_one, launch_all, is_good, used_offers, without_used, may_offer, heard_update, forget_all, opens, opened, counts, heard, shut, SideStep, MakeOffer, Withdraw, LaunchFrom, SendKill, SendAck, SendEnd, SendHello, SendAgain, Lose, side_step}
+use Rattle.cluster_model.specs.Sides.{Run, Side, Sending, sends_nothing, issue, books, offer_rows, Launching, may_launch, launch_one, launch_all, is_good, used_offers, without_used, may_offer, received_update, forget_all, opens, opened, counts, received, shut, SideStep, MakeOffer, Withdraw, LaunchFrom, SendKill, SendAck, SendEnd, SendHello, SendAgain, Lose, side_step}
 
 abbrev pub SameName : Side → Side → Type 0
 SameName s t = t.name ≡ s.name
@@ -41,7 +41,7 @@ side_name run s SendHello = refl
 side_name run s SendAgain = refl
 side_name run s Lose = cond_both s.is_open (shut s s.session) s (SameName s) (λ e. refl) (λ e. refl)
 
-pub heard_name : (run : Run) (s : Side) (mail : AgentMail) → SameName s (heard run s mail)
-heard_name run s (Report session number tasks total) = cond_both (opens run s session number) (opened s session tasks total) s (SameName s) (λ e. refl) (λ e. refl)
-heard_name run s (Applied session count) = cond_both (counts s session count) (record s { booked = forget_all (take (count - s.known) s.waiting) s.booked; waiting = drop (count - s.known) s.waiting; known = count }) s (SameName s) (λ e. refl) (λ e. refl)
-heard_name run s (Update session key k state ended) = cond_both (s.is_open && session == s.session) (record s { booked = map (heard_update key k state ended) s.booked }) s (SameName s) (λ e. refl) (λ e. refl)
+pub received_name : (run : Run) (s : Side) (mail : AgentMail) → SameName s (received run s mail)
+received_name run s (Report session number tasks total) = cond_both (opens run s session number) (opened s session tasks total) s (SameName s) (λ e. refl) (λ e. refl)
+received_name run s (Applied session count) = cond_both (counts s session count) (record s { booked = forget_all (take (count - s.known) s.waiting) s.booked; waiting = drop (count - s.known) s.waiting; known = count }) s (SameName s) (λ e. refl) (λ e. refl)
+received_name run s (Update session key k state ended) = cond_both (s.is_open && session == s.session) (record s { booked = map (received_update key k state ended) s.booked }) s (SameName s) (λ e. refl) (λ e. refl)

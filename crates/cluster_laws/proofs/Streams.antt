@@ -13,9 +13,9 @@ use Rattle.mails.specs.declared.cause.Cause.TheVariants.{Start, Executor, Again}
 use Rattle.mails.specs.declared.refusal.AgentRefusal.{AgentRefusal}
 use Rattle.mails.specs.declared.refusal.AgentRefusal.TheVariants.{NotForMe}
 use Rattle.cluster_model.specs.Ids.{last_number, last_run}
-use Rattle.cluster_model.specs.Agents.{Draft, hears_mail, next_of}
+use Rattle.cluster_model.specs.Agents.{Draft, receives_mail, next_of}
 use Rattle.cluster_model.specs.Sides.{Run}
-use Rattle.cluster_model.specs.Channels.{Channel, AgentStep, Draw, DrawMail, Adopt, StopWithout, StopWith, Hear, ByAgent, Happening, At, Restart, Halt, after, after_all}
+use Rattle.cluster_model.specs.Channels.{Channel, AgentStep, Draw, DrawMail, Adopt, StopWithout, StopWith, Receive, ByAgent, Happening, At, Restart, Halt, after, after_all}
 use Rattle.cluster_model.specs.Events.{Event, StreamEvent}
 use Rattle.cluster_model.specs.Masters.{Doing, new_registers}
 use Rattle.cluster_model.specs.Calls.{called, new_stream}
@@ -32,7 +32,7 @@ use Rattle.cluster_steps.specs.declared.fault.ClusterFault.TheVariants.{MasterDo
 use Rattle.cluster_steps.specs.declared.verdict.Verdict.{Verdict}
 use Rattle.cluster_steps.specs.declared.verdict.Verdict.TheVariants.{Ok as Fine, AgentRefused, OutOfMemory as Fell}
 use Rattle.cluster_histories.specs.Steps as steps
-use Rattle.cluster_histories.specs.Steps.{Setup, Done, done, does, happening, effect_of, happening_of, master_does, master_hears, channel_of, delivers_up, delivers, post_at, with_tick, ticks_at, stream_at, hangs_up, loses_agent, hello_to, drafts, draws_mail_at, draws_mail, prepares, commits, up_again, stops, with_master, at_channel, is_fallen, if_up, by_draft, without_draft, with_draft, takes_one, takes_event, takes, answer, master_falls, new_master_falls, fallen_too, agent_falls, instead, fallen_answer, Marked, step_marked, hears, streams_after, History, opened_over, opening, extended, extend_all, history}
+use Rattle.cluster_histories.specs.Steps.{Setup, Done, done, does, happening, effect_of, happening_of, master_does, master_receives, channel_of, delivers_up, delivers, post_at, with_tick, ticks_at, stream_at, hangs_up, loses_agent, hello_to, drafts, draws_mail_at, draws_mail, prepares, commits, up_again, stops, with_master, at_channel, is_fallen, if_up, by_draft, without_draft, with_draft, takes_one, takes_event, takes, answer, master_falls, new_master_falls, fallen_too, agent_falls, instead, fallen_answer, Marked, step_marked, receives, streams_after, History, opened_over, opening, extended, extend_all, history}
 use Rattle.cluster_laws.specs.Runs.{SameRun, OpensNext, ids_of, AreRising}
 use Rattle.cluster_laws.proofs.Lists.{each_append, each_map, cons_same}
 use Rattle.cluster_laws.proofs.Ordinary.{Ordinary, called_ordinary, allocated_ordinary, ticked_ordinary, lost_ordinary, hung_ordinary, mailed_ordinary}
@@ -47,16 +47,16 @@ pub record StreamsOk (ids : List Numbered) (run : Run) (last : ℕ) : Type 0 whe
 
 -- ids
 
-heard_ids : (told : List StreamEvent) (ss : List Stream) → ids_of (map (hears told) ss) ≡ ids_of ss
-heard_ids told [] = refl
-heard_ids told (s ∷ ss) = ap (λ ids. s.id ∷ ids) (heard_ids told ss)
+received_ids : (told : List StreamEvent) (ss : List Stream) → ids_of (map (receives told) ss) ≡ ids_of ss
+received_ids told [] = refl
+received_ids told (s ∷ ss) = ap (λ ids. s.id ∷ ids) (received_ids told ss)
 
 new_ids : (opens : List Numbered) → ids_of (map steps.new_stream opens) ≡ opens
 new_ids [] = refl
 new_ids (id ∷ opens) = ap (λ ids. id ∷ ids) (new_ids opens)
 
 ids_after : (ss : List Stream) (opens : List Numbered) (told : List StreamEvent) → ids_of (streams_after ss opens told) ≡ ids_of ss ++ opens
-ids_after ss opens told = heard_ids told (ss ++ map steps.new_stream opens) ∙ (map-append (λ (s : Stream). s.id) ss (map steps.new_stream opens) ∙ ap (λ ids. ids_of ss ++ ids) (new_ids opens))
+ids_after ss opens told = received_ids told (ss ++ map steps.new_stream opens) ∙ (map-append (λ (s : Stream). s.id) ss (map steps.new_stream opens) ∙ ap (λ ids. ids_of ss ++ ids) (new_ids opens))
 
 taken_ids : (id : Numbered) (ss : List Stream) → ids_of (map (takes_one id) ss) ≡ ids_of ss
 taken_ids id [] = refl
@@ -183,13 +183,13 @@ with_master_streamed c r p = cond_both c.world.run.serves r (Err MasterDown) (St
 does_streamed : (c : Cluster) (d : Doing) → Ordinary (master_of c) d → c.world.run.serves ≡ true → Streamed c (master_does c d)
 does_streamed c d ordinary serves = λ ok. master_streamed c [] d tt ordinary serves ok
 
-hears_streamed : (c : Cluster) (x : Channel) (place : ℕ) (mail : Option AgentMail) → c.world.run.serves ≡ true → Streamed c (master_hears c x place mail)
-hears_streamed c x place None serves = tt
-hears_streamed c x place (Some mail) serves = λ ok. master_streamed c (At x.side.name (Hear place) ∷ []) (mailed (master_of c) x.side mail) (tt, tt) (mailed_ordinary (master_of c) x.side mail) serves ok
+receives_streamed : (c : Cluster) (x : Channel) (place : ℕ) (mail : Option AgentMail) → c.world.run.serves ≡ true → Streamed c (master_receives c x place mail)
+receives_streamed c x place None serves = tt
+receives_streamed c x place (Some mail) serves = λ ok. master_streamed c (At x.side.name (Receive place) ∷ []) (mailed (master_of c) x.side mail) (tt, tt) (mailed_ordinary (master_of c) x.side mail) serves ok
 
 delivers_up_streamed : (c : Cluster) (place : ℕ) (x : Option Channel) → c.world.run.serves ≡ true → Streamed c (delivers_up c place x)
 delivers_up_streamed c place None serves = tt
-delivers_up_streamed c place (Some x) serves = hears_streamed c x place (slice_get x.to_master place) serves
+delivers_up_streamed c place (Some x) serves = receives_streamed c x place (slice_get x.to_master place) serves
 
 delivers_streamed : (c : Cluster) (p : Option Post) → c.world.run.serves ≡ true → Streamed c (delivers c p)
 delivers_streamed c None serves = tt
@@ -211,7 +211,7 @@ drafts_streamed c x step (Err refusal) = λ ok. quiet_streamed c (AgentRefused r
 
 draws_mail_at_streamed : (c : Cluster) (x : Channel) (place : ℕ) (o : Option MasterMail) → Streamed c (draws_mail_at c x place o)
 draws_mail_at_streamed c x place None = tt
-draws_mail_at_streamed c x place (Some mail) = drafts_streamed c x (DrawMail place) (hears_mail x.agent mail)
+draws_mail_at_streamed c x place (Some mail) = drafts_streamed c x (DrawMail place) (receives_mail x.agent mail)
 
 draws_mail_streamed : (c : Cluster) (x : Channel) (p : Option Post) → Streamed c (draws_mail c x p)
 draws_mail_streamed c x None = tt

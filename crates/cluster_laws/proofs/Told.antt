@@ -5,7 +5,7 @@ use Rattle.mails.specs.declared.record.Durable.{Durable}
 use Rattle.agent_sides.specs.Changes.{side_of}
 use Rattle.agent_sides.specs.Configs.{names_of}
 use Rattle.agent_sides.specs.declared.config.ConfiguredAgent.{ConfiguredAgent}
-use Rattle.agent_sides.specs.Looks.{told_of}
+use Rattle.agent_sides.specs.Looks.{value_of}
 use Rattle.cluster_model.specs.Sides.{Side, new_run, new_side}
 use Rattle.cluster_model.specs.Channels.{Channel, open_channel}
 use Rattle.cluster_histories.specs.Clusters.{Cluster, master_of, sides_of}
@@ -18,11 +18,11 @@ use Rattle.master_state.specs.Works.{master_of as master_in}
 use Rattle.cluster_laws.specs.Items.{channel_at}
 use Rattle.cluster_laws.specs.Parts.{AreAgentsOf}
 
-told_is : {X : Type 0} (agent : List ℕ) (cs : List Channel) (x : Channel) (tell : Side → X) (none : X) → channel_at agent cs ≡ Some x → told_of agent tell none (sides_of cs) ≡ tell x.side
+told_is : {X : Type 0} (agent : List ℕ) (cs : List Channel) (x : Channel) (tell : Side → X) (none : X) → channel_at agent cs ≡ Some x → value_of agent tell none (sides_of cs) ≡ tell x.side
 told_is agent [] x tell none e = absurd cc
 told_is agent (c ∷ cs) x tell none e = by (bytes_eq c.side.name agent) refl e (λ f. told_is agent cs x tell none f)
   where
-    by : (t : Bool) → bytes_eq c.side.name agent ≡ t → channel_at agent (c ∷ cs) ≡ Some x → (channel_at agent cs ≡ Some x → told_of agent tell none (sides_of cs) ≡ tell x.side) → told_of agent tell none (sides_of (c ∷ cs)) ≡ tell x.side
+    by : (t : Bool) → bytes_eq c.side.name agent ≡ t → channel_at agent (c ∷ cs) ≡ Some x → (channel_at agent cs ≡ Some x → value_of agent tell none (sides_of cs) ≡ tell x.side) → value_of agent tell none (sides_of (c ∷ cs)) ≡ tell x.side
     by true b f rest =
         let found_it : Some c ≡ Some x = rw b at f in
         let is : c ≡ x = cc in

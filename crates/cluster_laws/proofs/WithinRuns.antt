@@ -11,7 +11,7 @@ use Rattle.mails.specs.declared.mail.Command.TheVariants.{Launch, Kill, Ack, End
 use Rattle.mails.specs.declared.mail.MasterMail.TheVariants.{Issued}
 use Rattle.cluster_model.specs.Ids.{following, is_among}
 use Rattle.cluster_model.specs.Sides.{Run, Side, Sending, sends_nothing, issue, books, offer_rows, Launching, may_launch, launch_one, launch_all, is_good, used_offers, without_used, may_offer, SideStep, MakeOffer, Withdraw, LaunchFrom, SendKill, SendAck, SendEnd, SendHello, SendAgain, Lose, side_step}
-use Rattle.cluster_model.specs.Channels.{Channel, ChannelStep, ByMaster, Hear, ByAgent, happens, World, Happening, At, TearDown, Restart, Halt, behind, in_front, at_agent, after, after_all}
+use Rattle.cluster_model.specs.Channels.{Channel, ChannelStep, ByMaster, Receive, ByAgent, happens, World, Happening, At, TearDown, Restart, Halt, behind, in_front, at_agent, after, after_all}
 use Rattle.cluster_model.specs.Masters.{Move, AtSide, TearDownAll, RestartAll, HaltAll, Doing}
 use Rattle.cluster_histories.specs.Clusters.{Cluster}
 use Rattle.cluster_histories.specs.Steps.{done, effect_of, happening_of}
@@ -50,7 +50,7 @@ side_run run s Lose = same_run run
 
 step_run : (run : Run) (c : Channel) (step : ChannelStep) → SameRun run (happens run c step).run
 step_run run c (ByMaster step) = side_run run c.side step
-step_run run c (Hear place) = same_run run
+step_run run c (Receive place) = same_run run
 step_run run c (ByAgent step) = same_run run
 
 at_run : (agent : List ℕ) (step : ChannelStep) (run : Run) (cs : List Channel) → SameRun run (at_agent agent step run cs).run
@@ -85,5 +85,5 @@ moves_within (HaltAll ∷ ms) h = absurd h.0
 pub keeps_run : (c : Cluster) (d : Doing) → Each IsPlain d.moves → KeepsRun c d
 keeps_run c d h = worlds_run (map happening_of d.moves) c.world (moves_within d.moves h)
 
-pub hears_run : (c : Cluster) (agent : List ℕ) (place : ℕ) (d : Doing) → Each IsPlain d.moves → SameRun c.world.run (done c (effect_of (At agent (Hear place) ∷ []) d)).after.world.run
-hears_run c agent place d h = worlds_run (At agent (Hear place) ∷ map happening_of d.moves) c.world (tt, moves_within d.moves h)
+pub receives_run : (c : Cluster) (agent : List ℕ) (place : ℕ) (d : Doing) → Each IsPlain d.moves → SameRun c.world.run (done c (effect_of (At agent (Receive place) ∷ []) d)).after.world.run
+receives_run c agent place d h = worlds_run (At agent (Receive place) ∷ map happening_of d.moves) c.world (tt, moves_within d.moves h)

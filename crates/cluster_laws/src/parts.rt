@@ -3,8 +3,8 @@
 ghost use Rattle.std.specs.Prelude.{◌≡◌, true, false, List, [], ◌∷◌, map, nat_lt, slice_get, slice_set, Some, None, Ok, ℕ};
 ghost use Rattle.cluster_laws.specs.Items.{names_of};
 ghost use Rattle.cluster_laws.specs.Parts.{IsSilent, anew, from_agent, greeting, next_master, part_of, parts_of, recovered_part};
-ghost use Rattle.cluster_model.specs.Agents.{Draft, hears_mail, next_of, recovered};
-ghost use Rattle.cluster_model.specs.Channels.{Adopt, AgentStep, At, ByAgent, Channel, Draw, DrawMail, Hear, StopWith, StopWithout, agent_step, is_own};
+ghost use Rattle.cluster_model.specs.Agents.{Draft, receives_mail, next_of, recovered};
+ghost use Rattle.cluster_model.specs.Channels.{Adopt, AgentStep, At, ByAgent, Channel, Draw, DrawMail, Receive, StopWith, StopWithout, agent_step, is_own};
 ghost use Rattle.cluster_histories.specs.Clusters.{Cluster, master_of};
 ghost use Rattle.cluster_steps.specs.declared.verdict.Verdict.{Verdict};
 ghost use Rattle.cluster_model.specs.Ids.{last_run};
@@ -21,8 +21,8 @@ ghost use Rattle.mails.specs.declared.record.Durable.{Durable};
 pub fn masters_leave_agents()
     ensures does { (c : Cluster) (d : Doing)
         → parts_of (done c (effect_of [] d)).after.world.channels ≡ parts_of c.world.channels }
-    ensures hears { (c : Cluster) (agent : List ℕ) (place : ℕ) (d : Doing)
-        → parts_of (done c (effect_of (At agent (Hear place) ∷ []) d)).after.world.channels
+    ensures receives { (c : Cluster) (agent : List ℕ) (place : ℕ) (d : Doing)
+        → parts_of (done c (effect_of (At agent (Receive place) ∷ []) d)).after.world.channels
         ≡ parts_of c.world.channels }
     ensures stops { (c : Cluster) → parts_of (done c (master_stops c)).after.world.channels
         ≡ parts_of c.world.channels }
@@ -68,7 +68,7 @@ pub fn steps_move_agents()
         ≡ record { name = x.side.name; agent = x.agent; draft = Some d } }
     ensures draws_mail { (x : Channel) (place : ℕ) (mail : MasterMail) (d : Draft)
         → slice_get x.to_agent place ≡ Some mail → x.draft ≡ None
-        → hears_mail x.agent mail ≡ Ok d
+        → receives_mail x.agent mail ≡ Ok d
         → part_of (agent_step x (DrawMail place))
         ≡ record { name = x.side.name; agent = x.agent; draft = Some d } }
     ensures adopts { (x : Channel) (d : Draft) → x.draft ≡ Some d

@@ -4,7 +4,7 @@ ghost use Rattle.std.specs.Prelude.{◌≡◌, ◌∷◌, List, [], length, suc,
 ghost use Rattle.cluster_laws.specs.Runs.{AreRising, KeepsRun, OpensNext, SameRun, ids_of};
 ghost use Rattle.role_weights.specs.Weights.{RoleWeight};
 ghost use Rattle.cluster_model.specs.Calls.{called};
-ghost use Rattle.cluster_model.specs.Channels.{At, Hear};
+ghost use Rattle.cluster_model.specs.Channels.{At, Receive};
 ghost use Rattle.cluster_histories.specs.Clusters.{Cluster, master_of};
 ghost use Rattle.cluster_model.specs.Mails.{agent_lost, hung_up, mailed, ticked};
 ghost use Rattle.cluster_model.specs.Masters.{Master};
@@ -28,7 +28,7 @@ pub fn masters_stay_in_their_run()
         → KeepsRun c (hung_up (master_of c) stream) }
     ensures mails { (c : Cluster) (agent : List ℕ) (place : ℕ) (s : Side) (mail : AgentMail)
         → SameRun c.world.run
-        (done c (effect_of (At agent (Hear place) ∷ [])
+        (done c (effect_of (At agent (Receive place) ∷ [])
         (mailed (master_of c) s mail))).after.world.run }
 {}
 

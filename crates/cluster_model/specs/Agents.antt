@@ -72,7 +72,7 @@ reported t =
     record {
       job = t.job;
       ended = has_ended t;
-      heard = sent_count t;
+      received = sent_count t;
       state = state_at t.updates.states (sent_count t);
     }
 
@@ -215,8 +215,8 @@ has_room a (EndFramework framework) = true
 
 -- Hello: an older run is refused; a newer run,
 -- a closed session or no session opens the next session; else it reports again
-abbrev pub hears_hello : Agent → ℕ → ℕ → Result Draft AgentRefusal
-hears_hello a run dead =
+abbrev pub receives_hello : Agent → ℕ → ℕ → Result Draft AgentRefusal
+receives_hello a run dead =
     if nat_lt run a.durable.run then Err OldSession
     else (if (nat_lt a.durable.run run || nat_le a.durable.session dead) || not a.in_session
     then opens_next a (max a.durable.session dead) run
@@ -224,17 +224,17 @@ hears_hello a run dead =
 
 -- a command: of the open session only; one that is applied is reported again; the next one is
 -- applied
-abbrev pub hears_command : Agent → ℕ → ℕ → Command → Result Draft AgentRefusal
-hears_command a session number command =
+abbrev pub receives_command : Agent → ℕ → ℕ → Command → Result Draft AgentRefusal
+receives_command a session number command =
     if not (a.in_session && session == a.durable.session) then Err OldSession
     else (if nat_le number a.applied
     then Ok (record { after = a; mails = Applied a.durable.session a.applied ∷ [] })
     else (if not (number == suc a.applied) then Err NotNext
     else (if has_room a command then Ok (applies a command) else Err NoRoom)))
 
-abbrev pub hears_mail : Agent → MasterMail → Result Draft AgentRefusal
-hears_mail a (Hello run dead) = hears_hello a run dead
-hears_mail a (Issued session number command) = hears_command a session number command
+abbrev pub receives_mail : Agent → MasterMail → Result Draft AgentRefusal
+receives_mail a (Hello run dead) = receives_hello a run dead
+receives_mail a (Issued session number command) = receives_command a session number command
 
 -- a state that isn't terminal needs a place beside the last one
 abbrev pub needs_place : TaskState → Bool
@@ -266,7 +266,7 @@ abbrev pub next_of : Agent → Cause → Result Draft AgentRefusal
 next_of a (Start total) = if a.durable.run == 0 then Err OldSession else starts a total
 next_of a Again = Ok (record { after = a; mails = fronts a })
 next_of a (Mail to) =
-    if bytes_eq to.agent a.durable.name then hears_mail a to.mail else Err NotForMe
+    if bytes_eq to.agent a.durable.name then receives_mail a to.mail else Err NotForMe
 next_of a (Executor key state) = executes a key state
 
 -- records

@@ -81,14 +81,14 @@ resubscribed m id role None =
 resubscribed m id role (Some f) = subscribed m m.registers id role (Some f)
 
 -- an id of a later run, or of this one and not yet assigned
-abbrev pub is_unheard_of : Master → Numbered → Bool
-is_unheard_of m id =
+abbrev pub is_unassigned : Master → Numbered → Bool
+is_unassigned m id =
     nat_lt m.run.number id.run || (id.run == m.run.number && nat_lt m.registers.last_framework id.n)
 
 -- with an id
 abbrev pub on_resubscribe : Master → Numbered → List ℕ → Doing
 on_resubscribe m id role =
-    if is_unheard_of m id then refused m NoSuchFramework
+    if is_unassigned m id then refused m NoSuchFramework
     else (if nat_le last_number m.registers.last_stream then refused m LimitExceeded
     else (if is_torn m id then removed m
     else resubscribed m id role (framework_of m id)))
@@ -272,14 +272,14 @@ on_kill m task agent f (Some p) =
     else commanding m (side_of m p.agent) (AtSide p.agent (SendKill p.booked.job.key))
 
 -- the update last received of the framework's task of this name and key on this agent
-abbrev pub is_last_heard : Framework → List ℕ → List ℕ → Numbered → ℕ → Placed → Bool
-is_last_heard f agent task key k p =
+abbrev pub is_last_received : Framework → List ℕ → List ℕ → Numbered → ℕ → Placed → Bool
+is_last_received f agent task key k p =
     same p.booked.job.key key && is_task_of f.id task p && bytes_eq p.agent agent
-    && p.booked.heard == suc k
+    && p.booked.received == suc k
 
 abbrev pub on_acknowledge : Master → List ℕ → List ℕ → Numbered → ℕ → Framework → Doing
 on_acknowledge m agent task key k f =
-    if list_any (is_last_heard f agent task key k) (all_booked m)
+    if list_any (is_last_received f agent task key k) (all_booked m)
     then commanding m (side_of m agent) (AtSide agent (SendAck key k))
     else nothing m
 

@@ -10,8 +10,8 @@ use Rattle.mails.specs.declared.record.Durable.{Durable}
 use Rattle.mails.specs.declared.cause.Cause.{Cause}
 use Rattle.mails.specs.declared.cause.Cause.TheVariants.{Start, Mail, Executor, Again}
 use Rattle.mails.specs.declared.refusal.AgentRefusal.{AgentRefusal}
-use Rattle.cluster_model.specs.Agents.{Agent, Draft, live_tasks, hears_mail, next_of, recovered, recovered_from}
-use Rattle.cluster_model.specs.Sides.{Run, Side, SideStep, new_run, new_side, torn_down, heard, halted, restarted, side_step}
+use Rattle.cluster_model.specs.Agents.{Agent, Draft, live_tasks, receives_mail, next_of, recovered, recovered_from}
+use Rattle.cluster_model.specs.Sides.{Run, Side, SideStep, new_run, new_side, torn_down, received, halted, restarted, side_step}
 
 -- mails are never taken out: a step names a mail by its place,
 -- so that a mail can be lost, repeated or overtaken
@@ -46,7 +46,7 @@ drawn c None (Ok new) = record c { draft = Some new }
 
 abbrev pub drawn_mail : Channel → Option MasterMail → Channel
 drawn_mail c None = c
-drawn_mail c (Some mail) = drawn c c.draft (hears_mail c.agent mail)
+drawn_mail c (Some mail) = drawn c c.draft (receives_mail c.agent mail)
 
 abbrev pub adopted : Channel → Option Draft → Channel
 adopted c None = c
@@ -74,12 +74,12 @@ agent_step c StopWith = stopped_with c c.draft
 
 pub data ChannelStep : Type 0 where
   ByMaster : (step : SideStep) → ChannelStep
-  Hear : (place : ℕ) → ChannelStep  -- the master receives a mail that the agent sent
+  Receive : (place : ℕ) → ChannelStep  -- the master receives a mail that the agent sent
   ByAgent : (step : AgentStep) → ChannelStep
 
-abbrev pub heard_mail : Run → Channel → Option AgentMail → Channel
-heard_mail run c None = c
-heard_mail run c (Some mail) = record c { side = heard run c.side mail }
+abbrev pub received_mail : Run → Channel → Option AgentMail → Channel
+received_mail run c None = c
+received_mail run c (Some mail) = record c { side = received run c.side mail }
 
 abbrev pub by_master : Run → Channel → SideStep → InRun
 by_master run c step =
@@ -88,8 +88,8 @@ by_master run c step =
 
 abbrev pub happens : Run → Channel → ChannelStep → InRun
 happens run c (ByMaster step) = by_master run c step
-happens run c (Hear place) =
-    record { run = run; channel = heard_mail run c (slice_get c.to_master place) }
+happens run c (Receive place) =
+    record { run = run; channel = received_mail run c (slice_get c.to_master place) }
 happens run c (ByAgent step) = record { run = run; channel = agent_step c step }
 
 -- all channels, by agents' names in byte order

@@ -11,9 +11,9 @@ use Rattle.mails.specs.declared.mail.AgentMail.TheVariants.{Report, Applied, Upd
 use Rattle.mails.specs.declared.refusal.MasterRefusal.{MasterRefusal}
 use Rattle.mails.specs.declared.refusal.MasterRefusal.TheVariants.{OtherRun, OldSession, Closed, NotOpen}
 use Rattle.stream_core.specs.Updates.{most_updates}
-use Rattle.cluster_model.specs.Sides.{Run, Side, SendEnd, SendHello, SendAgain, Lose, opens, heard}
+use Rattle.cluster_model.specs.Sides.{Run, Side, SendEnd, SendHello, SendAgain, Lose, opens, received}
 use Rattle.cluster_model.specs.Events.{StreamEvent, Rescind, Failure, Heartbeat, update_event}
-use Rattle.cluster_model.specs.Masters.{Master, Framework, Doing, Move, AtSide, nothing, refused, saying, tells, tells_all, on_stream, is_torn, is_of, withdraws, with_framework, without_filters_on}
+use Rattle.cluster_model.specs.Masters.{Master, Framework, Doing, Move, AtSide, nothing, refused, saying, events_to, events_to_all, on_stream, is_torn, is_of, withdraws, with_framework, without_filters_on}
 use Rattle.cluster_model.specs.Calls.{is_stream}
 
 -- an agent's mail
@@ -43,13 +43,13 @@ judged run s (Update session key k state ended) = in_session s session
 
 -- RESCIND of offers
 abbrev pub rescinds : Master → List Offer → List StreamEvent
-rescinds m os = flat_map (λ o. tells m o.framework (Rescind o.id)) os
+rescinds m os = flat_map (λ o. events_to m o.framework (Rescind o.id)) os
 
 -- TASK_LOST of booked tasks that haven't ended
 abbrev pub loses : Master → List ℕ → List Booked → List StreamEvent
 loses m agent bs =
     flat_map (λ b. if b.ended then []
-    else tells m b.job.framework (update_event b.job.name Lost (Some agent) None)) bs
+    else events_to m b.job.framework (update_event b.job.name Lost (Some agent) None)) bs
 
 abbrev pub is_reported : List Booked → Booked → Bool
 is_reported tasks b = list_any (λ t. same t.job.key b.job.key) tasks
@@ -73,8 +73,8 @@ session_opens m s tasks = record {
 -- an update of a booked task that isn't older than the last one received goes to its framework
 abbrev pub news_of : Master → List ℕ → Numbered → ℕ → TaskState → Booked → List StreamEvent
 news_of m agent key k state b =
-    if same b.job.key key && nat_le b.heard (suc k)
-    then tells m b.job.framework
+    if same b.job.key key && nat_le b.received (suc k)
+    then events_to m b.job.framework
     (update_event b.job.name state (Some agent) (Some (record { key = key; k = k }))) else []
 
 abbrev pub goes_with : Master → Side → AgentMail → Doing
@@ -96,14 +96,14 @@ abbrev pub mailed : Master → Side → AgentMail → Doing
 mailed m s mail = mailed_as m s mail (judged m.run s mail)
 
 -- the master's sides, once the side of an agent has received a mail
-abbrev pub hear_at : List ℕ → Run → AgentMail → List Side → List Side
-hear_at agent run mail [] = []
-hear_at agent run mail (s ∷ ss) =
-    if bytes_eq s.name agent then heard run s mail ∷ ss else s ∷ hear_at agent run mail ss
+abbrev pub receive_at : List ℕ → Run → AgentMail → List Side → List Side
+receive_at agent run mail [] = []
+receive_at agent run mail (s ∷ ss) =
+    if bytes_eq s.name agent then received run s mail ∷ ss else s ∷ receive_at agent run mail ss
 
-abbrev pub having_heard : Master → List ℕ → AgentMail → Master
-having_heard m agent mail =
-    record { run = m.run; sides = hear_at agent m.run mail m.sides; registers = m.registers }
+abbrev pub having_received : Master → List ℕ → AgentMail → Master
+having_received m agent mail =
+    record { run = m.run; sides = receive_at agent m.run mail m.sides; registers = m.registers }
 
 -- Tick
 
@@ -148,7 +148,7 @@ agent_lost m s =
       moves = AtSide s.name Lose ∷ AtSide s.name SendHello ∷ [];
       events =
           rescinds m s.offers ++ loses m s.name s.booked
-          ++ tells_all m.registers.frameworks (Failure s.name);
+          ++ events_to_all m.registers.frameworks (Failure s.name);
       opens = [];
       closes = [];
       registers = without_filters_on s.name m.registers;

@@ -181,11 +181,11 @@ stream_of None = None
 stream_of (Some f) = f.stream
 
 -- an event to a framework, where it has an open stream
-abbrev pub tells : Master → Numbered → Event → List StreamEvent
-tells m framework event = on_stream (stream_of (framework_of m framework)) event
+abbrev pub events_to : Master → Numbered → Event → List StreamEvent
+events_to m framework event = on_stream (stream_of (framework_of m framework)) event
 
-abbrev pub tells_all : List Framework → Event → List StreamEvent
-tells_all fs event = flat_map (λ f. on_stream f.stream event) fs
+abbrev pub events_to_all : List Framework → Event → List StreamEvent
+events_to_all fs event = flat_map (λ f. on_stream f.stream event) fs
 
 -- booked tasks
 

@@ -170,12 +170,12 @@ entered (old ∷ olds) [] = []
 entered (old ∷ olds) (new ∷ news) = entered_on old new ++ entered olds news
 
 -- one OFFERS event for each framework with new offers
-abbrev pub tells_offers : Framework → List MadeOffer → List StreamEvent
-tells_offers f [] = []
-tells_offers f (made ∷ more) = on_stream f.stream (Offers (map offer_of (made ∷ more)))
+abbrev pub offer_events : Framework → List MadeOffer → List StreamEvent
+offer_events f [] = []
+offer_events f (made ∷ more) = on_stream f.stream (Offers (map offer_of (made ∷ more)))
 
 abbrev pub offers_of : List MadeOffer → Framework → List StreamEvent
-offers_of made f = tells_offers f (filter (λ g. same g.offer.framework f.id) made)
+offers_of made f = offer_events f (filter (λ g. same g.offer.framework f.id) made)
 
 abbrev pub making : List RoleWeight → Master → List Move
 making weights m = map (λ g. AtSide g.agent (MakeOffer g.offer)) (round weights m)

@@ -116,7 +116,7 @@ oldest_again s (command ∷ later) = Issued s.session (suc s.known) command ∷ 
 -- launching from accepted offers
 
 abbrev pub just_booked : Job → Booked
-just_booked job = record { job = job; ended = false; heard = 0; state = Staging }
+just_booked job = record { job = job; ended = false; received = 0; state = Staging }
 
 -- a job may be launched: it has the next key, is of the framework,
 -- and the budget covers it beside what is used
@@ -202,14 +202,14 @@ withdrawn s ids = record s { offers = filter (λ o. not (is_among ids o.id)) s.o
 
 -- an update that is received: the mark of an end stays for good; count and state follow where it
 -- isn't older than the last one received
-abbrev pub heard_update : Numbered → ℕ → TaskState → Bool → Booked → Booked
-heard_update key k state ended b =
+abbrev pub received_update : Numbered → ℕ → TaskState → Bool → Booked → Booked
+received_update key k state ended b =
     if same b.job.key key
     then record {
       job = b.job;
       ended = b.ended || ended;
-      heard = (if nat_le b.heard (suc k) then suc k else b.heard);
-      state = (if nat_le b.heard (suc k) then state else b.state);
+      received = (if nat_le b.received (suc k) then suc k else b.received);
+      state = (if nat_le b.received (suc k) then state else b.state);
     }
     else b
 
@@ -218,7 +218,8 @@ abbrev pub forget : Command → List Booked → List Booked
 forget (Launch job offers) bs = bs
 forget (Kill key) bs = bs
 forget (Ack key k) bs =
-    filter (λ b. not (b.ended && same b.job.key key && b.heard == suc k && is_terminal b.state)) bs
+    filter (λ b. not (b.ended && same b.job.key key && b.received == suc k
+    && is_terminal b.state)) bs
 forget (EndFramework framework) bs = filter (λ b. not (same b.job.framework framework)) bs
 
 abbrev pub forget_all : List Command → List Booked → List Booked
@@ -255,10 +256,10 @@ counts s session count =
     && (nat_lt s.known count && nat_le count (s.known + length s.waiting))
 
 -- what a mail of the agent does
-abbrev pub heard : Run → Side → AgentMail → Side
-heard run s (Report session number tasks total) =
+abbrev pub received : Run → Side → AgentMail → Side
+received run s (Report session number tasks total) =
     if opens run s session number then opened s session tasks total else s
-heard run s (Applied session count) =
+received run s (Applied session count) =
     if counts s session count
     then record s {
       booked = forget_all (take (count - s.known) s.waiting) s.booked;
@@ -266,9 +267,9 @@ heard run s (Applied session count) =
       known = count;
     }
     else s
-heard run s (Update session key k state ended) =
+received run s (Update session key k state ended) =
     if s.is_open && session == s.session then record s
-    { booked = map (heard_update key k state ended) s.booked } else s
+    { booked = map (received_update key k state ended) s.booked } else s
 
 -- ends of sessions and runs
 

@@ -8,8 +8,8 @@ use agent_core::Record;
 use mails::RecordedTask;
 use shared_value::Shared;
 
-/// Whether a launch key stands in both of two lists of tasks, in which keys rise.
-/// It goes over each once.
+/// Whether a launch key is in both of two lists of tasks, in which keys rise.
+/// It visits each task at most once.
 fn share_key(one: &[Shared<RecordedTask>], other: &[Shared<RecordedTask>]) -> bool
     requires one { keys_rise one.now ≡ true }
     requires other { keys_rise other.now ≡ true }

@@ -18,7 +18,7 @@ use Rattle.cluster_model.specs.Ids.{is_among, last_number}
 use Rattle.cluster_model.specs.Sides.{Run, Side, LaunchFrom, Launching, sends_nothing, is_good, is_named, launch_one, may_launch, offer_rows, used_offers, without_used, SendKill, SendAck, SendEnd}
 use Rattle.cluster_model.specs.Channels.{Channel, ByMaster}
 use Rattle.cluster_model.specs.Masters.{Framework, Master, Move, AtSide, TearDownAll, Doing, nothing, refused, saying, moving, framework_of, is_torn, with_framework, Placed, all_booked, held, is_of, withdraws, side_of, has_numbers, may_have_numbers}
-use Rattle.cluster_model.specs.Calls.{frameworks_limit, to_list, subscribed, removed, resubscribed, is_unheard_of, sides_with_tasks, on_teardown, answers_held, Given, good_side, given_by, passes_limits, accepts_all, accepted_from, on_accept, on_decline, on_revive, on_suppress, commanding, on_kill, is_last_heard, on_acknowledge, on_reconcile, is_stream, on_its_stream, by_known, called}
+use Rattle.cluster_model.specs.Calls.{frameworks_limit, to_list, subscribed, removed, resubscribed, is_unassigned, sides_with_tasks, on_teardown, answers_held, Given, good_side, given_by, passes_limits, accepts_all, accepted_from, on_accept, on_decline, on_revive, on_suppress, commanding, on_kill, is_last_received, on_acknowledge, on_reconcile, is_stream, on_its_stream, by_known, called}
 use Rattle.cluster_safe.specs.Offered.{IsAmong}
 use Rattle.cluster_safe.specs.Origin.{Mark, Made, Used, Use, launched, use_of, marks_at, marks_in, jobs_of}
 use Rattle.cluster_safe.proofs.Orders.{each_append}
@@ -76,7 +76,7 @@ reconcile_alone m (a ∷ more) f = inl tt
 
 pub called_alone : (m : Master) (stream : Option Numbered) (call : Call) → LaunchesAlone (called m stream call)
 called_alone m stream (Subscribe None role) = if_alone (nat_le frameworks_limit (length m.registers.frameworks) || nat_le last_number m.registers.last_framework || nat_le last_number m.registers.last_stream) (refused m LimitExceeded) (subscribed m (record m.registers { last_framework = suc m.registers.last_framework }) (record { run = m.run.number; n = suc m.registers.last_framework }) role None) (inl tt) (inl (withdraws_quiet (is_of (record { run = m.run.number; n = suc m.registers.last_framework })) m))
-called_alone m stream (Subscribe (Some id) role) = if_alone (is_unheard_of m id) (refused m NoSuchFramework) (if nat_le last_number m.registers.last_stream then refused m LimitExceeded else (if is_torn m id then removed m else resubscribed m id role (framework_of m id))) (inl tt)
+called_alone m stream (Subscribe (Some id) role) = if_alone (is_unassigned m id) (refused m NoSuchFramework) (if nat_le last_number m.registers.last_stream then refused m LimitExceeded else (if is_torn m id then removed m else resubscribed m id role (framework_of m id))) (inl tt)
     (if_alone (nat_le last_number m.registers.last_stream) (refused m LimitExceeded) (if is_torn m id then removed m else resubscribed m id role (framework_of m id)) (inl tt) (if_alone (is_torn m id) (removed m) (resubscribed m id role (framework_of m id)) (inl tt) (resubscribed_alone m id role (framework_of m id))))
 called_alone m stream (Teardown framework) = known_alone m stream (framework_of m framework) (on_teardown m) (λ f. teardown_alone m f)
 called_alone m stream (Accept framework offers tasks seconds) = known_alone m stream (framework_of m framework) (on_accept m offers tasks seconds)
@@ -86,7 +86,7 @@ called_alone m stream (Revive framework) = known_alone m stream (framework_of m 
 called_alone m stream (Suppress framework) = known_alone m stream (framework_of m framework) (on_suppress m) (λ f. inl tt)
 called_alone m stream (calls.Kill framework task agent) = known_alone m stream (framework_of m framework) (λ f. on_kill m task agent f (held m f.id task)) (λ f. kill_alone m task agent f (held m f.id task))
 called_alone m stream (Acknowledge framework agent task uuid) = known_alone m stream (framework_of m framework) (on_acknowledge m agent task uuid.key uuid.k)
-    (λ f. if_alone (list_any (is_last_heard f agent task uuid.key uuid.k) (all_booked m)) (commanding m (side_of m agent) (AtSide agent (SendAck uuid.key uuid.k))) (nothing m) (commanding_alone m (side_of m agent) (AtSide agent (SendAck uuid.key uuid.k)) tt) (inl tt))
+    (λ f. if_alone (list_any (is_last_received f agent task uuid.key uuid.k) (all_booked m)) (commanding m (side_of m agent) (AtSide agent (SendAck uuid.key uuid.k))) (nothing m) (commanding_alone m (side_of m agent) (AtSide agent (SendAck uuid.key uuid.k)) tt) (inl tt))
 called_alone m stream (Reconcile framework tasks) = known_alone m stream (framework_of m framework) (on_reconcile m tasks) (λ f. reconcile_alone m tasks f)
 
 -- the mark of a launch

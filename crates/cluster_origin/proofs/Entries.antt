@@ -17,9 +17,9 @@ use Rattle.mails.specs.declared.refusal.AgentRefusal.TheVariants.{NotForMe}
 use Rattle.mails.specs.declared.task.Job.{Job}
 use Rattle.role_weights.specs.Weights.{RoleWeight}
 use Rattle.cluster_model.specs.Ids.{last_number, last_run}
-use Rattle.cluster_model.specs.Agents.{Draft, hears_mail, next_of}
+use Rattle.cluster_model.specs.Agents.{Draft, receives_mail, next_of}
 use Rattle.cluster_model.specs.Sides.{LaunchFrom, MakeOffer, may_offer, used_offers}
-use Rattle.cluster_model.specs.Channels.{Channel, AgentStep, Draw, DrawMail, Adopt, StopWithout, StopWith, ByMaster, Hear, ByAgent, World, Happening, At, Restart, Halt, at_agent, after, after_all, open_world}
+use Rattle.cluster_model.specs.Channels.{Channel, AgentStep, Draw, DrawMail, Adopt, StopWithout, StopWith, ByMaster, Receive, ByAgent, World, Happening, At, Restart, Halt, at_agent, after, after_all, open_world}
 use Rattle.cluster_model.specs.Events.{Event, MadeOffer}
 use Rattle.cluster_model.specs.Masters.{Master, AtSide, Doing, new_registers}
 use Rattle.cluster_model.specs.Calls.{called}
@@ -35,7 +35,7 @@ use Rattle.cluster_steps.specs.declared.step.Keep.TheVariants.{Before, After}
 use Rattle.cluster_steps.specs.declared.fault.ClusterFault.{ClusterFault}
 use Rattle.cluster_steps.specs.declared.fault.ClusterFault.TheVariants.{MasterDown, AgentDown, DraftOpen, NoDraft, HistoryFull, TimeBack}
 use Rattle.cluster_steps.specs.declared.verdict.Verdict.TheVariants.{Ok as Fine, AgentRefused, OutOfMemory as Fell}
-use Rattle.cluster_histories.specs.Steps.{Setup, sent_between, sent_by, Effect, Done, done, does, happening, happening_of, verdict_of, effect_of, master_does, master_hears, channel_of, delivers_up, delivers, post_at, with_tick, ticks_at, stream_at, hangs_up, loses_agent, hello_to, drafts, draws_mail_at, draws_mail, prepares, commits, up_again, stops, with_master, at_channel, is_fallen, if_up, by_draft, without_draft, with_draft, takes_event, takes, answer, master_falls, new_master_falls, fallen_too, agent_falls, instead, fallen_answer, Marked, step_marked, History, opening, extended, extend_all, history}
+use Rattle.cluster_histories.specs.Steps.{Setup, sent_between, sent_by, Effect, Done, done, does, happening, happening_of, verdict_of, effect_of, master_does, master_receives, channel_of, delivers_up, delivers, post_at, with_tick, ticks_at, stream_at, hangs_up, loses_agent, hello_to, drafts, draws_mail_at, draws_mail, prepares, commits, up_again, stops, with_master, at_channel, is_fallen, if_up, by_draft, without_draft, with_draft, takes_event, takes, answer, master_falls, new_master_falls, fallen_too, agent_falls, instead, fallen_answer, Marked, step_marked, History, opening, extended, extend_all, history}
 use Rattle.cluster_safe.specs.Listed.{IsListed, MoveFrom, IsAcceptOf}
 use Rattle.cluster_safe.specs.Offered.{IsAmong}
 use Rattle.cluster_safe.specs.Origin.{Mark, Made, Used, Use, marks_at, marks_in, jobs_of, trail}
@@ -46,7 +46,7 @@ use Rattle.cluster_origin.specs.Entries.{Moment, noted, moments_from, moments}
 use Rattle.cluster_origin.specs.Sources.{IsSource, Traced}
 use Rattle.cluster_origin.specs.Launches.{IsCurrent, launches_in}
 use Rattle.cluster_origin.proofs.Sent.{IsTick, in_append, by_master, at_sends}
-use Rattle.cluster_origin.proofs.Silent.{Unmarked, Silent, unmarked, hears_silent, agent_silent, ticks_unmarked, restart_silent, halt_silent, moves_silent, hellos_silent, trail_silent, sent_silent, trail_onto}
+use Rattle.cluster_origin.proofs.Silent.{Unmarked, Silent, unmarked, receives_silent, agent_silent, ticks_unmarked, restart_silent, halt_silent, moves_silent, hellos_silent, trail_silent, sent_silent, trail_onto}
 use Rattle.cluster_origin.proofs.Quiet.{mailed_quiet, lost_quiet, hung_quiet}
 use Rattle.cluster_origin.proofs.Calls.{OneLaunch, LaunchesAlone, called_alone, StandsIn, IsUseOf, launch_marks_in, launch_alone}
 use Rattle.cluster_origin.proofs.Offers.{IsToldBy, round_told}
@@ -177,13 +177,13 @@ called_sourced c s number stream call e at (inr one) = launch_sourced c s number
 
 -- a mail of an agent
 
-hears_sourced : (c : Cluster) (s : Marked) (x : Channel) (place : ℕ) (mail : Option AgentMail) → Sourced c s (master_hears c x place mail)
-hears_sourced c s x place None = tt
-hears_sourced c s x place (Some mail) = silent c c s (effect_of (At x.side.name (Hear place) ∷ []) (mailed (master_of c) x.side mail)) refl (hears_silent x.side.name place, moves_silent (mailed (master_of c) x.side mail).moves (mailed_quiet (master_of c) x.side mail))
+receives_sourced : (c : Cluster) (s : Marked) (x : Channel) (place : ℕ) (mail : Option AgentMail) → Sourced c s (master_receives c x place mail)
+receives_sourced c s x place None = tt
+receives_sourced c s x place (Some mail) = silent c c s (effect_of (At x.side.name (Receive place) ∷ []) (mailed (master_of c) x.side mail)) refl (receives_silent x.side.name place, moves_silent (mailed (master_of c) x.side mail).moves (mailed_quiet (master_of c) x.side mail))
 
 up_sourced : (c : Cluster) (s : Marked) (place : ℕ) (x : Option Channel) → Sourced c s (delivers_up c place x)
 up_sourced c s place None = tt
-up_sourced c s place (Some x) = hears_sourced c s x place (slice_get x.to_master place)
+up_sourced c s place (Some x) = receives_sourced c s x place (slice_get x.to_master place)
 
 delivers_sourced : (c : Cluster) (s : Marked) (number : ℕ) → s.step ≡ Deliver number → (p : Option Post) → post_at c number ≡ p → Sourced c s (delivers c p)
 delivers_sourced c s number e None at = tt
@@ -249,7 +249,7 @@ drafts_sourced c s x step (Err refusal) = silent c c s (happening c (AgentRefuse
 
 draws_mail_at_sourced : (c : Cluster) (s : Marked) (x : Channel) (place : ℕ) (o : Option MasterMail) → Sourced c s (draws_mail_at c x place o)
 draws_mail_at_sourced c s x place None = tt
-draws_mail_at_sourced c s x place (Some mail) = drafts_sourced c s x (DrawMail place) (hears_mail x.agent mail)
+draws_mail_at_sourced c s x place (Some mail) = drafts_sourced c s x (DrawMail place) (receives_mail x.agent mail)
 
 draws_mail_sourced : (c : Cluster) (s : Marked) (x : Channel) (p : Option Post) → Sourced c s (draws_mail c x p)
 draws_mail_sourced c s x None = tt

@@ -19,7 +19,7 @@ use Rattle.mails.specs.declared.refusal.MasterRefusal.TheVariants.{WrongStream, 
 use Rattle.mails.specs.declared.task.Job.{Job}
 use Rattle.mails.specs.declared.task.Offer.{Offer}
 use Rattle.cluster_model.specs.Calls.{good_side, given_by, passes_limits, accepts_all, accepted_from, on_accept, is_stream, on_its_stream, by_known, called}
-use Rattle.cluster_model.specs.Channels.{Channel, ChannelStep, ByMaster, Hear, ByAgent, heard_mail, happens, World, Happening, At, TearDown, Restart, Halt, at_agent, with_side, after, after_all}
+use Rattle.cluster_model.specs.Channels.{Channel, ChannelStep, ByMaster, Receive, ByAgent, received_mail, happens, World, Happening, At, TearDown, Restart, Halt, at_agent, with_side, after, after_all}
 use Rattle.cluster_histories.specs.Clusters.{Cluster, sides_of, master_of, Called}
 use Rattle.cluster_steps.specs.declared.step.Step.TheVariants.{Deliver}
 use Rattle.cluster_steps.specs.declared.fault.ClusterFault.{ClusterFault}
@@ -28,7 +28,7 @@ use Rattle.cluster_steps.specs.declared.verdict.Verdict.TheVariants.{Ok as Fine}
 use Rattle.cluster_model.specs.Ids.{first_of_run, is_among, is_empty, is_repeated, last_number}
 use Rattle.cluster_model.specs.Masters.{Framework, Master, Doing, refused, framework_of, is_torn, withdraws_on}
 use Rattle.cluster_model.specs.Openings.{NamesOnce}
-use Rattle.cluster_model.specs.Sides.{Run, Side, Sending, sends_nothing, issue, Launching, launch_all, is_named, has_offer, is_good, used_offers, without_used, offer_rows, taken, may_offer, accepted, heard_update, forget_all, last_session, opens, opened, counts, shut, SideStep, MakeOffer, Withdraw, LaunchFrom, SendKill, SendAck, SendEnd, SendHello, SendAgain, Lose, side_step}
+use Rattle.cluster_model.specs.Sides.{Run, Side, Sending, sends_nothing, issue, Launching, launch_all, is_named, has_offer, is_good, used_offers, without_used, offer_rows, taken, may_offer, accepted, received_update, forget_all, last_session, opens, opened, counts, shut, SideStep, MakeOffer, Withdraw, LaunchFrom, SendKill, SendAck, SendEnd, SendHello, SendAgain, Lose, side_step}
 use Rattle.cluster_histories.specs.Steps.{Done, happening_of, verdict_of, master_does, delivers, with_master, answer, master_falls, instead, fallen_answer, Marked, step_marked}
 use Rattle.cluster_safe.specs.Facts.{Less}
 use Rattle.cluster_safe.specs.Offered.{IsAmong}
@@ -70,15 +70,15 @@ side_gone id run s SendHello lt h = h
 side_gone id run s SendAgain lt h = h
 side_gone id run s Lose lt h = cond_both s.is_open (shut s s.session) s (λ (x : Side). NoneOf id x.offers) (λ e. tt) (λ e. h)
 
-heard_gone : (id : Numbered) (run : Run) (c : Channel) (o : Option AgentMail) → NoneOf id c.side.offers → NoneOf id (heard_mail run c o).side.offers
-heard_gone id run c None h = h
-heard_gone id run c (Some (Report session number tasks total)) h = cond_both (opens run c.side session number) (opened c.side session tasks total) c.side (λ (s : Side). NoneOf id s.offers) (λ e. tt) (λ e. h)
-heard_gone id run c (Some (Applied session count)) h = cond_both (counts c.side session count) (record c.side { booked = forget_all (take (count - c.known) c.waiting) c.booked; waiting = drop (count - c.known) c.waiting; known = count }) c.side (λ (s : Side). NoneOf id s.offers) (λ e. h) (λ e. h)
-heard_gone id run c (Some (Update session key k state ended)) h = cond_both (c.is_open && session == c.session) (record c.side { booked = map (heard_update key k state ended) c.booked }) c.side (λ (s : Side). NoneOf id s.offers) (λ e. h) (λ e. h)
+received_gone : (id : Numbered) (run : Run) (c : Channel) (o : Option AgentMail) → NoneOf id c.side.offers → NoneOf id (received_mail run c o).side.offers
+received_gone id run c None h = h
+received_gone id run c (Some (Report session number tasks total)) h = cond_both (opens run c.side session number) (opened c.side session tasks total) c.side (λ (s : Side). NoneOf id s.offers) (λ e. tt) (λ e. h)
+received_gone id run c (Some (Applied session count)) h = cond_both (counts c.side session count) (record c.side { booked = forget_all (take (count - c.known) c.waiting) c.booked; waiting = drop (count - c.known) c.waiting; known = count }) c.side (λ (s : Side). NoneOf id s.offers) (λ e. h) (λ e. h)
+received_gone id run c (Some (Update session key k state ended)) h = cond_both (c.is_open && session == c.session) (record c.side { booked = map (received_update key k state ended) c.booked }) c.side (λ (s : Side). NoneOf id s.offers) (λ e. h) (λ e. h)
 
 channel_gone : (id : Numbered) (run : Run) (c : Channel) (step : ChannelStep) → Less id run.next_offer → NoneOf id c.side.offers → NoneOf id (happens run c step).channel.side.offers
 channel_gone id run c (ByMaster step) lt h = side_gone id run c.side step lt h
-channel_gone id run c (Hear place) lt h = heard_gone id run c (slice_get c.to_master place) h
+channel_gone id run c (Receive place) lt h = received_gone id run c (slice_get c.to_master place) h
 channel_gone id run c (ByAgent step) lt h = subst (λ (s : Side). NoneOf id s.offers) (sym (agent_side c step)) h
 
 at_gone : (id : Numbered) (agent : List ℕ) (step : ChannelStep) (run : Run) (cs : List Channel) → Less id run.next_offer → Each (λ (c : Channel). NoneOf id c.side.offers) cs → Each (λ (c : Channel). NoneOf id c.side.offers) (at_agent agent step run cs).channels

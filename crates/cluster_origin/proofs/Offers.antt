@@ -12,7 +12,7 @@ use Rattle.cluster_model.specs.Masters.{Master, AtSide, moved}
 use Rattle.cluster_model.specs.Rounds.{entered_on, entered, making, round, allocated}
 use Rattle.cluster_histories.specs.Clusters.{Cluster, sides_of, master_of}
 use Rattle.cluster_histories.specs.Steps.{happening_of}
-use Rattle.cluster_safe.specs.Offered.{IsAmong, IsTold}
+use Rattle.cluster_safe.specs.Offered.{IsAmong, IsSentOffer}
 use Rattle.cluster_safe.specs.Origin.{Mark, Made, Used, marks_at, marks_in, trail}
 use Rattle.cluster_safe.proofs.Alone.{master_alone}
 use Rattle.cluster_safe.proofs.Offered.{offers_told}
@@ -148,7 +148,7 @@ all_made olds (g ∷ gs) w marks grew h =
     (entered_wider olds w.channels (at_agent g.agent (ByMaster (MakeOffer g.offer)) w.run w.channels).channels marks (marks_in g.agent (ByMaster (MakeOffer g.offer)) w.run w.channels) step h)
 
 abbrev pub IsToldBy : List RoleWeight → Master → Mark → Type 0
-IsToldBy ws m (Made g) = IsTold m.registers.frameworks (allocated ws m).events g
+IsToldBy ws m (Made g) = IsSentOffer m.registers.frameworks (allocated ws m).events g
 IsToldBy ws m (Used u) = ⊥
 
 pub round_told : (c : Cluster) → Each (IsToldBy c.weights (master_of c)) (trail (map happening_of (allocated c.weights (master_of c)).moves) c.world [])
@@ -157,5 +157,5 @@ round_told c = each_map (IsEntered (sides_of c.world.channels) (moved (master_of
     (all_made (sides_of c.world.channels) (round c.weights (master_of c)) c.world [] (grew_first (sides_of c.world.channels)) tt))
   where
     told : (mark : Mark) → IsEntered (sides_of c.world.channels) (moved (master_of c) (making c.weights (master_of c))).sides mark → IsToldBy c.weights (master_of c) mark
-    told (Made g) h = each_among (IsTold c.registers.frameworks (allocated c.weights (master_of c)).events) (entered (sides_of c.world.channels) (moved (master_of c) (making c.weights (master_of c))).sides) g (offers_told c.weights (master_of c)) h
+    told (Made g) h = each_among (IsSentOffer c.registers.frameworks (allocated c.weights (master_of c)).events) (entered (sides_of c.world.channels) (moved (master_of c) (making c.weights (master_of c))).sides) g (offers_told c.weights (master_of c)) h
     told (Used u) h = absurd h

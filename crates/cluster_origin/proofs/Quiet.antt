@@ -10,7 +10,7 @@ use Rattle.mails.specs.declared.refusal.MasterRefusal.{MasterRefusal}
 use Rattle.mails.specs.declared.refusal.MasterRefusal.TheVariants.{OtherRun, OldSession, Closed, NotOpen, NotSubscribed, WrongStream, NoSuchFramework, LimitExceeded}
 use Rattle.cluster_model.specs.Sides.{Side, opens, SendEnd, SendHello, Lose}
 use Rattle.cluster_model.specs.Events.{Failure}
-use Rattle.cluster_model.specs.Masters.{Framework, Master, Move, AtSide, Doing, nothing, tells_all, is_of, withdraws_on, withdraws, without_filters_on}
+use Rattle.cluster_model.specs.Masters.{Framework, Master, Move, AtSide, Doing, nothing, events_to_all, is_of, withdraws_on, withdraws, without_filters_on}
 use Rattle.cluster_model.specs.Calls.{is_stream}
 use Rattle.cluster_model.specs.Mails.{judged, rescinds, loses, is_to_end, session_opens, goes_with, mailed_as, mailed, agent_lost, hung_up_by, hung_up}
 use Rattle.cluster_origin.proofs.Silent.{QuietMove}
@@ -51,7 +51,7 @@ mailed_quiet m s mail = mailed_as_quiet m s mail (judged m.run s mail)
 pub lost_quiet : (m : Master) (s : Side) → Each QuietMove (agent_lost m s).moves
 lost_quiet m s = by s.is_open
   where
-    by : (b : Bool) → Each QuietMove (if b then record { refusal = None; moves = AtSide s.name Lose ∷ AtSide s.name SendHello ∷ []; events = rescinds m s.offers ++ loses m s.name s.booked ++ tells_all m.registers.frameworks (Failure s.name); opens = []; closes = []; registers = without_filters_on s.name m.registers } else nothing m).moves
+    by : (b : Bool) → Each QuietMove (if b then record { refusal = None; moves = AtSide s.name Lose ∷ AtSide s.name SendHello ∷ []; events = rescinds m s.offers ++ loses m s.name s.booked ++ events_to_all m.registers.frameworks (Failure s.name); opens = []; closes = []; registers = without_filters_on s.name m.registers } else nothing m).moves
     by true = (tt, (tt, tt))
     by false = tt
 

@@ -11,7 +11,7 @@ use Rattle.mails.specs.declared.mail.Command.TheVariants.{Launch, Kill, Ack, End
 use Rattle.mails.specs.declared.mail.MasterMail.{MasterMail}
 use Rattle.mails.specs.declared.mail.MasterMail.TheVariants.{Issued}
 use Rattle.mails.specs.declared.task.Job.{Job}
-use Rattle.cluster_model.specs.Channels.{Channel, AgentStep, ChannelStep, ByMaster, Hear, ByAgent, heard_mail, happens, at_agent, with_side}
+use Rattle.cluster_model.specs.Channels.{Channel, AgentStep, ChannelStep, ByMaster, Receive, ByAgent, received_mail, happens, at_agent, with_side}
 use Rattle.cluster_steps.specs.declared.verdict.Sent.{Sent}
 use Rattle.cluster_steps.specs.declared.verdict.Sent.TheVariants.{Call as CallSent, ToAgent as MailToAgent, ToMaster as MailToMaster}
 use Rattle.cluster_steps.specs.declared.step.Step.{Step}
@@ -134,9 +134,9 @@ step_sends run s Lose q = refl
 
 -- a step in a channel
 
-heard_down : (run : Run) (c : Channel) (o : Option AgentMail) → (heard_mail run c o).to_agent ≡ c.to_agent
-heard_down run c None = refl
-heard_down run c (Some mail) = refl
+received_down : (run : Run) (c : Channel) (o : Option AgentMail) → (received_mail run c o).to_agent ≡ c.to_agent
+received_down run c None = refl
+received_down run c (Some mail) = refl
 
 -- what the channel's step sends, and launches
 abbrev pub SendsItsMarks : Run → ChannelStep → Channel → Type 0
@@ -145,8 +145,8 @@ SendsItsMarks run step c = (more : List MasterMail) × ((happens run c step).cha
 pub by_master : (run : Run) (step : SideStep) (c : Channel) → NotAgain step → SendsItsMarks run (ByMaster step) c
 by_master run step c q = ((side_step run c.side step).sent, refl, step_sends run c.side step q)
 
-pub by_hearing : (run : Run) (place : ℕ) (c : Channel) → SendsItsMarks run (Hear place) c
-by_hearing run place c = ([], heard_down run c (slice_get c.to_master place) ∙ sym (append-nil c.to_agent), refl)
+pub by_receiving : (run : Run) (place : ℕ) (c : Channel) → SendsItsMarks run (Receive place) c
+by_receiving run place c = ([], received_down run c (slice_get c.to_master place) ∙ sym (append-nil c.to_agent), refl)
 
 pub by_agent : (run : Run) (step : AgentStep) (c : Channel) → SendsItsMarks run (ByAgent step) c
 by_agent run step c = ([], (agent_beside c step).1 ∙ sym (append-nil c.to_agent), refl)

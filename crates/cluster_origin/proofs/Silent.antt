@@ -4,13 +4,13 @@ use Rattle.std.specs.Prelude.{⊤, if◌then◌else◌}
 use Rattle.std.specs.List.{AllByRecursion as Each}
 use Rattle.std.proofs.lemmas.Bool.{cond_both}
 use Rattle.cluster_model.specs.Sides.{Run, Side, halted, restarted, SideStep, MakeOffer, Withdraw, LaunchFrom, SendKill, SendAck, SendEnd, SendHello, SendAgain, Lose}
-use Rattle.cluster_model.specs.Channels.{Channel, AgentStep, ChannelStep, ByMaster, Hear, ByAgent, World, Happening, At, Restart, Halt, after}
+use Rattle.cluster_model.specs.Channels.{Channel, AgentStep, ChannelStep, ByMaster, Receive, ByAgent, World, Happening, At, Restart, Halt, after}
 use Rattle.cluster_model.specs.Masters.{Move, AtSide, TearDownAll, RestartAll, HaltAll}
 use Rattle.cluster_model.specs.Mails.{ticks}
 use Rattle.cluster_histories.specs.Steps.{sent_between, sent_by, happening_of, hello_to}
 use Rattle.cluster_safe.specs.Origin.{Mark, marks_at, marks_of, marks_in, marks_by, trail, jobs_of}
 use Rattle.cluster_origin.specs.Launches.{launches_in}
-use Rattle.cluster_origin.proofs.Sent.{in_append, none_sent, same_sent, NotAgain, SendsItsMarks, by_master, by_hearing, by_agent, at_sends}
+use Rattle.cluster_origin.proofs.Sent.{in_append, none_sent, same_sent, NotAgain, SendsItsMarks, by_master, by_receiving, by_agent, at_sends}
 
 abbrev pub Unmarked : Happening → Type 0
 Unmarked h = (w : World) → marks_by w h ≡ []
@@ -33,8 +33,8 @@ nothing_in : (agent : List ℕ) (step : ChannelStep) (run : Run) (cs : List Chan
 nothing_in agent step run [] f = refl
 nothing_in agent step run (c ∷ cs) f = cond_both (bytes_eq c.side.name agent) (marks_of run c step) (marks_in agent step run cs) (λ ms. ms ≡ []) (λ e. f c) (λ e. nothing_in agent step run cs f)
 
-pub hears_silent : (agent : List ℕ) (place : ℕ) → Silent (At agent (Hear place))
-hears_silent agent place w = at_silent agent (Hear place) w (nothing_in agent (Hear place) w.run w.channels (λ c. refl)) (by_hearing w.run place)
+pub receives_silent : (agent : List ℕ) (place : ℕ) → Silent (At agent (Receive place))
+receives_silent agent place w = at_silent agent (Receive place) w (nothing_in agent (Receive place) w.run w.channels (λ c. refl)) (by_receiving w.run place)
 
 pub agent_silent : (agent : List ℕ) (step : AgentStep) → Silent (At agent (ByAgent step))
 agent_silent agent step w = at_silent agent (ByAgent step) w (nothing_in agent (ByAgent step) w.run w.channels (λ c. refl)) (by_agent w.run step)

@@ -15,7 +15,7 @@ use Rattle.mails.specs.declared.mail.MasterMail.{MasterMail}
 use Rattle.mails.specs.declared.mail.MasterMail.TheVariants.{Hello, Issued}
 use Rattle.mails.specs.declared.record.Durable.{Durable}
 use Rattle.mails.specs.declared.task.Job.{Job}
-use Rattle.cluster_model.specs.Channels.{Channel, ChannelStep, ByMaster, Hear, ByAgent, heard_mail, agent_step, happens, World, Happening, At, TearDown, Restart, Halt, at_agent, with_side, open_channel, after, after_all}
+use Rattle.cluster_model.specs.Channels.{Channel, ChannelStep, ByMaster, Receive, ByAgent, received_mail, agent_step, happens, World, Happening, At, TearDown, Restart, Halt, at_agent, with_side, open_channel, after, after_all}
 use Rattle.cluster_histories.specs.Clusters.{Cluster, sides_of, master_of}
 use Rattle.cluster_steps.specs.declared.verdict.Sent.{Sent}
 use Rattle.cluster_steps.specs.declared.verdict.Sent.TheVariants.{Call as CallSent, ToAgent as MailToAgent, ToMaster as MailToMaster}
@@ -24,7 +24,7 @@ use Rattle.cluster_steps.specs.declared.fault.ClusterFault.TheVariants.{MasterDo
 use Rattle.cluster_steps.specs.declared.step.Step.TheVariants.{Tick}
 use Rattle.cluster_model.specs.Ids.{is_among, last_number}
 use Rattle.cluster_model.specs.Mails.{ticks, ticked}
-use Rattle.cluster_model.specs.Sides.{Run, Side, Sending, sends_nothing, issue, oldest_again, books, Launching, may_launch, launch_one, launch_all, is_good, used_offers, without_used, offer_rows, may_offer, heard_update, forget_all, last_session, opens, opened, counts, shut, halted, SideStep, MakeOffer, Withdraw, LaunchFrom, SendKill, SendAck, SendEnd, SendHello, SendAgain, Lose, side_step}
+use Rattle.cluster_model.specs.Sides.{Run, Side, Sending, sends_nothing, issue, oldest_again, books, Launching, may_launch, launch_one, launch_all, is_good, used_offers, without_used, offer_rows, may_offer, received_update, forget_all, last_session, opens, opened, counts, shut, halted, SideStep, MakeOffer, Withdraw, LaunchFrom, SendKill, SendAck, SendEnd, SendHello, SendAgain, Lose, side_step}
 use Rattle.cluster_histories.specs.Steps.{new_to_agent, new_to_master, sent_in, sent_between, sent_by, Done, happening_of, with_tick, ticks_at, master_does, answer, master_falls, instead, fallen_answer, Marked, step_marked}
 use Rattle.cluster_safe.specs.Offered.{IsAmong}
 use Rattle.cluster_safe.proofs.Drafts.{both_true}
@@ -108,16 +108,16 @@ counted s session count e =
     let lt : nat_lt s.known count ≡ true = (both_true (nat_lt s.known count) (nat_le count (s.known + length s.waiting)) two).0 in
     grind (arith, nat_tests, lt)
 
-heard_waits : (run : Run) (c : Channel) (o : Option AgentMail) → WaitsIn c → WaitsIn (heard_mail run c o)
-heard_waits run c None h = h
-heard_waits run c (Some (Report session number tasks total)) h = cond_both (opens run c.side session number) (opened c.side session tasks total) c.side (λ (s : Side). Waits s c.to_agent) (λ e. tt) (λ e. h)
-heard_waits run c (Some (Applied session count)) h = cond_both (counts c.side session count) (record c.side { booked = forget_all (take (count - c.known) c.waiting) c.booked; waiting = drop (count - c.known) c.waiting; known = count }) c.side (λ (s : Side). Waits s c.to_agent)
+received_waits : (run : Run) (c : Channel) (o : Option AgentMail) → WaitsIn c → WaitsIn (received_mail run c o)
+received_waits run c None h = h
+received_waits run c (Some (Report session number tasks total)) h = cond_both (opens run c.side session number) (opened c.side session tasks total) c.side (λ (s : Side). Waits s c.to_agent) (λ e. tt) (λ e. h)
+received_waits run c (Some (Applied session count)) h = cond_both (counts c.side session count) (record c.side { booked = forget_all (take (count - c.known) c.waiting) c.booked; waiting = drop (count - c.known) c.waiting; known = count }) c.side (λ (s : Side). Waits s c.to_agent)
     (λ e. subst (λ n. AreSent c.side.session n (drop (count - c.known) c.waiting) c.to_agent) (counted c.side session count e) (sent_drop c.side.session c.side.known (count - c.known) c.waiting c.to_agent h)) (λ e. h)
-heard_waits run c (Some (Update session key k state ended)) h = cond_both (c.is_open && session == c.session) (record c.side { booked = map (heard_update key k state ended) c.booked }) c.side (λ (s : Side). Waits s c.to_agent) (λ e. h) (λ e. h)
+received_waits run c (Some (Update session key k state ended)) h = cond_both (c.is_open && session == c.session) (record c.side { booked = map (received_update key k state ended) c.booked }) c.side (λ (s : Side). Waits s c.to_agent) (λ e. h) (λ e. h)
 
 channel_waits : (run : Run) (c : Channel) (step : ChannelStep) → WaitsIn c → WaitsIn (happens run c step).channel
 channel_waits run c (ByMaster step) h = side_waits c.to_agent run c.side step h
-channel_waits run c (Hear place) h = heard_waits run c (slice_get c.to_master place) h
+channel_waits run c (Receive place) h = received_waits run c (slice_get c.to_master place) h
 channel_waits run c (ByAgent step) h = subst (Waits (agent_step c step).side) (sym (agent_beside c step).1) (subst (λ (s : Side). Waits s c.to_agent) (sym (agent_side c step)) h)
 
 at_waits : (agent : List ℕ) (step : ChannelStep) (run : Run) (cs : List Channel) → Each WaitsIn cs → Each WaitsIn (at_agent agent step run cs).channels

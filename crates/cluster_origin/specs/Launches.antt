@@ -23,7 +23,7 @@ use Rattle.cluster_model.specs.Sides.{job_rows, offer_rows}
 use Rattle.cluster_histories.specs.Steps.{post_at}
 use Rattle.cluster_safe.specs.Facts.{AtMost}
 use Rattle.cluster_safe.specs.Listed.{IsListed}
-use Rattle.cluster_safe.specs.Offered.{IsAmong, IsTold}
+use Rattle.cluster_safe.specs.Offered.{IsAmong, IsSentOffer}
 use Rattle.cluster_safe.specs.Origin.{IsOneOf, recorded_on}
 use Rattle.cluster_origin.specs.Entries.{Moment}
 
@@ -96,7 +96,7 @@ Issues m key =
 -- on the stream of the offer's framework, has the offer
 pub record IsOffered (m : Moment) (g : MadeOffer) : Type 0 where
   pub step : m.step.step ≡ Allocate
-  pub told : IsTold m.before.registers.frameworks m.did.outputs.events g
+  pub told : IsSentOffer m.before.registers.frameworks m.did.outputs.events g
 
 -- one of these entries made the offer on this agent, and sent it to its framework
 abbrev pub WasOffered : List Moment → List ℕ → Offer → Type 0

@@ -3,7 +3,7 @@ pub mod StepsDone
 pub mod StepsServed
 pub mod Sendings
 pub mod Outgoing
-pub mod Hearing
+pub mod Receiving
 pub mod Greeting
 pub mod Openings
 pub mod Restarts

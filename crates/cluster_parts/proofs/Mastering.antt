@@ -27,11 +27,11 @@ use Rattle.master_state.specs.declared.fault.MasterFault.{MasterFault}
 use Rattle.master_state.specs.declared.fault.MasterFault.TheVariants as fault
 use Rattle.master_state.specs.declared.state.Outs.{Outs}
 use Rattle.scheduler_events.specs.declared.stream_event.StreamEvent.{StreamEvent}
-use Rattle.told_streams.specs.Kept.{AreWithin, kept_streams}
-use Rattle.told_streams.specs.declared.kept.KeptStream.{KeptStream}
-use Rattle.told_streams.specs.Streams.{heard, kept_ids}
+use Rattle.event_streams.specs.Kept.{AreWithin, kept_streams}
+use Rattle.event_streams.specs.declared.kept.KeptStream.{KeptStream}
+use Rattle.event_streams.specs.Streams.{received, kept_ids}
 use Rattle.cluster_agents.specs.Outcomes.{ends_with}
-use Rattle.cluster_parts.specs.Masters.{Does, Falls, MasterMakes, Settles, item_to, kept_master, sent_to, tells}
+use Rattle.cluster_parts.specs.Masters.{Does, Falls, MasterMakes, Settles, item_to, kept_master, sent_to, made_of}
 use Rattle.cluster_agents.specs.declared.outcomes.Made.{Made}
 use Rattle.cluster_agents.specs.Moves.{Reached, sending}
 use Rattle.cluster_agents.proofs.Making.{ItemsStand, append_nothing, items_by, marked, quiet_streams}
@@ -43,10 +43,10 @@ pub record MasterLaws : Type 0 where
   pub parts : (c : Cluster) (d : Doing) → parts_of (done c (effect_of [] d)).after.world.channels ≡ parts_of c.world.channels
   pub parts_fallen : (c : Cluster) → parts_of (master_falls c).after.world.channels ≡ parts_of c.world.channels
   pub down : (c : Cluster) → (master_falls c).after.world.run.serves ≡ false
-  pub hears : (streams : List Stream) (opens : List Numbered) (told : List StreamEvent) → AreWithin streams → kept_streams (streams_after streams opens told) ≡ heard opens told (kept_streams streams)
+  pub receives : (streams : List Stream) (opens : List Numbered) (sent_outs : List StreamEvent) → AreWithin streams → kept_streams (streams_after streams opens sent_outs) ≡ received opens sent_outs (kept_streams streams)
   pub rising : (setup : Setup) (records : List Durable) (steps : List Marked) → AreRising (ids_of (history setup records steps).state.streams)
-  pub ids : (streams : List Stream) (opens : List Numbered) (told : List StreamEvent) → ids_of (streams_after streams opens told) ≡ kept_ids (kept_streams streams) ++ opens
-  pub within : (streams : List Stream) (opens : List Numbered) (told : List StreamEvent) → AreWithin streams → AreWithin (streams_after streams opens told)
+  pub ids : (streams : List Stream) (opens : List Numbered) (sent_outs : List StreamEvent) → ids_of (streams_after streams opens sent_outs) ≡ kept_ids (kept_streams streams) ++ opens
+  pub within : (streams : List Stream) (opens : List Numbered) (sent_outs : List StreamEvent) → AreWithin streams → AreWithin (streams_after streams opens sent_outs)
 
 abbrev marks_so : Bool → Step → Marked
 marks_so b s = record { fell = b; step = s }
@@ -77,7 +77,7 @@ abbrev told_with : List StreamEvent → List Numbered → List code.Sent → Out
 told_with events closed sent = record { events = events; closed = closed; sent = sent; taken = None }
 
 pub doing_told : MasterLaws → (c : Cluster) (s : Step) (moment : ℕ) (d : Doing) (items : List Item) → Reached c → AreWithin c.streams → StandIn c items → c.world.run.serves ≡ true → Does c s moment d → d.refusal ≡ None →
-    MasterMakes c s moment (tells (outs_of (master_of c) d)) (Some (Some (after_doing (master_of c) d))) (items ++ map item_to (outs_of (master_of c) d).mails) (heard d.opens d.events (kept_streams c.streams))
+    MasterMakes c s moment (made_of (outs_of (master_of c) d)) (Some (Some (after_doing (master_of c) d))) (items ++ map item_to (outs_of (master_of c) d).mails) (received d.opens d.events (kept_streams c.streams))
 doing_told more c s moment d items r within stand serves how fine = record {
   done = D;
   answers = how.answers;
@@ -87,7 +87,7 @@ doing_told more c s moment d items r within stand serves how fine = record {
   stands = record {
     as_master = ap (λ (m : Master). Some (Some m)) (sym after) ∙ sym (serving (master_of D.after) (how.keeps.serves ∙ serves));
     as_items = subst (λ (xs : List Item). StandIn D.after (items ++ xs)) (ap (items_sent (call_of s)) sends ∙ kept_so (call_of s) mails) (items_by more.stand c marks D items r how.answers stand);
-    as_streams = sym (more.hears c.streams d.opens d.events within);
+    as_streams = sym (more.receives c.streams d.opens d.events within);
     within = more.within c.streams d.opens d.events within;
   };
   leaves_parts = more.parts base d;
@@ -200,11 +200,11 @@ falls_then more c s moment d made n items js ts r within stand how f =
 pub answer_made : MasterLaws → (c : Cluster) (s : Step) (moment : ℕ) (doing : Master → Doing) (answered : Result Outs MasterFault) (after : Option Master) (made : Made) (n : Option (Option Master)) (items js : List Item) (ts : List KeptStream) →
     Reached c → AreWithin c.streams → StandIn c items → c.world.run.serves ≡ true → Does c s moment (doing (master_of c)) → Answers answered (Some (master_of c)) after doing → Settles answered made (Some after) n items js (kept_streams c.streams) ts → MasterMakes c s moment made n js ts
 answer_made more c s moment doing (Ok outs) after made n items js ts r within stand serves how (fine, is, next) (inl t) =
-    same_but c s moment made (tells (outs_of (master_of c) (doing (master_of c)))) n (Some (Some (after_doing (master_of c) (doing (master_of c))))) js (items ++ map item_to (outs_of (master_of c) (doing (master_of c))).mails) ts (heard (doing (master_of c)).opens (doing (master_of c)).events (kept_streams c.streams))
-    (t.is ∙ ap tells is)
+    same_but c s moment made (made_of (outs_of (master_of c) (doing (master_of c)))) n (Some (Some (after_doing (master_of c) (doing (master_of c))))) js (items ++ map item_to (outs_of (master_of c) (doing (master_of c))).mails) ts (received (doing (master_of c)).opens (doing (master_of c)).events (kept_streams c.streams))
+    (t.is ∙ ap made_of is)
     (t.same_master ∙ ap (λ (m : Option Master). Some m) next)
     (t.more_items ∙ ap (λ (o : Outs). items ++ map item_to o.mails) is)
-    (t.more_streams ∙ ap (λ (o : Outs). heard o.opened o.events (kept_streams c.streams)) is)
+    (t.more_streams ∙ ap (λ (o : Outs). received o.opened o.events (kept_streams c.streams)) is)
     (doing_told more c s moment (doing (master_of c)) items r within stand serves how fine)
 answer_made more c s moment doing (Ok outs) after made n items js ts r within stand serves how h (inr f) = falls_then more c s moment (doing (master_of c)) made n items js ts r within stand how f
 answer_made more c s moment doing (Err fault.OutOfMemory) after made n items js ts r within stand serves how h f = falls_then more c s moment (doing (master_of c)) made n items js ts r within stand how f

@@ -22,10 +22,10 @@ use Rattle.master_core.specs.Steps.{outs_of}
 use Rattle.master_state.specs.declared.fault.MasterFault.{MasterFault}
 use Rattle.master_state.specs.declared.fault.MasterFault.TheVariants as fault
 use Rattle.master_state.specs.declared.state.Outs.{Outs}
-use Rattle.told_streams.specs.declared.kept.KeptStream.{KeptStream}
-use Rattle.told_streams.specs.Streams.{heard, kept_ids}
+use Rattle.event_streams.specs.declared.kept.KeptStream.{KeptStream}
+use Rattle.event_streams.specs.Streams.{received, kept_ids}
 use Rattle.cluster_agents.specs.Outcomes.{ends_with}
-use Rattle.cluster_parts.specs.Masters.{Settles, StandsFor, Tells, item_to, kept_master, tells}
+use Rattle.cluster_parts.specs.Masters.{Settles, StandsFor, KeepsOutputs, item_to, kept_master, made_of}
 use Rattle.cluster_agents.specs.Moves.{kept_agents, kept_part, sending}
 use Rattle.cluster_parts.specs.Opening.{Starts, new_master, up_over}
 use Rattle.cluster_agents.specs.declared.outcomes.Made.{Made}
@@ -51,7 +51,7 @@ first_outs : OpenLaws → (setup : Setup) (agents : List ConfiguredAgent) (recor
 first_outs laws setup agents records outs of is = is ∙ ap (λ (m : Master). outs_of m (greeting m)) (laws.fresh setup agents records of)
 
 parts_open : OpenLaws → (setup : Setup) (agents : List ConfiguredAgent) (records : List Durable) (outs : Outs) (made : Made) (started n : Option (Option Master)) (js : List Item) (ts : List KeptStream) →
-    AreAgentsOf agents records → GoodOpening setup.run records → started ≡ Some (Some (new_master setup.run agents)) → outs ≡ outs_of (new_master setup.run agents) (greeting (new_master setup.run agents)) → Tells outs made started n [] js [] ts →
+    AreAgentsOf agents records → GoodOpening setup.run records → started ≡ Some (Some (new_master setup.run agents)) → outs ≡ outs_of (new_master setup.run agents) (greeting (new_master setup.run agents)) → KeepsOutputs outs made started n [] js [] ts →
     StandsFor (opening setup records).state n js ts × (made.outputs ≡ (open_cluster setup records).outputs)
 parts_open laws setup agents records outs made started n js ts of good begins brings t = (stands, outputs)
   where
@@ -74,12 +74,12 @@ parts_open laws setup agents records outs made started n js ts of good begins br
     stands = record {
       as_master = t.same_master ∙ begins ∙ ap (λ (m : Master). Some (Some m)) (laws.fresh setup agents records of) ∙ sym (ap kept_master (greeted_master laws.greet first));
       as_items = subst (StandIn D.after) (ap (items_sent []) sends ∙ kept_so mails ∙ sym (t.more_items ∙ ap (λ (o : Outs). map item_to o.mails) outs_so)) (laws.stand setup records good);
-      as_streams = t.more_streams ∙ ap (λ (o : Outs). heard o.opened o.events []) outs_so;
+      as_streams = t.more_streams ∙ ap (λ (o : Outs). received o.opened o.events []) outs_so;
       within = tt;
     }
 
     outputs : made.outputs ≡ D.outputs
-    outputs = ap (λ (m : Made). m.outputs) (t.is ∙ ap tells outs_so) ∙ ap (λ (xs : List code.Sent). sending xs) (sym (told_so mails)) ∙ ap (λ (xs : List Sent). sending xs) (sym sends)
+    outputs = ap (λ (m : Made). m.outputs) (t.is ∙ ap made_of outs_so) ∙ ap (λ (xs : List code.Sent). sending xs) (sym (told_so mails)) ∙ ap (λ (xs : List Sent). sending xs) (sym sends)
 
 no_fall : {A : Type 0} (made : Made) → made ≡ ends_with verdicts.OutOfMemory → made.verdict ≡ verdicts.Ok → A
 no_fall {A = A} made is fine = absurd (let clash : verdicts.OutOfMemory ≡ verdicts.Ok = sym (ap (λ (m : Made). m.verdict) is) ∙ fine in cc)

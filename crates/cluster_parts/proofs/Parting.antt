@@ -28,7 +28,7 @@ use Rattle.cluster_parts.specs.Restarting.{Restarts}
 use Rattle.cluster_agents.specs.declared.outcomes.Made.{Made}
 use Rattle.cluster_parts.specs.declared.parts.Parts.{Parts}
 use Rattle.cluster_agents.proofs.Preparing.{at_kept}
-use Rattle.told_streams.specs.Kept.{AreWithin, kept_streams}
+use Rattle.event_streams.specs.Kept.{AreWithin, kept_streams}
 
 -- the agents stay where their parts do and the same are down
 agents_stay : (c d : Cluster) → parts_of d.world.channels ≡ parts_of c.world.channels → d.fallen ≡ c.fallen → kept_agents d ≡ kept_agents c

@@ -29,11 +29,11 @@ use Rattle.master_core.specs.Steps.{outs_of}
 use Rattle.master_state.specs.declared.fault.MasterFault.{MasterFault}
 use Rattle.master_state.specs.declared.fault.MasterFault.TheVariants as fault
 use Rattle.master_state.specs.declared.state.Outs.{Outs}
-use Rattle.told_streams.specs.Kept.{AreWithin, kept_streams}
-use Rattle.told_streams.specs.declared.kept.KeptStream.{KeptStream}
-use Rattle.told_streams.specs.Streams.{heard, kept_ids}
+use Rattle.event_streams.specs.Kept.{AreWithin, kept_streams}
+use Rattle.event_streams.specs.declared.kept.KeptStream.{KeptStream}
+use Rattle.event_streams.specs.Streams.{received, kept_ids}
 use Rattle.cluster_agents.specs.Outcomes.{ends_with}
-use Rattle.cluster_parts.specs.Masters.{Falls, Settles, StandsFor, item_to, kept_master, tells}
+use Rattle.cluster_parts.specs.Masters.{Falls, Settles, StandsFor, item_to, kept_master, made_of}
 use Rattle.cluster_agents.specs.Moves.{Reached, sending}
 use Rattle.cluster_parts.specs.Opening.{Starts, new_master}
 use Rattle.cluster_parts.specs.Restarting.{Restarts, run_behind}
@@ -52,8 +52,8 @@ pub record StopLaws : Type 0 where
   pub master : (c : Cluster) → master_of (anew c) ≡ next_master (master_of c)
   pub parts : (c : Cluster) → parts_of (done c (master_stops c)).after.world.channels ≡ parts_of c.world.channels
   pub parts_fallen : (c : Cluster) → parts_of (new_master_falls c).after.world.channels ≡ parts_of c.world.channels
-  pub hears : (streams : List Stream) (opens : List Numbered) (told : List StreamEvent) → AreWithin streams → kept_streams (streams_after streams opens told) ≡ heard opens told (kept_streams streams)
-  pub ids : (streams : List Stream) (opens : List Numbered) (told : List StreamEvent) → ids_of (streams_after streams opens told) ≡ kept_ids (kept_streams streams) ++ opens
+  pub receives : (streams : List Stream) (opens : List Numbered) (sent_outs : List StreamEvent) → AreWithin streams → kept_streams (streams_after streams opens sent_outs) ≡ received opens sent_outs (kept_streams streams)
+  pub ids : (streams : List Stream) (opens : List Numbered) (sent_outs : List StreamEvent) → ids_of (streams_after streams opens sent_outs) ≡ kept_ids (kept_streams streams) ++ opens
   pub rising : (setup : Setup) (records : List Durable) (steps : List Marked) → AreRising (ids_of (history setup records steps).state.streams)
 
 -- ---- of its sides a new master has the names of the opening's records
@@ -98,8 +98,8 @@ abbrev halts : Cluster → Effect
 halts c = record (happening c Fine (Halt ∷ [])) { registers = new_registers }
 
 anew_told : StopLaws → (c : Cluster) (r : Reached c) (items : List Item) → AreWithin c.streams → StandIn c items → nat_lt c.world.run.number last_run ≡ true →
-    Restarts c (tells (outs_of (master_of (anew c)) (greeting (master_of (anew c))))) (1 + c.world.run.number) (Some (Some (master_of (anew c))))
-    (items ++ map item_to (outs_of (master_of (anew c)) (greeting (master_of (anew c)))).mails) (heard [] [] (kept_streams c.streams))
+    Restarts c (made_of (outs_of (master_of (anew c)) (greeting (master_of (anew c))))) (1 + c.world.run.number) (Some (Some (master_of (anew c))))
+    (items ++ map item_to (outs_of (master_of (anew c)) (greeting (master_of (anew c)))).mails) (received [] [] (kept_streams c.streams))
 anew_told laws c r items within stand later = record {
   done = D;
   answers = answers;
@@ -109,7 +109,7 @@ anew_told laws c r items within stand later = record {
   stands = record {
     as_master = sym (ap kept_master after_is);
     as_items = subst (λ (xs : List Item). StandIn D.after (items ++ xs)) (ap (items_sent []) sends ∙ kept_so mails) (items_by laws.stand c (stopping false) D items r answers stand);
-    as_streams = sym (laws.hears c.streams [] [] within);
+    as_streams = sym (laws.receives c.streams [] [] within);
     within = subst AreWithin (sym (quiet_streams c.streams)) within;
   };
   leaves_parts = ap (λ (e : Effect). parts_of (done c e).after.world.channels) (sym stops) ∙ laws.parts c;
@@ -216,17 +216,17 @@ falls_then laws c made n items js ts r within stand later f =
 anew_here : StopLaws → (c : Cluster) (r : Reached c) (agents : List ConfiguredAgent) (answered : Result Outs MasterFault) (made : Made) (started n : Option (Option Master)) (items js : List Item) (ts : List KeptStream) → AreAgentsOf agents r.records → AreWithin c.streams → StandIn c items → nat_lt c.world.run.number last_run ≡ true →
     Starts answered started (1 + c.world.run.number) agents → Settles answered made started n items js (kept_streams c.streams) ts → Restarts c made (1 + c.world.run.number) n js ts
 anew_here laws c r agents (Ok outs) made started n items js ts of within stand later (begins, brings) (inl t) =
-    same_restart c (1 + c.world.run.number) made (tells told) n (Some (Some (master_of (anew c)))) js (items ++ map item_to told.mails) ts (heard [] [] (kept_streams c.streams))
-    (t.is ∙ ap tells outs_so)
+    same_restart c (1 + c.world.run.number) made (made_of sent_outs) n (Some (Some (master_of (anew c)))) js (items ++ map item_to sent_outs.mails) ts (received [] [] (kept_streams c.streams))
+    (t.is ∙ ap made_of outs_so)
     (t.same_master ∙ begins ∙ ap (λ (m : Master). Some (Some m)) (next_is_new laws c r agents of))
     (t.more_items ∙ ap (λ (o : Outs). items ++ map item_to o.mails) outs_so)
-    (t.more_streams ∙ ap (λ (o : Outs). heard o.opened o.events (kept_streams c.streams)) outs_so)
+    (t.more_streams ∙ ap (λ (o : Outs). received o.opened o.events (kept_streams c.streams)) outs_so)
     (anew_told laws c r items within stand later)
   where
-    told : Outs
-    told = outs_of (master_of (anew c)) (greeting (master_of (anew c)))
+    sent_outs : Outs
+    sent_outs = outs_of (master_of (anew c)) (greeting (master_of (anew c)))
 
-    outs_so : outs ≡ told
+    outs_so : outs ≡ sent_outs
     outs_so = brings ∙ ap (λ (m : Master). outs_of m (greeting m)) (next_is_new laws c r agents of)
 anew_here laws c r agents (Ok outs) made started n items js ts of within stand later h (inr f) = falls_then laws c made n items js ts r within stand later f
 anew_here laws c r agents (Err fault.OutOfMemory) made started n items js ts of within stand later h f = falls_then laws c made n items js ts r within stand later f

@@ -19,9 +19,9 @@ use Rattle.cluster_entries.specs.declared.entry.Outputs.{Outputs}
 use Rattle.cluster_steps.specs.declared.verdict.Sent as entries_so
 use Rattle.cluster_steps.specs.declared.verdict.Sent.TheVariants as entries
 use Rattle.cluster_steps.specs.declared.verdict.Verdict.TheVariants as verdicts
-use Rattle.told_streams.specs.Kept.{AreWithin, kept_streams, untaken}
-use Rattle.told_streams.specs.Streams.{next_on, taken}
-use Rattle.told_streams.specs.declared.kept.KeptStream.{KeptStream}
+use Rattle.event_streams.specs.Kept.{AreWithin, kept_streams, untaken}
+use Rattle.event_streams.specs.Streams.{next_on, taken}
+use Rattle.event_streams.specs.declared.kept.KeptStream.{KeptStream}
 use Rattle.cluster_agents.specs.Agents.{KeptAgent}
 use Rattle.cluster_parts.specs.Masters.{MasterMakes, StandsFor, taking, taking_out}
 use Rattle.cluster_agents.specs.Moves.{Makes, Reached, kept_agents, sending}
@@ -51,9 +51,9 @@ send_made law c stream call sent r stand = record {
 abbrev pub SendLaw : Type 0
 SendLaw = (c : Cluster) (stream : Option Numbered) (call : Call) (sent : List Item) → Reached c → StandIn c sent → Makes c (Send stream call) verdicts.Ok (sending (entries.Call ∷ [])) (kept_agents c) (sent ++ items.Call stream call ∷ [])
 
-pub send_takes : {T : Type 0} → SendLaw → (c : Cluster) (stream : Option Numbered) (call given : Call) (made : Made) (told : List entries_so.Sent) (more : List Item) (p : Parts T) (js : List Item) (post : T) → PartsOf c p → given ≡ call → more ≡ items.Call stream given ∷ [] → told ≡ entries.Call ∷ [] → js ≡ p.served.items ++ more →
-    made ≡ record { verdict = verdicts.Ok; outputs = sending told; durable = None } → Takes c (Send stream call) made (record p { served = record p.served { items = js; post = post } })
-send_takes law c stream call given made told more p js post of same as_item as_told added is =
+pub send_takes : {T : Type 0} → SendLaw → (c : Cluster) (stream : Option Numbered) (call given : Call) (made : Made) (sent_outs : List entries_so.Sent) (more : List Item) (p : Parts T) (js : List Item) (post : T) → PartsOf c p → given ≡ call → more ≡ items.Call stream given ∷ [] → sent_outs ≡ entries.Call ∷ [] → js ≡ p.served.items ++ more →
+    made ≡ record { verdict = verdicts.Ok; outputs = sending sent_outs; durable = None } → Takes c (Send stream call) made (record p { served = record p.served { items = js; post = post } })
+send_takes law c stream call given made sent_outs more p js post of same as_item as_told added is =
     let m : Makes c (Send stream call) verdicts.Ok (sending (entries.Call ∷ [])) (kept_agents c) (p.served.items ++ items.Call stream call ∷ []) = law c stream call p.served.items of.reached of.stands.as_others.as_items in
     let kept : js ≡ p.served.items ++ items.Call stream call ∷ [] = added ∙ ap (λ (xs : List Item). p.served.items ++ xs) (as_item ∙ ap (λ (x : Call). items.Call stream x ∷ []) same) in
     let how : made ≡ record { verdict = verdicts.Ok; outputs = sending (entries.Call ∷ []); durable = None } = is ∙ ap (λ (xs : List entries_so.Sent). record { verdict = verdicts.Ok; outputs = sending xs; durable = None }) as_told in

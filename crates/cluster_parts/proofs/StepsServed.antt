@@ -13,7 +13,7 @@ use Rattle.cluster_steps.specs.declared.fault.ClusterFault.{ClusterFault}
 use Rattle.cluster_steps.specs.declared.fault.ClusterFault.TheVariants.{MasterDown, NoSuchAgent, NoSuchMail, TimeBack}
 use Rattle.cluster_model.specs.Channels.{Channel}
 use Rattle.cluster_model.specs.Masters.{Doing, Master}
-use Rattle.cluster_histories.specs.Steps.{Done, answer, at_channel, channel_of, delivers, delivers_up, hangs_up, loses_agent, master_does, master_hears, post_at, stream_at, ticks_at, with_master, with_tick}
+use Rattle.cluster_histories.specs.Steps.{Done, answer, at_channel, channel_of, delivers, delivers_up, hangs_up, loses_agent, master_does, master_receives, post_at, stream_at, ticks_at, with_master, with_tick}
 use Rattle.cluster_laws.specs.declared.item.Item.{Item}
 use Rattle.cluster_laws.specs.declared.item.Item.TheVariants as sent_items
 use Rattle.cluster_laws.specs.Items.{StandIn}
@@ -22,9 +22,9 @@ use Rattle.cluster_laws.specs.Runs.{AreRising}
 use Rattle.master_core.specs.Steps.{Answers}
 use Rattle.master_state.specs.declared.fault.MasterFault.{MasterFault}
 use Rattle.master_state.specs.declared.state.Outs.{Outs}
-use Rattle.told_streams.specs.Kept.{AreWithin, kept_stream, kept_streams}
-use Rattle.told_streams.specs.declared.kept.KeptStream.{KeptStream}
-use Rattle.told_streams.specs.Streams.{kept_ids, stream_kept}
+use Rattle.event_streams.specs.Kept.{AreWithin, kept_stream, kept_streams}
+use Rattle.event_streams.specs.declared.kept.KeptStream.{KeptStream}
+use Rattle.event_streams.specs.Streams.{kept_ids, stream_kept}
 use Rattle.cluster_agents.specs.Causes.{item_at}
 use Rattle.cluster_agents.specs.Handing.{MayRefuse}
 use Rattle.cluster_parts.specs.Masters.{Does, MasterMakes, Settles, StandsFor, kept_master}
@@ -128,13 +128,13 @@ loses_without_master c x name items ss here stands = ap (λ (o : Option Channel)
 
 -- ---- what is delivered may be withheld
 
-unsent_or_heard : (c : Cluster) (x : Channel) (place : ℕ) (o : Option AgentMail) → (master_hears c x place o ≡ Err NoSuchMail) ⊎ ((d : Done) × (master_hears c x place o ≡ Ok d))
-unsent_or_heard c x place None = inl refl
-unsent_or_heard c x place (Some mail) = inr (_, refl)
+unsent_or_received : (c : Cluster) (x : Channel) (place : ℕ) (o : Option AgentMail) → (master_receives c x place o ≡ Err NoSuchMail) ⊎ ((d : Done) × (master_receives c x place o ≡ Ok d))
+unsent_or_received c x place None = inl refl
+unsent_or_received c x place (Some mail) = inr (_, refl)
 
 unsent_or_up : (c : Cluster) (place : ℕ) (o : Option Channel) → (delivers_up c place o ≡ Err NoSuchMail) ⊎ ((d : Done) × (delivers_up c place o ≡ Ok d))
 unsent_or_up c place None = inl refl
-unsent_or_up c place (Some x) = unsent_or_heard c x place (slice_get x.to_master place)
+unsent_or_up c place (Some x) = unsent_or_received c x place (slice_get x.to_master place)
 
 unsent_or_delivered : (c : Cluster) (o : Option Post) → (delivers c o ≡ Err NoSuchMail) ⊎ ((d : Done) × (delivers c o ≡ Ok d))
 unsent_or_delivered c None = inl refl

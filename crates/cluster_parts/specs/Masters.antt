@@ -21,9 +21,9 @@ use Rattle.cluster_steps.specs.Verdicts.{fell}
 use Rattle.master_state.specs.declared.fault.MasterFault.{MasterFault}
 use Rattle.master_state.specs.declared.fault.MasterFault.TheVariants as fault
 use Rattle.master_state.specs.declared.state.Outs.{Outs}
-use Rattle.told_streams.specs.Kept.{AreWithin, kept_streams}
-use Rattle.told_streams.specs.declared.kept.KeptStream.{KeptStream}
-use Rattle.told_streams.specs.Streams.{heard}
+use Rattle.event_streams.specs.Kept.{AreWithin, kept_streams}
+use Rattle.event_streams.specs.declared.kept.KeptStream.{KeptStream}
+use Rattle.event_streams.specs.Streams.{received}
 use Rattle.cluster_agents.specs.Outcomes.{ends_with}
 use Rattle.cluster_agents.specs.declared.outcomes.Made.{Made}
 
@@ -69,8 +69,8 @@ sent_to to = sent.ToAgent to
 abbrev pub item_to : ToAgent → Item
 item_to to = items.ToAgent to
 
-abbrev pub told_by : Outs → Outputs
-told_by outs =
+abbrev pub outputs_of_master : Outs → Outputs
+outputs_of_master outs =
     record {
       events = outs.events;
       closed = outs.closed;
@@ -78,8 +78,8 @@ told_by outs =
       taken = None;
     }
 
-abbrev pub tells : Outs → Made
-tells outs = record { verdict = verdicts.Ok; outputs = told_by outs; durable = None }
+abbrev pub made_of : Outs → Made
+made_of outs = record { verdict = verdicts.Ok; outputs = outputs_of_master outs; durable = None }
 
 -- the master is down, and nothing else changed
 pub record Falls (made : Made) (master : Option (Option Master)) (old_items new_items : List Item)
@@ -89,12 +89,12 @@ pub record Falls (made : Made) (master : Option (Option Master)) (old_items new_
   pub same_items : new_items ≡ old_items
   pub same_streams : new_streams ≡ old_streams
 
-pub record Tells (outs : Outs) (made : Made) (old_master new_master : Option (Option Master))
+pub record KeepsOutputs (outs : Outs) (made : Made) (old_master new_master : Option (Option Master))
     (old_items new_items : List Item) (old_streams new_streams : List KeptStream) : Type 0 where
-  pub is : made ≡ tells outs
+  pub is : made ≡ made_of outs
   pub same_master : new_master ≡ old_master
   pub more_items : new_items ≡ old_items ++ map item_to outs.mails
-  pub more_streams : new_streams ≡ heard outs.opened outs.events old_streams
+  pub more_streams : new_streams ≡ received outs.opened outs.events old_streams
 
 pub record Refused (refusal : MasterRefusal) (made : Made)
     (old_master new_master : Option (Option Master)) (old_items new_items : List Item)
@@ -107,7 +107,8 @@ pub record Refused (refusal : MasterRefusal) (made : Made)
 -- what becomes of the master's answer
 abbrev pub Settles : Result Outs MasterFault → Made → Option (Option Master)
     → Option (Option Master) → List Item → List Item → List KeptStream → List KeptStream → Type 0
-Settles (Ok outs) made m n is js ss ts = Tells outs made m n is js ss ts ⊎ Falls made n is js ss ts
+Settles (Ok outs) made m n is js ss ts =
+    KeepsOutputs outs made m n is js ss ts ⊎ Falls made n is js ss ts
 Settles (Err fault.OutOfMemory) made m n is js ss ts = Falls made n is js ss ts
 Settles (Err (fault.Refused refusal)) made m n is js ss ts = Refused refusal made m n is js ss ts
 

@@ -8,7 +8,7 @@ use Rattle.cluster_histories.specs.Steps.{Done, answer, fallen_answer}
 use Rattle.cluster_laws.specs.Parts.{parts_of}
 use Rattle.cluster_laws.specs.declared.item.Item.{Item}
 use Rattle.cluster_steps.specs.Verdicts.{fell}
-use Rattle.told_streams.specs.declared.kept.KeptStream.{KeptStream}
+use Rattle.event_streams.specs.declared.kept.KeptStream.{KeptStream}
 use Rattle.cluster_parts.specs.Masters.{StandsFor}
 use Rattle.cluster_agents.specs.declared.outcomes.Made.{Made}
 

@@ -2,7 +2,7 @@
 
 ghost use Rattle.std.specs.Prelude.{◌≡◌, ◌+◌, ◌++◌, true, length, is_some, Some, Err, IfOk, IfErr, IfSome, OnErr, List, Option, Result, ℕ};
 ghost use Rattle.cluster_agents.specs.Causes.{item_at};
-ghost use Rattle.cluster_parts.specs.Hearing.{IsForMaster, SettlesHeard, with_refusal, HasMail};
+ghost use Rattle.cluster_parts.specs.Receiving.{IsForMaster, SettlesReceived, with_refusal, HasMail};
 ghost use Rattle.cluster_parts.specs.Masters.{MasterMakes, StandsFor};
 ghost use Rattle.cluster_agents.specs.Moves.{Refuses};
 ghost use Rattle.cluster_parts.specs.Parts.{AllMayRefuse, AllRefuse, AllTake, AreParts, Same};
@@ -16,13 +16,13 @@ ghost use Rattle.cluster_steps.specs.declared.step.Step.TheVariants.{Deliver};
 ghost use Rattle.cluster_model.specs.Masters.{Master as ModelMaster};
 ghost use Rattle.cluster_steps.specs.declared.fault.ClusterFault.{ClusterFault as ClusterFaultSo};
 ghost use Rattle.mails.specs.declared.mail.ToMaster.{ToMaster as SentMail};
-ghost use Rattle.master_core.specs.Steps.{Hears};
-ghost use Rattle.master_core.specs.declared.master.HeardMail.{HeardMail as HeardSo};
+ghost use Rattle.master_core.specs.Steps.{Receives};
+ghost use Rattle.master_core.specs.declared.master.ReceivedMail.{ReceivedMail as ReceivedSo};
 ghost use Rattle.cluster_model.specs.Mails.{FitsRecord};
 ghost use Rattle.master_state.specs.declared.fault.MasterFault.{MasterFault as Fault};
 ghost use Rattle.side_fits.specs.Fits.{MailFitsAt};
-ghost use Rattle.told_streams.specs.Streams.{kept_ids};
-ghost use Rattle.told_streams.specs.declared.kept.KeptStream.{KeptStream};
+ghost use Rattle.event_streams.specs.Streams.{kept_ids};
+ghost use Rattle.event_streams.specs.declared.kept.KeptStream.{KeptStream};
 
 use crate::masters::Served;
 use crate::parts::Parts;
@@ -33,13 +33,13 @@ use cluster_laws::{
 };
 use cluster_safe::masters_step_alone;
 use cluster_steps::{ClusterFault, Verdict};
+use event_streams::{kept_streams_follow, no_more_is_taken};
 use mails::{Call as SentCall, MasterRefusal, ToMaster};
-use master_core::{HeardMail, MasterFault};
+use master_core::{MasterFault, ReceivedMail};
 use names_core::StreamId;
 use plain_data::Plain;
 use post_rules::Post;
 use std::alloc::Global;
-use told_streams::{kept_streams_follow, no_more_is_taken};
 
 /// What is for the master: a call with its stream, or a mail of an agent.
 #[derive(Drop)]
@@ -50,19 +50,19 @@ enum ForMaster {
 
 /// A mail of an agent that was sent is one that the master may receive,
 /// and what it makes of it is the step's.
-fn mails_are_heard()
+fn mails_are_received()
     ensures made { (c : Cluster) (number : ℕ) (to : SentMail) (before after : Option ModelMaster)
-        (answered : Result HeardSo Fault) (made : MadeSo) (n : Option (Option ModelMaster))
+        (answered : Result ReceivedSo Fault) (made : MadeSo) (n : Option (Option ModelMaster))
         (items js : List SentItem) (ss ts : List KeptStream)
         → HasMail c number to (Some before) items ss
-        → Hears answered before after to.agent to.mail
-        → SettlesHeard answered made (Some after) n items js ss ts
+        → Receives answered before after to.agent to.mail
+        → SettlesReceived answered made (Some after) n items js ss ts
         → MasterMakes c (Deliver number) c.last_tick made n js ts }
     ensures rise { (c : Cluster) (number : ℕ) (to : SentMail) (before after : Option ModelMaster)
-        (answered : Result HeardSo Fault) (items : List SentItem) (ss : List KeptStream)
+        (answered : Result ReceivedSo Fault) (items : List SentItem) (ss : List KeptStream)
         → HasMail c number to (Some before) items ss
-        → Hears answered before after to.agent to.mail
-        → IfOk answered (λ heard. AreRising (kept_ids ss ++ heard.outs.opened)) }
+        → Receives answered before after to.agent to.mail
+        → IfOk answered (λ received. AreRising (kept_ids ss ++ received.outs.opened)) }
     ensures number { (c : Cluster) (number : ℕ) (to : SentMail)
         (master : Option (Option ModelMaster)) (items : List SentItem) (ss : List KeptStream)
         → HasMail c number to master items ss → FitsRecord to.mail }
@@ -111,19 +111,24 @@ fn with_refusal(mut made: Made, refusal: Option<MasterRefusal>) -> Made
 
 impl<P: Post> Served<P> {
     /// Stores the outputs of a mail, which it may have had though it was refused, and returns them.
-    fn settle_heard(&mut self, alloc: Global, heard: Result<HeardMail, MasterFault>) -> Made
-        requires { IfOk heard
-            (λ heard. AreRising (kept_ids self.old.streams ++ heard.outs.opened)) }
-        ensures settled { SettlesHeard heard result self.old.master self.new.master self.old.items
+    fn settle_received(
+        &mut self,
+        alloc: Global,
+        received: Result<ReceivedMail, MasterFault>,
+    ) -> Made
+        requires { IfOk received
+            (λ received. AreRising (kept_ids self.old.streams ++ received.outs.opened)) }
+        ensures settled { SettlesReceived received result self.old.master self.new.master
+            self.old.items
             self.new.items self.old.streams self.new.streams }
         ensures post { P.known self.new.post ≡ P.known self.old.post }
         ensures room { Grows (length self.old.items) (length self.new.items)
             (P.room self.new.post) }
     {
-        match heard {
-            Ok(heard) => {
-                let made = self.settle(alloc, Ok(heard.outs));
-                with_refusal(made, heard.refusal)
+        match received {
+            Ok(received) => {
+                let made = self.settle(alloc, Ok(received.outs));
+                with_refusal(made, received.refusal)
             }
             Err(fault) => self.settle(alloc, Err(fault)),
         }
@@ -148,13 +153,13 @@ impl<P: Post> Parts<P> {
         ensures room { Grows (length self.old.served.items) (length self.new.served.items)
             (P.room self.new.served.post) }
     {
-        mails_are_heard();
+        mails_are_received();
         let Some(serving) = &mut self.served.master else {
             return Err(ClusterFault::MasterDown);
         };
         let ToMaster { agent, mail } = to;
-        let heard = serving.mail(alloc, &agent, mail);
-        Ok(self.served.settle_heard(alloc, heard))
+        let received = serving.mail(alloc, &agent, mail);
+        Ok(self.served.settle_received(alloc, received))
     }
 
     /// A call or a mail that was sent under a number, from 1, is delivered to the master. It is
@@ -173,7 +178,7 @@ impl<P: Post> Parts<P> {
             (P.room self.new.served.post) }
         ensures given { IfOk result (λ _. P.gives (P.known self.old.served.post) number ≡ true) }
     {
-        mails_are_heard();
+        mails_are_received();
         if self.served.master.is_none() {
             return Err(ClusterFault::MasterDown);
         }

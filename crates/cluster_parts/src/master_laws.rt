@@ -13,15 +13,15 @@ ghost use Rattle.cluster_model.specs.Masters.{Doing, Master};
 ghost use Rattle.master_core.specs.Steps.{Answers};
 ghost use Rattle.master_state.specs.declared.fault.MasterFault.{MasterFault};
 ghost use Rattle.master_state.specs.declared.state.Outs.{Outs};
-ghost use Rattle.told_streams.specs.Kept.{AreWithin, kept_streams};
-ghost use Rattle.told_streams.specs.Streams.{kept_ids};
-ghost use Rattle.told_streams.specs.declared.kept.KeptStream.{KeptStream};
+ghost use Rattle.event_streams.specs.Kept.{AreWithin, kept_streams};
+ghost use Rattle.event_streams.specs.Streams.{kept_ids};
+ghost use Rattle.event_streams.specs.declared.kept.KeptStream.{KeptStream};
 
 use cluster_laws::{
     fallen_masters_do_not_serve, masters_leave_agents, sent_items_stand, streams_rise,
 };
 use cluster_safe::masters_step_alone;
-use told_streams::{kept_streams_follow, no_more_is_taken};
+use event_streams::{kept_streams_follow, no_more_is_taken};
 
 /// A step of the master is made as its answer is settled;
 /// the streams that it opens are after all others.

@@ -3,15 +3,16 @@
 ghost use Rattle.std.specs.Prelude.{◌≡◌, ◌+◌, ◌≤◌, ◌++◌, ◌∷◌, [], None, length, map, IfOk, OnOk, OnErr};
 ghost use Rattle.cluster_agents.specs.Outcomes.{ends_with};
 ghost use Rattle.cluster_steps.specs.declared.verdict.Verdict.TheVariants as verdicts;
-ghost use Rattle.cluster_parts.specs.Masters.{Settles, item_to, sent_to, tells};
+ghost use Rattle.cluster_parts.specs.Masters.{Settles, item_to, sent_to, made_of};
 ghost use Rattle.cluster_parts.specs.Posts.{Grows};
 ghost use Rattle.cluster_laws.specs.Runs.{AreRising};
-ghost use Rattle.told_streams.specs.Streams.{heard, kept_ids};
+ghost use Rattle.event_streams.specs.Streams.{received, kept_ids};
 
 use cluster_agents::{Items, Made, Outgoing, ends_with};
 use cluster_entries::Outputs;
 use cluster_laws::Item;
 use cluster_steps::{Sent, Verdict};
+use event_streams::Streams;
 use listed::Listed;
 use mails::ToAgent;
 use master_core::{Master, MasterFault, Outs};
@@ -21,7 +22,6 @@ use post_rules::Post;
 use scheduler_events::StreamEvent;
 use shared_value::Shared;
 use std::alloc::{AllocError, Global};
-use told_streams::Streams;
 
 /// A mail of the master, as it is written in an entry and stored: one value with two owners.
 fn push_mail(
@@ -89,13 +89,13 @@ impl<P: Post> Served<P> {
         requires { AreRising (kept_ids self.old.streams ++ opened.now) }
         ensures kept { OnOk result (self.new ≡ record self.old {
           items = self.old.items ++ more;
-          streams = heard opened.now events.now self.old.streams;
+          streams = received opened.now events.now self.old.streams;
         }) }
         ensures unchanged { OnErr result (self.new ≡ self.old) }
     {
         let before = self.items.as_slice().len();
         self.items.append(more)?;
-        match self.streams.hear(alloc, opened, events) {
+        match self.streams.receive(alloc, opened, events) {
             Ok(()) => Ok(()),
             Err(e) => {
                 self.items.cut(before);
@@ -132,7 +132,7 @@ impl<P: Post> Served<P> {
         ensures sent { IfOk result (λ sent. sent ≡ map sent_to outs.now.mails) }
         ensures kept { OnOk result (self.new ≡ record self.old {
           items = self.old.items ++ map item_to outs.now.mails;
-          streams = heard outs.now.opened outs.now.events self.old.streams;
+          streams = received outs.now.opened outs.now.events self.old.streams;
           post = self.new.post;
         }) }
         ensures unchanged { OnErr result (self.new ≡ record self.old { post = self.new.post }) }
@@ -146,12 +146,12 @@ impl<P: Post> Served<P> {
     }
 
     /// The master's outputs, stored and returned, once the post has room for its mails.
-    fn tell(&mut self, alloc: Global, outs: Outs) -> Result<Made, AllocError>
+    fn keep_outputs(&mut self, alloc: Global, outs: Outs) -> Result<Made, AllocError>
         requires { AreRising (kept_ids self.old.streams ++ outs.opened) }
-        ensures made { IfOk result (λ made. made ≡ tells outs) }
+        ensures made { IfOk result (λ made. made ≡ made_of outs) }
         ensures kept { OnOk result (self.new ≡ record self.old {
           items = self.old.items ++ map item_to outs.mails;
-          streams = heard outs.opened outs.events self.old.streams;
+          streams = received outs.opened outs.events self.old.streams;
           post = self.new.post;
         }) }
         ensures unchanged { OnErr result (self.new ≡ record self.old { post = self.new.post }) }
@@ -191,7 +191,7 @@ impl<P: Post> Served<P> {
             (P.room self.new.post) }
     {
         match answer {
-            Ok(outs) => match self.tell(alloc, outs) {
+            Ok(outs) => match self.keep_outputs(alloc, outs) {
                 Ok(made) => made,
                 Err(_) => self.fall(alloc),
             },

@@ -18,8 +18,8 @@ ghost use Rattle.cluster_steps.specs.declared.fault.ClusterFault.TheVariants.{Ou
 ghost use Rattle.mails.specs.declared.record.Durable.{Durable as Record};
 ghost use Rattle.master_state.specs.declared.fault.MasterFault.{MasterFault as Fault};
 ghost use Rattle.master_state.specs.declared.state.Outs.{Outs as OutsSo};
-ghost use Rattle.told_streams.specs.Streams.{kept_ids};
-ghost use Rattle.told_streams.specs.declared.kept.KeptStream.{KeptStream};
+ghost use Rattle.event_streams.specs.Streams.{kept_ids};
+ghost use Rattle.event_streams.specs.declared.kept.KeptStream.{KeptStream};
 
 use crate::masters::Served;
 use agent_core::Record;
@@ -30,6 +30,7 @@ use cluster_laws::{
 };
 use cluster_safe::masters_step_alone;
 use cluster_steps::{ClusterFault, Verdict};
+use event_streams::Streams;
 use listed::Listed;
 use master_core::{Config, Master, MasterFault, Outs};
 use names_core::Run;
@@ -37,7 +38,6 @@ use plain_data::Plain;
 use post_rules::Post;
 use std::alloc::{AllocError, Global};
 use std::mem;
-use told_streams::Streams;
 
 /// What a cluster has at its opening, and what the opening outputs.
 #[derive(Drop)]

@@ -20,8 +20,8 @@ ghost use Rattle.cluster_model.specs.Masters.{Master as ModelMaster};
 ghost use Rattle.cluster_steps.specs.declared.verdict.Verdict.TheVariants as verdicts;
 ghost use Rattle.master_state.specs.declared.fault.MasterFault.{MasterFault as Fault};
 ghost use Rattle.master_state.specs.declared.state.Outs.{Outs};
-ghost use Rattle.told_streams.specs.Streams.{kept_ids};
-ghost use Rattle.told_streams.specs.declared.kept.KeptStream.{KeptStream};
+ghost use Rattle.event_streams.specs.Streams.{kept_ids};
+ghost use Rattle.event_streams.specs.declared.kept.KeptStream.{KeptStream};
 
 use crate::opening::start_in;
 use crate::parts::Parts;
@@ -32,10 +32,10 @@ use cluster_laws::{
 };
 use cluster_safe::masters_step_alone;
 use cluster_steps::Verdict;
+use event_streams::kept_streams_follow;
 use names_core::Run;
 use post_rules::Post;
 use std::alloc::Global;
-use told_streams::kept_streams_follow;
 
 /// The last run of a master.
 const LAST_RUN: u16 = 65_535;

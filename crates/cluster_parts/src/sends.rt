@@ -15,17 +15,18 @@ ghost use Rattle.cluster_model.specs.Masters.{Master};
 ghost use Rattle.cluster_steps.specs.declared.verdict.Sent.TheVariants as entries;
 ghost use Rattle.cluster_steps.specs.declared.verdict.Verdict.TheVariants as verdicts;
 ghost use Rattle.cluster_steps.specs.declared.fault.ClusterFault.TheVariants.{NoSuchMail, OutOfMemory};
-ghost use Rattle.scheduler_events.specs.declared.event.Event as told;
+ghost use Rattle.scheduler_events.specs.declared.event.Event as sent_event;
 ghost use Rattle.mails.specs.declared.call.Call.{Call};
 ghost use Rattle.names_core.specs.Ids.{Numbered};
-ghost use Rattle.told_streams.specs.Kept.{kept_streams};
-ghost use Rattle.told_streams.specs.Streams.{next_on, taken};
+ghost use Rattle.event_streams.specs.Kept.{kept_streams};
+ghost use Rattle.event_streams.specs.Streams.{next_on, taken};
 
 use crate::parts::Parts;
 use cluster_agents::{Made, made_sending};
 use cluster_entries::Outputs;
 use cluster_laws::{Item, sent_items_stand, streams_rise};
 use cluster_steps::{ClusterFault, Sent, Verdict};
+use event_streams::{Streams, kept_streams_are_found, kept_streams_follow, no_more_is_taken};
 use listed::Listed;
 use mails::Call as SentCall;
 use names_core::StreamId;
@@ -34,7 +35,6 @@ use post_rules::Post;
 use scheduler_events::{Event, StreamEvent};
 use shared_value::Shared;
 use std::alloc::{AllocError, Global};
-use told_streams::{Streams, kept_streams_are_found, kept_streams_follow, no_more_is_taken};
 
 /// A call is sent, and the agents are as they were.
 fn sends_are_made()
@@ -48,7 +48,7 @@ fn sends_are_made()
 
 /// The first event that waits on a stream is taken; where none waits the step is refused.
 fn takes_are_made()
-    ensures made { (c : Cluster) (id : Numbered) (event : told.Event)
+    ensures made { (c : Cluster) (id : Numbered) (event : sent_event.Event)
         (master : Option (Option Master)) (sent : List Item)
         → Reached c → StandsFor c master sent (kept_streams c.streams)
         → next_on id (kept_streams c.streams) ≡ Some event

@@ -14,12 +14,12 @@ use crate::parts::Parts;
 use cluster_agents::{ClusterAgent, Made, place_of};
 use cluster_laws::items_are_posts;
 use cluster_steps::ClusterFault;
+use event_streams::kept_streams_are_found;
 use mails::Call;
 use names_core::{AgentName, StreamId};
 use post_rules::Post;
 use role_weights::Weights;
 use std::alloc::Global;
-use told_streams::kept_streams_are_found;
 
 /// Whether an agent of this name is configured.
 fn is_known(agents: &[ClusterAgent], name: &AgentName) -> bool

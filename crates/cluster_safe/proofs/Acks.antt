@@ -17,10 +17,10 @@ use Rattle.mails.specs.declared.call.ReconciledTask.{ReconciledTask}
 use Rattle.role_weights.specs.Weights.{RoleWeight}
 use Rattle.cluster_model.specs.Ids.{is_among, last_number}
 use Rattle.cluster_model.specs.Sides.{Run, Side, offer_rows, sends_nothing, Launching, launch_all, is_named, is_good, used_offers, without_used, accepted, last_session, opens, shut, SideStep, MakeOffer, Withdraw, LaunchFrom, SendKill, SendAck, SendEnd, SendHello, SendAgain, Lose}
-use Rattle.cluster_model.specs.Channels.{Channel, ChannelStep, ByMaster, Hear, ByAgent, happens, World, Happening, At, TearDown, Restart, Halt, behind, in_front, at_agent, with_side, after, after_all}
+use Rattle.cluster_model.specs.Channels.{Channel, ChannelStep, ByMaster, Receive, ByAgent, happens, World, Happening, At, TearDown, Restart, Halt, behind, in_front, at_agent, with_side, after, after_all}
 use Rattle.cluster_model.specs.Events.{MadeOffer, Failure}
-use Rattle.cluster_model.specs.Masters.{Framework, Master, Move, AtSide, TearDownAll, RestartAll, HaltAll, Doing, nothing, refused, saying, moving, framework_of, is_torn, with_framework, tells_all, Placed, all_booked, held, is_of, withdraws_on, withdraws, without_filters_on, side_of, has_numbers, may_have_numbers}
-use Rattle.cluster_model.specs.Calls.{frameworks_limit, to_list, subscribed, removed, resubscribed, is_unheard_of, sides_with_tasks, on_teardown, answers_held, Given, good_side, given_by, Accepting, accepts_all, passes_limits, accepted_as, accepted_from, on_accept, on_decline, on_revive, on_suppress, commanding, on_kill, is_last_heard, on_acknowledge, on_reconcile, is_stream, on_its_stream, by_known, called}
+use Rattle.cluster_model.specs.Masters.{Framework, Master, Move, AtSide, TearDownAll, RestartAll, HaltAll, Doing, nothing, refused, saying, moving, framework_of, is_torn, with_framework, events_to_all, Placed, all_booked, held, is_of, withdraws_on, withdraws, without_filters_on, side_of, has_numbers, may_have_numbers}
+use Rattle.cluster_model.specs.Calls.{frameworks_limit, to_list, subscribed, removed, resubscribed, is_unassigned, sides_with_tasks, on_teardown, answers_held, Given, good_side, given_by, Accepting, accepts_all, passes_limits, accepted_as, accepted_from, on_accept, on_decline, on_revive, on_suppress, commanding, on_kill, is_last_received, on_acknowledge, on_reconcile, is_stream, on_its_stream, by_known, called}
 use Rattle.cluster_model.specs.Mails.{judged, rescinds, loses, is_to_end, session_opens, goes_with, mailed_as, mailed, ticks, ticked, agent_lost, hung_up_by, hung_up}
 use Rattle.cluster_model.specs.Rounds.{round, allocated}
 use Rattle.cluster_histories.specs.Steps.{happening_of}
@@ -82,7 +82,7 @@ step_acked A n run c h Lose ok = tt
 
 channel_acked : (A : Numbered → ℕ → Type 0) (n : ℕ) (run : Run) (c : Channel) (step : ChannelStep) → ChannelStepOk A n step → Carried Always A c → Carried Always A (happens run c step).channel
 channel_acked A n run c (ByMaster step) ok h = happens_told Always A run c (ByMaster step) (λ s e. (let is : step ≡ s = cc in subst (StepTold Always A run c.side) is (step_acked A n run c h step ok))) h
-channel_acked A n run c (Hear place) ok h = happens_told Always A run c (Hear place) (λ s e. absurd cc) h
+channel_acked A n run c (Receive place) ok h = happens_told Always A run c (Receive place) (λ s e. absurd cc) h
 channel_acked A n run c (ByAgent step) ok h = happens_told Always A run c (ByAgent step) (λ s e. absurd cc) h
 
 at_acked : (A : Numbered → ℕ → Type 0) (n : ℕ) (agent : List ℕ) (step : ChannelStep) (run : Run) (cs : List Channel) → ChannelStepOk A n step → Each (Carried Always A) cs → Each (Carried Always A) (at_agent agent step run cs).channels
@@ -161,13 +161,13 @@ reconcile_ok A n m (a ∷ more) f = tt
 
 -- what a call that acknowledges must tell, and one that accepts
 abbrev pub CallOk : (Numbered → ℕ → Type 0) → ℕ → Master → Call → Type 0
-CallOk A n m (Acknowledge framework agent task uuid) = (f : Framework) → framework_of m framework ≡ Some f → list_any (is_last_heard f agent task uuid.key uuid.k) (all_booked m) ≡ true → A uuid.key uuid.k
+CallOk A n m (Acknowledge framework agent task uuid) = (f : Framework) → framework_of m framework ≡ Some f → list_any (is_last_received f agent task uuid.key uuid.k) (all_booked m) ≡ true → A uuid.key uuid.k
 CallOk A n m (Accept framework offers tasks seconds) = (f : Framework) → framework_of m framework ≡ Some f → f.id.run ≤ n
 CallOk A n m call = ⊤
 
 pub called_ok : (A : Numbered → ℕ → Type 0) (n : ℕ) (m : Master) (stream : Option Numbered) (call : Call) → CallOk A n m call → Each (MoveOk A n) (called m stream call).moves
 called_ok A n m stream (Subscribe None role) h = if_ok A n (nat_le frameworks_limit (length m.registers.frameworks) || nat_le last_number m.registers.last_framework || nat_le last_number m.registers.last_stream) (refused m LimitExceeded) (subscribed m (record m.registers { last_framework = suc m.registers.last_framework }) (record { run = m.run.number; n = suc m.registers.last_framework }) role None) tt (withdraws_ok A n (is_of (record { run = m.run.number; n = suc m.registers.last_framework })) m)
-called_ok A n m stream (Subscribe (Some id) role) h = if_ok A n (is_unheard_of m id) (refused m NoSuchFramework) (if nat_le last_number m.registers.last_stream then refused m LimitExceeded else (if is_torn m id then removed m else resubscribed m id role (framework_of m id))) tt
+called_ok A n m stream (Subscribe (Some id) role) h = if_ok A n (is_unassigned m id) (refused m NoSuchFramework) (if nat_le last_number m.registers.last_stream then refused m LimitExceeded else (if is_torn m id then removed m else resubscribed m id role (framework_of m id))) tt
     (if_ok A n (nat_le last_number m.registers.last_stream) (refused m LimitExceeded) (if is_torn m id then removed m else resubscribed m id role (framework_of m id)) tt (if_ok A n (is_torn m id) (removed m) (resubscribed m id role (framework_of m id)) tt (resubscribed_ok A n m id role (framework_of m id))))
 called_ok A n m stream (Teardown framework) h = known_ok A n m stream (framework_of m framework) (on_teardown m) (λ f e. teardown_ok A n m f)
 called_ok A n m stream (Accept framework offers tasks seconds) h = known_ok A n m stream (framework_of m framework) (on_accept m offers tasks seconds)
@@ -177,7 +177,7 @@ called_ok A n m stream (Revive framework) h = known_ok A n m stream (framework_o
 called_ok A n m stream (Suppress framework) h = known_ok A n m stream (framework_of m framework) (on_suppress m) (λ f e. tt)
 called_ok A n m stream (calls.Kill framework task agent) h = known_ok A n m stream (framework_of m framework) (λ f. on_kill m task agent f (held m f.id task)) (λ f e. kill_ok A n m task agent f (held m f.id task))
 called_ok A n m stream (Acknowledge framework agent task uuid) h = known_ok A n m stream (framework_of m framework) (on_acknowledge m agent task uuid.key uuid.k)
-    (λ f e. cond_both (list_any (is_last_heard f agent task uuid.key uuid.k) (all_booked m)) (commanding m (side_of m agent) (AtSide agent (SendAck uuid.key uuid.k))) (nothing m) (λ d. Each (MoveOk A n) d.moves)
+    (λ f e. cond_both (list_any (is_last_received f agent task uuid.key uuid.k) (all_booked m)) (commanding m (side_of m agent) (AtSide agent (SendAck uuid.key uuid.k))) (nothing m) (λ d. Each (MoveOk A n) d.moves)
     (λ t. commanding_ok A n m (side_of m agent) (AtSide agent (SendAck uuid.key uuid.k)) (h f e t)) (λ t. tt))
 called_ok A n m stream (Reconcile framework tasks) h = known_ok A n m stream (framework_of m framework) (on_reconcile m tasks) (λ f e. reconcile_ok A n m tasks f)
 
@@ -209,7 +209,7 @@ ticked_ok A n m now = mapped_ok A n ticks (λ s. cond_both s.is_open SendAgain S
 pub lost_ok : (A : Numbered → ℕ → Type 0) (n : ℕ) (m : Master) (s : Side) → Each (MoveOk A n) (agent_lost m s).moves
 lost_ok A n m s = by s.is_open
   where
-    by : (b : Bool) → Each (MoveOk A n) (if b then record { refusal = None; moves = AtSide s.name Lose ∷ AtSide s.name SendHello ∷ []; events = rescinds m s.offers ++ loses m s.name s.booked ++ tells_all m.registers.frameworks (Failure s.name); opens = []; closes = []; registers = without_filters_on s.name m.registers } else nothing m).moves
+    by : (b : Bool) → Each (MoveOk A n) (if b then record { refusal = None; moves = AtSide s.name Lose ∷ AtSide s.name SendHello ∷ []; events = rescinds m s.offers ++ loses m s.name s.booked ++ events_to_all m.registers.frameworks (Failure s.name); opens = []; closes = []; registers = without_filters_on s.name m.registers } else nothing m).moves
     by true = (tt, (tt, tt))
     by false = tt
 

@@ -11,9 +11,9 @@ use Rattle.mails.specs.declared.mail.AgentMail.{AgentMail}
 use Rattle.mails.specs.declared.mail.ToAgent.{ToAgent}
 use Rattle.cluster_model.specs.Ids.{following, is_among}
 use Rattle.cluster_model.specs.Sides.{Run, Side, torn_down, offer_rows, sends_nothing, issue, launch_all, is_good, used_offers, without_used, may_offer, shut, halted, restarted, SideStep, MakeOffer, Withdraw, LaunchFrom, SendKill, SendAck, SendEnd, SendHello, SendAgain, Lose, side_step}
-use Rattle.cluster_model.specs.Channels.{Channel, ByMaster, Hear, by_master, World, At, at_agent, with_side, after, after_all}
+use Rattle.cluster_model.specs.Channels.{Channel, ByMaster, Receive, by_master, World, At, at_agent, with_side, after, after_all}
 use Rattle.cluster_model.specs.Masters.{Move, AtSide, TearDownAll, RestartAll, HaltAll, Doing, Moved, at_side, move, move_all, unmoved, moved, after_doing}
-use Rattle.cluster_model.specs.Mails.{hear_at, having_heard}
+use Rattle.cluster_model.specs.Mails.{receive_at, having_received}
 use Rattle.cluster_histories.specs.Clusters.{Cluster, sides_of, master_of}
 use Rattle.cluster_steps.specs.declared.verdict.Sent.{Sent}
 use Rattle.cluster_steps.specs.declared.verdict.Sent.TheVariants.{ToAgent as MailToAgent}
@@ -135,38 +135,38 @@ mails_alone c d = let all = all_alike d.moves c.world [] in all.2 ∙ ap (λ (x 
 
 -- a mail that a side hears
 
-abbrev Heard : List ℕ → ℕ → Run → AgentMail → List Channel → Type 0
-Heard agent place run mail cs = ((at_agent agent (Hear place) run cs).run ≡ run) × (sides_of (at_agent agent (Hear place) run cs).channels ≡ hear_at agent run mail (sides_of cs)) × (sent_between cs (at_agent agent (Hear place) run cs).channels ≡ [])
+abbrev TaskUpdate : List ℕ → ℕ → Run → AgentMail → List Channel → Type 0
+TaskUpdate agent place run mail cs = ((at_agent agent (Receive place) run cs).run ≡ run) × (sides_of (at_agent agent (Receive place) run cs).channels ≡ receive_at agent run mail (sides_of cs)) × (sent_between cs (at_agent agent (Receive place) run cs).channels ≡ [])
 
-hear_alone : (agent : List ℕ) (place : ℕ) (run : Run) (mail : AgentMail) (cs : List Channel) (x : Channel) → find (λ (y : Channel). bytes_eq y.side.name agent) cs ≡ Some x → slice_get x.to_master place ≡ Some mail → Heard agent place run mail cs
-hear_alone agent place run mail [] x f e = absurd cc
-hear_alone agent place run mail (c ∷ cs) x f e = by (bytes_eq c.side.name agent) refl f (λ g. hear_alone agent place run mail cs x g e)
+receive_alone : (agent : List ℕ) (place : ℕ) (run : Run) (mail : AgentMail) (cs : List Channel) (x : Channel) → find (λ (y : Channel). bytes_eq y.side.name agent) cs ≡ Some x → slice_get x.to_master place ≡ Some mail → TaskUpdate agent place run mail cs
+receive_alone agent place run mail [] x f e = absurd cc
+receive_alone agent place run mail (c ∷ cs) x f e = by (bytes_eq c.side.name agent) refl f (λ g. receive_alone agent place run mail cs x g e)
   where
-    by : (t : Bool) → bytes_eq c.side.name agent ≡ t → find (λ (y : Channel). bytes_eq y.side.name agent) (c ∷ cs) ≡ Some x → (find (λ (y : Channel). bytes_eq y.side.name agent) cs ≡ Some x → Heard agent place run mail cs) → Heard agent place run mail (c ∷ cs)
+    by : (t : Bool) → bytes_eq c.side.name agent ≡ t → find (λ (y : Channel). bytes_eq y.side.name agent) (c ∷ cs) ≡ Some x → (find (λ (y : Channel). bytes_eq y.side.name agent) cs ≡ Some x → TaskUpdate agent place run mail cs) → TaskUpdate agent place run mail (c ∷ cs)
     by true d g rest =
         let found_it : Some c ≡ Some x = rw d at g in
         let is : c ≡ x = cc in
         let here : slice_get c.to_master place ≡ Some mail = subst (λ (y : Channel). slice_get y.to_master place ≡ Some mail) (sym is) e in
         rw d (rw here (refl, refl, rw (drop_itself c.to_agent, drop_itself c.to_master) (none_between cs)))
-    by false d g rest = let r = rest (rw d at g) in rw d (r.0, ap (λ ss. c.side ∷ ss) r.1, ap (λ xs. xs ++ sent_between cs (at_agent agent (Hear place) run cs).channels) (none_in c) ∙ r.2)
+    by false d g rest = let r = rest (rw d at g) in rw d (r.0, ap (λ ss. c.side ∷ ss) r.1, ap (λ xs. xs ++ sent_between cs (at_agent agent (Receive place) run cs).channels) (none_in c) ∙ r.2)
 
 -- the master after it hears a mail: its side has heard it, and then it moves
-pub hears_alone : (c : Cluster) (agent : List ℕ) (place : ℕ) (x : Channel) (mail : AgentMail) (d : Doing) → channel_of c agent ≡ Some x → slice_get x.to_master place ≡ Some mail →
-    (master_of (done c (effect_of (At agent (Hear place) ∷ []) d)).after ≡ after_doing (having_heard (master_of c) agent mail) d) ×
-    ((done c (effect_of (At agent (Hear place) ∷ []) d)).outputs.sent ≡ map MailToAgent (moved (having_heard (master_of c) agent mail) d.moves).sent)
-hears_alone c agent place x mail d f e = (
+pub receives_alone : (c : Cluster) (agent : List ℕ) (place : ℕ) (x : Channel) (mail : AgentMail) (d : Doing) → channel_of c agent ≡ Some x → slice_get x.to_master place ≡ Some mail →
+    (master_of (done c (effect_of (At agent (Receive place) ∷ []) d)).after ≡ after_doing (having_received (master_of c) agent mail) d) ×
+    ((done c (effect_of (At agent (Receive place) ∷ []) d)).outputs.sent ≡ map MailToAgent (moved (having_received (master_of c) agent mail) d.moves).sent)
+receives_alone c agent place x mail d f e = (
   ap (λ (y : Moved). record { run = y.run; sides = y.sides; registers = d.registers }) whole,
-  ap (λ xs. xs ++ sent_by (map happening_of d.moves) (after c.world (At agent (Hear place)))) h.2 ∙ (all.2 ∙ ap (λ (y : Moved). map MailToAgent y.sent) whole),
+  ap (λ xs. xs ++ sent_by (map happening_of d.moves) (after c.world (At agent (Receive place)))) h.2 ∙ (all.2 ∙ ap (λ (y : Moved). map MailToAgent y.sent) whole),
 )
   where
-    h : Heard agent place c.world.run mail c.world.channels
-    h = hear_alone agent place c.world.run mail c.world.channels x f e
+    h : TaskUpdate agent place c.world.run mail c.world.channels
+    h = receive_alone agent place c.world.run mail c.world.channels x f e
 
-    all : (more : List ToAgent) × (move_all d.moves (seen (after c.world (At agent (Hear place))) []) ≡ seen (after_all (map happening_of d.moves) (after c.world (At agent (Hear place)))) more) × (sent_by (map happening_of d.moves) (after c.world (At agent (Hear place))) ≡ mails_to more)
-    all = all_alike d.moves (after c.world (At agent (Hear place))) []
+    all : (more : List ToAgent) × (move_all d.moves (seen (after c.world (At agent (Receive place))) []) ≡ seen (after_all (map happening_of d.moves) (after c.world (At agent (Receive place)))) more) × (sent_by (map happening_of d.moves) (after c.world (At agent (Receive place))) ≡ mails_to more)
+    all = all_alike d.moves (after c.world (At agent (Receive place))) []
 
-    start : seen (after c.world (At agent (Hear place))) [] ≡ unmoved (having_heard (master_of c) agent mail)
+    start : seen (after c.world (At agent (Receive place))) [] ≡ unmoved (having_received (master_of c) agent mail)
     start = rw (h.0, h.1) refl
 
-    whole : seen (after_all (map happening_of d.moves) (after c.world (At agent (Hear place)))) all.0 ≡ moved (having_heard (master_of c) agent mail) d.moves
+    whole : seen (after_all (map happening_of d.moves) (after c.world (At agent (Receive place)))) all.0 ≡ moved (having_received (master_of c) agent mail) d.moves
     whole = sym all.1 ∙ ap (move_all d.moves) start

@@ -23,7 +23,7 @@ use Rattle.mails.specs.declared.refusal.AgentRefusal.TheVariants.{OldSession, No
 use Rattle.names_core.specs.declared.state.TaskState.TheVariants.{Killed}
 use Rattle.stream_core.specs.Updates.{is_full, is_done}
 use Rattle.cluster_model.specs.Ids.{last_number}
-use Rattle.cluster_model.specs.Agents.{Agent, Draft, has_ended, is_task, fronts, front_at, owning, reopened, reports, opens_next, opens_again, starts, stated, acknowledged, launched_task, tasks_after, is_front_at, fronts_after, with_tasks, after_command, applies, has_room, hears_mail, needs_place, next_of}
+use Rattle.cluster_model.specs.Agents.{Agent, Draft, has_ended, is_task, fronts, front_at, owning, reopened, reports, opens_next, opens_again, starts, stated, acknowledged, launched_task, tasks_after, is_front_at, fronts_after, with_tasks, after_command, applies, has_room, receives_mail, needs_place, next_of}
 use Rattle.cluster_model.specs.Channels.{InRun}
 use Rattle.cluster_safe.specs.Facts.{Stake, Past, Fades, task_stake, launches, coming, stakes, NotOf, EndsKept, Ordered, AtMost, StateOk, DownOk, IsReportOf, UpOk, drafted, mails_of, states_of, PastOk, Facts}
 use Rattle.cluster_safe.proofs.Ids.{same_refl}
@@ -247,7 +247,7 @@ next_ok p l (Executor key state) f none h =
 next_ok p l (Mail to) f none h = absurd h
 
 -- a mail that was sent to the agent
-pub mail_ok : (p : Past) (l : InRun) (m : MasterMail) → Facts p l → l.draft ≡ None → DownOk p m → AllOk (Draftable p.sent l) (hears_mail l.agent m)
+pub mail_ok : (p : Past) (l : InRun) (m : MasterMail) → Facts p l → l.draft ≡ None → DownOk p m → AllOk (Draftable p.sent l) (receives_mail l.agent m)
 mail_ok p l (Hello run dead) f none h =
     all_if (nat_lt run l.agent.run) (Err OldSession) later (Draftable p.sent l) (λ e. tt)
     (λ e. all_if ((nat_lt l.agent.run run || nat_le l.agent.session dead) || not l.agent.in_session) (opens_next l.agent (max l.agent.session dead) run) (Ok (reports l.agent)) (Draftable p.sent l)

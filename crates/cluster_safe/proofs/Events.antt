@@ -19,10 +19,10 @@ use Rattle.cluster_model.specs.Ids.{last_number}
 use Rattle.cluster_model.specs.Sides.{Side, opens, SendKill, SendAck, SendEnd, SendHello, Lose}
 use Rattle.cluster_model.specs.Events.{MadeOffer, Event, StreamEvent, failover_error, offer_of, update_event}
 use Rattle.scheduler_events.specs.declared.event.Event.TheVariants as events
-use Rattle.cluster_model.specs.Masters.{Framework, Registers, Master, Move, AtSide, TearDownAll, Doing, nothing, refused, saying, moving, moved, framework_of, is_torn, with_framework, on_stream, stream_of, tells, tells_all, Placed, all_booked, put_placed, held_among, held, is_of, withdraws, without_filters_on, side_of, has_numbers, may_have_numbers}
-use Rattle.cluster_model.specs.Calls.{frameworks_limit, new_stream, to_list, subscribed, removed, resubscribed, is_unheard_of, sides_with_tasks, on_teardown, answers, answers_held, Given, good_side, given_by, Accepting, is_covered, launching, answering, accepts_as, accepts_one, accepts_all, passes_limits, accepted_as, accepted_from, on_accept, on_decline, on_revive, on_suppress, commanding, on_kill, is_last_heard, on_acknowledge, is_live_of, is_awaited, reconciles_as, reconciles, on_reconcile, is_stream, on_its_stream, by_known, called}
+use Rattle.cluster_model.specs.Masters.{Framework, Registers, Master, Move, AtSide, TearDownAll, Doing, nothing, refused, saying, moving, moved, framework_of, is_torn, with_framework, on_stream, stream_of, events_to, events_to_all, Placed, all_booked, put_placed, held_among, held, is_of, withdraws, without_filters_on, side_of, has_numbers, may_have_numbers}
+use Rattle.cluster_model.specs.Calls.{frameworks_limit, new_stream, to_list, subscribed, removed, resubscribed, is_unassigned, sides_with_tasks, on_teardown, answers, answers_held, Given, good_side, given_by, Accepting, is_covered, launching, answering, accepts_as, accepts_one, accepts_all, passes_limits, accepted_as, accepted_from, on_accept, on_decline, on_revive, on_suppress, commanding, on_kill, is_last_received, on_acknowledge, is_live_of, is_awaited, reconciles_as, reconciles, on_reconcile, is_stream, on_its_stream, by_known, called}
 use Rattle.cluster_model.specs.Mails.{judged, rescinds, loses, is_reported, session_opens, news_of, goes_with, mailed_as, mailed, is_due, beats, ticked, agent_lost, hung_up_by, hung_up}
-use Rattle.cluster_model.specs.Rounds.{entered, tells_offers, offers_of, making, allocated}
+use Rattle.cluster_model.specs.Rounds.{entered, offer_events, offers_of, making, allocated}
 use Rattle.cluster_safe.proofs.Orders.{each_append}
 use Rattle.mails.specs.declared.call.Call.TheVariants.{Subscribe, Teardown, Accept, Decline, Revive, Suppress, Acknowledge, Reconcile}
 use Rattle.mails.specs.declared.call.Call.TheVariants as calls
@@ -55,7 +55,7 @@ flat_ok : {X : Type 0} (A : List ℕ → Numbered → ℕ → TaskState → Type
 flat_ok A g f [] = tt
 flat_ok A g f (x ∷ xs) = each_append (EventOk A) (g x) (flat_map g xs) (f x) (flat_ok A g f xs)
 
-tells_ok : (A : List ℕ → Numbered → ℕ → TaskState → Type 0) (m : Master) (framework : Numbered) (e : Event) → TellOk A e → Each (EventOk A) (tells m framework e)
+tells_ok : (A : List ℕ → Numbered → ℕ → TaskState → Type 0) (m : Master) (framework : Numbered) (e : Event) → TellOk A e → Each (EventOk A) (events_to m framework e)
 tells_ok A m framework e h = on_ok A (stream_of (framework_of m framework)) e h
 
 answers_ok : (A : List ℕ → Numbered → ℕ → TaskState → Type 0) (f : Framework) (task : List ℕ) (state : TaskState) (agent : Option (List ℕ)) → Each (EventOk A) (answers f task state agent)
@@ -118,7 +118,7 @@ reconcile_events A m (a ∷ more) f = flat_ok A (reconciles m f) (λ x. asked_ev
 
 pub called_events : (A : List ℕ → Numbered → ℕ → TaskState → Type 0) (m : Master) (stream : Option Numbered) (call : Call) → Each (EventOk A) (called m stream call).events
 called_events A m stream (Subscribe None role) = if_events A (nat_le frameworks_limit (length m.registers.frameworks) || nat_le last_number m.registers.last_framework || nat_le last_number m.registers.last_stream) (refused m LimitExceeded) (subscribed m (record m.registers { last_framework = suc m.registers.last_framework }) (record { run = m.run.number; n = suc m.registers.last_framework }) role None) tt (subscribed_events A m (record m.registers { last_framework = suc m.registers.last_framework }) (record { run = m.run.number; n = suc m.registers.last_framework }) role None)
-called_events A m stream (Subscribe (Some id) role) = if_events A (is_unheard_of m id) (refused m NoSuchFramework) (if nat_le last_number m.registers.last_stream then refused m LimitExceeded else (if is_torn m id then removed m else resubscribed m id role (framework_of m id))) tt
+called_events A m stream (Subscribe (Some id) role) = if_events A (is_unassigned m id) (refused m NoSuchFramework) (if nat_le last_number m.registers.last_stream then refused m LimitExceeded else (if is_torn m id then removed m else resubscribed m id role (framework_of m id))) tt
     (if_events A (nat_le last_number m.registers.last_stream) (refused m LimitExceeded) (if is_torn m id then removed m else resubscribed m id role (framework_of m id)) tt (if_events A (is_torn m id) (removed m) (resubscribed m id role (framework_of m id)) (tt, tt) (resubscribed_events A m id role (framework_of m id))))
 called_events A m stream (Teardown framework) = known_events A m stream (framework_of m framework) (on_teardown m) (teardown_events A m)
 called_events A m stream (Accept framework offers tasks seconds) = known_events A m stream (framework_of m framework) (on_accept m offers tasks seconds)
@@ -129,23 +129,23 @@ called_events A m stream (Revive framework) = known_events A m stream (framework
 called_events A m stream (Suppress framework) = known_events A m stream (framework_of m framework) (on_suppress m) (λ f. tt)
 called_events A m stream (calls.Kill framework task agent) = known_events A m stream (framework_of m framework) (λ f. on_kill m task agent f (held m f.id task)) (λ f. kill_events A m task agent f (held m f.id task))
 called_events A m stream (Acknowledge framework agent task uuid) = known_events A m stream (framework_of m framework) (on_acknowledge m agent task uuid.key uuid.k)
-    (λ f. if_events A (list_any (is_last_heard f agent task uuid.key uuid.k) (all_booked m)) (commanding m (side_of m agent) (AtSide agent (SendAck uuid.key uuid.k))) (nothing m) (commanding_events A m (side_of m agent) (AtSide agent (SendAck uuid.key uuid.k))) tt)
+    (λ f. if_events A (list_any (is_last_received f agent task uuid.key uuid.k) (all_booked m)) (commanding m (side_of m agent) (AtSide agent (SendAck uuid.key uuid.k))) (nothing m) (commanding_events A m (side_of m agent) (AtSide agent (SendAck uuid.key uuid.k))) tt)
 called_events A m stream (Reconcile framework tasks) = known_events A m stream (framework_of m framework) (on_reconcile m tasks) (reconcile_events A m tasks)
 
 -- mails, Ticks, losses, hang-ups, rounds
 
 rescinds_ok : (A : List ℕ → Numbered → ℕ → TaskState → Type 0) (m : Master) (os : List Offer) → Each (EventOk A) (rescinds m os)
-rescinds_ok A m os = flat_ok A (λ (o : Offer). tells m o.framework (events.Rescind o.id)) (λ o. tells_ok A m o.framework (events.Rescind o.id) tt) os
+rescinds_ok A m os = flat_ok A (λ (o : Offer). events_to m o.framework (events.Rescind o.id)) (λ o. tells_ok A m o.framework (events.Rescind o.id) tt) os
 
 loses_ok : (A : List ℕ → Numbered → ℕ → TaskState → Type 0) (m : Master) (agent : List ℕ) (bs : List Booked) → Each (EventOk A) (loses m agent bs)
-loses_ok A m agent bs = flat_ok A (λ (b : Booked). if b.ended then [] else tells m b.job.framework (update_event b.job.name Lost (Some agent) None)) (λ b. told_if A b.ended [] (tells m b.job.framework (update_event b.job.name Lost (Some agent) None)) tt (tells_ok A m b.job.framework (update_event b.job.name Lost (Some agent) None) tt)) bs
+loses_ok A m agent bs = flat_ok A (λ (b : Booked). if b.ended then [] else events_to m b.job.framework (update_event b.job.name Lost (Some agent) None)) (λ b. told_if A b.ended [] (events_to m b.job.framework (update_event b.job.name Lost (Some agent) None)) tt (tells_ok A m b.job.framework (update_event b.job.name Lost (Some agent) None) tt)) bs
 
 goes_events : (A : List ℕ → Numbered → ℕ → TaskState → Type 0) (m : Master) (s : Side) (mail : AgentMail) → MailOk (A s.name) mail → Each (EventOk A) (goes_with m s mail).events
 goes_events A m s (Report session number tasks total) h = if_events A (opens m.run s session number) (session_opens m s tasks) (nothing m)
     (each_append (EventOk A) (rescinds m s.offers) (loses m s.name (filter (λ b. not (is_reported tasks b)) s.booked)) (rescinds_ok A m s.offers) (loses_ok A m s.name (filter (λ b. not (is_reported tasks b)) s.booked))) tt
 goes_events A m s (Applied session count) h = tt
 goes_events A m s (Update session key k state ended) h = flat_ok A (news_of m s.name key k state)
-    (λ b. told_if A (same b.job.key key && nat_le b.heard (suc k)) (tells m b.job.framework (update_event b.job.name state (Some s.name) (Some (record { key = key; k = k })))) [] (tells_ok A m b.job.framework (update_event b.job.name state (Some s.name) (Some (record { key = key; k = k }))) h) tt) s.booked
+    (λ b. told_if A (same b.job.key key && nat_le b.received (suc k)) (events_to m b.job.framework (update_event b.job.name state (Some s.name) (Some (record { key = key; k = k })))) [] (tells_ok A m b.job.framework (update_event b.job.name state (Some s.name) (Some (record { key = key; k = k }))) h) tt) s.booked
 
 mailed_as_events : (A : List ℕ → Numbered → ℕ → TaskState → Type 0) (m : Master) (s : Side) (mail : AgentMail) (o : Option MasterRefusal) → MailOk (A s.name) mail → Each (EventOk A) (mailed_as m s mail o).events
 mailed_as_events A m s mail None h = goes_events A m s mail h
@@ -165,8 +165,8 @@ pub ticked_events : (A : List ℕ → Numbered → ℕ → TaskState → Type 0)
 ticked_events A m now = flat_ok A (beats now) (λ f. told_if A (is_due now f) (on_stream f.stream events.Heartbeat) [] (on_ok A f.stream events.Heartbeat tt) tt) m.registers.frameworks
 
 pub lost_events : (A : List ℕ → Numbered → ℕ → TaskState → Type 0) (m : Master) (s : Side) → Each (EventOk A) (agent_lost m s).events
-lost_events A m s = if_events A s.is_open (record { refusal = None; moves = AtSide s.name Lose ∷ AtSide s.name SendHello ∷ []; events = rescinds m s.offers ++ loses m s.name s.booked ++ tells_all m.registers.frameworks (events.Failure s.name); opens = []; closes = []; registers = without_filters_on s.name m.registers }) (nothing m)
-    (each_append (EventOk A) (rescinds m s.offers ++ loses m s.name s.booked) (tells_all m.registers.frameworks (events.Failure s.name))
+lost_events A m s = if_events A s.is_open (record { refusal = None; moves = AtSide s.name Lose ∷ AtSide s.name SendHello ∷ []; events = rescinds m s.offers ++ loses m s.name s.booked ++ events_to_all m.registers.frameworks (events.Failure s.name); opens = []; closes = []; registers = without_filters_on s.name m.registers }) (nothing m)
+    (each_append (EventOk A) (rescinds m s.offers ++ loses m s.name s.booked) (events_to_all m.registers.frameworks (events.Failure s.name))
     (each_append (EventOk A) (rescinds m s.offers) (loses m s.name s.booked) (rescinds_ok A m s.offers) (loses_ok A m s.name s.booked))
     (flat_ok A (λ (f : Framework). on_stream f.stream (events.Failure s.name)) (λ f. on_ok A f.stream (events.Failure s.name) tt) m.registers.frameworks)) tt
 
@@ -177,7 +177,7 @@ hung_events A m stream = by (find (λ f. is_stream stream f.stream) m.registers.
     by None = tt
     by (Some f) = tt
 
-offers_events : (A : List ℕ → Numbered → ℕ → TaskState → Type 0) (f : Framework) (made : List MadeOffer) → Each (EventOk A) (tells_offers f made)
+offers_events : (A : List ℕ → Numbered → ℕ → TaskState → Type 0) (f : Framework) (made : List MadeOffer) → Each (EventOk A) (offer_events f made)
 offers_events A f [] = tt
 offers_events A f (g ∷ more) = on_ok A f.stream (events.Offers (map offer_of (g ∷ more))) tt
 

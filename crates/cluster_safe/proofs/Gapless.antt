@@ -25,7 +25,7 @@ use Rattle.scheduler_events.specs.declared.event.Event.TheVariants as events
 use Rattle.cluster_model.specs.Openings.{GoodOpening, recorded_jobs}
 use Rattle.cluster_histories.specs.Steps.{Setup, Done, History, Marked, step_marked, extended, extend_all, history, opening, hello_to}
 use Rattle.cluster_safe.specs.Acknowledged.{Names, WasSent, WasCounted, recorded_tasks}
-use Rattle.cluster_safe.specs.Honest.{IsNumbered, Tells, WasTold, handed_in, IsHonestCall, IsHonestStep, Honest, has_number, noted, up_to, counted, acknowledged_by, IsKeyOf, IsBeginningOf}
+use Rattle.cluster_safe.specs.Honest.{IsNumbered, Tells, IsUpdateAmong, handed_in, IsHonestCall, IsHonestStep, Honest, has_number, noted, up_to, counted, acknowledged_by, IsKeyOf, IsBeginningOf}
 use Rattle.cluster_safe.specs.Updates.{longer, states_under, recorded_states, updates_of, AcknowledgeTheirs}
 use Rattle.cluster_safe.specs.Origin.{IsOneOf, jobs_of, trail}
 use Rattle.cluster_safe.proofs.Ids.{same_refl, same_is}
@@ -205,7 +205,7 @@ event_told A B f key k (events.Failure agent) ok h = absurd h
 event_told A B f key k (events.Error message) ok h = absurd h
 event_told A B f key k events.Heartbeat ok h = absurd h
 
-was_told : (A : List ℕ → Numbered → ℕ → TaskState → Type 0) (B : Numbered → ℕ → Type 0) → ((agent : List ℕ) (key : Numbered) (k : ℕ) (state : TaskState) → A agent key k state → B key k) → (key : Numbered) (k : ℕ) (ts : List StreamEvent) → Each (EventOk A) ts → WasTold key k ts → B key k
+was_told : (A : List ℕ → Numbered → ℕ → TaskState → Type 0) (B : Numbered → ℕ → Type 0) → ((agent : List ℕ) (key : Numbered) (k : ℕ) (state : TaskState) → A agent key k state → B key k) → (key : Numbered) (k : ℕ) (ts : List StreamEvent) → Each (EventOk A) ts → IsUpdateAmong key k ts → B key k
 was_told A B f key k [] ok h = absurd h
 was_told A B f key k (t ∷ ts) ok (inl h) = event_told A B f key k t.event ok.0 h
 was_told A B f key k (t ∷ ts) ok (inr h) = was_told A B f key k ts ok.1 h
@@ -248,7 +248,7 @@ call_ready records start h framework key ok origin owns stream (Acknowledge f ag
     T = Tellable records start h.happenings h.state.posts
 
     told : Before (AckedBy records (trail h.happenings start []) h.state.posts) key k × (k < told_count start h.happenings key)
-    told = was_told T (λ i n. Before (AckedBy records (trail h.happenings start []) h.state.posts) i n × (n < told_count start h.happenings i)) (λ a i n s x. (x.0, within (updates_of i h.happenings start) n s (update_there records h.happenings start a i n s origin x.1))) key k (handed_in h.entries) (each_handed T h.entries ok.handed) (subst (λ x. WasTold x k (handed_in h.entries)) names.1 (subst (λ n. WasTold uuid.key n (handed_in h.entries)) names.2 (honest names.0)))
+    told = was_told T (λ i n. Before (AckedBy records (trail h.happenings start []) h.state.posts) i n × (n < told_count start h.happenings i)) (λ a i n s x. (x.0, within (updates_of i h.happenings start) n s (update_there records h.happenings start a i n s origin x.1))) key k (handed_in h.entries) (each_handed T h.entries ok.handed) (subst (λ x. IsUpdateAmong x k (handed_in h.entries)) names.1 (subst (λ n. IsUpdateAmong uuid.key n (handed_in h.entries)) names.2 (honest names.0)))
 call_ready records start h framework key ok origin owns stream (Subscribe f role) honest k names = absurd names
 call_ready records start h framework key ok origin owns stream (Teardown f) honest k names = absurd names
 call_ready records start h framework key ok origin owns stream (Accept f offers tasks seconds) honest k names = absurd names

@@ -19,7 +19,7 @@ use Rattle.mails.specs.declared.cause.Cause.TheVariants.{Start, Mail, Executor, 
 use Rattle.mails.specs.declared.refusal.AgentRefusal.{AgentRefusal}
 use Rattle.mails.specs.declared.refusal.AgentRefusal.TheVariants.{NotForMe, OldSession, NotNext, NoSuchTask, Ended, NoRoom, UpdatesFull, SessionsSpent}
 use Rattle.cluster_model.specs.Ids.{last_number}
-use Rattle.cluster_model.specs.Agents.{Agent, Draft, has_ended, is_task, front_at, owning, reopened, reports, opens_next, starts, stated, acknowledged, launched_task, tasks_after, with_tasks, applies, has_room, hears_mail, needs_place, executes, next_of}
+use Rattle.cluster_model.specs.Agents.{Agent, Draft, has_ended, is_task, front_at, owning, reopened, reports, opens_next, starts, stated, acknowledged, launched_task, tasks_after, with_tasks, applies, has_room, receives_mail, needs_place, executes, next_of}
 use Rattle.cluster_safe.specs.Growth.{Continues, OnlyGrow}
 use Rattle.cluster_safe.proofs.Orders.{each_append, each_map}
 use Rattle.cluster_safe.proofs.Drafts.{AllOk, all_if, starts_ok}
@@ -70,7 +70,7 @@ DraftGrows a d = OnlyGrow a.durable.tasks d.after.durable.tasks
 opens_grows : (a : Agent) (last run : ℕ) → AllOk (DraftGrows a) (opens_next a last run)
 opens_grows a last run = all_if (nat_le last_number last) (Err SessionsSpent) (Ok (reports (reopened a (suc last) run))) (DraftGrows a) (λ e. tt) (λ e. kept a.durable.tasks)
 
-mail_grows : (a : Agent) (m : MasterMail) → AllOk (DraftGrows a) (hears_mail a m)
+mail_grows : (a : Agent) (m : MasterMail) → AllOk (DraftGrows a) (receives_mail a m)
 mail_grows a (Hello run dead) =
     all_if (nat_lt run a.durable.run) (Err OldSession) (if (nat_lt a.durable.run run || nat_le a.durable.session dead) || not a.in_session then opens_next a (max a.durable.session dead) run else Ok (reports a)) (DraftGrows a) (λ e. tt)
     (λ e. all_if ((nat_lt a.durable.run run || nat_le a.durable.session dead) || not a.in_session) (opens_next a (max a.durable.session dead) run) (Ok (reports a)) (DraftGrows a) (λ d. opens_grows a (max a.durable.session dead) run) (λ d. kept a.durable.tasks))
@@ -108,7 +108,7 @@ next_grows : (a : Agent) (cause : Cause) → AllOk (DraftGrows a) (next_of a cau
 next_grows a (Start total) = all_if (a.durable.run == 0) (Err OldSession) (starts a total) (DraftGrows a) (λ e. tt)
     (λ e. starts_ok (DraftGrows a) a total (opens_grows a a.durable.session a.durable.run) (λ more c. opens_grows (owning more a) a.durable.session a.durable.run))
 next_grows a Again = kept a.durable.tasks
-next_grows a (Mail to) = all_if (bytes_eq to.agent a.durable.name) (hears_mail a to.mail) (Err NotForMe) (DraftGrows a) (λ e. mail_grows a to.mail) (λ e. tt)
+next_grows a (Mail to) = all_if (bytes_eq to.agent a.durable.name) (receives_mail a to.mail) (Err NotForMe) (DraftGrows a) (λ e. mail_grows a to.mail) (λ e. tt)
 next_grows a (Executor key state) = executes_grows a key state
 
 pub draft_grows : (a : Agent) (cause : Cause) (d : Draft) → next_of a cause ≡ Ok d → OnlyGrow a.durable.tasks d.after.durable.tasks

@@ -22,14 +22,14 @@ use Rattle.mails.specs.declared.cause.Cause.TheVariants.{Start, Executor, Again}
 use Rattle.mails.specs.declared.refusal.AgentRefusal.TheVariants.{NotForMe, OldSession, NoSuchTask, Ended, NoRoom, UpdatesFull, SessionsSpent, TotalLess}
 use Rattle.stream_core.specs.Updates.{is_full}
 use Rattle.cluster_model.specs.Ids.{last_number, last_run}
-use Rattle.cluster_model.specs.Agents.{Agent, Draft, has_ended, is_task, front_at, owning, reopened, reports, opens_next, opens_again, starts, stated, with_tasks, hears_mail, needs_place, executes, next_of}
+use Rattle.cluster_model.specs.Agents.{Agent, Draft, has_ended, is_task, front_at, owning, reopened, reports, opens_next, opens_again, starts, stated, with_tasks, receives_mail, needs_place, executes, next_of}
 use Rattle.cluster_model.specs.Sides.{Run, Side}
-use Rattle.cluster_model.specs.Channels.{Channel, AgentStep, Draw, DrawMail, Adopt, StopWithout, StopWith, Hear, ByAgent, World, Happening, At, Restart, Halt, after, after_all, open_channel, open_world, AllFit}
+use Rattle.cluster_model.specs.Channels.{Channel, AgentStep, Draw, DrawMail, Adopt, StopWithout, StopWith, Receive, ByAgent, World, Happening, At, Restart, Halt, after, after_all, open_channel, open_world, AllFit}
 use Rattle.cluster_model.specs.Openings.{recorded_jobs, KeysOnce, GoodOpening}
 use Rattle.cluster_model.specs.Events.{Event, StreamEvent}
 use Rattle.scheduler_events.specs.declared.event.Event.TheVariants as events
 use Rattle.cluster_model.specs.Masters.{Framework, Master, new_registers, Doing, framework_of, Placed, placed_on, all_booked, is_task_of}
-use Rattle.cluster_model.specs.Calls.{is_last_heard, called}
+use Rattle.cluster_model.specs.Calls.{is_last_received, called}
 use Rattle.cluster_model.specs.Mails.{mailed, ticked, agent_lost, hung_up}
 use Rattle.cluster_model.specs.Rounds.{allocated}
 use Rattle.cluster_histories.specs.Clusters.{Stream, Post, Called, Down, Up, Cluster, sides_of, master_of, Entry}
@@ -42,7 +42,7 @@ use Rattle.cluster_steps.specs.declared.fault.ClusterFault.{ClusterFault}
 use Rattle.cluster_steps.specs.declared.fault.ClusterFault.TheVariants.{MasterDown, AgentDown, DraftOpen, NoDraft, HistoryFull, TimeBack}
 use Rattle.cluster_steps.specs.declared.verdict.Verdict.{Verdict}
 use Rattle.cluster_steps.specs.declared.verdict.Verdict.TheVariants.{Ok as Fine, MasterRefused, AgentRefused, OutOfMemory as Fell}
-use Rattle.cluster_histories.specs.Steps.{Setup, posts_by, Effect, Done, done, entry_of, does, happening, verdict_of, effect_of, master_does, master_hears, channel_of, delivers_up, delivers, post_at, with_tick, ticks_at, stream_at, hangs_up, loses_agent, hello_to, drafts, draws_mail_at, draws_mail, prepares, commits, up_again, stops, with_master, at_channel, is_fallen, if_up, by_draft, without_draft, with_draft, takes_event, takes, answer, master_falls, new_master_falls, fallen_too, agent_falls, instead, fallen_answer, Marked, step_marked, History, opening, extended, extend_all, history}
+use Rattle.cluster_histories.specs.Steps.{Setup, posts_by, Effect, Done, done, entry_of, does, happening, verdict_of, effect_of, master_does, master_receives, channel_of, delivers_up, delivers, post_at, with_tick, ticks_at, stream_at, hangs_up, loses_agent, hello_to, drafts, draws_mail_at, draws_mail, prepares, commits, up_again, stops, with_master, at_channel, is_fallen, if_up, by_draft, without_draft, with_draft, takes_event, takes, answer, master_falls, new_master_falls, fallen_too, agent_falls, instead, fallen_answer, Marked, step_marked, History, opening, extended, extend_all, history}
 use Rattle.cluster_safe.specs.Facts.{HasRoom, RoomForAll}
 use Rattle.cluster_safe.specs.Acknowledged.{Names, WasSent, WasCounted, recorded_tasks, AcknowledgedByOwner}
 use Rattle.cluster_safe.specs.Saved.{IsFound}
@@ -65,13 +65,13 @@ use Rattle.names_core.specs.Updates.{Update}
 use Rattle.cluster_safe.proofs.Names.{AllNamed, open_named, worlds_named}
 use Rattle.cluster_safe.specs.Premises.{MeetsPremises}
 use Rattle.cluster_safe.proofs.Premises.{all_premises}
-use Rattle.cluster_histories.specs.Steps.{Effect, new_to_agent, new_to_master, places, posts_between, posts_by, posts_in, told_on, hears, new_stream, streams_after, takes_one}
+use Rattle.cluster_histories.specs.Steps.{Effect, new_to_agent, new_to_master, places, posts_between, posts_by, posts_in, events_on, receives, new_stream, streams_after, takes_one}
 use Rattle.cluster_safe.proofs.Events.{TellAt, TellOk, EventOk, MailOk, allocated_events, called_events, event_wider, hung_events, lost_events, mailed_events, ticked_events}
 use Rattle.cluster_safe.proofs.Orders.{each_at}
 use Rattle.std.proofs.Common.{le_trans, le_refl}
 use Rattle.mails.specs.declared.mail.AgentMail.TheVariants.{Report, Applied}
 use Rattle.mails.specs.declared.mail.AgentMail.TheVariants as mails
-use Rattle.cluster_safe.specs.Updates.{updates_of, states_on, sent_over, updates_on, IsUpdateOf, TellsUpdate, TellsUpdates, HandsUpdates, HaveAllUpdates}
+use Rattle.cluster_safe.specs.Updates.{updates_of, states_on, sent_over, updates_on, IsUpdateOf, HasUpdateOf, SendsUpdates, HandsUpdates, HaveAllUpdates}
 use Rattle.cluster_safe.proofs.Told.{UpTold}
 
 -- a found one has what each has
@@ -135,20 +135,20 @@ pub no_calls : (hs : List Happening) (w : World) → Each NotCall (posts_by hs w
 no_calls [] w = tt
 no_calls (h ∷ hs) w = each_append NotCall (posts_between w.channels (after w h).channels) (posts_by hs (after w h)) (between_no_calls w.channels (after w h).channels) (no_calls hs (after w h))
 
-told_on_ok : (T : List ℕ → Numbered → ℕ → TaskState → Type 0) (id : Numbered) (ts : List StreamEvent) → Each (EventOk T) ts → Each (TellOk T) (told_on id ts)
+told_on_ok : (T : List ℕ → Numbered → ℕ → TaskState → Type 0) (id : Numbered) (ts : List StreamEvent) → Each (EventOk T) ts → Each (TellOk T) (events_on id ts)
 told_on_ok T id [] h = tt
-told_on_ok T id (t ∷ ts) h = each_append (TellOk T) (if same t.stream id then t.event ∷ [] else []) (told_on id ts) (cond_both (same t.stream id) (t.event ∷ []) [] (Each (TellOk T)) (λ e. (h.0, tt)) (λ e. tt)) (told_on_ok T id ts h.1)
+told_on_ok T id (t ∷ ts) h = each_append (TellOk T) (if same t.stream id then t.event ∷ [] else []) (events_on id ts) (cond_both (same t.stream id) (t.event ∷ []) [] (Each (TellOk T)) (λ e. (h.0, tt)) (λ e. tt)) (told_on_ok T id ts h.1)
 
-heard_ok : (T : List ℕ → Numbered → ℕ → TaskState → Type 0) (ts : List StreamEvent) (ss : List Stream) → Each (EventOk T) ts → Each (StreamOk T) ss → Each (StreamOk T) (map (hears ts) ss)
-heard_ok T ts [] h k = tt
-heard_ok T ts (s ∷ ss) h k = (each_append (TellOk T) s.events (told_on s.id ts) k.0 (told_on_ok T s.id ts h), heard_ok T ts ss h k.1)
+received_ok : (T : List ℕ → Numbered → ℕ → TaskState → Type 0) (ts : List StreamEvent) (ss : List Stream) → Each (EventOk T) ts → Each (StreamOk T) ss → Each (StreamOk T) (map (receives ts) ss)
+received_ok T ts [] h k = tt
+received_ok T ts (s ∷ ss) h k = (each_append (TellOk T) s.events (events_on s.id ts) k.0 (told_on_ok T s.id ts h), received_ok T ts ss h k.1)
 
 new_ok : (T : List ℕ → Numbered → ℕ → TaskState → Type 0) (ids : List Numbered) → Each (StreamOk T) (map new_stream ids)
 new_ok T [] = tt
 new_ok T (id ∷ ids) = (tt, new_ok T ids)
 
 streams_ok : (T : List ℕ → Numbered → ℕ → TaskState → Type 0) (ss : List Stream) (opens : List Numbered) (ts : List StreamEvent) → Each (EventOk T) ts → Each (StreamOk T) ss → Each (StreamOk T) (streams_after ss opens ts)
-streams_ok T ss opens ts h k = heard_ok T ts (ss ++ map new_stream opens) h (each_append (StreamOk T) ss (map new_stream opens) k (new_ok T opens))
+streams_ok T ss opens ts h k = received_ok T ts (ss ++ map new_stream opens) h (each_append (StreamOk T) ss (map new_stream opens) k (new_ok T opens))
 
 taken_ok : (T : List ℕ → Numbered → ℕ → TaskState → Type 0) (id : Numbered) (ss : List Stream) → Each (StreamOk T) ss → Each (StreamOk T) (map (takes_one id) ss)
 taken_ok T id [] h = tt
@@ -183,13 +183,13 @@ takes_legal A T S c id (Some s) h = takes_event_legal A T S c id (slice_get s.ev
 found_stream : (T : List ℕ → Numbered → ℕ → TaskState → Type 0) (c : Cluster) (id : Numbered) → Each (StreamOk T) c.streams → (stream : Stream) → stream_at c id ≡ Some stream → StreamOk T stream
 found_stream T c id k stream e = found (StreamOk T) (λ (s : Stream). same s.id id) (λ o. (x : Stream) → o ≡ Some x → StreamOk T x) (λ x n. absurd cc) (λ x h y n. (let is : x ≡ y = cc in subst (StreamOk T) is h)) c.streams k stream e
 
-hears_legal : (A : Numbered → ℕ → Type 0) (T : List ℕ → Numbered → ℕ → TaskState → Type 0) (S : Option Numbered → Call → Type 0) (c : Cluster) (x : Channel) (place : ℕ) (mail : Option AgentMail) → ((m : AgentMail) → mail ≡ Some m → MailOk (T x.side.name) m) → Legal A T S c (master_hears c x place mail)
-hears_legal A T S c x place None up = tt
-hears_legal A T S c x place (Some mail) up = legal_effect A T S c (effect_of (At x.side.name (Hear place) ∷ []) (mailed (master_of c) x.side mail)) (mailed_events T (master_of c) x.side mail (up mail refl)) (verdict_has_room (mailed (master_of c) x.side mail).refusal) (tt, happenings_ok A c.world.run.number (mailed (master_of c) x.side mail).moves (mailed_ok A c.world.run.number (master_of c) x.side mail)) (λ k. mailed_up_to c.world.run.number (master_of c) x.side mail k)
+receives_legal : (A : Numbered → ℕ → Type 0) (T : List ℕ → Numbered → ℕ → TaskState → Type 0) (S : Option Numbered → Call → Type 0) (c : Cluster) (x : Channel) (place : ℕ) (mail : Option AgentMail) → ((m : AgentMail) → mail ≡ Some m → MailOk (T x.side.name) m) → Legal A T S c (master_receives c x place mail)
+receives_legal A T S c x place None up = tt
+receives_legal A T S c x place (Some mail) up = legal_effect A T S c (effect_of (At x.side.name (Receive place) ∷ []) (mailed (master_of c) x.side mail)) (mailed_events T (master_of c) x.side mail (up mail refl)) (verdict_has_room (mailed (master_of c) x.side mail).refusal) (tt, happenings_ok A c.world.run.number (mailed (master_of c) x.side mail).moves (mailed_ok A c.world.run.number (master_of c) x.side mail)) (λ k. mailed_up_to c.world.run.number (master_of c) x.side mail k)
 
 delivers_up_legal : (A : Numbered → ℕ → Type 0) (T : List ℕ → Numbered → ℕ → TaskState → Type 0) (S : Option Numbered → Call → Type 0) (c : Cluster) (place : ℕ) (agent : List ℕ) → AllTell T c.world → Legal A T S c (delivers_up c place (channel_of c agent))
 delivers_up_legal A T S c place agent acked = found (λ (x : Channel). Each (MailOk (T x.side.name)) x.to_master) (λ (x : Channel). bytes_eq x.side.name agent) (λ o. Legal A T S c (delivers_up c place o)) tt
-    (λ x h. hears_legal A T S c x place (slice_get x.to_master place) (λ m e. each_at (MailOk (T x.side.name)) x.to_master place m h e)) c.world.channels acked
+    (λ x h. receives_legal A T S c x place (slice_get x.to_master place) (λ m e. each_at (MailOk (T x.side.name)) x.to_master place m h e)) c.world.channels acked
 
 -- a call that acknowledges tells a true thing
 abbrev pub PostOk : (Numbered → ℕ → Type 0) → Master → Option Post → Type 0
@@ -243,9 +243,9 @@ executes_room a key state = room_if (not (list_any (is_task key) a.tasks)) (Err 
     third : Result Draft AgentRefusal
     third = if list_any (λ t. is_task key t && has_ended t) a.tasks then Err Ended else second
 
-draws_mail_at_legal : (A : Numbered → ℕ → Type 0) (T : List ℕ → Numbered → ℕ → TaskState → Type 0) (S : Option Numbered → Call → Type 0) (c : Cluster) (x : Channel) (place : ℕ) (o : Option MasterMail) → ((m : MasterMail) → o ≡ Some m → HasRoom (hears_mail x.agent m)) → Legal A T S c (draws_mail_at c x place o)
+draws_mail_at_legal : (A : Numbered → ℕ → Type 0) (T : List ℕ → Numbered → ℕ → TaskState → Type 0) (S : Option Numbered → Call → Type 0) (c : Cluster) (x : Channel) (place : ℕ) (o : Option MasterMail) → ((m : MasterMail) → o ≡ Some m → HasRoom (receives_mail x.agent m)) → Legal A T S c (draws_mail_at c x place o)
 draws_mail_at_legal A T S c x place None h = tt
-draws_mail_at_legal A T S c x place (Some mail) h = drafts_legal A T S c x (DrawMail place) (hears_mail x.agent mail) (h mail refl)
+draws_mail_at_legal A T S c x place (Some mail) h = drafts_legal A T S c x (DrawMail place) (receives_mail x.agent mail) (h mail refl)
 
 draws_mail_legal : (A : Numbered → ℕ → Type 0) (T : List ℕ → Numbered → ℕ → TaskState → Type 0) (S : Option Numbered → Call → Type 0) (c : Cluster) (x : Channel) (p : Option Post) → Roomy x → Legal A T S c (draws_mail c x p)
 draws_mail_legal A T S c x None h = tt
@@ -389,15 +389,15 @@ placed_from rs run marks (c ∷ cs) h =
     (placed_from rs run marks cs h.1)
 
 ack_tells : (rs : List Durable) (c : Cluster) (marks : List Mark) → OriginOk rs c.world marks → (n : ℕ) (stream : Option Numbered) (framework : Numbered) (agent task : List ℕ) (uuid : Update) → slice_get c.posts n ≡ Some (Called stream (Acknowledge framework agent task uuid)) →
-    (f : Framework) → framework_of (master_of c) framework ≡ Some f → list_any (is_last_heard f agent task uuid.key uuid.k) (all_booked (master_of c)) ≡ true → AckedBy rs marks c.posts uuid.key uuid.k
+    (f : Framework) → framework_of (master_of c) framework ≡ Some f → list_any (is_last_received f agent task uuid.key uuid.k) (all_booked (master_of c)) ≡ true → AckedBy rs marks c.posts uuid.key uuid.k
 ack_tells rs c marks ok n stream framework agent task uuid at f is any =
     (p.0.booked.job, p.1, key, inl (subst (λ g. WasSent g uuid.key uuid.k c.posts) (sym (own ∙ find_is framework c.registers.frameworks f is)) (sent_at c.posts n stream framework agent task uuid at)))
   where
-    p : (q : Placed) × IsOneOf q.booked.job (jobs_of marks ++ recorded_jobs rs) × (is_last_heard f agent task uuid.key uuid.k q ≡ true)
-    p = any_placed (λ q. IsOneOf q.booked.job (jobs_of marks ++ recorded_jobs rs)) (is_last_heard f agent task uuid.key uuid.k) (all_booked (master_of c)) (placed_from rs c.world.run marks c.world.channels ok.channels) any
+    p : (q : Placed) × IsOneOf q.booked.job (jobs_of marks ++ recorded_jobs rs) × (is_last_received f agent task uuid.key uuid.k q ≡ true)
+    p = any_placed (λ q. IsOneOf q.booked.job (jobs_of marks ++ recorded_jobs rs)) (is_last_received f agent task uuid.key uuid.k) (all_booked (master_of c)) (placed_from rs c.world.run marks c.world.channels ok.channels) any
 
-    first : ((same p.0.booked.job.key uuid.key && is_task_of f.id task p.0 && bytes_eq p.0.agent agent) ≡ true) × ((p.0.booked.heard == suc uuid.k) ≡ true)
-    first = both_true (same p.0.booked.job.key uuid.key && is_task_of f.id task p.0 && bytes_eq p.0.agent agent) (p.0.booked.heard == suc uuid.k) p.2
+    first : ((same p.0.booked.job.key uuid.key && is_task_of f.id task p.0 && bytes_eq p.0.agent agent) ≡ true) × ((p.0.booked.received == suc uuid.k) ≡ true)
+    first = both_true (same p.0.booked.job.key uuid.key && is_task_of f.id task p.0 && bytes_eq p.0.agent agent) (p.0.booked.received == suc uuid.k) p.2
 
     second : ((same p.0.booked.job.key uuid.key && is_task_of f.id task p.0) ≡ true) × (bytes_eq p.0.agent agent ≡ true)
     second = both_true (same p.0.booked.job.key uuid.key && is_task_of f.id task p.0) (bytes_eq p.0.agent agent) first.0
@@ -634,7 +634,7 @@ history_premises setup records steps good = all_premises (updates_in (open_world
 
 -- updates have the states of their numbers
 
-event_tells : (records : List Durable) (start : World) (hs : List Happening) (posts : List Post) → OriginOk records start [] → (e : Event) → TellOk (Tellable records start hs posts) e → TellsUpdate hs start e
+event_tells : (records : List Durable) (start : World) (hs : List Happening) (posts : List Post) → OriginOk records start [] → (e : Event) → TellOk (Tellable records start hs posts) e → HasUpdateOf hs start e
 event_tells records start hs posts origin (events.Subscribed framework) h = tt
 event_tells records start hs posts origin (events.Offers offers) h = tt
 event_tells records start hs posts origin (events.Rescind offer) h = tt
@@ -653,12 +653,12 @@ abbrev pub ToldOver : Setup → List Durable → List Marked → List ℕ → Nu
 ToldOver setup records steps = Tellable records (open_world setup.run records) (history setup records steps).happenings (history setup records steps).state.posts
 
 abbrev pub IsTelling : Setup → List Durable → List Marked → StreamEvent → Type 0
-IsTelling setup records steps t = TellsUpdate (history setup records steps).happenings (open_world setup.run records) t.event
+IsTelling setup records steps t = HasUpdateOf (history setup records steps).happenings (open_world setup.run records) t.event
 
 all_telling : (setup : Setup) (records : List Durable) (steps : List Marked) → GoodOpening setup.run records → (ts : List StreamEvent) → Each (EventOk (ToldOver setup records steps)) ts → Each (IsTelling setup records steps) ts
 all_telling setup records steps good ts h = each_map (EventOk (ToldOver setup records steps)) (IsTelling setup records steps) (λ t x. event_tells records (open_world setup.run records) (history setup records steps).happenings (history setup records steps).state.posts (origin_opened setup.run records good) t.event x) ts h
 
-pub history_tells : (setup : Setup) (records : List Durable) (steps : List Marked) → GoodOpening setup.run records → TellsUpdates (open_world setup.run records) (history setup records steps)
+pub history_tells : (setup : Setup) (records : List Durable) (steps : List Marked) → GoodOpening setup.run records → SendsUpdates (open_world setup.run records) (history setup records steps)
 history_tells setup records steps good = (all_telling setup records steps good (history setup records steps).opened.events (history_ok setup records steps good).begun, each_map (EntryOk (ToldOver setup records steps)) (λ (e : Entry). Each (IsTelling setup records steps) e.outputs.events) (λ e h. all_telling setup records steps good e.outputs.events h) (history setup records steps).entries (history_ok setup records steps good).told)
 
 taken_telling : (setup : Setup) (records : List Durable) (steps : List Marked) → GoodOpening setup.run records → (o : Option StreamEvent) → IfSome o (EventOk (ToldOver setup records steps)) → IfSome o (IsTelling setup records steps)

@@ -23,9 +23,9 @@ use Rattle.mails.specs.declared.refusal.AgentRefusal.{AgentRefusal}
 use Rattle.mails.specs.declared.cause.Cause.{Cause}
 use Rattle.mails.specs.declared.cause.Cause.TheVariants.{Start, Mail, Executor, Again}
 use Rattle.cluster_model.specs.Ids.{first_of_run, following, is_among, is_repeated, is_empty}
-use Rattle.cluster_model.specs.Agents.{Agent, Draft, live_tasks, recovered, hears_mail, next_of}
-use Rattle.cluster_model.specs.Sides.{Run, Side, new_run, torn_down, unended, job_rows, offer_rows, taken, Sending, sends_nothing, issue, oldest_again, may_launch, books, launch_all, is_named, has_offer, is_good, used_offers, without_used, accepted, may_offer, offered, withdrawn, heard_update, forget, forget_all, last_session, opens, opened, counts, shut, lost, halted, restarted, SideStep, MakeOffer, Withdraw, LaunchFrom, SendKill, SendAck, SendEnd, SendHello, SendAgain, Lose, side_step}
-use Rattle.cluster_model.specs.Channels.{Channel, InRun, AgentStep, Draw, DrawMail, Adopt, StopWithout, StopWith, drawn, drawn_mail, adopted, stopped_with, agent_step, ChannelStep, ByMaster, Hear, ByAgent, heard_mail, happens, with_side, halted_run, Fits}
+use Rattle.cluster_model.specs.Agents.{Agent, Draft, live_tasks, recovered, receives_mail, next_of}
+use Rattle.cluster_model.specs.Sides.{Run, Side, new_run, torn_down, unended, job_rows, offer_rows, taken, Sending, sends_nothing, issue, oldest_again, may_launch, books, launch_all, is_named, has_offer, is_good, used_offers, without_used, accepted, may_offer, offered, withdrawn, received_update, forget, forget_all, last_session, opens, opened, counts, shut, lost, halted, restarted, SideStep, MakeOffer, Withdraw, LaunchFrom, SendKill, SendAck, SendEnd, SendHello, SendAgain, Lose, side_step}
+use Rattle.cluster_model.specs.Channels.{Channel, InRun, AgentStep, Draw, DrawMail, Adopt, StopWithout, StopWith, drawn, drawn_mail, adopted, stopped_with, agent_step, ChannelStep, ByMaster, Receive, ByAgent, received_mail, happens, with_side, halted_run, Fits}
 use Rattle.cluster_model.specs.Masters.{nothing}
 use Rattle.cluster_safe.specs.Facts.{Less, UpTo, Past, Within, live, task_stake, launches, coming, stakes, EndsKept, Ordered, EndsTorn, AtMost, EndedAt, Grown, StateOk, DownOk, UpOk, drafted, mails_of, states_of, Facts, Kept}
 use Rattle.cluster_safe.proofs.Ids.{same_is, upto_refl, less_after, upto_after}
@@ -35,7 +35,7 @@ use Rattle.cluster_safe.proofs.Commands.{NotTorn, ends_drop}
 use Rattle.cluster_safe.proofs.States.{Replaces, facts_replaced, follows_recovered, ok_recovered, live_left}
 use Rattle.cluster_safe.proofs.Drafts.{both_true, Draftable, AllOk, next_ok, mail_ok}
 use Rattle.cluster_safe.proofs.Issue.{issued_past, bookings, unended-append, issued_side, IssueOk, facts_issued}
-use Rattle.cluster_safe.proofs.Master.{sided, posted, facts_offers, facts_booked, facts_torn, helloed_past, facts_helloed, facts_lost, facts_new_run, facts_halted, facts_resent, facts_opened, covered_heard, covered_forget_all}
+use Rattle.cluster_safe.proofs.Master.{sided, posted, facts_offers, facts_booked, facts_torn, helloed_past, facts_helloed, facts_lost, facts_new_run, facts_halted, facts_resent, facts_opened, covered_received, covered_forget_all}
 
 -- what the master books gets no more by a change that keeps each job and no end back
 fewer_mapped : (f : Booked → Booked) → ((b : Booked) → (f b).job ≡ b.job) → ((b : Booked) → b.ended ≡ true → (f b).ended ≡ true) → (bs : List Booked) → Within (unended (map f bs)) (unended bs)
@@ -69,7 +69,7 @@ fewer_forgotten : (ws : List Command) (bs : List Booked) → Within (unended (fo
 fewer_forgotten [] bs = within_refl (unended bs)
 fewer_forgotten (Launch job offers ∷ ws) bs = fewer_forgotten ws bs
 fewer_forgotten (Kill key ∷ ws) bs = fewer_forgotten ws bs
-fewer_forgotten (Ack key k ∷ ws) bs = within_trans (unended (forget_all ws (forget (Ack key k) bs))) (unended (forget (Ack key k) bs)) (unended bs) (fewer_forgotten ws (forget (Ack key k) bs)) (fewer_filtered (λ b. not (b.ended && same b.job.key key && b.heard == suc k && is_terminal b.state)) bs)
+fewer_forgotten (Ack key k ∷ ws) bs = within_trans (unended (forget_all ws (forget (Ack key k) bs))) (unended (forget (Ack key k) bs)) (unended bs) (fewer_forgotten ws (forget (Ack key k) bs)) (fewer_filtered (λ b. not (b.ended && same b.job.key key && b.received == suc k && is_terminal b.state)) bs)
 fewer_forgotten (EndFramework framework ∷ ws) bs = within_trans (unended (forget_all ws (forget (EndFramework framework) bs))) (unended (forget (EndFramework framework) bs)) (unended bs) (fewer_forgotten ws (forget (EndFramework framework) bs)) (fewer_filtered (λ b. not (same b.job.framework framework)) bs)
 
 -- what is taken, by its parts
@@ -244,13 +244,13 @@ kept_accepted {sent} l framework ids jobs k = cond_both (is_good l.side framewor
 
 -- mails that come to the master
 
-pub heard_job : (key : Numbered) (k : ℕ) (state : TaskState) (ended : Bool) (b : Booked) → (heard_update key k state ended b).job ≡ b.job
-heard_job key k state ended b = cond_both (same b.job.key key) (record { job = b.job; ended = b.ended || ended; heard = (if nat_le b.heard (suc k) then suc k else b.heard); state = (if nat_le b.heard (suc k) then state else b.state) }) b (λ c. c.job ≡ b.job) (λ e. refl) (λ e. refl)
+pub received_job : (key : Numbered) (k : ℕ) (state : TaskState) (ended : Bool) (b : Booked) → (received_update key k state ended b).job ≡ b.job
+received_job key k state ended b = cond_both (same b.job.key key) (record { job = b.job; ended = b.ended || ended; received = (if nat_le b.received (suc k) then suc k else b.received); state = (if nat_le b.received (suc k) then state else b.state) }) b (λ c. c.job ≡ b.job) (λ e. refl) (λ e. refl)
 
-heard_for_good : (key : Numbered) (k : ℕ) (state : TaskState) (ended : Bool) (b : Booked) → b.ended ≡ true → (heard_update key k state ended b).ended ≡ true
-heard_for_good key k state ended b e = cond_both (same b.job.key key) (record { job = b.job; ended = b.ended || ended; heard = (if nat_le b.heard (suc k) then suc k else b.heard); state = (if nat_le b.heard (suc k) then state else b.state) }) b (λ c. c.ended ≡ true) (λ d. or_left b.ended ended e) (λ d. e)
+received_for_good : (key : Numbered) (k : ℕ) (state : TaskState) (ended : Bool) (b : Booked) → b.ended ≡ true → (received_update key k state ended b).ended ≡ true
+received_for_good key k state ended b e = cond_both (same b.job.key key) (record { job = b.job; ended = b.ended || ended; received = (if nat_le b.received (suc k) then suc k else b.received); state = (if nat_le b.received (suc k) then state else b.state) }) b (λ c. c.ended ≡ true) (λ d. or_left b.ended ended e) (λ d. e)
 
-kept_came : {sent : Numbered → List TaskState} (l : InRun) (k : Kept sent l) (o : Option AgentMail) → ((m : AgentMail) → o ≡ Some m → UpOk k.0 l.next_key (states_of l) m) → Kept sent (record { run = l.run; channel = heard_mail l.run l.channel o })
+kept_came : {sent : Numbered → List TaskState} (l : InRun) (k : Kept sent l) (o : Option AgentMail) → ((m : AgentMail) → o ≡ Some m → UpOk k.0 l.next_key (states_of l) m) → Kept sent (record { run = l.run; channel = received_mail l.run l.channel o })
 kept_came {sent} l k None h = k
 kept_came {sent} l k (Some (Report session run tasks total)) h = cond_both (opens l.run l.side session run) (opened l.side session tasks total) l.side (λ x. Kept sent (sided l x))
     (λ e. let parts = both_true (l.serves && eqb run l.number) (nat_lt (last_session l.side) session) e in
@@ -280,21 +280,21 @@ kept_came {sent} l k (Some (Applied session count)) h = cond_both (counts l.side
       k.3,
     ))
     (λ e. k)
-kept_came {sent} l k (Some (Update session key n state ended)) h = cond_both (l.is_open && session == l.session) (record l.side { booked = map (heard_update key n state ended) l.booked }) l.side (λ x. Kept sent (sided l x))
+kept_came {sent} l k (Some (Update session key n state ended)) h = cond_both (l.is_open && session == l.session) (record l.side { booked = map (received_update key n state ended) l.booked }) l.side (λ x. Kept sent (sided l x))
     (λ e. let both = both_true l.is_open (eqb session l.session) e in
     let o = k.1.when_open both.0 in (
       k.0,
-      facts_booked k.0 l (map (heard_update key n state ended) l.booked) l.waiting l.known k.1 both.0 o.known o.issued (by_end ended refl o.covered),
-      room_booked l.side (map (heard_update key n state ended) l.booked) k.2 (fewer_mapped (heard_update key n state ended) (heard_job key n state ended) (heard_for_good key n state ended) l.booked),
+      facts_booked k.0 l (map (received_update key n state ended) l.booked) l.waiting l.known k.1 both.0 o.known o.issued (by_end ended refl o.covered),
+      room_booked l.side (map (received_update key n state ended) l.booked) k.2 (fewer_mapped (received_update key n state ended) (received_job key n state ended) (received_for_good key n state ended) l.booked),
       k.3,
     ))
     (λ e. k)
   where
-    by_end : (b : Bool) → ended ≡ b → Each (λ a. Within (live (stakes k.0 a)) (unended l.booked)) (states_of l) → Each (λ a. Within (live (stakes k.0 a)) (unended (map (heard_update key n state ended) l.booked))) (states_of l)
-    by_end true e w = each_both (λ a. EndedAt key (stakes k.0 a)) (λ a. Within (live (stakes k.0 a)) (unended l.booked)) (λ a. Within (live (stakes k.0 a)) (unended (map (heard_update key n state ended) l.booked)))
-        (λ a at v. covered_heard k.0 key n state ended l.booked a (λ t. at) v) (states_of l) (h (Update session key n state ended) refl e).1 w
-    by_end false e w = each_map (λ a. Within (live (stakes k.0 a)) (unended l.booked)) (λ a. Within (live (stakes k.0 a)) (unended (map (heard_update key n state ended) l.booked)))
-        (λ a v. covered_heard k.0 key n state ended l.booked a (λ t. absurd cc) v) (states_of l) w
+    by_end : (b : Bool) → ended ≡ b → Each (λ a. Within (live (stakes k.0 a)) (unended l.booked)) (states_of l) → Each (λ a. Within (live (stakes k.0 a)) (unended (map (received_update key n state ended) l.booked))) (states_of l)
+    by_end true e w = each_both (λ a. EndedAt key (stakes k.0 a)) (λ a. Within (live (stakes k.0 a)) (unended l.booked)) (λ a. Within (live (stakes k.0 a)) (unended (map (received_update key n state ended) l.booked)))
+        (λ a at v. covered_received k.0 key n state ended l.booked a (λ t. at) v) (states_of l) (h (Update session key n state ended) refl e).1 w
+    by_end false e w = each_map (λ a. Within (live (stakes k.0 a)) (unended l.booked)) (λ a. Within (live (stakes k.0 a)) (unended (map (received_update key n state ended) l.booked)))
+        (λ a v. covered_received k.0 key n state ended l.booked a (λ t. absurd cc) v) (states_of l) w
 
 kept_lost : {sent : Numbered → List TaskState} (l : InRun) → Kept sent l → Kept sent (passed l (sends_nothing l.run (lost l.side)))
 kept_lost {sent} l k = quiet l l.run (lost l.side) (cond_both l.is_open (shut l.side l.session) l.side (λ x. Kept sent (sided l x))
@@ -324,7 +324,7 @@ kept_drawn {sent} l k None (Ok new) e h = (
 
 kept_mail : {sent : Numbered → List TaskState} (l : InRun) (k : Kept sent l) (o : Option MasterMail) → ((m : MasterMail) → o ≡ Some m → DownOk k.0 m) → Kept sent (with_channel l (drawn_mail l.channel o))
 kept_mail {sent} l k None h = k
-kept_mail {sent} l k (Some m) h = kept_drawn l k l.draft (hears_mail l.agent m) refl (λ e. mail_ok k.0 l m k.1 e (h m refl))
+kept_mail {sent} l k (Some m) h = kept_drawn l k l.draft (receives_mail l.agent m) refl (λ e. mail_ok k.0 l m k.1 e (h m refl))
 
 kept_cause : {sent : Numbered → List TaskState} (l : InRun) (c : Cause) → Kept sent l → Kept sent (with_channel l (agent_step l.channel (Draw c)))
 kept_cause {sent} l (Start total) k = kept_drawn l k l.draft (next_of l.agent (Start total)) refl (λ e. next_ok k.0 l (Start total) k.1 e tt)
@@ -393,7 +393,7 @@ kept_agent {sent} l StopWith k = kept_with l k l.draft refl
 
 pub kept : {sent : Numbered → List TaskState} (l : InRun) (step : ChannelStep) → Kept sent l → Kept sent (happens l.run l.channel step)
 kept {sent} l (ByMaster step) k = kept_side l step k
-kept {sent} l (Hear place) k = kept_came l k (slice_get l.to_master place) (λ m e. each_at (UpOk k.0 l.next_key (states_of l)) l.to_master place m k.1.ups e)
+kept {sent} l (Receive place) k = kept_came l k (slice_get l.to_master place) (λ m e. each_at (UpOk k.0 l.next_key (states_of l)) l.to_master place m k.1.ups e)
 kept {sent} l (ByAgent step) k = kept_agent l step k
 
 pub kept_halted : {sent : Numbered → List TaskState} (l : InRun) → Kept sent l → Kept sent (record { run = halted_run l.run; channel = with_side halted l.channel })

@@ -24,9 +24,9 @@ use Rattle.mails.specs.declared.cause.Cause.TheVariants.{Start, Mail, Executor, 
 use Rattle.mails.specs.declared.refusal.AgentRefusal.{AgentRefusal}
 use Rattle.mails.specs.declared.refusal.AgentRefusal.TheVariants.{OldSession, NotNext, NoSuchTask, Ended, NoRoom, UpdatesFull, SessionsSpent}
 use Rattle.cluster_model.specs.Ids.{following, is_among, is_empty, is_repeated, last_number}
-use Rattle.cluster_model.specs.Agents.{Agent, Draft, has_ended, is_task, front_at, owning, reopened, reports, opens_next, starts, stated, acknowledged, launched_task, tasks_after, with_tasks, applies, has_room, hears_mail, needs_place, executes, next_of}
-use Rattle.cluster_model.specs.Sides.{Run, Side, Sending, sends_nothing, issue, oldest_again, may_launch, books, Launching, launch_one, launch_all, has_offer, is_good, used_offers, without_used, accepted, may_offer, offer_rows, heard_update, forget_all, last_session, opens, opened, counts, shut, SideStep, MakeOffer, Withdraw, LaunchFrom, SendKill, SendAck, SendEnd, SendHello, SendAgain, Lose, side_step}
-use Rattle.cluster_model.specs.Channels.{Channel, AgentStep, Draw, DrawMail, Adopt, StopWithout, StopWith, drawn, drawn_mail, adopted, stopped_with, agent_step, ChannelStep, ByMaster, Hear, ByAgent, heard_mail, happens, World, Happening, At, TearDown, Restart, Halt, behind, in_front, at_agent, with_side, after, after_all, open_channel}
+use Rattle.cluster_model.specs.Agents.{Agent, Draft, has_ended, is_task, front_at, owning, reopened, reports, opens_next, starts, stated, acknowledged, launched_task, tasks_after, with_tasks, applies, has_room, receives_mail, needs_place, executes, next_of}
+use Rattle.cluster_model.specs.Sides.{Run, Side, Sending, sends_nothing, issue, oldest_again, may_launch, books, Launching, launch_one, launch_all, has_offer, is_good, used_offers, without_used, accepted, may_offer, offer_rows, received_update, forget_all, last_session, opens, opened, counts, shut, SideStep, MakeOffer, Withdraw, LaunchFrom, SendKill, SendAck, SendEnd, SendHello, SendAgain, Lose, side_step}
+use Rattle.cluster_model.specs.Channels.{Channel, AgentStep, Draw, DrawMail, Adopt, StopWithout, StopWith, drawn, drawn_mail, adopted, stopped_with, agent_step, ChannelStep, ByMaster, Receive, ByAgent, received_mail, happens, World, Happening, At, TearDown, Restart, Halt, behind, in_front, at_agent, with_side, after, after_all, open_channel}
 use Rattle.cluster_safe.specs.Facts.{Less}
 use Rattle.cluster_safe.specs.Origin.{Mark, launched, marks_by}
 use Rattle.cluster_safe.proofs.Ids.{same_is}
@@ -116,7 +116,7 @@ DraftFrom n d = AgentFrom n d.after
 opens_from : (n : ℕ) (a : Agent) (last run : ℕ) → AgentFrom n a → AllOk (DraftFrom n) (opens_next a last run)
 opens_from n a last run h = all_if (nat_le last_number last) (Err SessionsSpent) (Ok (reports (reopened a (suc last) run))) (DraftFrom n) (λ e. tt) (λ e. h)
 
-mail_from : (n : ℕ) (a : Agent) (m : MasterMail) → AgentFrom n a → MailFrom n m → AllOk (DraftFrom n) (hears_mail a m)
+mail_from : (n : ℕ) (a : Agent) (m : MasterMail) → AgentFrom n a → MailFrom n m → AllOk (DraftFrom n) (receives_mail a m)
 mail_from n a (Hello run dead) h c =
     all_if (nat_lt run a.run) (Err OldSession) (if (nat_lt a.run run || nat_le a.session dead) || not a.in_session then opens_next a (max a.session dead) run else Ok (reports a)) (DraftFrom n) (λ e. tt)
     (λ e. all_if ((nat_lt a.run run || nat_le a.session dead) || not a.in_session) (opens_next a (max a.session dead) run) (Ok (reports a)) (DraftFrom n) (λ d. opens_from n a (max a.session dead) run h) (λ d. h))
@@ -166,7 +166,7 @@ draw_from n c (Executor key state) h = drawn_from n c c.draft (next_of c.agent (
 
 draw_mail_from : (n : ℕ) (c : Channel) (o : Option MasterMail) → ((m : MasterMail) → o ≡ Some m → MailFrom n m) → ChannelFrom n c → ChannelFrom n (drawn_mail c o)
 draw_mail_from n c None x h = h
-draw_mail_from n c (Some m) x h = drawn_from n c c.draft (hears_mail c.agent m) h (mail_from n c.agent m h.states.0 (x m refl))
+draw_mail_from n c (Some m) x h = drawn_from n c c.draft (receives_mail c.agent m) h (mail_from n c.agent m h.states.0 (x m refl))
 
 drafted_from : (n : ℕ) (c : Channel) (d : Draft) → c.draft ≡ Some d → ChannelFrom n c → AgentFrom n d.after
 drafted_from n c d e h = (subst (λ o. Each (AgentFrom n) (c.agent ∷ drafts_of o)) e h.states).1.0
@@ -196,13 +196,13 @@ each_drop P (suc n) (x ∷ xs) h = each_drop P n xs h.1
 with_waiting : (n : ℕ) (c : Channel) (s : Side) → ChannelFrom n c → Each (CommandFrom n) s.waiting → ChannelFrom n (record c { side = s })
 with_waiting n c s h w = record { waiting = w; states = h.states; downs = h.downs }
 
-hear_from : (n : ℕ) (run : Run) (c : Channel) (o : Option AgentMail) → ChannelFrom n c → ChannelFrom n (heard_mail run c o)
-hear_from n run c None h = h
-hear_from n run c (Some (Report session number tasks total)) h = cond_both (opens run c.side session number) (opened c.side session tasks total) c.side (λ s. ChannelFrom n (record c { side = s })) (λ e. with_waiting n c (opened c.side session tasks total) h tt) (λ e. h)
-hear_from n run c (Some (Applied session count)) h = cond_both (counts c.side session count) (record c.side { booked = forget_all (take (count - c.known) c.waiting) c.booked; waiting = drop (count - c.known) c.waiting; known = count }) c.side (λ s. ChannelFrom n (record c { side = s }))
+receive_from : (n : ℕ) (run : Run) (c : Channel) (o : Option AgentMail) → ChannelFrom n c → ChannelFrom n (received_mail run c o)
+receive_from n run c None h = h
+receive_from n run c (Some (Report session number tasks total)) h = cond_both (opens run c.side session number) (opened c.side session tasks total) c.side (λ s. ChannelFrom n (record c { side = s })) (λ e. with_waiting n c (opened c.side session tasks total) h tt) (λ e. h)
+receive_from n run c (Some (Applied session count)) h = cond_both (counts c.side session count) (record c.side { booked = forget_all (take (count - c.known) c.waiting) c.booked; waiting = drop (count - c.known) c.waiting; known = count }) c.side (λ s. ChannelFrom n (record c { side = s }))
     (λ e. with_waiting n c (record c.side { booked = forget_all (take (count - c.known) c.waiting) c.booked; waiting = drop (count - c.known) c.waiting; known = count }) h (each_drop (CommandFrom n) (count - c.known) c.waiting h.waiting)) (λ e. h)
-hear_from n run c (Some (Update session key k state ended)) h = cond_both (c.is_open && session == c.session) (record c.side { booked = map (heard_update key k state ended) c.booked }) c.side (λ s. ChannelFrom n (record c { side = s }))
-    (λ e. with_waiting n c (record c.side { booked = map (heard_update key k state ended) c.booked }) h h.waiting) (λ e. h)
+receive_from n run c (Some (Update session key k state ended)) h = cond_both (c.is_open && session == c.session) (record c.side { booked = map (received_update key k state ended) c.booked }) c.side (λ s. ChannelFrom n (record c { side = s }))
+    (λ e. with_waiting n c (record c.side { booked = map (received_update key k state ended) c.booked }) h h.waiting) (λ e. h)
 
 -- the master's steps
 
@@ -280,7 +280,7 @@ side_from A n run c Lose t os h = cond_both c.is_open (shut c.side c.session) c.
 
 happens_from : (A : Numbered → ℕ → Type 0) (n : ℕ) (run : Run) (c : Channel) (step : ChannelStep) → ChannelStepOk A n step → OffersFrom n c.side.offers → ChannelFrom n c → ChannelFrom n (happens run c step).channel
 happens_from A n run c (ByMaster step) t os h = (let x = side_from A n run c step t os h in record { waiting = x.0; states = h.states; downs = each_append (MailFrom n) c.to_agent (side_step run c.side step).sent h.downs x.1 })
-happens_from A n run c (Hear place) t os h = hear_from n run c (slice_get c.to_master place) h
+happens_from A n run c (Receive place) t os h = receive_from n run c (slice_get c.to_master place) h
 happens_from A n run c (ByAgent step) t os h = agent_from n c step h
 
 at_from : (A : Numbered → ℕ → Type 0) (n : ℕ) (agent : List ℕ) (step : ChannelStep) (run : Run) (cs : List Channel) → ChannelStepOk A n step → Each (λ (c : Channel). OffersFrom n c.side.offers) cs → Each (ChannelFrom n) cs → Each (ChannelFrom n) (at_agent agent step run cs).channels
@@ -330,7 +330,7 @@ happening_later A n m le (At agent (ByMaster (SendEnd framework))) t = tt
 happening_later A n m le (At agent (ByMaster SendHello)) t = tt
 happening_later A n m le (At agent (ByMaster SendAgain)) t = tt
 happening_later A n m le (At agent (ByMaster Lose)) t = tt
-happening_later A n m le (At agent (Hear place)) t = tt
+happening_later A n m le (At agent (Receive place)) t = tt
 happening_later A n m le (At agent (ByAgent step)) t = tt
 happening_later A n m le (TearDown framework) t = tt
 happening_later A n m le Restart t = tt

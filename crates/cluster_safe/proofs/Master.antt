@@ -17,7 +17,7 @@ use Rattle.mails.specs.declared.mail.AgentMail.{AgentMail}
 use Rattle.mails.specs.declared.mail.AgentMail.TheVariants.{Report, Applied, Update}
 use Rattle.cluster_model.specs.Ids.{first_of_run}
 use Rattle.cluster_model.specs.Agents.{Agent}
-use Rattle.cluster_model.specs.Sides.{Side, new_run, torn_down, unended, oldest_again, heard_update, forget, forget_all, last_session, opened, shut, halted, restarted}
+use Rattle.cluster_model.specs.Sides.{Side, new_run, torn_down, unended, oldest_again, received_update, forget, forget_all, last_session, opened, shut, halted, restarted}
 use Rattle.cluster_model.specs.Channels.{InRun, with_side, halted_run}
 use Rattle.cluster_safe.specs.Facts.{Less, UpTo, Past, Within, live, stakes, EndsKept, EndedAt, AtMost, StateOk, DownOk, IsReportOf, UpOk, drafted, mails_of, states_of, OpenOk, Facts}
 use Rattle.cluster_safe.proofs.Ids.{same_is, less_upto, upto_trans}
@@ -255,26 +255,26 @@ facts_opened p l session tasks total f u lt = record {
     down (Issued s number what) h = (let le = h.0 in omega (arith, above), h.1)
 
 -- an update that tells of an end takes no task that is live
-pub covered_heard : (p : Past) (key : Numbered) (k : ℕ) (state : TaskState) (ended : Bool) (bs : List Booked) (a : Agent) → (ended ≡ true → EndedAt key (stakes p a)) → Within (live (stakes p a)) (unended bs) → Within (live (stakes p a)) (unended (map (heard_update key k state ended) bs))
-covered_heard p key k state ended bs a h w =
-    within_mapped (heard_update key k state ended) (live (stakes p a)) job_is gone for_good bs w
+pub covered_received : (p : Past) (key : Numbered) (k : ℕ) (state : TaskState) (ended : Bool) (bs : List Booked) (a : Agent) → (ended ≡ true → EndedAt key (stakes p a)) → Within (live (stakes p a)) (unended bs) → Within (live (stakes p a)) (unended (map (received_update key k state ended) bs))
+covered_received p key k state ended bs a h w =
+    within_mapped (received_update key k state ended) (live (stakes p a)) job_is gone for_good bs w
   where
-    heard : Booked → Booked
-    heard b = record {
+    received : Booked → Booked
+    received b = record {
       job = b.job;
       ended = b.ended || ended;
-      heard = (if nat_le b.heard (suc k) then suc k else b.heard);
-      state = (if nat_le b.heard (suc k) then state else b.state);
+      received = (if nat_le b.received (suc k) then suc k else b.received);
+      state = (if nat_le b.received (suc k) then state else b.state);
     }
 
-    job_is : (b : Booked) → (heard_update key k state ended b).job ≡ b.job
-    job_is b = cond_both (same b.job.key key) (heard b) b (λ c. c.job ≡ b.job) (λ e. refl) (λ e. refl)
+    job_is : (b : Booked) → (received_update key k state ended b).job ≡ b.job
+    job_is b = cond_both (same b.job.key key) (received b) b (λ c. c.job ≡ b.job) (λ e. refl) (λ e. refl)
 
-    for_good : (b : Booked) → b.ended ≡ true → (heard_update key k state ended b).ended ≡ true
-    for_good b e = cond_both (same b.job.key key) (heard b) b (λ c. c.ended ≡ true) (λ d. rw e refl) (λ d. e)
+    for_good : (b : Booked) → b.ended ≡ true → (received_update key k state ended b).ended ≡ true
+    for_good b e = cond_both (same b.job.key key) (received b) b (λ c. c.ended ≡ true) (λ d. rw e refl) (λ d. e)
 
-    gone : (b : Booked) → b.ended ≡ false → (heard_update key k state ended b).ended ≡ true → Each (λ x. x.key ≢ b.job.key) (live (stakes p a))
-    gone b e = cond_both (same b.job.key key) (heard b) b (λ c. c.ended ≡ true → Each (λ x. x.key ≢ b.job.key) (live (stakes p a)))
+    gone : (b : Booked) → b.ended ≡ false → (received_update key k state ended b).ended ≡ true → Each (λ x. x.key ≢ b.job.key) (live (stakes p a))
+    gone b e = cond_both (same b.job.key key) (received b) b (λ c. c.ended ≡ true → Each (λ x. x.key ≢ b.job.key) (live (stakes p a)))
         (λ d n. subst (λ i. Each (λ x. x.key ≢ i) (live (stakes p a))) (sym (same_is b.job.key key d)) (live_of_ended key (stakes p a) (h (rw e at n))))
         (λ d n. absurd (let m : b.ended ≡ true = n in cc))
 
@@ -283,9 +283,9 @@ covered_forget : (p : Past) (w : Command) (bs : List Booked) (a : Agent) → End
 covered_forget p (Launch job offers) bs a h w = w
 covered_forget p (Kill key) bs a h w = w
 covered_forget p (Ack key k) bs a h w =
-    within_filtered (λ b. not (b.ended && same b.job.key key && b.heard == suc k && is_terminal b.state)) (live (stakes p a)) ended bs w
+    within_filtered (λ b. not (b.ended && same b.job.key key && b.received == suc k && is_terminal b.state)) (live (stakes p a)) ended bs w
   where
-    ended : (b : Booked) → not (b.ended && same b.job.key key && b.heard == suc k && is_terminal b.state) ≡ false → (b.ended ≡ true) ⊎ Each (λ x. x.framework ≢ b.job.framework) (live (stakes p a))
+    ended : (b : Booked) → not (b.ended && same b.job.key key && b.received == suc k && is_terminal b.state) ≡ false → (b.ended ≡ true) ⊎ Each (λ x. x.framework ≢ b.job.framework) (live (stakes p a))
     ended b e = elim (cases_Bool b.ended) [ inl d ↦ inl d | inr d ↦ absurd (let n : true ≡ false = rw d at e in cc) ]
 covered_forget p (EndFramework framework) bs a h w =
     within_filtered (λ b. not (same b.job.framework framework)) (live (stakes p a)) other bs w

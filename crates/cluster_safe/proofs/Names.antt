@@ -16,9 +16,9 @@ use Rattle.mails.specs.declared.cause.Cause.TheVariants.{Start, Mail, Executor, 
 use Rattle.mails.specs.declared.refusal.AgentRefusal.TheVariants.{OldSession, NotNext, NoSuchTask, Ended, NoRoom, UpdatesFull, SessionsSpent}
 use Rattle.stream_core.specs.Updates.{is_full}
 use Rattle.cluster_model.specs.Ids.{last_number}
-use Rattle.cluster_model.specs.Agents.{Agent, Draft, has_ended, is_task, front_at, owning, reopened, reports, opens_next, starts, stated, with_tasks, applies, has_room, hears_mail, needs_place, executes, next_of}
-use Rattle.cluster_model.specs.Sides.{Run, Side, heard_update, forget_all, last_session, opens, opened, counts, shut}
-use Rattle.cluster_model.specs.Channels.{Channel, AgentStep, Draw, DrawMail, Adopt, StopWithout, StopWith, drawn, drawn_mail, adopted, stopped_with, agent_step, ChannelStep, ByMaster, Hear, ByAgent, heard_mail, happens, World, Happening, At, TearDown, Restart, Halt, behind, in_front, at_agent, with_side, after, after_all, open_channel}
+use Rattle.cluster_model.specs.Agents.{Agent, Draft, has_ended, is_task, front_at, owning, reopened, reports, opens_next, starts, stated, with_tasks, applies, has_room, receives_mail, needs_place, executes, next_of}
+use Rattle.cluster_model.specs.Sides.{Run, Side, received_update, forget_all, last_session, opens, opened, counts, shut}
+use Rattle.cluster_model.specs.Channels.{Channel, AgentStep, Draw, DrawMail, Adopt, StopWithout, StopWith, drawn, drawn_mail, adopted, stopped_with, agent_step, ChannelStep, ByMaster, Receive, ByAgent, received_mail, happens, World, Happening, At, TearDown, Restart, Halt, behind, in_front, at_agent, with_side, after, after_all, open_channel}
 use Rattle.cluster_safe.proofs.Drafts.{AllOk, all_if, starts_ok}
 use Rattle.cluster_safe.proofs.Told.{drafts_of, agents_of}
 use Rattle.cluster_safe.proofs.SideNames.{agent_side}
@@ -30,7 +30,7 @@ KeepsName a d = d.after.durable.name ≡ a.durable.name
 opens_name : (a : Agent) (last run : ℕ) → AllOk (KeepsName a) (opens_next a last run)
 opens_name a last run = all_if (nat_le last_number last) (Err SessionsSpent) (Ok (reports (reopened a (suc last) run))) (KeepsName a) (λ e. tt) (λ e. refl)
 
-mail_name : (a : Agent) (m : MasterMail) → AllOk (KeepsName a) (hears_mail a m)
+mail_name : (a : Agent) (m : MasterMail) → AllOk (KeepsName a) (receives_mail a m)
 mail_name a (Hello run dead) =
     all_if (nat_lt run a.run) (Err OldSession) (if (nat_lt a.run run || nat_le a.session dead) || not a.in_session then opens_next a (max a.session dead) run else Ok (reports a)) (KeepsName a) (λ e. tt)
     (λ e. all_if ((nat_lt a.run run || nat_le a.session dead) || not a.in_session) (opens_next a (max a.session dead) run) (Ok (reports a)) (KeepsName a) (λ d. opens_name a (max a.session dead) run) (λ d. refl))
@@ -82,7 +82,7 @@ draw_named name c (Executor key state) h = drawn_named name c c.draft (next_of c
 
 draw_mail_named : (name : List ℕ) (c : Channel) (o : Option MasterMail) → NamedAs name c → NamedAs name (drawn_mail c o)
 draw_mail_named name c None h = h
-draw_mail_named name c (Some m) h = drawn_named name c c.draft (hears_mail c.agent m) h (mail_name c.agent m)
+draw_mail_named name c (Some m) h = drawn_named name c c.draft (receives_mail c.agent m) h (mail_name c.agent m)
 
 adopt_named : (name : List ℕ) (c : Channel) (o : Option Draft) → c.draft ≡ o → NamedAs name c → NamedAs name (adopted c o)
 adopt_named name c None e h = h
@@ -99,15 +99,15 @@ agent_named name c Adopt h = adopt_named name c c.draft refl h
 agent_named name c StopWithout h = (h.0, tt)
 agent_named name c StopWith h = stop_named name c c.draft refl h
 
-heard_named : (run : Run) (c : Channel) (o : Option AgentMail) → NamedAs c.side.name c → NamedAs (heard_mail run c o).side.name (heard_mail run c o)
-heard_named run c None h = h
-heard_named run c (Some (Report session number tasks total)) h = cond_both (opens run c.side session number) (opened c.side session tasks total) c.side (λ s. NamedAs s.name c) (λ e. h) (λ e. h)
-heard_named run c (Some (Applied session count)) h = cond_both (counts c.side session count) (record c.side { booked = forget_all (take (count - c.known) c.waiting) c.booked; waiting = drop (count - c.known) c.waiting; known = count }) c.side (λ s. NamedAs s.name c) (λ e. h) (λ e. h)
-heard_named run c (Some (Update session key k state ended)) h = cond_both (c.is_open && session == c.session) (record c.side { booked = map (heard_update key k state ended) c.booked }) c.side (λ s. NamedAs s.name c) (λ e. h) (λ e. h)
+received_named : (run : Run) (c : Channel) (o : Option AgentMail) → NamedAs c.side.name c → NamedAs (received_mail run c o).side.name (received_mail run c o)
+received_named run c None h = h
+received_named run c (Some (Report session number tasks total)) h = cond_both (opens run c.side session number) (opened c.side session tasks total) c.side (λ s. NamedAs s.name c) (λ e. h) (λ e. h)
+received_named run c (Some (Applied session count)) h = cond_both (counts c.side session count) (record c.side { booked = forget_all (take (count - c.known) c.waiting) c.booked; waiting = drop (count - c.known) c.waiting; known = count }) c.side (λ s. NamedAs s.name c) (λ e. h) (λ e. h)
+received_named run c (Some (Update session key k state ended)) h = cond_both (c.is_open && session == c.session) (record c.side { booked = map (received_update key k state ended) c.booked }) c.side (λ s. NamedAs s.name c) (λ e. h) (λ e. h)
 
 channel_named : (run : Run) (c : Channel) (step : ChannelStep) → NamedAs c.side.name c → NamedAs (happens run c step).channel.side.name (happens run c step).channel
 channel_named run c (ByMaster step) h = subst (λ n. NamedAs n c) (sym (side_name run c.side step)) h
-channel_named run c (Hear place) h = heard_named run c (slice_get c.to_master place) h
+channel_named run c (Receive place) h = received_named run c (slice_get c.to_master place) h
 channel_named run c (ByAgent step) h = subst (λ (s : Side). NamedAs s.name (agent_step c step)) (sym (agent_side c step)) (agent_named c.side.name c step h)
 
 -- all channels

@@ -12,8 +12,8 @@ use Rattle.cluster_model.specs.Ids.{following, last_number}
 use Rattle.cluster_model.specs.Events.{MadeOffer, Offers, StreamEvent, offer_of}
 use Rattle.cluster_model.specs.Sides.{Run, Side, MakeOffer, may_offer, offered, sends_nothing}
 use Rattle.cluster_model.specs.Masters.{Master, Framework, AtSide, Moved, past_side, at_this_side, at_side, move, move_all, moved, unmoved, on_stream}
-use Rattle.cluster_model.specs.Rounds.{Client, clients_of, totals_of, comes_before, first_client, is_subscribed, refuses, is_eligible, pick, Round, offers_to, offers_free, free, visits, round, entered_on, entered, tells_offers, offers_of, making, allocated}
-use Rattle.cluster_safe.specs.Offered.{IsAmong, IsOfferedOn, IsSubscribed, IsTold}
+use Rattle.cluster_model.specs.Rounds.{Client, clients_of, totals_of, comes_before, first_client, is_subscribed, refuses, is_eligible, pick, Round, offers_to, offers_free, free, visits, round, entered_on, entered, offer_events, offers_of, making, allocated}
+use Rattle.cluster_safe.specs.Offered.{IsAmong, IsOfferedOn, IsSubscribed, IsSentOffer}
 use Rattle.cluster_safe.proofs.Ids.{same_refl}
 use Rattle.cluster_safe.proofs.Orders.{each_append}
 use Rattle.cluster_safe.proofs.Drafts.{both_true}
@@ -132,7 +132,7 @@ mapped_among f x [] h = absurd h
 mapped_among f x (y ∷ ys) (inl e) = inl (ap f e)
 mapped_among f x (y ∷ ys) (inr h) = inr (mapped_among f x ys h)
 
-tells_among : (f : Framework) (stream : Numbered) (g : MadeOffer) (gs : List MadeOffer) → f.stream ≡ Some stream → IsAmong g gs → IsOfferedOn stream g (tells_offers f gs)
+tells_among : (f : Framework) (stream : Numbered) (g : MadeOffer) (gs : List MadeOffer) → f.stream ≡ Some stream → IsAmong g gs → IsOfferedOn stream g (offer_events f gs)
 tells_among f stream g [] e h = absurd h
 tells_among f stream g (x ∷ gs) e h = subst (λ o. IsOfferedOn stream g (on_stream o (Offers (map offer_of (x ∷ gs))))) (sym e) (inl (refl, mapped_among offer_of g (x ∷ gs) h))
 
@@ -156,8 +156,8 @@ each_is P [] h x k = absurd k
 each_is P (y ∷ xs) h x (inl is) = subst P is h.0
 each_is P (y ∷ xs) h x (inr k) = each_is P xs h.1 x k
 
-pub offers_told : (ws : List RoleWeight) (m : Master) → Each (IsTold m.registers.frameworks (allocated ws m).events) (entered m.sides (moved m (allocated ws m).moves).sides)
-offers_told ws m = each_among (IsTold m.registers.frameworks (allocated ws m).events) made (λ g k. of g k (each_is (λ (g : MadeOffer). HasStream m.registers.frameworks g.offer.framework) made have g k))
+pub offers_told : (ws : List RoleWeight) (m : Master) → Each (IsSentOffer m.registers.frameworks (allocated ws m).events) (entered m.sides (moved m (allocated ws m).moves).sides)
+offers_told ws m = each_among (IsSentOffer m.registers.frameworks (allocated ws m).events) made (λ g k. of g k (each_is (λ (g : MadeOffer). HasStream m.registers.frameworks g.offer.framework) made have g k))
   where
     made : List MadeOffer
     made = entered m.sides (moved m (making ws m)).sides
@@ -165,5 +165,5 @@ offers_told ws m = each_among (IsTold m.registers.frameworks (allocated ws m).ev
     have : Each (λ (g : MadeOffer). HasStream m.registers.frameworks g.offer.framework) (entered m.sides (moved m (making ws m)).sides)
     have = entered_have (λ o. HasStream m.registers.frameworks o.framework) m.sides (moved m (making ws m)).sides (grown_all (λ o. HasStream m.registers.frameworks o.framework) m.sides (round ws m) (unmoved m) (round_has ws m) (grown_first (λ o. HasStream m.registers.frameworks o.framework) m.sides))
 
-    of : (g : MadeOffer) → IsAmong g (entered m.sides (moved m (making ws m)).sides) → HasStream m.registers.frameworks g.offer.framework → IsTold m.registers.frameworks (allocated ws m).events g
+    of : (g : MadeOffer) → IsAmong g (entered m.sides (moved m (making ws m)).sides) → HasStream m.registers.frameworks g.offer.framework → IsSentOffer m.registers.frameworks (allocated ws m).events g
     of g k h = (h.0, h.1, told_to (entered m.sides (moved m (making ws m)).sides) g h.0 m.registers.frameworks h.1.0 h.1.1 h.1.2 h.1.3 k)

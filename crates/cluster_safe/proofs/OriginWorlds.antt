@@ -10,8 +10,8 @@ use Rattle.mails.specs.declared.mail.AgentMail.{AgentMail}
 use Rattle.mails.specs.declared.mail.AgentMail.TheVariants.{Report, Applied, Update}
 use Rattle.mails.specs.declared.record.Durable.{Durable}
 use Rattle.cluster_model.specs.Ids.{first_of_run, is_among}
-use Rattle.cluster_model.specs.Sides.{Run, Side, new_run, offer_rows, Sending, sends_nothing, Launching, is_good, used_offers, without_used, accepted, heard_update, forget_all, last_session, opens, opened, counts, shut, SideStep, MakeOffer, Withdraw, LaunchFrom, SendKill, SendAck, SendEnd, SendHello, SendAgain, Lose, side_step}
-use Rattle.cluster_model.specs.Channels.{Channel, InRun, agent_step, ChannelStep, ByMaster, Hear, ByAgent, heard_mail, happens, World, Happening, At, TearDown, Restart, Halt, behind, in_front, at_agent, with_side, halted_run, after, after_all}
+use Rattle.cluster_model.specs.Sides.{Run, Side, new_run, offer_rows, Sending, sends_nothing, Launching, is_good, used_offers, without_used, accepted, received_update, forget_all, last_session, opens, opened, counts, shut, SideStep, MakeOffer, Withdraw, LaunchFrom, SendKill, SendAck, SendEnd, SendHello, SendAgain, Lose, side_step}
+use Rattle.cluster_model.specs.Channels.{Channel, InRun, agent_step, ChannelStep, ByMaster, Receive, ByAgent, received_mail, happens, World, Happening, At, TearDown, Restart, Halt, behind, in_front, at_agent, with_side, halted_run, after, after_all}
 use Rattle.cluster_model.specs.Openings.{recorded_jobs, NamesOnce}
 use Rattle.cluster_safe.specs.Origin.{Use, Mark, Made, Used, launched, use_of, marks_at, marks_of, marks_in, marks_by, trail, IsOneOf, jobs_of, jobs_on, From, HasOrigin}
 use Rattle.cluster_safe.proofs.Orders.{each_map}
@@ -84,11 +84,11 @@ still rs marks run c d b os name t = record {
   others = λ e differ h. h;
 }
 
-heard_offers : (next : Numbered) (marks : List Mark) (run : Run) (c : Channel) (o : Option AgentMail) → OffersOk next marks c.side.name c.side.offers → OffersOk next marks c.side.name (heard_mail run c o).side.offers × ((heard_mail run c o).side.name ≡ c.side.name)
-heard_offers next marks run c None h = (h, refl)
-heard_offers next marks run c (Some (Report session number tasks total)) h = cond_both (opens run c.side session number) (opened c.side session tasks total) c.side (λ s. OffersOk next marks c.side.name s.offers × (s.name ≡ c.side.name)) (λ e. ((tt, tt), refl)) (λ e. (h, refl))
-heard_offers next marks run c (Some (Applied session count)) h = cond_both (counts c.side session count) (record c.side { booked = forget_all (take (count - c.known) c.waiting) c.booked; waiting = drop (count - c.known) c.waiting; known = count }) c.side (λ s. OffersOk next marks c.side.name s.offers × (s.name ≡ c.side.name)) (λ e. (h, refl)) (λ e. (h, refl))
-heard_offers next marks run c (Some (Update session key k state ended)) h = cond_both (c.is_open && session == c.session) (record c.side { booked = map (heard_update key k state ended) c.booked }) c.side (λ s. OffersOk next marks c.side.name s.offers × (s.name ≡ c.side.name)) (λ e. (h, refl)) (λ e. (h, refl))
+received_offers : (next : Numbered) (marks : List Mark) (run : Run) (c : Channel) (o : Option AgentMail) → OffersOk next marks c.side.name c.side.offers → OffersOk next marks c.side.name (received_mail run c o).side.offers × ((received_mail run c o).side.name ≡ c.side.name)
+received_offers next marks run c None h = (h, refl)
+received_offers next marks run c (Some (Report session number tasks total)) h = cond_both (opens run c.side session number) (opened c.side session tasks total) c.side (λ s. OffersOk next marks c.side.name s.offers × (s.name ≡ c.side.name)) (λ e. ((tt, tt), refl)) (λ e. (h, refl))
+received_offers next marks run c (Some (Applied session count)) h = cond_both (counts c.side session count) (record c.side { booked = forget_all (take (count - c.known) c.waiting) c.booked; waiting = drop (count - c.known) c.waiting; known = count }) c.side (λ s. OffersOk next marks c.side.name s.offers × (s.name ≡ c.side.name)) (λ e. (h, refl)) (λ e. (h, refl))
+received_offers next marks run c (Some (Update session key k state ended)) h = cond_both (c.is_open && session == c.session) (record c.side { booked = map (received_update key k state ended) c.booked }) c.side (λ s. OffersOk next marks c.side.name s.offers × (s.name ≡ c.side.name)) (λ e. (h, refl)) (λ e. (h, refl))
 
 channel_after : (rs : List Durable) (marks : List Mark) (run : Run) (c : Channel) (step : ChannelStep) → Before (recorded_jobs rs) marks run c.side → Carried (From rs c.side.name marks) Any c → ChannelAfter rs marks run c (happens run c step) (marks_of run c step)
 channel_after rs marks run c (ByMaster step) b t = record {
@@ -113,9 +113,9 @@ channel_after rs marks run c (ByMaster step) b t = record {
 
     told_as : (s : SideStep) → ByMaster step ≡ ByMaster s → StepTold (From rs c.side.name (marks_at run c.side step ++ marks)) Any run c.side s
     told_as s e = (let is : step ≡ s = cc in subst (StepTold (From rs c.side.name (marks_at run c.side step ++ marks)) Any run c.side) is (step_told rs marks run c t step))
-channel_after rs marks run c (Hear place) b t =
-    let h = heard_offers run.next_offer marks run c (slice_get c.to_master place) b.offers in
-    still rs marks run c (heard_mail run c (slice_get c.to_master place)) b h.0 h.1 (happens_told (From rs c.side.name marks) Any run c (Hear place) (λ s e. absurd cc) t)
+channel_after rs marks run c (Receive place) b t =
+    let h = received_offers run.next_offer marks run c (slice_get c.to_master place) b.offers in
+    still rs marks run c (received_mail run c (slice_get c.to_master place)) b h.0 h.1 (happens_told (From rs c.side.name marks) Any run c (Receive place) (λ s e. absurd cc) t)
 channel_after rs marks run c (ByAgent step) b t =
     still rs marks run c (agent_step c step) b (subst (λ (s : Side). OffersOk run.next_offer marks c.side.name s.offers) (sym (agent_side c step)) b.offers) (ap (λ (s : Side). s.name) (agent_side c step)) (happens_told (From rs c.side.name marks) Any run c (ByAgent step) (λ s e. absurd cc) t)
 

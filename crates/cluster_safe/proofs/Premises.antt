@@ -12,7 +12,7 @@ use Rattle.mails.specs.declared.record.RecordedTask.{RecordedTask}
 use Rattle.cluster_model.specs.Agents.{Agent}
 use Rattle.cluster_model.specs.Channels.{InRun, World}
 use Rattle.cluster_safe.specs.Facts.{Less, Stake, Past, task_stake, launches, InOrder, StateOk, DownOk, UpOk, states_of, Kept}
-use Rattle.cluster_safe.specs.Premises.{HellosTellRuns, MeetsPremises, NextLaunchIsLater, ReportFits}
+use Rattle.cluster_safe.specs.Premises.{HellosNameRuns, MeetsPremises, NextLaunchIsLater, ReportFits}
 use Rattle.cluster_safe.proofs.Orders.{each_map, each_at, each_right}
 use Rattle.cluster_safe.proofs.Drafts.{coming_next}
 use Rattle.cluster_safe.proofs.Worlds.{Sents, KeptIn, WorldOk}
@@ -34,7 +34,7 @@ next_is_later l k place session number job offers e up same_session is =
     launch_is_later k.0 l.next_key l.total l.agent job offers k.1.states.0 up
     (subst (λ n. slice_get (k.0.ever l.agent.session) n ≡ Some (Launch job offers)) m (subst (λ s. slice_get (k.0.ever s) d.1.0 ≡ Some (Launch job offers)) same_session d.1.2))
 
-hellos_tell_runs : {sent : Numbered → List TaskState} (l : InRun) → Kept sent l → HellosTellRuns l.channel
+hellos_tell_runs : {sent : Numbered → List TaskState} (l : InRun) → Kept sent l → HellosNameRuns l.channel
 hellos_tell_runs l k place run dead e = (each_at (DownOk k.0) l.to_agent place (Hello run dead) k.1.downs e).1
 
 report_fits : {sent : Numbered → List TaskState} (l : InRun) → Kept sent l → ReportFits l.channel

@@ -12,8 +12,8 @@ use Rattle.mails.specs.declared.refusal.MasterRefusal.{MasterRefusal}
 use Rattle.cluster_model.specs.Ids.{each_once, last_number}
 use Rattle.cluster_model.specs.Sides.{Side, opens, SendKill, SendAck, SendEnd, SendHello, Lose}
 use Rattle.cluster_model.specs.Events.{Failure}
-use Rattle.cluster_model.specs.Masters.{Framework, Master, Move, AtSide, TearDownAll, Doing, nothing, refused, saying, moving, framework_of, is_torn, put_framework, with_framework, tells_all, Placed, all_booked, held, is_of, withdraws, clear_on, without_filters_on, add_filter, side_of, has_numbers, may_have_numbers}
-use Rattle.cluster_model.specs.Calls.{frameworks_limit, to_list, subscribed, subscriber, removed, resubscribed, is_unheard_of, sides_with_tasks, on_teardown, answers_held, Given, good_side, given_by, Accepting, accepts_all, passes_limits, rest_after, own_offers, accepted_as, accepted_from, on_accept, on_decline, on_revive, on_suppress, commanding, on_kill, is_last_heard, on_acknowledge, on_reconcile, is_stream, on_its_stream, by_known, called}
+use Rattle.cluster_model.specs.Masters.{Framework, Master, Move, AtSide, TearDownAll, Doing, nothing, refused, saying, moving, framework_of, is_torn, put_framework, with_framework, events_to_all, Placed, all_booked, held, is_of, withdraws, clear_on, without_filters_on, add_filter, side_of, has_numbers, may_have_numbers}
+use Rattle.cluster_model.specs.Calls.{frameworks_limit, to_list, subscribed, subscriber, removed, resubscribed, is_unassigned, sides_with_tasks, on_teardown, answers_held, Given, good_side, given_by, Accepting, accepts_all, passes_limits, rest_after, own_offers, accepted_as, accepted_from, on_accept, on_decline, on_revive, on_suppress, commanding, on_kill, is_last_received, on_acknowledge, on_reconcile, is_stream, on_its_stream, by_known, called}
 use Rattle.cluster_model.specs.Mails.{judged, rescinds, loses, session_opens, goes_with, mailed_as, mailed, is_due, beaten_on, beaten, ticked, agent_lost, hung_up_by, hung_up}
 use Rattle.cluster_safe.proofs.Orders.{each_append}
 use Rattle.mails.specs.declared.call.Call.TheVariants.{Subscribe, Teardown, Accept, Decline, Revive, Suppress, Acknowledge, Reconcile}
@@ -73,12 +73,12 @@ resubscribed_up_to n m id role None h le = if_up_to n (nat_le frameworks_limit (
 resubscribed_up_to n m id role (Some f) h le = put n (subscriber m id role) m.registers.frameworks le h
 
 resubscribe_up_to : (m : Master) (id : Numbered) (role : List ℕ) → AllUpTo m.run.number m.registers.frameworks → StaysUpTo m.run.number (called m None (Subscribe (Some id) role))
-resubscribe_up_to m id role h = cond_both (is_unheard_of m id) (refused m NoSuchFramework) (if nat_le last_number m.registers.last_stream then refused m LimitExceeded else (if is_torn m id then removed m else resubscribed m id role (framework_of m id))) (StaysUpTo m.run.number) (λ e. h)
+resubscribe_up_to m id role h = cond_both (is_unassigned m id) (refused m NoSuchFramework) (if nat_le last_number m.registers.last_stream then refused m LimitExceeded else (if is_torn m id then removed m else resubscribed m id role (framework_of m id))) (StaysUpTo m.run.number) (λ e. h)
     (λ e. if_up_to m.run.number (nat_le last_number m.registers.last_stream) (refused m LimitExceeded) (if is_torn m id then removed m else resubscribed m id role (framework_of m id)) h
-    (if_up_to m.run.number (is_torn m id) (removed m) (resubscribed m id role (framework_of m id)) h (resubscribed_up_to m.run.number m id role (framework_of m id) h (heard e))))
+    (if_up_to m.run.number (is_torn m id) (removed m) (resubscribed m id role (framework_of m id)) h (resubscribed_up_to m.run.number m id role (framework_of m id) h (received e))))
   where
-    heard : is_unheard_of m id ≡ false → id.run ≤ m.run.number
-    heard e = grind (arith, nat_tests)
+    received : is_unassigned m id ≡ false → id.run ≤ m.run.number
+    received e = grind (arith, nat_tests)
 
 teardown_up_to : (n : ℕ) (m : Master) (f : Framework) → AllUpTo n m.registers.frameworks → IsUpTo n f → StaysUpTo n (on_teardown m f)
 teardown_up_to n m f h k = if_up_to n (list_any (λ s. not (has_numbers 1 s)) (sides_with_tasks m f.id)) (refused m LimitExceeded)
@@ -116,7 +116,7 @@ called_up_to m stream (Revive framework) h = known_up_to m.run.number m stream (
 called_up_to m stream (Suppress framework) h = known_up_to m.run.number m stream (framework_of m framework) (on_suppress m) h (λ f e. put m.run.number (record f { suppressed = true }) m.registers.frameworks (framework_up_to m framework f h e) h)
 called_up_to m stream (calls.Kill framework task agent) h = known_up_to m.run.number m stream (framework_of m framework) (λ f. on_kill m task agent f (held m f.id task)) h (λ f e. kill_up_to m.run.number m task agent f (held m f.id task) h)
 called_up_to m stream (Acknowledge framework agent task uuid) h = known_up_to m.run.number m stream (framework_of m framework) (on_acknowledge m agent task uuid.key uuid.k) h
-    (λ f e. if_up_to m.run.number (list_any (is_last_heard f agent task uuid.key uuid.k) (all_booked m)) (commanding m (side_of m agent) (AtSide agent (SendAck uuid.key uuid.k))) (nothing m) (commanding_up_to m.run.number m (side_of m agent) (AtSide agent (SendAck uuid.key uuid.k)) h) h)
+    (λ f e. if_up_to m.run.number (list_any (is_last_received f agent task uuid.key uuid.k) (all_booked m)) (commanding m (side_of m agent) (AtSide agent (SendAck uuid.key uuid.k))) (nothing m) (commanding_up_to m.run.number m (side_of m agent) (AtSide agent (SendAck uuid.key uuid.k)) h) h)
 called_up_to m stream (Reconcile framework tasks) h = known_up_to m.run.number m stream (framework_of m framework) (on_reconcile m tasks) h (λ f e. reconcile_up_to m.run.number m tasks f h)
 
 -- mails, Ticks, losses, hang-ups, rounds
@@ -151,7 +151,7 @@ pub ticked_up_to : (n : ℕ) (m : Master) (now : ℕ) → AllUpTo n m.registers.
 ticked_up_to n m now h = mapped n (beaten now) (λ f k. beaten_up_to n now f f.stream k) m.registers.frameworks h
 
 pub lost_up_to : (n : ℕ) (m : Master) (s : Side) → AllUpTo n m.registers.frameworks → StaysUpTo n (agent_lost m s)
-lost_up_to n m s h = if_up_to n s.is_open (record { refusal = None; moves = AtSide s.name Lose ∷ AtSide s.name SendHello ∷ []; events = rescinds m s.offers ++ loses m s.name s.booked ++ tells_all m.registers.frameworks (Failure s.name); opens = []; closes = []; registers = without_filters_on s.name m.registers }) (nothing m) (cleared n s.name m.registers.frameworks h) h
+lost_up_to n m s h = if_up_to n s.is_open (record { refusal = None; moves = AtSide s.name Lose ∷ AtSide s.name SendHello ∷ []; events = rescinds m s.offers ++ loses m s.name s.booked ++ events_to_all m.registers.frameworks (Failure s.name); opens = []; closes = []; registers = without_filters_on s.name m.registers }) (nothing m) (cleared n s.name m.registers.frameworks h) h
 
 hung_by_up_to : (n : ℕ) (m : Master) (stream : Numbered) (o : Option Framework) → AllUpTo n m.registers.frameworks → ((f : Framework) → o ≡ Some f → IsUpTo n f) → StaysUpTo n (hung_up_by m stream o)
 hung_by_up_to n m stream None h k = h

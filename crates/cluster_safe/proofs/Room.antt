@@ -18,7 +18,7 @@ use Rattle.mails.specs.declared.record.RecordedTask.{RecordedTask}
 use Rattle.mails.specs.declared.refusal.AgentRefusal.{AgentRefusal}
 use Rattle.mails.specs.declared.refusal.AgentRefusal.TheVariants.{OldSession, NotNext, NoRoom, SessionsSpent}
 use Rattle.cluster_model.specs.Ids.{last_number}
-use Rattle.cluster_model.specs.Agents.{Agent, Draft, has_ended, live_tasks, task_rows, reopened, reports, opens_next, applies, has_room, hears_mail}
+use Rattle.cluster_model.specs.Agents.{Agent, Draft, has_ended, live_tasks, task_rows, reopened, reports, opens_next, applies, has_room, receives_mail}
 use Rattle.cluster_model.specs.Sides.{job_rows}
 use Rattle.cluster_model.specs.Channels.{InRun}
 use Rattle.cluster_safe.specs.Facts.{Stake, Past, live, task_stake, launches, stakes, AtMost, StateOk, DownOk, Kept, HasRoom, RoomForAll}
@@ -56,7 +56,7 @@ room_command p next total a (Kill key) s up at_place = refl
 room_command p next total a (Ack key k) s up at_place = refl
 room_command p next total a (EndFramework framework) s up at_place = refl
 
-mail_has_room : (p : Past) (next : Numbered) (total : List Row) (a : Agent) (m : MasterMail) → StateOk p next total a → DownOk p m → HasRoom (hears_mail a m)
+mail_has_room : (p : Past) (next : Numbered) (total : List Row) (a : Agent) (m : MasterMail) → StateOk p next total a → DownOk p m → HasRoom (receives_mail a m)
 mail_has_room p next total a (Hello run dead) s h =
     cond_both (nat_lt run a.run) (Err OldSession) later HasRoom (λ e. tt)
     (λ e. cond_both ((nat_lt a.run run || nat_le a.session dead) || not a.in_session) (opens_next a (max a.session dead) run) (Ok (reports a)) HasRoom (λ d. spent (max a.session dead)) (λ d. tt))

@@ -21,9 +21,9 @@ use Rattle.mails.specs.declared.cause.Cause.TheVariants.{Start, Mail, Executor, 
 use Rattle.mails.specs.declared.refusal.AgentRefusal.{AgentRefusal}
 use Rattle.mails.specs.declared.refusal.AgentRefusal.TheVariants.{OldSession, NotNext, NoSuchTask, Ended, NoRoom, UpdatesFull, SessionsSpent}
 use Rattle.cluster_model.specs.Ids.{last_number}
-use Rattle.cluster_model.specs.Agents.{Agent, Draft, has_ended, is_task, state_at, front_of, fronts, front_at, owning, reopened, reports, opens_next, starts, stated, with_tasks, after_command, is_front_at, fronts_after, applies, has_room, hears_mail, needs_place, executes, next_of}
+use Rattle.cluster_model.specs.Agents.{Agent, Draft, has_ended, is_task, state_at, front_of, fronts, front_at, owning, reopened, reports, opens_next, starts, stated, with_tasks, after_command, is_front_at, fronts_after, applies, has_room, receives_mail, needs_place, executes, next_of}
 use Rattle.cluster_model.specs.Sides.{Run, Side, shut, last_session}
-use Rattle.cluster_model.specs.Channels.{Channel, InRun, AgentStep, Draw, DrawMail, Adopt, StopWithout, StopWith, drawn, drawn_mail, adopted, stopped_with, is_own, agent_step, ChannelStep, ByMaster, Hear, ByAgent, heard_mail, happens, World, Happening, At, TearDown, Restart, Halt, behind, in_front, at_agent, with_side, after, after_all, open_channel, open_world}
+use Rattle.cluster_model.specs.Channels.{Channel, InRun, AgentStep, Draw, DrawMail, Adopt, StopWithout, StopWith, drawn, drawn_mail, adopted, stopped_with, is_own, agent_step, ChannelStep, ByMaster, Receive, ByAgent, received_mail, happens, World, Happening, At, TearDown, Restart, Halt, behind, in_front, at_agent, with_side, after, after_all, open_channel, open_world}
 use Rattle.cluster_model.specs.Openings.{NamesOnce}
 use Rattle.cluster_safe.specs.Facts.{Less, UpTo, Stake, Past, task_stake, coming, stakes, Distinct, Grown, StateOk, DownOk, IsReportOf, UpOk, drafted, mails_of, states_of, Facts, Kept}
 use Rattle.cluster_safe.specs.Updates.{longer, states_under, states_on, sent_over}
@@ -285,7 +285,7 @@ fronts_after_in before a (Kill key) = front_at_in key a
 fronts_after_in before a (Ack key k) = cond_both (is_front_at key k before.durable.tasks) (front_at key a) [] (Each (MailIn a.durable.tasks)) (λ e. front_at_in key a) (λ e. tt)
 fronts_after_in before a (EndFramework framework) = tt
 
-mail_in : (a : Agent) (m : MasterMail) → AllOk DraftIn (hears_mail a m)
+mail_in : (a : Agent) (m : MasterMail) → AllOk DraftIn (receives_mail a m)
 mail_in a (Hello run dead) =
     all_if (nat_lt run a.durable.run) (Err OldSession) (if (nat_lt a.durable.run run || nat_le a.durable.session dead) || not a.in_session then opens_next a (max a.durable.session dead) run else Ok (reports a)) DraftIn (λ e. tt)
     (λ e. all_if ((nat_lt a.durable.run run || nat_le a.durable.session dead) || not a.in_session) (opens_next a (max a.durable.session dead) run) (Ok (reports a)) DraftIn (λ d. opens_in a (max a.durable.session dead) run) (λ d. reports_in a))
@@ -350,7 +350,7 @@ draw_mails u c (Executor key state) h = drawn_mails u c c.draft (next_of c.agent
 
 draw_mail_mails : (u : Numbered → List TaskState) (c : Channel) (o : Option MasterMail) → MailsOk u c → MailsOk u (drawn_mail c o)
 draw_mail_mails u c None h = h
-draw_mail_mails u c (Some m) h = drawn_mails u c c.draft (hears_mail c.agent m) (mail_in c.agent m) h
+draw_mail_mails u c (Some m) h = drawn_mails u c c.draft (receives_mail c.agent m) (mail_in c.agent m) h
 
 adopt_mails : (u : Numbered → List TaskState) (c : Channel) (o : Option Draft) → c.draft ≡ o → Each (IsExact u) (adopted c o).agent.durable.tasks → MailsOk u c → MailsOk u (adopted c o)
 adopt_mails u c None e x h = h
@@ -367,13 +367,13 @@ agent_mails u c Adopt x h = adopt_mails u c c.draft refl x h
 agent_mails u c StopWithout x h = record { ups = h.ups; pending = tt }
 agent_mails u c StopWith x h = stop_mails u c c.draft h
 
-heard_mails : (u : Numbered → List TaskState) (run : Run) (c : Channel) (o : Option AgentMail) → MailsOk u c → MailsOk u (heard_mail run c o)
-heard_mails u run c None h = h
-heard_mails u run c (Some mail) h = record { ups = h.ups; pending = h.pending }
+received_mails : (u : Numbered → List TaskState) (run : Run) (c : Channel) (o : Option AgentMail) → MailsOk u c → MailsOk u (received_mail run c o)
+received_mails u run c None h = h
+received_mails u run c (Some mail) h = record { ups = h.ups; pending = h.pending }
 
 happens_mails : (u : Numbered → List TaskState) (run : Run) (c : Channel) (step : ChannelStep) → Each (IsExact u) (happens run c step).channel.agent.durable.tasks → MailsOk u c → MailsOk u (happens run c step).channel
 happens_mails u run c (ByMaster step) x h = record { ups = h.ups; pending = h.pending }
-happens_mails u run c (Hear place) x h = heard_mails u run c (slice_get c.to_master place) h
+happens_mails u run c (Receive place) x h = received_mails u run c (slice_get c.to_master place) h
 happens_mails u run c (ByAgent step) x h = agent_mails u c step x h
 
 -- a record changes only where no draft is left
@@ -385,11 +385,11 @@ drawn_stays c None (Ok new) = refl
 
 drawn_mail_stays : (c : Channel) (o : Option MasterMail) → (drawn_mail c o).agent ≡ c.agent
 drawn_mail_stays c None = refl
-drawn_mail_stays c (Some m) = drawn_stays c c.draft (hears_mail c.agent m)
+drawn_mail_stays c (Some m) = drawn_stays c c.draft (receives_mail c.agent m)
 
-heard_stays : (run : Run) (c : Channel) (o : Option AgentMail) → (heard_mail run c o).agent ≡ c.agent
-heard_stays run c None = refl
-heard_stays run c (Some mail) = refl
+received_stays : (run : Run) (c : Channel) (o : Option AgentMail) → (received_mail run c o).agent ≡ c.agent
+received_stays run c None = refl
+received_stays run c (Some mail) = refl
 
 abbrev pub IsClear : Channel → Channel → Type 0
 IsClear old new = (new.draft ≡ None) ⊎ (new.agent ≡ old.agent)
@@ -411,7 +411,7 @@ agent_clear c StopWith = stopped_clear c c.draft
 
 clear : (run : Run) (c : Channel) (step : ChannelStep) → IsClear c (happens run c step).channel
 clear run c (ByMaster step) = inr refl
-clear run c (Hear place) = inr (heard_stays run c (slice_get c.to_master place))
+clear run c (Receive place) = inr (received_stays run c (slice_get c.to_master place))
 clear run c (ByAgent step) = agent_clear c step
 
 -- worlds

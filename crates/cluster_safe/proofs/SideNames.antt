@@ -6,9 +6,9 @@ use Rattle.mails.specs.declared.mail.MasterMail.{MasterMail}
 use Rattle.mails.specs.declared.mail.AgentMail.{AgentMail}
 use Rattle.mails.specs.declared.mail.AgentMail.TheVariants.{Report, Applied, Update}
 use Rattle.mails.specs.declared.refusal.AgentRefusal.{AgentRefusal}
-use Rattle.cluster_model.specs.Agents.{Draft, hears_mail, next_of}
-use Rattle.cluster_model.specs.Sides.{Run, Side, heard_update, forget_all, opens, opened, counts}
-use Rattle.cluster_model.specs.Channels.{Channel, AgentStep, Draw, DrawMail, Adopt, StopWithout, StopWith, drawn, drawn_mail, adopted, stopped_with, is_own, agent_step, ChannelStep, ByMaster, Hear, ByAgent, heard_mail, happens}
+use Rattle.cluster_model.specs.Agents.{Draft, receives_mail, next_of}
+use Rattle.cluster_model.specs.Sides.{Run, Side, received_update, forget_all, opens, opened, counts}
+use Rattle.cluster_model.specs.Channels.{Channel, AgentStep, Draw, DrawMail, Adopt, StopWithout, StopWith, drawn, drawn_mail, adopted, stopped_with, is_own, agent_step, ChannelStep, ByMaster, Receive, ByAgent, received_mail, happens}
 use Rattle.cluster_safe.proofs.Alone.{side_name}
 
 -- the master's part of a channel and what was sent to the agent are the same
@@ -22,7 +22,7 @@ drawn_beside c None (Ok new) = (refl, refl)
 
 drawn_mail_beside : (c : Channel) (o : Option MasterMail) → SameBeside c (drawn_mail c o)
 drawn_mail_beside c None = (refl, refl)
-drawn_mail_beside c (Some mail) = drawn_beside c c.draft (hears_mail c.agent mail)
+drawn_mail_beside c (Some mail) = drawn_beside c c.draft (receives_mail c.agent mail)
 
 adopted_beside : (c : Channel) (o : Option Draft) → SameBeside c (adopted c o)
 adopted_beside c None = (refl, refl)
@@ -42,13 +42,13 @@ agent_beside c StopWith = stopped_beside c c.draft
 pub agent_side : (c : Channel) (step : AgentStep) → (agent_step c step).side ≡ c.side
 agent_side c step = (agent_beside c step).0
 
-heard_name : (run : Run) (c : Channel) (o : Option AgentMail) → (heard_mail run c o).side.name ≡ c.side.name
-heard_name run c None = refl
-heard_name run c (Some (Report session number tasks total)) = cond_both (opens run c.side session number) (opened c.side session tasks total) c.side (λ s. s.name ≡ c.side.name) (λ e. refl) (λ e. refl)
-heard_name run c (Some (Applied session count)) = cond_both (counts c.side session count) (record c.side { booked = forget_all (take (count - c.known) c.waiting) c.booked; waiting = drop (count - c.known) c.waiting; known = count }) c.side (λ s. s.name ≡ c.side.name) (λ e. refl) (λ e. refl)
-heard_name run c (Some (Update session key k state ended)) = cond_both (c.is_open && session == c.session) (record c.side { booked = map (heard_update key k state ended) c.booked }) c.side (λ s. s.name ≡ c.side.name) (λ e. refl) (λ e. refl)
+received_name : (run : Run) (c : Channel) (o : Option AgentMail) → (received_mail run c o).side.name ≡ c.side.name
+received_name run c None = refl
+received_name run c (Some (Report session number tasks total)) = cond_both (opens run c.side session number) (opened c.side session tasks total) c.side (λ s. s.name ≡ c.side.name) (λ e. refl) (λ e. refl)
+received_name run c (Some (Applied session count)) = cond_both (counts c.side session count) (record c.side { booked = forget_all (take (count - c.known) c.waiting) c.booked; waiting = drop (count - c.known) c.waiting; known = count }) c.side (λ s. s.name ≡ c.side.name) (λ e. refl) (λ e. refl)
+received_name run c (Some (Update session key k state ended)) = cond_both (c.is_open && session == c.session) (record c.side { booked = map (received_update key k state ended) c.booked }) c.side (λ s. s.name ≡ c.side.name) (λ e. refl) (λ e. refl)
 
 pub happens_name : (run : Run) (c : Channel) (step : ChannelStep) → (happens run c step).channel.side.name ≡ c.side.name
 happens_name run c (ByMaster step) = side_name run c.side step
-happens_name run c (Hear place) = heard_name run c (slice_get c.to_master place)
+happens_name run c (Receive place) = received_name run c (slice_get c.to_master place)
 happens_name run c (ByAgent step) = ap (λ (s : Side). s.name) (agent_side c step)

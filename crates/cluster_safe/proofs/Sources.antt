@@ -18,8 +18,8 @@ use Rattle.role_weights.specs.Weights.{RoleWeight}
 use Rattle.cluster_model.specs.Ids.{is_empty, last_number}
 use Rattle.cluster_model.specs.Sides.{Side, is_named, opens, MakeOffer, SendKill, SendAck, SendEnd, SendHello, SendAgain, Lose}
 use Rattle.cluster_model.specs.Events.{MadeOffer, Failure}
-use Rattle.cluster_model.specs.Masters.{Framework, Master, Move, AtSide, TearDownAll, Doing, nothing, refused, saying, moving, framework_of, is_torn, with_framework, tells_all, Placed, all_booked, held_among, held, is_of, withdraws_on, withdraws, without_filters_on, side_of, has_numbers, may_have_numbers}
-use Rattle.cluster_model.specs.Calls.{frameworks_limit, to_list, subscribed, removed, resubscribed, is_unheard_of, sides_with_tasks, on_teardown, answers, answers_held, Given, good_side, given_by, Accepting, is_covered, job_of, launching, answering, accepts_as, accepts_one, passes_limits, accepted_from, on_accept, on_decline, on_revive, on_suppress, commanding, on_kill, is_last_heard, on_acknowledge, on_reconcile, is_stream, on_its_stream, by_known, called}
+use Rattle.cluster_model.specs.Masters.{Framework, Master, Move, AtSide, TearDownAll, Doing, nothing, refused, saying, moving, framework_of, is_torn, with_framework, events_to_all, Placed, all_booked, held_among, held, is_of, withdraws_on, withdraws, without_filters_on, side_of, has_numbers, may_have_numbers}
+use Rattle.cluster_model.specs.Calls.{frameworks_limit, to_list, subscribed, removed, resubscribed, is_unassigned, sides_with_tasks, on_teardown, answers, answers_held, Given, good_side, given_by, Accepting, is_covered, job_of, launching, answering, accepts_as, accepts_one, passes_limits, accepted_from, on_accept, on_decline, on_revive, on_suppress, commanding, on_kill, is_last_received, on_acknowledge, on_reconcile, is_stream, on_its_stream, by_known, called}
 use Rattle.cluster_model.specs.Mails.{judged, rescinds, loses, is_to_end, session_opens, goes_with, mailed_as, mailed, ticks, ticked, agent_lost, hung_up_by, hung_up}
 use Rattle.cluster_model.specs.Rounds.{round, allocated}
 use Rattle.cluster_safe.specs.Listed.{IsListed, MoveFrom, StepWithout, MoveWithout}
@@ -99,7 +99,7 @@ reconcile_from q m (a ∷ more) f = tt
 
 pub called_from : (m : Master) (stream : Option Numbered) (call : Call) → Each (MoveFrom call) (called m stream call).moves
 called_from m stream (Subscribe None role) = if_from (Subscribe None role) (nat_le frameworks_limit (length m.registers.frameworks) || nat_le last_number m.registers.last_framework || nat_le last_number m.registers.last_stream) (refused m LimitExceeded) (subscribed m (record m.registers { last_framework = suc m.registers.last_framework }) (record { run = m.run.number; n = suc m.registers.last_framework }) role None) tt (withdraws_from (Subscribe None role) (is_of (record { run = m.run.number; n = suc m.registers.last_framework })) m)
-called_from m stream (Subscribe (Some id) role) = if_from (Subscribe (Some id) role) (is_unheard_of m id) (refused m NoSuchFramework) (if nat_le last_number m.registers.last_stream then refused m LimitExceeded else (if is_torn m id then removed m else resubscribed m id role (framework_of m id))) tt
+called_from m stream (Subscribe (Some id) role) = if_from (Subscribe (Some id) role) (is_unassigned m id) (refused m NoSuchFramework) (if nat_le last_number m.registers.last_stream then refused m LimitExceeded else (if is_torn m id then removed m else resubscribed m id role (framework_of m id))) tt
     (if_from (Subscribe (Some id) role) (nat_le last_number m.registers.last_stream) (refused m LimitExceeded) (if is_torn m id then removed m else resubscribed m id role (framework_of m id)) tt (if_from (Subscribe (Some id) role) (is_torn m id) (removed m) (resubscribed m id role (framework_of m id)) tt (resubscribed_from (Subscribe (Some id) role) m id role (framework_of m id))))
 called_from m stream (Teardown framework) = known_from (Teardown framework) m stream (framework_of m framework) (on_teardown m) (λ f e. teardown_from (Teardown framework) m f)
 called_from m stream (Accept framework offers tasks seconds) = known_from (Accept framework offers tasks seconds) m stream (framework_of m framework) (on_accept m offers tasks seconds)
@@ -109,7 +109,7 @@ called_from m stream (Revive framework) = known_from (Revive framework) m stream
 called_from m stream (Suppress framework) = known_from (Suppress framework) m stream (framework_of m framework) (on_suppress m) (λ f e. tt)
 called_from m stream (calls.Kill framework task agent) = known_from (calls.Kill framework task agent) m stream (framework_of m framework) (λ f. on_kill m task agent f (held m f.id task)) (λ f e. kill_from (calls.Kill framework task agent) m task agent f (held m f.id task))
 called_from m stream (Acknowledge framework agent task uuid) = known_from (Acknowledge framework agent task uuid) m stream (framework_of m framework) (on_acknowledge m agent task uuid.key uuid.k)
-    (λ f e. cond_both (list_any (is_last_heard f agent task uuid.key uuid.k) (all_booked m)) (commanding m (side_of m agent) (AtSide agent (SendAck uuid.key uuid.k))) (nothing m) (λ d. Each (MoveFrom (Acknowledge framework agent task uuid)) d.moves)
+    (λ f e. cond_both (list_any (is_last_received f agent task uuid.key uuid.k) (all_booked m)) (commanding m (side_of m agent) (AtSide agent (SendAck uuid.key uuid.k))) (nothing m) (λ d. Each (MoveFrom (Acknowledge framework agent task uuid)) d.moves)
     (λ t. commanding_from (Acknowledge framework agent task uuid) m (side_of m agent) (AtSide agent (SendAck uuid.key uuid.k)) tt) (λ t. tt))
 called_from m stream (Reconcile framework tasks) = known_from (Reconcile framework tasks) m stream (framework_of m framework) (on_reconcile m tasks) (λ f e. reconcile_from (Reconcile framework tasks) m tasks f)
 
@@ -154,7 +154,7 @@ ticked_without m now = mapped_without ticks (λ s. cond_both s.is_open SendAgain
 pub lost_without : (m : Master) (s : Side) → Each MoveWithout (agent_lost m s).moves
 lost_without m s = by s.is_open
   where
-    by : (b : Bool) → Each MoveWithout (if b then record { refusal = None; moves = AtSide s.name Lose ∷ AtSide s.name SendHello ∷ []; events = rescinds m s.offers ++ loses m s.name s.booked ++ tells_all m.registers.frameworks (Failure s.name); opens = []; closes = []; registers = without_filters_on s.name m.registers } else nothing m).moves
+    by : (b : Bool) → Each MoveWithout (if b then record { refusal = None; moves = AtSide s.name Lose ∷ AtSide s.name SendHello ∷ []; events = rescinds m s.offers ++ loses m s.name s.booked ++ events_to_all m.registers.frameworks (Failure s.name); opens = []; closes = []; registers = without_filters_on s.name m.registers } else nothing m).moves
     by true = (tt, (tt, tt))
     by false = tt
 

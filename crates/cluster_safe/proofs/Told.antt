@@ -23,13 +23,13 @@ use Rattle.mails.specs.declared.refusal.AgentRefusal.TheVariants.{OldSession, No
 use Rattle.names_core.specs.declared.state.TaskState.TheVariants.{Killed}
 use Rattle.stream_core.specs.Updates.{pushed, acknowledged_one, is_front, is_full, is_done}
 use Rattle.cluster_model.specs.Ids.{following, is_among, last_number}
-use Rattle.cluster_model.specs.Agents.{Agent, Draft, has_ended, is_task, state_at, reported, front_of, fronts, front_at, report_of, owning, reopened, reports, opens_next, starts, stated, acknowledged, launched_task, tasks_after, is_front_at, fronts_after, with_tasks, applies, has_room, hears_mail, needs_place, executes, next_of}
-use Rattle.cluster_model.specs.Sides.{Run, Side, Sending, sends_nothing, issue, oldest_again, accepted, may_offer, heard_update, forget, forget_all, opens, opened, counts, shut, SideStep, MakeOffer, Withdraw, LaunchFrom, SendKill, SendAck, SendEnd, SendHello, SendAgain, Lose, side_step}
-use Rattle.cluster_model.specs.Channels.{Channel, AgentStep, Draw, DrawMail, Adopt, StopWithout, StopWith, drawn, drawn_mail, adopted, stopped_with, agent_step, ChannelStep, ByMaster, Hear, ByAgent, heard_mail, happens}
+use Rattle.cluster_model.specs.Agents.{Agent, Draft, has_ended, is_task, state_at, reported, front_of, fronts, front_at, report_of, owning, reopened, reports, opens_next, starts, stated, acknowledged, launched_task, tasks_after, is_front_at, fronts_after, with_tasks, applies, has_room, receives_mail, needs_place, executes, next_of}
+use Rattle.cluster_model.specs.Sides.{Run, Side, Sending, sends_nothing, issue, oldest_again, accepted, may_offer, received_update, forget, forget_all, opens, opened, counts, shut, SideStep, MakeOffer, Withdraw, LaunchFrom, SendKill, SendAck, SendEnd, SendHello, SendAgain, Lose, side_step}
+use Rattle.cluster_model.specs.Channels.{Channel, AgentStep, Draw, DrawMail, Adopt, StopWithout, StopWith, drawn, drawn_mail, adopted, stopped_with, agent_step, ChannelStep, ByMaster, Receive, ByAgent, received_mail, happens}
 use Rattle.cluster_safe.proofs.Ids.{same_is}
 use Rattle.cluster_safe.proofs.Orders.{each_append, each_map, each_at}
 use Rattle.cluster_safe.proofs.Drafts.{both_true, AllOk, all_if, starts_ok}
-use Rattle.cluster_safe.proofs.Kept.{heard_job}
+use Rattle.cluster_safe.proofs.Kept.{received_job}
 
 -- the record, and that of an open draft, and the draft's mails
 abbrev pub drafts_of : Option Draft → List Agent
@@ -172,7 +172,7 @@ reopened_told : (J : Job → Type 0) (A : Numbered → ℕ → Type 0) (a : Agen
 reopened_told J A a last run h = all_if (nat_le last_number last) (Err SessionsSpent) (Ok (reports (reopened a (suc last) run))) (DraftTold J A) (λ e. tt)
     (λ e. (h, (report_told J A (reopened a (suc last) run) h, fronts_told J A (reopened a (suc last) run) h)))
 
-pub mail_told : (J : Job → Type 0) (A : Numbered → ℕ → Type 0) (a : Agent) (m : MasterMail) → AgentTold J A a → DownTold J A m → AllOk (DraftTold J A) (hears_mail a m)
+pub mail_told : (J : Job → Type 0) (A : Numbered → ℕ → Type 0) (a : Agent) (m : MasterMail) → AgentTold J A a → DownTold J A m → AllOk (DraftTold J A) (receives_mail a m)
 mail_told J A a (Hello run dead) h c =
     all_if (nat_lt run a.run) (Err OldSession) (if (nat_lt a.run run || nat_le a.session dead) || not a.in_session then opens_next a (max a.session dead) run else Ok (reports a)) (DraftTold J A) (λ e. tt)
     (λ e. all_if ((nat_lt a.run run || nat_le a.session dead) || not a.in_session) (opens_next a (max a.session dead) run) (Ok (reports a)) (DraftTold J A)
@@ -231,7 +231,7 @@ draw_told J A c (Executor key state) h = drawn_told J A c c.draft (next_of c.age
 
 draw_mail_told : (J : Job → Type 0) (A : Numbered → ℕ → Type 0) (c : Channel) (o : Option MasterMail) → ((m : MasterMail) → o ≡ Some m → DownTold J A m) → Carried J A c → Carried J A (drawn_mail c o)
 draw_mail_told J A c None x h = h
-draw_mail_told J A c (Some m) x h = drawn_told J A c c.draft (hears_mail c.agent m) h (mail_told J A c.agent m h.states.0 (x m refl))
+draw_mail_told J A c (Some m) x h = drawn_told J A c c.draft (receives_mail c.agent m) h (mail_told J A c.agent m h.states.0 (x m refl))
 
 adopt_told : (J : Job → Type 0) (A : Numbered → ℕ → Type 0) (c : Channel) (o : Option Draft) → c.draft ≡ o → Carried J A c → Carried J A (adopted c o)
 adopt_told J A c None e h = h
@@ -256,8 +256,8 @@ agent_step_told J A c StopWith h = stop_told J A c c.draft refl h
 
 -- a mail that the master hears
 
-heard_told : (J : Job → Type 0) (key : Numbered) (k : ℕ) (state : TaskState) (ended : Bool) (b : Booked) → J b.job → J (heard_update key k state ended b).job
-heard_told J key k state ended b h = subst J (sym (heard_job key k state ended b)) h
+received_told : (J : Job → Type 0) (key : Numbered) (k : ℕ) (state : TaskState) (ended : Bool) (b : Booked) → J b.job → J (received_update key k state ended b).job
+received_told J key k state ended b h = subst J (sym (received_job key k state ended b)) h
 
 each_drop : {A : Type 0} (P : A → Type 0) (n : ℕ) (xs : List A) → Each P xs → Each P (drop n xs)
 each_drop P zero xs h = h
@@ -267,7 +267,7 @@ each_drop P (suc n) (x ∷ xs) h = each_drop P n xs h.1
 forget_told : (P : Booked → Type 0) (w : Command) (bs : List Booked) → Each P bs → Each P (forget w bs)
 forget_told P (Launch job offers) bs h = h
 forget_told P (Kill key) bs h = h
-forget_told P (Ack key k) bs h = each_filter P (λ b. not (b.ended && same b.job.key key && b.heard == suc k && is_terminal b.state)) bs h
+forget_told P (Ack key k) bs h = each_filter P (λ b. not (b.ended && same b.job.key key && b.received == suc k && is_terminal b.state)) bs h
 forget_told P (EndFramework framework) bs h = each_filter P (λ b. not (same b.job.framework framework)) bs h
 
 forget_all_told : (P : Booked → Type 0) (ws : List Command) (bs : List Booked) → Each P bs → Each P (forget_all ws bs)
@@ -277,14 +277,14 @@ forget_all_told P (w ∷ ws) bs h = forget_all_told P ws (forget w bs) (forget_t
 with_books : (J : Job → Type 0) (A : Numbered → ℕ → Type 0) (c : Channel) (s : Side) → Carried J A c → Each (λ b. J b.job) s.booked → Each (CommandTold J A) s.waiting → Carried J A (record c { side = s })
 with_books J A c s h b w = record { booked = b; waiting = w; states = h.states; downs = h.downs; ups = h.ups; pending = h.pending }
 
-pub hear_told : (J : Job → Type 0) (A : Numbered → ℕ → Type 0) (run : Run) (c : Channel) (o : Option AgentMail) → ((m : AgentMail) → o ≡ Some m → UpTold J A m) → Carried J A c → Carried J A (heard_mail run c o)
-hear_told J A run c None x h = h
-hear_told J A run c (Some (Report session number tasks total)) x h = cond_both (opens run c.side session number) (opened c.side session tasks total) c.side (λ s. Carried J A (record c { side = s }))
+pub receive_told : (J : Job → Type 0) (A : Numbered → ℕ → Type 0) (run : Run) (c : Channel) (o : Option AgentMail) → ((m : AgentMail) → o ≡ Some m → UpTold J A m) → Carried J A c → Carried J A (received_mail run c o)
+receive_told J A run c None x h = h
+receive_told J A run c (Some (Report session number tasks total)) x h = cond_both (opens run c.side session number) (opened c.side session tasks total) c.side (λ s. Carried J A (record c { side = s }))
     (λ e. with_books J A c (opened c.side session tasks total) h (x (Report session number tasks total) refl) tt) (λ e. h)
-hear_told J A run c (Some (Applied session count)) x h = cond_both (counts c.side session count) (record c.side { booked = forget_all (take (count - c.known) c.waiting) c.booked; waiting = drop (count - c.known) c.waiting; known = count }) c.side (λ s. Carried J A (record c { side = s }))
+receive_told J A run c (Some (Applied session count)) x h = cond_both (counts c.side session count) (record c.side { booked = forget_all (take (count - c.known) c.waiting) c.booked; waiting = drop (count - c.known) c.waiting; known = count }) c.side (λ s. Carried J A (record c { side = s }))
     (λ e. with_books J A c (record c.side { booked = forget_all (take (count - c.known) c.waiting) c.booked; waiting = drop (count - c.known) c.waiting; known = count }) h (forget_all_told (λ b. J b.job) (take (count - c.known) c.waiting) c.booked h.booked) (each_drop (CommandTold J A) (count - c.known) c.waiting h.waiting)) (λ e. h)
-hear_told J A run c (Some (Update session key k state ended)) x h = cond_both (c.is_open && session == c.session) (record c.side { booked = map (heard_update key k state ended) c.booked }) c.side (λ s. Carried J A (record c { side = s }))
-    (λ e. with_books J A c (record c.side { booked = map (heard_update key k state ended) c.booked }) h (each_mapped (λ b. J b.job) (λ b. J b.job) (heard_update key k state ended) (heard_told J key k state ended) c.booked h.booked) h.waiting) (λ e. h)
+receive_told J A run c (Some (Update session key k state ended)) x h = cond_both (c.is_open && session == c.session) (record c.side { booked = map (received_update key k state ended) c.booked }) c.side (λ s. Carried J A (record c { side = s }))
+    (λ e. with_books J A c (record c.side { booked = map (received_update key k state ended) c.booked }) h (each_mapped (λ b. J b.job) (λ b. J b.job) (received_update key k state ended) (received_told J key k state ended) c.booked h.booked) h.waiting) (λ e. h)
 
 -- the master's steps
 
@@ -340,7 +340,7 @@ side_told J A run c Lose t h = cond_both c.is_open (shut c.side c.session) c.sid
 
 pub happens_told : (J : Job → Type 0) (A : Numbered → ℕ → Type 0) (run : Run) (c : Channel) (step : ChannelStep) → ((s : SideStep) → step ≡ ByMaster s → StepTold J A run c.side s) → Carried J A c → Carried J A (happens run c step).channel
 happens_told J A run c (ByMaster step) t h = sending_past J A c (side_step run c.side step) h (side_told J A run c step (t step refl) h)
-happens_told J A run c (Hear place) t h = hear_told J A run c (slice_get c.to_master place) (λ m e. each_at (UpTold J A) c.to_master place m h.ups e) h
+happens_told J A run c (Receive place) t h = receive_told J A run c (slice_get c.to_master place) (λ m e. each_at (UpTold J A) c.to_master place m h.ups e) h
 happens_told J A run c (ByAgent step) t h = agent_step_told J A c step h
 
 pub shut_told : (J : Job → Type 0) (A : Numbered → ℕ → Type 0) (c : Channel) (closed : ℕ) → Carried J A c → Carried J A (record c { side = shut c.side closed })

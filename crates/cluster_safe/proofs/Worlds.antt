@@ -14,7 +14,7 @@ use Rattle.mails.specs.declared.mail.MasterMail.TheVariants.{Issued}
 use Rattle.mails.specs.declared.record.Durable.{Durable}
 use Rattle.cluster_model.specs.Ids.{first_of_run, following, is_among}
 use Rattle.cluster_model.specs.Sides.{Run, Side, new_run, torn_down, offer_rows, taken, Sending, sends_nothing, issue, may_launch, books, Launching, launch_one, launch_all, is_good, used_offers, without_used, may_offer, halted, restarted, SideStep, MakeOffer, Withdraw, LaunchFrom, SendKill, SendAck, SendEnd, SendHello, SendAgain, Lose, side_step}
-use Rattle.cluster_model.specs.Channels.{Channel, InRun, ChannelStep, ByMaster, Hear, ByAgent, happens, World, Happening, At, TearDown, Restart, Halt, behind, in_front, at_agent, with_side, halted_run, after, open_world, Fits, AllFit}
+use Rattle.cluster_model.specs.Channels.{Channel, InRun, ChannelStep, ByMaster, Receive, ByAgent, happens, World, Happening, At, TearDown, Restart, Halt, behind, in_front, at_agent, with_side, halted_run, after, open_world, Fits, AllFit}
 use Rattle.cluster_safe.specs.Facts.{UpTo, StateOk, UpOk, drafted, mails_of, states_of, Kept, RoomForAll, AllGood}
 use Rattle.cluster_safe.proofs.Ids.{same_is, upto_trans, upto_refl, upto_after}
 use Rattle.cluster_safe.proofs.Orders.{each_map}
@@ -110,7 +110,7 @@ later_side run s Lose = later_refl run
 
 pub later_step : (run : Run) (c : Channel) (step : ChannelStep) → Later run (happens run c step).run
 later_step run c (ByMaster step) = later_side run c.side step
-later_step run c (Hear place) = later_refl run
+later_step run c (Receive place) = later_refl run
 later_step run c (ByAgent step) = later_refl run
 
 -- worlds

@@ -18,7 +18,7 @@ use Rattle.mails.specs.declared.record.RecordedTask.{RecordedTask}
 use Rattle.mails.specs.declared.refusal.AgentRefusal.{AgentRefusal}
 use Rattle.mails.specs.declared.refusal.AgentRefusal.TheVariants.{NotForMe, OldSession, NotNext, NoSuchTask, Ended, NoRoom, UpdatesFull, SessionsSpent, TotalLess}
 use Rattle.cluster_model.specs.Ids.{first_of_run, is_among}
-use Rattle.cluster_model.specs.Agents.{Agent, Draft, has_ended, hears_mail}
+use Rattle.cluster_model.specs.Agents.{Agent, Draft, has_ended, receives_mail}
 use Rattle.cluster_model.specs.Sides.{unended, job_rows, taken}
 use Rattle.cluster_model.specs.Channels.{Channel, InRun}
 
@@ -241,7 +241,7 @@ HasRoom (Err NoRoom) = ⊥
 abbrev pub RoomForAll : Channel → Type 0
 RoomForAll c =
     (place : ℕ) (mail : MasterMail) → slice_get c.to_agent place ≡ Some mail
-    → HasRoom (hears_mail c.agent mail)
+    → HasRoom (receives_mail c.agent mail)
 
 -- a record over which a run may open: its live tasks fit, no launch key occurs twice, and its run
 -- and keys are below the opening's

@@ -27,9 +27,9 @@ abbrev pub Tells : Numbered → ℕ → Event → Type 0
 Tells key k (Update status) = IsNumbered key k status.update
 Tells key k event = ⊥
 
-abbrev pub WasTold : Numbered → ℕ → List StreamEvent → Type 0
-WasTold key k [] = ⊥
-WasTold key k (t ∷ ts) = Tells key k t.event ⊎ WasTold key k ts
+abbrev pub IsUpdateAmong : Numbered → ℕ → List StreamEvent → Type 0
+IsUpdateAmong key k [] = ⊥
+IsUpdateAmong key k (t ∷ ts) = Tells key k t.event ⊎ IsUpdateAmong key k ts
 
 -- the events that the Takes of all entries returned
 abbrev pub handed_in : List Entry → List StreamEvent
@@ -38,7 +38,7 @@ handed_in entries = flat_map (λ e. option_to_list e.outputs.taken) entries
 -- a call that acknowledges as this framework names an update that a Take returned before
 abbrev pub IsHonestCall : Numbered → List Entry → Call → Type 0
 IsHonestCall framework entries (Acknowledge f agent task uuid) =
-    f ≡ framework → WasTold uuid.key uuid.k (handed_in entries)
+    f ≡ framework → IsUpdateAmong uuid.key uuid.k (handed_in entries)
 IsHonestCall framework entries call = ⊤
 
 abbrev pub IsHonestStep : Numbered → List Entry → Step → Type 0

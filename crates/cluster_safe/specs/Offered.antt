@@ -23,6 +23,6 @@ IsSubscribed fs framework stream =
     (f : Framework) × IsAmong f fs × (f.id ≡ framework) × (f.stream ≡ Some stream)
 
 -- an offer's framework is subscribed, and an OFFERS event on its stream has the offer
-abbrev pub IsTold : List Framework → List StreamEvent → MadeOffer → Type 0
-IsTold fs events g =
+abbrev pub IsSentOffer : List Framework → List StreamEvent → MadeOffer → Type 0
+IsSentOffer fs events g =
     (stream : Numbered) × IsSubscribed fs g.offer.framework stream × IsOfferedOn stream g events

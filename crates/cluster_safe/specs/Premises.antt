@@ -23,8 +23,8 @@ NextLaunchIsLater c =
     → Each (λ t. Less t.job.key job.key) c.agent.durable.tasks
 
 -- a Hello names a run above 0
-abbrev pub HellosTellRuns : Channel → Type 0
-HellosTellRuns c =
+abbrev pub HellosNameRuns : Channel → Type 0
+HellosNameRuns c =
     (place run dead : ℕ) → slice_get c.to_agent place ≡ Some (Hello run dead) → 0 < run
 
 -- the tasks of a Report that haven't ended fit the total that it reports
@@ -36,5 +36,5 @@ ReportFits c =
 
 pub record MeetsPremises (c : Channel) : Type 0 where
   pub launch : NextLaunchIsLater c
-  pub hello : HellosTellRuns c
+  pub hello : HellosNameRuns c
   pub report : ReportFits c

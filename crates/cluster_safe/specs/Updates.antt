@@ -73,21 +73,21 @@ IsUpdateOf hs start (Some agent) uuid state =
     (slice_get (updates_of uuid.key hs start) uuid.k ≡ Some state)
     × (slice_get (updates_on agent uuid.key hs start) uuid.k ≡ Some state)
 
-abbrev pub TellsUpdate : List Happening → World → Event → Type 0
-TellsUpdate hs start (Update status) =
+abbrev pub HasUpdateOf : List Happening → World → Event → Type 0
+HasUpdateOf hs start (Update status) =
     IfSome status.update (λ uuid. IsUpdateOf hs start status.agent uuid status.state)
-TellsUpdate hs start event = ⊤
+HasUpdateOf hs start event = ⊤
 
 -- so has each update that is sent, or returned by a Take
-abbrev pub TellsUpdates : World → History → Type 0
-TellsUpdates start h =
-    Each (λ (t : StreamEvent). TellsUpdate h.happenings start t.event) h.opened.events
-    × Each (λ (e : Entry). Each (λ (t : StreamEvent). TellsUpdate h.happenings start t.event)
+abbrev pub SendsUpdates : World → History → Type 0
+SendsUpdates start h =
+    Each (λ (t : StreamEvent). HasUpdateOf h.happenings start t.event) h.opened.events
+    × Each (λ (e : Entry). Each (λ (t : StreamEvent). HasUpdateOf h.happenings start t.event)
     e.outputs.events) h.entries
 
 abbrev pub HandsUpdates : World → History → Type 0
 HandsUpdates start h =
-    Each (λ (e : Entry). IfSome e.outputs.taken (λ t. TellsUpdate h.happenings start t.event))
+    Each (λ (e : Entry). IfSome e.outputs.taken (λ t. HasUpdateOf h.happenings start t.event))
     h.entries
 
 -- the records of an opening acknowledge no more updates than there are,

@@ -4,11 +4,11 @@
 ghost use Rattle.role_weights.specs.Weights.{RoleWeight};
 ghost use Rattle.cluster_model.specs.Agents.{Agent, Draft, next_of};
 ghost use Rattle.cluster_model.specs.Channels.{AllFit};
-ghost use Rattle.cluster_model.specs.Channels.{At, Channel, Hear, open_world};
+ghost use Rattle.cluster_model.specs.Channels.{At, Channel, Receive, open_world};
 ghost use Rattle.cluster_histories.specs.Clusters.{Cluster, master_of};
 ghost use Rattle.cluster_steps.specs.declared.verdict.Sent.TheVariants.{ToAgent as MailToAgent};
 ghost use Rattle.cluster_model.specs.Calls.{Given, accepts_all, called};
-ghost use Rattle.cluster_model.specs.Mails.{agent_lost, having_heard, hung_up, mailed, ticked};
+ghost use Rattle.cluster_model.specs.Mails.{agent_lost, having_received, hung_up, mailed, ticked};
 ghost use Rattle.cluster_model.specs.Rounds.{allocated, entered};
 ghost use Rattle.cluster_model.specs.Sides.{Side, sends_nothing};
 ghost use Rattle.cluster_model.specs.Masters.{Doing, Framework, Master, after_doing, moved};
@@ -18,11 +18,11 @@ ghost use Rattle.cluster_safe.specs.Acknowledged.{AcknowledgedByOwner};
 ghost use Rattle.cluster_safe.specs.Growth.{OnlyGrow};
 ghost use Rattle.cluster_safe.specs.Honest.{Honest, IsBeginningOf, IsKeyOf, acknowledged_by};
 ghost use Rattle.cluster_safe.specs.Listed.{MoveFrom, MoveWithout};
-ghost use Rattle.cluster_safe.specs.Offered.{IsTold};
+ghost use Rattle.cluster_safe.specs.Offered.{IsSentOffer};
 ghost use Rattle.cluster_safe.specs.Origin.{From, HasOrigin, jobs_of, launched, trail_after};
 ghost use Rattle.cluster_safe.specs.Premises.{MeetsPremises};
 ghost use Rattle.cluster_safe.specs.Saved.{IsFound};
-ghost use Rattle.cluster_safe.specs.Updates.{AcknowledgeTheirs, HandsUpdates, HaveAllUpdates, TellsUpdates, updates_on, updates_after};
+ghost use Rattle.cluster_safe.specs.Updates.{AcknowledgeTheirs, HandsUpdates, HaveAllUpdates, SendsUpdates, updates_on, updates_after};
 ghost use Rattle.cluster_safe.specs.Safe.{NeverLacksRoom};
 ghost use Rattle.mails.specs.declared.call.Call.{Call};
 ghost use Rattle.mails.specs.declared.call.TaskInfo.{TaskInfo};
@@ -88,7 +88,7 @@ pub fn updates_only_grow()
 pub fn updates_have_the_states_of_their_numbers()
     ensures told { (setup : Setup) (records : List Durable) (steps : List Marked) →
         GoodOpening setup.run records →
-        TellsUpdates (open_world setup.run records) (history setup records steps) }
+        SendsUpdates (open_world setup.run records) (history setup records steps) }
     ensures taken { (setup : Setup) (records : List Durable) (steps : List Marked) →
         GoodOpening setup.run records →
         HandsUpdates (open_world setup.run records) (history setup records steps) }
@@ -105,7 +105,7 @@ pub fn records_have_all_updates()
 
 /// All updates of a launch key were in the record of the agent on which the task was launched, or
 /// in whose record it was at the opening.
-pub fn updates_stand_with_their_agent()
+pub fn updates_are_of_their_agent()
     ensures { (setup : Setup) (records : List Durable) (steps : List Marked)
         (agent : List ℕ) (j : Job) → GoodOpening setup.run records
         → From records agent (trail_after setup records steps) j
@@ -141,19 +141,19 @@ pub fn masters_step_alone()
         → (done c (effect_of [] d)).outputs.sent
         ≡ map MailToAgent (moved (master_of c) d.moves).sent }
     // At an agent's mail its side receives it first.
-    ensures hears { (c : Cluster) (agent : List ℕ) (place : ℕ) (x : Channel) (mail : AgentMail)
+    ensures receives { (c : Cluster) (agent : List ℕ) (place : ℕ) (x : Channel) (mail : AgentMail)
         (d : Doing) → channel_of c agent ≡ Some x → slice_get x.to_master place ≡ Some mail
-        → (master_of (done c (effect_of (At agent (Hear place) ∷ []) d)).after
-        ≡ after_doing (having_heard (master_of c) agent mail) d)
-        × ((done c (effect_of (At agent (Hear place) ∷ []) d)).outputs.sent
-        ≡ map MailToAgent (moved (having_heard (master_of c) agent mail) d.moves).sent) }
+        → (master_of (done c (effect_of (At agent (Receive place) ∷ []) d)).after
+        ≡ after_doing (having_received (master_of c) agent mail) d)
+        × ((done c (effect_of (At agent (Receive place) ∷ []) d)).outputs.sent
+        ≡ map MailToAgent (moved (having_received (master_of c) agent mail) d.moves).sent) }
 {}
 
 /// Each offer that enters the current ones in a round is sent in an OFFERS event, on the stream of
 /// its framework, which is subscribed.
-pub fn entered_offers_are_told()
+pub fn entered_offers_are_sent()
     ensures { (weights : List RoleWeight) (m : Master)
-        → Each (IsTold m.registers.frameworks (allocated weights m).events)
+        → Each (IsSentOffer m.registers.frameworks (allocated weights m).events)
         (entered m.sides (moved m (allocated weights m).moves).sides) }
 {}
 

@@ -38,8 +38,8 @@ owning total session = record { durable = durable n_a1 total session 1 []; in_se
 abbrev pub new_agent : Agent
 new_agent = recovered_from (fresh n_a1 (cpus 4))
 
-abbrev pub hears : MasterMail → Cause
-hears mail = Mail (record { agent = n_a1; mail = mail })
+abbrev pub receives : MasterMail → Cause
+receives mail = Mail (record { agent = n_a1; mail = mail })
 
 abbrev pub drafts : Agent → List AgentMail → Result Draft AgentRefusal
 drafts after mails = Ok (record { after = after; mails = mails })

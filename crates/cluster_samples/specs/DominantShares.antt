@@ -10,7 +10,7 @@ use Rattle.cluster_steps.specs.declared.step.Step.TheVariants.{Send, Deliver, Al
 use Rattle.cluster_steps.specs.declared.step.StepCause.TheVariants.{Mail as ByMail}
 use Rattle.cluster_steps.specs.declared.verdict.Verdict.TheVariants.{Ok as Fine}
 use Rattle.cluster_steps.specs.declared.verdict.Sent.TheVariants.{Call as CallSent}
-use Rattle.cluster_samples.specs.Short.{id, row, job, made, wanted, told, to_agent, from_agent, durable, line, ending, Expected}
+use Rattle.cluster_samples.specs.Short.{id, row, job, made, wanted, event_on, to_agent, from_agent, durable, line, ending, Expected}
 use Rattle.mails.specs.declared.call.Call.TheVariants as calls
 
 abbrev pub n_a1 : List ℕ
@@ -75,24 +75,24 @@ expected = record {
       line Fine [] [] (from_agent n_a1 (Report 1 1 [] (row n_cpus 9 ∷ row n_mem 18 ∷ [])) ∷ []) None ∷
       line Fine [] [] [] None ∷
       line Fine [] [] (CallSent ∷ []) None ∷
-      line Fine (told (id 1 1) (Subscribed (id 1 1)) ∷ []) [] [] None ∷
+      line Fine (event_on (id 1 1) (Subscribed (id 1 1)) ∷ []) [] [] None ∷
       line Fine [] [] (CallSent ∷ []) None ∷
-      line Fine (told (id 1 2) (Subscribed (id 1 2)) ∷ []) [] [] None ∷
-      line Fine (told (id 1 1) (Offers (made n_a1 (id 1 1) (id 1 1) (row n_cpus 9 ∷ row n_mem 18 ∷ []) ∷ [])) ∷ []) [] [] None ∷
+      line Fine (event_on (id 1 2) (Subscribed (id 1 2)) ∷ []) [] [] None ∷
+      line Fine (event_on (id 1 1) (Offers (made n_a1 (id 1 1) (id 1 1) (row n_cpus 9 ∷ row n_mem 18 ∷ []) ∷ [])) ∷ []) [] [] None ∷
       line Fine [] [] (CallSent ∷ []) None ∷
       line Fine [] [] (to_agent n_a1 (Issued 1 1 (Launch (job (id 1 1) (id 1 1) n_t1 (row n_cpus 1 ∷ row n_mem 4 ∷ [])) ((id 1 1) ∷ []))) ∷ []) None ∷
-      line Fine (told (id 1 2) (Offers (made n_a1 (id 1 2) (id 1 2) (row n_cpus 8 ∷ row n_mem 14 ∷ []) ∷ [])) ∷ []) [] [] None ∷
+      line Fine (event_on (id 1 2) (Offers (made n_a1 (id 1 2) (id 1 2) (row n_cpus 8 ∷ row n_mem 14 ∷ []) ∷ [])) ∷ []) [] [] None ∷
       line Fine [] [] (CallSent ∷ []) None ∷
       line Fine [] [] (to_agent n_a1 (Issued 1 2 (Launch (job (id 1 2) (id 1 2) n_t2 (row n_cpus 3 ∷ row n_mem 1 ∷ [])) ((id 1 2) ∷ []))) ∷ []) None ∷
-      line Fine (told (id 1 1) (Offers (made n_a1 (id 1 3) (id 1 1) (row n_cpus 5 ∷ row n_mem 13 ∷ []) ∷ [])) ∷ []) [] [] None ∷
+      line Fine (event_on (id 1 1) (Offers (made n_a1 (id 1 3) (id 1 1) (row n_cpus 5 ∷ row n_mem 13 ∷ []) ∷ [])) ∷ []) [] [] None ∷
       line Fine [] [] (CallSent ∷ []) None ∷
       line Fine [] [] (to_agent n_a1 (Issued 1 3 (Launch (job (id 1 3) (id 1 1) n_t3 (row n_cpus 1 ∷ row n_mem 4 ∷ [])) ((id 1 3) ∷ []))) ∷ []) None ∷
-      line Fine (told (id 1 2) (Offers (made n_a1 (id 1 4) (id 1 2) (row n_cpus 4 ∷ row n_mem 9 ∷ []) ∷ [])) ∷ []) [] [] None ∷
+      line Fine (event_on (id 1 2) (Offers (made n_a1 (id 1 4) (id 1 2) (row n_cpus 4 ∷ row n_mem 9 ∷ []) ∷ [])) ∷ []) [] [] None ∷
       line Fine [] [] (CallSent ∷ []) None ∷
       line Fine [] [] (to_agent n_a1 (Issued 1 4 (Launch (job (id 1 4) (id 1 2) n_t4 (row n_cpus 3 ∷ row n_mem 1 ∷ [])) ((id 1 4) ∷ []))) ∷ []) None ∷
-      line Fine (told (id 1 1) (Offers (made n_a1 (id 1 5) (id 1 1) (row n_cpus 1 ∷ row n_mem 8 ∷ []) ∷ [])) ∷ []) [] [] None ∷
+      line Fine (event_on (id 1 1) (Offers (made n_a1 (id 1 5) (id 1 1) (row n_cpus 1 ∷ row n_mem 8 ∷ []) ∷ [])) ∷ []) [] [] None ∷
       line Fine [] [] (CallSent ∷ []) None ∷
       line Fine [] [] (to_agent n_a1 (Issued 1 5 (Launch (job (id 1 5) (id 1 1) n_t5 (row n_cpus 1 ∷ row n_mem 4 ∷ [])) ((id 1 5) ∷ []))) ∷ []) None ∷
-      line Fine (told (id 1 1) (Offers (made n_a1 (id 1 6) (id 1 1) (row n_mem 4 ∷ []) ∷ [])) ∷ []) [] [] None ∷ [];
+      line Fine (event_on (id 1 1) (Offers (made n_a1 (id 1 6) (id 1 1) (row n_mem 4 ∷ []) ∷ [])) ∷ []) [] [] None ∷ [];
   ends = ending n_a1 (row n_mem 4 ∷ []) [] ∷ [];
 }

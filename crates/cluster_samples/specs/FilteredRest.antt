@@ -11,7 +11,7 @@ use Rattle.cluster_steps.specs.declared.step.Step.TheVariants.{Send, Deliver, Al
 use Rattle.cluster_steps.specs.declared.step.StepCause.TheVariants.{Executor as ByExecutor, Mail as ByMail}
 use Rattle.cluster_steps.specs.declared.verdict.Verdict.TheVariants.{Ok as Fine}
 use Rattle.cluster_steps.specs.declared.verdict.Sent.TheVariants.{Call as CallSent}
-use Rattle.cluster_samples.specs.Short.{id, row, job, made, wanted, uuid, told, to_agent, from_agent, task, durable, line, ending, Expected}
+use Rattle.cluster_samples.specs.Short.{id, row, job, made, wanted, uuid, event_on, to_agent, from_agent, task, durable, line, ending, Expected}
 use Rattle.mails.specs.declared.call.Call.TheVariants as calls
 
 abbrev pub n_a1 : List ℕ
@@ -57,8 +57,8 @@ expected = record {
       line Fine [] [] (from_agent n_a1 (Report 1 1 [] (row n_cpus 4 ∷ row n_mem 4096 ∷ [])) ∷ []) None ∷
       line Fine [] [] [] None ∷
       line Fine [] [] (CallSent ∷ []) None ∷
-      line Fine (told (id 1 1) (Subscribed (id 1 1)) ∷ []) [] [] None ∷
-      line Fine (told (id 1 1) (Offers (made n_a1 (id 1 1) (id 1 1) (row n_cpus 4 ∷ row n_mem 4096 ∷ []) ∷ [])) ∷ []) [] [] None ∷
+      line Fine (event_on (id 1 1) (Subscribed (id 1 1)) ∷ []) [] [] None ∷
+      line Fine (event_on (id 1 1) (Offers (made n_a1 (id 1 1) (id 1 1) (row n_cpus 4 ∷ row n_mem 4096 ∷ []) ∷ [])) ∷ []) [] [] None ∷
       line Fine [] [] (CallSent ∷ []) None ∷
       line Fine [] [] (to_agent n_a1 (Issued 1 1 (Launch (job (id 1 1) (id 1 1) n_t1 (row n_cpus 3 ∷ row n_mem 3072 ∷ [])) ((id 1 1) ∷ []))) ∷ []) None ∷
       line Fine [] [] [] None ∷
@@ -67,7 +67,7 @@ expected = record {
       line Fine [] [] [] None ∷
       line Fine [] [] [] None ∷
       line Fine [] [] (from_agent n_a1 (Update 1 (id 1 1) 0 Finished true) ∷ []) None ∷
-      line Fine (told (id 1 1) (update_event n_t1 Finished (Some n_a1) (Some (uuid (id 1 1) 0))) ∷ []) [] [] None ∷
-      line Fine (told (id 1 1) (Offers (made n_a1 (id 1 2) (id 1 1) (row n_cpus 4 ∷ row n_mem 4096 ∷ []) ∷ [])) ∷ []) [] [] None ∷ [];
+      line Fine (event_on (id 1 1) (update_event n_t1 Finished (Some n_a1) (Some (uuid (id 1 1) 0))) ∷ []) [] [] None ∷
+      line Fine (event_on (id 1 1) (Offers (made n_a1 (id 1 2) (id 1 1) (row n_cpus 4 ∷ row n_mem 4096 ∷ []) ∷ [])) ∷ []) [] [] None ∷ [];
   ends = ending n_a1 (row n_cpus 4 ∷ row n_mem 4096 ∷ []) (task (job (id 1 1) (id 1 1) n_t1 (row n_cpus 3 ∷ row n_mem 3072 ∷ [])) ((id 1 1) ∷ []) (Finished ∷ []) 0 ∷ []) ∷ [];
 }

@@ -10,7 +10,7 @@ use Rattle.cluster_steps.specs.declared.step.StepCause.TheVariants.{Mail as ByMa
 use Rattle.cluster_steps.specs.declared.fault.ClusterFault.TheVariants.{TimeBack}
 use Rattle.cluster_steps.specs.declared.verdict.Verdict.TheVariants.{Ok as Fine}
 use Rattle.cluster_steps.specs.declared.verdict.Sent.TheVariants.{Call as CallSent}
-use Rattle.cluster_samples.specs.Short.{id, row, told, to_agent, from_agent, durable, line, Refused, ending, Expected}
+use Rattle.cluster_samples.specs.Short.{id, row, event_on, to_agent, from_agent, durable, line, Refused, ending, Expected}
 use Rattle.mails.specs.declared.call.Call.TheVariants as calls
 
 abbrev pub n_a1 : List ℕ
@@ -46,9 +46,9 @@ expected = record {
       line Fine [] [] (from_agent n_a1 (Report 1 1 [] (row n_cpus 4 ∷ row n_mem 4096 ∷ [])) ∷ []) None ∷
       line Fine [] [] [] None ∷
       line Fine [] [] (CallSent ∷ []) None ∷
-      line Fine (told (id 1 1) (Subscribed (id 1 1)) ∷ []) [] [] None ∷
+      line Fine (event_on (id 1 1) (Subscribed (id 1 1)) ∷ []) [] [] None ∷
       line Fine [] [] [] None ∷
-      line Fine (told (id 1 1) Heartbeat ∷ []) [] [] None ∷
+      line Fine (event_on (id 1 1) Heartbeat ∷ []) [] [] None ∷
       line Fine [] [] [] None ∷
       Refused TimeBack ∷ [];
   ends = ending n_a1 [] [] ∷ [];

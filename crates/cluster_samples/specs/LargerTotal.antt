@@ -10,7 +10,7 @@ use Rattle.cluster_steps.specs.declared.step.Step.TheVariants.{Send, Deliver, Al
 use Rattle.cluster_steps.specs.declared.step.StepCause.TheVariants.{Start as ByStart, Mail as ByMail}
 use Rattle.cluster_steps.specs.declared.verdict.Verdict.TheVariants.{Ok as Fine, MasterRefused}
 use Rattle.cluster_steps.specs.declared.verdict.Sent.TheVariants.{Call as CallSent}
-use Rattle.cluster_samples.specs.Short.{id, row, made, told, to_agent, from_agent, durable, line, ending, Expected}
+use Rattle.cluster_samples.specs.Short.{id, row, made, event_on, to_agent, from_agent, durable, line, ending, Expected}
 use Rattle.mails.specs.declared.call.Call.TheVariants as calls
 use Rattle.mails.specs.declared.refusal.MasterRefusal.TheVariants as masters
 
@@ -57,14 +57,14 @@ expected = record {
       line Fine [] [] (from_agent n_a1 (Report 1 1 [] less) ∷ []) None ∷
       line Fine [] [] [] None ∷
       line Fine [] [] (CallSent ∷ []) None ∷
-      line Fine (told (id 1 1) (Subscribed (id 1 1)) ∷ []) [] [] None ∷
-      line Fine (told (id 1 1) (Offers (made n_a1 (id 1 1) (id 1 1) less ∷ [])) ∷ []) [] [] None ∷
+      line Fine (event_on (id 1 1) (Subscribed (id 1 1)) ∷ []) [] [] None ∷
+      line Fine (event_on (id 1 1) (Offers (made n_a1 (id 1 1) (id 1 1) less ∷ [])) ∷ []) [] [] None ∷
       line Fine [] [] [] None ∷
       line Fine [] [] [] None ∷
       line Fine [] [] (from_agent n_a1 (Report 2 1 [] more) ∷ []) None ∷
       line Fine [] [] [] None ∷
-      line Fine (told (id 1 1) (Rescind (id 1 1)) ∷ []) [] [] None ∷
-      line Fine (told (id 1 1) (Offers (made n_a1 (id 1 2) (id 1 1) more ∷ [])) ∷ []) [] [] None ∷
+      line Fine (event_on (id 1 1) (Rescind (id 1 1)) ∷ []) [] [] None ∷
+      line Fine (event_on (id 1 1) (Offers (made n_a1 (id 1 2) (id 1 1) more ∷ [])) ∷ []) [] [] None ∷
       line (MasterRefused masters.OldSession) [] [] (to_agent n_a1 (Hello 1 1) ∷ []) None ∷ [];
   ends = ending n_a1 more [] ∷ [];
 }

@@ -12,7 +12,7 @@ use Rattle.cluster_steps.specs.declared.step.StepCause.TheVariants.{Start as ByS
 use Rattle.cluster_steps.specs.declared.fault.ClusterFault.TheVariants.{NoDraft}
 use Rattle.cluster_steps.specs.declared.verdict.Verdict.TheVariants.{Ok as Fine, MasterRefused, AgentRefused}
 use Rattle.cluster_steps.specs.declared.verdict.Sent.TheVariants.{Call as CallSent}
-use Rattle.cluster_samples.specs.Short.{id, row, job, booked, made, wanted, asked, uuid, told, to_agent, from_agent, task, durable, line, Refused, ending, Expected}
+use Rattle.cluster_samples.specs.Short.{id, row, job, booked, made, wanted, asked, uuid, event_on, to_agent, from_agent, task, durable, line, Refused, ending, Expected}
 use Rattle.mails.specs.declared.call.Call.TheVariants as calls
 use Rattle.mails.specs.declared.refusal.AgentRefusal.TheVariants as refusals
 use Rattle.mails.specs.declared.refusal.MasterRefusal.TheVariants as masters
@@ -125,14 +125,14 @@ expected = record {
       line Fine [] [] (from_agent n_a1 (Report 1 1 [] (row n_cpus 4 ∷ [])) ∷ []) None ∷
       line Fine [] [] [] None ∷
       line Fine [] [] (CallSent ∷ []) None ∷
-      line Fine (told (id 1 1) (Subscribed (id 1 1)) ∷ []) [] [] None ∷
+      line Fine (event_on (id 1 1) (Subscribed (id 1 1)) ∷ []) [] [] None ∷
       line Fine [] [] (CallSent ∷ []) None ∷
-      line Fine (told (id 1 2) (Subscribed (id 1 2)) ∷ []) [] [] None ∷
+      line Fine (event_on (id 1 2) (Subscribed (id 1 2)) ∷ []) [] [] None ∷
       line Fine [] [] (CallSent ∷ []) None ∷
       line (MasterRefused masters.NoSuchFramework) [] [] [] None ∷
-      line Fine (told (id 1 2) (Offers (made n_a1 (id 1 1) (id 1 2) (row n_cpus 4 ∷ []) ∷ [])) ∷ []) [] [] None ∷
+      line Fine (event_on (id 1 2) (Offers (made n_a1 (id 1 1) (id 1 2) (row n_cpus 4 ∷ []) ∷ [])) ∷ []) [] [] None ∷
       line Fine [] [] (CallSent ∷ []) None ∷
-      line Fine (told (id 1 2) (update_event n_t1 Staging (Some n_a1) None) ∷ told (id 1 2) (update_event n_t2 Error (Some n_a1) None) ∷ told (id 1 2) (update_event n_t3 Error (Some n_a1) None) ∷ []) [] (to_agent n_a1 (Issued 1 1 (Launch (job (id 1 1) (id 1 2) n_t1 (row n_cpus 1 ∷ [])) ((id 1 1) ∷ []))) ∷ to_agent n_a1 (Issued 1 2 (Launch (job (id 1 2) (id 1 2) n_t4 (row n_cpus 2 ∷ [])) ((id 1 1) ∷ []))) ∷ []) None ∷
+      line Fine (event_on (id 1 2) (update_event n_t1 Staging (Some n_a1) None) ∷ event_on (id 1 2) (update_event n_t2 Error (Some n_a1) None) ∷ event_on (id 1 2) (update_event n_t3 Error (Some n_a1) None) ∷ []) [] (to_agent n_a1 (Issued 1 1 (Launch (job (id 1 1) (id 1 2) n_t1 (row n_cpus 1 ∷ [])) ((id 1 1) ∷ []))) ∷ to_agent n_a1 (Issued 1 2 (Launch (job (id 1 2) (id 1 2) n_t4 (row n_cpus 2 ∷ [])) ((id 1 1) ∷ []))) ∷ []) None ∷
       line (AgentRefused refusals.NotNext) [] [] [] None ∷
       Refused NoDraft ∷
       line Fine [] [] [] None ∷
@@ -145,13 +145,13 @@ expected = record {
       Refused NoDraft ∷
       line Fine [] [] [] None ∷
       line Fine [] [] (from_agent n_a1 (Update 1 (id 1 1) 0 Failed true) ∷ []) None ∷
-      line Fine (told (id 1 2) (update_event n_t1 Failed (Some n_a1) (Some (uuid (id 1 1) 0))) ∷ []) [] [] None ∷
+      line Fine (event_on (id 1 2) (update_event n_t1 Failed (Some n_a1) (Some (uuid (id 1 1) 0))) ∷ []) [] [] None ∷
       line (AgentRefused refusals.Ended) [] [] [] None ∷
       Refused NoDraft ∷
       line Fine [] [] (CallSent ∷ []) None ∷
-      line Fine (told (id 1 2) (update_event n_t1 Failed (Some n_a1) None) ∷ []) [] [] None ∷
+      line Fine (event_on (id 1 2) (update_event n_t1 Failed (Some n_a1) None) ∷ []) [] [] None ∷
       line Fine [] [] (CallSent ∷ []) None ∷
-      line Fine (told (id 1 2) (update_event n_t1 Failed (Some n_a1) None) ∷ told (id 1 2) (update_event n_t4 Staging (Some n_a1) None) ∷ told (id 1 2) (update_event n_x Lost (Some n_a1) None) ∷ []) [] [] None ∷
+      line Fine (event_on (id 1 2) (update_event n_t1 Failed (Some n_a1) None) ∷ event_on (id 1 2) (update_event n_t4 Staging (Some n_a1) None) ∷ event_on (id 1 2) (update_event n_x Lost (Some n_a1) None) ∷ []) [] [] None ∷
       line Fine [] [] (CallSent ∷ []) None ∷
       line (MasterRefused masters.WrongStream) [] [] [] None ∷
       line Fine [] [] (CallSent ∷ []) None ∷
@@ -160,15 +160,15 @@ expected = record {
       line Fine [] [] (CallSent ∷ []) None ∷
       line (MasterRefused masters.NotSubscribed) [] [] [] None ∷
       line Fine [] [] (CallSent ∷ []) None ∷
-      line Fine (told (id 1 2) failover_error ∷ told (id 1 3) (Subscribed (id 1 2)) ∷ []) ((id 1 2) ∷ []) [] None ∷
-      line Fine (told (id 1 3) Heartbeat ∷ []) [] (to_agent n_a1 (Issued 1 1 (Launch (job (id 1 1) (id 1 2) n_t1 (row n_cpus 1 ∷ [])) ((id 1 1) ∷ []))) ∷ to_agent n_a2 (Hello 1 0) ∷ []) None ∷
-      line Fine (told (id 1 3) (Offers (made n_a1 (id 1 2) (id 1 2) (row n_cpus 2 ∷ []) ∷ [])) ∷ []) [] [] None ∷
+      line Fine (event_on (id 1 2) failover_error ∷ event_on (id 1 3) (Subscribed (id 1 2)) ∷ []) ((id 1 2) ∷ []) [] None ∷
+      line Fine (event_on (id 1 3) Heartbeat ∷ []) [] (to_agent n_a1 (Issued 1 1 (Launch (job (id 1 1) (id 1 2) n_t1 (row n_cpus 1 ∷ [])) ((id 1 1) ∷ []))) ∷ to_agent n_a2 (Hello 1 0) ∷ []) None ∷
+      line Fine (event_on (id 1 3) (Offers (made n_a1 (id 1 2) (id 1 2) (row n_cpus 2 ∷ []) ∷ [])) ∷ []) [] [] None ∷
       line Fine [] [] (CallSent ∷ []) None ∷
       line Fine [] ((id 1 3) ∷ []) (to_agent n_a1 (Issued 1 3 (EndFramework (id 1 2))) ∷ []) None ∷
       line Fine [] [] (CallSent ∷ []) None ∷
       line (MasterRefused masters.NoSuchFramework) [] [] [] None ∷
       line Fine [] [] (CallSent ∷ []) None ∷
-      line Fine (told (id 1 4) removal_error ∷ []) ((id 1 4) ∷ []) [] None ∷
+      line Fine (event_on (id 1 4) removal_error ∷ []) ((id 1 4) ∷ []) [] None ∷
       line (AgentRefused refusals.NotForMe) [] [] [] None ∷
       Refused NoDraft ∷
       line Fine [] [] [] None ∷
@@ -177,7 +177,7 @@ expected = record {
       line Fine [] [] [] None ∷
       line Fine [] [] (from_agent n_a1 (Report 2 1 (booked (job (id 1 1) (id 1 2) n_t1 (row n_cpus 1 ∷ [])) true 1 Failed ∷ booked (job (id 1 2) (id 1 2) n_t4 (row n_cpus 2 ∷ [])) false 0 Staging ∷ []) (row n_cpus 4 ∷ [])) ∷ from_agent n_a1 (Update 2 (id 1 1) 0 Failed true) ∷ []) None ∷
       line Fine [] [] (to_agent n_a1 (Issued 2 1 (EndFramework (id 1 2))) ∷ []) None ∷
-      line Fine [] [] [] (Some (told (id 1 3) (Subscribed (id 1 2)))) ∷ [];
+      line Fine [] [] [] (Some (event_on (id 1 3) (Subscribed (id 1 2)))) ∷ [];
   ends = ending n_a1 [] (task (job (id 1 1) (id 1 2) n_t1 (row n_cpus 1 ∷ [])) ((id 1 1) ∷ []) (Failed ∷ []) 0 ∷ task (job (id 1 2) (id 1 2) n_t4 (row n_cpus 2 ∷ [])) ((id 1 1) ∷ []) [] 0 ∷ []) ∷
       ending n_a2 [] [] ∷ [];
 }

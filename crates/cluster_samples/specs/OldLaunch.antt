@@ -10,7 +10,7 @@ use Rattle.cluster_steps.specs.declared.step.Step.TheVariants.{Send, Deliver, Al
 use Rattle.cluster_steps.specs.declared.step.StepCause.TheVariants.{Mail as ByMail}
 use Rattle.cluster_steps.specs.declared.verdict.Verdict.TheVariants.{Ok as Fine, AgentRefused}
 use Rattle.cluster_steps.specs.declared.verdict.Sent.TheVariants.{Call as CallSent}
-use Rattle.cluster_samples.specs.Short.{id, row, job, made, wanted, told, to_agent, from_agent, durable, line, ending, Expected}
+use Rattle.cluster_samples.specs.Short.{id, row, job, made, wanted, event_on, to_agent, from_agent, durable, line, ending, Expected}
 use Rattle.mails.specs.declared.call.Call.TheVariants as calls
 use Rattle.mails.specs.declared.refusal.AgentRefusal.TheVariants as refusals
 
@@ -57,8 +57,8 @@ expected = record {
       line Fine [] [] (from_agent n_a1 (Report 1 1 [] (row n_cpus 4 ∷ row n_mem 4096 ∷ [])) ∷ []) None ∷
       line Fine [] [] [] None ∷
       line Fine [] [] (CallSent ∷ []) None ∷
-      line Fine (told (id 1 1) (Subscribed (id 1 1)) ∷ []) [] [] None ∷
-      line Fine (told (id 1 1) (Offers (made n_a1 (id 1 1) (id 1 1) (row n_cpus 4 ∷ row n_mem 4096 ∷ []) ∷ [])) ∷ []) [] [] None ∷
+      line Fine (event_on (id 1 1) (Subscribed (id 1 1)) ∷ []) [] [] None ∷
+      line Fine (event_on (id 1 1) (Offers (made n_a1 (id 1 1) (id 1 1) (row n_cpus 4 ∷ row n_mem 4096 ∷ []) ∷ [])) ∷ []) [] [] None ∷
       line Fine [] [] (CallSent ∷ []) None ∷
       line Fine [] [] (to_agent n_a1 (Issued 1 1 (Launch (job (id 1 1) (id 1 1) n_t1 (row n_cpus 2 ∷ row n_mem 1024 ∷ [])) ((id 1 1) ∷ []))) ∷ []) None ∷
       line Fine [] [] (to_agent n_a1 (Hello 2 0) ∷ []) None ∷
@@ -66,8 +66,8 @@ expected = record {
       line Fine [] [] (from_agent n_a1 (Report 2 2 [] (row n_cpus 4 ∷ row n_mem 4096 ∷ [])) ∷ []) None ∷
       line Fine [] [] [] None ∷
       line Fine [] [] (CallSent ∷ []) None ∷
-      line Fine (told (id 2 1) (Subscribed (id 1 1)) ∷ []) [] [] None ∷
-      line Fine (told (id 2 1) (Offers (made n_a1 (id 2 1) (id 1 1) (row n_cpus 4 ∷ row n_mem 4096 ∷ []) ∷ [])) ∷ []) [] [] None ∷
+      line Fine (event_on (id 2 1) (Subscribed (id 1 1)) ∷ []) [] [] None ∷
+      line Fine (event_on (id 2 1) (Offers (made n_a1 (id 2 1) (id 1 1) (row n_cpus 4 ∷ row n_mem 4096 ∷ []) ∷ [])) ∷ []) [] [] None ∷
       line (AgentRefused refusals.OldSession) [] [] [] None ∷ [];
   ends = ending n_a1 (row n_cpus 4 ∷ row n_mem 4096 ∷ []) [] ∷ [];
 }

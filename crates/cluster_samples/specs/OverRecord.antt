@@ -10,7 +10,7 @@ use Rattle.cluster_steps.specs.declared.step.Step.TheVariants.{Send, Deliver, Al
 use Rattle.cluster_steps.specs.declared.step.StepCause.TheVariants.{Mail as ByMail}
 use Rattle.cluster_steps.specs.declared.verdict.Verdict.TheVariants.{Ok as Fine}
 use Rattle.cluster_steps.specs.declared.verdict.Sent.TheVariants.{Call as CallSent}
-use Rattle.cluster_samples.specs.Short.{id, row, job, booked, made, told, to_agent, from_agent, task, durable, line, ending, Expected}
+use Rattle.cluster_samples.specs.Short.{id, row, job, booked, made, event_on, to_agent, from_agent, task, durable, line, ending, Expected}
 use Rattle.mails.specs.declared.call.Call.TheVariants as calls
 
 abbrev pub n_a1 : List ℕ
@@ -46,7 +46,7 @@ expected = record {
       line Fine [] [] (from_agent n_a1 (Report 2 2 (booked (job (id 1 1) (id 1 1) n_t1 (row n_cpus 2 ∷ row n_mem 1024 ∷ [])) false 0 Staging ∷ []) (row n_cpus 4 ∷ row n_mem 4096 ∷ [])) ∷ []) None ∷
       line Fine [] [] [] None ∷
       line Fine [] [] (CallSent ∷ []) None ∷
-      line Fine (told (id 2 1) (Subscribed (id 2 1)) ∷ []) [] [] None ∷
-      line Fine (told (id 2 1) (Offers (made n_a1 (id 2 1) (id 2 1) (row n_cpus 2 ∷ row n_mem 3072 ∷ []) ∷ [])) ∷ []) [] [] None ∷ [];
+      line Fine (event_on (id 2 1) (Subscribed (id 2 1)) ∷ []) [] [] None ∷
+      line Fine (event_on (id 2 1) (Offers (made n_a1 (id 2 1) (id 2 1) (row n_cpus 2 ∷ row n_mem 3072 ∷ []) ∷ [])) ∷ []) [] [] None ∷ [];
   ends = ending n_a1 (row n_cpus 2 ∷ row n_mem 3072 ∷ []) (task (job (id 1 1) (id 1 1) n_t1 (row n_cpus 2 ∷ row n_mem 1024 ∷ [])) ((id 1 1) ∷ []) [] 0 ∷ []) ∷ [];
 }

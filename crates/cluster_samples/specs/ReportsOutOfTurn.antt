@@ -11,7 +11,7 @@ use Rattle.cluster_steps.specs.declared.step.Step.TheVariants.{Send, Deliver, Al
 use Rattle.cluster_steps.specs.declared.step.StepCause.TheVariants.{Start as ByStart, Executor as ByExecutor, Mail as ByMail}
 use Rattle.cluster_steps.specs.declared.verdict.Verdict.TheVariants.{Ok as Fine, MasterRefused}
 use Rattle.cluster_steps.specs.declared.verdict.Sent.TheVariants.{Call as CallSent}
-use Rattle.cluster_samples.specs.Short.{id, row, job, booked, made, wanted, told, to_agent, from_agent, task, durable, line, ending, Expected}
+use Rattle.cluster_samples.specs.Short.{id, row, job, booked, made, wanted, event_on, to_agent, from_agent, task, durable, line, ending, Expected}
 use Rattle.mails.specs.declared.call.Call.TheVariants as calls
 use Rattle.mails.specs.declared.refusal.MasterRefusal.TheVariants as masters
 
@@ -76,8 +76,8 @@ expected = record {
       line Fine [] [] [] None ∷
       line (MasterRefused masters.OldSession) [] [] (to_agent n_a1 (Hello 1 1) ∷ []) None ∷
       line Fine [] [] (CallSent ∷ []) None ∷
-      line Fine (told (id 1 1) (Subscribed (id 1 1)) ∷ []) [] [] None ∷
-      line Fine (told (id 1 1) (Offers (made n_a1 (id 1 1) (id 1 1) (row n_cpus 4 ∷ row n_mem 4096 ∷ []) ∷ [])) ∷ []) [] [] None ∷
+      line Fine (event_on (id 1 1) (Subscribed (id 1 1)) ∷ []) [] [] None ∷
+      line Fine (event_on (id 1 1) (Offers (made n_a1 (id 1 1) (id 1 1) (row n_cpus 4 ∷ row n_mem 4096 ∷ []) ∷ [])) ∷ []) [] [] None ∷
       line Fine [] [] (CallSent ∷ []) None ∷
       line Fine [] [] (to_agent n_a1 (Issued 3 1 (Launch (job (id 1 1) (id 1 1) n_t1 (row n_cpus 1 ∷ [])) ((id 1 1) ∷ []))) ∷ []) None ∷
       line Fine [] [] [] None ∷

@@ -36,7 +36,7 @@ abbrev pub job : Numbered → Numbered → List ℕ → List Row → Job
 job key framework name resources = record { key = key; framework = framework; name = name; resources = resources }
 
 abbrev pub booked : Job → Bool → ℕ → TaskState → Booked
-booked job ended heard state = record { job = job; ended = ended; heard = heard; state = state }
+booked job ended received state = record { job = job; ended = ended; received = received; state = state }
 
 abbrev pub made : List ℕ → Numbered → Numbered → List Row → Offer
 made agent id framework resources = record { id = id; framework = framework; agent = agent; resources = resources }
@@ -50,8 +50,8 @@ asked name agent = record { name = name; agent = agent }
 abbrev pub uuid : Numbered → ℕ → Update
 uuid key k = record { key = key; k = k }
 
-abbrev pub told : Numbered → Event → StreamEvent
-told stream event = record { stream = stream; event = event }
+abbrev pub event_on : Numbered → Event → StreamEvent
+event_on stream event = record { stream = stream; event = event }
 
 abbrev pub to_agent : List ℕ → MasterMail → Sent
 to_agent agent mail = MailToAgent (record { agent = agent; mail = mail })

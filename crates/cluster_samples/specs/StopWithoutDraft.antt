@@ -12,7 +12,7 @@ use Rattle.cluster_steps.specs.declared.step.Keep.TheVariants.{Before}
 use Rattle.cluster_steps.specs.declared.step.StepCause.TheVariants.{Start as ByStart, Mail as ByMail}
 use Rattle.cluster_steps.specs.declared.verdict.Verdict.TheVariants.{Ok as Fine}
 use Rattle.cluster_steps.specs.declared.verdict.Sent.TheVariants.{Call as CallSent}
-use Rattle.cluster_samples.specs.Short.{id, row, job, made, wanted, told, to_agent, from_agent, durable, line, ending, Expected}
+use Rattle.cluster_samples.specs.Short.{id, row, job, made, wanted, event_on, to_agent, from_agent, durable, line, ending, Expected}
 use Rattle.mails.specs.declared.call.Call.TheVariants as calls
 
 abbrev pub n_a1 : List ℕ
@@ -56,15 +56,15 @@ expected = record {
       line Fine [] [] (from_agent n_a1 (Report 1 1 [] (row n_cpus 4 ∷ row n_mem 4096 ∷ [])) ∷ []) None ∷
       line Fine [] [] [] None ∷
       line Fine [] [] (CallSent ∷ []) None ∷
-      line Fine (told (id 1 1) (Subscribed (id 1 1)) ∷ []) [] [] None ∷
-      line Fine (told (id 1 1) (Offers (made n_a1 (id 1 1) (id 1 1) (row n_cpus 4 ∷ row n_mem 4096 ∷ []) ∷ [])) ∷ []) [] [] None ∷
+      line Fine (event_on (id 1 1) (Subscribed (id 1 1)) ∷ []) [] [] None ∷
+      line Fine (event_on (id 1 1) (Offers (made n_a1 (id 1 1) (id 1 1) (row n_cpus 4 ∷ row n_mem 4096 ∷ []) ∷ [])) ∷ []) [] [] None ∷
       line Fine [] [] (CallSent ∷ []) None ∷
       line Fine [] [] (to_agent n_a1 (Issued 1 1 (Launch (job (id 1 1) (id 1 1) n_t1 (row n_cpus 2 ∷ row n_mem 1024 ∷ [])) ((id 1 1) ∷ []))) ∷ []) None ∷
-      line Fine (told (id 1 1) (Offers (made n_a1 (id 1 2) (id 1 1) (row n_cpus 2 ∷ row n_mem 3072 ∷ []) ∷ [])) ∷ []) [] [] None ∷
+      line Fine (event_on (id 1 1) (Offers (made n_a1 (id 1 2) (id 1 1) (row n_cpus 2 ∷ row n_mem 3072 ∷ []) ∷ [])) ∷ []) [] [] None ∷
       line Fine [] [] [] None ∷
       line Fine [] [] [] None ∷
       line Fine [] [] [] None ∷
       line Fine [] [] (from_agent n_a1 (Report 2 1 [] (row n_cpus 4 ∷ row n_mem 4096 ∷ [])) ∷ []) None ∷
-      line Fine (told (id 1 1) (Rescind (id 1 2)) ∷ told (id 1 1) (update_event n_t1 Lost (Some n_a1) None) ∷ []) [] [] None ∷ [];
+      line Fine (event_on (id 1 1) (Rescind (id 1 2)) ∷ event_on (id 1 1) (update_event n_t1 Lost (Some n_a1) None) ∷ []) [] [] None ∷ [];
   ends = ending n_a1 [] [] ∷ [];
 }

@@ -10,7 +10,7 @@ use Rattle.cluster_steps.specs.declared.step.StepCause.TheVariants.{Mail as ByMa
 use Rattle.cluster_steps.specs.declared.fault.ClusterFault.TheVariants.{NoSuchMail}
 use Rattle.cluster_steps.specs.declared.verdict.Verdict.TheVariants.{Ok as Fine}
 use Rattle.cluster_steps.specs.declared.verdict.Sent.TheVariants.{Call as CallSent}
-use Rattle.cluster_samples.specs.Short.{id, row, made, told, to_agent, from_agent, durable, line, Refused, ending, Expected}
+use Rattle.cluster_samples.specs.Short.{id, row, made, event_on, to_agent, from_agent, durable, line, Refused, ending, Expected}
 use Rattle.mails.specs.declared.call.Call.TheVariants as calls
 
 abbrev pub n_a1 : List ℕ
@@ -46,10 +46,10 @@ expected = record {
       line Fine [] [] (from_agent n_a1 (Report 1 1 [] (row n_cpus 4 ∷ row n_mem 4096 ∷ [])) ∷ []) None ∷
       line Fine [] [] [] None ∷
       line Fine [] [] (CallSent ∷ []) None ∷
-      line Fine (told (id 1 1) (Subscribed (id 1 1)) ∷ []) [] [] None ∷
-      line Fine (told (id 1 1) (Offers (made n_a1 (id 1 1) (id 1 1) (row n_cpus 4 ∷ row n_mem 4096 ∷ []) ∷ [])) ∷ []) [] [] None ∷
-      line Fine [] [] [] (Some (told (id 1 1) (Subscribed (id 1 1)))) ∷
-      line Fine [] [] [] (Some (told (id 1 1) (Offers (made n_a1 (id 1 1) (id 1 1) (row n_cpus 4 ∷ row n_mem 4096 ∷ []) ∷ [])))) ∷
+      line Fine (event_on (id 1 1) (Subscribed (id 1 1)) ∷ []) [] [] None ∷
+      line Fine (event_on (id 1 1) (Offers (made n_a1 (id 1 1) (id 1 1) (row n_cpus 4 ∷ row n_mem 4096 ∷ []) ∷ [])) ∷ []) [] [] None ∷
+      line Fine [] [] [] (Some (event_on (id 1 1) (Subscribed (id 1 1)))) ∷
+      line Fine [] [] [] (Some (event_on (id 1 1) (Offers (made n_a1 (id 1 1) (id 1 1) (row n_cpus 4 ∷ row n_mem 4096 ∷ []) ∷ [])))) ∷
       Refused NoSuchMail ∷ [];
   ends = ending n_a1 (row n_cpus 4 ∷ row n_mem 4096 ∷ []) [] ∷ [];
 }

@@ -11,7 +11,7 @@ use Rattle.cluster_steps.specs.declared.step.Keep.TheVariants.{After}
 use Rattle.cluster_steps.specs.declared.step.StepCause.TheVariants.{Start as ByStart, Mail as ByMail}
 use Rattle.cluster_steps.specs.declared.verdict.Verdict.TheVariants.{Ok as Fine}
 use Rattle.cluster_steps.specs.declared.verdict.Sent.TheVariants.{Call as CallSent}
-use Rattle.cluster_samples.specs.Short.{id, row, made, told, to_agent, from_agent, durable, line, ending, Expected}
+use Rattle.cluster_samples.specs.Short.{id, row, made, event_on, to_agent, from_agent, durable, line, ending, Expected}
 use Rattle.mails.specs.declared.call.Call.TheVariants as calls
 
 abbrev pub n_a1 : List ℕ
@@ -55,8 +55,8 @@ expected = record {
       line Fine [] [] (from_agent n_a1 (Report 1 1 [] less) ∷ []) None ∷
       line Fine [] [] [] None ∷
       line Fine [] [] (CallSent ∷ []) None ∷
-      line Fine (told (id 1 1) (Subscribed (id 1 1)) ∷ []) [] [] None ∷
-      line Fine (told (id 1 1) (Offers (made n_a1 (id 1 1) (id 1 1) less ∷ [])) ∷ []) [] [] None ∷
+      line Fine (event_on (id 1 1) (Subscribed (id 1 1)) ∷ []) [] [] None ∷
+      line Fine (event_on (id 1 1) (Offers (made n_a1 (id 1 1) (id 1 1) less ∷ [])) ∷ []) [] [] None ∷
       line Fine [] [] [] None ∷
       line Fine [] [] [] None ∷
       line Fine [] [] [] None ∷

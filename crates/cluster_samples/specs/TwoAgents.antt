@@ -10,7 +10,7 @@ use Rattle.cluster_steps.specs.declared.step.Step.TheVariants.{Send, Deliver, Al
 use Rattle.cluster_steps.specs.declared.step.StepCause.TheVariants.{Mail as ByMail}
 use Rattle.cluster_steps.specs.declared.verdict.Verdict.TheVariants.{Ok as Fine}
 use Rattle.cluster_steps.specs.declared.verdict.Sent.TheVariants.{Call as CallSent}
-use Rattle.cluster_samples.specs.Short.{id, row, made, wanted, told, to_agent, from_agent, durable, line, ending, Expected}
+use Rattle.cluster_samples.specs.Short.{id, row, made, wanted, event_on, to_agent, from_agent, durable, line, ending, Expected}
 use Rattle.mails.specs.declared.call.Call.TheVariants as calls
 
 abbrev pub n_a1 : List ℕ
@@ -59,11 +59,11 @@ expected = record {
       line Fine [] [] (from_agent n_a2 (Report 1 1 [] (row n_cpus 4 ∷ row n_mem 4096 ∷ [])) ∷ []) None ∷
       line Fine [] [] [] None ∷
       line Fine [] [] (CallSent ∷ []) None ∷
-      line Fine (told (id 1 1) (Subscribed (id 1 1)) ∷ []) [] [] None ∷
-      line Fine (told (id 1 1) (Offers (made n_a1 (id 1 1) (id 1 1) (row n_cpus 4 ∷ row n_mem 4096 ∷ []) ∷ made n_a2 (id 1 2) (id 1 1) (row n_cpus 4 ∷ row n_mem 4096 ∷ []) ∷ [])) ∷ []) [] [] None ∷
+      line Fine (event_on (id 1 1) (Subscribed (id 1 1)) ∷ []) [] [] None ∷
+      line Fine (event_on (id 1 1) (Offers (made n_a1 (id 1 1) (id 1 1) (row n_cpus 4 ∷ row n_mem 4096 ∷ []) ∷ made n_a2 (id 1 2) (id 1 1) (row n_cpus 4 ∷ row n_mem 4096 ∷ []) ∷ [])) ∷ []) [] [] None ∷
       line Fine [] [] (CallSent ∷ []) None ∷
-      line Fine (told (id 1 1) (update_event n_t1 Lost (Some n_a1) None) ∷ []) [] [] None ∷
-      line Fine (told (id 1 1) (Offers (made n_a1 (id 1 3) (id 1 1) (row n_cpus 4 ∷ row n_mem 4096 ∷ []) ∷ made n_a2 (id 1 4) (id 1 1) (row n_cpus 4 ∷ row n_mem 4096 ∷ []) ∷ [])) ∷ []) [] [] None ∷ [];
+      line Fine (event_on (id 1 1) (update_event n_t1 Lost (Some n_a1) None) ∷ []) [] [] None ∷
+      line Fine (event_on (id 1 1) (Offers (made n_a1 (id 1 3) (id 1 1) (row n_cpus 4 ∷ row n_mem 4096 ∷ []) ∷ made n_a2 (id 1 4) (id 1 1) (row n_cpus 4 ∷ row n_mem 4096 ∷ []) ∷ [])) ∷ []) [] [] None ∷ [];
   ends = ending n_a1 (row n_cpus 4 ∷ row n_mem 4096 ∷ []) [] ∷
       ending n_a2 (row n_cpus 4 ∷ row n_mem 4096 ∷ []) [] ∷ [];
 }

@@ -29,7 +29,7 @@ ghost use Rattle.cluster_samples.specs.Declined as declined_sample;
 ghost use Rattle.cluster_samples.specs.LargerTotal as larger_total_sample;
 ghost use Rattle.cluster_samples.specs.TotalLost as total_lost_sample;
 ghost use Rattle.cluster_samples.specs.TotalSaved as total_saved_sample;
-ghost use Rattle.cluster_samples.specs.AgentCauses.{cpus, drafts, hears, killed, launched, n_a1, n_a2, new_agent, owning, running, t1, t2};
+ghost use Rattle.cluster_samples.specs.AgentCauses.{cpus, drafts, receives, killed, launched, n_a1, n_a2, new_agent, owning, running, t1, t2};
 ghost use Rattle.cluster_samples.specs.Short.{id};
 ghost use Rattle.cluster_model.specs.Agents.{next_of};
 ghost use Rattle.mails.specs.declared.cause.Cause.TheVariants.{Executor, Mail, Start};
@@ -204,13 +204,13 @@ pub fn sessions_of_an_agent()
     ensures nothing_to_start { next_of new_agent (Start None) ≡ Err OldSession }
     ensures not_for_it { next_of new_agent (Mail (record { agent = n_a2; mail = Hello 1 0 }))
         ≡ Err NotForMe }
-    ensures first { next_of new_agent (hears (Hello 1 0))
+    ensures first { next_of new_agent (receives (Hello 1 0))
         ≡ drafts (running 1 [] 0) (Report 1 1 [] (cpus 4) ∷ []) }
-    ensures again { next_of (running 1 [] 0) (hears (Hello 1 0))
+    ensures again { next_of (running 1 [] 0) (receives (Hello 1 0))
         ≡ drafts (running 1 [] 0) (Report 1 1 [] (cpus 4) ∷ []) }
-    ensures above { next_of (running 1 [] 0) (hears (Hello 1 5))
+    ensures above { next_of (running 1 [] 0) (receives (Hello 1 5))
         ≡ drafts (running 6 [] 0) (Report 6 1 [] (cpus 4) ∷ []) }
-    ensures older { next_of (running 1 [] 0) (hears (Hello 0 5)) ≡ Err OldSession }
+    ensures older { next_of (running 1 [] 0) (receives (Hello 0 5)) ≡ Err OldSession }
 {}
 
 /// A start with a total: none without a session, not less than before;
@@ -248,17 +248,17 @@ pub fn total_saved()
 
 /// Commands of a session: each once and in order; no room, an end, and nothing after the end.
 pub fn commands_of_an_agent()
-    ensures launch { next_of (running 1 [] 0) (hears (Issued 1 1 (Launch t1 (id 1 1 ∷ []))))
+    ensures launch { next_of (running 1 [] 0) (receives (Issued 1 1 (Launch t1 (id 1 1 ∷ []))))
         ≡ drafts (running 1 launched 1) (Applied 1 1 ∷ []) }
-    ensures again { next_of (running 1 launched 1) (hears (Issued 1 1 (Launch t1 (id 1 1 ∷ []))))
+    ensures again { next_of (running 1 launched 1) (receives (Issued 1 1 (Launch t1 (id 1 1 ∷ []))))
         ≡ drafts (running 1 launched 1) (Applied 1 1 ∷ []) }
-    ensures not_next { next_of (running 1 launched 1) (hears (Issued 1 3 (Kill (id 1 1))))
+    ensures not_next { next_of (running 1 launched 1) (receives (Issued 1 3 (Kill (id 1 1))))
         ≡ Err NotNext }
-    ensures no_room { next_of (running 1 launched 1) (hears (Issued 1 2 (Launch t2 (id 1 2 ∷ []))))
+    ensures no_room { next_of (running 1 launched 1) (receives (Issued 1 2 (Launch t2 (id 1 2 ∷ []))))
         ≡ Err NoRoom }
-    ensures other_session { next_of (running 1 launched 1) (hears (Issued 2 2 (Kill (id 1 1))))
+    ensures other_session { next_of (running 1 launched 1) (receives (Issued 2 2 (Kill (id 1 1))))
         ≡ Err OldSession }
-    ensures kill { next_of (running 1 launched 1) (hears (Issued 1 2 (Kill (id 1 1))))
+    ensures kill { next_of (running 1 launched 1) (receives (Issued 1 2 (Kill (id 1 1))))
         ≡ drafts (running 1 killed 2) (Applied 1 2 ∷ Update 1 (id 1 1) 0 Killed true ∷ []) }
     ensures ended { next_of (running 1 killed 2) (Executor (id 1 1) Finished) ≡ Err Ended }
 {}

@@ -24,7 +24,7 @@ pub enum ClusterFault {
     NoDraft,
     /// The history has 4,294,967,295 entries.
     HistoryFull,
-    /// The moment lies before the last one.
+    /// The moment is before the last one.
     TimeBack,
     /// No agent of this name is configured.
     NoSuchAgent,

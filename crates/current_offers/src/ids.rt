@@ -5,7 +5,7 @@ ghost use Rattle.cluster_model.specs.Ids.{is_repeated};
 
 use names_core::OfferId;
 
-/// Whether some id stands twice.
+/// Whether some id is listed twice.
 pub(crate) fn is_repeated(ids: &[OfferId]) -> bool
     ensures { result ≡ is_repeated ids.now }
 {

@@ -90,7 +90,9 @@ fn is_withdrawn(offer: &Offer, withdrawn: &Withdrawn) -> bool
 fn has_offer(offers: &[Offer], framework: FrameworkId, id: OfferId) -> bool
     ensures { result ≡ has_offer offers.now framework id }
 {
-    offers.iter().any(|offer| is_of(offer, framework) && offer.id == id)
+    offers
+        .iter()
+        .any(|offer| is_of(offer, framework) && offer.id == id)
 }
 
 fn has_all(offers: &[Offer], framework: FrameworkId, ids: &[OfferId]) -> bool

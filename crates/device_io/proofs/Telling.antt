@@ -5,29 +5,29 @@ use Rattle.std.specs.Io.KnownBytes.{Appends}
 use Rattle.device_io.specs.Writes.{AppendsFront}
 use Rattle.device_io.specs.Written.{front_after, front_longer}
 use Rattle.device_io.specs.Texts.{bodies}
-use Rattle.device_io.specs.Answers.{after_all, told_all}
+use Rattle.device_io.specs.Answers.{after_all, answered_texts}
 
-module _ {S : Type 0} (told : S → List ℕ → List ℕ) (after : S → List ℕ → S) where
-  pub told_none : (s : S) → told_all told after s [] ≡ []
-  unfolding told_all
+module _ {S : Type 0} (answered_text : S → List ℕ → List ℕ) (after : S → List ℕ → S) where
+  pub told_none : (s : S) → answered_texts answered_text after s [] ≡ []
+  unfolding answered_texts
   told_none s = refl
 
   pub after_none : (s : S) → after_all after s [] ≡ s
   unfolding after_all
   after_none s = refl
 
-  pub told_first : (s : S) (l : List ℕ) (ls : List (List ℕ)) → told_all told after s (l ∷ ls) ≡ told s l ++ told_all told after (after s l) ls
-  unfolding told_all
+  pub told_first : (s : S) (l : List ℕ) (ls : List (List ℕ)) → answered_texts answered_text after s (l ∷ ls) ≡ answered_text s l ++ answered_texts answered_text after (after s l) ls
+  unfolding answered_texts
   told_first s l ls = refl
 
   pub after_first : (s : S) (l : List ℕ) (ls : List (List ℕ)) → after_all after s (l ∷ ls) ≡ after_all after (after s l) ls
   unfolding after_all
   after_first s l ls = refl
 
-  pub told-append : (s : S) (ls ms : List (List ℕ)) → told_all told after s (ls ++ ms) ≡ told_all told after s ls ++ told_all told after (after_all after s ls) ms
-  unfolding told_all after_all
-  told-append s [] ms = refl
-  told-append s (l ∷ ls) ms = ap (λ (t : List ℕ). told s l ++ t) (told-append (after s l) ls ms) ∙ sym (append_assoc (told s l) (told_all told after (after s l) ls) (told_all told after (after_all after (after s l) ls) ms))
+  pub answered_text-append : (s : S) (ls ms : List (List ℕ)) → answered_texts answered_text after s (ls ++ ms) ≡ answered_texts answered_text after s ls ++ answered_texts answered_text after (after_all after s ls) ms
+  unfolding answered_texts after_all
+  answered_text-append s [] ms = refl
+  answered_text-append s (l ∷ ls) ms = ap (λ (t : List ℕ). answered_text s l ++ t) (answered_text-append (after s l) ls ms) ∙ sym (append_assoc (answered_text s l) (answered_texts answered_text after (after s l) ls) (answered_texts answered_text after (after_all after (after s l) ls) ms))
 
   pub after-append : (s : S) (ls ms : List (List ℕ)) → after_all after s (ls ++ ms) ≡ after_all after (after_all after s ls) ms
   unfolding after_all
@@ -46,12 +46,12 @@ module _ {S : Type 0} (told : S → List ℕ → List ℕ) (after : S → List �
       ap bodies parts ∙ map-append (λ (w : Vec ℕ Global). w.items) (take i ls) (l ∷ drop (i + 1) ls)
 
   pub told_more : (s : S) (ls : List (Vec ℕ Global)) (i : ℕ) (l : Vec ℕ Global) → i < length ls → l ≡ get_or ls i l
-      → told_all told after s (bodies (take (i + 1) ls)) ≡ told_all told after s (bodies (take i ls)) ++ told (after_all after s (bodies (take i ls))) l.items
+      → answered_texts answered_text after s (bodies (take (i + 1) ls)) ≡ answered_texts answered_text after s (bodies (take i ls)) ++ answered_text (after_all after s (bodies (take i ls))) l.items
   told_more s ls i l lt is =
       let before = bodies (take i ls) in
       let now = after_all after s before in
-      let one : told_all told after now (l.items ∷ []) ≡ told now l.items ++ [] = told_first now l.items [] ∙ ap (λ (t : List ℕ). told now l.items ++ t) (told_none (after now l.items)) in
-      ap (told_all told after s) (bodies_more ls i l lt is) ∙ (told-append s before (l.items ∷ []) ∙ ap (λ (t : List ℕ). told_all told after s before ++ t) (one ∙ append-nil (told now l.items)))
+      let one : answered_texts answered_text after now (l.items ∷ []) ≡ answered_text now l.items ++ [] = told_first now l.items [] ∙ ap (λ (t : List ℕ). answered_text now l.items ++ t) (told_none (after now l.items)) in
+      ap (answered_texts answered_text after s) (bodies_more ls i l lt is) ∙ (answered_text-append s before (l.items ∷ []) ∙ ap (λ (t : List ℕ). answered_texts answered_text after s before ++ t) (one ∙ append-nil (answered_text now l.items)))
 
   pub after_more : (s : S) (ls : List (Vec ℕ Global)) (i : ℕ) (l : Vec ℕ Global) → i < length ls → l ≡ get_or ls i l
       → after_all after s (bodies (take (i + 1) ls)) ≡ after (after_all after s (bodies (take i ls))) l.items
@@ -61,12 +61,12 @@ module _ {S : Type 0} (told : S → List ℕ → List ℕ) (after : S → List �
 
   -- a beginning of what is told on a line, behind what is told on the lines before it, is a beginning of all
   pub front_at : (old middle new : Option (List ℕ)) (s : S) (ls : List (Vec ℕ Global)) (i : ℕ) (l : Vec ℕ Global) → i < length ls → l ≡ get_or ls i l
-      → Appends old middle (told_all told after s (bodies (take i ls))) → AppendsFront middle new (told (after_all after s (bodies (take i ls))) l.items) → AppendsFront old new (told_all told after s (bodies ls))
+      → Appends old middle (answered_texts answered_text after s (bodies (take i ls))) → AppendsFront middle new (answered_text (after_all after s (bodies (take i ls))) l.items) → AppendsFront old new (answered_texts answered_text after s (bodies ls))
   front_at old middle new s ls i l lt is written front =
       let before = bodies (take i ls) in
       let now = after_all after s before in
-      let others = told_all told after (after now l.items) (bodies (drop (i + 1) ls)) in
-      let whole : told_all told after s (bodies ls) ≡ (told_all told after s before ++ told now l.items) ++ others =
-      ap (told_all told after s) (bodies_split ls i l lt is) ∙ (told-append s before (l.items ∷ bodies (drop (i + 1) ls))
-      ∙ (ap (λ (t : List ℕ). told_all told after s before ++ t) (told_first now l.items (bodies (drop (i + 1) ls))) ∙ sym (append_assoc (told_all told after s before) (told now l.items) others))) in
-      rw whole (front_longer old new (told_all told after s before ++ told now l.items) others (front_after old middle new (told_all told after s before) (told now l.items) written front))
+      let others = answered_texts answered_text after (after now l.items) (bodies (drop (i + 1) ls)) in
+      let whole : answered_texts answered_text after s (bodies ls) ≡ (answered_texts answered_text after s before ++ answered_text now l.items) ++ others =
+      ap (answered_texts answered_text after s) (bodies_split ls i l lt is) ∙ (answered_text-append s before (l.items ∷ bodies (drop (i + 1) ls))
+      ∙ (ap (λ (t : List ℕ). answered_texts answered_text after s before ++ t) (told_first now l.items (bodies (drop (i + 1) ls))) ∙ sym (append_assoc (answered_texts answered_text after s before) (answered_text now l.items) others))) in
+      rw whole (front_longer old new (answered_texts answered_text after s before ++ answered_text now l.items) others (front_after old middle new (answered_texts answered_text after s before) (answered_text now l.items) written front))

@@ -4,11 +4,11 @@ ghost use Rattle.std.specs.Prelude.{◌≡◌, ◌<◌, ◌++◌, length, vec_le
 ghost use Rattle.std.specs.Io.KnownBytes.{Appends};
 ghost use Rattle.device_io.specs.Writes.{AppendsFront};
 ghost use Rattle.device_io.specs.Texts.{all_lines, bodies, last_line};
-ghost use Rattle.device_io.specs.Answers.{after_all, answer, told_all};
+ghost use Rattle.device_io.specs.Answers.{after_all, answer, answered_texts};
 
+use crate::answerer::LineAnswerer;
 use crate::output::{put, read_some};
 use crate::reader::{Reader, first_lines_stay};
-use crate::teller::Teller;
 use std::alloc::{AllocError, Global};
 use std::io::{self, ErrorKind, Read, Write};
 
@@ -36,20 +36,20 @@ fn write_all<W: Write>(text: &[u8], writer: &mut W) -> Result<(), Stop>
 }
 
 /// Writes the answer to a line.
-fn answer_one<T: Teller, W: Write>(
+fn answer_one<T: LineAnswerer, W: Write>(
     alloc: Global,
-    teller: &mut T,
+    answerer: &mut T,
     line: &[u8],
     writer: &mut W,
 ) -> Result<(), Stop>
     ensures ok { OnOk result (Appends (W.contents writer.old) (W.contents writer.new)
-        (T.told teller.old line.now)) }
-    ensures after { OnOk result (teller.new ≡ T.after teller.old line.now) }
+        (T.answered_text answerer.old line.now)) }
+    ensures after { OnOk result (answerer.new ≡ T.after answerer.old line.now) }
     ensures err { OnErr result
         (AppendsFront (W.contents writer.old) (W.contents writer.new)
-        (T.told teller.old line.now)) }
+        (T.answered_text answerer.old line.now)) }
 {
-    let text = match teller.tell(alloc, line) {
+    let text = match answerer.answer_line(alloc, line) {
         Ok(text) => text,
         Err(_) => return Err(Stop::Memory),
     };
@@ -57,21 +57,21 @@ fn answer_one<T: Teller, W: Write>(
 }
 
 /// Writes the answers to lines, each before the next line is looked at.
-fn answer_all<T: Teller, W: Write>(
+fn answer_all<T: LineAnswerer, W: Write>(
     alloc: Global,
-    teller: &mut T,
+    answerer: &mut T,
     lines: &[Vec<u8>],
     writer: &mut W,
 ) -> Result<(), Stop>
     ensures ok { OnOk result (Appends (W.contents writer.old) (W.contents writer.new)
-        (told_all T.told T.after teller.old (bodies lines.now))) }
-    ensures after { OnOk result (teller.new ≡ after_all T.after teller.old (bodies lines.now)) }
+        (answered_texts T.answered_text T.after answerer.old (bodies lines.now))) }
+    ensures after { OnOk result (answerer.new ≡ after_all T.after answerer.old (bodies lines.now)) }
     ensures err { OnErr result
         (AppendsFront (W.contents writer.old) (W.contents writer.new)
-        (told_all T.told T.after teller.old (bodies lines.now))) }
+        (answered_texts T.answered_text T.after answerer.old (bodies lines.now))) }
 {
     for line in lines {
-        if let Err(stop) = answer_one(alloc, teller, line, writer) {
+        if let Err(stop) = answer_one(alloc, answerer, line, writer) {
             return Err(stop);
         }
     }
@@ -79,32 +79,37 @@ fn answer_all<T: Teller, W: Write>(
 }
 
 /// Writes the answer to the last line, which no line feed ended, where it has a byte.
-fn answer_last<T: Teller, W: Write>(
+fn answer_last<T: LineAnswerer, W: Write>(
     alloc: Global,
-    teller: &mut T,
+    answerer: &mut T,
     rest: &[u8],
     writer: &mut W,
 ) -> Result<(), Stop>
     ensures ok { OnOk result (Appends (W.contents writer.old) (W.contents writer.new)
-        (told_all T.told T.after teller.old (last_line rest.now))) }
-    ensures after { OnOk result (teller.new ≡ after_all T.after teller.old (last_line rest.now)) }
+        (answered_texts T.answered_text T.after answerer.old (last_line rest.now))) }
+    ensures after { OnOk result (answerer.new
+        ≡ after_all T.after answerer.old (last_line rest.now)) }
     ensures err { OnErr result
         (AppendsFront (W.contents writer.old) (W.contents writer.new)
-        (told_all T.told T.after teller.old (last_line rest.now))) }
+        (answered_texts T.answered_text T.after answerer.old (last_line rest.now))) }
 {
     if rest.is_empty() {
         return Ok(());
     }
-    answer_one(alloc, teller, rest, writer)
+    answer_one(alloc, answerer, rest, writer)
 }
 
-fn write_end<T: Teller, W: Write>(alloc: Global, teller: &T, writer: &mut W) -> Result<(), Stop>
+fn write_end<T: LineAnswerer, W: Write>(
+    alloc: Global,
+    answerer: &T,
+    writer: &mut W,
+) -> Result<(), Stop>
     ensures ok { OnOk result (Appends (W.contents writer.old) (W.contents writer.new)
-        (T.ending teller.now)) }
+        (T.ending answerer.now)) }
     ensures err { OnErr result
-        (AppendsFront (W.contents writer.old) (W.contents writer.new) (T.ending teller.now)) }
+        (AppendsFront (W.contents writer.old) (W.contents writer.new) (T.ending answerer.now)) }
 {
-    let text = match teller.end(alloc) {
+    let text = match answerer.end(alloc) {
         Ok(text) => text,
         Err(_) => return Err(Stop::Memory),
     };
@@ -112,45 +117,46 @@ fn write_end<T: Teller, W: Write>(alloc: Global, teller: &T, writer: &mut W) -> 
 }
 
 /// Writes the answers to the last line and at the end.
-fn answer_end<T: Teller, W: Write>(
+fn answer_end<T: LineAnswerer, W: Write>(
     alloc: Global,
-    teller: &mut T,
+    answerer: &mut T,
     rest: &[u8],
     writer: &mut W,
 ) -> Result<(), Stop>
     ensures ok { OnOk result (Appends (W.contents writer.old) (W.contents writer.new)
-        (told_all T.told T.after teller.old (last_line rest.now)
-        ++ T.ending (after_all T.after teller.old (last_line rest.now)))) }
-    ensures after { OnOk result (teller.new ≡ after_all T.after teller.old (last_line rest.now)) }
+        (answered_texts T.answered_text T.after answerer.old (last_line rest.now)
+        ++ T.ending (after_all T.after answerer.old (last_line rest.now)))) }
+    ensures after { OnOk result (answerer.new
+        ≡ after_all T.after answerer.old (last_line rest.now)) }
     ensures err { OnErr result (AppendsFront (W.contents writer.old) (W.contents writer.new)
-        (told_all T.told T.after teller.old (last_line rest.now)
-        ++ T.ending (after_all T.after teller.old (last_line rest.now)))) }
+        (answered_texts T.answered_text T.after answerer.old (last_line rest.now)
+        ++ T.ending (after_all T.after answerer.old (last_line rest.now)))) }
 {
-    if let Err(stop) = answer_last(alloc, teller, rest, writer) {
+    if let Err(stop) = answer_last(alloc, answerer, rest, writer) {
         return Err(stop);
     }
-    write_end(alloc, teller, writer)
+    write_end(alloc, answerer, writer)
 }
 
 /// Answers the text that a reader returns, read through this buffer.
-fn answer_pieces<R: Read, T: Teller, W: Write>(
+fn answer_pieces<R: Read, T: LineAnswerer, W: Write>(
     alloc: Global,
     reader: &mut R,
     buffer: &mut [u8],
-    teller: &mut T,
+    answerer: &mut T,
     writer: &mut W,
 ) -> Result<(), Stop>
     requires { 0 < length buffer.old }
     ensures ok { OnOk result (IfSome (R.remaining reader.old)
         (λ input. Appends (W.contents writer.old) (W.contents writer.new)
-        (answer T.told T.after T.ending teller.old input))) }
+        (answer T.answered_text T.after T.ending answerer.old input))) }
     ensures after { OnOk result
         (IfSome (R.remaining reader.old)
-        (λ input. teller.new ≡ after_all T.after teller.old (all_lines input))) }
+        (λ input. answerer.new ≡ after_all T.after answerer.old (all_lines input))) }
     ensures err { OnErr result
         (IfSome (R.remaining reader.old)
         (λ input. AppendsFront (W.contents writer.old) (W.contents writer.new)
-        (answer T.told T.after T.ending teller.old input))) }
+        (answer T.answered_text T.after T.ending answerer.old input))) }
 {
     first_lines_stay();
     let mut lines = Reader::new(alloc);
@@ -160,17 +166,17 @@ fn answer_pieces<R: Read, T: Teller, W: Write>(
             Err(e) => return Err(Stop::Device(e)),
         };
         if count == 0 {
-            return answer_end(alloc, teller, &lines.into_rest(), writer);
+            return answer_end(alloc, answerer, &lines.into_rest(), writer);
         }
         let ended = match lines.feed(alloc, &buffer[..count]) {
             Ok(ended) => ended,
             Err(_) => return Err(Stop::Memory),
         };
-        if let Err(stop) = answer_all(alloc, teller, &ended, writer) {
+        if let Err(stop) = answer_all(alloc, answerer, &ended, writer) {
             return Err(stop);
         }
-        if !teller.goes_on() {
-            return answer_end(alloc, teller, &[], writer);
+        if !answerer.goes_on() {
+            return answer_end(alloc, answerer, &[], writer);
         }
     }
     Err(Stop::Device(io::Error::from(ErrorKind::Other)))
@@ -185,28 +191,28 @@ fn new_buffer(alloc: Global) -> Result<Vec<u8>, AllocError>
 /// Answers the text that a reader returns, line by line: the answer to a line is written as soon as
 /// the line has ended. A line feed ends a line; the last may lack it. Where the teller takes no
 /// further line, nothing further is read.
-pub fn answer_lines<R: Read, T: Teller, W: Write>(
+pub fn answer_lines<R: Read, T: LineAnswerer, W: Write>(
     alloc: Global,
     reader: &mut R,
-    teller: &mut T,
+    answerer: &mut T,
     writer: &mut W,
 ) -> Result<(), Stop>
     // What is written is the answer to the text,
     ensures ok { OnOk result (IfSome (R.remaining reader.old)
         (λ input. Appends (W.contents writer.old) (W.contents writer.new)
-        (answer T.told T.after T.ending teller.old input))) }
+        (answer T.answered_text T.after T.ending answerer.old input))) }
     ensures after { OnOk result
         (IfSome (R.remaining reader.old)
-        (λ input. teller.new ≡ after_all T.after teller.old (all_lines input))) }
+        (λ input. answerer.new ≡ after_all T.after answerer.old (all_lines input))) }
     // or a beginning of it, where memory, the reader or the writer fail.
     ensures err { OnErr result
         (IfSome (R.remaining reader.old)
         (λ input. AppendsFront (W.contents writer.old) (W.contents writer.new)
-        (answer T.told T.after T.ending teller.old input))) }
+        (answer T.answered_text T.after T.ending answerer.old input))) }
 {
     let mut buffer = match new_buffer(alloc) {
         Ok(buffer) => buffer,
         Err(_) => return Err(Stop::Memory),
     };
-    answer_pieces(alloc, reader, &mut buffer, teller, writer)
+    answer_pieces(alloc, reader, &mut buffer, answerer, writer)
 }

@@ -2,12 +2,12 @@
 //! and a text that is answered line by line, as it comes.
 #![tactic(auto)]
 
+mod answerer;
 mod answers;
 mod output;
 mod reader;
-mod teller;
 
+pub use answerer::LineAnswerer;
 pub use answers::{Stop, answer_lines};
 pub use output::{put, read_some};
 pub use reader::{LONGEST_LINE, Reader, first_lines_stay};
-pub use teller::Teller;

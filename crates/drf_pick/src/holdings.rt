@@ -111,11 +111,7 @@ fn later(last: Option<FrameworkId>, framework: FrameworkId) -> FrameworkId
     let Some(last) = last else {
         return framework;
     };
-    if last < framework {
-        framework
-    } else {
-        last
-    }
+    if last < framework { framework } else { last }
 }
 
 /// The likely place of the role of the holder at a place.

@@ -34,7 +34,7 @@ step_word (steps.StopAgent agent keep) = []
 step_word steps.StopMaster = []
 step_word (steps.Take stream) = []
 
--- how a verdict is told; that a part ran out of memory isn't
+-- the text of a verdict; none where a part ran out of memory
 abbrev pub verdict_text : Verdict → Option (List ℕ)
 verdict_text verdicts.Ok = Some (codes "ok")
 verdict_text (verdicts.MasterRefused refusal) = Some (master_refusal_text refusal)

@@ -35,7 +35,7 @@ pub(crate) fn step_word(step: &Step) -> &'static str
     }
 }
 
-/// How a verdict is told; that a part ran out of memory isn't.
+/// The text of a verdict; `None` where a part ran out of memory.
 pub(crate) fn verdict_text(verdict: Verdict) -> Option<&'static str>
     ensures { option_map (λ text. text.now) result ≡ verdict_text verdict }
 {

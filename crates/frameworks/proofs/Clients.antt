@@ -9,8 +9,8 @@ use Rattle.mails.specs.declared.framework.Framework.{Framework}
 use Rattle.cluster_model.specs.Masters.{put_framework}
 use Rattle.drf_pick.specs.declared.holder.Client.{Client}
 use Rattle.frameworks.specs.Frameworks.{KeepsId, are_ordered, ids_of, place_of, roles_of}
-use Rattle.frameworks.specs.Told.{AreTold, Remembers, client_of, clients_of}
-use Rattle.frameworks.specs.declared.told.Told.{Told}
+use Rattle.frameworks.specs.LastRound.{IsOfFirst, Remembers, client_of, clients_of}
+use Rattle.frameworks.specs.declared.last_round.LastRound.{LastRound}
 use Rattle.frameworks.proofs.Ordered.{both_true, ids_set, put_at, put_later}
 use Rattle.frameworks.proofs.Leading.{same_itself}
 use Rattle.frameworks.proofs.OneRole.{KeepsRole, roles_set}
@@ -40,20 +40,20 @@ clients_kept change (f ∷ fs) ids roles = rw (ids f, roles f) (ap (λ (cs : Lis
 first_clients : (n : ℕ) (fs gs : List Framework) → clients_of gs ≡ clients_of fs → clients_of (take n gs) ≡ clients_of (take n fs)
 first_clients n fs gs e = sym (take-map client_of n gs) ∙ ap (take n) e ∙ take-map client_of n fs
 
-told_of : (fs gs : List Framework) (told : Told) (o : Option _) → told.holdings ≡ o → clients_of (take told.count gs) ≡ clients_of (take told.count fs)
-    → IfSome o (Remembers (clients_of (take told.count fs))) → IfSome o (Remembers (clients_of (take told.count gs)))
-told_of fs gs told None h e is = tt
-told_of fs gs told (Some t) h e is = subst (λ (cs : List Client). Remembers cs t) (sym e) is
+told_of : (fs gs : List Framework) (last_round : LastRound) (o : Option _) → last_round.holdings ≡ o → clients_of (take last_round.count gs) ≡ clients_of (take last_round.count fs)
+    → IfSome o (Remembers (clients_of (take last_round.count fs))) → IfSome o (Remembers (clients_of (take last_round.count gs)))
+told_of fs gs last_round None h e is = tt
+told_of fs gs last_round (Some t) h e is = subst (λ (cs : List Client). Remembers cs t) (sym e) is
 
-pub told_alike : (fs gs : List Framework) (told : Told) → clients_of gs ≡ clients_of fs → AreTold fs told → AreTold gs told
-told_alike fs gs told e is = told_of fs gs told told.holdings refl (first_clients told.count fs gs e) is
+pub told_alike : (fs gs : List Framework) (last_round : LastRound) → clients_of gs ≡ clients_of fs → IsOfFirst fs last_round → IsOfFirst gs last_round
+told_alike fs gs last_round e is = told_of fs gs last_round last_round.holdings refl (first_clients last_round.count fs gs e) is
 
-pub told_kept : (change : Framework → Framework) (fs : List Framework) (told : Told) → KeepsId change → KeepsRole change → AreTold fs told → AreTold (map change fs) told
-told_kept change fs told ids roles is = told_alike fs (map change fs) told (clients_kept change fs ids roles) is
+pub told_kept : (change : Framework → Framework) (fs : List Framework) (last_round : LastRound) → KeepsId change → KeepsRole change → IsOfFirst fs last_round → IsOfFirst (map change fs) last_round
+told_kept change fs last_round ids roles is = told_alike fs (map change fs) last_round (clients_kept change fs ids roles) is
 
 -- with others from a place on
-pub told_front : (fs gs : List Framework) (place : ℕ) (told : Told) → told.count ≤ place → take place gs ≡ take place fs → AreTold fs told → AreTold gs told
-told_front fs gs place told few e is = told_of fs gs told told.holdings refl (ap clients_of (first_alike fs gs told.count place few e)) is
+pub told_front : (fs gs : List Framework) (place : ℕ) (last_round : LastRound) → last_round.count ≤ place → take place gs ≡ take place fs → IsOfFirst fs last_round → IsOfFirst gs last_round
+told_front fs gs place last_round few e is = told_of fs gs last_round last_round.holdings refl (ap clients_of (first_alike fs gs last_round.count place few e)) is
 
 -- where a framework is put
 

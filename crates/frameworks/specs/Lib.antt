@@ -1,4 +1,4 @@
 pub mod Frameworks
 pub mod OpenStreams
-pub mod Told
+pub mod LastRound
 pub mod Starts

@@ -5,12 +5,12 @@
 
 mod edit;
 mod filters;
+mod last_round;
 mod laws;
 mod look;
 mod starts;
 mod streams;
 mod table;
-mod told;
 
 pub use edit::is_due;
 pub use filters::refuses;

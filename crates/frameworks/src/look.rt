@@ -5,14 +5,14 @@ ghost use Rattle.std.specs.List.{position};
 ghost use Rattle.names_core.specs.Ids.{same};
 ghost use Rattle.frameworks.specs.Frameworks.{are_ordered, is_at, place_of, with_id, AreOfOneRole, HaveRole};
 ghost use Rattle.frameworks.specs.OpenStreams.{open_stream};
-ghost use Rattle.frameworks.specs.Told.{clients_of};
+ghost use Rattle.frameworks.specs.LastRound.{clients_of};
 ghost use Rattle.cluster_model.specs.Masters.{put_framework};
 ghost use Rattle.mails.specs.declared.framework.Framework as model;
 
 use mails::Framework;
 use names_core::{FrameworkId, RoleName, StreamId};
 
-/// How many frameworks of the first stand before an id, found by halving.
+/// How many of the first frameworks are before an id, found by halving.
 pub fn place_in(frameworks: &[Framework], id: FrameworkId) -> usize
     requires { are_ordered frameworks.now ≡ true }
     ensures place { result ≡ place_of id frameworks.now }

@@ -7,10 +7,10 @@ ghost use Rattle.cluster_model.specs.Masters.{clear_on, put_framework};
 ghost use Rattle.cluster_model.specs.Mails.{beaten};
 ghost use Rattle.frameworks.specs.Frameworks.{are_ordered, changed, AreOfOneRole, HaveRole, revived, subscriber, suppressed, with_filter, with_id, without_stream};
 ghost use Rattle.frameworks.specs.Starts.{AreStarts};
-ghost use Rattle.frameworks.specs.Told.{Remembers, clients_of};
+ghost use Rattle.frameworks.specs.LastRound.{Remembers, clients_of};
 
+use crate::last_round::LastRound;
 use crate::starts::Starts;
-use crate::told::Told;
 use crate::{edit, look, streams};
 use drf_pick::Holdings;
 use listed::Listed;
@@ -29,7 +29,7 @@ pub struct Frameworks {
     by_stream: BTreeMap<StreamId, FrameworkId>,
     /// Whether it is known that all have the same role.
     is_one_role: bool,
-    told: Told,
+    last_round: LastRound,
     starts: Starts,
 }
 
@@ -40,7 +40,7 @@ impl Drop for Frameworks {
             items: _,
             by_stream: _,
             is_one_role: _,
-            told: _,
+            last_round: _,
             starts: _,
         } = self;
     }
@@ -52,7 +52,7 @@ impl Model for Frameworks {
     ghost use Rattle.frameworks.specs.Frameworks.{AreOfOneRole};
     ghost use Rattle.frameworks.specs.OpenStreams.{IsTable, led_by};
     ghost use Rattle.frameworks.specs.Starts.{AreStarts};
-    ghost use Rattle.frameworks.specs.Told.{AreTold};
+    ghost use Rattle.frameworks.specs.LastRound.{IsOfFirst};
 
     ghost Value = { List Framework };
 
@@ -60,7 +60,7 @@ impl Model for Frameworks {
 
     ghost invariant = { λ table. IsTable (led_by table.by_stream) table.items.items
         × (IsTrue table.is_one_role → AreOfOneRole table.items.items)
-        × AreTold table.items.items table.told
+        × IsOfFirst table.items.items table.last_round
         × AreStarts table.items.items table.starts };
 }
 
@@ -72,7 +72,7 @@ impl Frameworks {
             items: Vec::new(alloc),
             by_stream: BTreeMap::new(alloc),
             is_one_role: true,
-            told: Told::nothing(),
+            last_round: LastRound::nothing(),
             starts: Starts::new(alloc),
         }
     }
@@ -133,7 +133,7 @@ impl Frameworks {
         ensures { OnOk result (self.new ≡ put_framework (subscriber id role stream now) self.old) }
     {
         let is_one_role = self.have_role(&role);
-        self.told.cut_for(&self.items, id, &role);
+        self.last_round.cut_for(&self.items, id, &role);
         let place = look::place_in(&self.items, id);
         self.starts.cut(place);
         let framework = Framework {
@@ -210,14 +210,15 @@ impl Frameworks {
     {
         edit::beat_in(&mut self.items, now);
     }
+
     /// What frameworks held in the round before, and how many of the first ones are registered in
     /// it; nothing and 0 where it isn't kept.
     pub fn take_holdings(&mut self, alloc: Global) -> (Holdings, usize)
-        ensures told { Remembers (clients_of (take result.1 self.old)) result.0 }
+        ensures last_round { Remembers (clients_of (take result.1 self.old)) result.0 }
         ensures few { result.1 ≤ length self.old }
         ensures same { self.new ≡ self.old }
     {
-        self.told.take(alloc, &self.items)
+        self.last_round.take(alloc, &self.items)
     }
 
     /// Keeps for the next round what all these frameworks hold.
@@ -225,7 +226,7 @@ impl Frameworks {
         requires { Remembers (clients_of self.old) holdings }
         ensures { self.new ≡ self.old }
     {
-        self.told = Told::of(holdings, self.items.len());
+        self.last_round = LastRound::of(holdings, self.items.len());
     }
 
     /// Where the searches of the round before ended.

@@ -30,7 +30,7 @@ impl Desk {
     }
 
     /// Keeps the events of a step.
-    fn hear(&mut self, events: Vec<StreamEvent>) -> Option<()> {
+    fn receive(&mut self, events: Vec<StreamEvent>) -> Option<()> {
         for told in events {
             self.told.push(told).ok()?;
         }
@@ -40,7 +40,7 @@ impl Desk {
     /// A moment later.
     pub fn tick(&mut self, now: u32) -> Option<()> {
         match self.master.tick(self.alloc, now) {
-            Ok(outs) => self.hear(outs.events.into_vec()),
+            Ok(outs) => self.receive(outs.events.into_vec()),
             Err(_) => None,
         }
     }
@@ -58,8 +58,8 @@ impl Desk {
 }
 
 /// The answer to a call that opened this stream, if it did, where all its events were kept.
-fn answer_of(opened: Option<StreamId>, heard: Option<()>) -> Answer {
-    match (heard, opened) {
+fn answer_of(opened: Option<StreamId>, received: Option<()>) -> Answer {
+    match (received, opened) {
         (Some(()), Some(stream)) => Answer::Opened(stream),
         (Some(()), None) => Answer::Accepted,
         _ => Answer::Refused(BenchFault::OutOfMemory),
@@ -75,8 +75,8 @@ impl Bench for Desk {
         match self.master.call(self.alloc, stream, call) {
             Ok(outs) => {
                 let opened = outs.opened.as_slice().first().copied();
-                let heard = self.hear(outs.events.into_vec());
-                answer_of(opened, heard)
+                let received = self.receive(outs.events.into_vec());
+                answer_of(opened, received)
             }
             Err(MasterFault::Refused(refusal)) => Answer::Refused(BenchFault::Master(refusal)),
             Err(MasterFault::OutOfMemory) => Answer::Refused(BenchFault::MasterOutOfMemory),

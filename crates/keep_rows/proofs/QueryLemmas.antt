@@ -109,15 +109,15 @@ at_place : (place : ℕ) (r : Row) → rowid r ≡ Int (pos place) → is_there 
 unfolding binary
 at_place place r is = rw (is, same_int place) refl
 
-told : (b : Bool) → (is_true (from_truth (Some b)) && true) ≡ true → b ≡ true
-told true h = refl
-told false h = cc
+read_back : (b : Bool) → (is_true (from_truth (Some b)) && true) ≡ true → b ≡ true
+read_back true h = refl
+read_back false h = cc
 
 -- what is named is the place, or no number
 id_at_place : (place : ℕ) (v : Value) → is_there place (v ∷ []) ≡ true → (id_in v ≡ pos place) ⊎ (id_in v ≡ pos 0)
 unfolding binary
 id_at_place place Null h = inr refl
-id_at_place place (Int n) h = inl (equal_is n (pos place) (told (is_eq (value_cmp (Int n) (Int (pos place)))) h))
+id_at_place place (Int n) h = inl (equal_is n (pos place) (read_back (is_eq (value_cmp (Int n) (Int (pos place)))) h))
 id_at_place place (Real x) h = inr refl
 id_at_place place (Text t) h = inr refl
 id_at_place place (Blob b) h = inr refl

@@ -24,7 +24,7 @@ use Rattle.quantity.proofs.Amounts.{amount-cons, amount-append, amount_of_first,
 use Rattle.quantity.proofs.Sums.{Counts, amount-raised, counts_plus, ordered_plus, rows_count, sums_add_up}
 use Rattle.keep_rows.specs.Columns.{amount_at, text_at}
 use Rattle.keep_rows.specs.Tables.{AreIds, IsSame, Puts, SparesOthers, amount_row, amount_shown}
-use Rattle.keep_rows.specs.Totals.{AreNamed, HasAmounts, HasNoAmount, PutsAmounts, amount_of, amount_rows, amount_told, amounts_told, before_all, summed, total_told}
+use Rattle.keep_rows.specs.Totals.{AreNamed, HasAmounts, HasNoAmount, PutsAmounts, amount_of, amount_rows, amount_in_row, amounts_in_rows, before_all, summed, total_in_rows}
 use Rattle.keep_rows.proofs.ColumnLemmas.{amount_some, text_plain}
 use Rattle.keep_rows.proofs.ReadLemmas.{none_shown}
 
@@ -91,32 +91,32 @@ counts_of (Some name) (Some n) r some h = go (is_resource_name name) refl h
     go true named h = subst Counts (same_some h) (record { named = named; positive = some n refl })
     go false named h = absurd cc
 
-counts : (shown : Row) (r : Amount) → amount_told shown ≡ Some r → Counts r
-unfolding amount_told
+counts : (shown : Row) (r : Amount) → amount_in_row shown ≡ Some r → Counts r
+unfolding amount_in_row
 counts shown r h = counts_of (text_at (column shown 0)) (amount_at (column shown 1)) r (above_none (column shown 1)) h
 
-pub told_of : (shown : Row) (name : List ℕ) (n : ℕ) → text_at (column shown 0) ≡ Some name → amount_at (column shown 1) ≡ Some n → is_resource_name name ≡ true → amount_told shown ≡ Some (row name n)
-unfolding amount_told
+pub told_of : (shown : Row) (name : List ℕ) (n : ℕ) → text_at (column shown 0) ≡ Some name → amount_at (column shown 1) ≡ Some n → is_resource_name name ≡ true → amount_in_row shown ≡ Some (row name n)
+unfolding amount_in_row
 told_of shown name n is_name is_n named = rw (is_name, is_n, named) refl
 
-pub untold_name : (shown : Row) → text_at (column shown 0) ≡ None → amount_told shown ≡ None
-unfolding amount_told
+pub untold_name : (shown : Row) → text_at (column shown 0) ≡ None → amount_in_row shown ≡ None
+unfolding amount_in_row
 untold_name shown none = rw none (go (amount_at (column shown 1)))
   where
     go : (many : Option ℕ) → amount_of None many ≡ None
     go None = refl
     go (Some n) = refl
 
-pub untold_amount : (shown : Row) → amount_at (column shown 1) ≡ None → amount_told shown ≡ None
-unfolding amount_told
+pub untold_amount : (shown : Row) → amount_at (column shown 1) ≡ None → amount_in_row shown ≡ None
+unfolding amount_in_row
 untold_amount shown none = rw none (go (text_at (column shown 0)))
   where
     go : (name : Option (List ℕ)) → amount_of name None ≡ None
     go None = refl
     go (Some name) = refl
 
-pub untold_bad : (shown : Row) (name : List ℕ) (n : ℕ) → text_at (column shown 0) ≡ Some name → amount_at (column shown 1) ≡ Some n → is_resource_name name ≡ false → amount_told shown ≡ None
-unfolding amount_told
+pub untold_bad : (shown : Row) (name : List ℕ) (n : ℕ) → text_at (column shown 0) ≡ Some name → amount_at (column shown 1) ≡ Some n → is_resource_name name ≡ false → amount_in_row shown ≡ None
+unfolding amount_in_row
 untold_bad shown name n is_name is_n named = rw (is_name, is_n, named) refl
 
 -- ---- what rows tell, whatever their order
@@ -126,18 +126,18 @@ or_else (Some r) = r
 or_else None = row [] 0
 
 abbrev told_or : Row → Amount
-told_or shown = or_else (amount_told shown)
+told_or shown = or_else (amount_in_row shown)
 
-abbrev Tells : Row → Type 0
-Tells shown = amount_told shown ≡ Some (told_or shown)
+abbrev AreRowsOf : Row → Type 0
+AreRowsOf shown = amount_in_row shown ≡ Some (told_or shown)
 
-tells : (shown : Row) (r : Amount) → amount_told shown ≡ Some r → Tells shown
-tells shown r h = rw h refl
+are_rows : (shown : Row) (r : Amount) → amount_in_row shown ≡ Some r → AreRowsOf shown
+are_rows shown r h = rw h refl
 
 -- the rows that were read tell amounts, whose sums by name are those of the total
 pub record AreRead (rows : List Row) (total : List Amount) : Type 0 where
-  pub each : AllByRecursion (λ shown. amount_told shown ≡ Some (or_else (amount_told shown))) rows
-  pub sums : (q : List ℕ) → amount q total ≡ amount q (map (λ shown. or_else (amount_told shown)) rows)
+  pub each : AllByRecursion (λ shown. amount_in_row shown ≡ Some (or_else (amount_in_row shown))) rows
+  pub sums : (q : List ℕ) → amount q total ≡ amount q (map (λ shown. or_else (amount_in_row shown)) rows)
 
 pub none_read : AreRead [] []
 none_read = record { each = tt; sums = λ q. refl }
@@ -150,23 +150,23 @@ map_push : (rows : List Row) (r : Row) → map told_or (rows ++ r ∷ []) ≡ ma
 map_push [] r = refl
 map_push (x ∷ rows) r = ap (λ all. told_or x ∷ all) (map_push rows r)
 
-pub read_more : (rows : List Row) (old new : List Amount) (i : ℕ) (shown : Row) (r : Amount) → i < length rows → shown ≡ get_or rows i shown → AreRead (take i rows) old → amount_told shown ≡ Some r
+pub read_more : (rows : List Row) (old new : List Amount) (i : ℕ) (shown : Row) (r : Amount) → i < length rows → shown ≡ get_or rows i shown → AreRead (take i rows) old → amount_in_row shown ≡ Some r
     → ((q : List ℕ) → amount q new ≡ amount q old + part_of q r) → AreRead (take (i + 1) rows) new
-read_more rows old new i shown r within at h told adds =
+read_more rows old new i shown r within at h read_back adds =
     let split : take (i + 1) rows ≡ take i rows ++ shown ∷ [] = take_more rows i shown within ∙ ap (λ (x : Row). take i rows ++ x ∷ []) (sym at) in
-    let is : told_or shown ≡ r = ap or_else told in
+    let is : told_or shown ≡ r = ap or_else read_back in
     subst (λ all. AreRead all new) (sym split) (record {
-      each = push_each Tells (take i rows) shown h.each (tells shown r told);
+      each = push_each AreRowsOf (take i rows) shown h.each (are_rows shown r read_back);
       sums = λ q.
           let one : amount q (told_or shown ∷ []) ≡ part_of q r = amount-cons q (told_or shown) [] ∙ ap (λ (x : Amount). part_of q x + 0) is ∙ omega arith in
           omega (arith, adds q, h.sums q, ap (amount q) (map_push (take i rows) shown), amount-append q (map told_or (take i rows)) (told_or shown ∷ []), one);
     })
 
-told_all : (rows : List Row) → AllByRecursion Tells rows → amounts_told rows ≡ Some (map told_or rows)
+told_all : (rows : List Row) → AllByRecursion AreRowsOf rows → amounts_in_rows rows ≡ Some (map told_or rows)
 told_all [] all = refl
 told_all (x ∷ rows) all = rw (told_all rows all.1, all.0) refl
 
-counts_all : (rows : List Row) → AllByRecursion Tells rows → AllByRecursion Counts (map told_or rows)
+counts_all : (rows : List Row) → AllByRecursion AreRowsOf rows → AllByRecursion Counts (map told_or rows)
 counts_all [] all = tt
 counts_all (x ∷ rows) all = (counts x (told_or x) all.0, counts_all rows all.1)
 
@@ -199,10 +199,10 @@ summed_is rs total each are same =
     rows_from_amounts (plus_rows [] rs) total ordered are.ordered
     (are_small (plus_rows [] rs) ordered (counts_plus [] rs tt each) (λ q. omega (arith, all q, small q total are.ordered are.each))) are.each all
 
-pub total_is : (rows held : List Row) (total : List Amount) → length rows ≤ names_limit → AreRead rows total → AreRows total → IsPermutation held rows → total_told held ≡ Some total
+pub total_is : (rows held : List Row) (total : List Amount) → length rows ≤ names_limit → AreRead rows total → AreRows total → IsPermutation held rows → total_in_rows held ≡ Some total
 total_is rows held total few h are same =
     let back = IsPermutation-sym held rows same in
-    let each : AllByRecursion Tells held = all-permutation Tells rows held back h.each in
+    let each : AllByRecursion AreRowsOf held = all-permutation AreRowsOf rows held back h.each in
     let test : nat_le (length held) names_limit ≡ true = le-leb (length held) names_limit (omega (arith, few, length_permutation held rows same)) in
     let sums = λ (q : List ℕ). (let it : amount q (map told_or held) ≡ amount q total =
     sum_by-IsPermutation (part_of q) (map told_or rows) (map told_or held) (IsPermutation-map told_or rows held back) ∙ sym (h.sums q) in it) in
@@ -210,17 +210,17 @@ total_is rows held total few h are same =
 
 -- ---- what tells no total
 
-pub total_too_long : (rows held : List Row) → names_limit < length rows → IsPermutation held rows → total_told held ≡ None
+pub total_too_long : (rows held : List Row) → names_limit < length rows → IsPermutation held rows → total_in_rows held ≡ None
 total_too_long rows held many same =
     let test : nat_le (length held) names_limit ≡ false = grind (arith, nat_tests, many, length_permutation held rows same) in
-    rw test (go (amounts_told held))
+    rw test (go (amounts_in_rows held))
   where
     go : (all : Option (List Amount)) → summed false all ≡ None
     go None = refl
     go (Some rs) = refl
 
 abbrev Untold : List Row → Type 0
-Untold rows = AllByRecursion (λ shown. (r : Amount) × (amount_told shown ≡ Some r)) rows → ⊥
+Untold rows = AllByRecursion (λ shown. (r : Amount) × (amount_in_row shown ≡ Some r)) rows → ⊥
 
 both_some : (o : Option Amount) (all : Option (List Amount)) (rs : List Amount) → before_all o all ≡ Some rs → ((r : Amount) × (o ≡ Some r)) × ((us : List Amount) × (all ≡ Some us))
 both_some None None rs e = absurd cc
@@ -228,28 +228,28 @@ both_some None (Some us) rs e = absurd cc
 both_some (Some r) None rs e = absurd cc
 both_some (Some r) (Some us) rs e = ((r, refl), (us, refl))
 
-all_told : (rows : List Row) (rs : List Amount) → amounts_told rows ≡ Some rs → AllByRecursion (λ shown. (r : Amount) × (amount_told shown ≡ Some r)) rows
+all_told : (rows : List Row) (rs : List Amount) → amounts_in_rows rows ≡ Some rs → AllByRecursion (λ shown. (r : Amount) × (amount_in_row shown ≡ Some r)) rows
 all_told [] rs e = tt
-all_told (y ∷ ys) rs e = let it = both_some (amount_told y) (amounts_told ys) rs e in (it.0, all_told ys it.1.0 it.1.1)
+all_told (y ∷ ys) rs e = let it = both_some (amount_in_row y) (amounts_in_rows ys) rs e in (it.0, all_told ys it.1.0 it.1.1)
 
-not_told : (rows : List Row) → Untold rows → amounts_told rows ≡ None
+not_told : (rows : List Row) → Untold rows → amounts_in_rows rows ≡ None
 not_told [] none = absurd (none tt)
-not_told (x ∷ rows) none = go (amount_told x) refl (amounts_told rows) refl
+not_told (x ∷ rows) none = go (amount_in_row x) refl (amounts_in_rows rows) refl
   where
-    go : (o : Option Amount) → amount_told x ≡ o → (all : Option (List Amount)) → amounts_told rows ≡ all → before_all o all ≡ None
+    go : (o : Option Amount) → amount_in_row x ≡ o → (all : Option (List Amount)) → amounts_in_rows rows ≡ all → before_all o all ≡ None
     go None p None q = refl
     go None p (Some rs) q = refl
     go (Some r) p None q = refl
     go (Some r) p (Some rs) q = absurd (none ((r, p), all_told rows rs q))
 
-untold_among : (rows : List Row) (i : ℕ) (shown : Row) → i < length rows → shown ≡ get_or rows i shown → amount_told shown ≡ None → Untold rows
+untold_among : (rows : List Row) (i : ℕ) (shown : Row) → i < length rows → shown ≡ get_or rows i shown → amount_in_row shown ≡ None → Untold rows
 untold_among [] i shown within at none all = absurd (omega (arith, within))
-untold_among (x ∷ rows) zero shown within at none all = absurd (let e : amount_told shown ≡ Some all.0.0 = ap amount_told at ∙ all.0.1 in let f = sym none ∙ e in cc)
+untold_among (x ∷ rows) zero shown within at none all = absurd (let e : amount_in_row shown ≡ Some all.0.0 = ap amount_in_row at ∙ all.0.1 in let f = sym none ∙ e in cc)
 untold_among (x ∷ rows) (suc i) shown within at none all = untold_among rows i shown (omega (arith, within)) at none all.1
 
-pub total_untold : (rows held : List Row) (i : ℕ) (shown : Row) → i < length rows → shown ≡ get_or rows i shown → amount_told shown ≡ None → IsPermutation held rows → total_told held ≡ None
+pub total_untold : (rows held : List Row) (i : ℕ) (shown : Row) → i < length rows → shown ≡ get_or rows i shown → amount_in_row shown ≡ None → IsPermutation held rows → total_in_rows held ≡ None
 total_untold rows held i shown within at none same =
-    let out : Untold held = λ all. untold_among rows i shown within at none (all-permutation (λ shown. (r : Amount) × (amount_told shown ≡ Some r)) held rows same all) in
+    let out : Untold held = λ all. untold_among rows i shown within at none (all-permutation (λ shown. (r : Amount) × (amount_in_row shown ≡ Some r)) held rows same all) in
     rw (not_told held out) (go (nat_le (length held) names_limit))
   where
     go : (b : Bool) → summed b None ≡ None
@@ -305,7 +305,7 @@ has_amounts rs x y z p q = record { rows = q.rows p.none; others = λ t other fr
 
 -- ---- rows that were written tell their total
 
-told_rows : (from : ℕ) (rs : List Amount) → AllByRecursion IsRow rs → AreNamed rs → amounts_told (map amount_shown (amount_rows from rs)) ≡ Some rs
+told_rows : (from : ℕ) (rs : List Amount) → AllByRecursion IsRow rs → AreNamed rs → amounts_in_rows (map amount_shown (amount_rows from rs)) ≡ Some rs
 told_rows from [] each named = refl
 told_rows from (r ∷ rs) each named =
     let name = text_plain (Text r.name) r.name refl (IsUtf8-from_is_utf8 r.name named.0) in
@@ -317,7 +317,7 @@ length_rows : (from : ℕ) (rs : List Amount) → length (map amount_shown (amou
 length_rows from [] = refl
 length_rows from (r ∷ rs) = ap suc (length_rows (from + 1) rs)
 
-pub rows_told : (rs : List Amount) → AreRows rs → AreNamed rs → total_told (map amount_shown (amount_rows 1 rs)) ≡ Some rs
+pub rows_told : (rs : List Amount) → AreRows rs → AreNamed rs → total_in_rows (map amount_shown (amount_rows 1 rs)) ≡ Some rs
 rows_told rs are named =
     let test : nat_le (length (map amount_shown (amount_rows 1 rs))) names_limit ≡ true = le-leb _ names_limit (omega (arith, are.few, length_rows 1 rs)) in
     rw (told_rows 1 rs are.each named, test) (ap (λ (all : List Amount). Some all) (summed_is rs rs (rows_count rs are.each) are (λ q. refl)))

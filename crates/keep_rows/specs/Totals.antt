@@ -15,25 +15,25 @@ amount_of (Some name) (Some n) = if is_resource_name name then Some (row name n)
 amount_of _ _ = None
 
 -- the amount in a row of name and amount, where the name is a resource's
-unfoldable pub amount_told : Row → Option Amount
-amount_told shown = amount_of (text_at (column shown 0)) (amount_at (column shown 1))
+unfoldable pub amount_in_row : Row → Option Amount
+amount_in_row shown = amount_of (text_at (column shown 0)) (amount_at (column shown 1))
 
 abbrev pub before_all : Option Amount → Option (List Amount) → Option (List Amount)
 before_all (Some r) (Some rs) = Some (r ∷ rs)
 before_all _ _ = None
 
 -- the amounts in rows, where each has one
-abbrev pub amounts_told : List Row → Option (List Amount)
-amounts_told [] = Some []
-amounts_told (shown ∷ more) = before_all (amount_told shown) (amounts_told more)
+abbrev pub amounts_in_rows : List Row → Option (List Amount)
+amounts_in_rows [] = Some []
+amounts_in_rows (shown ∷ more) = before_all (amount_in_row shown) (amounts_in_rows more)
 
 abbrev pub summed : Bool → Option (List Amount) → Option (List Amount)
 summed true (Some rs) = Some (plus_rows [] rs)
 summed _ _ = None
 
 -- the total of rows, at most eight: the sum of their amounts, by name
-abbrev pub total_told : List Row → Option (List Amount)
-total_told rows = summed (nat_le (length rows) names_limit) (amounts_told rows)
+abbrev pub total_in_rows : List Row → Option (List Amount)
+total_in_rows rows = summed (nat_le (length rows) names_limit) (amounts_in_rows rows)
 
 -- the rows of a total, with rowids from this one on
 abbrev pub amount_rows : ℕ → List Amount → List Row

@@ -8,7 +8,7 @@ ghost use Rattle.sqlite.specs.Held.{state};
 ghost use Rattle.quantity.specs.declared.rows.Row.{Row as Amount};
 ghost use Rattle.quantity.specs.Rows.{AreRows, IsRow, amount, part_of};
 ghost use Rattle.keep_rows.specs.Tables.{Puts, amount_row, WritesIfOk};
-ghost use Rattle.keep_rows.specs.Totals.{AreNamed, HasAmounts, HasNoAmount, PutsAmounts, amount_told, total_told};
+ghost use Rattle.keep_rows.specs.Totals.{AreNamed, HasAmounts, HasNoAmount, PutsAmounts, amount_in_row, total_in_rows};
 
 use crate::changes::{clear_amounts, put_amount, read_amount_places};
 use crate::columns::{amount_at, text_at};
@@ -23,11 +23,11 @@ const NAMES_LIMIT: usize = 8;
 /// Adds the amount in a row of name and amount to a total. K1 where its name was there before and
 /// the sum is too much for a total, K2 where the row has no amount of a resource, K4 for want of
 /// memory.
-#[tactic(auto, unfolding(crate::specs::Totals::amount_told))]
+#[tactic(auto, unfolding(crate::specs::Totals::amount_in_row))]
 fn add_amount(alloc: Global, total: &mut Resources, row: &Row) -> Result<(), KeepFault>
-    ensures added { OnOk result ((r : Amount) × (amount_told row.now ≡ Some r)
+    ensures added { OnOk result ((r : Amount) × (amount_in_row row.now ≡ Some r)
         × ((name : List ℕ) → amount name total.new ≡ amount name total.old + part_of name r)) }
-    ensures untold { IsErrOf result KeepFault.Damaged → amount_told row.now ≡ None }
+    ensures unreadable { IsErrOf result KeepFault.Damaged → amount_in_row row.now ≡ None }
     ensures unspent { IfErr result (λ e. e ≢ KeepFault.RunsSpent) }
 {
     let name = text_at(row, 0)?;
@@ -44,11 +44,11 @@ fn add_amount(alloc: Global, total: &mut Resources, row: &Row) -> Result<(), Kee
 /// and the sum is too much for a total, K2 where a row has no amount of a resource or there are
 /// more than eight, K4 for want of memory.
 pub fn total_of(alloc: Global, rows: &[Row]) -> Result<Resources, KeepFault>
-    ensures told { (held : List Shown) → IsPermutation held rows.now
-        → IfOk result (λ total. total_told held ≡ Some total) }
+    ensures read_back { (held : List Shown) → IsPermutation held rows.now
+        → IfOk result (λ total. total_in_rows held ≡ Some total) }
     ensures ordered { IfOk result AreRows }
-    ensures untold { (held : List Shown) → IsPermutation held rows.now
-        → IsErrOf result KeepFault.Damaged → total_told held ≡ None }
+    ensures unreadable { (held : List Shown) → IsPermutation held rows.now
+        → IsErrOf result KeepFault.Damaged → total_in_rows held ≡ None }
     ensures unspent { IfErr result (λ e. e ≢ KeepFault.RunsSpent) }
 {
     if rows.len() > NAMES_LIMIT {

@@ -15,8 +15,8 @@ use Rattle.sqlite_rules.proofs.ProbeLemmas.{has_mapped, mapped_has}
 use Rattle.mails.specs.declared.record.RecordedTask.{RecordedTask}
 use Rattle.agent_core.specs.Records.{keys_rise}
 use Rattle.record_text.specs.Reading.{◌>>=◌, where_true, task_in}
-use Rattle.record_saves.specs.Kept.{ArePut, AreSeen, IsPut, Knows, Tells, TellsTask, told}
-use Rattle.keep_store.specs.Kept.{AreTold, IsPlaced}
+use Rattle.record_saves.specs.Kept.{ArePut, AreSeen, IsPut, Knows, AreRowsOf, IsRowOf, read_back}
+use Rattle.keep_store.specs.Kept.{AreTasksOf, IsPlaced}
 use Rattle.keep_rows.specs.Columns.{number_at, text_at}
 use Rattle.keep_rows.specs.Tables.{task_shown}
 use Rattle.keep_rows.proofs.QueryLemmas.{has_permuted}
@@ -40,8 +40,8 @@ record ToldBy (row : Row) (t : RecordedTask) : Type 0 where
   run : number_at (column row 1) ≡ Some t.job.key.run
   n : number_at (column row 2) ≡ Some t.job.key.n
 
-told_by : (row : Row) (t : RecordedTask) → told row ≡ Some t → ToldBy row t
-unfolding told
+told_by : (row : Row) (t : RecordedTask) → read_back row ≡ Some t → ToldBy row t
+unfolding read_back
 told_by row t h =
     let run = bind_some (number_at (column row 1)) _ t h in
     let n = bind_some (number_at (column row 2)) _ t run.2 in
@@ -61,7 +61,7 @@ number_is v n m is h = (where_some (nat_lt n (2 ^ 32)) n m (ap number_at (sym is
 
 -- the rowid is the place of the key that the row has
 pub placed : (row : Row) (place run n : ℕ) (t : RecordedTask) → column row 0 ≡ Int (pos place) → column row 1 ≡ Int (pos run) → column row 2 ≡ Int (pos n) → place ≡ run * 2 ^ 32 + n
-    → told row ≡ Some t → TellsTask row t
+    → read_back row ≡ Some t → IsRowOf row t
 placed row place run n t at is_run is_n is h =
     let by = told_by row t h in
     let same_run : run ≡ t.job.key.run = number_is (column row 1) run t.job.key.run is_run by.run in
@@ -73,7 +73,7 @@ placed row place run n t at is_run is_n is h =
 told_put : (ts : List RecordedTask) → AllByRecursion IsPut ts → keys_rise ts ≡ true → ArePut ts
 told_put ts all rise = record { each = all; rise = rises ts (put_are_tasks ts all) rise }
 
-told_tells : (db : Trees) (rows : List Row) (ts : List RecordedTask) → IsPermutation (map task_shown (db 3)) rows → AreTold rows ts → AllByRecursion IsPlaced rows → Tells (db 3) (Has ts)
+told_tells : (db : Trees) (rows : List Row) (ts : List RecordedTask) → IsPermutation (map task_shown (db 3)) rows → AreTasksOf rows ts → AllByRecursion IsPlaced rows → AreRowsOf (db 3) (Has ts)
 told_tells db rows ts same are all = record {
   each = λ row at.
       let there = has_permuted rows (map task_shown (db 3)) (task_shown row) (IsPermutation-sym _ _ same) (mapped_has task_shown (db 3) row at) in
@@ -82,7 +82,7 @@ told_tells db rows ts same are all = record {
   all = λ task at.
       let it = row_of_task rows ts task are at in
       let row = has_mapped task_shown (db 3) it.0 (has_permuted (map task_shown (db 3)) rows it.0 same it.1) in
-      (row.0, row.1, sym (same_told row.0) ∙ ap told (sym row.2) ∙ it.2);
+      (row.0, row.1, sym (same_told row.0) ∙ ap read_back (sym row.2) ∙ it.2);
 }
 
 pub found_seen : (ts : List RecordedTask) (seen : Option (List RecordedTask)) → ((us : List RecordedTask) → seen ≡ Some us → us ≡ ts)
@@ -91,6 +91,6 @@ found_seen ts None is all rise = tt
 found_seen ts (Some us) is all rise = let same = is us refl in rw same (told_put ts all rise)
 
 pub found_knows : (db : Trees) (rows : List Row) (ts : List RecordedTask) (seen : Option (List RecordedTask)) → ((us : List RecordedTask) → seen ≡ Some us → us ≡ ts)
-    → IsPermutation (map task_shown (db 3)) rows → AreTold rows ts → AllByRecursion IsPlaced rows → Knows seen db
+    → IsPermutation (map task_shown (db 3)) rows → AreTasksOf rows ts → AllByRecursion IsPlaced rows → Knows seen db
 found_knows db rows ts None is same are all = tt
 found_knows db rows ts (Some us) is same are all = let is_ts = is us refl in rw is_ts (told_tells db rows ts same are all)

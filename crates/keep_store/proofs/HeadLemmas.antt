@@ -5,29 +5,29 @@ use Rattle.std.proofs.lemmas.List.Sorted.{length_permutation}
 use Rattle.sqlite.specs.Order.{Row, column}
 use Rattle.quantity.specs.declared.rows.Row.{Row as Amount}
 use Rattle.mails.specs.declared.record.Durable.{Durable}
-use Rattle.keep_rows.specs.Totals.{total_told}
-use Rattle.record_saves.specs.Kept.{head_told, own_told, total_by, with_total}
+use Rattle.keep_rows.specs.Totals.{total_in_rows}
+use Rattle.record_saves.specs.Kept.{head_in_row, own_in_row, total_by, with_total}
 use Rattle.keep_rows.specs.Columns.{number_at}
 
-told_from : (head : Row) (held : List Row) (d : Durable) (version : ℕ) (total : List Amount) → own_told head ≡ Some d → number_at (column head 4) ≡ Some version → total_by version d.total held ≡ Some total
-    → head_told head held ≡ Some (with_total total d)
-unfolding head_told
+told_from : (head : Row) (held : List Row) (d : Durable) (version : ℕ) (total : List Amount) → own_in_row head ≡ Some d → number_at (column head 4) ≡ Some version → total_by version d.total held ≡ Some total
+    → head_in_row head held ≡ Some (with_total total d)
+unfolding head_in_row
 told_from head held d version total own is by_version = rw (own, is, by_version) refl
 
-pub head_from : (head : Row) (held : List Row) (d : Durable) (version : ℕ) (total : List Amount) → own_told head ≡ Some d → number_at (column head 4) ≡ Some version → total_by version d.total held ≡ Some total
-    → head_told head held ≡ Some (with_total total d)
+pub head_from : (head : Row) (held : List Row) (d : Durable) (version : ℕ) (total : List Amount) → own_in_row head ≡ Some d → number_at (column head 4) ≡ Some version → total_by version d.total held ≡ Some total
+    → head_in_row head held ≡ Some (with_total total d)
 head_from = told_from
 
-pub no_own : (head : Row) (held : List Row) → own_told head ≡ None → head_told head held ≡ None
-unfolding head_told
+pub no_own : (head : Row) (held : List Row) → own_in_row head ≡ None → head_in_row head held ≡ None
+unfolding head_in_row
 no_own head held none = rw none refl
 
-pub no_version : (head : Row) (held : List Row) (d : Durable) → own_told head ≡ Some d → number_at (column head 4) ≡ None → head_told head held ≡ None
-unfolding head_told
+pub no_version : (head : Row) (held : List Row) (d : Durable) → own_in_row head ≡ Some d → number_at (column head 4) ≡ None → head_in_row head held ≡ None
+unfolding head_in_row
 no_version head held d own none = rw (own, none) refl
 
-pub no_total : (head : Row) (held : List Row) (d : Durable) (version : ℕ) → own_told head ≡ Some d → number_at (column head 4) ≡ Some version → total_by version d.total held ≡ None → head_told head held ≡ None
-unfolding head_told
+pub no_total : (head : Row) (held : List Row) (d : Durable) (version : ℕ) → own_in_row head ≡ Some d → number_at (column head 4) ≡ Some version → total_by version d.total held ≡ None → head_in_row head held ≡ None
+unfolding head_in_row
 no_total head held d version own is none = rw (own, is, none) refl
 
 -- ---- the total of a version
@@ -43,7 +43,7 @@ pub not_first : (own : List Amount) (held amounts : List Row) → IsPermutation 
 not_first own [] amounts same some = absurd (some (length_permutation _ _ same))
 not_first own (r ∷ more) amounts same some = refl
 
-pub by_second : (own : List Amount) (held : List Row) → length own ≡ 0 → total_by 2 own held ≡ total_told held
+pub by_second : (own : List Amount) (held : List Row) → length own ≡ 0 → total_by 2 own held ≡ total_in_rows held
 by_second [] held none = refl
 by_second (r ∷ rs) held none = absurd (omega (arith, none))
 

@@ -19,8 +19,8 @@ use Rattle.record_text.specs.Texts.{record_form}
 use Rattle.record_text.specs.Written.{IsTask, IsDurable, IsWritten}
 use Rattle.record_text.specs.Reading.{◌>>=◌}
 use Rattle.record_text.proofs.Again.{one_record, one_written}
-use Rattle.record_saves.specs.Kept.{IsPut, Rise, Tells, body_in, head_told, kept_in, told, tasks_in, text_of, with_tasks}
-use Rattle.keep_store.specs.Kept.{AreTold, SomeUntold, IsDamaged, HoldsText, shown_body}
+use Rattle.record_saves.specs.Kept.{IsPut, Rise, AreRowsOf, body_in, head_in_row, kept_in, read_back, tasks_in, text_of, with_tasks}
+use Rattle.keep_store.specs.Kept.{AreTasksOf, SomeUnreadable, IsDamaged, HoldsText, shown_body}
 use Rattle.keep_rows.specs.Columns.{Gives}
 use Rattle.keep_rows.specs.Tables.{Shows, amount_shown, head_of, task_shown}
 use Rattle.keep_rows.specs.declared.fault.KeepFault.{KeepFault}
@@ -33,13 +33,13 @@ use Rattle.record_saves.proofs.RiseLemmas.{rises}
 
 -- ---- the loop over the rows
 
-told_push : (rows : List Row) (ts : List RecordedTask) (r : Row) (t : RecordedTask) → AreTold rows ts → told r ≡ Some t → AreTold (rows ++ r ∷ []) (ts ++ t ∷ [])
+told_push : (rows : List Row) (ts : List RecordedTask) (r : Row) (t : RecordedTask) → AreTasksOf rows ts → read_back r ≡ Some t → AreTasksOf (rows ++ r ∷ []) (ts ++ t ∷ [])
 told_push [] [] r t h is = (is, tt)
 told_push [] (x ∷ ts) r t h is = absurd h
 told_push (x ∷ rows) [] r t h is = absurd h
 told_push (x ∷ rows) (y ∷ ts) r t h is = (h.0, told_push rows ts r t h.1 is)
 
-pub told_more : (rows : List Row) (ts us : List RecordedTask) (i : ℕ) (r : Row) (t : RecordedTask) → i < length rows → r ≡ get_or rows i r → AreTold (take i rows) ts → told r ≡ Some t → us ≡ ts ++ t ∷ [] → AreTold (take (i + 1) rows) us
+pub told_more : (rows : List Row) (ts us : List RecordedTask) (i : ℕ) (r : Row) (t : RecordedTask) → i < length rows → r ≡ get_or rows i r → AreTasksOf (take i rows) ts → read_back r ≡ Some t → us ≡ ts ++ t ∷ [] → AreTasksOf (take (i + 1) rows) us
 told_more rows ts us i r t within at h is pushed =
     let split : take (i + 1) rows ≡ take i rows ++ r ∷ [] = take_more rows i r within ∙ ap (λ (x : Row). take i rows ++ x ∷ []) (sym at) in
     rw (split, pushed) (told_push (take i rows) ts r t h is)
@@ -51,7 +51,7 @@ all_push P xs ys x h is pushed = subst (AllByRecursion P) (sym pushed) (go xs h)
     go [] h = (is, tt)
     go (y ∷ xs) h = (h.0, go xs h.1)
 
-pub untold_at : (rows : List Row) (i : ℕ) (r : Row) → i < length rows → r ≡ get_or rows i r → told r ≡ None → SomeUntold rows
+pub untold_at : (rows : List Row) (i : ℕ) (r : Row) → i < length rows → r ≡ get_or rows i r → read_back r ≡ None → SomeUnreadable rows
 untold_at rows i r within at none = (r, has_at rows i r within at, none)
 
 pub gives_none : {A : Type 0} (e : KeepFault) (due : Option A) → Gives (λ (t : A). t) (Err e) due → e ≡ fault.Damaged → due ≡ None
@@ -62,30 +62,30 @@ gives_none fault.OutOfMemory due h is = absurd cc
 
 -- ---- what is told is kept
 
-pub same_told : (row : Row) → told (task_shown row) ≡ told row
-unfolding told
+pub same_told : (row : Row) → read_back (task_shown row) ≡ read_back row
+unfolding read_back
 same_told row = refl
 
-absent : (rows : List Row) (r : Row) → Has rows r → told r ≡ None → tasks_in rows ≡ None
+absent : (rows : List Row) (r : Row) → Has rows r → read_back r ≡ None → tasks_in rows ≡ None
 absent [] r at none = absurd at
-absent (x ∷ rows) r (inl same) none = ap (λ (o : Option RecordedTask). o >>= λ task. tasks_in rows >>= λ tasks. Some (Rattle.record_saves.specs.Kept.put_task task tasks)) (ap told (sym same) ∙ none)
-absent (x ∷ rows) r (inr at) none = go (told x) (absent rows r at none)
+absent (x ∷ rows) r (inl same) none = ap (λ (o : Option RecordedTask). o >>= λ task. tasks_in rows >>= λ tasks. Some (Rattle.record_saves.specs.Kept.put_task task tasks)) (ap read_back (sym same) ∙ none)
+absent (x ∷ rows) r (inr at) none = go (read_back x) (absent rows r at none)
   where
     go : (o : Option RecordedTask) → tasks_in rows ≡ None → (o >>= λ task. tasks_in rows >>= λ tasks. Some (Rattle.record_saves.specs.Kept.put_task task tasks)) ≡ None
     go None later = refl
     go (Some task) later = ap (λ (o : Option (List RecordedTask)). o >>= λ tasks. Some (Rattle.record_saves.specs.Kept.put_task task tasks)) later
 
-pub row_of_task : (rows : List Row) (ts : List RecordedTask) (t : RecordedTask) → AreTold rows ts → Has ts t → (r : Row) × Has rows r × (told r ≡ Some t)
+pub row_of_task : (rows : List Row) (ts : List RecordedTask) (t : RecordedTask) → AreTasksOf rows ts → Has ts t → (r : Row) × Has rows r × (read_back r ≡ Some t)
 row_of_task [] [] t h at = absurd at
 row_of_task [] (x ∷ ts) t h at = absurd h
 row_of_task (r ∷ rows) [] t h at = absurd at
 row_of_task (r ∷ rows) (x ∷ ts) t h (inl same) = (r, inl refl, h.0 ∙ ap (λ (s : RecordedTask). Some s) (sym same))
 row_of_task (r ∷ rows) (x ∷ ts) t h (inr at) = let it = row_of_task rows ts t h.1 at in (it.0, inr it.1, it.2)
 
-pub task_of_row : (rows : List Row) (ts : List RecordedTask) (r : Row) → AreTold rows ts → Has rows r → (t : RecordedTask) × Has ts t × (told r ≡ Some t)
+pub task_of_row : (rows : List Row) (ts : List RecordedTask) (r : Row) → AreTasksOf rows ts → Has rows r → (t : RecordedTask) × Has ts t × (read_back r ≡ Some t)
 task_of_row [] ts r h at = absurd at
 task_of_row (x ∷ rows) [] r h at = absurd h
-task_of_row (x ∷ rows) (t ∷ ts) r h (inl same) = (t, inl refl, ap told same ∙ h.0)
+task_of_row (x ∷ rows) (t ∷ ts) r h (inl same) = (t, inl refl, ap read_back same ∙ h.0)
 task_of_row (x ∷ rows) (t ∷ ts) r h (inr at) = let it = task_of_row rows ts r h.1 at in (it.0, inr it.1, it.2)
 
 -- ---- what the shown rows are, the tables keep
@@ -113,15 +113,15 @@ null_of_tasks old heads tasks amounts t ts is none = subst (λ all. tasks_in all
   where
     go : (old heads : List Row) → tasks_in (t ∷ ts) ≡ None → body_in old heads (t ∷ ts) amounts ≡ Some Null
     go [] [] none = refl
-    go [] (h ∷ hs) none = ap (λ (o : Option (List RecordedTask)). Some (text_of (o >>= λ told. head_told (head_of h) (map amount_shown amounts) >>= λ d. Some (with_tasks told d)))) none
+    go [] (h ∷ hs) none = ap (λ (o : Option (List RecordedTask)). Some (text_of (o >>= λ read_back. head_in_row (head_of h) (map amount_shown amounts) >>= λ d. Some (with_tasks read_back d)))) none
     go (o ∷ os) [] none = refl
     go (o ∷ os) (h ∷ hs) none = refl
 
-pub untold_damaged : (db : Trees) (records heads tasks amounts : List Row) → Shows db records heads tasks amounts → SomeUntold tasks → IsDamaged (kept_in db).body
+pub untold_damaged : (db : Trees) (records heads tasks amounts : List Row) → Shows db records heads tasks amounts → SomeUnreadable tasks → IsDamaged (kept_in db).body
 untold_damaged db records heads tasks amounts shows it =
     let was = has_permuted (map task_shown (db 3)) tasks it.0 shows.task_rows it.1 in
     let row = has_mapped task_shown (db 3) it.0 was in
-    let none = absent (db 3) row.0 row.1 (sym (same_told row.0) ∙ ap told (sym row.2) ∙ it.2) in
+    let none = absent (db 3) row.0 row.1 (sym (same_told row.0) ∙ ap read_back (sym row.2) ∙ it.2) in
     let first = first_of (db 3) row.0 row.1 in
     damaged_null _ (null_of_tasks (db 0) (db 2) (db 3) (db 5) first.0 first.1 first.2 none)
   where
@@ -198,7 +198,7 @@ both_damaged db records heads tasks amounts head more shows is some =
     damaged_null _ (rw (h.2, r.2) refl)
 
 abbrev told_by : Trees → Row → Option Durable
-told_by db head = tasks_in (db 3) >>= λ told. head_told head (map amount_shown (db 5)) >>= λ d. Some (with_tasks told d)
+told_by db head = tasks_in (db 3) >>= λ read_back. head_in_row head (map amount_shown (db 5)) >>= λ d. Some (with_tasks read_back d)
 
 headed : (db : Trees) (records heads tasks amounts : List Row) (head : Row) (more : List Row) → Shows db records heads tasks amounts → heads ≡ head ∷ more → length records ≡ 0 → (kept_in db).body ≡ Some (text_of (told_by db head))
 headed db records heads tasks amounts head more shows is none =
@@ -206,17 +206,17 @@ headed db records heads tasks amounts head more shows is none =
     with_head (db 0) (db 2) (db 3) (db 5) h.0 h.1 (no_records db records heads tasks amounts shows none) h.2 ∙ ap (λ (row : Row). Some (text_of (told_by db row))) (sym h.3)
 
 -- a head that tells no record
-pub unheaded_damaged : (db : Trees) (records heads tasks amounts : List Row) (head : Row) (more : List Row) → Shows db records heads tasks amounts → heads ≡ head ∷ more → length records ≡ 0 → head_told head (map amount_shown (db 5)) ≡ None → IsDamaged (kept_in db).body
-unheaded_damaged db records heads tasks amounts head more shows is none untold =
+pub unheaded_damaged : (db : Trees) (records heads tasks amounts : List Row) (head : Row) (more : List Row) → Shows db records heads tasks amounts → heads ≡ head ∷ more → length records ≡ 0 → head_in_row head (map amount_shown (db 5)) ≡ None → IsDamaged (kept_in db).body
+unheaded_damaged db records heads tasks amounts head more shows is none unreadable =
     damaged_null _ (headed db records heads tasks amounts head more shows is none ∙ ap (λ (o : Option Durable). Some (text_of o)) (go (tasks_in (db 3))))
   where
-    go : (o : Option (List RecordedTask)) → (o >>= λ told. head_told head (map amount_shown (db 5)) >>= λ d. Some (with_tasks told d)) ≡ None
+    go : (o : Option (List RecordedTask)) → (o >>= λ read_back. head_in_row head (map amount_shown (db 5)) >>= λ d. Some (with_tasks read_back d)) ≡ None
     go None = refl
-    go (Some ts) = ap (λ (o : Option Durable). o >>= λ d. Some (with_tasks ts d)) untold
+    go (Some ts) = ap (λ (o : Option Durable). o >>= λ d. Some (with_tasks ts d)) unreadable
 
 -- the text that is kept where the tasks rise
 pub text_kept : (db : Trees) (records heads tasks amounts : List Row) (head : Row) (more : List Row) (ts : List RecordedTask) (d : Durable) → Shows db records heads tasks amounts → heads ≡ head ∷ more → length records ≡ 0
-    → AreTold tasks ts → AllByRecursion IsTask ts → keys_rise ts ≡ true → head_told head (map amount_shown (db 5)) ≡ Some d → HoldsText (kept_in db).body (record_form (with_tasks ts d))
+    → AreTasksOf tasks ts → AllByRecursion IsTask ts → keys_rise ts ≡ true → head_in_row head (map amount_shown (db 5)) ≡ Some d → HoldsText (kept_in db).body (record_form (with_tasks ts d))
 text_kept db records heads tasks amounts head more ts d shows is none are all rise told_head =
     let up = rises ts all rise in
     let tasks_are = tells_all ts up (db 3)
@@ -228,9 +228,9 @@ text_kept db records heads tasks amounts head more ts d shows is none are all ri
     let it = row_of_task tasks ts t are at in
     let was = has_permuted (map task_shown (db 3)) tasks it.0 shows.task_rows it.1 in
     let row = has_mapped task_shown (db 3) it.0 was in
-    (row.0, row.1, sym (same_told row.0) ∙ ap told (sym row.2) ∙ it.2)) in
+    (row.0, row.1, sym (same_told row.0) ∙ ap read_back (sym row.2) ∙ it.2)) in
     headed db records heads tasks amounts head more shows is none
-    ∙ ap (λ (o : Option (List RecordedTask)). Some (text_of (o >>= λ told. head_told head (map amount_shown (db 5)) >>= λ d. Some (with_tasks told d)))) tasks_are
+    ∙ ap (λ (o : Option (List RecordedTask)). Some (text_of (o >>= λ read_back. head_in_row head (map amount_shown (db 5)) >>= λ d. Some (with_tasks read_back d)))) tasks_are
     ∙ ap (λ (o : Option Durable). Some (text_of (o >>= λ d. Some (with_tasks ts d)))) told_head
 
 same_text : (body : Option Value) (s t : List ℕ) → HoldsText body s → HoldsText body t → s ≡ t

@@ -11,7 +11,7 @@ use Rattle.mails.specs.declared.record.RecordedTask.{RecordedTask}
 use Rattle.mails.specs.declared.record.Durable.{Durable}
 use Rattle.record_text.specs.Written.{IsWritten}
 use Rattle.agent_core.specs.Records.{is_record}
-use Rattle.record_saves.specs.Kept.{Kept, body_in, last_in, told, whole, with_last, TellsTask}
+use Rattle.record_saves.specs.Kept.{Kept, body_in, last_in, read_back, whole, with_last, IsRowOf}
 
 -- the value of the row of a table of an id and a value
 abbrev pub value_in : List Row → Option Value
@@ -59,13 +59,13 @@ abbrev pub run_in : Trees → Option Value
 run_in db = value_in (db 1)
 
 -- the last run in a row, 0 where there is no row
-abbrev pub TellsRun : Option Value → ℕ → Type 0
-TellsRun None n = n ≡ 0
-TellsRun (Some value) n = value ≡ Int (pos n)
+abbrev pub HoldsRun : Option Value → ℕ → Type 0
+HoldsRun None n = n ≡ 0
+HoldsRun (Some value) n = value ≡ Int (pos n)
 
 -- there is a row, and in it no whole number from 0 to 4,294,967,295
-abbrev pub TellsNoRun : Option Value → Type 0
-TellsNoRun held = (n : ℕ) → n < 2 ^ 32 → TellsRun held n → ⊥
+abbrev pub HoldsNoRun : Option Value → Type 0
+HoldsNoRun held = (n : ℕ) → n < 2 ^ 32 → HoldsRun held n → ⊥
 
 abbrev pub shown_body : List Row → Option Value
 shown_body [] = None
@@ -76,16 +76,16 @@ shown_last [] = 0
 shown_last (row ∷ more) = whole (column row 0)
 
 -- each row is read as the task at its place in the list
-abbrev pub AreTold : List Row → List RecordedTask → Type 0
-AreTold [] [] = ⊤
-AreTold [] (task ∷ tasks) = ⊥
-AreTold (row ∷ rows) [] = ⊥
-AreTold (row ∷ rows) (task ∷ tasks) = (told row ≡ Some task) × AreTold rows tasks
+abbrev pub AreTasksOf : List Row → List RecordedTask → Type 0
+AreTasksOf [] [] = ⊤
+AreTasksOf [] (task ∷ tasks) = ⊥
+AreTasksOf (row ∷ rows) [] = ⊥
+AreTasksOf (row ∷ rows) (task ∷ tasks) = (read_back row ≡ Some task) × AreTasksOf rows tasks
 
 -- some row can't be read as a task
-abbrev pub SomeUntold : List Row → Type 0
-SomeUntold rows = (row : Row) × Has rows row × (told row ≡ None)
+abbrev pub SomeUnreadable : List Row → Type 0
+SomeUnreadable rows = (row : Row) × Has rows row × (read_back row ≡ None)
 
 -- a row is at the place of the task that it is read as
 abbrev pub IsPlaced : Row → Type 0
-IsPlaced row = (task : RecordedTask) → told row ≡ Some task → TellsTask row task
+IsPlaced row = (task : RecordedTask) → read_back row ≡ Some task → IsRowOf row task

@@ -10,14 +10,14 @@ ghost use Rattle.agent_core.specs.Records.{is_record};
 ghost use Rattle.record_text.specs.Texts.{record_form};
 ghost use Rattle.record_text.specs.Written.{IsDurable};
 ghost use Rattle.record_saves.specs.Kept.{kept_in, with_record};
-ghost use Rattle.keep_store.specs.Kept.{first_kept, nothing, second_kept, with_run, HoldsText, IsDamaged, IsLoaded, TellsRun, TellsNoRun, run_in, shown_body, shown_last};
+ghost use Rattle.keep_store.specs.Kept.{first_kept, nothing, second_kept, with_run, HoldsText, IsDamaged, IsLoaded, HoldsRun, HoldsNoRun, run_in, shown_body, shown_last};
 ghost use Rattle.record_saves.specs.Stops.{LeavesEither, Stands};
 ghost use Rattle.keep_rows.specs.Tables.{IsReady, Stays, first_schema, second_schema, no_schema};
 ghost use Rattle.keep_rows.specs.declared.fault.KeepFault.TheVariants as faults;
 
 use crate::check::prepare;
+use crate::reading::record_shown;
 use crate::seen::seen_in;
-use crate::told::record_shown;
 use agent_core::Record;
 use keep_rows::statements::read_lasts;
 use keep_rows::{KeepFault, read_rows};
@@ -83,8 +83,8 @@ fn if_known<T: Drop>(is_known: bool, it: Option<T>) -> Option<T>
 /// The number in the first row, or 0.
 fn first_number(rows: &[Row]) -> Result<u32, KeepFault>
     ensures value { IfOk result (λ n. n ≡ shown_last rows.now) }
-    ensures told { IfOk result (TellsRun (shown_body rows.now)) }
-    ensures damaged { IsErrOf result KeepFault.Damaged → TellsNoRun (shown_body rows.now) }
+    ensures read_back { IfOk result (HoldsRun (shown_body rows.now)) }
+    ensures damaged { IsErrOf result KeepFault.Damaged → HoldsNoRun (shown_body rows.now) }
     ensures unspent { IfErr result (λ e. e ≢ KeepFault.RunsSpent) }
 {
     let Some(row) = rows.first() else {
@@ -103,11 +103,11 @@ fn last_run<S: Alter>(conn: &mut Connection<S>) -> Result<u32, KeepFault>
     ensures unspent { IfErr result (λ e. e ≢ KeepFault.RunsSpent) }
     ensures value { IsReady (state S.Store conn.old) → HasCleanDisk (state S.Store conn.new)
         → IfOk result (λ n. n ≡ (kept_in (state S.Store conn.old).now.trees).last) }
-    ensures told { IsReady (state S.Store conn.old) → HasCleanDisk (state S.Store conn.new)
-        → IfOk result (TellsRun (run_in (state S.Store conn.old).now.trees)) }
+    ensures read_back { IsReady (state S.Store conn.old) → HasCleanDisk (state S.Store conn.new)
+        → IfOk result (HoldsRun (run_in (state S.Store conn.old).now.trees)) }
     ensures damaged { IsReady (state S.Store conn.old) → HasCleanDisk (state S.Store conn.new)
         → IsErrOf result KeepFault.Damaged
-        → TellsNoRun (run_in (state S.Store conn.old).now.trees) }
+        → HoldsNoRun (run_in (state S.Store conn.old).now.trees) }
     ensures stays { IsReady (state S.Store conn.old) → HasCleanDisk (state S.Store conn.new)
         → Stays (state S.Store conn.old) (state S.Store conn.new) }
     ensures up { IsReady (state S.Store conn.old) → HasCleanDisk (state S.Store conn.new)
@@ -271,12 +271,12 @@ impl<S: Alter> Keeper<S> {
         ensures stop { IsReady (state S.Store self.old)
             → LeavesEither (state S.Store self.old) (state S.Store self.new) with_run }
         ensures stands { Stands (state S.Store self.new) }
-        ensures told { IsReady (state S.Store self.old) → HasCleanDisk (state S.Store self.new)
-            → OnOk result (TellsRun (run_in (state S.Store self.old).now.trees)
+        ensures read_back { IsReady (state S.Store self.old) → HasCleanDisk (state S.Store self.new)
+            → OnOk result (HoldsRun (run_in (state S.Store self.old).now.trees)
             (kept_in (state S.Store self.old).now.trees).last) }
         ensures damaged { IsReady (state S.Store self.old) → HasCleanDisk (state S.Store self.new)
             → IsErrOf result KeepFault.Damaged
-            → TellsNoRun (run_in (state S.Store self.old).now.trees) }
+            → HoldsNoRun (run_in (state S.Store self.old).now.trees) }
         ensures spent { IsReady (state S.Store self.old) → HasCleanDisk (state S.Store self.new)
             → IsErrOf result KeepFault.RunsSpent
             → 65535 ≤ (kept_in (state S.Store self.old).now.trees).last }

@@ -5,9 +5,9 @@ mod check;
 mod files;
 mod keeper;
 mod open;
+mod reading;
 mod record;
 mod seen;
-mod told;
 
 pub use keep_rows::KeepFault;
 pub use keeper::Keeper;

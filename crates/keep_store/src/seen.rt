@@ -5,7 +5,7 @@ ghost use Rattle.std.specs.List.{AllByRecursion};
 ghost use Rattle.sqlite.specs.Tree.{Trees};
 ghost use Rattle.mails.specs.declared.record.Durable.{Durable};
 ghost use Rattle.record_saves.specs.Kept.{AreSeen, IsPut, Knows};
-ghost use Rattle.keep_store.specs.Kept.{AreTold, IsPlaced};
+ghost use Rattle.keep_store.specs.Kept.{AreTasksOf, IsPlaced};
 ghost use Rattle.keep_rows.specs.Tables.{Shows};
 
 use agent_core::Record;
@@ -42,8 +42,8 @@ fn are_placed(rows: &[Row]) -> bool
 
 /// The tasks of a record that was found with a head, where each row is at its task's place.
 pub fn seen_in(rows: &Rows, found: &Option<Record>) -> Option<Listed<Shared<RecordedTask>>>
-    requires told { (d : Durable) → found.now ≡ Some d → length rows.now.heads.items ≢ 0
-        → AreTold rows.now.tasks.items d.tasks × AllByRecursion IsPut d.tasks }
+    requires read_back { (d : Durable) → found.now ≡ Some d → length rows.now.heads.items ≢ 0
+        → AreTasksOf rows.now.tasks.items d.tasks × AllByRecursion IsPut d.tasks }
     ensures put { AreSeen result }
     ensures knows { (db : Trees)
         → Shows db rows.now.records.items rows.now.heads.items rows.now.tasks.items

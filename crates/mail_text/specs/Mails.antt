@@ -87,7 +87,7 @@ booked_data t = object
     (member (codes "key") (key_data t.job.key)
     (member (codes "name") (string t.job.name)
     (member (codes "resources") (amounts t.job.resources)
-    (member (codes "sent") (whole t.heard)
+    (member (codes "sent") (whole t.received)
     (member (codes "state") (string (state_text t.state)) no_members)))))))
 
 -- members, and one that says whether a task has ended
@@ -118,8 +118,8 @@ update_data agent session key k state ended = only (codes "update") (object
     (member (codes "state") (string (state_text state)) no_members)))))))
 
 -- the members of an update, but for its agent and session
-abbrev pub told_members : Numbered → ℕ → TaskState → Bool → Members
-told_members key k state ended =
+abbrev pub update_members : Numbered → ℕ → TaskState → Bool → Members
+update_members key k state ended =
     member (codes "ended") (boolean ended)
     (member (codes "k") (whole k)
     (member (codes "key") (key_data key)

@@ -4,7 +4,7 @@ ghost use Rattle.std.specs.Prelude.{◌≡◌, [], codes, IfOk, OnOk, string_byt
 ghost use Rattle.serde_json.specs.Data.{object};
 ghost use Rattle.serde_json.specs.View.{view, members_view};
 ghost use Rattle.record_text.specs.Texts.{list_data};
-ghost use Rattle.mail_text.specs.Mails.{agent_mail_data, applied_data, booked_data, ending, only, report_data, to_master_form, told_members, update_data};
+ghost use Rattle.mail_text.specs.Mails.{agent_mail_data, applied_data, booked_data, ending, only, report_data, to_master_form, update_members, update_data};
 
 use crate::object::{only, put_origin, put_text};
 use mails::{AgentMail, Booked, ToMaster};
@@ -26,7 +26,7 @@ fn put_booked(
         ≡ booked_data task.now) }
 {
     put_job(members, alloc, &task.job)?;
-    put(members, alloc, "sent", Value::from(task.heard))?;
+    put(members, alloc, "sent", Value::from(task.received))?;
     put_text(members, alloc, "state", task.state.as_text())
 }
 
@@ -99,7 +99,7 @@ fn applied_value(alloc: Global, agent: &str, session: u32, count: u32) -> Result
 }
 
 /// Inserts the members of an update into an empty object, all but its agent and session.
-fn put_told(
+fn put_update(
     members: &mut Map<String, Value>,
     alloc: Global,
     key: &LaunchKey,
@@ -108,7 +108,8 @@ fn put_told(
     ended: bool,
 ) -> Result<(), AllocError>
     requires { members.old.entries ≡ [] }
-    ensures { OnOk result (members_view members.new.entries ≡ told_members key.now k state ended) }
+    ensures { OnOk result
+        (members_view members.new.entries ≡ update_members key.now k state ended) }
 {
     put(members, alloc, "ended", Value::from(ended))?;
     put(members, alloc, "k", Value::from(k))?;
@@ -130,7 +131,7 @@ fn update_value(
     ensures { IfOk result (λ v. view v ≡ update_data agent.now session key.now k state ended) }
 {
     let mut members = Map::new(alloc);
-    put_told(&mut members, alloc, key, k, state, ended)?;
+    put_update(&mut members, alloc, key, k, state, ended)?;
     put_origin(&mut members, alloc, agent, session)?;
     only(alloc, "update", Value::Object(members))
 }

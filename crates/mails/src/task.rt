@@ -58,7 +58,7 @@ pub struct Booked {
     /// Whether it has ended for good.
     pub ended: bool,
     /// How many of its updates were received; in a report, how many were sent.
-    pub heard: u32,
+    pub received: u32,
     /// The state of the last update that was received, or TASK_STAGING.
     pub state: TaskState,
 }
@@ -69,7 +69,7 @@ impl Drop for Booked {
         let Booked {
             job: _,
             ended: _,
-            heard: _,
+            received: _,
             state: _,
         } = self;
     }
@@ -84,7 +84,7 @@ impl Plain for Booked {
     ghost cloned = { Prim.search rules };
 
     ghost decided = { λ x y. (let d = and_decides (job_decided x.job y.job) (and_decides
-        (booleans_Decides x.ended y.ended) (and_decides (unsigned_Decides x.heard y.heard)
+        (booleans_Decides x.ended y.ended) (and_decides (unsigned_Decides x.received y.received)
         (state_decided x.state y.state))) in (
           (λ h. let e = d.0 h in
               Prim.search rules),

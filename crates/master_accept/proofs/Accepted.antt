@@ -61,15 +61,15 @@ none_so : (s : State) (f : Framework) (caller : Caller) (ids : List Numbered) (t
     → work_of (accepted_none caller ids tasks s) ≡ done (accepted_as (master_of s) f ids seconds None (accepts_all (master_of s) f None tasks)) (work_of s)
 none_so s f caller ids tasks seconds id e names =
     ap (λ (u : State). work_of (without_offers (is_named caller.framework ids) u)) (ap (λ es. fold (accepts.loses_one caller) (with_raw s es) tasks) (sym (none_more s.outs.events)) ∙ lost_all s f caller tasks start id e refl)
-    ∙ ap (λ x. told_work s x (s.outs.events ++ told)) (sym (all_withdrawn (is_named caller.framework ids) s.sides (run_of s) s.outs.mails names))
-    ∙ ap (λ i. told_work s (move_all (withdraws (is_named i ids) (master_of s)) (moved_so (run_of s) s.sides s.outs.mails)) (s.outs.events ++ told)) (sym id)
+    ∙ ap (λ x. told_work s x (s.outs.events ++ event_sent)) (sym (all_withdrawn (is_named caller.framework ids) s.sides (run_of s) s.outs.mails names))
+    ∙ ap (λ i. told_work s (move_all (withdraws (is_named i ids) (master_of s)) (moved_so (run_of s) s.sides s.outs.mails)) (s.outs.events ++ event_sent)) (sym id)
     ∙ rw (none_more s.outs.opened, none_more s.outs.closed) refl
   where
     start : Accepting
     start = record { booked = all_booked (master_of s); jobs = []; used = []; next = record { run = s.run; n = suc s.last_key }; events = [] }
 
-    told : List StreamEvent
-    told = (accepts_all (master_of s) f None tasks).events
+    event_sent : List StreamEvent
+    event_sent = (accepts_all (master_of s) f None tasks).events
 
 -- offers that are good
 

@@ -24,7 +24,7 @@ use Rattle.offer_book.specs.Held.{first_at, is_of_name, place}
 use Rattle.agent_sides.specs.Looks.{all_placed}
 use Rattle.master_state.specs.declared.state.State.{State}
 use Rattle.scheduler_events.specs.declared.stream_event.StreamEvent.{StreamEvent}
-use Rattle.master_state.specs.States.{told_of_task}
+use Rattle.master_state.specs.States.{task_state_sent}
 use Rattle.master_state.specs.Works.{master_of}
 use Rattle.master_accept.specs.Accepts.{Bench, Caller, bench, held_task, is_covered, launches, loses_as, loses_one, new_task, no_progress, takes_as, takes_one}
 
@@ -125,15 +125,15 @@ with_raw_events s es = record s { outs = record s.outs { events = es } }
 one_more : (s : State) (ts : List StreamEvent) (t : StreamEvent) → with_raw_events s ((s.outs.events ++ ts) ++ t ∷ []) ≡ with_events s (ts ++ t ∷ [])
 one_more s ts t = ap (with_raw_events s) (append_twice s.outs.events ts t)
 
-tells : (s : State) (ts : List StreamEvent) (stream : Numbered) (f : Framework) (task : List ℕ) (state : TaskState) (agent : Option (List ℕ)) → f.stream ≡ Some stream
-    → told_of_task stream task state agent (with_events s ts) ≡ with_events s (ts ++ answers f task state agent)
-tells s ts stream f task state agent e = one_more s ts (record { stream = stream; event = update }) ∙ ap (λ o. with_events s (ts ++ told_on o)) (sym e)
+events_to : (s : State) (ts : List StreamEvent) (stream : Numbered) (f : Framework) (task : List ℕ) (state : TaskState) (agent : Option (List ℕ)) → f.stream ≡ Some stream
+    → task_state_sent stream task state agent (with_events s ts) ≡ with_events s (ts ++ answers f task state agent)
+events_to s ts stream f task state agent e = one_more s ts (record { stream = stream; event = update }) ∙ ap (λ o. with_events s (ts ++ events_on o)) (sym e)
   where
     update : Event
     update = update_event task state agent None
 
-    told_on : Option Numbered → List StreamEvent
-    told_on o = on_stream o update
+    events_on : Option Numbered → List StreamEvent
+    events_on o = on_stream o update
 
 -- jobs with keys in order from the next one on, each covered beside those before
 
@@ -175,9 +175,9 @@ pub record Come (s : State) (f : Framework) (g : Given) (b : Bench) (x : Accepti
   pub key : x.next ≡ next_after (record { run = s.run; n = suc s.last_key }) x.jobs
 
 answered : (s : State) (f : Framework) (g : Given) (b : Bench) (x : Accepting) (stream : Numbered) (task : List ℕ) (state : TaskState) (agent : Option (List ℕ)) → f.stream ≡ Some stream → Come s f g b x
-    → Come s f g (bench (told_of_task stream task state agent b.state) b.progress) (answering x (answers f task state agent))
+    → Come s f g (bench (task_state_sent stream task state agent b.state) b.progress) (answering x (answers f task state agent))
 answered s f g b x stream task state agent e h = record {
-  state = ap (told_of_task stream task state agent) h.state ∙ tells s x.events stream f task state agent e;
+  state = ap (task_state_sent stream task state agent) h.state ∙ events_to s x.events stream f task state agent e;
   booked = h.booked;
   jobs = h.jobs;
   rest = h.rest;
@@ -226,7 +226,7 @@ taken_as s f g caller b x t are id e None h = by (is_covered g.agent b.progress.
     same_test = ap (λ c. bytes_eq t.agent g.agent && not (is_empty t.resources) && c) (ap (λ rows. covers rows t.resources) h.rest ∙ covers_rest g.budget x.used t.resources are h.covered)
 
     by : (u v : Bool) → u ≡ v → model.is_covered g x.used t ≡ v
-        → Come s f g (cond u (bench b.state (launches b.state.run caller.framework t b.progress)) (bench (told_of_task caller.stream t.name Error (Some t.agent) b.state) b.progress)) (cond v (launching f g x t) (answering x (answers f t.name Error (Some t.agent))))
+        → Come s f g (cond u (bench b.state (launches b.state.run caller.framework t b.progress)) (bench (task_state_sent caller.stream t.name Error (Some t.agent) b.state) b.progress)) (cond v (launching f g x t) (answering x (answers f t.name Error (Some t.agent))))
     by true true q c = subst (λ i. Come s f g (bench b.state (launches b.state.run i t b.progress)) (launching f g x t)) id (launched s f g b x t (both_true (bytes_eq t.agent g.agent && not (is_empty t.resources)) (covers g.budget (t.resources ++ x.used)) c).1 h)
     by true false q c = absurd cc
     by false true q c = absurd cc
@@ -276,8 +276,8 @@ begins s f g are = record {
 
 lost_as : (s : State) (f : Framework) (caller : Caller) (x : Accepting) (t : TaskInfo) → f.stream ≡ Some caller.stream → (o : Option Placed)
     → loses_as caller (with_events s x.events) t (option_map held_task o) ≡ with_events s (accepts_as f None x t o).events
-lost_as s f caller x t e (Some p) = tells s x.events caller.stream f p.booked.job.name p.booked.state (Some p.agent) e
-lost_as s f caller x t e None = tells s x.events caller.stream f t.name Lost (Some t.agent) e
+lost_as s f caller x t e (Some p) = events_to s x.events caller.stream f p.booked.job.name p.booked.state (Some p.agent) e
+lost_as s f caller x t e None = events_to s x.events caller.stream f t.name Lost (Some t.agent) e
 
 booked_stays : (f : Framework) (x : Accepting) (t : TaskInfo) (o : Option Placed) → (accepts_as f None x t o).booked ≡ x.booked
 booked_stays f x t None = refl

@@ -19,7 +19,7 @@ use Rattle.cluster_model.specs.Masters.{Moved, at_side, past_side}
 use Rattle.agent_sides.specs.Configs.{are_ordered}
 use Rattle.agent_sides.specs.Joined.{side_names}
 use Rattle.agent_sides.specs.Changes.{with_task}
-use Rattle.agent_sides.specs.Looks.{at_name, next_command, told_of}
+use Rattle.agent_sides.specs.Looks.{at_name, next_command, value_of}
 use Rattle.roster.specs.Sessions.{with_command}
 use Rattle.master_state.specs.declared.state.State.{State}
 use Rattle.master_state.specs.States.{ordered, ordered_as}
@@ -77,9 +77,9 @@ pub change_there : (name : List ℕ) (f : Side → Side) (xs ys : List Side) (t 
 change_there name f [] ys t o e = rw e refl
 change_there name f (x ∷ xs) ys t o e = rw o.0 (ap (λ us. x ∷ us) (change_there name f xs ys t o.1 e))
 
-told_there : {X : Type 0} (name : List ℕ) (tell : Side → X) (none : X) (xs ys : List Side) (t : Side) → Others name xs → bytes_eq t.name name ≡ true → told_of name tell none (xs ++ t ∷ ys) ≡ tell t
-told_there name tell none [] ys t o e = rw e refl
-told_there name tell none (x ∷ xs) ys t o e = rw o.0 (told_there name tell none xs ys t o.1 e)
+told_there : {X : Type 0} (name : List ℕ) (send_event : Side → X) (none : X) (xs ys : List Side) (t : Side) → Others name xs → bytes_eq t.name name ≡ true → value_of name send_event none (xs ++ t ∷ ys) ≡ send_event t
+told_there name send_event none [] ys t o e = rw e refl
+told_there name send_event none (x ∷ xs) ys t o e = rw o.0 (told_there name send_event none xs ys t o.1 e)
 
 pub found_there : (name : List ℕ) (xs ys : List Side) (t : Side) → Others name xs → bytes_eq t.name name ≡ true → find (λ s. bytes_eq s.name name) (xs ++ t ∷ ys) ≡ Some t
 found_there name [] ys t o e = rw e refl

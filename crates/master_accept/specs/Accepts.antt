@@ -17,7 +17,7 @@ use Rattle.offer_book.specs.Held.{first_at}
 use Rattle.agent_sides.specs.Looks.{all_placed, at_name}
 use Rattle.agent_sides.specs.declared.own.GoodOffers.{GoodOffers}
 use Rattle.master_state.specs.declared.state.State.{State}
-use Rattle.master_state.specs.States.{told_of_task, without_offers}
+use Rattle.master_state.specs.States.{task_state_sent, without_offers}
 use Rattle.master_accept.specs.Launches.{launched_all}
 pub use Rattle.master_accept.specs.declared.take.Caller.{Caller}
 pub use Rattle.master_accept.specs.declared.take.HeldTask.{HeldTask}
@@ -28,8 +28,8 @@ pub use Rattle.master_accept.specs.declared.take.Progress.{Progress}
 abbrev pub held_task : Placed → HeldTask
 held_task p = record { name = p.booked.job.name; agent = p.agent; state = p.booked.state }
 
-abbrev pub tells_held : Numbered → HeldTask → State → State
-tells_held stream held s = told_of_task stream held.name held.state (Some held.agent) s
+abbrev pub sends_held : Numbered → HeldTask → State → State
+sends_held stream held s = task_state_sent stream held.name held.state (Some held.agent) s
 
 -- the booked task of a framework with this name, or the one that was launched on an agent before
 abbrev pub held_so : Numbered → List ℕ → List ℕ → List Booked → State → Option HeldTask
@@ -40,8 +40,8 @@ held_so framework name agent launched s =
 -- offers that aren't good
 
 abbrev pub loses_as : Caller → State → TaskInfo → Option HeldTask → State
-loses_as caller s task (Some held) = tells_held caller.stream held s
-loses_as caller s task None = told_of_task caller.stream task.name Lost (Some task.agent) s
+loses_as caller s task (Some held) = sends_held caller.stream held s
+loses_as caller s task None = task_state_sent caller.stream task.name Lost (Some task.agent) s
 
 abbrev pub loses_one : Caller → State → TaskInfo → State
 loses_one caller s task =
@@ -81,11 +81,11 @@ launches run framework task p = record {
 }
 
 abbrev pub takes_as : Caller → List ℕ → Bench → TaskInfo → Option HeldTask → Bench
-takes_as caller agent b task (Some held) = bench (tells_held caller.stream held b.state) b.progress
+takes_as caller agent b task (Some held) = bench (sends_held caller.stream held b.state) b.progress
 takes_as caller agent b task None =
     if is_covered agent b.progress.rest task
     then bench b.state (launches b.state.run caller.framework task b.progress)
-    else bench (told_of_task caller.stream task.name Error (Some task.agent) b.state) b.progress
+    else bench (task_state_sent caller.stream task.name Error (Some task.agent) b.state) b.progress
 
 abbrev pub takes_one : Caller → List ℕ → Bench → TaskInfo → Bench
 takes_one caller agent b task =

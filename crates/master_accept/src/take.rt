@@ -6,8 +6,8 @@ ghost use Rattle.cluster_model.specs.Ids.{last_number};
 ghost use Rattle.cluster_model.specs.Masters.{held_among};
 ghost use Rattle.agent_sides.specs.Looks.{all_placed};
 ghost use Rattle.offer_book.specs.Held.{place, first_at};
-ghost use Rattle.master_state.specs.States.{told_of_task};
-ghost use Rattle.master_accept.specs.Accepts.{bench, held_task, is_covered, launches, loses_one, new_task, takes_as, takes_one, tells_held};
+ghost use Rattle.master_state.specs.States.{task_state_sent};
+ghost use Rattle.master_accept.specs.Accepts.{bench, held_task, is_covered, launches, loses_one, new_task, takes_as, takes_one, sends_held};
 
 use agent_sides::Sides;
 use listed::Listed;
@@ -76,25 +76,26 @@ fn held_of(
     }
 }
 
-fn tell_held(state: &mut State, stream: StreamId, held: HeldTask) -> Result<(), AllocError>
-    ensures { OnOk result (state.new ≡ tells_held stream held state.old) }
+fn send_held(state: &mut State, stream: StreamId, held: HeldTask) -> Result<(), AllocError>
+    ensures { OnOk result (state.new ≡ sends_held stream held state.old) }
 {
-    state.tell_task(stream, held.name, held.state, Some(held.agent))
+    state.send_task_state(stream, held.name, held.state, Some(held.agent))
 }
 
-fn tell_asked(
+fn send_asked(
     state: &mut State,
     alloc: Global,
     stream: StreamId,
     task: &TaskInfo,
     what: TaskState,
 ) -> Result<(), AllocError>
-    ensures { OnOk result (state.new ≡ told_of_task stream task.now.name what (Some task.now.agent)
+    ensures { OnOk result (state.new
+        ≡ task_state_sent stream task.now.name what (Some task.now.agent)
         state.old) }
 {
     let name = task.name.copy()?;
     let agent = task.agent.copy()?;
-    state.tell_task(stream, name, what, Some(agent))
+    state.send_task_state(stream, name, what, Some(agent))
 }
 
 /// A task whose offers aren't good is answered its state where it is held,
@@ -109,8 +110,8 @@ fn lose_one(
 {
     let framework = caller.framework;
     match held_of(&state.sides, alloc, framework, &task.agent, &[], &task.name)? {
-        Some(held) => tell_held(state, caller.stream, held),
-        None => tell_asked(state, alloc, caller.stream, task, TaskState::Lost),
+        Some(held) => send_held(state, caller.stream, held),
+        None => send_asked(state, alloc, caller.stream, task, TaskState::Lost),
     }
 }
 
@@ -147,7 +148,7 @@ fn new_task(framework: FrameworkId, key: LaunchKey, task: &TaskInfo) -> Result<B
     Ok(Booked {
         job,
         ended: false,
-        heard: 0,
+        received: 0,
         state: TaskState::Staging,
     })
 }
@@ -184,12 +185,12 @@ fn take_as(
         ≡ takes_as caller.now agent.now (bench state.old progress.old) task.now held) }
 {
     if let Some(held) = held {
-        return tell_held(state, caller.stream, held);
+        return send_held(state, caller.stream, held);
     }
     if is_covered(agent, &progress.rest, task) {
         return launch(progress, alloc, state.run, caller.framework, task);
     }
-    tell_asked(state, alloc, caller.stream, task, TaskState::Error)
+    send_asked(state, alloc, caller.stream, task, TaskState::Error)
 }
 
 fn take_one(

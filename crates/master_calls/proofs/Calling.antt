@@ -15,7 +15,7 @@ use Rattle.cluster_model.specs.Masters.{AtSide, Doing, Master, Moved, Placed, he
 use Rattle.cluster_model.specs.Calls.{by_framework, called, commanding, on_acknowledge, on_kill}
 use Rattle.frameworks.specs.Frameworks.{KeepsId, are_ordered, changed}
 use Rattle.frameworks.proofs.Ordered.{put_changed}
-use Rattle.agent_sides.specs.Looks.{all_placed, at_name, is_heard_last, next_command, told_of}
+use Rattle.agent_sides.specs.Looks.{all_placed, at_name, is_received_last, next_command, value_of}
 use Rattle.roster.specs.Sessions.{with_command}
 use Rattle.master_state.specs.declared.state.State.{State}
 use Rattle.master_state.specs.States.{ordered, ordered_as}
@@ -58,7 +58,7 @@ ordered_moves s name command (Some next) = refl
 pub ordered_so : (s : State) (name : List ℕ) (command : Command) (step : SideStep) → ((t : Side) → side_step (run_of s) t step ≡ issue (sends_nothing (run_of s) t) command)
     → work_of (ordered name command s) ≡ done (moving (master_of s) (AtSide name step ∷ [])) (work_of s)
 ordered_so s name command step same =
-    ordered_moves s name command (told_of name next_command None s.sides)
+    ordered_moves s name command (value_of name next_command None s.sides)
     ∙ ap (λ x. with_moved (sending_more s.outs.mails x) (work_of s)) (sym (commanded name command step (run_of s) same s.sides))
     ∙ moves_alone s (AtSide name step ∷ [])
 
@@ -82,16 +82,16 @@ killed m given framework stream task agent h e is =
     ap (kills m stream task agent) is
     ∙ sym (a.does (λ f. on_kill m task agent f (held m f.id task)) ∙ ap (λ id. on_kill m task agent a.caller (held m id task)) a.id ∙ kills_is m task agent a.caller stream a.stream_is (held m framework task))
 
-pub acked : (m : Master) (given : Option Numbered) (framework stream : Numbered) (agent task : List ℕ) (uuid : Update) (b : Bool) → admission m given framework ≡ Ok stream → b ≡ list_any (is_heard_last framework agent task uuid.key uuid.k) (all_placed m.sides)
+pub acked : (m : Master) (given : Option Numbered) (framework stream : Numbered) (agent task : List ℕ) (uuid : Update) (b : Bool) → admission m given framework ≡ Ok stream → b ≡ list_any (is_received_last framework agent task uuid.key uuid.k) (all_placed m.sides)
     → acks m agent uuid.key uuid.k b ≡ called m given (calls.Acknowledge framework agent task uuid)
 acked m given framework stream agent task uuid b e is =
     let a : Admitted m given framework stream = admits m given framework stream e in
     ap (acks m agent uuid.key uuid.k) is
-    ∙ sym (a.does (on_acknowledge m agent task uuid.key uuid.k) ∙ ap (λ id. acks m agent uuid.key uuid.k (list_any (is_heard_last id agent task uuid.key uuid.k) (all_placed m.sides))) a.id)
+    ∙ sym (a.does (on_acknowledge m agent task uuid.key uuid.k) ∙ ap (λ id. acks m agent uuid.key uuid.k (list_any (is_received_last id agent task uuid.key uuid.k) (all_placed m.sides))) a.id)
 
 pub acked_at : (m : Master) (given : Option Numbered) (framework stream : Numbered) (agent task : List ℕ) (uuid : Update) (key : Numbered) (k : ℕ) (b : Bool) → admission m given framework ≡ Ok stream → key ≡ uuid.key → k ≡ uuid.k
-    → b ≡ list_any (is_heard_last framework agent task key k) (all_placed m.sides) → acks m agent key k b ≡ called m given (calls.Acknowledge framework agent task uuid)
+    → b ≡ list_any (is_received_last framework agent task key k) (all_placed m.sides) → acks m agent key k b ≡ called m given (calls.Acknowledge framework agent task uuid)
 acked_at m given framework stream agent task uuid key k b e key_is k_is is =
     ap (λ x. acks m agent x k b) key_is ∙ ap (λ y. acks m agent uuid.key y b) k_is
     ∙ acked m given framework stream agent task uuid b e
-    (is ∙ ap (λ x. list_any (is_heard_last framework agent task x k) (all_placed m.sides)) key_is ∙ ap (λ y. list_any (is_heard_last framework agent task uuid.key y) (all_placed m.sides)) k_is)
+    (is ∙ ap (λ x. list_any (is_received_last framework agent task x k) (all_placed m.sides)) key_is ∙ ap (λ y. list_any (is_received_last framework agent task uuid.key y) (all_placed m.sides)) k_is)

@@ -16,7 +16,7 @@ use Rattle.frameworks.specs.Frameworks.{are_ordered, changed, without_stream}
 use Rattle.frameworks.proofs.Ordered.{put_changed}
 use Rattle.agent_sides.specs.Configs as configs
 use Rattle.agent_sides.specs.Joined.{side_names}
-use Rattle.agent_sides.specs.Looks.{next_command, told_of}
+use Rattle.agent_sides.specs.Looks.{next_command, value_of}
 use Rattle.agent_sides.specs.Own.{sides_with_tasks}
 use Rattle.master_state.specs.declared.state.State.{State}
 use Rattle.master_state.specs.States.{ordered, ordered_as}
@@ -39,7 +39,7 @@ abbrev end_at : Numbered → List ℕ → Move
 end_at framework name = AtSide name (SendEnd framework)
 
 ordered_torn : (name : List ℕ) (command : Command) (s : State) → (ordered name command s).torn ≡ s.torn
-ordered_torn name command s = by (told_of name next_command None s.sides)
+ordered_torn name command s = by (value_of name next_command None s.sides)
   where
     by : (next : Option (ℕ × ℕ)) → (ordered_as name command next s).torn ≡ s.torn
     by None = refl

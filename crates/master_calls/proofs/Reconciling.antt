@@ -21,12 +21,12 @@ use Rattle.offer_book.specs.Held.{place}
 use Rattle.agent_sides.specs.Own.{holding}
 use Rattle.master_state.specs.declared.state.State.{State}
 use Rattle.scheduler_events.specs.declared.stream_event.StreamEvent.{StreamEvent}
-use Rattle.master_state.specs.States.{told_of_task}
+use Rattle.master_state.specs.States.{task_state_sent}
 use Rattle.master_state.specs.Works.{admission, done, master_of, work_of}
 use Rattle.master_state.proofs.Admissions.{Admitted, admits}
 use Rattle.master_state.proofs.Doings.{none_more, says}
 use Rattle.master_calls.specs.Tasks.{HeldTask, held_task}
-use Rattle.master_calls.specs.Reconciles.{gathers, gathers_all, gathers_on, key_cmp, live_of, reconciled, reconciled_as, reconciled_one, tells_held}
+use Rattle.master_calls.specs.Reconciles.{gathers, gathers_all, gathers_on, key_cmp, live_of, reconciled, reconciled_as, reconciled_one, sends_held}
 use Rattle.master_calls.proofs.Placing.{IsInOrder, keyed, put_entry, put_in_order}
 
 -- events
@@ -40,26 +40,26 @@ telling s ts = with_raw_events s (s.outs.events ++ ts)
 one_more : (s : State) (ts : List StreamEvent) (t : StreamEvent) → with_raw_events s ((s.outs.events ++ ts) ++ t ∷ []) ≡ telling s (ts ++ t ∷ [])
 one_more s ts t = ap (with_raw_events s) (append_assoc s.outs.events ts (t ∷ []))
 
-tells : (s : State) (ts : List StreamEvent) (stream : Numbered) (f : Framework) (task : List ℕ) (state : TaskState) (agent : Option (List ℕ)) → f.stream ≡ Some stream
-    → told_of_task stream task state agent (telling s ts) ≡ telling s (ts ++ answers f task state agent)
-tells s ts stream f task state agent e = one_more s ts (record { stream = stream; event = update }) ∙ ap (λ o. telling s (ts ++ told_on o)) (sym e)
+events_to : (s : State) (ts : List StreamEvent) (stream : Numbered) (f : Framework) (task : List ℕ) (state : TaskState) (agent : Option (List ℕ)) → f.stream ≡ Some stream
+    → task_state_sent stream task state agent (telling s ts) ≡ telling s (ts ++ answers f task state agent)
+events_to s ts stream f task state agent e = one_more s ts (record { stream = stream; event = update }) ∙ ap (λ o. telling s (ts ++ events_on o)) (sym e)
   where
     update : Event
     update = update_event task state agent None
 
-    told_on : Option Numbered → List StreamEvent
-    told_on o = on_stream o update
+    events_on : Option Numbered → List StreamEvent
+    events_on o = on_stream o update
 
 -- the tasks asked for
 
 tells_as : (s : State) (ts : List StreamEvent) (stream : Numbered) (f : Framework) (asked : ReconciledTask) → f.stream ≡ Some stream → (o : Option Placed)
     → reconciled_as stream asked (telling s ts) (option_map held_task o) ≡ telling s (ts ++ reconciles_as (master_of s) f asked o)
-tells_as s ts stream f asked e (Some p) = tells s ts stream f p.booked.job.name p.booked.state (Some p.agent) e
+tells_as s ts stream f asked e (Some p) = events_to s ts stream f p.booked.job.name p.booked.state (Some p.agent) e
 tells_as s ts stream f asked e None = by (is_awaited (master_of s) asked.agent)
   where
-    by : (b : Bool) → cond b (telling s ts) (told_of_task stream asked.name Lost asked.agent (telling s ts)) ≡ telling s (ts ++ cond b [] (answers f asked.name Lost asked.agent))
+    by : (b : Bool) → cond b (telling s ts) (task_state_sent stream asked.name Lost asked.agent (telling s ts)) ≡ telling s (ts ++ cond b [] (answers f asked.name Lost asked.agent))
     by true = ap (telling s) (sym (none_more ts))
-    by false = tells s ts stream f asked.name Lost asked.agent e
+    by false = events_to s ts stream f asked.name Lost asked.agent e
 
 tells_each : (s : State) (ts : List StreamEvent) (stream : Numbered) (f : Framework) (asked : List ReconciledTask) → f.stream ≡ Some stream
     → fold (reconciled_one f.id stream) (telling s ts) asked ≡ telling s (ts ++ flat_map (reconciles (master_of s) f) asked)
@@ -72,10 +72,10 @@ tells_each s ts stream f (a ∷ asked) e =
 -- all live tasks
 
 tells_live : (s : State) (ts : List StreamEvent) (stream : Numbered) (f : Framework) (ps : List Placed) → f.stream ≡ Some stream
-    → fold (tells_held stream) (telling s ts) (map held_task ps) ≡ telling s (ts ++ flat_map (answers_held f) ps)
+    → fold (sends_held stream) (telling s ts) (map held_task ps) ≡ telling s (ts ++ flat_map (answers_held f) ps)
 tells_live s ts stream f [] e = ap (telling s) (sym (none_more ts))
 tells_live s ts stream f (p ∷ ps) e =
-    ap (λ (u : State). fold (tells_held stream) u (map held_task ps)) (tells s ts stream f p.booked.job.name p.booked.state (Some p.agent) e)
+    ap (λ (u : State). fold (sends_held stream) u (map held_task ps)) (events_to s ts stream f p.booked.job.name p.booked.state (Some p.agent) e)
     ∙ tells_live s (ts ++ answers_held f p) stream f ps e
     ∙ ap (telling s) (append_assoc ts (answers_held f p) (flat_map (answers_held f) ps))
 
@@ -130,12 +130,12 @@ events_of m f asked = (on_reconcile m asked f).events
 tells_nothing : (s : State) → s ≡ telling s []
 tells_nothing s = ap (with_raw_events s) (sym (none_more s.outs.events))
 
-tells_all : (s : State) (stream : Numbered) (f : Framework) (asked : List ReconciledTask) → f.stream ≡ Some stream → reconciled f.id stream asked s ≡ telling s (events_of (master_of s) f asked)
-tells_all s stream f [] e =
-    ap (fold (tells_held stream) s) (live_is f.id s)
-    ∙ ap (λ (u : State). fold (tells_held stream) u (map held_task (live_placed f.id s))) (tells_nothing s)
+events_to_all : (s : State) (stream : Numbered) (f : Framework) (asked : List ReconciledTask) → f.stream ≡ Some stream → reconciled f.id stream asked s ≡ telling s (events_of (master_of s) f asked)
+events_to_all s stream f [] e =
+    ap (fold (sends_held stream) s) (live_is f.id s)
+    ∙ ap (λ (u : State). fold (sends_held stream) u (map held_task (live_placed f.id s))) (tells_nothing s)
     ∙ tells_live s [] stream f (live_placed f.id s) e
-tells_all s stream f (a ∷ asked) e = ap (λ (u : State). fold (reconciled_one f.id stream) u (a ∷ asked)) (tells_nothing s) ∙ tells_each s [] stream f (a ∷ asked) e
+events_to_all s stream f (a ∷ asked) e = ap (λ (u : State). fold (reconciled_one f.id stream) u (a ∷ asked)) (tells_nothing s) ∙ tells_each s [] stream f (a ∷ asked) e
 
 is_saying : (m : Master) (f : Framework) (asked : List ReconciledTask) → saying m (events_of m f asked) ≡ on_reconcile m asked f
 is_saying m f [] = refl
@@ -146,6 +146,6 @@ pub reconciled_so : (s : State) (given : Option Numbered) (framework stream : Nu
 reconciled_so s given framework stream asked e =
     let a : Admitted (master_of s) given framework stream = admits (master_of s) given framework stream e in
     let does : saying (master_of s) (events_of (master_of s) a.caller asked) ≡ called (master_of s) given (calls.Reconcile framework asked) = is_saying (master_of s) a.caller asked ∙ sym (a.does (on_reconcile (master_of s) asked)) in
-    let now : reconciled framework stream asked s ≡ telling s (events_of (master_of s) a.caller asked) = ap (λ i. reconciled i stream asked s) (sym a.id) ∙ tells_all s stream a.caller asked a.stream_is in
+    let now : reconciled framework stream asked s ≡ telling s (events_of (master_of s) a.caller asked) = ap (λ i. reconciled i stream asked s) (sym a.id) ∙ events_to_all s stream a.caller asked a.stream_is in
     subst (λ d. (d.refusal ≡ None) × (work_of (reconciled framework stream asked s) ≡ done d (work_of s))) does
     (refl, ap work_of now ∙ says s (events_of (master_of s) a.caller asked))

@@ -13,19 +13,19 @@ use Rattle.cluster_model.specs.Calls.{is_awaited, is_live_of}
 use Rattle.offer_book.specs.Held.{place}
 use Rattle.agent_sides.specs.Own.{Holding, holding}
 use Rattle.master_state.specs.declared.state.State.{State}
-use Rattle.master_state.specs.States.{told_of_task}
+use Rattle.master_state.specs.States.{task_state_sent}
 use Rattle.master_state.specs.Works.{master_of}
 use Rattle.master_calls.specs.Tasks.{HeldTask, held_task}
 
 -- the state of a held task on a stream
-abbrev pub tells_held : Numbered → State → HeldTask → State
-tells_held stream s h = told_of_task stream h.name h.state (Some h.agent) s
+abbrev pub sends_held : Numbered → State → HeldTask → State
+sends_held stream s h = task_state_sent stream h.name h.state (Some h.agent) s
 
 abbrev pub reconciled_as : Numbered → ReconciledTask → State → Option HeldTask → State
-reconciled_as stream asked s (Some h) = tells_held stream s h
+reconciled_as stream asked s (Some h) = sends_held stream s h
 reconciled_as stream asked s None =
     if is_awaited (master_of s) asked.agent then s
-    else told_of_task stream asked.name Lost asked.agent s
+    else task_state_sent stream asked.name Lost asked.agent s
 
 abbrev pub reconciled_one : Numbered → Numbered → State → ReconciledTask → State
 reconciled_one framework stream s asked =
@@ -54,6 +54,6 @@ live_of framework s = values_of (gathers_all framework [] (map holding s.sides))
 
 -- the tasks asked for, or all
 abbrev pub reconciled : Numbered → Numbered → List ReconciledTask → State → State
-reconciled framework stream [] s = fold (tells_held stream) s (live_of framework s)
+reconciled framework stream [] s = fold (sends_held stream) s (live_of framework s)
 reconciled framework stream (asked ∷ more) s =
     fold (reconciled_one framework stream) s (asked ∷ more)

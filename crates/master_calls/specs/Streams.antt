@@ -31,7 +31,7 @@ resubscribed_as m id role (Some stream) = subscribed_on m m.registers id role st
 
 abbrev pub failed_over : Numbered → State → State
 failed_over stream s =
-    states.closed stream (states.told stream failover_error s)
+    states.closed stream (states.event_sent stream failover_error s)
 
 abbrev pub left : Option Numbered → State → State
 left None s = s
@@ -46,6 +46,6 @@ with_subscriber id role stream s =
 
 abbrev pub entered : Numbered → List ℕ → State → State
 entered id role s =
-    states.told (states.new_stream s) (Subscribed id)
+    states.event_sent (states.new_stream s) (Subscribed id)
     (with_subscriber id role (states.new_stream s)
     (states.without_offers (is_of id) (states.opened s)))

@@ -20,14 +20,14 @@ held_task p =
     }
 
 -- the state of a task on a stream, without an id that has to be acknowledged
-abbrev pub tells_task : Numbered → List ℕ → TaskState → Option (List ℕ) → List StreamEvent
-tells_task stream task state agent = on_stream (Some stream) (update_event task state agent None)
+abbrev pub sends_task : Numbered → List ℕ → TaskState → Option (List ℕ) → List StreamEvent
+sends_task stream task state agent = on_stream (Some stream) (update_event task state agent None)
 
 -- KILL of a held task, or of none, by a framework on its stream
 abbrev pub kills : Master → Numbered → List ℕ → Option (List ℕ) → Option HeldTask → Doing
-kills m stream task agent None = saying m (tells_task stream task Lost agent)
+kills m stream task agent None = saying m (sends_task stream task Lost agent)
 kills m stream task agent (Some held) =
-    if held.ended then saying m (tells_task stream held.name held.state (Some held.agent))
+    if held.ended then saying m (sends_task stream held.name held.state (Some held.agent))
     else commanding m (side_of m held.agent) (AtSide held.agent (SendKill held.key))
 
 -- ACKNOWLEDGE of an update that is the one last received, or isn't

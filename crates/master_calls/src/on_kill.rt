@@ -108,7 +108,7 @@ fn kill_held(
     ensures { Gave result state.old state.new (kills (master_of state.old) stream task agent held) }
 {
     let Some(held) = held else {
-        return match state.tell_task(stream, task, TaskState::Lost, agent) {
+        return match state.send_task_state(stream, task, TaskState::Lost, agent) {
             Ok(()) => Ok(()),
             Err(_) => Err(MasterFault::OutOfMemory),
         };
@@ -116,7 +116,7 @@ fn kill_held(
     if !held.ended {
         return order_kill(state, alloc, &held.agent, held.key);
     }
-    match state.tell_task(stream, held.name, held.state, Some(held.agent)) {
+    match state.send_task_state(stream, held.name, held.state, Some(held.agent)) {
         Ok(()) => Ok(()),
         Err(_) => Err(MasterFault::OutOfMemory),
     }
@@ -171,7 +171,7 @@ pub fn acknowledge(
     };
     let key = update.key();
     let k = u32::from(update.k());
-    if !state.sides.is_heard_last(framework, agent, task, key, k) {
+    if !state.sides.is_received_last(framework, agent, task, key, k) {
         return Ok(());
     }
     order_ack(state, alloc, agent, key, k)

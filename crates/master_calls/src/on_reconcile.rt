@@ -7,7 +7,7 @@ ghost use Rattle.names_core.specs.Ids.{same};
 ghost use Rattle.cluster_model.specs.Calls.{called, is_awaited};
 ghost use Rattle.agent_sides.specs.Own.{holding, holding_of};
 ghost use Rattle.master_state.specs.Works.{Gave, master_of};
-ghost use Rattle.master_calls.specs.Reconciles.{gathers, gathers_all, gathers_on, reconciled, reconciled_as, reconciled_one, tells_held};
+ghost use Rattle.master_calls.specs.Reconciles.{gathers, gathers_all, gathers_on, reconciled, reconciled_as, reconciled_one, sends_held};
 
 use crate::on_kill::{HeldTask, copy_held, held_of};
 use agent_sides::Sides;
@@ -49,14 +49,14 @@ fn reconcile_as(
     ensures { OnOk result (state.new ≡ reconciled_as stream asked.now state.old held) }
 {
     if let Some(held) = held {
-        return state.tell_task(stream, held.name, held.state, Some(held.agent));
+        return state.send_task_state(stream, held.name, held.state, Some(held.agent));
     }
     if is_awaited(state, &asked.agent) {
         return Ok(());
     }
     let name = asked.name.copy()?;
     let agent = copy_agent(alloc, &asked.agent)?;
-    state.tell_task(stream, name, TaskState::Lost, agent)
+    state.send_task_state(stream, name, TaskState::Lost, agent)
 }
 
 fn reconcile_one(
@@ -170,15 +170,15 @@ fn gather_all(
     Ok(live)
 }
 
-fn tell_all(
+fn send_all(
     state: &mut State,
     stream: StreamId,
     live: BTreeMap<LaunchKey, HeldTask>,
 ) -> Result<(), AllocError>
-    ensures { OnOk result (state.new ≡ fold (tells_held stream) state.old (values live)) }
+    ensures { OnOk result (state.new ≡ fold (sends_held stream) state.old (values live)) }
 {
     for held in live.into_values() {
-        state.tell_task(stream, held.name, held.state, Some(held.agent))?;
+        state.send_task_state(stream, held.name, held.state, Some(held.agent))?;
     }
     Ok(())
 }
@@ -196,7 +196,7 @@ fn reconcile_asked(
         return reconcile_each(state, alloc, framework, stream, tasks);
     }
     let live = gather_all(&state.sides, alloc, framework)?;
-    tell_all(state, stream, live)
+    send_all(state, stream, live)
 }
 
 /// Sends the states of tasks (Mesos scheduler HTTP API, RECONCILE), in the order asked: of one that

@@ -3,7 +3,7 @@
 ghost use Rattle.std.specs.Prelude.{◌≡◌, ◌<◌, OnOk, length, nat_le};
 ghost use Rattle.mails.specs.declared.call.Call.TheVariants as calls;
 ghost use Rattle.cluster_model.specs.Ids.{last_number};
-ghost use Rattle.cluster_model.specs.Calls.{called, frameworks_limit, is_unheard_of, on_resubscribe, on_subscribe, removed};
+ghost use Rattle.cluster_model.specs.Calls.{called, frameworks_limit, is_unassigned, on_resubscribe, on_subscribe, removed};
 ghost use Rattle.master_state.specs.Works.{Gave, done, master_of, registers_of, work_of};
 ghost use Rattle.master_calls.specs.Streams.{entered, failed_over, left, resubscribed_as, subscribed_on};
 
@@ -23,7 +23,7 @@ fn fail_over(state: &mut State, alloc: Global, stream: StreamId) -> Result<(), A
     ensures { OnOk result (state.new ≡ failed_over stream state.old) }
 {
     let message = Message::from_text(alloc, "Framework failed over")?;
-    state.tell(stream, Event::Error { message })?;
+    state.send_event(stream, Event::Error { message })?;
     state.close(stream)?;
     Ok(())
 }
@@ -50,7 +50,7 @@ fn enter(
     state.withdraw_of(id);
     let moment = state.moment;
     state.frameworks.subscribe(alloc, id, role, stream, moment)?;
-    state.tell(stream, Event::Subscribed { framework: id })
+    state.send_event(stream, Event::Subscribed { framework: id })
 }
 
 /// The framework is subscribed on a new stream; its open one, if any, gets an ERROR and is closed.
@@ -100,12 +100,12 @@ fn turn_away(state: &mut State, alloc: Global) -> Result<(), AllocError>
 {
     let message = Message::from_text(alloc, "Framework has been removed")?;
     let stream = state.open_stream()?;
-    state.tell(stream, Event::Error { message })?;
+    state.send_event(stream, Event::Error { message })?;
     state.close(stream)
 }
 
-fn is_unheard_of(state: &State, id: FrameworkId) -> bool
-    ensures { result ≡ is_unheard_of (master_of state.now) id }
+fn is_unassigned(state: &State, id: FrameworkId) -> bool
+    ensures { result ≡ is_unassigned (master_of state.now) id }
 {
     state.run.number() < id.run()
         || (id.run() == state.run.number() && state.last_framework < id.number())
@@ -146,7 +146,7 @@ fn resubscribe(
 ) -> Result<(), MasterFault>
     ensures { Gave result state.old state.new (on_resubscribe (master_of state.old) id role) }
 {
-    if is_unheard_of(state, id) {
+    if is_unassigned(state, id) {
         return Err(MasterFault::Refused(MasterRefusal::NoSuchFramework));
     }
     if LAST_NUMBER <= state.last_stream {

@@ -4,7 +4,7 @@ use Rattle.std.specs.Prelude.{if◌then◌else◌}
 use Rattle.cluster_model.specs.Sides.{Side}
 use Rattle.cluster_model.specs.Masters.{Doing, Master, nothing}
 use Rattle.cluster_model.specs.Mails.{agent_lost}
-use Rattle.agent_sides.specs.Looks.{told_of}
+use Rattle.agent_sides.specs.Looks.{value_of}
 use Rattle.agent_sides.specs.Named.{lost_by}
 
 abbrev NotRefused : Doing → Type 0
@@ -17,12 +17,12 @@ lost_so m s = by s.is_open _ _ refl refl
     by true d e h k = h
     by false d e h k = k
 
-told_so : (m : Master) (agent : List ℕ) (ss : List Side) → NotRefused (told_of agent (agent_lost m) (nothing m) ss)
+told_so : (m : Master) (agent : List ℕ) (ss : List Side) → NotRefused (value_of agent (agent_lost m) (nothing m) ss)
 told_so m agent [] = refl
 told_so m agent (s ∷ ss) = by (bytes_eq s.name agent) (lost_so m s) (told_so m agent ss)
   where
-    by : (b : Bool) → NotRefused (agent_lost m s) → NotRefused (told_of agent (agent_lost m) (nothing m) ss)
-        → NotRefused (if b then agent_lost m s else told_of agent (agent_lost m) (nothing m) ss)
+    by : (b : Bool) → NotRefused (agent_lost m s) → NotRefused (value_of agent (agent_lost m) (nothing m) ss)
+        → NotRefused (if b then agent_lost m s else value_of agent (agent_lost m) (nothing m) ss)
     by true here rest = here
     by false here rest = rest
 

@@ -8,7 +8,7 @@ use Rattle.agent_sides.specs.declared.config.ConfiguredAgent.{ConfiguredAgent}
 use Rattle.agent_sides.specs.Changes.{side_of}
 use Rattle.agent_sides.specs.Configs.{are_ordered, most_agents}
 use Rattle.agent_sides.specs.Joined.{side_names}
-use Rattle.agent_sides.specs.Told.{mails_at_tick}
+use Rattle.agent_sides.specs.ByName.{mails_at_tick}
 use Rattle.master_state.specs.States.{fresh}
 use Rattle.master_state.specs.Works.{master_of, run_of}
 use Rattle.master_state.proofs.Moves.{moved_so}

@@ -9,8 +9,8 @@ use Rattle.quantity.specs.Rows.{plus_rows}
 use Rattle.cluster_model.specs.Sides.{SendHello, offer_rows}
 use Rattle.cluster_model.specs.Masters.{AtSide, Doing, Master, after_doing, moved, moving}
 use Rattle.cluster_model.specs.Calls.{is_stream}
-use Rattle.cluster_model.specs.Mails.{having_heard}
-use Rattle.agent_sides.specs.Looks.{told_of}
+use Rattle.cluster_model.specs.Mails.{having_received}
+use Rattle.agent_sides.specs.Looks.{value_of}
 use Rattle.master_state.specs.declared.fault.MasterFault.{MasterFault}
 use Rattle.master_state.specs.declared.fault.MasterFault.TheVariants.{OutOfMemory, Refused}
 use Rattle.master_state.specs.declared.state.Outs.{Outs}
@@ -19,7 +19,7 @@ use Rattle.master_state.specs.States.{cleared, no_outs}
 use Rattle.master_state.specs.Works.{run_of}
 use Rattle.agent_sides.specs.Named.{mailed_by}
 use Rattle.side_fits.specs.Fits.{SidesFit}
-pub use Rattle.master_core.specs.declared.master.HeardMail.{HeardMail}
+pub use Rattle.master_core.specs.declared.master.ReceivedMail.{ReceivedMail}
 
 -- the outputs of a step
 abbrev pub outs_of : Master → Doing → Outs
@@ -45,15 +45,15 @@ Answers (Err (Refused refusal)) (Some m) after doing =
     ((doing m).refusal ≡ Some refusal) × (after ≡ Some m)
 
 -- A mail was received, and what goes with it was done; why it was refused is returned.
-abbrev pub Hears : Result HeardMail MasterFault → Option Master → Option Master → List ℕ → AgentMail
-    → Type 0
-Hears (Ok heard) None after agent mail = ⊥
-Hears (Ok heard) (Some m) after agent mail =
-    (heard.refusal ≡ (mailed_by m agent mail).refusal)
-    × (heard.outs ≡ outs_of (having_heard m agent mail) (mailed_by m agent mail))
-    × (after ≡ Some (after_doing (having_heard m agent mail) (mailed_by m agent mail)))
-Hears (Err OutOfMemory) before after agent mail = after ≡ None
-Hears (Err (Refused refusal)) before after agent mail = ⊥
+abbrev pub Receives : Result ReceivedMail MasterFault → Option Master → Option Master → List ℕ
+    → AgentMail → Type 0
+Receives (Ok received) None after agent mail = ⊥
+Receives (Ok received) (Some m) after agent mail =
+    (received.refusal ≡ (mailed_by m agent mail).refusal)
+    × (received.outs ≡ outs_of (having_received m agent mail) (mailed_by m agent mail))
+    × (after ≡ Some (after_doing (having_received m agent mail) (mailed_by m agent mail)))
+Receives (Err OutOfMemory) before after agent mail = after ≡ None
+Receives (Err (Refused refusal)) before after agent mail = ⊥
 
 -- a Hello to every agent
 abbrev pub greeting : Master → Doing
@@ -61,7 +61,7 @@ greeting m = moving m (map (λ s. AtSide s.name SendHello) m.sides)
 
 -- the sum of an agent's current offers
 abbrev pub offered_on : Master → List ℕ → List Row
-offered_on m agent = plus_rows [] (offer_rows (told_of agent (λ s. s.offers) [] m.sides))
+offered_on m agent = plus_rows [] (offer_rows (value_of agent (λ s. s.offers) [] m.sides))
 
 -- whether a stream is the open one of a framework
 abbrev pub is_open : Numbered → Option Master → Bool

@@ -8,5 +8,5 @@ mod offered;
 mod settle;
 
 pub use agent_sides::{Config, ConfigFault};
-pub use master::{HeardMail, Master};
+pub use master::{Master, ReceivedMail};
 pub use master_state::{MasterFault, Outs};

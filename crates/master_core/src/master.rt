@@ -10,20 +10,20 @@ ghost use Rattle.master_state.specs.Works.{Gave, master_of};
 ghost use Rattle.agent_sides.specs.Named.{lost_by};
 ghost use Rattle.cluster_model.specs.Mails.{FitsRecord};
 ghost use Rattle.side_fits.specs.Fits.{MailFitsAt};
-ghost use Rattle.master_core.specs.Steps.{Answers, Hears, greeting, is_open, of_memory, offered_on, outs_of};
+ghost use Rattle.master_core.specs.Steps.{Answers, Receives, greeting, is_open, of_memory, offered_on, outs_of};
 
 use crate::answer::answer;
 use crate::offered::sum_of;
 use crate::settle::settle;
 use agent_sides::Config;
 use mails::{AgentMail, Call, MasterRefusal};
-use master_mails::{hang_up, lose_agent, mail as hear, tick};
+use master_mails::{hang_up, lose_agent, mail as receive, tick};
 use master_rounds::allocate;
 use master_state::{MasterFault, Outs, State};
 use names_core::{AgentName, FrameworkId, Run, StreamId};
 use quantity::Resources;
 use role_weights::Weights;
-use side_fits::{hearing_keeps_fits, moves_keep_fits};
+use side_fits::{moves_keep_fits, receiving_keeps_fits};
 use std::alloc::{AllocError, Global};
 use std::marker::Model;
 
@@ -55,7 +55,7 @@ impl Model for Master {
 
 /// The outputs of a mail, and why it was refused, if it was.
 #[derive(Drop)]
-pub struct HeardMail {
+pub struct ReceivedMail {
     pub outs: Outs,
     pub refusal: Option<MasterRefusal>,
 }
@@ -208,20 +208,20 @@ impl Master {
         alloc: Global,
         agent: &AgentName,
         mail: AgentMail,
-    ) -> Result<HeardMail, MasterFault>
+    ) -> Result<ReceivedMail, MasterFault>
         requires number { FitsRecord mail }
         requires fits { IfSome self.old (λ m. MailFitsAt agent.now mail m.sides) }
-        ensures { Hears result self.old self.new agent.now mail }
+        ensures { Receives result self.old self.new agent.now mail }
     {
-        hearing_keeps_fits();
+        receiving_keeps_fits();
         moves_keep_fits();
         let Some(state) = &mut self.state else {
             return Err(MasterFault::OutOfMemory);
         };
-        match hear(state, alloc, agent, mail) {
+        match receive(state, alloc, agent, mail) {
             Ok(refusal) => {
                 let outs = settle(&mut self.state, alloc, Ok(()))?;
-                Ok(HeardMail { outs, refusal })
+                Ok(ReceivedMail { outs, refusal })
             }
             Err(_) => {
                 let _outs = settle(&mut self.state, alloc, Err(MasterFault::OutOfMemory));

@@ -3,10 +3,10 @@ use Rattle.std.proofs.Common.{◌≡◌, ℕ, true, false, List, [], ◌∷◌, 
 use Rattle.std.proofs.lemmas.Bool.{true≢false}
 use Rattle.cluster_model.specs.Events.{Failure}
 use Rattle.cluster_model.specs.Mails.{agent_lost, loses, rescinds}
-use Rattle.cluster_model.specs.Masters.{AtSide, Doing, Master, nothing, tells_all, without_filters_on}
+use Rattle.cluster_model.specs.Masters.{AtSide, Doing, Master, nothing, events_to_all, without_filters_on}
 use Rattle.cluster_model.specs.Sides.{Lose, SendHello, Side, lost}
 use Rattle.names_core.specs.Ids.{Numbered}
-use Rattle.agent_sides.specs.Looks.{told_of}
+use Rattle.agent_sides.specs.Looks.{value_of}
 use Rattle.master_state.specs.declared.state.State.{State}
 use Rattle.scheduler_events.specs.declared.stream_event.StreamEvent.{StreamEvent}
 use Rattle.master_state.specs.Works.{Work, done, master_of, registers_of, work_of}
@@ -21,7 +21,7 @@ abbrev lost_doing : Master → Side → Doing
 lost_doing m t = record {
   refusal = None;
   moves = AtSide t.name Lose ∷ AtSide t.name SendHello ∷ [];
-  events = rescinds m t.offers ++ loses m t.name t.booked ++ tells_all m.registers.frameworks (Failure t.name);
+  events = rescinds m t.offers ++ loses m t.name t.booked ++ events_to_all m.registers.frameworks (Failure t.name);
   opens = [];
   closes = [];
   registers = without_filters_on t.name m.registers;
@@ -45,20 +45,20 @@ lost_so s t is =
     ∙ ap (λ os. left_work s t.name (s.outs.events ++ (lost_doing (master_of s) t).events) os s.outs.closed) (sym (none_more s.outs.opened))
     ∙ ap (λ cs. left_work s t.name (s.outs.events ++ (lost_doing (master_of s) t).events) (s.outs.opened ++ []) cs) (sym (none_more s.outs.closed))
   where
-    offers : told_of t.name (λ x. x.offers) [] s.sides ≡ t.offers
+    offers : value_of t.name (λ x. x.offers) [] s.sides ≡ t.offers
     offers = told_as t.name (λ x. x.offers) [] s.sides (Some t) is
 
-    booked : told_of t.name (λ x. x.booked) [] s.sides ≡ t.booked
+    booked : value_of t.name (λ x. x.booked) [] s.sides ≡ t.booked
     booked = told_as t.name (λ x. x.booked) [] s.sides (Some t) is
 
     events : (work_of (before_loss t.name s)).events ≡ s.outs.events ++ (lost_doing (master_of s) t).events
     events =
-        ap (λ os. ((s.outs.events ++ (rescinds (master_of s) os)) ++ (loses (master_of s) t.name (told_of t.name (λ x. x.booked) [] s.sides))) ++ tells_all s.frameworks (Failure t.name)) offers
-        ∙ ap (λ bs. ((s.outs.events ++ (rescinds (master_of s) t.offers)) ++ (loses (master_of s) t.name bs)) ++ tells_all s.frameworks (Failure t.name)) booked
-        ∙ ap (λ es. es ++ tells_all s.frameworks (Failure t.name)) (append_assoc s.outs.events (rescinds (master_of s) t.offers) (loses (master_of s) t.name t.booked))
-        ∙ append_assoc s.outs.events (rescinds (master_of s) t.offers ++ loses (master_of s) t.name t.booked) (tells_all s.frameworks (Failure t.name))
+        ap (λ os. ((s.outs.events ++ (rescinds (master_of s) os)) ++ (loses (master_of s) t.name (value_of t.name (λ x. x.booked) [] s.sides))) ++ events_to_all s.frameworks (Failure t.name)) offers
+        ∙ ap (λ bs. ((s.outs.events ++ (rescinds (master_of s) t.offers)) ++ (loses (master_of s) t.name bs)) ++ events_to_all s.frameworks (Failure t.name)) booked
+        ∙ ap (λ es. es ++ events_to_all s.frameworks (Failure t.name)) (append_assoc s.outs.events (rescinds (master_of s) t.offers) (loses (master_of s) t.name t.booked))
+        ∙ append_assoc s.outs.events (rescinds (master_of s) t.offers ++ loses (master_of s) t.name t.booked) (events_to_all s.frameworks (Failure t.name))
 
-pub open_lost : (s : State) (name : List ℕ) → told_of name (λ t. t.is_open) false s.sides ≡ true → work_of (left name s) ≡ done (lost_by (master_of s) name) (work_of s)
+pub open_lost : (s : State) (name : List ℕ) → value_of name (λ t. t.is_open) false s.sides ≡ true → work_of (left name s) ≡ done (lost_by (master_of s) name) (work_of s)
 open_lost s name h = by (found_in name s.sides) refl
   where
     by : (o : Option Side) → found_in name s.sides ≡ o → work_of (left name s) ≡ done (lost_by (master_of s) name) (work_of s)
@@ -70,7 +70,7 @@ open_lost s name h = by (found_in name s.sides) refl
         subst (λ n. work_of (left n s) ≡ done (lost_doing (master_of s) t) (work_of s)) named (lost_so s t (ap (λ n. found_in n s.sides) named ∙ e))
         ∙ sym (ap (λ d. done d (work_of s)) (told_as name (agent_lost (master_of s)) (nothing (master_of s)) s.sides (Some t) e ∙ doing))
 
-pub none_lost : (s : State) (name : List ℕ) → told_of name (λ t. t.is_open) false s.sides ≡ false → work_of s ≡ done (lost_by (master_of s) name) (work_of s)
+pub none_lost : (s : State) (name : List ℕ) → value_of name (λ t. t.is_open) false s.sides ≡ false → work_of s ≡ done (lost_by (master_of s) name) (work_of s)
 none_lost s name h = nothing_done s ∙ sym (ap (λ d. done d (work_of s)) (by (found_in name s.sides) refl))
   where
     by : (o : Option Side) → found_in name s.sides ≡ o → lost_by (master_of s) name ≡ nothing (master_of s)

@@ -9,28 +9,28 @@ use Rattle.mails.specs.declared.refusal.MasterRefusal.{MasterRefusal}
 use Rattle.mails.specs.declared.refusal.MasterRefusal.TheVariants.{OtherRun, OldSession, Closed, NotOpen, NotSubscribed, WrongStream, NoSuchFramework, LimitExceeded}
 use Rattle.quantity.specs.declared.rows.Row.{Row}
 use Rattle.mails.specs.declared.task.Booked.{Booked}
-use Rattle.booked_tasks.specs.declared.tasks.Heard.{Heard}
+use Rattle.booked_tasks.specs.declared.tasks.TaskUpdate.{TaskUpdate}
 use Rattle.cluster_model.specs.Events.{StreamEvent}
-use Rattle.cluster_model.specs.Mails.{goes_with, hear_at, in_session, judged, judged_session, mailed, mailed_as, session_opens}
+use Rattle.cluster_model.specs.Mails.{goes_with, receive_at, in_session, judged, judged_session, mailed, mailed_as, session_opens}
 use Rattle.cluster_model.specs.Masters.{AtSide, Master, nothing, saying}
-use Rattle.cluster_model.specs.Sides.{Run, SendHello, Side, heard, opened, opens}
+use Rattle.cluster_model.specs.Sides.{Run, SendHello, Side, received, opened, opens}
 use Rattle.roster.specs.Sessions.{answered, judged_report, report_opens, reported}
-use Rattle.agent_sides.specs.Looks.{at_name, told_of}
+use Rattle.agent_sides.specs.Looks.{at_name, value_of}
 use Rattle.master_state.specs.declared.state.State.{State}
 use Rattle.master_state.specs.Greetings.{greeted}
 use Rattle.master_state.specs.Works.{Work, done, master_of, run_of, work_of}
 use Rattle.master_state.proofs.Doings.{none_more, nothing_done, says}
 use Rattle.master_state.proofs.Greeting.{greets}
-use Rattle.master_mails.specs.Steps.{Answered, having_heard, turned_away, with_told}
+use Rattle.master_mails.specs.Steps.{Answered, having_received, turned_away, with_more_events}
 use Rattle.agent_sides.specs.Named.{mailed_by}
-use Rattle.master_mails.specs.Tells.{news}
-use Rattle.master_mails.proofs.Naming.{found_in, found_named, hears_at, told_as}
+use Rattle.master_mails.specs.Sending.{news}
+use Rattle.master_mails.proofs.Naming.{found_in, found_named, receives_at, told_as}
 
 abbrev judges : Run → AgentMail → Side → Option MasterRefusal
 judges run mail t = judged run t mail
 
-abbrev sides_heard : List ℕ → AgentMail → State → State
-sides_heard name mail s = record s { sides = at_name name (λ t. heard (run_of s) t mail) s.sides }
+abbrev sides_received : List ℕ → AgentMail → State → State
+sides_received name mail s = record s { sides = at_name name (λ t. received (run_of s) t mail) s.sides }
 
 -- a mail that is refused isn't heard
 
@@ -53,23 +53,23 @@ not_in : (is_in : Bool) (o : Option MasterRefusal) (r : MasterRefusal) → ◌�
 not_in true o r h = absurd cc
 not_in false o r h = refl
 
-unheard : (s : State) (mail : AgentMail) (t : Side) (r : MasterRefusal) → judged (run_of s) t mail ≡ Some r → heard (run_of s) t mail ≡ t
-unheard s (Report session number tasks total) t r h =
+unreceived : (s : State) (mail : AgentMail) (t : Side) (r : MasterRefusal) → judged (run_of s) t mail ≡ Some r → received (run_of s) t mail ≡ t
+unreceived s (Report session number tasks total) t r h =
     let closed : opens (run_of s) t session number ≡ false = not_opened (number == s.run) t.is_open session t.session t.closed r h in
     rw closed refl
-unheard s (Applied session count) t r h =
+unreceived s (Applied session count) t r h =
     let other : (t.is_open && session == t.session) ≡ false = not_in (t.is_open && session == t.session) (judged_session t session (Some NotOpen)) r h in
     rw other refl
-unheard s (Update session key k state ended) t r h =
+unreceived s (Update session key k state ended) t r h =
     let other : (t.is_open && session == t.session) ≡ false = not_in (t.is_open && session == t.session) (judged_session t session (Some NotOpen)) r h in
     rw other refl
 
-unheard_at : (s : State) (name : List ℕ) (mail : AgentMail) (r : MasterRefusal) (ss : List Side) → told_of name (judges (run_of s) mail) None ss ≡ Some r → hear_at name (run_of s) mail ss ≡ ss
-unheard_at s name mail r [] h = absurd cc
-unheard_at s name mail r (t ∷ ts) h = by (bytes_eq t.name name) refl (unheard_at s name mail r ts)
+unreceived_at : (s : State) (name : List ℕ) (mail : AgentMail) (r : MasterRefusal) (ss : List Side) → value_of name (judges (run_of s) mail) None ss ≡ Some r → receive_at name (run_of s) mail ss ≡ ss
+unreceived_at s name mail r [] h = absurd cc
+unreceived_at s name mail r (t ∷ ts) h = by (bytes_eq t.name name) refl (unreceived_at s name mail r ts)
   where
-    by : (b : Bool) → bytes_eq t.name name ≡ b → (told_of name (judges (run_of s) mail) None ts ≡ Some r → hear_at name (run_of s) mail ts ≡ ts) → cond b (heard (run_of s) t mail ∷ ts) (t ∷ hear_at name (run_of s) mail ts) ≡ t ∷ ts
-    by true e ih = ap (λ x. x ∷ ts) (unheard s mail t r (rw e at h))
+    by : (b : Bool) → bytes_eq t.name name ≡ b → (value_of name (judges (run_of s) mail) None ts ≡ Some r → receive_at name (run_of s) mail ts ≡ ts) → cond b (received (run_of s) t mail ∷ ts) (t ∷ receive_at name (run_of s) mail ts) ≡ t ∷ ts
+    by true e ih = ap (λ x. x ∷ ts) (unreceived s mail t r (rw e at h))
     by false e ih = ap (λ xs. t ∷ xs) (ih (rw e at h))
 
 refusal_told : (m : Master) (t : Side) (mail : AgentMail) (r : MasterRefusal) → (mailed_as m t mail (Some r)).refusal ≡ Some r
@@ -97,12 +97,12 @@ away_done s t mail LimitExceeded = greets_done s t.name LimitExceeded
 
 abbrev pub AnsweredSo : State → State → List ℕ → AgentMail → Option MasterRefusal → Type 0
 AnsweredSo before after name mail refusal =
-    (refusal ≡ (mailed_by (master_of before) name mail).refusal) × (work_of after ≡ done (mailed_by (master_of before) name mail) (having_heard name mail (work_of before)))
+    (refusal ≡ (mailed_by (master_of before) name mail).refusal) × (work_of after ≡ done (mailed_by (master_of before) name mail) (having_received name mail (work_of before)))
 
 abbrev with_sides : List Side → Work → Work
 with_sides ss w = record w { moved = record w.moved { sides = ss } }
 
-pub refused_so : (s : State) (name : List ℕ) (mail : AgentMail) (r : MasterRefusal) → told_of name (judges (run_of s) mail) None s.sides ≡ Some r → AnsweredSo s (turned_away name r s) name mail (Some r)
+pub refused_so : (s : State) (name : List ℕ) (mail : AgentMail) (r : MasterRefusal) → value_of name (judges (run_of s) mail) None s.sides ≡ Some r → AnsweredSo s (turned_away name r s) name mail (Some r)
 refused_so s name mail r h = by (found_in name s.sides) refl
   where
     by : (o : Option Side) → found_in name s.sides ≡ o → AnsweredSo s (turned_away name r s) name mail (Some r)
@@ -114,15 +114,15 @@ refused_so s name mail r h = by (found_in name s.sides) refl
           sym (ap (λ d. d.refusal) doing ∙ refusal_told (master_of s) t mail r),
           subst (λ n. work_of (turned_away n r s) ≡ done (mailed_as (master_of s) t mail (Some r)) (work_of s)) named (away_done s t mail r)
               ∙ sym (ap (λ d. done d (work_of s)) doing)
-              ∙ ap (λ ss. done (mailed_by (master_of s) name mail) (with_sides ss (work_of s))) (sym (unheard_at s name mail r s.sides h)),
+              ∙ ap (λ ss. done (mailed_by (master_of s) name mail) (with_sides ss (work_of s))) (sym (unreceived_at s name mail r s.sides h)),
         )
 
 -- a mail that isn't refused
 
-pub goes_by : (s : State) (name : List ℕ) (mail : AgentMail) → told_of name (judges (run_of s) mail) None s.sides ≡ None → mailed_by (master_of s) name mail ≡ told_of name (λ t. goes_with (master_of s) t mail) (nothing (master_of s)) s.sides
+pub goes_by : (s : State) (name : List ℕ) (mail : AgentMail) → value_of name (judges (run_of s) mail) None s.sides ≡ None → mailed_by (master_of s) name mail ≡ value_of name (λ t. goes_with (master_of s) t mail) (nothing (master_of s)) s.sides
 goes_by s name mail h = by (found_in name s.sides) refl
   where
-    by : (o : Option Side) → found_in name s.sides ≡ o → mailed_by (master_of s) name mail ≡ told_of name (λ t. goes_with (master_of s) t mail) (nothing (master_of s)) s.sides
+    by : (o : Option Side) → found_in name s.sides ≡ o → mailed_by (master_of s) name mail ≡ value_of name (λ t. goes_with (master_of s) t mail) (nothing (master_of s)) s.sides
     by None e = told_as name (λ x. mailed (master_of s) x mail) (nothing (master_of s)) s.sides None e ∙ sym (told_as name (λ x. goes_with (master_of s) x mail) (nothing (master_of s)) s.sides None e)
     by (Some t) e =
         let why : judged (run_of s) t mail ≡ None = sym (told_as name (judges (run_of s) mail) None s.sides (Some t) e) ∙ h in
@@ -130,48 +130,48 @@ goes_by s name mail h = by (found_in name s.sides) refl
         ∙ ap (mailed_as (master_of s) t mail) why
         ∙ sym (told_as name (λ x. goes_with (master_of s) x mail) (nothing (master_of s)) s.sides (Some t) e)
 
-hears_work : (s : State) (name : List ℕ) (mail : AgentMail) → work_of (sides_heard name mail s) ≡ having_heard name mail (work_of s)
-hears_work s name mail = ap (λ ss. with_sides ss (work_of s)) (sym (hears_at name (run_of s) mail s.sides))
+receives_work : (s : State) (name : List ℕ) (mail : AgentMail) → work_of (sides_received name mail s) ≡ having_received name mail (work_of s)
+receives_work s name mail = ap (λ ss. with_sides ss (work_of s)) (sym (receives_at name (run_of s) mail s.sides))
 
-nothing_so : (s : State) (name : List ℕ) (mail : AgentMail) → mailed_by (master_of s) name mail ≡ nothing (master_of s) → AnsweredSo s (sides_heard name mail s) name mail None
+nothing_so : (s : State) (name : List ℕ) (mail : AgentMail) → mailed_by (master_of s) name mail ≡ nothing (master_of s) → AnsweredSo s (sides_received name mail s) name mail None
 nothing_so s name mail doing = (
   sym (ap (λ d. d.refusal) doing),
-  nothing_done (sides_heard name mail s) ∙ ap (done (nothing (master_of s))) (hears_work s name mail) ∙ sym (ap (λ d. done d (having_heard name mail (work_of s))) doing),
+  nothing_done (sides_received name mail s) ∙ ap (done (nothing (master_of s))) (receives_work s name mail) ∙ sym (ap (λ d. done d (having_received name mail (work_of s))) doing),
 )
 
-always : {X : Type 0} (name : List ℕ) (x : X) (ss : List Side) → told_of name (λ _. x) x ss ≡ x
+always : {X : Type 0} (name : List ℕ) (x : X) (ss : List Side) → value_of name (λ _. x) x ss ≡ x
 always name x [] = refl
 always name x (t ∷ ts) = by (bytes_eq t.name name) (always name x ts)
   where
-    by : (b : Bool) → told_of name (λ _. x) x ts ≡ x → cond b x (told_of name (λ _. x) x ts) ≡ x
+    by : (b : Bool) → value_of name (λ _. x) x ts ≡ x → cond b x (value_of name (λ _. x) x ts) ≡ x
     by true ih = refl
     by false ih = ih
 
-pub applied_so : (s : State) (name : List ℕ) (session count : ℕ) → told_of name (λ t. in_session t session) None s.sides ≡ None → AnsweredSo s (sides_heard name (Applied session count) s) name (Applied session count) None
+pub applied_so : (s : State) (name : List ℕ) (session count : ℕ) → value_of name (λ t. in_session t session) None s.sides ≡ None → AnsweredSo s (sides_received name (Applied session count) s) name (Applied session count) None
 applied_so s name session count h = nothing_so s name (Applied session count) (goes_by s name (Applied session count) h ∙ always name (nothing (master_of s)) s.sides)
 
-pub answered_away : (result : Result (Option MasterRefusal) AllocError) (s after : State) (name : List ℕ) (mail : AgentMail) (r : MasterRefusal) → told_of name (judges (run_of s) mail) None s.sides ≡ Some r
-    → IfOk result (λ told. told ≡ Some r) → OnOk result (after ≡ turned_away name r s) → Answered result s after name mail
-answered_away (Ok told) s after name mail r h is e = let so = refused_so s name mail r h in (is ∙ so.0, ap work_of e ∙ so.1)
+pub answered_away : (result : Result (Option MasterRefusal) AllocError) (s after : State) (name : List ℕ) (mail : AgentMail) (r : MasterRefusal) → value_of name (judges (run_of s) mail) None s.sides ≡ Some r
+    → IfOk result (λ event_sent. event_sent ≡ Some r) → OnOk result (after ≡ turned_away name r s) → Answered result s after name mail
+answered_away (Ok event_sent) s after name mail r h is e = let so = refused_so s name mail r h in (is ∙ so.0, ap work_of e ∙ so.1)
 answered_away (Err x) s after name mail r h is e = tt
 
 -- an update
 
-told_so : (s : State) (name : List ℕ) (mail : AgentMail) (ts : List StreamEvent) → mailed_by (master_of s) name mail ≡ saying (master_of s) ts → AnsweredSo s (sides_heard name mail (with_told ts s)) name mail None
+told_so : (s : State) (name : List ℕ) (mail : AgentMail) (ts : List StreamEvent) → mailed_by (master_of s) name mail ≡ saying (master_of s) ts → AnsweredSo s (sides_received name mail (with_more_events ts s)) name mail None
 told_so s name mail ts doing = (
   sym (ap (λ d. d.refusal) doing),
-  says (sides_heard name mail s) ts ∙ ap (done (saying (master_of s) ts)) (hears_work s name mail) ∙ sym (ap (λ d. done d (having_heard name mail (work_of s))) doing),
+  says (sides_received name mail s) ts ∙ ap (done (saying (master_of s) ts)) (receives_work s name mail) ∙ sym (ap (λ d. done d (having_received name mail (work_of s))) doing),
 )
 
-abbrev pub news_at : List ℕ → Heard → State → List StreamEvent
-news_at name u s = flat_map (news s.frameworks name u) (told_of name (λ t. t.booked) [] s.sides)
+abbrev pub news_at : List ℕ → TaskUpdate → State → List StreamEvent
+news_at name u s = flat_map (news s.frameworks name u) (value_of name (λ t. t.booked) [] s.sides)
 
-pub updated_so : (s : State) (name : List ℕ) (session : ℕ) (u : Heard) → told_of name (λ t. in_session t session) None s.sides ≡ None
-    → AnsweredSo s (sides_heard name (Update session u.key u.k u.state u.ended) (with_told (news_at name u s) s)) name (Update session u.key u.k u.state u.ended) None
+pub updated_so : (s : State) (name : List ℕ) (session : ℕ) (u : TaskUpdate) → value_of name (λ t. in_session t session) None s.sides ≡ None
+    → AnsweredSo s (sides_received name (Update session u.key u.k u.state u.ended) (with_more_events (news_at name u s) s)) name (Update session u.key u.k u.state u.ended) None
 updated_so s name session u h =
     told_so s name (Update session u.key u.k u.state u.ended) (news_at name u s) (goes_by s name (Update session u.key u.k u.state u.ended) h ∙ by (found_in name s.sides) refl)
   where
-    by : (o : Option Side) → found_in name s.sides ≡ o → told_of name (λ t. goes_with (master_of s) t (Update session u.key u.k u.state u.ended)) (nothing (master_of s)) s.sides ≡ saying (master_of s) (news_at name u s)
+    by : (o : Option Side) → found_in name s.sides ≡ o → value_of name (λ t. goes_with (master_of s) t (Update session u.key u.k u.state u.ended)) (nothing (master_of s)) s.sides ≡ saying (master_of s) (news_at name u s)
     by None e =
         told_as name (λ t. goes_with (master_of s) t (Update session u.key u.k u.state u.ended)) (nothing (master_of s)) s.sides None e
         ∙ sym (ap (λ bs. saying (master_of s) (flat_map (news s.frameworks name u) bs)) (told_as name (λ t. t.booked) [] s.sides None e))
@@ -193,49 +193,49 @@ answer_ok (Some x) b c h = absurd cc
 abbrev pub reports : State → ℕ → ℕ → Side → Result Bool MasterRefusal
 reports s session number t = reported s.run t session number
 
-pub report_away : (s : State) (name : List ℕ) (session number : ℕ) (tasks : List Booked) (total : List Row) (r : MasterRefusal) → told_of name (reports s session number) (Ok false) s.sides ≡ Err r
-    → told_of name (judges (run_of s) (Report session number tasks total)) None s.sides ≡ Some r
+pub report_away : (s : State) (name : List ℕ) (session number : ℕ) (tasks : List Booked) (total : List Row) (r : MasterRefusal) → value_of name (reports s session number) (Ok false) s.sides ≡ Err r
+    → value_of name (judges (run_of s) (Report session number tasks total)) None s.sides ≡ Some r
 report_away s name session number tasks total r h = by (found_in name s.sides) refl
   where
-    by : (o : Option Side) → found_in name s.sides ≡ o → told_of name (judges (run_of s) (Report session number tasks total)) None s.sides ≡ Some r
+    by : (o : Option Side) → found_in name s.sides ≡ o → value_of name (judges (run_of s) (Report session number tasks total)) None s.sides ≡ Some r
     by None e = let no : ◌≡◌ {A = Result Bool MasterRefusal} (Ok false) (Err r) = sym (told_as name (reports s session number) (Ok false) s.sides None e) ∙ h in absurd cc
     by (Some t) e =
         told_as name (judges (run_of s) (Report session number tasks total)) None s.sides (Some t) e
         ∙ answer_err (judged_report s.run t session number) (report_opens s.run t session number) r (sym (told_as name (reports s session number) (Ok false) s.sides (Some t) e) ∙ h)
 
-report_taken : (s : State) (name : List ℕ) (session number : ℕ) (tasks : List Booked) (total : List Row) (b : Bool) → told_of name (reports s session number) (Ok false) s.sides ≡ Ok b
-    → told_of name (judges (run_of s) (Report session number tasks total)) None s.sides ≡ None
+report_taken : (s : State) (name : List ℕ) (session number : ℕ) (tasks : List Booked) (total : List Row) (b : Bool) → value_of name (reports s session number) (Ok false) s.sides ≡ Ok b
+    → value_of name (judges (run_of s) (Report session number tasks total)) None s.sides ≡ None
 report_taken s name session number tasks total b h = by (found_in name s.sides) refl
   where
-    by : (o : Option Side) → found_in name s.sides ≡ o → told_of name (judges (run_of s) (Report session number tasks total)) None s.sides ≡ None
+    by : (o : Option Side) → found_in name s.sides ≡ o → value_of name (judges (run_of s) (Report session number tasks total)) None s.sides ≡ None
     by None e = told_as name (judges (run_of s) (Report session number tasks total)) None s.sides None e
     by (Some t) e =
         told_as name (judges (run_of s) (Report session number tasks total)) None s.sides (Some t) e
         ∙ (answer_ok (judged_report s.run t session number) (report_opens s.run t session number) b (sym (told_as name (reports s session number) (Ok false) s.sides (Some t) e) ∙ h)).0
 
-pub report_opens_is : (s : State) (name : List ℕ) (session number : ℕ) (b : Bool) (t : Side) → found_in name s.sides ≡ Some t → told_of name (reports s session number) (Ok false) s.sides ≡ Ok b → opens (run_of s) t session number ≡ b
+pub report_opens_is : (s : State) (name : List ℕ) (session number : ℕ) (b : Bool) (t : Side) → found_in name s.sides ≡ Some t → value_of name (reports s session number) (Ok false) s.sides ≡ Ok b → opens (run_of s) t session number ≡ b
 report_opens_is s name session number b t e h =
     (answer_ok (judged_report s.run t session number) (report_opens s.run t session number) b (sym (told_as name (reports s session number) (Ok false) s.sides (Some t) e) ∙ h)).1
 
-pub report_doing : (s : State) (name : List ℕ) (session number : ℕ) (tasks : List Booked) (total : List Row) (b : Bool) → told_of name (reports s session number) (Ok false) s.sides ≡ Ok b → (t : Side) → found_in name s.sides ≡ Some t
+pub report_doing : (s : State) (name : List ℕ) (session number : ℕ) (tasks : List Booked) (total : List Row) (b : Bool) → value_of name (reports s session number) (Ok false) s.sides ≡ Ok b → (t : Side) → found_in name s.sides ≡ Some t
     → mailed_by (master_of s) name (Report session number tasks total) ≡ (if b then session_opens (master_of s) t tasks else nothing (master_of s))
 report_doing s name session number tasks total b h t e =
     goes_by s name (Report session number tasks total) (report_taken s name session number tasks total b h)
     ∙ told_as name (λ x. goes_with (master_of s) x (Report session number tasks total)) (nothing (master_of s)) s.sides (Some t) e
     ∙ ap (λ c. if c then session_opens (master_of s) t tasks else nothing (master_of s)) (report_opens_is s name session number b t e h)
 
-stays_at : (s : State) (name : List ℕ) (session number : ℕ) (tasks : List Booked) (total : List Row) (ss : List Side) → told_of name (reports s session number) (Ok false) ss ≡ Ok false → at_name name (λ t. heard (run_of s) t (Report session number tasks total)) ss ≡ ss
+stays_at : (s : State) (name : List ℕ) (session number : ℕ) (tasks : List Booked) (total : List Row) (ss : List Side) → value_of name (reports s session number) (Ok false) ss ≡ Ok false → at_name name (λ t. received (run_of s) t (Report session number tasks total)) ss ≡ ss
 stays_at s name session number tasks total [] h = refl
 stays_at s name session number tasks total (t ∷ ts) h = by (bytes_eq t.name name) refl (stays_at s name session number tasks total ts)
   where
-    by : (b : Bool) → bytes_eq t.name name ≡ b → (told_of name (reports s session number) (Ok false) ts ≡ Ok false → at_name name (λ x. heard (run_of s) x (Report session number tasks total)) ts ≡ ts)
-        → cond b (heard (run_of s) t (Report session number tasks total) ∷ ts) (t ∷ at_name name (λ x. heard (run_of s) x (Report session number tasks total)) ts) ≡ t ∷ ts
+    by : (b : Bool) → bytes_eq t.name name ≡ b → (value_of name (reports s session number) (Ok false) ts ≡ Ok false → at_name name (λ x. received (run_of s) x (Report session number tasks total)) ts ≡ ts)
+        → cond b (received (run_of s) t (Report session number tasks total) ∷ ts) (t ∷ at_name name (λ x. received (run_of s) x (Report session number tasks total)) ts) ≡ t ∷ ts
     by true e ih =
         let closed : opens (run_of s) t session number ≡ false = (answer_ok (judged_report s.run t session number) (report_opens s.run t session number) false (rw e at h)).1 in
         ap (λ b. cond b (opened t session tasks total) t ∷ ts) closed
     by false e ih = ap (λ xs. t ∷ xs) (ih (rw e at h))
 
-pub known_so : (s : State) (name : List ℕ) (session number : ℕ) (tasks : List Booked) (total : List Row) → told_of name (reports s session number) (Ok false) s.sides ≡ Ok false → AnsweredSo s s name (Report session number tasks total) None
+pub known_so : (s : State) (name : List ℕ) (session number : ℕ) (tasks : List Booked) (total : List Row) → value_of name (reports s session number) (Ok false) s.sides ≡ Ok false → AnsweredSo s s name (Report session number tasks total) None
 known_so s name session number tasks total h =
     subst (λ ss. AnsweredSo s (record s { sides = ss }) name (Report session number tasks total) None) (stays_at s name session number tasks total s.sides h)
     (nothing_so s name (Report session number tasks total) (by (found_in name s.sides) refl))

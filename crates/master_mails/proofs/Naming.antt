@@ -3,27 +3,27 @@ use Rattle.std.proofs.Common.{◌≡◌, ℕ, Bool, true, false, ◌&&◌, ◌==
 use Rattle.std.proofs.lemmas.Bool.{true≢false}
 use Rattle.std.proofs.lemmas.Bool.Decides.{nat_tests}
 use Rattle.mails.specs.declared.mail.AgentMail.{AgentMail}
-use Rattle.cluster_model.specs.Mails.{hear_at}
-use Rattle.cluster_model.specs.Sides.{Run, Side, heard}
-use Rattle.agent_sides.specs.Looks.{at_name, told_of}
+use Rattle.cluster_model.specs.Mails.{receive_at}
+use Rattle.cluster_model.specs.Sides.{Run, Side, received}
+use Rattle.agent_sides.specs.Looks.{at_name, value_of}
 
 abbrev pub found_in : List ℕ → List Side → Option Side
 found_in name ss = find (λ s. bytes_eq s.name name) ss
 
 abbrev pub told_in : {X : Type 0} → (Side → X) → X → Option Side → X
-told_in tell none None = none
-told_in tell none (Some s) = tell s
+told_in send_event none None = none
+told_in send_event none (Some s) = send_event s
 
-told_found : {X : Type 0} (name : List ℕ) (tell : Side → X) (none : X) (ss : List Side) → told_of name tell none ss ≡ told_in tell none (found_in name ss)
-told_found name tell none [] = refl
-told_found {X} name tell none (s ∷ ss) = by (bytes_eq s.name name) (told_found name tell none ss)
+told_found : {X : Type 0} (name : List ℕ) (send_event : Side → X) (none : X) (ss : List Side) → value_of name send_event none ss ≡ told_in send_event none (found_in name ss)
+told_found name send_event none [] = refl
+told_found {X} name send_event none (s ∷ ss) = by (bytes_eq s.name name) (told_found name send_event none ss)
   where
-    by : (b : Bool) → told_of name tell none ss ≡ told_in tell none (found_in name ss) → cond b (tell s) (told_of name tell none ss) ≡ told_in tell none (cond b (Some s) (found_in name ss))
+    by : (b : Bool) → value_of name send_event none ss ≡ told_in send_event none (found_in name ss) → cond b (send_event s) (value_of name send_event none ss) ≡ told_in send_event none (cond b (Some s) (found_in name ss))
     by true ih = refl
     by false ih = ih
 
-pub told_as : {X : Type 0} (name : List ℕ) (tell : Side → X) (none : X) (ss : List Side) (o : Option Side) → found_in name ss ≡ o → told_of name tell none ss ≡ told_in tell none o
-told_as name tell none ss o e = told_found name tell none ss ∙ ap (told_in tell none) e
+pub told_as : {X : Type 0} (name : List ℕ) (send_event : Side → X) (none : X) (ss : List Side) (o : Option Side) → found_in name ss ≡ o → value_of name send_event none ss ≡ told_in send_event none o
+told_as name send_event none ss o e = told_found name send_event none ss ∙ ap (told_in send_event none) e
 
 parts : (x y : ℕ) (b : Bool) → (x == y && b) ≡ true → (x ≡ y) × (b ≡ true)
 parts x y b h = grind (arith, nat_tests)
@@ -48,10 +48,10 @@ found_named name (t ∷ ts) s e = by (bytes_eq t.name name) refl (found_named na
     by false h ih = ih (rw h at e)
 
 -- the side of an agent hears a mail
-pub hears_at : (name : List ℕ) (run : Run) (mail : AgentMail) (ss : List Side) → hear_at name run mail ss ≡ at_name name (λ s. heard run s mail) ss
-hears_at name run mail [] = refl
-hears_at name run mail (s ∷ ss) = by (bytes_eq s.name name) (hears_at name run mail ss)
+pub receives_at : (name : List ℕ) (run : Run) (mail : AgentMail) (ss : List Side) → receive_at name run mail ss ≡ at_name name (λ s. received run s mail) ss
+receives_at name run mail [] = refl
+receives_at name run mail (s ∷ ss) = by (bytes_eq s.name name) (receives_at name run mail ss)
   where
-    by : (b : Bool) → hear_at name run mail ss ≡ at_name name (λ t. heard run t mail) ss → cond b (heard run s mail ∷ ss) (s ∷ hear_at name run mail ss) ≡ cond b (heard run s mail ∷ ss) (s ∷ at_name name (λ t. heard run t mail) ss)
+    by : (b : Bool) → receive_at name run mail ss ≡ at_name name (λ t. received run t mail) ss → cond b (received run s mail ∷ ss) (s ∷ receive_at name run mail ss) ≡ cond b (received run s mail ∷ ss) (s ∷ at_name name (λ t. received run t mail) ss)
     by true ih = refl
     by false ih = ap (λ ts. s ∷ ts) ih

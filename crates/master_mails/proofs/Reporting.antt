@@ -13,20 +13,20 @@ use Rattle.quantity.specs.declared.rows.Row.{Row}
 use Rattle.mails.specs.declared.task.Booked.{Booked}
 use Rattle.cluster_model.specs.Ids.{is_among}
 use Rattle.cluster_model.specs.Mails.{is_reported, is_to_end, loses, rescinds, session_opens}
-use Rattle.cluster_model.specs.Masters.{AtSide, Master, Move, Moved, sending_more, tells, without_filters_on}
+use Rattle.cluster_model.specs.Masters.{AtSide, Master, Move, Moved, sending_more, events_to, without_filters_on}
 use Rattle.cluster_model.specs.Sides.{SendEnd, Side, issue, sends_nothing, side_step}
 use Rattle.roster.specs.Sessions.{with_command}
-use Rattle.agent_sides.specs.Looks.{at_name, next_command, told_of}
+use Rattle.agent_sides.specs.Looks.{at_name, next_command, value_of}
 use Rattle.master_state.specs.declared.state.State.{State}
 use Rattle.scheduler_events.specs.declared.stream_event.StreamEvent.{StreamEvent}
 use Rattle.master_state.specs.States.{ordered_as}
 use Rattle.master_state.specs.Works.{Work, done, master_of, registers_of, run_of, work_of}
 use Rattle.master_state.proofs.Doings.{none_more, with_moves}
 use Rattle.master_state.proofs.Moves.{commanded, mails_of, moved_so}
-use Rattle.master_mails.specs.Steps.{ending, ends_of, having_heard, rescinded, session_opened, with_losses, with_report, without_filters}
-use Rattle.master_mails.specs.Tells.{loss_of, lost_event}
+use Rattle.master_mails.specs.Steps.{ending, ends_of, having_received, rescinded, session_opened, with_losses, with_report, without_filters}
+use Rattle.master_mails.specs.Sending.{loss_of, lost_event}
 use Rattle.master_mails.proofs.Mailing.{AnsweredSo, report_doing, reports}
-use Rattle.master_mails.proofs.Naming.{found_in, found_named, hears_at, told_as}
+use Rattle.master_mails.proofs.Naming.{found_in, found_named, receives_at, told_as}
 
 both_true : (x y : Bool) → (x && y) ≡ true → (x ≡ true) × (y ≡ true)
 both_true true y e = (refl, e)
@@ -44,7 +44,7 @@ ordered_moves s name command (Some next) = refl
 
 end_so : (name : List ℕ) (s : State) (id : Numbered) → is_among s.torn id ≡ true → work_of (ending name s id) ≡ with_moves (AtSide name (SendEnd id) ∷ []) (work_of s)
 end_so name s id torn =
-    ordered_moves s name (EndFramework id) (told_of name next_command None s.sides)
+    ordered_moves s name (EndFramework id) (value_of name next_command None s.sides)
     ∙ ap (λ x. with_moved (sending_more s.outs.mails x) (work_of s)) (sym (commanded name (EndFramework id) (SendEnd id) (run_of s) step s.sides))
   where
     step : (t : Side) → side_step (run_of s) t (SendEnd id) ≡ issue (sends_nothing (run_of s) t) (EndFramework id)
@@ -61,7 +61,7 @@ all_ended : (name : List ℕ) (ids : List Numbered) (s : State) → list_all (is
 all_ended name [] s torn = refl
 all_ended name (id ∷ ids) s torn =
     let both = both_true (is_among s.torn id) (list_all (is_among s.torn) ids) torn in
-    let later : list_all (is_among (ending name s id).torn) ids ≡ true = ap (λ ts. list_all (is_among ts) ids) (torn_stays name s (EndFramework id) (told_of name next_command None s.sides)) ∙ both.1 in
+    let later : list_all (is_among (ending name s id).torn) ids ≡ true = ap (λ ts. list_all (is_among ts) ids) (torn_stays name s (EndFramework id) (value_of name next_command None s.sides)) ∙ both.1 in
     all_ended name ids (ending name s id) later
     ∙ ap (with_moves (ends name ids)) (end_so name s id both.0)
 
@@ -88,14 +88,14 @@ losses_alike : (m : Master) (name : List ℕ) (tasks bs : List Booked) → flat_
 losses_alike m name tasks [] = refl
 losses_alike m name tasks (b ∷ bs) = by (is_reported tasks b) (losses_alike m name tasks bs)
   where
-    told : List StreamEvent
-    told = tells m b.job.framework (lost_event name b)
+    event_sent : List StreamEvent
+    event_sent = events_to m b.job.framework (lost_event name b)
 
     by : (r : Bool) → flat_map (loss_of m.registers.frameworks name tasks) bs ≡ loses m name (filter (λ x. not (is_reported tasks x)) bs)
-        → (if b.ended then [] else (if r then [] else tells m b.job.framework (lost_event name b))) ++ flat_map (loss_of m.registers.frameworks name tasks) bs
+        → (if b.ended then [] else (if r then [] else events_to m b.job.framework (lost_event name b))) ++ flat_map (loss_of m.registers.frameworks name tasks) bs
         ≡ loses m name (cond (not r) (b ∷ filter (λ x. not (is_reported tasks x)) bs) (filter (λ x. not (is_reported tasks x)) bs))
     by true ih = ap (λ ts. ts ++ flat_map (loss_of m.registers.frameworks name tasks) bs) (none_either b.ended) ∙ ih
-    by false ih = ap (λ ts. (if b.ended then [] else tells m b.job.framework (lost_event name b)) ++ ts) ih
+    by false ih = ap (λ ts. (if b.ended then [] else events_to m b.job.framework (lost_event name b)) ++ ts) ih
 
 -- the whole
 
@@ -106,29 +106,29 @@ abbrev before_ends : List ℕ → ℕ → ℕ → List Booked → List Row → S
 before_ends name session number tasks total s = with_report name session number tasks total (without_filters name (with_losses name tasks (rescinded name s)))
 
 opened_of : (s : State) (session number : ℕ) (tasks : List Booked) (total : List Row) (t : Side) → found_in t.name s.sides ≡ Some t
-    → work_of (session_opened t.name session number tasks total s) ≡ done (session_opens (master_of s) t tasks) (having_heard t.name (Report session number tasks total) (work_of s))
+    → work_of (session_opened t.name session number tasks total s) ≡ done (session_opens (master_of s) t tasks) (having_received t.name (Report session number tasks total) (work_of s))
 opened_of s session number tasks total t is =
     all_ended t.name (ends_of tasks s) (before_ends t.name session number tasks total s) (all_torn (master_of s) tasks s.frameworks)
-    ∙ ap (λ ss. reported_work s t.name ss (ends t.name (ends_of tasks s)) (work_of (before_ends t.name session number tasks total s)).events s.outs.opened s.outs.closed) (sym (hears_at t.name (run_of s) (Report session number tasks total) s.sides))
+    ∙ ap (λ ss. reported_work s t.name ss (ends t.name (ends_of tasks s)) (work_of (before_ends t.name session number tasks total s)).events s.outs.opened s.outs.closed) (sym (receives_at t.name (run_of s) (Report session number tasks total) s.sides))
     ∙ ap (λ ms. reported_work s t.name sides ms (work_of (before_ends t.name session number tasks total s)).events s.outs.opened s.outs.closed) (moves_alike t.name (filter (is_to_end (master_of s) tasks) s.frameworks))
     ∙ ap (λ es. reported_work s t.name sides moves es s.outs.opened s.outs.closed) events
     ∙ ap (λ os. reported_work s t.name sides moves (s.outs.events ++ (session_opens (master_of s) t tasks).events) os s.outs.closed) (sym (none_more s.outs.opened))
     ∙ ap (λ cs. reported_work s t.name sides moves (s.outs.events ++ (session_opens (master_of s) t tasks).events) (s.outs.opened ++ []) cs) (sym (none_more s.outs.closed))
   where
     sides : List Side
-    sides = (having_heard t.name (Report session number tasks total) (work_of s)).moved.sides
+    sides = (having_received t.name (Report session number tasks total) (work_of s)).moved.sides
 
     moves : List Move
     moves = (session_opens (master_of s) t tasks).moves
 
     events : (work_of (before_ends t.name session number tasks total s)).events ≡ s.outs.events ++ (session_opens (master_of s) t tasks).events
     events =
-        ap (λ os. (s.outs.events ++ (rescinds (master_of s) os)) ++ flat_map (loss_of s.frameworks t.name tasks) (told_of t.name (λ x. x.booked) [] s.sides)) (told_as t.name (λ x. x.offers) [] s.sides (Some t) is)
+        ap (λ os. (s.outs.events ++ (rescinds (master_of s) os)) ++ flat_map (loss_of s.frameworks t.name tasks) (value_of t.name (λ x. x.booked) [] s.sides)) (told_as t.name (λ x. x.offers) [] s.sides (Some t) is)
         ∙ ap (λ bs. (s.outs.events ++ (rescinds (master_of s) t.offers)) ++ flat_map (loss_of s.frameworks t.name tasks) bs) (told_as t.name (λ x. x.booked) [] s.sides (Some t) is)
         ∙ ap (λ ts. (s.outs.events ++ (rescinds (master_of s) t.offers)) ++ ts) (losses_alike (master_of s) t.name tasks t.booked)
         ∙ append_assoc s.outs.events (rescinds (master_of s) t.offers) (loses (master_of s) t.name (filter (λ b. not (is_reported tasks b)) t.booked))
 
-pub opened_so : (s : State) (name : List ℕ) (session number : ℕ) (tasks : List Booked) (total : List Row) → told_of name (reports s session number) (Ok false) s.sides ≡ Ok true → AnsweredSo s (session_opened name session number tasks total s) name (Report session number tasks total) None
+pub opened_so : (s : State) (name : List ℕ) (session number : ℕ) (tasks : List Booked) (total : List Row) → value_of name (reports s session number) (Ok false) s.sides ≡ Ok true → AnsweredSo s (session_opened name session number tasks total s) name (Report session number tasks total) None
 opened_so s name session number tasks total h = by (found_in name s.sides) refl
   where
     by : (o : Option Side) → found_in name s.sides ≡ o → AnsweredSo s (session_opened name session number tasks total s) name (Report session number tasks total) None
@@ -137,6 +137,6 @@ opened_so s name session number tasks total h = by (found_in name s.sides) refl
         let named : t.name ≡ name = found_named name s.sides t e in
         let doing = report_doing s name session number tasks total true h t e in (
           sym (ap (λ d. d.refusal) doing),
-          subst (λ n. work_of (session_opened n session number tasks total s) ≡ done (session_opens (master_of s) t tasks) (having_heard n (Report session number tasks total) (work_of s))) named (opened_of s session number tasks total t (ap (λ n. found_in n s.sides) named ∙ e))
-              ∙ sym (ap (λ d. done d (having_heard name (Report session number tasks total) (work_of s))) doing),
+          subst (λ n. work_of (session_opened n session number tasks total s) ≡ done (session_opens (master_of s) t tasks) (having_received n (Report session number tasks total) (work_of s))) named (opened_of s session number tasks total t (ap (λ n. found_in n s.sides) named ∙ e))
+              ∙ sym (ap (λ d. done d (having_received name (Report session number tasks total) (work_of s))) doing),
         )

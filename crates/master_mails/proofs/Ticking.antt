@@ -15,7 +15,7 @@ use Rattle.cluster_model.specs.Masters.{Moved, at_this_side, move, move_all, pas
 use Rattle.cluster_model.specs.Sides.{Run, SendAgain, SendHello, Sending, Side, oldest_again, side_step}
 use Rattle.agent_sides.specs.Configs.{are_ordered}
 use Rattle.agent_sides.specs.Joined.{side_names}
-use Rattle.agent_sides.specs.Told.{addressed, again_of, mails_at_tick, oldest_of}
+use Rattle.agent_sides.specs.ByName.{addressed, again_of, mails_at_tick, oldest_of}
 use Rattle.master_state.specs.declared.state.State.{State}
 use Rattle.scheduler_events.specs.declared.stream_event.StreamEvent.{StreamEvent}
 use Rattle.master_state.specs.Works.{Work, done, master_of, run_of, work_of}

@@ -1,3 +1,3 @@
-pub mod Tells
+pub mod Sending
 pub mod Steps
 pub mod Reported

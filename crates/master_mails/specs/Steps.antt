@@ -9,22 +9,22 @@ use Rattle.mails.specs.declared.task.Booked.{Booked}
 use Rattle.mails.specs.declared.refusal.MasterRefusal.{MasterRefusal}
 use Rattle.mails.specs.declared.refusal.MasterRefusal.TheVariants.{OtherRun}
 use Rattle.cluster_model.specs.Events.{StreamEvent, Failure}
-use Rattle.cluster_model.specs.Masters.{clear_on, tells_all}
-use Rattle.cluster_model.specs.Mails.{hear_at, is_to_end}
+use Rattle.cluster_model.specs.Masters.{clear_on, events_to_all}
+use Rattle.cluster_model.specs.Mails.{receive_at, is_to_end}
 use Rattle.cluster_model.specs.Sides.{lost}
 use Rattle.agent_sides.specs.Changes.{reporting}
-use Rattle.agent_sides.specs.Looks.{at_name, told_of}
+use Rattle.agent_sides.specs.Looks.{at_name, value_of}
 use Rattle.agent_sides.specs.Named.{mailed_by}
 use Rattle.master_state.specs.Greetings.{greeted}
 use Rattle.master_state.specs.declared.state.State.{State}
 use Rattle.master_state.specs.States.{ordered}
 use Rattle.master_state.specs.Works.{Work, done, master_of, work_of}
-use Rattle.master_mails.specs.Tells.{loss_of, rescind_of}
+use Rattle.master_mails.specs.Sending.{loss_of, rescind_of}
 
 -- what a master holds, once the side of an agent has received a mail
-abbrev pub having_heard : List ℕ → AgentMail → Work → Work
-having_heard agent mail w =
-    record w { moved = record w.moved { sides = hear_at agent w.moved.run mail w.moved.sides } }
+abbrev pub having_received : List ℕ → AgentMail → Work → Work
+having_received agent mail w =
+    record w { moved = record w.moved { sides = receive_at agent w.moved.run mail w.moved.sides } }
 
 -- an agent's mail was received, with what goes with it, and why it is refused is returned; where
 -- memory was refused nothing is claimed
@@ -33,13 +33,13 @@ abbrev pub Answered : Result (Option MasterRefusal) AllocError → State → Sta
 Answered (Ok refusal) before after agent mail =
     (refusal ≡ (mailed_by (master_of before) agent mail).refusal)
     × (work_of after ≡ done (mailed_by (master_of before) agent mail)
-    (having_heard agent mail (work_of before)))
+    (having_received agent mail (work_of before)))
 Answered (Err e) before after agent mail = ⊤
 
 -- small steps
 
-abbrev pub with_told : List StreamEvent → State → State
-with_told ts s = record s { outs = record s.outs { events = s.outs.events ++ ts } }
+abbrev pub with_more_events : List StreamEvent → State → State
+with_more_events ts s = record s { outs = record s.outs { events = s.outs.events ++ ts } }
 
 abbrev pub without_filters : List ℕ → State → State
 without_filters agent s = record s { frameworks = map (clear_on agent) s.frameworks }
@@ -50,15 +50,16 @@ with_lost agent s = record s { sides = at_name agent lost s.sides }
 -- the events of an agent's offers and of its booked tasks that aren't reported
 abbrev pub rescinded : List ℕ → State → State
 rescinded agent s =
-    with_told (flat_map (rescind_of s.frameworks) (told_of agent (λ t. t.offers) [] s.sides)) s
+    with_more_events
+    (flat_map (rescind_of s.frameworks) (value_of agent (λ t. t.offers) [] s.sides)) s
 
 abbrev pub with_losses : List ℕ → List Booked → State → State
 with_losses agent reported s =
-    with_told (flat_map (loss_of s.frameworks agent reported)
-    (told_of agent (λ t. t.booked) [] s.sides)) s
+    with_more_events (flat_map (loss_of s.frameworks agent reported)
+    (value_of agent (λ t. t.booked) [] s.sides)) s
 
 abbrev pub with_failures : List ℕ → State → State
-with_failures agent s = with_told (tells_all s.frameworks (Failure agent)) s
+with_failures agent s = with_more_events (events_to_all s.frameworks (Failure agent)) s
 
 abbrev pub left : List ℕ → State → State
 left agent s =

@@ -8,7 +8,7 @@ mod on_mail;
 mod on_tick;
 mod opening;
 mod reported;
-mod tell;
+mod sending;
 
 pub use on_hang_up::hang_up;
 pub use on_loss::lose_agent;

@@ -6,7 +6,7 @@ ghost use Rattle.master_mails.specs.Steps.{left};
 ghost use Rattle.agent_sides.specs.Named.{lost_by};
 
 use crate::reported::Reported;
-use crate::tell;
+use crate::sending;
 use master_state::State;
 use names_core::AgentName;
 use std::alloc::{AllocError, Global};
@@ -15,11 +15,11 @@ fn lose_open(state: &mut State, alloc: Global, agent: &AgentName) -> Result<(), 
     ensures { OnOk result (state.new ≡ left agent.now state.old) }
 {
     let events = &mut state.outs.events;
-    tell::tell_rescinds(&state.frameworks, state.sides.offers_of(agent), events)?;
+    sending::send_rescinds(&state.frameworks, state.sides.offers_of(agent), events)?;
     let tasks = state.sides.tasks_of(agent);
     let none = Reported::none(alloc);
-    tell::tell_losses(alloc, &state.frameworks, agent, &none, tasks, events)?;
-    tell::tell_failures(alloc, agent, state.frameworks.as_slice(), events)?;
+    sending::send_losses(alloc, &state.frameworks, agent, &none, tasks, events)?;
+    sending::send_failures(alloc, agent, state.frameworks.as_slice(), events)?;
     state.frameworks.clear_filters_on(agent);
     state.sides.lose_named(alloc, agent);
     state.greet(alloc, agent)

@@ -7,8 +7,8 @@ ghost use Rattle.master_mails.specs.Steps.{Answered, turned_away};
 ghost use Rattle.cluster_model.specs.Mails.{FitsRecord};
 
 use crate::opening::open_session;
-use crate::tell;
-use booked_tasks::Heard;
+use crate::sending;
+use booked_tasks::TaskUpdate;
 use listed::Listed;
 use mails::{AgentMail, Booked, MasterRefusal};
 use master_state::State;
@@ -23,7 +23,7 @@ fn turn_away(
     agent: &AgentName,
     refusal: MasterRefusal,
 ) -> Result<Option<MasterRefusal>, AllocError>
-    ensures refusal { IfOk result (λ told. told ≡ Some refusal) }
+    ensures refusal { IfOk result (λ event_sent. event_sent ≡ Some refusal) }
     ensures state { OnOk result (state.new ≡ turned_away agent.now refusal state.old) }
 {
     if refusal != MasterRefusal::OtherRun {
@@ -32,7 +32,7 @@ fn turn_away(
     Ok(Some(refusal))
 }
 
-fn hear_report(
+fn receive_report(
     state: &mut State,
     alloc: Global,
     agent: &AgentName,
@@ -53,7 +53,7 @@ fn hear_report(
     }
 }
 
-fn hear_applied(
+fn receive_applied(
     state: &mut State,
     alloc: Global,
     agent: &AgentName,
@@ -65,18 +65,18 @@ fn hear_applied(
     if let Some(refusal) = state.sides.judge(agent, session) {
         return turn_away(state, alloc, agent, refusal);
     }
-    match state.sides.hear_applied(alloc, agent, session, count) {
+    match state.sides.receive_applied(alloc, agent, session, count) {
         Ok(()) => Ok(None),
         Err(_) => Err(AllocError),
     }
 }
 
-fn hear_update(
+fn receive_update(
     state: &mut State,
     alloc: Global,
     agent: &AgentName,
     session: u32,
-    update: &Heard,
+    update: &TaskUpdate,
 ) -> Result<Option<MasterRefusal>, AllocError>
     requires { update.now.k < most_updates }
     ensures { Answered result state.old state.new agent.now
@@ -87,8 +87,8 @@ fn hear_update(
     }
     let tasks = state.sides.tasks_of(agent);
     let events = &mut state.outs.events;
-    tell::tell_news(alloc, &state.frameworks, agent, update, tasks, events)?;
-    state.sides.hear_update(agent, session, update);
+    sending::send_news(alloc, &state.frameworks, agent, update, tasks, events)?;
+    state.sides.receive_update(agent, session, update);
     Ok(None)
 }
 
@@ -116,8 +116,10 @@ pub fn mail(
             run,
             tasks,
             total,
-        } => hear_report(state, alloc, agent, session, run, tasks, total),
-        AgentMail::Applied { session, count } => hear_applied(state, alloc, agent, session, count),
+        } => receive_report(state, alloc, agent, session, run, tasks, total),
+        AgentMail::Applied { session, count } => receive_applied(
+            state, alloc, agent, session, count,
+        ),
         AgentMail::Update {
             session,
             key,
@@ -125,13 +127,13 @@ pub fn mail(
             state: task_state,
             ended,
         } => {
-            let update = Heard {
+            let update = TaskUpdate {
                 key,
                 k,
                 state: task_state,
                 ended,
             };
-            hear_update(state, alloc, agent, session, &update)
+            receive_update(state, alloc, agent, session, &update)
         }
     }
 }

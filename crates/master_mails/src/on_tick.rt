@@ -4,7 +4,7 @@ ghost use Rattle.std.specs.Prelude.{◌≡◌, OnOk};
 ghost use Rattle.cluster_model.specs.Mails.{ticked};
 ghost use Rattle.master_state.specs.Works.{done, master_of, work_of};
 
-use crate::tell;
+use crate::sending;
 use master_state::State;
 use std::alloc::{AllocError, Global};
 
@@ -16,7 +16,7 @@ pub fn tick(state: &mut State, alloc: Global, now: u32) -> Result<(), AllocError
         ≡ done (ticked (master_of state.old) now) (work_of state.old)) }
 {
     state.sides.stand_in_order();
-    tell::tell_beats(now, state.frameworks.as_slice(), &mut state.outs.events)?;
+    sending::send_heartbeats(now, state.frameworks.as_slice(), &mut state.outs.events)?;
     state.frameworks.beat(now);
     state.moment = now;
     state

@@ -6,7 +6,7 @@ ghost use Rattle.master_state.specs.Works.{master_of};
 ghost use Rattle.master_mails.specs.Steps.{ending, ends_of, session_opened};
 
 use crate::reported::Reported;
-use crate::tell;
+use crate::sending;
 use listed::Listed;
 use mails::{Booked, Command, Framework};
 use master_state::State;
@@ -82,14 +82,14 @@ pub fn open_session(
 {
     let reported = Reported::of(alloc, tasks)?;
     let events = &mut state.outs.events;
-    tell::tell_rescinds(&state.frameworks, state.sides.offers_of(agent), events)?;
+    sending::send_rescinds(&state.frameworks, state.sides.offers_of(agent), events)?;
     let booked = state.sides.tasks_of(agent);
-    tell::tell_losses(alloc, &state.frameworks, agent, &reported, booked, events)?;
+    sending::send_losses(alloc, &state.frameworks, agent, &reported, booked, events)?;
     let ends = frameworks_to_end(state, alloc, &reported)?;
     state.frameworks.clear_filters_on(agent);
     let tasks = reported.into_tasks();
     state
         .sides
-        .hear_report(alloc, agent, state.run, session, number, tasks, total);
+        .receive_report(alloc, agent, state.run, session, number, tasks, total);
     order_ends(state, alloc, agent, &ends)
 }

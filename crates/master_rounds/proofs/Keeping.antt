@@ -9,7 +9,7 @@ use Rattle.cluster_model.specs.Sides.{Side}
 use Rattle.agent_sides.specs.Free.{open_part}
 use Rattle.drf_pick.specs.declared.holder.Client.{Client}
 use Rattle.drf_pick.specs.Shares.{Tally}
-use Rattle.frameworks.specs.Told.{Remembers, client_of}
+use Rattle.frameworks.specs.LastRound.{Remembers, client_of}
 use Rattle.round_shares.specs.Gifts.{shares_of}
 use Rattle.round_shares.specs.Picks.{picked}
 use Rattle.round_shares.proofs.Remembered.{given_remember, shares_remember}

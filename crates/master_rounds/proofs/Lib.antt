@@ -2,7 +2,7 @@ pub mod Visiting
 pub mod Bounds
 pub mod Agreeing
 pub mod Making
-pub mod Telling
+pub mod SendingAll
 pub mod Starting
 pub mod Keeping
-pub mod Told
+pub mod Places

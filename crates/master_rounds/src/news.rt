@@ -84,7 +84,7 @@ fn offers_for(
     Ok(copies)
 }
 
-fn tell_on(
+fn send_on(
     events: &mut Listed<StreamEvent>,
     stream: StreamId,
     offers: Vec<Offer>,
@@ -102,7 +102,7 @@ fn tell_on(
     })
 }
 
-fn tell(
+fn send_to(
     events: &mut Listed<StreamEvent>,
     alloc: Global,
     offers: &[Offer],
@@ -115,7 +115,7 @@ fn tell(
         None => Ok(()),
         Some(stream) => {
             let news = offers_for(alloc, offers, framework.id)?;
-            tell_on(events, stream, news)
+            send_on(events, stream, news)
         }
     }
 }
@@ -154,7 +154,7 @@ fn ordered_places(
 
 /// Sends one event with its offers to each framework that has some and an open stream, in the order
 /// of the frameworks. They are found by halving, with no pass over all frameworks.
-pub fn tell_all(
+pub fn send_offers(
     events: &mut Listed<StreamEvent>,
     alloc: Global,
     offers: &[Offer],
@@ -166,11 +166,11 @@ pub fn tell_all(
         ++ flat_map (news_of offers.now) frameworks.now) }
 {
     let places = ordered_places(alloc, offers, frameworks)?;
-    let mut told = 0;
+    let mut passed = 0;
     for place in places.as_slice() {
-        if told <= *place && *place < frameworks.len() {
-            tell(events, alloc, offers, &frameworks[*place])?;
-            told = *place + 1;
+        if passed <= *place && *place < frameworks.len() {
+            send_to(events, alloc, offers, &frameworks[*place])?;
+            passed = *place + 1;
         }
     }
     Ok(())

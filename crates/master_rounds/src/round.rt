@@ -6,7 +6,7 @@ ghost use Rattle.master_state.specs.Works.{done, master_of, run_of, work_of};
 ghost use Rattle.side_fits.specs.Fits.{SidesFit};
 ghost use Rattle.master_rounds.specs.Visits.{round_of};
 
-use crate::news::{offer_all, tell_all};
+use crate::news::{offer_all, send_offers};
 use crate::visit::{Progress, round_of};
 use listed::Listed;
 use master_state::State;
@@ -51,5 +51,5 @@ pub fn allocate(state: &mut State, alloc: Global, weights: &Weights) -> Result<(
     offer_all(&mut state.sides, alloc, made.as_slice())?;
     state.next_offer = next;
     let frameworks = state.frameworks.as_slice();
-    tell_all(&mut state.outs.events, alloc, made.as_slice(), frameworks)
+    send_offers(&mut state.outs.events, alloc, made.as_slice(), frameworks)
 }

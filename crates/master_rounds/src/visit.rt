@@ -3,7 +3,7 @@
 ghost use Rattle.std.specs.Prelude.{◌≡◌, ◌≤◌, ◌<◌, None, Some, fold, OnOk, IfOk};
 ghost use Rattle.cluster_model.specs.Ids.{is_empty, last_number};
 ghost use Rattle.drf_pick.specs.Shares.{given};
-ghost use Rattle.roster.specs.Places.{told_at};
+ghost use Rattle.roster.specs.Places.{value_at};
 ghost use Rattle.agent_sides.specs.Free.{open_part};
 ghost use Rattle.frameworks.specs.Starts.{AreStarts};
 ghost use Rattle.round_shares.specs.Candidates.{AreCandidates};
@@ -130,7 +130,7 @@ fn visit(
     ensures candidates { OnOk result (AreCandidates progress.new.shares state.now.frameworks
         candidates.now) }
     ensures ok { OnOk result (progress.new ≡ visits_part state.now.run state.now.moment
-        state.now.frameworks progress.old (told_at place open_part None state.now.sides)) }
+        state.now.frameworks progress.old (value_at place open_part None state.now.sides)) }
 {
     match state.sides.open_part(alloc, place)? {
         None => Ok(()),

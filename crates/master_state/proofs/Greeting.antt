@@ -3,7 +3,7 @@ use Rattle.std.proofs.Common.{◌≡◌, ℕ, Bool, true, false, cond, List, [],
 use Rattle.mails.specs.declared.mail.ToAgent.{ToAgent}
 use Rattle.cluster_model.specs.Sides.{Run, SendHello, Side, SideStep, sends_nothing, side_step}
 use Rattle.cluster_model.specs.Masters.{AtSide, Moved, at_side, at_this_side, past_side, sending_more}
-use Rattle.agent_sides.specs.Looks.{at_name, told_of}
+use Rattle.agent_sides.specs.Looks.{at_name, value_of}
 use Rattle.master_state.specs.States.{State}
 use Rattle.master_state.specs.Greetings.{greeted, greeted_as, hello}
 use Rattle.master_state.specs.Works.{Work, run_of, work_of}
@@ -14,13 +14,13 @@ abbrev hellos : List ℕ → ℕ → Option ℕ → List ToAgent
 hellos name run None = []
 hellos name run (Some dead) = hello name run dead ∷ []
 
-hello_at : (name : List ℕ) (run : Run) (ss : List Side) → at_side name SendHello run ss ≡ moved_so run ss (hellos name run.number (told_of name (λ t. Some t.closed) None ss))
+hello_at : (name : List ℕ) (run : Run) (ss : List Side) → at_side name SendHello run ss ≡ moved_so run ss (hellos name run.number (value_of name (λ t. Some t.closed) None ss))
 hello_at name run [] = refl
 hello_at name run (s ∷ ss) = by (bytes_eq s.name name) (hello_at name run ss)
   where
-    by : (b : Bool) → at_side name SendHello run ss ≡ moved_so run ss (hellos name run.number (told_of name (λ t. Some t.closed) None ss))
+    by : (b : Bool) → at_side name SendHello run ss ≡ moved_so run ss (hellos name run.number (value_of name (λ t. Some t.closed) None ss))
         → cond b (at_this_side name (side_step run s SendHello) ss) (past_side s (at_side name SendHello run ss))
-        ≡ moved_so run (s ∷ ss) (hellos name run.number (cond b (Some s.closed) (told_of name (λ t. Some t.closed) None ss)))
+        ≡ moved_so run (s ∷ ss) (hellos name run.number (cond b (Some s.closed) (value_of name (λ t. Some t.closed) None ss)))
     by true ih = refl
     by false ih = ap (past_side s) ih
 
@@ -33,7 +33,7 @@ greeted_moves name s (Some dead) = refl
 
 pub greets : (name : List ℕ) (s : State) → work_of (greeted name s) ≡ with_moves (AtSide name SendHello ∷ []) (work_of s)
 greets name s =
-    greeted_moves name s (told_of name (λ t. Some t.closed) None s.sides)
+    greeted_moves name s (value_of name (λ t. Some t.closed) None s.sides)
     ∙ ap (λ x. with_moved (sending_more s.outs.mails x) (work_of s)) (sym (hello_at name (run_of s) s.sides))
 
 -- a step that sends nothing changes the side alone

@@ -13,7 +13,7 @@ use Rattle.cluster_model.specs.Masters.{AtSide, Moved, at_side, at_this_side, mo
 use Rattle.roster.specs.Sessions.{with_command}
 use Rattle.agent_sides.specs.Configs.{are_ordered}
 use Rattle.agent_sides.specs.Joined.{side_names}
-use Rattle.agent_sides.specs.Looks.{at_name, next_command, told_of, withdrawing}
+use Rattle.agent_sides.specs.Looks.{at_name, next_command, value_of, withdrawing}
 use Rattle.master_state.specs.States.{mail_of}
 use Rattle.master_state.proofs.Doings.{none_more}
 
@@ -88,12 +88,12 @@ at_once name command run s ss = by s.is_open refl
     by false h = rw h refl
 
 pub commanded : (name : List ℕ) (command : Command) (step : SideStep) (run : Run) → ((s : Side) → side_step run s step ≡ issue (sends_nothing run s) command) → (ss : List Side)
-    → at_side name step run ss ≡ moved_so run (at_name name (with_command command) ss) (mails_of name command (told_of name next_command None ss))
+    → at_side name step run ss ≡ moved_so run (at_name name (with_command command) ss) (mails_of name command (value_of name next_command None ss))
 commanded name command step run same [] = refl
 commanded name command step run same (s ∷ ss) = by (bytes_eq s.name name) (commanded name command step run same ss)
   where
-    by : (b : Bool) → at_side name step run ss ≡ moved_so run (at_name name (with_command command) ss) (mails_of name command (told_of name next_command None ss))
+    by : (b : Bool) → at_side name step run ss ≡ moved_so run (at_name name (with_command command) ss) (mails_of name command (value_of name next_command None ss))
         → cond b (at_this_side name (side_step run s step) ss) (past_side s (at_side name step run ss))
-        ≡ moved_so run (cond b (with_command command s ∷ ss) (s ∷ at_name name (with_command command) ss)) (mails_of name command (cond b (next_command s) (told_of name next_command None ss)))
+        ≡ moved_so run (cond b (with_command command s ∷ ss) (s ∷ at_name name (with_command command) ss)) (mails_of name command (cond b (next_command s) (value_of name next_command None ss)))
     by true ih = ap (λ x. at_this_side name x ss) (same s) ∙ at_once name command run s ss
     by false ih = ap (past_side s) ih

@@ -2,7 +2,7 @@
 use Rattle.std.specs.Prelude.{ℕ, List, Option, Some, None}
 use Rattle.mails.specs.declared.mail.MasterMail.TheVariants.{Hello}
 use Rattle.mails.specs.declared.mail.ToAgent.{ToAgent}
-use Rattle.agent_sides.specs.Looks.{told_of}
+use Rattle.agent_sides.specs.Looks.{value_of}
 use Rattle.master_state.specs.States.{State, sent}
 
 abbrev pub hello : List ℕ → ℕ → ℕ → ToAgent
@@ -14,4 +14,4 @@ greeted_as agent (Some dead) s = sent (hello agent s.run dead) s
 
 -- with the greatest session that is closed, where the agent is configured
 abbrev pub greeted : List ℕ → State → State
-greeted agent s = greeted_as agent (told_of agent (λ t. Some t.closed) None s.sides) s
+greeted agent s = greeted_as agent (value_of agent (λ t. Some t.closed) None s.sides) s

@@ -11,7 +11,7 @@ use Rattle.cluster_model.specs.Events.{update_event}
 use Rattle.roster.specs.Sessions.{with_command}
 use Rattle.agent_sides.specs.declared.config.ConfiguredAgent.{ConfiguredAgent}
 use Rattle.agent_sides.specs.Changes.{side_of}
-use Rattle.agent_sides.specs.Looks.{at_name, next_command, told_of, withdrawing}
+use Rattle.agent_sides.specs.Looks.{at_name, next_command, value_of, withdrawing}
 pub use Rattle.scheduler_events.specs.declared.stream_event.StreamEvent.{StreamEvent}
 pub use Rattle.master_state.specs.declared.state.Outs.{Outs}
 pub use Rattle.master_state.specs.declared.state.State.{State}
@@ -40,8 +40,8 @@ cleared s = record s { outs = no_outs }
 
 -- events, streams and mails
 
-abbrev pub told : Numbered → Event → State → State
-told stream event s =
+abbrev pub event_sent : Numbered → Event → State → State
+event_sent stream event s =
     record s {
       outs = record s.outs {
         events = s.outs.events ++ record { stream = stream; event = event }
@@ -49,8 +49,8 @@ told stream event s =
       };
     }
 
-abbrev pub told_of_task : Numbered → List ℕ → TaskState → Option (List ℕ) → State → State
-told_of_task stream task state agent s = told stream (update_event task state agent None) s
+abbrev pub task_state_sent : Numbered → List ℕ → TaskState → Option (List ℕ) → State → State
+task_state_sent stream task state agent s = event_sent stream (update_event task state agent None) s
 
 abbrev pub closed : Numbered → State → State
 closed stream s = record s { outs = record s.outs { closed = s.outs.closed ++ stream ∷ [] } }
@@ -84,7 +84,7 @@ ordered_as agent command (Some next) s =
 
 -- a command goes to an agent, where it has an open session
 abbrev pub ordered : List ℕ → Command → State → State
-ordered agent command s = ordered_as agent command (told_of agent next_command None s.sides) s
+ordered agent command s = ordered_as agent command (value_of agent next_command None s.sides) s
 
 -- offers that pass a test are withdrawn
 abbrev pub without_offers : (Offer → Bool) → State → State

@@ -6,8 +6,8 @@ mod admit;
 mod fault;
 mod greet;
 mod order;
+mod outputs;
 mod state;
-mod tell;
 
 pub use fault::MasterFault;
 pub use state::{Outs, State};

@@ -18,7 +18,7 @@ pub(crate) const FAILED: u8 = 3;
 
 /// Prints on standard error why a command ended, and returns its status: 2 where its input is
 /// refused, 3 where memory, a store or a device failed.
-pub(crate) fn tell<F: fmt::Display + Drop>(
+pub(crate) fn print_fault<F: fmt::Display + Drop>(
     rt: &HostRuntime,
     fault: &F,
     is_refusal: bool,

@@ -12,7 +12,7 @@ mod streams;
 mod words;
 
 use command_line::{Action, command_of};
-use ends::tell;
+use ends::print_fault;
 use serve::run_serve;
 use std::alloc::Global;
 use std::env::Args;
@@ -23,7 +23,7 @@ use std::thread::Threads;
 use std::time::Clock;
 use std::{env, io};
 use streams::{run_calls, run_replay};
-use words::{tell_unread, tell_words};
+use words::{print_unread, print_word_fault};
 
 fn words_of(alloc: Global, given: Args) -> io::Result<Vec<String>> {
     let mut words = Vec::new(alloc);
@@ -53,7 +53,7 @@ fn run_words<R: Net<Listener = TcpListener, Stream = TcpStream> + Threads + Wait
         Ok(Action::Calls) => Ok(run_calls(rt, &mut rt.stdin(), &mut rt.stdout())),
         Ok(Action::Replay) => Ok(run_replay(rt, &mut rt.stdin(), &mut rt.stdout())),
         Ok(Action::Serve(options)) => Ok(run_serve(rt, threads, &options, &mut rt.stdout())),
-        Err(fault) => tell_words(rt, &fault),
+        Err(fault) => print_word_fault(rt, &fault),
     }
 }
 
@@ -66,7 +66,7 @@ fn run<R: Net<Listener = TcpListener, Stream = TcpStream> + Threads + Wait + Clo
 {
     let given = match env::args(rt) {
         Ok(given) => given,
-        Err(fault) => return Ok(tell_unread(rt, &fault)),
+        Err(fault) => return Ok(print_unread(rt, &fault)),
     };
     let words = words_of(rt.alloc(), given)?;
     let texts = texts_of(rt.alloc(), &words)?;
@@ -76,6 +76,6 @@ fn run<R: Net<Listener = TcpListener, Stream = TcpStream> + Threads + Wait + Clo
 fn main(rt: HostRuntime) -> ExitCode {
     match run(&rt, &rt) {
         Ok(code) => code,
-        Err(fault) => tell(&rt, &fault, false),
+        Err(fault) => print_fault(&rt, &fault, false),
     }
 }

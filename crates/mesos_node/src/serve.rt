@@ -10,7 +10,7 @@ ghost use Rattle.mesos_node.specs.Statuses.{IsStatus, status_of_fault};
 ghost use Rattle.mesos_node.specs.Ends.{AppendsTable, IsEndTable};
 ghost use Rattle.mesos_node.specs.Refusals.{is_refusal};
 
-use crate::ends::tell;
+use crate::ends::print_fault;
 use crate::fault::ServeFault;
 use agents_file::{Configuration, read_agents};
 use cluster_core::Cluster;
@@ -95,10 +95,10 @@ fn serve<R: Net<Listener = TcpListener, Stream = TcpStream> + Threads + Wait + C
 }
 
 /// Prints on standard error why a cluster isn't served, or isn't any more.
-fn tell_fault(rt: &HostRuntime, fault: &ServeFault) -> ExitCode
+fn print_serving_fault(rt: &HostRuntime, fault: &ServeFault) -> ExitCode
     ensures { exit_status result ≡ status_of_fault (is_refusal fault.now) }
 {
-    tell(rt, fault, fault.is_refusal())
+    print_fault(rt, fault, fault.is_refusal())
 }
 
 /// Serves a cluster until its connections have ended, and writes the table at its end: each agent
@@ -121,8 +121,8 @@ pub(crate) fn run_serve<
     match serve(rt, threads, options) {
         Ok(table) => match put(writer, table.as_slice()) {
             Ok(()) => ExitCode::SUCCESS,
-            Err(error) => tell_fault(rt, &ServeFault::Output(error)),
+            Err(error) => print_serving_fault(rt, &ServeFault::Output(error)),
         },
-        Err(fault) => tell_fault(rt, &fault),
+        Err(fault) => print_serving_fault(rt, &fault),
     }
 }

@@ -10,7 +10,7 @@ ghost use Rattle.replays.specs.Replays.{replay_fault, replay_text};
 ghost use Rattle.mesos_node.specs.Statuses.{IsStatus};
 ghost use Rattle.mesos_node.specs.Commands.{Answers, AnswersFront};
 
-use crate::ends::tell;
+use crate::ends::print_fault;
 use call_replies::calls;
 use replays::replay;
 use std::io::{Read, Write};
@@ -40,8 +40,8 @@ pub(crate) fn run_calls<R: Read, W: Write>(
 {
     match calls(rt.alloc(), reader, writer) {
         Ok(None) => ExitCode::SUCCESS,
-        Ok(Some(fault)) => tell(rt, &fault, true),
-        Err(stop) => tell(rt, &stop, false),
+        Ok(Some(fault)) => print_fault(rt, &fault, true),
+        Err(stop) => print_fault(rt, &stop, false),
     }
 }
 
@@ -71,7 +71,7 @@ pub(crate) fn run_replay<R: Read, W: Write>(
 {
     match replay(rt.alloc(), reader, writer) {
         Ok(None) => ExitCode::SUCCESS,
-        Ok(Some(stop)) => tell(rt, &stop, true),
-        Err(stop) => tell(rt, &stop, false),
+        Ok(Some(stop)) => print_fault(rt, &stop, true),
+        Err(stop) => print_fault(rt, &stop, false),
     }
 }

@@ -38,7 +38,7 @@ bytes_before xs [] = false
 bytes_before [] (y ∷ ys) = true
 bytes_before (x ∷ xs) (y ∷ ys) = nat_lt x y || (x == y && bytes_before xs ys)
 
--- a number of a name, by which most names that differ are told apart
+-- a number of a name, by which most names that differ are distinguished
 
 abbrev pub next_number : ℕ → ℕ → ℕ
 next_number number byte = (number * 31 % 2 ^ 32 + byte) % 2 ^ 32

@@ -51,7 +51,7 @@ pub fn is_text_before(text: &str, other: &str) -> bool
     text.cmp(other).is_lt()
 }
 
-/// A number of a name, by which most names that differ are told apart.
+/// A number of a name, by which most names that differ are distinguished.
 pub fn name_number(text: &str) -> u32
     ensures { result ≡ name_number text.now }
 {

@@ -19,8 +19,8 @@ use Rattle.names_core.specs.declared.state.TaskState.{TaskState}
 use Rattle.mails.specs.declared.task.Booked.{Booked}
 use Rattle.mails.specs.declared.mail.Command.{Command}
 use Rattle.mails.specs.declared.mail.Command.TheVariants.{Launch, Kill, Ack, EndFramework}
-use Rattle.cluster_model.specs.Sides.{heard_update, forget, forget_all}
-use Rattle.offer_book.specs.Accounts.{Account, with_task, with_ended, without_key, hearing, after_commands, ended, has_key}
+use Rattle.cluster_model.specs.Sides.{received_update, forget, forget_all}
+use Rattle.offer_book.specs.Accounts.{Account, with_task, with_ended, without_key, receiving, after_commands, ended, has_key}
 use Rattle.booked_tasks.specs.Launches.{id_cmp}
 use Rattle.booked_tasks.proofs.ByFramework.{at_same}
 use Rattle.offer_book.specs.Books.{at_first, is_booked}
@@ -156,13 +156,13 @@ module _ (names : Names) where
   task_keeps b is a are = tasks_more a.booked b are is
 
   pub ended_keeps : (key : Numbered) → KeepsNamed (with_ended key)
-  ended_keeps key a are = tasks_map (ended key) (λ b is. either (has_key key b) (record { job = b.job; ended = true; heard = b.heard; state = b.state }) b is is) a.booked are
+  ended_keeps key a are = tasks_map (ended key) (λ b is. either (has_key key b) (record { job = b.job; ended = true; received = b.received; state = b.state }) b is is) a.booked are
 
   pub key_keeps : (key : Numbered) → KeepsNamed (without_key key)
   key_keeps key a are = tasks_filter _ a.booked are
 
-  pub hearing_keeps : (key : Numbered) (k : ℕ) (state : TaskState) (has_ended : Bool) → KeepsNamed (hearing key k state has_ended)
-  hearing_keeps key k state has_ended a are = tasks_map (heard_update key k state has_ended) (λ b is. either (same b.job.key key) _ b is is) a.booked are
+  pub receiving_keeps : (key : Numbered) (k : ℕ) (state : TaskState) (has_ended : Bool) → KeepsNamed (receiving key k state has_ended)
+  receiving_keeps key k state has_ended a are = tasks_map (received_update key k state has_ended) (λ b is. either (same b.job.key key) _ b is is) a.booked are
 
   pub commands_keep : (commands : List Command) → KeepsNamed (after_commands commands)
   commands_keep commands a are = forget_each commands a.booked are

@@ -7,7 +7,7 @@ use Rattle.quantity.specs.Rows.{covers, rest_of}
 use Rattle.mails.specs.declared.task.Offer.{Offer}
 use Rattle.mails.specs.declared.task.Booked.{Booked}
 use Rattle.mails.specs.declared.mail.Command.{Command}
-use Rattle.cluster_model.specs.Sides.{unended, job_rows, offer_rows, heard_update, forget_all, is_named}
+use Rattle.cluster_model.specs.Sides.{unended, job_rows, offer_rows, received_update, forget_all, is_named}
 use Rattle.cluster_model.specs.Masters.{is_of}
 pub use Rattle.offer_book.specs.declared.account.Account.{Account}
 pub use Rattle.booked_tasks.specs.Tasks.{ended, has_key, has_tasks_of}
@@ -71,9 +71,9 @@ without_key key a = record a { booked = filter (λ b. not (has_key key b)) a.boo
 abbrev pub reopened : List Booked → List Row → Account → Account
 reopened tasks total a = record a { total = total; offers = []; booked = tasks }
 
-abbrev pub hearing : Numbered → ℕ → TaskState → Bool → Account → Account
-hearing key k state has_ended a =
-    record a { booked = map (heard_update key k state has_ended) a.booked }
+abbrev pub receiving : Numbered → ℕ → TaskState → Bool → Account → Account
+receiving key k state has_ended a =
+    record a { booked = map (received_update key k state has_ended) a.booked }
 
 -- the agent has applied these commands
 abbrev pub after_commands : List Command → Account → Account

@@ -6,8 +6,8 @@ use Rattle.quantity.specs.declared.rows.Row.{Row}
 use Rattle.mails.specs.declared.task.Offer.{Offer}
 use Rattle.mails.specs.declared.task.Booked.{Booked}
 use Rattle.mails.specs.declared.mail.Command.{Command}
-use Rattle.booked_tasks.specs.declared.tasks.Heard.{Heard}
-use Rattle.offer_book.specs.Accounts.{Account, new_account, dropped, free, fits, with_offer, without_offer, with_task, is_offered_as, has_key, with_ended, without_key, reopened, hearing, after_commands, without_named}
+use Rattle.booked_tasks.specs.declared.tasks.TaskUpdate.{TaskUpdate}
+use Rattle.offer_book.specs.Accounts.{Account, new_account, dropped, free, fits, with_offer, without_offer, with_task, is_offered_as, has_key, with_ended, without_key, reopened, receiving, after_commands, without_named}
 use Rattle.offer_book.specs.declared.fault.BookFault.{BookFault}
 use Rattle.offer_book.specs.declared.fault.BookFault.TheVariants.{Unknown, NoRoom, Twice}
 
@@ -69,8 +69,9 @@ abbrev pub reopened_on : List ℕ → List Booked → List Row → List Account
 reopened_on name tasks total as_ = changed name (reopened tasks total) as_
 
 -- an update of a task on it is received
-abbrev pub heard_on : List ℕ → Heard → List Account → Result (List Account) BookFault
-heard_on name update as_ = changed name (hearing update.key update.k update.state update.ended) as_
+abbrev pub received_on : List ℕ → TaskUpdate → List Account → Result (List Account) BookFault
+received_on name update as_ =
+    changed name (receiving update.key update.k update.state update.ended) as_
 
 -- it has applied these commands
 abbrev pub applied_on : List ℕ → List Command → List Account → Result (List Account) BookFault

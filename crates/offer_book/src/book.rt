@@ -3,7 +3,7 @@
 ghost use Rattle.std.specs.Prelude.{◌≡◌, ◌<◌, [], Ok, map, option_map, OnOk, OnErr, IfOk, IfErr};
 ghost use Rattle.std.specs.List.{position};
 ghost use Rattle.offer_book.specs.Accounts.{without_offer, with_ended, without_key, without_offers_of, without_named};
-ghost use Rattle.offer_book.specs.Books.{is_agent, is_named_so, is_offered, is_booked, booked_count, entered, dropped_from, reopened_on, heard_on, applied_on, withdrawn_on, free_of, offered, booked, withdrawn, task_ended, forgotten};
+ghost use Rattle.offer_book.specs.Books.{is_agent, is_named_so, is_offered, is_booked, booked_count, entered, dropped_from, reopened_on, received_on, applied_on, withdrawn_on, free_of, offered, booked, withdrawn, task_ended, forgotten};
 ghost use Rattle.offer_book.specs.Held.{place, held};
 ghost use Rattle.offer_book.specs.Found.{made, offer_of, task_of};
 ghost use Rattle.offer_book.specs.Named.{AreAllNamed, IsNamed};
@@ -13,7 +13,7 @@ use crate::account::Account;
 use crate::fault::BookFault;
 use crate::held;
 use crate::names::{Keys, Names};
-use booked_tasks::Heard;
+use booked_tasks::TaskUpdate;
 use listed::Listed;
 use mails::{Booked, Command, Offer};
 use names_core::{AgentName, FrameworkId, LaunchKey, OfferId, TaskName};
@@ -221,18 +221,22 @@ fn withdraw_on(
     Ok(())
 }
 
-fn hear_on(accounts: &mut Vec<Account>, name: &AgentName, update: &Heard) -> Result<(), BookFault>
+fn receive_on(
+    accounts: &mut Vec<Account>,
+    name: &AgentName,
+    update: &TaskUpdate,
+) -> Result<(), BookFault>
     requires { update.now.k < 4294967295 }
-    ensures ok { OnOk result (heard_on name.now update.now accounts.old.items
+    ensures ok { OnOk result (received_on name.now update.now accounts.old.items
         ≡ Ok accounts.new.items) }
     ensures refused { IfErr result
-        (λ fault. IsDue (heard_on name.now update.now accounts.old.items) fault) }
+        (λ fault. IsDue (received_on name.now update.now accounts.old.items) fault) }
     ensures err { OnErr result (accounts.new.items ≡ accounts.old.items) }
 {
     let Some(place) = place_of(accounts, name) else {
         return Err(BookFault::Unknown);
     };
-    accounts[place].booked.hear(update);
+    accounts[place].booked.receive(update);
     Ok(())
 }
 
@@ -531,14 +535,14 @@ impl OfferBook {
 
     /// An update of a task on an agent is received. `B1 Unknown` where no agent of this name is in.
     /// It takes no memory.
-    pub fn hear(&mut self, name: &AgentName, update: &Heard) -> Result<(), BookFault>
+    pub fn receive(&mut self, name: &AgentName, update: &TaskUpdate) -> Result<(), BookFault>
         requires { update.now.k < 4294967295 }
-        ensures ok { OnOk result (heard_on name.now update.now self.old ≡ Ok self.new) }
+        ensures ok { OnOk result (received_on name.now update.now self.old ≡ Ok self.new) }
         ensures refused { IfErr result
-            (λ fault. IsDue (heard_on name.now update.now self.old) fault) }
+            (λ fault. IsDue (received_on name.now update.now self.old) fault) }
         ensures err { OnErr result (self.new ≡ self.old) }
     {
-        hear_on(&mut self.accounts, name, update)
+        receive_on(&mut self.accounts, name, update)
     }
 
     /// An agent has applied these commands: a task is removed whose end is acknowledged by one, or

@@ -12,7 +12,7 @@ mod sum;
 
 pub use account::Account;
 pub use book::OfferBook;
-pub use booked_tasks::{Heard, Tasks};
+pub use booked_tasks::{TaskUpdate, Tasks};
 pub use current_offers::{Offers, ids_name_offers};
 pub use fault::BookFault;
 pub use held::first_among;

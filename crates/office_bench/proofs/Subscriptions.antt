@@ -5,7 +5,7 @@ use Rattle.names_core.specs.Ids.{Numbered}
 use Rattle.mails.specs.declared.call.Call.TheVariants.{Subscribe}
 use Rattle.mails.specs.declared.refusal.MasterRefusal.{MasterRefusal}
 use Rattle.mails.specs.declared.refusal.MasterRefusal.TheVariants.{NoSuchFramework, LimitExceeded}
-use Rattle.cluster_model.specs.Calls.{called, frameworks_limit, is_unheard_of, new_stream, removed, resubscribed, subscribed}
+use Rattle.cluster_model.specs.Calls.{called, frameworks_limit, is_unassigned, new_stream, removed, resubscribed, subscribed}
 use Rattle.cluster_model.specs.Events.{Event, Subscribed, failover_error, removal_error}
 use Rattle.cluster_model.specs.Ids.{last_number}
 use Rattle.cluster_model.specs.Masters.{Doing, Framework, Master, Registers, framework_of, is_torn, on_stream, refused, stream_of}
@@ -49,7 +49,7 @@ subscriptions_end m given (Some id) role h =
     let returning : Doing = if is_torn m id then removed m else resubscribed m id role (framework_of m id) in
     let within : Doing = if nat_le last_number m.registers.last_stream then refused m LimitExceeded else returning in
     unless
-    (is_unheard_of m id)
+    (is_unassigned m id)
     m
     NoSuchFramework
     within

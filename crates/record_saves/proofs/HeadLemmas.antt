@@ -20,7 +20,7 @@ use Rattle.keep_rows.specs.Tables.{amount_shown, head_of, head_row}
 use Rattle.keep_rows.specs.Totals.{AreNamed, amount_rows}
 use Rattle.keep_rows.proofs.ColumnLemmas.{number_some, text_plain}
 use Rattle.keep_rows.proofs.TotalLemmas.{rows_told}
-use Rattle.record_saves.specs.Kept.{IsHead, body_in, head_told, own_told, tasks_in, text_of, with_tasks}
+use Rattle.record_saves.specs.Kept.{IsHead, body_in, head_in_row, own_in_row, tasks_in, text_of, with_tasks}
 use Rattle.record_text.specs.Reading.{◌>>=◌}
 
 -- ---- a total's text is UTF-8 where its names are
@@ -44,8 +44,8 @@ total_utf8 rs are named = IsUtf8-append (123 ∷ []) _ (IsUtf8-are_ascii (123 �
 
 -- ---- a head's row that was written
 
-own_again : (d : Durable) → IsHead d → own_told (head_of (head_row d.name d.run d.session)) ≡ Some (record { name = d.name; total = []; session = d.session; run = d.run; tasks = [] })
-unfolding own_told
+own_again : (d : Durable) → IsHead d → own_in_row (head_of (head_row d.name d.run d.session)) ≡ Some (record { name = d.name; total = []; session = d.session; run = d.run; tasks = [] })
+unfolding own_in_row
 own_again d is =
     let a = text_plain (Text d.name) d.name refl is.name in
     let b = text_plain (Text (codes "{}")) (codes "{}") refl (IsUtf8-are_ascii (codes "{}") refl) in
@@ -53,12 +53,12 @@ own_again d is =
     rw (a, is.named, number_some d.run is.run, number_some d.session is.session, b, e) refl
 
 -- the row of a head and those of its total tell its record
-pub head_again : (d : Durable) → IsHead d → head_told (head_of (head_row d.name d.run d.session)) (map amount_shown (amount_rows 1 d.total)) ≡ Some (with_tasks [] d)
-unfolding head_told
+pub head_again : (d : Durable) → IsHead d → head_in_row (head_of (head_row d.name d.run d.session)) (map amount_shown (amount_rows 1 d.total)) ≡ Some (with_tasks [] d)
+unfolding head_in_row
 head_again d is = rw (own_again d is, rows_told d.total is.total is.amounts) refl
 
 -- ---- what a head and no whole text keep
 
 pub with_head : (old heads ts amounts : List Row) (h : Row) (hs : List Row) → old ≡ [] → heads ≡ h ∷ hs
-    → body_in old heads ts amounts ≡ Some (text_of (tasks_in ts >>= λ told. head_told (head_of h) (map amount_shown amounts) >>= λ d. Some (with_tasks told d)))
+    → body_in old heads ts amounts ≡ Some (text_of (tasks_in ts >>= λ read_back. head_in_row (head_of h) (map amount_shown amounts) >>= λ d. Some (with_tasks read_back d)))
 with_head old heads ts amounts h hs none is = rw (none, is) refl

@@ -24,7 +24,7 @@ use Rattle.record_text.specs.Texts.{task_form, record_form}
 use Rattle.record_text.specs.Written.{IsTask, IsDurable}
 use Rattle.record_text.specs.Reading.{◌>>=◌}
 use Rattle.keep_rows.specs.Tables.{IsLone, IsOurs, IsTable, amount_shown, keeper_schema, IsReady, IsCommitted, IsWriting, Stays, WritesIfOk, WritesOn, SparesOthers, Empties, Puts, AreIds, IsSame, task_row, head_row}
-use Rattle.record_saves.specs.Kept.{Adds, ArePut, HasTasks, HasNoTask, HasHead, HasRecord, HasTotal, IsHead, IsPut, Knows, KnowsHead, KnowsTotal, ReplacesHead, Tells, told, head_told, with_tasks, kept_in, with_record, text_of, body_in}
+use Rattle.record_saves.specs.Kept.{Adds, ArePut, HasTasks, HasNoTask, HasHead, HasRecord, HasTotal, IsHead, IsPut, Knows, KnowsHead, KnowsTotal, ReplacesHead, AreRowsOf, read_back, head_in_row, with_tasks, kept_in, with_record, text_of, body_in}
 use Rattle.keep_rows.specs.Tables.{head_of}
 use Rattle.keep_rows.proofs.ReadLemmas.{none_shown}
 use Rattle.keep_rows.specs.Totals.{AreNamed, HasAmounts, amount_rows}
@@ -40,15 +40,15 @@ use Rattle.keep_rows.proofs.StoreLemmas.{then_on, then_err}
 
 pub adds_one : (t : RecordedTask) (old new : Trees) → IsTask t → ∥ IsUtf8 (task_form t) ∥₁ → Puts 3 (task_row t.job.key (task_form t)) old new → Adds (t ∷ []) old new
 adds_one t old new is utf8 h =
-    let tells = row_told t is utf8 in
+    let are_rows = row_told t is utf8 in
     record {
       had = λ row at. elim (h.had row at) [
-        | inl same ↦ inr (t, inl refl, (ap told same ∙ tells, ap rowid same))
+        | inl same ↦ inr (t, inl refl, (ap read_back same ∙ are_rows, ap rowid same))
         | inr was ↦ inl was
       ];
       kept = h.kept;
       there = λ task at. elim at [
-        | inl same ↦ (task_row t.job.key (task_form t), h.there, tells ∙ ap (λ (s : RecordedTask). Some s) (sym same))
+        | inl same ↦ (task_row t.job.key (task_form t), h.there, are_rows ∙ ap (λ (s : RecordedTask). Some s) (sym same))
         | inr none ↦ absurd none
       ];
       others = h.others;
@@ -128,7 +128,7 @@ has_record seen head d x y z put is_head p q = record {
   records = λ knows one. q.records (known_head head x y p.others knows) (subst IsLone (sym (p.others 0 (λ e. cc) zero_table)) one);
   heads = λ knows one. q.heads (known_head head x y p.others knows) (subst IsLone (sym (p.others 2 (λ e. cc) two_table)) one);
   amounts = λ knows. q.amounts (known_head head x y p.others knows);
-  tasks = λ knows. subst (λ rows. Tells rows (Has d.tasks)) (sym (q.others 3 (λ e. cc) (λ e. cc) (λ e. cc) three_table)) (p.tells knows);
+  tasks = λ knows. subst (λ rows. AreRowsOf rows (Has d.tasks)) (sym (q.others 3 (λ e. cc) (λ e. cc) (λ e. cc) three_table)) (p.are_rows knows);
   runs = q.others 1 (λ e. cc) (λ e. cc) (λ e. cc) one_table ∙ p.others 1 (λ e. cc) one_table;
 }
 
@@ -151,11 +151,11 @@ record_kept seen head d x z rise one_record one_head knows knows_head h =
     let is = written_durable d h.is_head h.put in
     let tasks = h.tasks knows in
     let row = head_row d.name d.run d.session in
-    let told_head : head_told (head_of row) (map amount_shown (z 5)) ≡ Some (with_tasks [] d) = ap (λ (rows : List Row). head_told (head_of row) (map amount_shown rows)) (h.amounts knows_head) ∙ head_again d h.is_head in
+    let told_head : head_in_row (head_of row) (map amount_shown (z 5)) ≡ Some (with_tasks [] d) = ap (λ (rows : List Row). head_in_row (head_of row) (map amount_shown rows)) (h.amounts knows_head) ∙ head_again d h.is_head in
     let all = tells_all d.tasks (rises d.tasks is.tasks rise) (z 3) (λ r at. let it = tasks.each r at in (it.0, it.1, it.2.0)) tasks.all in
     let body : body_in (z 0) (z 2) (z 3) (z 5) ≡ Some (Text (record_form d)) =
     with_head (z 0) (z 2) (z 3) (z 5) row [] (h.records knows_head one_record) (h.heads knows_head one_head)
-    ∙ ap (λ (o : Option (List RecordedTask)). Some (text_of (o >>= λ told. head_told (head_of row) (map amount_shown (z 5)) >>= λ e. Some (with_tasks told e)))) all
+    ∙ ap (λ (o : Option (List RecordedTask)). Some (text_of (o >>= λ read_back. head_in_row (head_of row) (map amount_shown (z 5)) >>= λ e. Some (with_tasks read_back e)))) all
     ∙ ap (λ (o : Option Durable). Some (text_of (o >>= λ e. Some (with_tasks d.tasks e)))) told_head in
     rw (body, h.runs) refl
 

@@ -107,7 +107,7 @@ placed t put = omega (arith, put.is_task.key.n_some)
 -- the row of one task is taken out
 pub cut_tasks : (ts : List RecordedTask) (i : ℕ) (x : RecordedTask) (old new : Trees) → i < length ts → x ≡ get_or ts i x → ArePut ts → Cuts (place x) old new → HasTasks (Some ts) (remove ts i) old new
 cut_tasks ts i x old new within is put cuts = record {
-  tells = λ knows. record {
+  are_rows = λ knows. record {
     each = λ row at.
         let was = cuts.had row at in
         let it = knows.each row was.0 in
@@ -129,7 +129,7 @@ cut_tasks ts i x old new within is put cuts = record {
 -- the row of one task is put in
 pub add_tasks : (ts : List RecordedTask) (i : ℕ) (x : RecordedTask) (old new : Trees) → Adds (x ∷ []) old new → HasTasks (Some ts) (insert ts i x) old new
 add_tasks ts i x old new adds = record {
-  tells = λ knows. record {
+  are_rows = λ knows. record {
     each = λ row at. elim (adds.had row at) [
       | inl was ↦ (let it = knows.each row was in (it.0, has_put ts i x it.0 it.1, it.2))
       | inr it ↦ (it.0, elim it.1 [ inl same ↦ subst (Has (insert ts i x)) (sym same) (has_new ts i x) | inr none ↦ absurd none ], it.2)
@@ -144,16 +144,16 @@ add_tasks ts i x old new adds = record {
 
 pub then_tasks : (seen : Option (List RecordedTask)) (ts us : List RecordedTask) (x y z : Trees) → HasTasks seen ts x y → HasTasks (Some ts) us y z → HasTasks seen us x z
 then_tasks seen ts us x y z p q = record {
-  tells = λ knows. q.tells (p.tells knows);
+  are_rows = λ knows. q.are_rows (p.are_rows knows);
   others = λ t other free. q.others t other free ∙ p.others t other free;
 }
 
 pub same_tasks : (ts : List RecordedTask) (x : Trees) → HasTasks (Some ts) ts x x
-same_tasks ts x = record { tells = λ knows. knows; others = λ t other free. refl }
+same_tasks ts x = record { are_rows = λ knows. knows; others = λ t other free. refl }
 
 pub no_tasks : (x y : Trees) → HasNoTask x y → HasTasks None [] x y
 no_tasks x y h = record {
-  tells = λ knows. record {
+  are_rows = λ knows. record {
     each = λ row at. absurd (subst (λ rows. Has rows row) h.none at);
     all = λ task at. absurd at;
   };

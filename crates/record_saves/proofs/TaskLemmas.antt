@@ -9,7 +9,7 @@ use Rattle.sqlite_rules.proofs.ListLemmas.{all_has}
 use Rattle.mails.specs.declared.record.RecordedTask.{RecordedTask}
 use Rattle.record_text.specs.Reading.{◌>>=◌}
 use Rattle.keep_rows.specs.Tables.{place_of}
-use Rattle.record_saves.specs.Kept.{told, put_task, tasks_in, Rise}
+use Rattle.record_saves.specs.Kept.{read_back, put_task, tasks_in, Rise}
 
 abbrev place : RecordedTask → ℕ
 place t = place_of t.job.key
@@ -81,12 +81,12 @@ module _ (ts : List RecordedTask) (up : Rise ts) where
   record Found (rows : List Row) : Type 0 where
     us : List RecordedTask
     sorted : tasks_in rows ≡ Some (filter (named us) ts)
-    has : (row : Row) (t : RecordedTask) → Has rows row → told row ≡ Some t → named us t ≡ true
+    has : (row : Row) (t : RecordedTask) → Has rows row → read_back row ≡ Some t → named us t ≡ true
 
   same_some : {A : Type 0} {x y : A} → ◌≡◌ {A = Option A} (Some x) (Some y) → x ≡ y
   same_some e = cc
 
-  found : (rows : List Row) → ((row : Row) → Has rows row → (t : RecordedTask) × Has ts t × (told row ≡ Some t)) → Found rows
+  found : (rows : List Row) → ((row : Row) → Has rows row → (t : RecordedTask) × Has ts t × (read_back row ≡ Some t)) → Found rows
   found [] each = record { us = []; sorted = ap (λ (all : List RecordedTask). Some all) (sym (none_kept ts)); has = λ row t at. absurd at }
   found (r ∷ rows) each =
       let it = each r (inl refl) in
@@ -98,13 +98,13 @@ module _ (ts : List RecordedTask) (up : Rise ts) where
             ∙ ap (λ (o : Option (List RecordedTask)). o >>= λ tasks. Some (put_task it.0 tasks)) more.sorted
             ∙ ap (λ (all : List RecordedTask). Some all) (puts it.0 (named more.us) ts up it.1);
         has = λ row t at is. elim at [
-          | inl same ↦ right_or (named more.us t) (place t == place it.0) (subst (λ s. (place s == place it.0) ≡ true) (same_some (sym it.2 ∙ ap told (sym same) ∙ is)) own)
+          | inl same ↦ right_or (named more.us t) (place t == place it.0) (subst (λ s. (place s == place it.0) ≡ true) (same_some (sym it.2 ∙ ap read_back (sym same) ∙ is)) own)
           | inr later ↦ left_or (named more.us t) (place t == place it.0) (more.has row t later is)
         ];
       }
 
   -- the list that rises is what the rows tell
-  pub tells_all : (rows : List Row) → ((row : Row) → Has rows row → (t : RecordedTask) × Has ts t × (told row ≡ Some t)) → ((t : RecordedTask) → Has ts t → (row : Row) × Has rows row × (told row ≡ Some t))
+  pub tells_all : (rows : List Row) → ((row : Row) → Has rows row → (t : RecordedTask) × Has ts t × (read_back row ≡ Some t)) → ((t : RecordedTask) → Has ts t → (row : Row) × Has rows row × (read_back row ≡ Some t))
       → tasks_in rows ≡ Some ts
   tells_all rows each every =
       let all = found rows each in

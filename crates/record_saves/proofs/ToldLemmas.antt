@@ -13,11 +13,11 @@ use Rattle.record_text.proofs.Again.{task_form_again}
 use Rattle.keep_rows.specs.Tables.{task_row}
 use Rattle.keep_rows.specs.Columns.{number_at, text_at}
 use Rattle.keep_rows.proofs.ColumnLemmas.{number_some, text_some}
-use Rattle.record_saves.specs.Kept.{told}
+use Rattle.record_saves.specs.Kept.{read_back}
 
 pub told_from : (row : Row) (run n : ℕ) (body : List ℕ) (t : RecordedTask) → number_at (column row 1) ≡ Some run → number_at (column row 2) ≡ Some n → text_at (column row 3) ≡ Some body → task_in body ≡ Some t
-    → t.job.key.run ≡ run → t.job.key.n ≡ n → told row ≡ Some t
-unfolding told
+    → t.job.key.run ≡ run → t.job.key.n ≡ n → read_back row ≡ Some t
+unfolding read_back
 told_from row run n body t is_run is_n is_body is_task same_run same_n =
     let test : same t.job.key (record { run = run; n = n }) ≡ true = rw (same_run, same_n) (both run n) in
     rw (is_run, is_n, is_body, is_task, test) refl
@@ -26,7 +26,7 @@ told_from row run n body t is_run is_n is_body is_task same_run same_n =
     both run n = grind (arith, nat_tests)
 
 -- the row of a task tells that task
-pub row_told : (t : RecordedTask) → IsTask t → ∥ IsUtf8 (task_form t) ∥₁ → told (task_row t.job.key (task_form t)) ≡ Some t
+pub row_told : (t : RecordedTask) → IsTask t → ∥ IsUtf8 (task_form t) ∥₁ → read_back (task_row t.job.key (task_form t)) ≡ Some t
 row_told t is utf8 =
     let key = t.job.key in
     told_from (task_row key (task_form t)) key.run key.n (task_form t) t (number_some key.run (omega (arith, is.key.run_fits))) (number_some key.n is.key.n_fits)

@@ -14,7 +14,7 @@ use Rattle.mails.specs.declared.record.RecordedTask.{RecordedTask}
 use Rattle.record_text.specs.Reading.{◌>>=◌, where_true, task_in, total_in}
 use Rattle.keep_rows.specs.Columns.{number_at, text_at}
 use Rattle.keep_rows.specs.Tables.{IsLone, IsTable, SparesOthers, amount_shown, head_of, head_row, place_of}
-use Rattle.keep_rows.specs.Totals.{AreNamed, amount_rows, total_told}
+use Rattle.keep_rows.specs.Totals.{AreNamed, amount_rows, total_in_rows}
 use Rattle.quantity.specs.declared.rows.Row.{Row as Amount}
 use Rattle.mails.specs.declared.record.Durable.{Durable}
 use Rattle.record_text.specs.Texts.{record_form, task_form}
@@ -23,8 +23,8 @@ use Rattle.record_text.specs.Written.{IsTask}
 -- ---- what is read of a row
 
 -- the task of a row of agent_task: its body is the written form of a task that has the row's key
-unfoldable pub told : Row → Option RecordedTask
-told row = do
+unfoldable pub read_back : Row → Option RecordedTask
+read_back row = do
   run ← number_at (column row 1)
   n ← number_at (column row 2)
   body ← text_at (column row 3)
@@ -41,11 +41,12 @@ put_task t (s ∷ ts) =
 -- the tasks of the rows, by their keys
 abbrev pub tasks_in : List Row → Option (List RecordedTask)
 tasks_in [] = Some []
-tasks_in (row ∷ rows) = told row >>= λ task. tasks_in rows >>= λ tasks. Some (put_task task tasks)
+tasks_in (row ∷ rows) =
+    read_back row >>= λ task. tasks_in rows >>= λ tasks. Some (put_task task tasks)
 
 -- the record of a head, with its own total and no tasks yet
-unfoldable pub own_told : Row → Option Durable
-own_told head = do
+unfoldable pub own_in_row : Row → Option Durable
+own_in_row head = do
   text ← text_at (column head 0)
   name ← where_true (is_name text) text
   run ← number_at (column head 1)
@@ -63,7 +64,7 @@ where_none (x ∷ xs) found = None
 abbrev pub total_by : ℕ → List Amount → List Row → Option (List Amount)
 total_by version own amounts =
     if version == 1 then where_none amounts (Some own)
-    else (if version == 2 then where_none own (total_told amounts) else None)
+    else (if version == 2 then where_none own (total_in_rows amounts) else None)
 
 -- a record with this total
 abbrev pub with_total : List Amount → Durable → Durable
@@ -71,9 +72,9 @@ with_total total d =
     record { name = d.name; total = total; session = d.session; run = d.run; tasks = d.tasks }
 
 -- the record of a head and of rows of agent_total, with no tasks yet
-unfoldable pub head_told : Row → List Row → Option Durable
-head_told head amounts =
-    own_told head >>= λ d. number_at (column head 4) >>= λ version.
+unfoldable pub head_in_row : Row → List Row → Option Durable
+head_in_row head amounts =
+    own_in_row head >>= λ d. number_at (column head 4) >>= λ version.
     total_by version d.total amounts >>= λ total. Some (with_total total d)
 
 -- a record with these tasks
@@ -95,8 +96,8 @@ body_in [] [] [] (amount ∷ amounts) = Some Null
 body_in [] [] (task ∷ tasks) amounts = Some Null
 body_in [] (head ∷ more) tasks amounts =
     Some
-    (text_of (tasks_in tasks >>= λ told. head_told (head_of head) (map amount_shown amounts) >>=
-    λ d. Some (with_tasks told d)))
+    (text_of (tasks_in tasks >>= λ found. head_in_row (head_of head) (map amount_shown amounts) >>=
+    λ d. Some (with_tasks found d)))
 body_in (row ∷ more) [] [] [] = Some (column row 2)
 body_in (row ∷ more) [] [] (amount ∷ amounts) = Some Null
 body_in (row ∷ more) [] (task ∷ tasks) amounts = Some Null
@@ -132,32 +133,33 @@ with_last run kept = record { body = kept.body; last = run }
 -- ---- for private clauses: what is in the shown rows
 
 -- a row is that of a task, at its place
-abbrev pub TellsTask : Row → RecordedTask → Type 0
-TellsTask row task = (told row ≡ Some task) × (rowid row ≡ Int (pos (place_of task.job.key)))
+abbrev pub IsRowOf : Row → RecordedTask → Type 0
+IsRowOf row task = (read_back row ≡ Some task) × (rowid row ≡ Int (pos (place_of task.job.key)))
 
 -- the rows are those of these tasks, each at its place
-pub record Tells (rows : List Row) (Is : RecordedTask → Type 0) : Type 0 where
-  pub each : (row : Row) → Has rows row → (task : RecordedTask) × Is task × TellsTask row task
-  pub all : (task : RecordedTask) → Is task → (row : Row) × Has rows row × (told row ≡ Some task)
+pub record AreRowsOf (rows : List Row) (Is : RecordedTask → Type 0) : Type 0 where
+  pub each : (row : Row) → Has rows row → (task : RecordedTask) × Is task × IsRowOf row task
+  pub all : (task : RecordedTask) → Is task → (row : Row) × Has rows row
+      × (read_back row ≡ Some task)
 
 -- there are the rows that were, and rows of these tasks
 pub record Adds (tasks : List RecordedTask) (old new : Trees) : Type 0 where
   pub had : (row : Row) → Has (new 3) row → Has (old 3) row
-      ⊎ ((task : RecordedTask) × Has tasks task × TellsTask row task)
+      ⊎ ((task : RecordedTask) × Has tasks task × IsRowOf row task)
   pub kept : (row : Row) → Has (old 3) row → Has (new 3) row
   pub there : (task : RecordedTask) → Has tasks task → (row : Row) × Has (new 3) row
-      × (told row ≡ Some task)
+      × (read_back row ≡ Some task)
   pub others : SparesOthers 3 old new
 
 -- the rows of tasks are those of the tasks that were seen last, if any were
 abbrev pub Knows : Option (List RecordedTask) → Trees → Type 0
 Knows None db = ⊤
-Knows (Some seen) db = Tells (db 3) (Has seen)
+Knows (Some seen) db = AreRowsOf (db 3) (Has seen)
 
 -- where the rows of tasks were those of the tasks that were seen last, they are those of these
 pub record HasTasks (seen : Option (List RecordedTask)) (tasks : List RecordedTask)
     (old new : Trees) : Type 0 where
-  pub tells : Knows seen old → Tells (new 3) (Has tasks)
+  pub are_rows : Knows seen old → AreRowsOf (new 3) (Has tasks)
   pub others : SparesOthers 3 old new
 
 -- a task whose row was written
@@ -237,7 +239,7 @@ pub record HasRecord (seen : Option (List RecordedTask)) (head_seen : Option Dur
   pub heads : KnowsHead head_seen old → IsLone (old 2)
       → new 2 ≡ head_row d.name d.run d.session ∷ []
   pub amounts : KnowsHead head_seen old → new 5 ≡ amount_rows 1 d.total
-  pub tasks : Knows seen old → Tells (new 3) (Has d.tasks)
+  pub tasks : Knows seen old → AreRowsOf (new 3) (Has d.tasks)
   pub is_head : IsHead d
   pub put : AllByRecursion IsPut d.tasks
   pub runs : new 1 ≡ old 1

@@ -44,7 +44,7 @@ fn reported(task: &RecordedTask) -> Result<Booked, AllocError>
     Ok(Booked {
         job: task.job.copy()?,
         ended: task.updates.has_ended(),
-        heard: sent,
+        received: sent,
         state: state_at(task.updates.states(), sent),
     })
 }

@@ -8,7 +8,7 @@ use mails::RecordedTask;
 use names_core::LaunchKey;
 use shared_value::Shared;
 
-/// Whether a key is behind those of all tasks.
+/// Whether a key is after those of all tasks.
 pub fn is_behind_all(tasks: &[Shared<RecordedTask>], key: LaunchKey) -> bool
     ensures { result ≡ list_all (λ t. ids.before t.job.key key) tasks.now }
 {

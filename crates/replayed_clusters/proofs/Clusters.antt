@@ -111,7 +111,7 @@ pub told_due : (s : Story) (step : Step) (taken : Taken) (new : Story) (r : Resu
 told_due s step taken new (Err fault) t h = tt
 told_due s step taken new (Ok entry) t (is, stands) =
     let same : fell taken.entry.verdict ≡ false = ap (λ (e : Entry). fell e.verdict) (sym is) ∙ stands in
-    (taken_due s step taken new t same ∙ ap Ok (sym is), t.tells ∙ ap (with_entry s) (sym is))
+    (taken_due s step taken new t same ∙ ap Ok (sym is), t.is_history ∙ ap (with_entry s) (sym is))
 
 pub refused_as : (s now new : Story) (step : Step) (fault : ClusterFault) → s ≡ now → (fault ≡ faults.OutOfMemory) ⊎ (due s step ≡ Err fault) → new ≡ s
     → (fault ≡ faults.OutOfMemory) ⊎ ((due now step ≡ Err fault) × (new ≡ now))

@@ -10,5 +10,5 @@ mod table;
 
 pub use numbers::raised;
 pub use replayed::Replayed;
-pub use steps::{Telling, take_step, tell_opening};
+pub use steps::{StepText, opening_step, take_step};
 pub use table::end_table;

@@ -14,13 +14,13 @@ use std::alloc::{AllocError, Global};
 
 /// A text, and how many calls and mails were sent.
 #[derive(Drop)]
-pub struct Telling {
+pub struct StepText {
     pub text: Vec<u8>,
     pub sent: u64,
 }
 
 /// The text of a cluster's opening.
-pub fn tell_opening(alloc: Global, cluster: &Replayed) -> Result<Telling, AllocError>
+pub fn opening_step(alloc: Global, cluster: &Replayed) -> Result<StepText, AllocError>
     ensures text { IfOk result (λ told. told.text.items ≡ opening_text (greetings cluster.now)) }
     ensures sent { IfOk result (λ told. told.sent ≡ length (greetings cluster.now)) }
 {
@@ -28,18 +28,18 @@ pub fn tell_opening(alloc: Global, cluster: &Replayed) -> Result<Telling, AllocE
     let sent = greetings.len() as u64;
     raised(sent, 1)?;
     let text = opening_text(alloc, greetings)?;
-    Ok(Telling { text, sent })
+    Ok(StepText { text, sent })
 }
 
 /// The text of an entry.
-fn tell_entry(alloc: Global, number: u64, first: u64, entry: &Entry) -> Result<Telling, AllocError>
+fn entry_step(alloc: Global, number: u64, first: u64, entry: &Entry) -> Result<StepText, AllocError>
     ensures text { IfOk result (λ told. Some told.text.items ≡ entry_text number first entry.now) }
     ensures sent { IfOk result (λ told. told.sent ≡ length entry.now.outputs.sent) }
 {
     let sent = entry.outputs.sent.len() as u64;
     raised(first, sent)?;
     let text = entry_text(alloc, number, first, entry)?;
-    Ok(Telling { text, sent })
+    Ok(StepText { text, sent })
 }
 
 /// Takes the step with this number, and returns its text; the first call or mail that it sends has
@@ -50,16 +50,16 @@ pub fn take_step(
     number: u64,
     first: u64,
     step: Step,
-) -> Result<Telling, AllocError>
+) -> Result<StepText, AllocError>
     ensures { IfOk result (λ told. outcome number first cluster.old (due cluster.old step)
         ≡ record { text = told.text.items; story = cluster.new; sent = told.sent }) }
 {
     match cluster.step(alloc, step) {
-        Ok(entry) => tell_entry(alloc, number, first, entry.get()),
+        Ok(entry) => entry_step(alloc, number, first, entry.get()),
         Err(ClusterFault::OutOfMemory) => Err(AllocError),
         Err(fault) => {
             let text = refused_text(alloc, number, fault)?;
-            Ok(Telling { text, sent: 0 })
+            Ok(StepText { text, sent: 0 })
         }
     }
 }

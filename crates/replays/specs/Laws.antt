@@ -7,7 +7,7 @@ use Rattle.device_io.specs.Texts.{kept, longest}
 use Rattle.step_lines.specs.Configs.{read_config}
 use Rattle.step_lines.specs.Lines.{longest_line, read_step}
 use Rattle.cluster_core.specs.Stories.{Story}
-use Rattle.replays.specs.Replays.{Replay, after, by_line, goes_on, is_passed_over, tells, told}
+use Rattle.replays.specs.Replays.{Replay, after, by_line, goes_on, is_passed_over, answer_to, answered_text}
 
 -- a line is kept whole, or it is too long and what is kept of it too
 whole_or_long : (n : ℕ) (line : List ℕ) → (take (n + 1) line ≡ line)
@@ -53,25 +53,25 @@ by_kept r (Some s) line =
           (long_passed (kept line) h.1 line h.0, long_step (kept line) h.1 line h.0) refl
     ]
 
-tells_kept : (r : Replay) (line : List ℕ) → tells r (kept line) ≡ tells r line
-unfolding tells
-tells_kept r line = rw (by_kept r r.story line) refl
+answer_kept : (r : Replay) (line : List ℕ) → answer_to r (kept line) ≡ answer_to r line
+unfolding answer_to
+answer_kept r line = rw (by_kept r r.story line) refl
 
-pub enough : (r : Replay) (line : List ℕ) → (told r (kept line) ≡ told r line)
+pub enough : (r : Replay) (line : List ℕ) → (answered_text r (kept line) ≡ answered_text r line)
     × (after r (kept line) ≡ after r line)
-enough r line = (ap (λ t. t.text) (tells_kept r line), ap (λ t. t.after) (tells_kept r line))
+enough r line = (ap (λ t. t.text) (answer_kept r line), ap (λ t. t.after) (answer_kept r line))
 
 stopped : (b : Bool) → not b ≡ false → b ≡ true
 stopped true e = refl
 stopped false e = cc
 
-tells_stopped : (r : Replay) (line : List ℕ) → is_some r.fault ≡ true
-    → tells r line ≡ record { text = []; after = r }
-unfolding tells
-tells_stopped r line e = rw e refl
+answer_stopped : (r : Replay) (line : List ℕ) → is_some r.fault ≡ true
+    → answer_to r line ≡ record { text = []; after = r }
+unfolding answer_to
+answer_stopped r line e = rw e refl
 
-pub stays : (r : Replay) (line : List ℕ) → goes_on r ≡ false → (told r line ≡ [])
+pub stays : (r : Replay) (line : List ℕ) → goes_on r ≡ false → (answered_text r line ≡ [])
     × (after r line ≡ r)
 stays r line e = let is =
-    tells_stopped r line (stopped (is_some r.fault) e) in
+    answer_stopped r line (stopped (is_some r.fault) e) in
     (ap (λ t. t.text) is, ap (λ t. t.after) is)

@@ -29,12 +29,12 @@ abbrev pub beginning : Replay
 beginning = record { story = None; lines = 0; steps = 0; sent = 0; fault = None }
 
 -- the answer to a line, and the replay after it
-pub record Told : Type 0 where
+pub record LineAnswer : Type 0 where
   pub text : List ℕ
   pub after : Replay
 
 -- a line that is refused ends the replay
-abbrev pub stops : Replay → LineRefusal → Told
+abbrev pub stops : Replay → LineRefusal → LineAnswer
 stops r refusal =
     record {
       text = [];
@@ -46,20 +46,20 @@ stops r refusal =
 
 -- the first line opens a cluster of agents that never ran
 
-abbrev pub opened : Replay → Story → Told
+abbrev pub opened : Replay → Story → LineAnswer
 opened r s =
     record {
       text = opening_text (greetings s);
       after = record r { story = Some s; lines = r.lines + 1; sent = length (greetings s) };
     }
 
-abbrev pub opens : Replay → Result Configured LineRefusal → Told
+abbrev pub opens : Replay → Result Configured LineRefusal → LineAnswer
 opens r (Err refusal) = stops r refusal
 opens r (Ok config) = opened r (fresh_story config.agents config.weights)
 
 -- each other line is a step
 
-abbrev pub answered : Replay → Outcome → Told
+abbrev pub answered : Replay → Outcome → LineAnswer
 answered r o =
     record {
       text = o.text;
@@ -67,7 +67,7 @@ answered r o =
           { story = Some o.story; lines = r.lines + 1; steps = r.steps + 1; sent = r.sent + o.sent };
     }
 
-abbrev pub takes : Replay → Story → Result Step LineRefusal → Told
+abbrev pub takes : Replay → Story → Result Step LineRefusal → LineAnswer
 takes r s (Err refusal) = stops r refusal
 takes r s (Ok step) = answered r (outcome (r.steps + 1) (r.sent + 1) s (due s step))
 
@@ -79,22 +79,23 @@ is_blank b = b == 32 || b == 9 || b == 13
 abbrev pub is_passed_over : List ℕ → Bool
 is_passed_over line = nat_le (length line) longest_line && list_all is_blank line
 
-abbrev pub passed : Replay → Told
+abbrev pub passed : Replay → LineAnswer
 passed r = record { text = []; after = record r { lines = r.lines + 1 } }
 
-abbrev pub by_line : Replay → Option Story → List ℕ → Told
+abbrev pub by_line : Replay → Option Story → List ℕ → LineAnswer
 by_line r None line = opens r (read_config line)
 by_line r (Some s) line = if is_passed_over line then passed r else takes r s (read_step line)
 
 -- the answer to a line; after a refused one it is empty, and the replay stays
-unfoldable pub tells : Replay → List ℕ → Told
-tells r line = if is_some r.fault then record { text = []; after = r } else by_line r r.story line
+unfoldable pub answer_to : Replay → List ℕ → LineAnswer
+answer_to r line =
+    if is_some r.fault then record { text = []; after = r } else by_line r r.story line
 
-abbrev pub told : Replay → List ℕ → List ℕ
-told r line = (tells r line).text
+abbrev pub answered_text : Replay → List ℕ → List ℕ
+answered_text r line = (answer_to r line).text
 
 abbrev pub after : Replay → List ℕ → Replay
-after r line = (tells r line).after
+after r line = (answer_to r line).after
 
 abbrev pub goes_on : Replay → Bool
 goes_on r = not (is_some r.fault)
@@ -119,7 +120,7 @@ fault r = if is_some r.fault then r.fault else missing_config r.story
 -- what a replay writes for its input, and the line that ended it
 
 abbrev pub replay_text : List ℕ → List ℕ
-replay_text input = answer told after ending beginning input
+replay_text input = answer answered_text after ending beginning input
 
 abbrev pub replay_fault : List ℕ → Option LineStop
 replay_fault input = fault (after_all after beginning (all_lines input))

@@ -9,8 +9,8 @@ ghost use Rattle.replays.specs.Replays as replays;
 ghost use Rattle.replayed_clusters.specs.Stories.{fresh_story};
 
 use crate::fault::LineStop;
-use device_io::{LONGEST_LINE, Teller};
-use replayed_clusters::{Replayed, end_table, raised, take_step, tell_opening};
+use device_io::{LONGEST_LINE, LineAnswerer};
+use replayed_clusters::{Replayed, end_table, opening_step, raised, take_step};
 use std::alloc::{AllocError, Global};
 use std::marker::Model;
 use std::mem;
@@ -133,10 +133,10 @@ impl Replayer {
         let Some(cluster) = &self.cluster else {
             return Err(AllocError);
         };
-        let told = tell_opening(alloc, cluster)?;
+        let answered_text = opening_step(alloc, cluster)?;
         self.lines = number;
-        self.sent = told.sent;
-        Ok(told.text)
+        self.sent = answered_text.sent;
+        Ok(answered_text.text)
     }
 
     /// The first line, which is this one of the text.
@@ -175,16 +175,16 @@ impl Replayer {
         let Some(cluster) = &mut self.cluster else {
             return Err(AllocError);
         };
-        let told = take_step(cluster, alloc, steps, first, step)?;
+        let answered_text = take_step(cluster, alloc, steps, first, step)?;
         self.lines = number;
         self.steps = steps;
-        self.sent = raised(self.sent, told.sent)?;
-        Ok(told.text)
+        self.sent = raised(self.sent, answered_text.sent)?;
+        Ok(answered_text.text)
     }
 
-    #[tactic(auto, unfolding(crate::specs::Replays::tells))]
-    fn tell_line(&mut self, alloc: Global, line: &[u8]) -> Result<Vec<u8>, AllocError>
-        ensures { IfOk result (λ text. replays.tells self.old line.now
+    #[tactic(auto, unfolding(crate::specs::Replays::answer_to))]
+    fn answer_read_line(&mut self, alloc: Global, line: &[u8]) -> Result<Vec<u8>, AllocError>
+        ensures { IfOk result (λ text. replays.answer_to self.old line.now
             ≡ record { text = text.items; after = self.new }) }
     {
         if self.fault.is_some() {
@@ -202,11 +202,11 @@ impl Replayer {
     }
 }
 
-impl Teller for Replayer {
+impl LineAnswerer for Replayer {
     ghost use Rattle.replays.specs.Replays as replays;
     ghost use Rattle.replays.specs.Laws as laws;
 
-    ghost told = { replays.told };
+    ghost answered_text = { replays.answered_text };
 
     ghost after = { replays.after };
 
@@ -214,8 +214,8 @@ impl Teller for Replayer {
 
     ghost ending = { replays.ending };
 
-    fn tell(&mut self, alloc: Global, line: &[u8]) -> Result<Vec<u8>, AllocError> {
-        self.tell_line(alloc, line)
+    fn answer_line(&mut self, alloc: Global, line: &[u8]) -> Result<Vec<u8>, AllocError> {
+        self.answer_read_line(alloc, line)
     }
 
     fn goes_on(&self) -> bool {

@@ -13,8 +13,8 @@ at_place i change [] = []
 at_place zero change (s ∷ ss) = change s ∷ ss
 at_place (suc i) change (s ∷ ss) = s ∷ at_place i change ss
 
--- what `tell` returns for the side at a place, or `none` past the end
-abbrev pub told_at : {X : Type 0} → ℕ → (Side → X) → X → List Side → X
-told_at i tell none [] = none
-told_at zero tell none (s ∷ ss) = tell s
-told_at (suc i) tell none (s ∷ ss) = told_at i tell none ss
+-- what `field` returns for the side at a place, or `none` past the end
+abbrev pub value_at : {X : Type 0} → ℕ → (Side → X) → X → List Side → X
+value_at i field none [] = none
+value_at zero field none (s ∷ ss) = field s
+value_at (suc i) field none (s ∷ ss) = value_at i field none ss

@@ -4,7 +4,7 @@ ghost use Rattle.std.specs.Prelude.{◌≡◌, ◌++◌, ◌∷◌, [], Some, No
 ghost use Rattle.cluster_model.specs.Sides.{new_side, lost};
 ghost use Rattle.cluster_model.specs.Mails.{in_session};
 ghost use Rattle.roster.specs.Sessions.{reported, after_report, issued_number, with_command, is_spent, newly, after_applied};
-ghost use Rattle.roster.specs.Places.{place_of, at_place, told_at};
+ghost use Rattle.roster.specs.Places.{place_of, at_place, value_at};
 ghost use Rattle.roster.specs.Faults.{IsIssueRefusal, IsAppliedRefusal};
 
 use crate::entry::RosterEntry;
@@ -44,7 +44,7 @@ fn report_in(
     session: u32,
     number: u32,
 ) -> Result<bool, MasterRefusal>
-    ensures answer { result ≡ told_at place (λ s. reported run s session number) (Ok false)
+    ensures answer { result ≡ value_at place (λ s. reported run s session number) (Ok false)
         entries.old.items }
     ensures sides { entries.new.items ≡ at_place place (after_report run session number)
         entries.old.items }
@@ -68,12 +68,12 @@ fn issue_in(
     place: usize,
     command: Command,
 ) -> Result<Option<u32>, RosterFault>
-    ensures number { IfOk result (λ n. n ≡ told_at place issued_number None entries.old.items) }
+    ensures number { IfOk result (λ n. n ≡ value_at place issued_number None entries.old.items) }
     ensures ok { OnOk result (entries.new.items
         ≡ at_place place (with_command command) entries.old.items) }
-    ensures numbers { OnOk result (told_at place is_spent false entries.old.items ≡ false) }
+    ensures numbers { OnOk result (value_at place is_spent false entries.old.items ≡ false) }
     ensures refused { IfErr result
-        (IsIssueRefusal (told_at place is_spent false entries.old.items)) }
+        (IsIssueRefusal (value_at place is_spent false entries.old.items)) }
     ensures err { OnErr result (entries.new.items ≡ entries.old.items) }
 {
     if place >= entries.len() {
@@ -90,13 +90,13 @@ fn applied_in(
     count: u32,
 ) -> Result<Vec<Command>, RosterFault>
     ensures newly { IfOk result (λ commands. commands.items
-        ≡ told_at place (newly session count) [] entries.old.items) }
+        ≡ value_at place (newly session count) [] entries.old.items) }
     ensures ok { OnOk result (entries.new.items
         ≡ at_place place (after_applied session count) entries.old.items) }
-    ensures judged { OnOk result (told_at place (λ s. in_session s session) None entries.old.items
+    ensures judged { OnOk result (value_at place (λ s. in_session s session) None entries.old.items
         ≡ None) }
     ensures refused { IfErr result
-        (IsAppliedRefusal (told_at place (λ s. in_session s session) None entries.old.items)) }
+        (IsAppliedRefusal (value_at place (λ s. in_session s session) None entries.old.items)) }
     ensures err { OnErr result (entries.new.items ≡ entries.old.items) }
 {
     if place >= entries.len() {
@@ -106,7 +106,7 @@ fn applied_in(
 }
 
 fn judge_in(entries: &[RosterEntry], place: usize, session: u32) -> Option<MasterRefusal>
-    ensures { result ≡ told_at place (λ s. in_session s session) None entries.now }
+    ensures { result ≡ value_at place (λ s. in_session s session) None entries.now }
 {
     if place >= entries.len() {
         return None;
@@ -158,7 +158,7 @@ impl Roster {
         session: u32,
         number: u32,
     ) -> Result<bool, MasterRefusal>
-        ensures answer { result ≡ told_at place (λ s. reported run s session number) (Ok false)
+        ensures answer { result ≡ value_at place (λ s. reported run s session number) (Ok false)
             self.old }
         ensures sides { self.new ≡ at_place place (after_report run session number) self.old }
     {
@@ -176,10 +176,10 @@ impl Roster {
     /// is issued and `None` is returned. `L2 Spent` where the session's last command has the last
     /// number, `G5 OutOfMemory` where memory was refused.
     pub fn issue(&mut self, place: usize, command: Command) -> Result<Option<u32>, RosterFault>
-        ensures number { IfOk result (λ n. n ≡ told_at place issued_number None self.old) }
+        ensures number { IfOk result (λ n. n ≡ value_at place issued_number None self.old) }
         ensures ok { OnOk result (self.new ≡ at_place place (with_command command) self.old) }
-        ensures numbers { OnOk result (told_at place is_spent false self.old ≡ false) }
-        ensures refused { IfErr result (IsIssueRefusal (told_at place is_spent false self.old)) }
+        ensures numbers { OnOk result (value_at place is_spent false self.old ≡ false) }
+        ensures refused { IfErr result (IsIssueRefusal (value_at place is_spent false self.old)) }
         ensures err { OnErr result (self.new ≡ self.old) }
     {
         issue_in(&mut self.entries, place, command)
@@ -195,13 +195,13 @@ impl Roster {
         count: u32,
     ) -> Result<Vec<Command>, RosterFault>
         ensures newly { IfOk result (λ commands. commands.items
-            ≡ told_at place (newly session count) [] self.old) }
+            ≡ value_at place (newly session count) [] self.old) }
         ensures ok { OnOk result (self.new ≡ at_place place (after_applied session count)
             self.old) }
-        ensures judged { OnOk result (told_at place (λ s. in_session s session) None self.old
+        ensures judged { OnOk result (value_at place (λ s. in_session s session) None self.old
             ≡ None) }
         ensures refused { IfErr result
-            (IsAppliedRefusal (told_at place (λ s. in_session s session) None self.old)) }
+            (IsAppliedRefusal (value_at place (λ s. in_session s session) None self.old)) }
         ensures err { OnErr result (self.new ≡ self.old) }
     {
         applied_in(&mut self.entries, alloc, place, session, count)
@@ -211,7 +211,7 @@ impl Roster {
     /// Closed` where none is open and this one is closed, `G4 NotOpen` where no Report has opened
     /// it.
     pub fn judge(&self, place: usize, session: u32) -> Option<MasterRefusal>
-        ensures { result ≡ told_at place (λ s. in_session s session) None self.now }
+        ensures { result ≡ value_at place (λ s. in_session s session) None self.now }
     {
         judge_in(&self.entries, place, session)
     }

@@ -11,7 +11,7 @@ use Rattle.drf_pick.specs.declared.holder.Holder.{Holder}
 use Rattle.drf_pick.specs.declared.holder.RoleSum.{RoleSum}
 use Rattle.drf_pick.specs.Shares.{Tally, at_first, emptied, given, given_roles, holder_of, holding, is_holder, is_role, restarted, reweighed, role_holding, role_sum_of, roles_with, weighed, weighed_roles, weighing, with_holder}
 use Rattle.round_shares.specs.Gifts.{Gift, enters, enters_row, gifts_of, holds, knows, no_shares, shares_of}
-use Rattle.frameworks.specs.Told.{Remembers, client_of, introduces, owning}
+use Rattle.frameworks.specs.LastRound.{Remembers, client_of, introduces, owning}
 use Rattle.round_shares.proofs.Shown.{enters_is}
 
 -- what is held is forgotten
@@ -160,7 +160,7 @@ one_by_one ws (suc n) (f ∷ fs) t = one_by_one ws n fs (knows ws t f)
 
 pub refilled : (ws : List RoleWeight) (ss : List Side) (fs : List Framework) (n : ℕ) (cs : List Client) (t : Tally) → Remembers cs t → cs ≡ map client_of (take n fs)
     → fold holds (fold (knows ws) (restarted ws (fold enters_row [] ss) t) (drop n fs)) (gifts_of ss) ≡ shares_of ws ss fs
-refilled ws ss fs n cs t known told =
-    ap (λ (x : Tally). fold holds (fold (knows ws) x (drop n fs)) (gifts_of ss)) (known ws (fold enters_row [] ss) ∙ ap (fold (introduces ws) (owning (fold enters_row [] ss))) told ∙ introduced ws (take n fs) (owning (fold enters_row [] ss)))
+refilled ws ss fs n cs t known known_count =
+    ap (λ (x : Tally). fold holds (fold (knows ws) x (drop n fs)) (gifts_of ss)) (known ws (fold enters_row [] ss) ∙ ap (fold (introduces ws) (owning (fold enters_row [] ss))) known_count ∙ introduced ws (take n fs) (owning (fold enters_row [] ss)))
     ∙ ap (λ (x : Tally). fold holds x (gifts_of ss)) (one_by_one ws n fs (owning (fold enters_row [] ss)))
     ∙ ap (λ (x : Tally). fold holds (fold (knows ws) x fs) (gifts_of ss)) (sym (enters_is ss []))

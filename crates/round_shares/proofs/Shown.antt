@@ -19,7 +19,7 @@ use Rattle.drf_pick.specs.Least.{role_share, share_of_sum}
 use Rattle.share_sums.specs.Sums.{summed}
 use Rattle.share_sums.proofs.Summing.{sums_add}
 use Rattle.round_shares.specs.Gifts.{Gift, all_rows, enters, enters_row, gifts_of, holds, knows, no_shares, role_rows, rows_to, shares_of}
-use Rattle.frameworks.specs.Told.{owning}
+use Rattle.frameworks.specs.LastRound.{owning}
 use Rattle.round_shares.specs.Laws.{AddUp}
 use Rattle.round_shares.proofs.Rows.{NoneOf, all-one, both_true, none_behind, part, role-append, role-one, role_all, role_part, same_back, to-more, to_all}
 
@@ -471,10 +471,10 @@ each_weighed ws q rs (f ∷ fs) k = (known_weighed ws q f.role rs k.0, each_weig
 abbrev one_more : List ℕ → List RoleSum → List RoleSum
 one_more q rs = roles_with q rs (find (is_role q) rs)
 
-abbrev told : List RoleWeight → Framework → Tally → Tally
-told ws f t = record t { holders = t.holders ++ holder_of f.id f.role ∷ []; roles = with_known ws f.role (one_more f.role t.roles) }
+abbrev known_count : List RoleWeight → Framework → Tally → Tally
+known_count ws f t = record t { holders = t.holders ++ holder_of f.id f.role ∷ []; roles = with_known ws f.role (one_more f.role t.roles) }
 
-knows_is : (ws : List RoleWeight) (f : Framework) (t : Tally) → find (is_holder f.id) t.holders ≡ None → knows ws t f ≡ told ws f t
+knows_is : (ws : List RoleWeight) (f : Framework) (t : Tally) → find (is_holder f.id) t.holders ≡ None → knows ws t f ≡ known_count ws f t
 knows_is ws f t none = ap (λ o. weighed f.role (weight_of ws f.role) (with_holder f.id f.role t o)) none
 
 one_known : (ws : List RoleWeight) (known fs : List Framework) (f : Framework) (totals : List Row) (t : Tally) → are_ordered (f ∷ fs) ≡ true → Starts ws known (f ∷ fs) totals t → Starts ws (known ++ f ∷ []) fs totals (knows ws t f)

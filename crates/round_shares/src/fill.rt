@@ -186,8 +186,8 @@ pub fn shares_of(
         ≡ shares_of weights.now sides.now frameworks.old) }
     ensures same { frameworks.new ≡ frameworks.old }
 {
-    let (mut holdings, told) = frameworks.take_holdings(alloc);
-    let more = &frameworks.as_slice()[told..];
+    let (mut holdings, known_count) = frameworks.take_holdings(alloc);
+    let more = &frameworks.as_slice()[known_count..];
     fill(&mut holdings, alloc, weights, sides, more)?;
     let shares = Shares::of(alloc, holdings)?;
     Ok(shares)

@@ -57,7 +57,7 @@ fn bit(group: u32) -> u64 {
     1u64 << (group % 64)
 }
 
-fn groups_told(events: &[StreamEvent]) -> u64 {
+fn groups_to_wake(events: &[StreamEvent]) -> u64 {
     let mut bits = 0;
     for event in events {
         bits |= bit(stream_group(event.stream));
@@ -95,7 +95,7 @@ pub fn groups_of(entry: &Entry) -> u64 {
         return u64::MAX;
     }
     let outputs = &entry.outputs;
-    groups_told(outputs.events.as_slice())
+    groups_to_wake(outputs.events.as_slice())
         | groups_closed(outputs.closed.as_slice())
         | groups_sent(outputs.sent.as_slice())
 }

@@ -5,7 +5,7 @@ use Rattle.names_core.specs.Ids.{Numbered}
 use Rattle.quantity.specs.declared.rows.Row.{Row}
 use Rattle.mails.specs.declared.task.Job.{Job}
 use Rattle.cluster_model.specs.Sides.{Run, Side, Sending, SendHello, MakeOffer}
-use Rattle.cluster_model.specs.Channels.{Channel, InRun, World, Happening, At, ByMaster, Hear, ByAgent, DrawMail, Adopt, in_front}
+use Rattle.cluster_model.specs.Channels.{Channel, InRun, World, Happening, At, ByMaster, Receive, ByAgent, DrawMail, Adopt, in_front}
 use Rattle.cluster_samples.specs.Short.{id, row, job}
 
 abbrev pub n_a1 : List ℕ
@@ -25,7 +25,7 @@ job_of_two key = job key (id 1 1) n_t1 (cpus 2)
 abbrev pub reporting : List Happening
 reporting =
     At n_a1 (ByMaster SendHello) ∷ At n_a1 (ByAgent (DrawMail 0)) ∷ At n_a1 (ByAgent Adopt)
-    ∷ At n_a1 (Hear 0) ∷ []
+    ∷ At n_a1 (Receive 0) ∷ []
 
 -- the agent applies the mail at a place, if it was sent
 abbrev pub applying : ℕ → List Happening

@@ -4,7 +4,7 @@ use Rattle.std.specs.Prelude.{true, [], ◌∷◌}
 use Rattle.names_core.specs.declared.state.TaskState.TheVariants.{Finished}
 use Rattle.mails.specs.declared.mail.AgentMail.TheVariants.{Report, Update}
 use Rattle.mails.specs.declared.task.Offer.{Offer}
-use Rattle.cluster_model.specs.Sides.{Run, Side, Sending, LaunchFrom, SendKill, SendEnd, MakeOffer, Lose, side_step, sends_nothing, heard}
+use Rattle.cluster_model.specs.Sides.{Run, Side, Sending, LaunchFrom, SendKill, SendEnd, MakeOffer, Lose, side_step, sends_nothing, received}
 use Rattle.cluster_model.specs.Channels.{World, At, TearDown, ByMaster, after, after_all}
 use Rattle.cluster_samples.specs.Short.{id}
 use Rattle.safe_samples.specs.Agents.{n_a1, cpus, job_of_two, applying, offering, after_step}
@@ -26,11 +26,11 @@ after_teardown =
     after (after_step sends_end (after running (TearDown (id 1 1)))) (offering (id 2 1) (id 2 1))
 
 -- what it makes of the update of the launch that has ended
-abbrev pub hears_update : Run → Side → Sending
-hears_update run s = sends_nothing run (heard run s (Update 1 (id 1 1) 0 Finished true))
+abbrev pub receives_update : Run → Side → Sending
+receives_update run s = sends_nothing run (received run s (Update 1 (id 1 1) 0 Finished true))
 
 abbrev pub after_update : World
-after_update = after (after_step hears_update launched_twice) (offering (id 2 1) (id 1 1))
+after_update = after (after_step receives_update launched_twice) (offering (id 2 1) (id 1 1))
 
 abbrev pub second_offer : Offer
 second_offer = record { id = id 1 2; framework = id 1 2; resources = cpus 4 }
@@ -50,17 +50,17 @@ abbrev pub after_accept : World
 after_accept = after_all (applying 1) (after_step accepts offered)
 
 -- what it makes of the Report that opened the session if that comes again
-abbrev pub hears_again : Run → Side → Sending
-hears_again run s = sends_nothing run (heard run s (Report 1 1 [] (cpus 4)))
+abbrev pub receives_again : Run → Side → Sending
+receives_again run s = sends_nothing run (received run s (Report 1 1 [] (cpus 4)))
 
 abbrev pub after_repeat : World
-after_repeat = after (after_step hears_again launched) (offering (id 1 2) (id 1 1))
+after_repeat = after (after_step receives_again launched) (offering (id 1 2) (id 1 1))
 
 -- what it makes of it once the session is closed
-abbrev pub hears_closed : Run → Side → Sending
-hears_closed run s = sends_nothing run (heard run s (Report 1 1 [] (cpus 4)))
+abbrev pub receives_closed : Run → Side → Sending
+receives_closed run s = sends_nothing run (received run s (Report 1 1 [] (cpus 4)))
 
 abbrev pub after_closed : World
 after_closed =
-    after (after_step hears_closed (after launched (At n_a1 (ByMaster Lose))))
+    after (after_step receives_closed (after launched (At n_a1 (ByMaster Lose))))
     (offering (id 1 2) (id 1 1))

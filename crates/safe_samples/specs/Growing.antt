@@ -6,7 +6,7 @@ use Rattle.mails.specs.declared.cause.Cause.TheVariants.{Start}
 use Rattle.mails.specs.declared.refusal.AgentRefusal.{AgentRefusal}
 use Rattle.cluster_model.specs.Agents.{Agent, Draft, next_of}
 use Rattle.cluster_model.specs.Sides.{Side, MakeOffer, offer_rows}
-use Rattle.cluster_model.specs.Channels.{Channel, World, Happening, At, ByMaster, Hear, ByAgent, Adopt, after, after_all, drawn, open_world}
+use Rattle.cluster_model.specs.Channels.{Channel, World, Happening, At, ByMaster, Receive, ByAgent, Adopt, after, after_all, drawn, open_world}
 use Rattle.cluster_samples.specs.Short.{id}
 use Rattle.safe_samples.specs.Agents.{n_a1, cpus, reporting}
 use Rattle.safe_samples.specs.Worlds.{no_task, offered}
@@ -51,7 +51,7 @@ abbrev pub after_save : World
 after_save = after_all (At n_a1 (ByAgent Adopt) ∷ offers_more ∷ []) growing
 
 abbrev pub after_report : World
-after_report = after_all (At n_a1 (ByAgent Adopt) ∷ At n_a1 (Hear 1) ∷ offers_more ∷ []) growing
+after_report = after_all (At n_a1 (ByAgent Adopt) ∷ At n_a1 (Receive 1) ∷ offers_more ∷ []) growing
 
 -- what is offered of a channel's agent
 abbrev pub offers_in : Channel → List Row

@@ -3,7 +3,7 @@ use Rattle.std.specs.Prelude.{List, [], ◌∷◌, ◌++◌}
 use Rattle.names_core.specs.declared.state.TaskState.TheVariants.{Running, Finished}
 use Rattle.mails.specs.declared.record.Durable.{Durable}
 use Rattle.cluster_model.specs.Sides.{LaunchFrom}
-use Rattle.cluster_model.specs.Channels.{World, At, Hear, ByMaster, after_all, open_world}
+use Rattle.cluster_model.specs.Channels.{World, At, Receive, ByMaster, after_all, open_world}
 use Rattle.cluster_samples.specs.Short.{id, task, durable}
 use Rattle.safe_samples.specs.Agents.{n_a1, cpus, job_of_two, reporting, applying, offering}
 
@@ -44,4 +44,4 @@ with_updates =
     ∷ []) ∷ []
 
 abbrev pub updated : World
-updated = after_all (reporting ++ At n_a1 (Hear 1) ∷ []) (open_world 2 with_updates)
+updated = after_all (reporting ++ At n_a1 (Receive 1) ∷ []) (open_world 2 with_updates)

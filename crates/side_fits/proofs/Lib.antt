@@ -1,4 +1,4 @@
 pub mod Weights
 pub mod Steps
-pub mod Hearing
+pub mod Receiving
 pub mod Numbering

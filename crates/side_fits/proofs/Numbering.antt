@@ -13,12 +13,12 @@ use Rattle.mails.specs.declared.mail.Command.{Command}
 use Rattle.mails.specs.declared.mail.Command.TheVariants.{Launch, Kill, Ack, EndFramework}
 use Rattle.mails.specs.declared.mail.MasterMail.TheVariants.{Issued}
 use Rattle.cluster_model.specs.Ids.{following, is_among}
-use Rattle.cluster_model.specs.Sides.{Run, Side, Sending, SideStep, MakeOffer, Withdraw, LaunchFrom, SendKill, SendAck, SendEnd, SendHello, SendAgain, Lose, Launching, accepted, books, counts, forget_all, halted, heard, heard_update, is_good, is_named, issue, launch_all, may_launch, may_offer, offer_rows, offered, opened, opens, restarted, sends_nothing, shut, side_step, taken, used_offers, without_used}
+use Rattle.cluster_model.specs.Sides.{Run, Side, Sending, SideStep, MakeOffer, Withdraw, LaunchFrom, SendKill, SendAck, SendEnd, SendHello, SendAgain, Lose, Launching, accepted, books, counts, forget_all, halted, received, received_update, is_good, is_named, issue, launch_all, may_launch, may_offer, offer_rows, offered, opened, opens, restarted, sends_nothing, shut, side_step, taken, used_offers, without_used}
 use Rattle.cluster_model.specs.Masters.{AtSide, HaltAll, Move, Moved, RestartAll, TearDownAll, at_side, at_this_side, move, move_all, past_side}
-use Rattle.cluster_model.specs.Mails.{hear_at}
-use Rattle.side_fits.specs.Fits.{HearingKeepsSides, MovesKeepSides, OffersBefore, most_sides}
+use Rattle.cluster_model.specs.Mails.{receive_at}
+use Rattle.side_fits.specs.Fits.{ReceivingKeepsSides, MovesKeepSides, OffersBefore, most_sides}
 use Rattle.side_fits.proofs.Steps.{moves_keep_fits}
-use Rattle.side_fits.proofs.Hearing.{hearing_at_keeps_fits}
+use Rattle.side_fits.proofs.Receiving.{receiving_at_keeps_fits}
 
 abbrev Below : Numbered → List Offer → Type 0
 Below next os = AllByRecursion (λ o. before o.id next ≡ true) os
@@ -202,33 +202,33 @@ moves_keep_sides moves x h =
 
 -- what is heard
 
-heard_kept : (next : Numbered) (run : Run) (s : Side) (mail : AgentMail) → Below next s.offers → Below next (heard run s mail).offers
-heard_kept next run s (Report session number tasks total) h = by (opens run s session number)
+received_kept : (next : Numbered) (run : Run) (s : Side) (mail : AgentMail) → Below next s.offers → Below next (received run s mail).offers
+received_kept next run s (Report session number tasks total) h = by (opens run s session number)
   where
     by : (b : Bool) → Below next (cond b (opened s session tasks total) s).offers
     by true = tt
     by false = h
-heard_kept next run s (Applied session count) h = by (counts s session count)
+received_kept next run s (Applied session count) h = by (counts s session count)
   where
     by : (b : Bool) → Below next (cond b (record s { booked = forget_all (take (count - s.known) s.waiting) s.booked; waiting = drop (count - s.known) s.waiting; known = count }) s).offers
     by true = h
     by false = h
-heard_kept next run s (Update session key k state ended) h = by (s.is_open && session == s.session)
+received_kept next run s (Update session key k state ended) h = by (s.is_open && session == s.session)
   where
-    by : (b : Bool) → Below next (cond b (record s { booked = map (heard_update key k state ended) s.booked }) s).offers
+    by : (b : Bool) → Below next (cond b (record s { booked = map (received_update key k state ended) s.booked }) s).offers
     by true = h
     by false = h
 
-hear_at_kept : (next : Numbered) (agent : List ℕ) (run : Run) (mail : AgentMail) (ss : List Side) → AllBelow next ss → AllBelow next (hear_at agent run mail ss) × (length (hear_at agent run mail ss) ≡ length ss)
-hear_at_kept next agent run mail [] h = (tt, refl)
-hear_at_kept next agent run mail (s ∷ ss) h = by (bytes_eq s.name agent) (hear_at_kept next agent run mail ss h.1)
+receive_at_kept : (next : Numbered) (agent : List ℕ) (run : Run) (mail : AgentMail) (ss : List Side) → AllBelow next ss → AllBelow next (receive_at agent run mail ss) × (length (receive_at agent run mail ss) ≡ length ss)
+receive_at_kept next agent run mail [] h = (tt, refl)
+receive_at_kept next agent run mail (s ∷ ss) h = by (bytes_eq s.name agent) (receive_at_kept next agent run mail ss h.1)
   where
-    by : (b : Bool) → AllBelow next (hear_at agent run mail ss) × (length (hear_at agent run mail ss) ≡ length ss)
-        → AllBelow next (cond b (heard run s mail ∷ ss) (s ∷ hear_at agent run mail ss)) × (length (cond b (heard run s mail ∷ ss) (s ∷ hear_at agent run mail ss)) ≡ length (s ∷ ss))
-    by true ih = ((heard_kept next run s mail h.0, h.1), refl)
+    by : (b : Bool) → AllBelow next (receive_at agent run mail ss) × (length (receive_at agent run mail ss) ≡ length ss)
+        → AllBelow next (cond b (received run s mail ∷ ss) (s ∷ receive_at agent run mail ss)) × (length (cond b (received run s mail ∷ ss) (s ∷ receive_at agent run mail ss)) ≡ length (s ∷ ss))
+    by true ih = ((received_kept next run s mail h.0, h.1), refl)
     by false ih = ((h.0, ih.0), ap suc ih.1)
 
-pub hearing_keeps_sides : HearingKeepsSides
-hearing_keeps_sides agent run mail ss fits h =
-    let k = hear_at_kept run.next_offer agent run mail ss h.ids in
-    record { totals = hearing_at_keeps_fits agent run mail ss fits h.totals; ids = k.0; numbered = h.numbered; few = subst (λ n. n ≤ most_sides) (sym k.1) h.few }
+pub receiving_keeps_sides : ReceivingKeepsSides
+receiving_keeps_sides agent run mail ss fits h =
+    let k = receive_at_kept run.next_offer agent run mail ss h.ids in
+    record { totals = receiving_at_keeps_fits agent run mail ss fits h.totals; ids = k.0; numbered = h.numbered; few = subst (λ n. n ≤ most_sides) (sym k.1) h.few }

@@ -5,9 +5,9 @@ use Rattle.names_core.specs.Ids.{Numbered, before}
 use Rattle.quantity.specs.Laws.{AtLeast}
 use Rattle.mails.specs.declared.mail.AgentMail.{AgentMail}
 use Rattle.mails.specs.declared.mail.AgentMail.TheVariants.{Report, Applied, Update}
-use Rattle.cluster_model.specs.Sides.{Run, Side, SideStep, heard, job_rows, side_step, taken, unended}
+use Rattle.cluster_model.specs.Sides.{Run, Side, SideStep, received, job_rows, side_step, taken, unended}
 use Rattle.cluster_model.specs.Masters.{Move, Moved, move_all}
-use Rattle.cluster_model.specs.Mails.{hear_at}
+use Rattle.cluster_model.specs.Mails.{receive_at}
 
 -- current offers and booked tasks that haven't ended are at most what the agent owns, name by name
 abbrev pub FitsTotal : Side → Type 0
@@ -48,15 +48,15 @@ MovesKeepFits =
     (moves : List Move) (x : Moved) → AllFitTotals x.sides → AllFitTotals (move_all moves x).sides
 
 -- and whatever it receives, where what is reported fits
-abbrev pub HearingKeepsFits : Type 0
-HearingKeepsFits =
+abbrev pub ReceivingKeepsFits : Type 0
+ReceivingKeepsFits =
     (run : Run) (s : Side) (mail : AgentMail) → MailFits mail → FitsTotal s
-    → FitsTotal (heard run s mail)
+    → FitsTotal (received run s mail)
 
-abbrev pub HearingAtKeepsFits : Type 0
-HearingAtKeepsFits =
+abbrev pub ReceivingAtKeepsFits : Type 0
+ReceivingAtKeepsFits =
     (agent : List ℕ) (run : Run) (mail : AgentMail) (ss : List Side) → MailFitsAt agent mail ss
-    → AllFitTotals ss → AllFitTotals (hear_at agent run mail ss)
+    → AllFitTotals ss → AllFitTotals (receive_at agent run mail ss)
 
 -- the ids of current offers are before the next one
 abbrev pub OffersBefore : Numbered → Side → Type 0
@@ -81,7 +81,7 @@ MovesKeepSides =
     → SidesFit (move_all moves x).run (move_all moves x).sides
 
 -- and so does what it receives, where what is reported fits
-abbrev pub HearingKeepsSides : Type 0
-HearingKeepsSides =
+abbrev pub ReceivingKeepsSides : Type 0
+ReceivingKeepsSides =
     (agent : List ℕ) (run : Run) (mail : AgentMail) (ss : List Side) → MailFitsAt agent mail ss
-    → SidesFit run ss → SidesFit run (hear_at agent run mail ss)
+    → SidesFit run ss → SidesFit run (receive_at agent run mail ss)

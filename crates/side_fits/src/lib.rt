@@ -3,7 +3,7 @@
 #![tactic(auto)]
 
 ghost use Rattle.cluster_model.specs.Sides.{Side, new_side};
-ghost use Rattle.side_fits.specs.Fits.{FitsTotal, HearingAtKeepsFits, HearingKeepsFits, HearingKeepsSides, MovesKeepFits, MovesKeepSides, NothingFits, StepsKeepFits};
+ghost use Rattle.side_fits.specs.Fits.{FitsTotal, ReceivingAtKeepsFits, ReceivingKeepsFits, ReceivingKeepsSides, MovesKeepFits, MovesKeepSides, NothingFits, StepsKeepFits};
 ghost use Rattle.std.specs.Prelude.{List, ℕ};
 
 /// Every step of the master at an agent keeps what is taken within what the agent owns.
@@ -19,10 +19,10 @@ pub fn moves_keep_fits()
 {}
 
 /// So does a mail of an agent, where the tasks of a Report that haven't ended fit its total.
-pub fn hearing_keeps_fits()
-    ensures side { HearingKeepsFits }
-    ensures at_agent { HearingAtKeepsFits }
-    ensures sides { HearingKeepsSides }
+pub fn receiving_keeps_fits()
+    ensures side { ReceivingKeepsFits }
+    ensures at_agent { ReceivingAtKeepsFits }
+    ensures sides { ReceivingKeepsSides }
 {}
 
 /// Nothing is taken of an agent that has not yet opened a session.

@@ -55,8 +55,8 @@ named_cause text total =
     if bytes_eq text (codes "start") then (total_named total >>= λ given. Some (Start given))
     else (if bytes_eq text (codes "again") && not (is_some total) then Some Again else None)
 
-abbrev pub told_in : Data → Option StepCause
-told_in d = key_in d >>= λ key. state_in d >>= λ state. Some (Executor key state)
+abbrev pub report_in : Data → Option StepCause
+report_in d = key_in d >>= λ key. state_in d >>= λ state. Some (Executor key state)
 
 -- a mail's number, or a cause by its name with the total of a start, or a launch key and a state
 abbrev pub cause_in : Data → Option StepCause
@@ -64,7 +64,7 @@ cause_in d =
     if is_some (get (codes "mail") d) then (number_in (codes "mail") d >>= λ n. Some (Mail n))
     else (if is_some (get (codes "cause") d)
     then (text_in (codes "cause") d >>= λ text. named_cause text (get (codes "total") d))
-    else told_in d)
+    else report_in d)
 
 abbrev pub named_members : Data → ℕ
 named_members d = if is_some (get (codes "total") d) then 4 else 3

@@ -43,14 +43,14 @@ abbrev pub key_in : Data → Option Numbered
 key_in d = text_in (codes "launch") d >>= id_of 76
 
 -- the states that an executor reports
-unfoldable pub told_state : List ℕ → Option TaskState
-told_state text =
+unfoldable pub reported_state : List ℕ → Option TaskState
+reported_state text =
     if bytes_eq text (codes "TASK_RUNNING") then Some Running
     else (if bytes_eq text (codes "TASK_FINISHED") then Some Finished
     else (if bytes_eq text (codes "TASK_FAILED") then Some Failed else None))
 
 abbrev pub state_in : Data → Option TaskState
-state_in d = text_in (codes "state") d >>= told_state
+state_in d = text_in (codes "state") d >>= reported_state
 
 unfoldable pub kept : List ℕ → Option Keep
 kept text =

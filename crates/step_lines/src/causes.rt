@@ -42,8 +42,8 @@ fn named_cause(alloc: Global, text: &str, total: Option<&Value>) -> Result<StepC
 }
 
 /// The state that an executor reports, with its task's key.
-fn told_in(value: &Value) -> Option<StepCause>
-    ensures { result ≡ lines.told_in (view value.now) }
+fn report_in(value: &Value) -> Option<StepCause>
+    ensures { result ≡ lines.report_in (view value.now) }
 {
     let key = key_in(value)?;
     Some(StepCause::Executor(key, state_in(value)?))
@@ -65,7 +65,7 @@ pub fn cause_in(alloc: Global, value: &Value) -> Result<StepCause, LineFault>
             None => Err(NOT_A_STEP),
         };
     }
-    match told_in(value) {
+    match report_in(value) {
         Some(cause) => Ok(cause),
         None => Err(NOT_A_STEP),
     }

@@ -66,9 +66,9 @@ pub fn key_in(value: &Value) -> Option<LaunchKey>
     LaunchKey::from_text(text_in(value, "launch")?).ok()
 }
 
-#[tactic(auto, unfolding(crate::specs::Members::told_state))]
-fn told_state(text: &str) -> Option<TaskState>
-    ensures { result ≡ members.told_state text.now }
+#[tactic(auto, unfolding(crate::specs::Members::reported_state))]
+fn reported_state(text: &str) -> Option<TaskState>
+    ensures { result ≡ members.reported_state text.now }
 {
     match text {
         "TASK_RUNNING" => Some(TaskState::Running),
@@ -82,7 +82,7 @@ fn told_state(text: &str) -> Option<TaskState>
 pub fn state_in(value: &Value) -> Option<TaskState>
     ensures { result ≡ members.state_in (view value.now) }
 {
-    told_state(text_in(value, "state")?)
+    reported_state(text_in(value, "state")?)
 }
 
 #[tactic(auto, unfolding(crate::specs::Members::kept))]

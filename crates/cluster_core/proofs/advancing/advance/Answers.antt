@@ -52,10 +52,10 @@ returns-in-Ok-clause-kept g c =
     let news = g.P.Post.direction_at (g.P.Post.known c.hand_on.new.parts.served.post) in
     let moved = subst (λ (x : Parts _). IsKept (with_entry s e) c.args.history.now.opened x (g.P.Post.count (g.P.Post.known c.hand_on.new.parts.served.post)) news) (sym c.hand_on.ensures.kept)
     (posted (with_entry s e) c.args.history.now.opened c.take_step.new.self c.hand_on.new.parts.served.post _ news kept) in
-    let told : story_of c.write_down.new.history ≡ with_entry s e =
-    c.write_down.ensures.told ∙ ap (λ (x : Story). with_entry x e) c.make_room.ensures.story in
+    let entry_kept : story_of c.write_down.new.history ≡ with_entry s e =
+    c.write_down.ensures.entry_kept ∙ ap (λ (x : Story). with_entry x e) c.make_room.ensures.story in
     subst (λ (o : Outputs). IsKept (story_of c.write_down.new.history) o c.hand_on.new.parts (g.P.Post.count (g.P.Post.known c.hand_on.new.parts.served.post)) (g.P.Post.direction_at (g.P.Post.known c.hand_on.new.parts.served.post))) (sym (c.write_down.ensures.opened ∙ c.make_room.ensures.opened))
-    (subst (λ (x : Story). IsKept x c.args.history.now.opened c.hand_on.new.parts (g.P.Post.count (g.P.Post.known c.hand_on.new.parts.served.post)) (g.P.Post.direction_at (g.P.Post.known c.hand_on.new.parts.served.post))) (sym told) moved)
+    (subst (λ (x : Story). IsKept x c.args.history.now.opened c.hand_on.new.parts (g.P.Post.count (g.P.Post.known c.hand_on.new.parts.served.post)) (g.P.Post.direction_at (g.P.Post.known c.hand_on.new.parts.served.post))) (sym entry_kept) moved)
 
 pub returns-in-Ok-clause-taken : goal.returns-in-Ok-clause-taken
 returns-in-Ok-clause-taken g c =
@@ -65,10 +65,10 @@ returns-in-Ok-clause-taken g c =
     let e = entry_made c.args.step c.in-Ok.made in
     let weighed : (state_of s).weights ≡ c.make_room.new.history.weights = c.weights_stay.ensures s.setup s.records (map marked_of s.entries) ∙ sym (ap (λ (x : Story). x.setup.weights) c.make_room.ensures.story) in
     let t = c.in-Ok.ensures.made (state_of s) (parts_of_story law s c.args.history.now.opened c.args.parts.now (g.P.Post.count (g.P.Post.known c.args.parts.now.served.post)) (g.P.Post.direction_at (g.P.Post.known c.args.parts.now.served.post)) c.requires h) weighed in
-    let told : story_of c.write_down.new.history ≡ with_entry s e =
-    c.write_down.ensures.told ∙ ap (λ (x : Story). with_entry x e) c.make_room.ensures.story in
+    let entry_kept : story_of c.write_down.new.history ≡ with_entry s e =
+    c.write_down.ensures.entry_kept ∙ ap (λ (x : Story). with_entry x e) c.make_room.ensures.story in
     subst (λ (x : Taken). IsTaken s c.args.step x (story_of c.write_down.new.history)) (sym c.write_down.ensures.taken)
-    (subst (IsTaken s c.args.step (taken_made c.args.step c.in-Ok.made)) (sym told) (takes_on law s c.take_step.new.self c.args.step c.in-Ok.made c.requires.legal h t))
+    (subst (IsTaken s c.args.step (taken_made c.args.step c.in-Ok.made)) (sym entry_kept) (takes_on law s c.take_step.new.self c.args.step c.in-Ok.made c.requires.legal h t))
 
 pub returns-in-Ok-clause-known : goal.returns-in-Ok-clause-known
 returns-in-Ok-clause-known g c =

@@ -3,7 +3,7 @@ use Rattle.cluster_histories.specs.Clusters.{master_of}
 use Rattle.cluster_model.specs.Mails.{agent_lost, hung_up, mailed, ticked}
 use Rattle.cluster_model.specs.Rounds.{allocated}
 use Rattle.cluster_laws.proofs.Ordinary.{called_ordinary, allocated_ordinary, ticked_ordinary, lost_ordinary, hung_ordinary, mailed_ordinary}
-use Rattle.cluster_laws.proofs.WithinRuns.{keeps_run, hears_run}
+use Rattle.cluster_laws.proofs.WithinRuns.{keeps_run, receives_run}
 use Rattle.cluster_laws.proofs.runs.masters_stay_in_their_run.Goals as goal
 
 pub returns : goal.returns
@@ -13,5 +13,5 @@ returns x = record {
   ticks = λ c now. keeps_run c (ticked (master_of c) now) (ticked_ordinary (master_of c) now).moves;
   losses = λ c s. keeps_run c (agent_lost (master_of c) s) (lost_ordinary (master_of c) s).moves;
   hang_ups = λ c stream. keeps_run c (hung_up (master_of c) stream) (hung_ordinary (master_of c) stream).moves;
-  mails = λ c agent place s mail. hears_run c agent place (mailed (master_of c) s mail) (mailed_ordinary (master_of c) s mail).moves;
+  mails = λ c agent place s mail. receives_run c agent place (mailed (master_of c) s mail) (mailed_ordinary (master_of c) s mail).moves;
 }

@@ -10,9 +10,9 @@ returns c =
       parts = c.masters_leave_agents.ensures.does;
       parts_fallen = c.masters_leave_agents.ensures.falls;
       down = c.fallen_masters_do_not_serve.ensures.falls;
-      hears = c.kept_streams_follow.ensures.hears;
+      receives = c.kept_streams_follow.ensures.receives;
       rising = c.streams_rise.ensures;
       ids = c.kept_streams_follow.ensures.ids;
-      within = c.no_more_is_taken.ensures.hears;
+      within = c.no_more_is_taken.ensures.receives;
     } in
     record { made = answer_made more; rise = streams_then_rise more }

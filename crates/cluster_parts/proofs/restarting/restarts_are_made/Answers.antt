@@ -18,7 +18,7 @@ returns c =
       master = c.masters_begin_with_greetings.ensures.master;
       parts = c.masters_leave_agents.ensures.stops;
       parts_fallen = c.masters_leave_agents.ensures.new_falls;
-      hears = c.kept_streams_follow.ensures.hears;
+      receives = c.kept_streams_follow.ensures.receives;
       ids = c.kept_streams_follow.ensures.ids;
       rising = c.streams_rise.ensures;
     } in

@@ -1,5 +1,5 @@
 use Rattle.device_io.specs.Texts.{last_line}
-use Rattle.device_io.specs.Answers.{after_all, told_all}
+use Rattle.device_io.specs.Answers.{after_all, answered_texts}
 use Rattle.device_io.specs.Written.{appends_more, front_after, front_longer}
 use Rattle.device_io.proofs.Progress.{on_err, on_ok}
 use Rattle.device_io.proofs.answers.answer_end.Goals as goal
@@ -9,16 +9,16 @@ returns-in-Err-clause-err g c = front_longer _ _ _ _ c.in-Err.ensures.err
 
 pub returns-clause-ok : goal.returns-clause-ok
 returns-clause-ok g c =
-    let s = c.args.teller.now in
+    let s = c.args.answerer.now in
     let ls = last_line c.args.rest.now in
     let ending = rw c.in_default.ensures.after at c.write_end.ensures.ok in
     on_ok c.write_end.result _ _ (λ h. appends_more (g.W.Write.contents c.args.writer.now) (g.W.Write.contents c.answer_last.new.writer) (g.W.Write.contents c.write_end.new.writer)
-    (told_all g.T.Teller.told g.T.Teller.after s ls) (g.T.Teller.ending (after_all g.T.Teller.after s ls)) c.in_default.ensures.ok h) ending
+    (answered_texts g.T.LineAnswerer.answered_text g.T.LineAnswerer.after s ls) (g.T.LineAnswerer.ending (after_all g.T.LineAnswerer.after s ls)) c.in_default.ensures.ok h) ending
 
 pub returns-clause-err : goal.returns-clause-err
 returns-clause-err g c =
-    let s = c.args.teller.now in
+    let s = c.args.answerer.now in
     let ls = last_line c.args.rest.now in
     let ending = rw c.in_default.ensures.after at c.write_end.ensures.err in
     on_err c.write_end.result _ _ (λ h. front_after (g.W.Write.contents c.args.writer.now) (g.W.Write.contents c.answer_last.new.writer) (g.W.Write.contents c.write_end.new.writer)
-    (told_all g.T.Teller.told g.T.Teller.after s ls) (g.T.Teller.ending (after_all g.T.Teller.after s ls)) c.in_default.ensures.ok h) ending
+    (answered_texts g.T.LineAnswerer.answered_text g.T.LineAnswerer.after s ls) (g.T.LineAnswerer.ending (after_all g.T.LineAnswerer.after s ls)) c.in_default.ensures.ok h) ending

@@ -2,4 +2,4 @@ use Rattle.device_io.proofs.Progress.{Progress}
 use Rattle.device_io.proofs.answers.answer_pieces.Given as goal
 
 abbrev pub invariant-loop : goal.invariant-loop
-invariant-loop g l = Progress g.T.Teller.told g.T.Teller.after (g.R.Read.remaining l.initial.reader) (g.R.Read.remaining l.reader) (g.W.Write.contents l.initial.writer) (g.W.Write.contents l.writer) l.lines l.initial.teller l.teller
+invariant-loop g l = Progress g.T.LineAnswerer.answered_text g.T.LineAnswerer.after (g.R.Read.remaining l.initial.reader) (g.R.Read.remaining l.reader) (g.W.Write.contents l.initial.writer) (g.W.Write.contents l.writer) l.lines l.initial.answerer l.answerer

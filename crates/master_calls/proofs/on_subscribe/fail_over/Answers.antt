@@ -1,7 +1,7 @@
 use Rattle.std.proofs.Common.{ap, ◌∙◌}
 use Rattle.scheduler_events.specs.declared.event.Event.TheVariants as events
-use Rattle.master_state.specs.States.{closed, told}
+use Rattle.master_state.specs.States.{closed, event_sent}
 use Rattle.master_calls.proofs.on_subscribe.fail_over.Goals as goal
 
 pub returns : goal.returns
-returns c = c.in_ok-close.ensures ∙ ap (closed c.args.stream) (c.in_ok-tell.ensures ∙ ap (λ message. told c.args.stream (events.Error message) c.args.state.now) c.in_ok-message.ensures)
+returns c = c.in_ok-close.ensures ∙ ap (closed c.args.stream) (c.in_ok-send_event.ensures ∙ ap (λ message. event_sent c.args.stream (events.Error message) c.args.state.now) c.in_ok-message.ensures)

@@ -1,5 +1,5 @@
 use Rattle.std.proofs.Common.{None, ap, ◌∙◌, arith}
-use Rattle.roster.specs.Places.{told_at}
+use Rattle.roster.specs.Places.{value_at}
 use Rattle.agent_sides.specs.Free.{open_part}
 use Rattle.master_rounds.specs.Visits.{visits_part}
 use Rattle.master_rounds.proofs.Visiting.{visited_more}
@@ -10,7 +10,7 @@ loop-place-preserved c =
     let s = c.args.state.now in
     record {
       progress = c.in_ok-visit.ensures.ok
-          ∙ ap (λ p. visits_part s.run s.moment s.frameworks p (told_at c.loop-place.place open_part None s.sides)) c.loop-place.invariant.progress
+          ∙ ap (λ p. visits_part s.run s.moment s.frameworks p (value_at c.loop-place.place open_part None s.sides)) c.loop-place.invariant.progress
           ∙ visited_more s.run s.moment s.frameworks c.args.progress.now s.sides c.loop-place.place (omega (arith, c.loop-place-test.true, c.len-place-end.ensures));
       candidates = c.in_ok-visit.ensures.candidates;
       numbered = c.visit.ensures.numbered;

@@ -12,7 +12,7 @@ returns-clause-given g c = λ ready clean.
     let n = c.args.last + 1 in
     let old = state g.S.Store c.args.conn.now in
     let new = state g.S.Store c.write_last.new.conn in
-    let told = c.write_last.ensures.wrote ready clean in
+    let read_back = c.write_last.ensures.wrote ready clean in
     let wrote : Wrote 1 (Int (pos n)) old new = search rules in
     (run_ready n old new ready wrote, refl, run_kept n old.now.trees new.now.trees wrote.changed)
 

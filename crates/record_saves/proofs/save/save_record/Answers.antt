@@ -3,7 +3,7 @@ use Rattle.sqlite.specs.Held.{state}
 use Rattle.sqlite.specs.Effect.{Database}
 use Rattle.sqlite_rules.specs.Lists.{Has}
 use Rattle.keep_rows.specs.Tables.{IsCommitted, keeper_schema}
-use Rattle.record_saves.specs.Kept.{ArePut, HasRecord, IsHead, IsPut, Knows, Tells, kept_in}
+use Rattle.record_saves.specs.Kept.{ArePut, HasRecord, IsHead, IsPut, Knows, AreRowsOf, kept_in}
 use Rattle.std.specs.List.{AllByRecursion}
 use Rattle.std.specs.Str.{IsUtf8}
 use Rattle.mails.specs.declared.record.RecordedTask.{RecordedTask}
@@ -62,7 +62,7 @@ returns-clause-knows g c = λ ready clean knows.
     let d = c.args.durable.now in
     ok_both c.commit_record.result (λ (ts : List RecordedTask). (ts ≡ d.tasks) × AllByRecursion IsPut d.tasks) (λ (ts : List RecordedTask). Knows (Some ts) new.now.trees)
     (IsCommitted keeper_schema (HasRecord c.args.seen c.args.head.now d) old new) c.commit_record.ensures.tasks (c.commit_record.ensures.saved ready clean)
-    (λ ts put done. subst (λ (us : List RecordedTask). Tells (new.now.trees 3) (Has us)) (sym put.0) (done.changes.tasks knows))
+    (λ ts put done. subst (λ (us : List RecordedTask). AreRowsOf (new.now.trees 3) (Has us)) (sym put.0) (done.changes.tasks knows))
 
 pub returns-clause-headed : goal.returns-clause-headed
 returns-clause-headed g c = λ ready clean knows_head.

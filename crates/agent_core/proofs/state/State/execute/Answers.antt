@@ -11,5 +11,5 @@ returns c =
     let known : list_any (is_task key) tasks ≡ true = cc in
     let live : list_any (λ t. is_task key t && has_ended t) tasks ≡ false = cc in
     let placed : (needs_place c.args.state && list_any (λ t. is_task key t && is_full t.updates) tasks) ≡ false = cc in
-    let told = c.in_ok-told_state.ensures in
+    let told = c.in_ok-with_state.ensures in
     rw (told, known, live, placed) refl

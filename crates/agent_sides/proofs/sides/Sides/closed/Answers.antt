@@ -1,11 +1,11 @@
 use Rattle.std.proofs.Common.{refl, ap, ◌∙◌, None, Some}
-use Rattle.agent_sides.specs.Looks.{told_of}
-use Rattle.agent_sides.proofs.Telling.{told_joined}
+use Rattle.agent_sides.specs.Looks.{value_of}
+use Rattle.agent_sides.proofs.AtNames.{told_joined}
 use Rattle.agent_sides.proofs.sides.Sides.closed.Goals as goal
 
 pub returns : goal.returns
 returns c =
     c.closed_of.ensures
-    ∙ ap (told_of c.args.name.now (λ s. Some s.closed) None) c.entries.ensures
+    ∙ ap (value_of c.args.name.now (λ s. Some s.closed) None) c.entries.ensures
     ∙ told_joined c.args.name.now (λ s. Some s.closed) None (λ s a. refl) c.self.inside.roster c.self.inside.book c.self.invariant.one
-    ∙ ap (told_of c.args.name.now (λ s. Some s.closed) None) c.self.view_is
+    ∙ ap (value_of c.args.name.now (λ s. Some s.closed) None) c.self.view_is

@@ -1,6 +1,6 @@
 use Rattle.std.proofs.Common.{refl, ap, ◌∙◌, sym, subst}
 use Rattle.std.specs.Prelude.{None, false}
-use Rattle.roster.specs.Places.{at_place, told_at}
+use Rattle.roster.specs.Places.{at_place, value_at}
 use Rattle.roster.specs.Sessions.{is_spent, issued_number, with_command}
 use Rattle.roster.specs.Faults.{IsIssueRefusal}
 use Rattle.agent_sides.specs.Joined.{Fit, joined}
@@ -15,7 +15,7 @@ invariant_of-self c =
 
 pub returns-clause-number : goal.returns-clause-number
 returns-clause-number c = if_ok c.issue.result
-    (λ n e. e ∙ joined_told c.args.place issued_number None (λ s a. refl) c.self.inside.roster c.self.inside.book c.self.invariant.one ∙ ap (told_at c.args.place issued_number None) c.self.view_is) c.issue.ensures.number
+    (λ n e. e ∙ joined_told c.args.place issued_number None (λ s a. refl) c.self.inside.roster c.self.inside.book c.self.invariant.one ∙ ap (value_at c.args.place issued_number None) c.self.view_is) c.issue.ensures.number
 
 pub returns-clause-ok : goal.returns-clause-ok
 returns-clause-ok c = on_ok c.issue.result
@@ -24,8 +24,8 @@ returns-clause-ok c = on_ok c.issue.result
 
 pub returns-clause-numbers : goal.returns-clause-numbers
 returns-clause-numbers c = on_ok c.issue.result
-    (λ e. sym (joined_told c.args.place is_spent false (λ s a. refl) c.self.inside.roster c.self.inside.book c.self.invariant.one ∙ ap (told_at c.args.place is_spent false) c.self.view_is) ∙ e) c.issue.ensures.numbers
+    (λ e. sym (joined_told c.args.place is_spent false (λ s a. refl) c.self.inside.roster c.self.inside.book c.self.invariant.one ∙ ap (value_at c.args.place is_spent false) c.self.view_is) ∙ e) c.issue.ensures.numbers
 
 pub returns-clause-refused : goal.returns-clause-refused
 returns-clause-refused c = if_err c.issue.result
-    (λ fault h. subst (λ b. IsIssueRefusal b fault) (joined_told c.args.place is_spent false (λ s a. refl) c.self.inside.roster c.self.inside.book c.self.invariant.one ∙ ap (told_at c.args.place is_spent false) c.self.view_is) h) c.issue.ensures.refused
+    (λ fault h. subst (λ b. IsIssueRefusal b fault) (joined_told c.args.place is_spent false (λ s a. refl) c.self.inside.roster c.self.inside.book c.self.invariant.one ∙ ap (value_at c.args.place is_spent false) c.self.view_is) h) c.issue.ensures.refused

@@ -1,12 +1,12 @@
 use Rattle.std.proofs.Common.{refl, ap, ◌∙◌, Ok, false}
 use Rattle.roster.specs.Sessions.{reported}
-use Rattle.agent_sides.specs.Looks.{told_of}
-use Rattle.agent_sides.proofs.Telling.{told_joined}
+use Rattle.agent_sides.specs.Looks.{value_of}
+use Rattle.agent_sides.proofs.AtNames.{told_joined}
 use Rattle.agent_sides.proofs.sides.Sides.judge_report.Goals as goal
 
 pub returns : goal.returns
 returns c =
     c.report_of.ensures
-    ∙ ap (told_of c.args.name.now (λ s. reported c.args.run s c.args.session c.args.number) (Ok false)) c.entries.ensures
+    ∙ ap (value_of c.args.name.now (λ s. reported c.args.run s c.args.session c.args.number) (Ok false)) c.entries.ensures
     ∙ told_joined c.args.name.now (λ s. reported c.args.run s c.args.session c.args.number) (Ok false) (λ s a. refl) c.self.inside.roster c.self.inside.book c.self.invariant.one
-    ∙ ap (told_of c.args.name.now (λ s. reported c.args.run s c.args.session c.args.number) (Ok false)) c.self.view_is
+    ∙ ap (value_of c.args.name.now (λ s. reported c.args.run s c.args.session c.args.number) (Ok false)) c.self.view_is

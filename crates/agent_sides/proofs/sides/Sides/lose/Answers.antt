@@ -2,7 +2,7 @@ use Rattle.std.proofs.Common.{refl, ap, ◌∙◌, sym, ◌≡◌, true, false, 
 use Rattle.cluster_model.specs.Sides.{lost}
 use Rattle.offer_book.specs.Accounts as accounts
 use Rattle.agent_sides.specs.Joined as joins
-use Rattle.roster.specs.Places.{at_place, told_at}
+use Rattle.roster.specs.Places.{at_place, value_at}
 use Rattle.agent_sides.proofs.Joining.{joined_same, joined_when, fit_book, fit_roster}
 use Rattle.agent_sides.proofs.Changing.{lost_joins, lost_keeps, lost_stays, reopened_keeps}
 use Rattle.agent_sides.proofs.sides.Sides.lose.Goals as goal
@@ -17,10 +17,10 @@ pub returns-then-is_open_in : goal.returns-then-is_open_in
 returns-then-is_open_in c =
     let book : c.reopen_at.new.book ≡ joins.at_place c.args.place (accounts.reopened [] []) c.self.inside.book = c.reopen_at.ensures ∙ ap (λ tasks. joins.at_place c.args.place (accounts.reopened tasks c.new-nothing.result) c.self.inside.book) c.new-none.ensures ∙ ap (λ total. joins.at_place c.args.place (accounts.reopened [] total) c.self.inside.book) c.new-nothing.ensures in
     rw (c.close_session.ensures, book)
-    (joined_when c.args.place lost lost (accounts.reopened [] []) (λ s. s.is_open) false true lost_joins c.self.inside.roster c.self.inside.book c.self.invariant.one (sym (c.is_open_in.ensures ∙ ap (told_at c.args.place (λ s. s.is_open) false) c.entries.ensures) ∙ c.if-is_open_in.true) ∙ ap (at_place c.args.place lost) c.self.view_is)
+    (joined_when c.args.place lost lost (accounts.reopened [] []) (λ s. s.is_open) false true lost_joins c.self.inside.roster c.self.inside.book c.self.invariant.one (sym (c.is_open_in.ensures ∙ ap (value_at c.args.place (λ s. s.is_open) false) c.entries.ensures) ∙ c.if-is_open_in.true) ∙ ap (at_place c.args.place lost) c.self.view_is)
 
 pub returns-else-is_open_in : goal.returns-else-is_open_in
 returns-else-is_open_in c =
     sym c.self.view_is
-    ∙ joined_same c.args.place lost (λ s. s.is_open) false false lost_stays c.self.inside.roster c.self.inside.book c.self.invariant.one (sym (c.is_open_in.ensures ∙ ap (told_at c.args.place (λ s. s.is_open) false) c.entries.ensures) ∙ c.if-is_open_in.false)
+    ∙ joined_same c.args.place lost (λ s. s.is_open) false false lost_stays c.self.inside.roster c.self.inside.book c.self.invariant.one (sym (c.is_open_in.ensures ∙ ap (value_at c.args.place (λ s. s.is_open) false) c.entries.ensures) ∙ c.if-is_open_in.false)
     ∙ ap (at_place c.args.place lost) c.self.view_is

@@ -1,7 +1,7 @@
 use Rattle.std.proofs.Common.{refl, ap, ◌∙◌, sym, true, false, Ok, Err}
 use Rattle.offer_book.specs.Accounts as accounts
 use Rattle.agent_sides.specs.Joined as joins
-use Rattle.roster.specs.Places.{at_place, told_at}
+use Rattle.roster.specs.Places.{at_place, value_at}
 use Rattle.roster.specs.Sessions.{after_report, reported}
 use Rattle.agent_sides.specs.Changes.{reporting}
 use Rattle.agent_sides.proofs.Joining.{joined_if, joined_told, joined_when, fit_book, fit_roster}
@@ -13,7 +13,7 @@ invariant_of-self c = rw c.report.ensures.sides (fit_roster c.args.place (after_
 
 pub returns-in-Err-clause-answer : goal.returns-in-Err-clause-answer
 returns-in-Err-clause-answer c =
-    sym c.in-Err.is ∙ c.report.ensures.answer ∙ joined_told c.args.place (λ s. reported c.args.run s c.args.session c.args.number) (Ok false) (λ s a. refl) c.self.inside.roster c.self.inside.book c.self.invariant.one ∙ ap (told_at c.args.place (λ s. reported c.args.run s c.args.session c.args.number) (Ok false)) c.self.view_is
+    sym c.in-Err.is ∙ c.report.ensures.answer ∙ joined_told c.args.place (λ s. reported c.args.run s c.args.session c.args.number) (Ok false) (λ s a. refl) c.self.inside.roster c.self.inside.book c.self.invariant.one ∙ ap (value_at c.args.place (λ s. reported c.args.run s c.args.session c.args.number) (Ok false)) c.self.view_is
 
 pub returns-in-Err-clause-sides : goal.returns-in-Err-clause-sides
 returns-in-Err-clause-sides c =
@@ -31,7 +31,7 @@ invariant_of-self-else-opens c = rw c.report.ensures.sides (fit_roster c.args.pl
 
 pub returns-then-opens-clause-answer : goal.returns-then-opens-clause-answer
 returns-then-opens-clause-answer c =
-    sym c.in-Ok.is ∙ c.report.ensures.answer ∙ joined_told c.args.place (λ s. reported c.args.run s c.args.session c.args.number) (Ok false) (λ s a. refl) c.self.inside.roster c.self.inside.book c.self.invariant.one ∙ ap (told_at c.args.place (λ s. reported c.args.run s c.args.session c.args.number) (Ok false)) c.self.view_is
+    sym c.in-Ok.is ∙ c.report.ensures.answer ∙ joined_told c.args.place (λ s. reported c.args.run s c.args.session c.args.number) (Ok false) (λ s a. refl) c.self.inside.roster c.self.inside.book c.self.invariant.one ∙ ap (value_at c.args.place (λ s. reported c.args.run s c.args.session c.args.number) (Ok false)) c.self.view_is
 
 pub returns-then-opens-clause-sides : goal.returns-then-opens-clause-sides
 returns-then-opens-clause-sides c =
@@ -41,7 +41,7 @@ returns-then-opens-clause-sides c =
 
 pub returns-else-opens-clause-answer : goal.returns-else-opens-clause-answer
 returns-else-opens-clause-answer c =
-    sym c.in-Ok.is ∙ c.report.ensures.answer ∙ joined_told c.args.place (λ s. reported c.args.run s c.args.session c.args.number) (Ok false) (λ s a. refl) c.self.inside.roster c.self.inside.book c.self.invariant.one ∙ ap (told_at c.args.place (λ s. reported c.args.run s c.args.session c.args.number) (Ok false)) c.self.view_is
+    sym c.in-Ok.is ∙ c.report.ensures.answer ∙ joined_told c.args.place (λ s. reported c.args.run s c.args.session c.args.number) (Ok false) (λ s a. refl) c.self.inside.roster c.self.inside.book c.self.invariant.one ∙ ap (value_at c.args.place (λ s. reported c.args.run s c.args.session c.args.number) (Ok false)) c.self.view_is
 
 pub returns-else-opens-clause-sides : goal.returns-else-opens-clause-sides
 returns-else-opens-clause-sides c =

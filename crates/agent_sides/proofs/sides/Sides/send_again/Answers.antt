@@ -1,7 +1,7 @@
 use Rattle.std.proofs.Common.{◌++◌, flat_map, refl, ap, ◌∙◌}
-use Rattle.agent_sides.specs.Told.{mails_at_tick}
+use Rattle.agent_sides.specs.ByName.{mails_at_tick}
 use Rattle.agent_sides.proofs.Joining.{on_ok}
-use Rattle.agent_sides.proofs.Telling.{flat_joined}
+use Rattle.agent_sides.proofs.AtNames.{flat_joined}
 use Rattle.agent_sides.proofs.sides.Sides.send_again.Goals as goal
 
 pub returns : goal.returns

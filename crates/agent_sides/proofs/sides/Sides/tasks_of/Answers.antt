@@ -1,12 +1,12 @@
 use Rattle.std.proofs.Common.{refl, ap, ◌∙◌, []}
-use Rattle.agent_sides.specs.Looks.{told_of}
-use Rattle.agent_sides.specs.Told.{told_by}
-use Rattle.agent_sides.proofs.Telling.{book_joined}
+use Rattle.agent_sides.specs.Looks.{value_of}
+use Rattle.agent_sides.specs.ByName.{value_by}
+use Rattle.agent_sides.proofs.AtNames.{book_joined}
 use Rattle.agent_sides.proofs.sides.Sides.tasks_of.Goals as goal
 
 pub returns : goal.returns
 returns c =
     c.tasks_of.ensures
-    ∙ ap (told_by c.args.name.now (λ a. a.booked) []) c.accounts.ensures
+    ∙ ap (value_by c.args.name.now (λ a. a.booked) []) c.accounts.ensures
     ∙ book_joined c.args.name.now (λ a. a.booked) (λ s. s.booked) [] (λ s a. refl) c.self.inside.roster c.self.inside.book c.self.invariant.one
-    ∙ ap (told_of c.args.name.now (λ s. s.booked) []) c.self.view_is
+    ∙ ap (value_of c.args.name.now (λ s. s.booked) []) c.self.view_is

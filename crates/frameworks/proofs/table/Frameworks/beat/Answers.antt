@@ -11,6 +11,6 @@ pub invariant_of-self : goal.invariant_of-self
 invariant_of-self c = rw c.beat_in.ensures (
   table_kept (led_by c.self.inside.by_stream) (beaten c.args.now) c.self.inside.items.items (beaten_keeps c.args.now) (beaten_keeps_stream c.args.now) c.self.invariant.0,
   λ is. one_kept (beaten c.args.now) c.self.inside.items.items (beaten_keeps_role c.args.now) (c.self.invariant.1 is),
-  told_kept (beaten c.args.now) c.self.inside.items.items c.self.inside.told (beaten_keeps c.args.now) (beaten_keeps_role c.args.now) c.self.invariant.2,
+  told_kept (beaten c.args.now) c.self.inside.items.items c.self.inside.last_round (beaten_keeps c.args.now) (beaten_keeps_role c.args.now) c.self.invariant.2,
   starts_kept (beaten c.args.now) c.self.inside.items.items c.self.inside.starts (beaten_makes_none c.args.now) c.self.invariant.3,
 )

@@ -1,7 +1,7 @@
 use Rattle.std.proofs.Common.{◌≤◌, List, length, sym, subst, arith}
 use Rattle.std.proofs.lemmas.List.{take_all}
 use Rattle.mails.specs.declared.framework.Framework.{Framework}
-use Rattle.frameworks.specs.Told.{Remembers, clients_of}
+use Rattle.frameworks.specs.LastRound.{Remembers, clients_of}
 use Rattle.frameworks.proofs.table.Frameworks.keep_holdings.Goals as goal
 
 pub invariant_of-self : goal.invariant_of-self

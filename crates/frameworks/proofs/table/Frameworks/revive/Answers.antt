@@ -12,6 +12,6 @@ pub invariant_of-self : goal.invariant_of-self
 invariant_of-self c = rw (c.revive_in.ensures, c.cut.ensures, c.place_in-place.ensures.place, c.deref.ensures.value) (
   table_kept (led_by c.self.inside.by_stream) (changed revived c.args.id) c.self.inside.items.items (changed_keeps revived c.args.id (λ f. refl)) (changed_keeps_stream revived c.args.id (λ f. refl)) c.self.invariant.0,
   λ is. one_kept (changed revived c.args.id) c.self.inside.items.items (changed_keeps_role revived c.args.id (λ f. refl)) (c.self.invariant.1 is),
-  told_kept (changed revived c.args.id) c.self.inside.items.items c.self.inside.told (changed_keeps revived c.args.id (λ f. refl)) (changed_keeps_role revived c.args.id (λ f. refl)) c.self.invariant.2,
+  told_kept (changed revived c.args.id) c.self.inside.items.items c.self.inside.last_round (changed_keeps revived c.args.id (λ f. refl)) (changed_keeps_role revived c.args.id (λ f. refl)) c.self.invariant.2,
   cut_all c.self.inside.items.items (map (changed revived c.args.id) c.self.inside.items.items) (place_of c.args.id c.self.inside.items.items) c.self.inside.starts (changed_front revived c.args.id c.self.inside.items.items) c.self.invariant.3,
 )

@@ -11,7 +11,7 @@ invariant_of-self c =
     let fs = c.self.inside.items.items in (
       c.put_open.ensures.table,
       λ is. rw c.in_err-put_open.ensures.err (c.self.invariant.1 is),
-      rw c.in_err-put_open.ensures.err (rw c.deref.ensures.value at c.cut_for.ensures.told),
+      rw c.in_err-put_open.ensures.err (rw c.deref.ensures.value at c.cut_for.ensures.last_round),
       rw (c.in_err-put_open.ensures.err, c.cut.ensures) (cut_all fs fs c.place_in-place.result c.self.inside.starts refl c.self.invariant.3),
     )
 

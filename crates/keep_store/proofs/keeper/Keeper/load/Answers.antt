@@ -8,7 +8,7 @@ use Rattle.keep_store.proofs.KnownLemmas.{if_known_holds}
 use Rattle.keep_store.proofs.keeper.Keeper.load.Goals as goal
 
 pub seen_in-requires : goal.seen_in-requires
-seen_in-requires g c = record { told = rw (c.as_slice-2.ensures.value, c.as_slice-3.ensures.value) at c.in_ok-found.ensures.told }
+seen_in-requires g c = record { read_back = rw (c.as_slice-2.ensures.value, c.as_slice-3.ensures.value) at c.in_ok-found.ensures.read_back }
 
 pub invariant_of-self-2 : goal.invariant_of-self-2
 invariant_of-self-2 g c =

@@ -5,7 +5,7 @@ use Rattle.sqlite.specs.Held.{state}
 use Rattle.record_saves.specs.Kept.{kept_in}
 use Rattle.keep_rows.specs.Tables.{IsReady, Stays}
 use Rattle.keep_rows.specs.declared.fault.KeepFault.TheVariants.{Damaged}
-use Rattle.keep_store.specs.Kept.{TellsRun, run_in}
+use Rattle.keep_store.specs.Kept.{HoldsRun, run_in}
 use Rattle.keep_store.proofs.RunLemmas.{given_behind, failed_behind, either_behind, on_any, on_any_err}
 use Rattle.keep_store.proofs.keeper.Keeper.next_run.Goals as goal
 
@@ -39,14 +39,14 @@ returns-clause-stop g c = λ ready clean db may.
     let is = c.in_ok-last.ensures.value was clean1 ∙ ap (λ conn. (kept_in (at conn).now.trees).last) c.self.view_is in
     either_behind (at c.args.self.now) (at c.last_run.new.conn) (at c.run_behind.new.conn) c.in_ok-last.last same is (c.run_behind.ensures.stop up) clean db may
 
-pub returns-clause-told : goal.returns-clause-told
-returns-clause-told g c = λ ready clean.
+pub returns-clause-read_back : goal.returns-clause-read_back
+returns-clause-read_back g c = λ ready clean.
     let at = λ (conn : _). state g.S.Store conn in
     let was = subst (λ conn. IsReady (at conn)) (sym c.self.view_is) ready in
     let clean1 = c.run_behind.ensures.clean clean in
     let is = c.in_ok-last.ensures.value was clean1 ∙ ap (λ conn. (kept_in (at conn).now.trees).last) c.self.view_is in
-    let told = subst (λ conn. TellsRun (run_in (at conn).now.trees) c.in_ok-last.last) c.self.view_is (c.in_ok-last.ensures.told was clean1) in
-    on_any c.run_behind.result (subst (λ n. TellsRun (run_in (at c.args.self.now).now.trees) n) is told)
+    let read_back = subst (λ conn. HoldsRun (run_in (at conn).now.trees) c.in_ok-last.last) c.self.view_is (c.in_ok-last.ensures.read_back was clean1) in
+    on_any c.run_behind.result (subst (λ n. HoldsRun (run_in (at c.args.self.now).now.trees) n) is read_back)
 
 pub returns-clause-damaged : goal.returns-clause-damaged
 returns-clause-damaged g c = λ ready clean damaged. absurd (IfErr-at_err (λ e. e ≢ Damaged) damaged c.run_behind.ensures.undamaged refl)

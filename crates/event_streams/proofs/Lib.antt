@@ -1,0 +1,4 @@
+pub mod Standing
+pub mod Receiving
+pub mod Keeping
+pub mod Histories

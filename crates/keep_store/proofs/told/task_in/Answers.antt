@@ -1,9 +1,0 @@
-use Rattle.std.proofs.Common.{◌≡◌, Some}
-use Rattle.record_text.specs.Reading.{task_in}
-use Rattle.record_saves.proofs.ToldLemmas.{told_from}
-use Rattle.keep_store.proofs.told.task_in.Goals as goal
-
-pub returns-clause-told : goal.returns-clause-told
-returns-clause-told c =
-    let read : task_in _ ≡ Some c.in_ok-task.task = rw c.as_str.ensures.value at c.in_ok-task.ensures.told in
-    told_from c.args.row.now _ _ _ c.in_ok-task.task c.in_ok-run.ensures c.in_ok-number.ensures c.in_ok-body.ensures read (cc) (cc)

@@ -1,6 +1,0 @@
-use Rattle.std.proofs.Common.{◌≡◌, fold}
-use Rattle.master_calls.specs.Reconciles.{tells_held}
-use Rattle.master_calls.proofs.on_reconcile.tell_all.Given as goal
-
-abbrev pub invariant-loop-held : goal.invariant-loop-held
-invariant-loop-held l = l.state ≡ fold (tells_held l.stream) l.fn.state l.yielded

@@ -1,6 +1,0 @@
-use Rattle.std.proofs.Common.{◌≡◌, ◌++◌, take, flat_map}
-use Rattle.master_mails.specs.Tells.{loss_of}
-use Rattle.master_mails.proofs.tell.tell_losses.Given as goal
-
-abbrev pub invariant-loop-task : goal.invariant-loop-task
-invariant-loop-task l = l.events ≡ l.fn.events ++ flat_map (loss_of l.frameworks l.agent l.reported) (take l.task-index l.tasks)

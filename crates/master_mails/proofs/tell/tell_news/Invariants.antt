@@ -1,6 +1,0 @@
-use Rattle.std.proofs.Common.{◌≡◌, ◌++◌, take, flat_map}
-use Rattle.master_mails.specs.Tells.{news}
-use Rattle.master_mails.proofs.tell.tell_news.Given as goal
-
-abbrev pub invariant-loop-task : goal.invariant-loop-task
-invariant-loop-task l = l.events ≡ l.fn.events ++ flat_map (news l.frameworks l.agent l.update) (take l.task-index l.tasks)

@@ -1,6 +1,0 @@
-use Rattle.std.proofs.Common.{◌≡◌, ◌++◌, take, flat_map}
-use Rattle.master_mails.specs.Tells.{rescind_of}
-use Rattle.master_mails.proofs.tell.tell_rescinds.Given as goal
-
-abbrev pub invariant-loop-offer : goal.invariant-loop-offer
-invariant-loop-offer l = l.events ≡ l.fn.events ++ flat_map (rescind_of l.frameworks) (take l.offer-index l.offers)
