@@ -19,7 +19,7 @@ at_same a b = grind (arith, nat_tests)
 same_self : (a : Numbered) → same a a ≡ true
 same_self a = grind (arith, nat_tests)
 
-same_is : (a b : Numbered) → same a b ≡ true → a ≡ b
+pub same_is : (a b : Numbered) → same a b ≡ true → a ≡ b
 same_is a b h =
     let n : a.n ≡ b.n = grind (arith, nat_tests) in
     let run : a.run ≡ b.run = grind (arith, nat_tests) in

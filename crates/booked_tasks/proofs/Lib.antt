@@ -1,3 +1,5 @@
 pub mod Keys
-pub mod Sums
+pub mod Unended
 pub mod ByFramework
+pub mod Places
+pub mod FrameworkSums

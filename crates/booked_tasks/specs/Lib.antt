@@ -1,3 +1,4 @@
 pub mod Tasks
 pub mod Used
 pub mod Launches
+pub mod Sums

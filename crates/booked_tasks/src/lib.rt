@@ -3,7 +3,9 @@
 #![tactic(auto)]
 
 mod launches;
+mod sums;
 mod tasks;
 mod used;
 
+pub use sums::FrameworkSum;
 pub use tasks::{TaskUpdate, Tasks};

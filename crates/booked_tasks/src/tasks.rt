@@ -7,9 +7,11 @@ ghost use Rattle.std.specs.Option.{option_copied};
 ghost use Rattle.id_spans.specs.Spans.{AreRisingIfTold, IsSpan};
 ghost use Rattle.booked_tasks.specs.Tasks.{has_tasks_of, has_key, key_of, ended, is_acknowledged, is_gone};
 ghost use Rattle.booked_tasks.specs.Used.{IsSum};
+ghost use Rattle.booked_tasks.specs.Sums.{AreSums};
 ghost use Rattle.booked_tasks.specs.Launches.{AreKeys, HasTasksIfKnown, has_launched, is_task_of, tasks_of};
 
 use crate::launches::{self, Launches};
+use crate::sums::{self, FrameworkSum, Sums};
 use crate::used;
 use id_spans::{Span, are_rising, goes_on_rising, span_of};
 use listed::Listed;
@@ -24,6 +26,8 @@ pub struct Tasks {
     items: Vec<Booked>,
     /// The sum of what the tasks use that haven't ended, where it is known.
     sum: Option<Resources>,
+    /// The same for each framework, where it is known.
+    sums: Option<Sums>,
     /// Whether it is known that keys rise from task to task, as they do where each was booked
     /// after the one before.
     are_rising: bool,
@@ -37,6 +41,7 @@ impl Drop for Tasks {
         let Tasks {
             items: _,
             sum: _,
+            sums: _,
             are_rising: _,
             launches: _,
         } = self;
@@ -50,6 +55,7 @@ impl Model for Tasks {
     ghost use Rattle.booked_tasks.specs.Tasks.{key_of};
     ghost use Rattle.booked_tasks.specs.Used.{IsSumIfKnown};
     ghost use Rattle.booked_tasks.specs.Launches.{HasTasksIfKnown};
+    ghost use Rattle.booked_tasks.specs.Sums.{AreSumsIfKnown};
 
     ghost Value = { List Booked };
 
@@ -57,7 +63,8 @@ impl Model for Tasks {
 
     ghost invariant = { λ tasks. IsSumIfKnown tasks.sum tasks.items.items
         × AreRisingIfTold key_of tasks.are_rising tasks.items.items
-        × HasTasksIfKnown tasks.launches tasks.items.items };
+        × HasTasksIfKnown tasks.launches tasks.items.items
+        × AreSumsIfKnown tasks.sums tasks.items.items };
 }
 
 fn has_key(task: &Booked, key: LaunchKey) -> bool
@@ -346,6 +353,7 @@ impl Tasks {
         Tasks {
             items: Vec::new(alloc),
             sum: Some(Resources::new(alloc)),
+            sums: Some(Sums::new(alloc)),
             are_rising: true,
             launches: None,
         }
@@ -356,11 +364,13 @@ impl Tasks {
         ensures { result ≡ tasks }
     {
         let sum = used::sum_of(alloc, tasks.as_slice());
+        let sums = sums::sums_of(alloc, tasks.as_slice());
         let are_rising = are_rising(tasks.as_slice());
         let launches = launches::launches_of(alloc, tasks.as_slice());
         Tasks {
             items: tasks.into_vec(),
             sum,
+            sums,
             are_rising,
             launches,
         }
@@ -379,6 +389,16 @@ impl Tasks {
         ensures { IfSome result (λ sum. IsSum sum.now self.now) }
     {
         self.sum.as_ref()
+    }
+
+    /// The sums of what each framework's tasks use that haven't ended, in rising order of
+    /// framework ids. `None` where memory was refused for them, or where one is past the limits of
+    /// resources, until a task is booked.
+    pub fn framework_sums(&self) -> Option<&[FrameworkSum]>
+        ensures { IfSome result (λ sums. AreSums sums.now self.now) }
+    {
+        let sums = self.sums.as_ref()?;
+        Some(sums.as_slice())
     }
 
     /// Tasks among which are all that have this key, in order, and where keys rise from task to
@@ -486,10 +506,12 @@ impl Tasks {
     {
         let known = self.sum.take();
         let sum = used::sum_with(alloc, known, &self.items, &task);
+        let sums = sums::sums_with(alloc, self.sums.take(), &self.items, &task);
         let are_rising = goes_on_rising(&self.items, self.are_rising, &task);
         let launches = launches::with_task(alloc, self.launches.take(), &self.items, &task);
         self.items.push(task)?;
         self.sum = sum;
+        self.sums = sums;
         self.are_rising = are_rising;
         self.launches = launches;
         Ok(())
@@ -501,6 +523,7 @@ impl Tasks {
     {
         let span = span_of(&self.items, self.are_rising, &key);
         self.sum = used::without_key(self.sum.take(), &self.items, span, key);
+        self.sums = sums::without_key(self.sums.take(), &self.items, span, key);
         end_in(&mut self.items, span, key);
     }
 
@@ -510,6 +533,7 @@ impl Tasks {
     {
         let span = span_of(&self.items, self.are_rising, &key);
         self.sum = used::without_key(self.sum.take(), &self.items, span, key);
+        self.sums = sums::without_key(self.sums.take(), &self.items, span, key);
         let are_rising = self.are_rising;
         forget_key(&mut self.items, &mut self.launches, are_rising, key, None);
     }
@@ -523,6 +547,7 @@ impl Tasks {
     {
         let span = span_of(&self.items, self.are_rising, &update.key);
         self.sum = used::after_update(self.sum.take(), &self.items, span, update);
+        self.sums = sums::after_update(self.sums.take(), &self.items, span, update);
         receive_in(&mut self.items, span, update);
     }
 
@@ -532,6 +557,7 @@ impl Tasks {
         ensures { self.new ≡ forget_all commands.now self.old }
     {
         self.sum = used::after_commands(self.sum.take(), commands);
+        self.sums = sums::after_commands(self.sums.take(), &self.items, commands);
         let are_rising = self.are_rising;
         forget_all(&mut self.items, &mut self.launches, are_rising, commands);
     }

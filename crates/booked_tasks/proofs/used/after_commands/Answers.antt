@@ -1,5 +1,5 @@
 use Rattle.std.proofs.Common.{sym, ◌∙◌}
-use Rattle.booked_tasks.proofs.Sums.{sum_after}
+use Rattle.booked_tasks.proofs.Unended.{sum_after}
 use Rattle.booked_tasks.proofs.used.after_commands.Goals as goal
 
 pub returns-else-any_ends_framework : goal.returns-else-any_ends_framework

@@ -1,4 +1,4 @@
-use Rattle.booked_tasks.proofs.Sums.{sum_going}
+use Rattle.booked_tasks.proofs.Unended.{sum_going}
 use Rattle.booked_tasks.proofs.used.after_update.Goals as goal
 
 pub returns-else-update : goal.returns-else-update

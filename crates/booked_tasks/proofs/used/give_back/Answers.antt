@@ -1,4 +1,4 @@
-use Rattle.booked_tasks.proofs.Sums.{freed_turn}
+use Rattle.booked_tasks.proofs.Unended.{freed_turn}
 use Rattle.booked_tasks.proofs.used.give_back.Goals as goal
 
 pub loop-task-preserved : goal.loop-task-preserved

@@ -1,4 +1,4 @@
-use Rattle.booked_tasks.proofs.Sums.{sum_turn}
+use Rattle.booked_tasks.proofs.Unended.{sum_turn}
 use Rattle.booked_tasks.proofs.used.sum_of.Goals as goal
 
 pub loop-task-preserved : goal.loop-task-preserved

@@ -1,4 +1,4 @@
-use Rattle.booked_tasks.proofs.Sums.{sum_known_more}
+use Rattle.booked_tasks.proofs.Unended.{sum_known_more}
 use Rattle.booked_tasks.proofs.used.sum_with.Goals as goal
 
 pub returns : goal.returns

@@ -3,7 +3,7 @@ use Rattle.quantity.specs.Rows.{IsMinus}
 use Rattle.id_spans.proofs.Spans.{flat_part}
 use Rattle.booked_tasks.specs.Tasks.{has_key}
 use Rattle.booked_tasks.specs.Used.{IsSum, IsSumIfKnown, freed_rows}
-use Rattle.booked_tasks.proofs.Sums.{other_frees_none, sum_ended, sum_received, sum_forgotten}
+use Rattle.booked_tasks.proofs.Unended.{other_frees_none, sum_ended, sum_received, sum_forgotten}
 use Rattle.booked_tasks.proofs.used.without_key.Goals as goal
 
 pub returns-clause-ended : goal.returns-clause-ended

@@ -11,4 +11,5 @@ invariant_of-self c =
       rw c.deref-2.ensures.value at c.without_key.ensures.ended,
       λ told. rising_map key_of (ended c.args.key) (ended_key c.args.key) tasks (c.self.invariant.1 told),
       known_map c.self.inside.launches (ended c.args.key) (ended_job c.args.key) tasks c.self.invariant.2,
+      rw c.deref-3.ensures.value at c.without_key-2.ensures.ended,
     )

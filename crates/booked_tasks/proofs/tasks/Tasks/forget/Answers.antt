@@ -5,4 +5,5 @@ invariant_of-self c = (
   rw c.forget_key.ensures.forgotten (rw c.deref-2.ensures.value at c.without_key.ensures.forgotten),
   c.forget_key.ensures.rising,
   c.forget_key.ensures.among,
+  rw c.forget_key.ensures.forgotten (rw c.deref-3.ensures.value at c.without_key-2.ensures.forgotten),
 )

@@ -13,4 +13,5 @@ invariant_of-self c =
       rw c.deref-2.ensures.value at c.after_update.ensures,
       λ told. rising_map key_of (received_update u.key u.k u.state u.ended) (received_key u.key u.k u.state u.ended) tasks (c.self.invariant.1 told),
       known_map c.self.inside.launches (received_update u.key u.k u.state u.ended) (received_job u.key u.k u.state u.ended) tasks c.self.invariant.2,
+      rw c.deref-3.ensures.value at c.after_update-2.ensures,
     )
