@@ -13,5 +13,9 @@ pub mod KeptShares
 pub mod ChangedShares
 pub mod ByFractions
 pub mod Nothing
-pub mod Restarting
-pub mod Renewing
+pub mod Reweighing
+pub mod AllocationRows
+pub mod Shown
+pub mod Less
+pub mod Registering
+pub mod Counting

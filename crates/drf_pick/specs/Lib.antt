@@ -5,4 +5,5 @@ pub mod Least
 pub mod Orders
 pub mod Laws
 pub mod ClientShares
-pub mod Renewing
+pub mod Allocations
+pub mod Shown

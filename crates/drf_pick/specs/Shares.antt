@@ -126,21 +126,13 @@ returned framework rows t = record t {
   roles = returned_roles rows (find (is_holder framework) t.holders) t.roles;
 }
 
--- shares that start anew
-
-abbrev pub emptied : Holder → Holder
-emptied h = record h { held = [] }
+-- each role has its weight from now on
 
 abbrev pub reweighed : List RoleWeight → RoleSum → RoleSum
-reweighed weights r = record r { held = []; weight = weight_of weights r.role }
+reweighed weights r = record r { weight = weight_of weights r.role }
 
--- those that are known hold nothing, agents own this together, and each role has its weight
-abbrev pub restarted : List RoleWeight → List Row → Tally → Tally
-restarted weights totals t = record {
-  totals = totals;
-  holders = map emptied t.holders;
-  roles = map (reweighed weights) t.roles;
-}
+abbrev pub all_weighed : List RoleWeight → Tally → Tally
+all_weighed weights t = record t { roles = map (reweighed weights) t.roles }
 
 -- no framework is listed twice
 abbrev pub HoldersOnce : List Holder → Type 0

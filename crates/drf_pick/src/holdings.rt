@@ -1,12 +1,10 @@
 //! What frameworks and roles hold, and what all agents own.
 
-ghost use Rattle.std.specs.Prelude.{◌≡◌, ◌<◌, ◌++◌, ◌∷◌, [], ℕ, List, length, map, true, false, Some, Err, OnOk, OnErr, is_some};
+ghost use Rattle.std.specs.Prelude.{◌≡◌, ◌++◌, ◌∷◌, [], ℕ, List, true, false, Some, Err, OnOk, OnErr, is_some};
 ghost use Rattle.std.specs.List.{find, position};
 ghost use Rattle.std.specs.Option.{option_copied};
 ghost use Rattle.role_weights.specs.Weights.{IsWeight};
-ghost use Rattle.drf_pick.specs.Shares.{AreUpTo, Holder, HoldersOnce, emptied, restarted, is_behind, is_holder, is_role, given_holders, given_roles, given, holder_of, with_totals, roles_with, weighed, with_role, holder_has, can_back, returned_holders, returned_roles, returned};
-ghost use Rattle.drf_pick.specs.Renewing.{AreNothing, HoldNothingBut};
-ghost use Rattle.share_sums.specs.Lists.{Among};
+ghost use Rattle.drf_pick.specs.Shares.{AreUpTo, Holder, HoldersOnce, all_weighed, is_behind, is_holder, is_role, given_holders, given_roles, given, holder_of, with_totals, roles_with, weighed, with_role, holder_has, can_back, returned_holders, returned_roles, returned};
 
 use crate::holder::Holder;
 use crate::roles::Roles;
@@ -14,10 +12,9 @@ use names_core::{FrameworkId, RoleName};
 use plain_data::Plain;
 use quantity::Resources;
 use role_weights::Weights;
-use share_sums::{Fraction, SharesFault, Sum};
+use share_sums::{SharesFault, Sum};
 use std::alloc::{AllocError, Global};
 use std::marker::Model;
-use std::mem;
 
 /// The sum of what agents own, and the sums of what frameworks and roles hold of it.
 /// No dominant share is known while it is counted.
@@ -30,23 +27,16 @@ pub struct Holdings {
     roles: Roles,
     /// For each holder the place of its role. It is tried first; no answer depends on it.
     role_places: Vec<usize>,
-    /// The places of the holders whose sums were increased since nobody held anything. No other
-    /// holder holds anything.
-    given: Vec<usize>,
-    /// Fractions, each nothing, for the holders' shares that are made next.
-    fractions: Vec<Fraction>,
 }
 
 impl Model for Holdings {
     ghost use Rattle.drf_pick.specs.Shares.{AreUpTo, Tally, HoldersOnce};
-    ghost use Rattle.drf_pick.specs.Renewing.{AreNothing, HoldNothingBut};
 
     ghost Value = { Tally };
 
     ghost view = { λ s. record { totals = s.totals; holders = s.holders.items; roles = s.roles } };
 
-    ghost invariant = { λ s. (AreUpTo s.last s.holders.items × HoldersOnce s.holders.items)
-        × (HoldNothingBut s.given.items s.holders.items × AreNothing s.fractions.items) };
+    ghost invariant = { λ s. AreUpTo s.last s.holders.items × HoldersOnce s.holders.items };
 }
 
 /// The place of a framework's holder. It is found by halving where the holders are in the order of
@@ -119,20 +109,6 @@ fn guess_at(role_places: &[usize], place: usize) -> usize {
     role_places.get(place).copied().unwrap_or(0)
 }
 
-/// Stores the place of a holder whose sum is about to increase. It is stored already where the
-/// holder holds something.
-fn note(given: &mut Vec<usize>, holders: &[Holder], place: usize) -> Result<(), AllocError>
-    requires within { place < length holders.now }
-    requires given { HoldNothingBut given.old.items holders.now }
-    ensures given { HoldNothingBut given.new.items holders.now }
-    ensures noted { OnOk result (Among place given.new.items) }
-{
-    if holders[place].held.rows().is_empty() {
-        given.push(place)?;
-    }
-    Ok(())
-}
-
 fn give_in(
     holders: &mut Vec<Holder>,
     roles: &mut Roles,
@@ -201,24 +177,6 @@ fn back_in(
     }
 }
 
-fn empty_one(holder: &mut Holder, alloc: Global)
-    ensures { holder.new ≡ emptied holder.old }
-{
-    holder.held = Sum::new(alloc);
-}
-
-/// No holder holds anything any more; only those at these places held something.
-fn empty_all(holders: &mut Vec<Holder>, alloc: Global, given: &[usize])
-    requires { HoldNothingBut given.now holders.old.items }
-    ensures { holders.new.items ≡ map emptied holders.old.items }
-{
-    for place in given {
-        if *place < holders.len() {
-            empty_one(&mut holders[*place], alloc);
-        }
-    }
-}
-
 /// The likely place of the role of the last holder.
 fn last_place(role_places: &[usize]) -> usize {
     role_places.last().copied().unwrap_or(0)
@@ -280,8 +238,6 @@ impl Holdings {
             last: None,
             roles: Roles::new(alloc),
             role_places: Vec::new(alloc),
-            given: Vec::new(alloc),
-            fractions: Vec::new(alloc),
         }
     }
 
@@ -303,29 +259,6 @@ impl Holdings {
         &self.roles
     }
 
-    /// The places of the holders whose sums were increased since nobody held anything.
-    pub(crate) fn given(&self) -> &[usize]
-        ensures { HoldNothingBut result.now self.now.holders }
-    {
-        self.given.as_slice()
-    }
-
-    /// Takes out the fractions that were kept. Each is nothing.
-    pub(crate) fn take_fractions(&mut self, alloc: Global) -> Vec<Fraction>
-        ensures fractions { AreNothing result.items }
-        ensures same { self.new ≡ self.old }
-    {
-        mem::replace(&mut self.fractions, Vec::new(alloc))
-    }
-
-    /// Keeps these fractions for the shares that are made next.
-    pub(crate) fn keep_fractions(&mut self, fractions: Vec<Fraction>)
-        requires { AreNothing fractions.items }
-        ensures { self.new ≡ self.old }
-    {
-        self.fractions = fractions;
-    }
-
     /// The place of a framework's holder. It is found at once where the guess is right.
     pub(crate) fn place(&self, guess: usize, framework: FrameworkId) -> Option<usize>
         ensures { result ≡ position (is_holder framework) self.now.holders }
@@ -340,16 +273,11 @@ impl Holdings {
         self.roles.place(guess_at(&self.role_places, holder), role)
     }
 
-    /// Nobody holds anything any more, agents own this together, and each role has its weight among
-    /// these. The frameworks stay known. It takes no memory, and time only for the holders whose
-    /// sums were increased since nobody held anything, and for each role.
-    pub fn restart(&mut self, alloc: Global, totals: Sum, weights: &Weights)
-        ensures { self.new ≡ restarted weights.now totals self.old }
+    /// Each role has its weight among these from now on. It takes no memory.
+    pub(crate) fn reweigh(&mut self, weights: &Weights)
+        ensures { self.new ≡ all_weighed weights.now self.old }
     {
-        empty_all(&mut self.holders, alloc, &self.given);
-        self.given.clear();
-        self.roles.restart(alloc, weights);
-        self.totals = totals;
+        self.roles.reweigh(weights);
     }
 
     /// Agents own this together.
@@ -413,7 +341,6 @@ impl Holdings {
         let Some(place) = holder_place(&self.holders, framework) else {
             return Ok(());
         };
-        note(&mut self.given, &self.holders, place)?;
         give_in(
             &mut self.holders,
             &mut self.roles,

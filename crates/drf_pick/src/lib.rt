@@ -2,6 +2,7 @@
 #![tactic(auto)]
 
 mod client_share;
+mod counted;
 mod fractions;
 mod holder;
 mod holdings;
@@ -11,8 +12,8 @@ mod roles;
 mod shares;
 
 pub use client_share::{ClientPlace, ClientShare};
+pub use counted::{Allocation, CountedShares, Found};
 pub use holder::{Client, Holder, RoleSum};
-pub use holdings::Holdings;
 pub use laws::{amounts_decide, picks_least, standing_is_order, sums_add, test_is_relation};
 pub use least::{comes_before, pick};
 pub use share_sums::{SharesFault, Sum};

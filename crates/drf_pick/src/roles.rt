@@ -98,21 +98,20 @@ fn push_sum(sums: &mut Vec<RoleSum>, alloc: Global, role: &RoleName) -> Result<(
     Ok(())
 }
 
-fn reweigh_one(sum: &mut RoleSum, alloc: Global, weights: &Weights)
+fn reweigh_one(sum: &mut RoleSum, weights: &Weights)
     ensures sum { sum.new ≡ reweighed weights.now sum.old }
     ensures some { 0 < sum.new.weight }
 {
-    sum.held = Sum::new(alloc);
     sum.weight = weights.of(&sum.role);
 }
 
-fn reweigh_all(sums: &mut Vec<RoleSum>, alloc: Global, weights: &Weights)
+fn reweigh_all(sums: &mut Vec<RoleSum>, weights: &Weights)
     requires { AreWeighed sums.old.items }
     ensures sums { sums.new.items ≡ map (reweighed weights.now) sums.old.items }
     ensures weighed { AreWeighed sums.new.items }
 {
     for place in 0..sums.len() {
-        reweigh_one(&mut sums[place], alloc, weights);
+        reweigh_one(&mut sums[place], weights);
     }
 }
 
@@ -201,11 +200,11 @@ impl Roles {
         weigh_at(&mut self.sums, place, role, weight);
     }
 
-    /// Nothing is held, and each role has its weight among these. It takes no memory.
-    pub fn restart(&mut self, alloc: Global, weights: &Weights)
+    /// Each role has its weight among these from now on. It takes no memory.
+    pub fn reweigh(&mut self, weights: &Weights)
         ensures { self.new ≡ map (reweighed weights.now) self.old }
     {
-        reweigh_all(&mut self.sums, alloc, weights);
+        reweigh_all(&mut self.sums, weights);
     }
 
     /// One that isn't known is added.

@@ -1,15 +1,19 @@
 //! Dominant shares of what frameworks and roles hold.
 
-ghost use Rattle.std.specs.Prelude.{◌≡◌, [], true, false, Err, OnOk, OnErr, IfOk, IfErr};
+ghost use Rattle.std.specs.Prelude.{◌≡◌, [], true, false, Err, OnOk, OnErr, IfErr, IfSome, is_some};
 ghost use Rattle.std.specs.List.{find};
 ghost use Rattle.role_weights.specs.Weights.{IsWeight};
 ghost use Rattle.drf_pick.specs.Fractions.{OfHolders, OfOthers, OfOtherRoles, OfRoles, OfRolesBut};
-ghost use Rattle.drf_pick.specs.Shares.{is_holder, entered, given, with_totals, weighed, with_role, can_leave, departed, can_back, returned};
+ghost use Rattle.share_sums.specs.Sums.{IsSum};
+ghost use Rattle.drf_pick.specs.Shown.{HoldSums};
+ghost use Rattle.drf_pick.specs.Shares.{all_weighed, is_holder, is_role, entered, given, with_totals, weighed, with_role, can_leave, departed, can_back, returned};
 
-use crate::fractions::{clear_at, keep_nothing, of_given, of_holders, of_roles};
+use crate::fractions::{keep_nothing, of_holders, of_roles};
 use crate::holdings::Holdings;
 use names_core::{FrameworkId, RoleName};
+use plain_data::are_same;
 use quantity::Resources;
+use role_weights::Weights;
 use share_sums::{Fraction, SharesFault, Sum};
 use std::alloc::{AllocError, Global};
 use std::marker::Model;
@@ -72,6 +76,16 @@ fn renew_of(
     renew_role(role_fractions, holdings, place, &holder.role);
 }
 
+/// What a role holds, if it is known, is a sum. It is likely to be the role of the holder at a
+/// place.
+fn is_role_sum(holdings: &Holdings, holder: usize, role: &RoleName)
+    ensures { IfSome (find (is_role role.now) holdings.now.roles) (λ r. IsSum r.held) }
+{
+    if let Some(place) = holdings.role_place(holder, role) {
+        let _held = holdings.roles().as_slice()[place].held.rows();
+    }
+}
+
 impl Shares {
     /// Nothing is owned, and nobody holds anything. It takes no memory.
     pub fn new(alloc: Global) -> Shares
@@ -84,41 +98,8 @@ impl Shares {
         }
     }
 
-    /// The shares of what is held. It takes time only for the holders whose sums were increased
-    /// since nobody held anything, for frameworks that are new, and for each role.
-    pub fn of(alloc: Global, holdings: Holdings) -> Result<Shares, AllocError>
-        ensures { IfOk result (λ shares. shares ≡ holdings) }
-    {
-        let mut holdings = holdings;
-        let kept = holdings.take_fractions(alloc);
-        let totals = holdings.totals();
-        let fractions = of_given(kept, totals, holdings.holders(), holdings.given())?;
-        let role_fractions = of_roles(alloc, totals, holdings.roles().as_slice())?;
-        Ok(Shares {
-            holdings,
-            fractions,
-            role_fractions,
-        })
-    }
-
-    /// What is held, without shares. It takes no memory, and time only for the holders whose sums
-    /// were increased since nobody held anything.
-    pub fn into_holdings(self) -> Holdings
-        ensures { result ≡ self }
-    {
-        let Shares {
-            mut holdings,
-            mut fractions,
-            ..
-        } = self;
-        fractions.truncate(holdings.holders().len());
-        clear_at(&mut fractions, holdings.given());
-        holdings.keep_fractions(fractions);
-        holdings
-    }
-
-    /// Agents own this together. A refusal changes nothing.
-    fn own(&mut self, alloc: Global, totals: Sum) -> Result<(), AllocError>
+    /// Agents own this together. Each dominant share is made anew. A refusal changes nothing.
+    fn renew(&mut self, alloc: Global, totals: Sum) -> Result<(), AllocError>
         ensures ok { OnOk result (self.new ≡ with_totals totals self.old) }
         ensures err { OnErr result (self.new ≡ self.old) }
     {
@@ -130,6 +111,40 @@ impl Shares {
         Ok(())
     }
 
+    /// Agents own this together. Dominant shares are made anew only where that is another sum than
+    /// before. A refusal changes nothing.
+    pub fn own(&mut self, alloc: Global, totals: Sum) -> Result<(), AllocError>
+        ensures ok { OnOk result (self.new ≡ with_totals totals self.old) }
+        ensures err { OnErr result (self.new ≡ self.old) }
+    {
+        if are_same(self.holdings.totals().rows(), totals.rows()) {
+            return Ok(());
+        }
+        self.renew(alloc, totals)
+    }
+
+    /// Whether a framework is registered.
+    pub fn is_registered(&self, framework: FrameworkId) -> bool
+        ensures registered { result ≡ is_some (find (is_holder framework) self.now.holders) }
+        ensures sums { HoldSums framework self.now }
+    {
+        let holders = self.holdings.holders();
+        let Some(place) = self.holdings.place(holders.len(), framework) else {
+            return false;
+        };
+        let holder = &holders[place];
+        let _held = holder.held.rows();
+        is_role_sum(&self.holdings, place, &holder.role);
+        true
+    }
+
+    /// Each role has its weight among these from now on. It takes no memory.
+    pub fn reweigh(&mut self, weights: &Weights)
+        ensures { self.new ≡ all_weighed weights.now self.old }
+    {
+        self.holdings.reweigh(weights);
+    }
+
     /// An agent owns this. `P2 OutOfMemory` changes nothing.
     pub fn enter(&mut self, alloc: Global, total: &Resources) -> Result<(), SharesFault>
         ensures ok { OnOk result (self.new ≡ entered total.now self.old) }
@@ -137,7 +152,7 @@ impl Shares {
         ensures memory { IfErr result (λ fault. fault ≡ SharesFault.OutOfMemory) }
     {
         let totals = self.holdings.totals().plus(alloc, total)?;
-        self.own(alloc, totals)?;
+        self.renew(alloc, totals)?;
         Ok(())
     }
 
@@ -204,7 +219,7 @@ impl Shares {
     {
         match self.holdings.totals().minus(alloc, total) {
             Ok(rest) => {
-                self.own(alloc, rest)?;
+                self.renew(alloc, rest)?;
                 Ok(())
             }
             Err(fault) => Err(fault),

@@ -1,4 +1,4 @@
--- Frameworks with their roles, as shares are told of them.
+-- Frameworks with their roles, as they are registered in shares.
 use Rattle.std.proofs.Common.{◌≡◌, ℕ, suc, ◌<◌, ◌≤◌, Bool, true, false, cond, List, [], ◌∷◌, length, map, take, nat_lt, Option, Some, None, get_or, slice_set, refl, sym, ap, subst, ◌∙◌}
 use Rattle.std.specs.Prelude.{IfSome}
 use Rattle.std.specs.List.{list_all}
@@ -8,8 +8,9 @@ use Rattle.names_core.specs.Ids.{Numbered, before, same}
 use Rattle.mails.specs.declared.framework.Framework.{Framework}
 use Rattle.cluster_model.specs.Masters.{put_framework}
 use Rattle.drf_pick.specs.declared.holder.Client.{Client}
+use Rattle.drf_pick.specs.Shown.{AreCounted}
 use Rattle.frameworks.specs.Frameworks.{KeepsId, are_ordered, ids_of, place_of, roles_of}
-use Rattle.frameworks.specs.LastRound.{IsOfFirst, Remembers, client_of, clients_of}
+use Rattle.frameworks.specs.LastRound.{IsOfFirst, client_of, clients_of}
 use Rattle.frameworks.specs.declared.last_round.LastRound.{LastRound}
 use Rattle.frameworks.proofs.Ordered.{both_true, ids_set, put_at, put_later}
 use Rattle.frameworks.proofs.Leading.{same_itself}
@@ -35,25 +36,25 @@ clients_kept : (change : Framework → Framework) (fs : List Framework) → Keep
 clients_kept change [] ids roles = refl
 clients_kept change (f ∷ fs) ids roles = rw (ids f, roles f) (ap (λ (cs : List Client). client_of f ∷ cs) (clients_kept change fs ids roles))
 
--- what shares were told of
+-- the first ones are registered in the shares that are kept
 
 first_clients : (n : ℕ) (fs gs : List Framework) → clients_of gs ≡ clients_of fs → clients_of (take n gs) ≡ clients_of (take n fs)
 first_clients n fs gs e = sym (take-map client_of n gs) ∙ ap (take n) e ∙ take-map client_of n fs
 
-told_of : (fs gs : List Framework) (last_round : LastRound) (o : Option _) → last_round.holdings ≡ o → clients_of (take last_round.count gs) ≡ clients_of (take last_round.count fs)
-    → IfSome o (Remembers (clients_of (take last_round.count fs))) → IfSome o (Remembers (clients_of (take last_round.count gs)))
-told_of fs gs last_round None h e is = tt
-told_of fs gs last_round (Some t) h e is = subst (λ (cs : List Client). Remembers cs t) (sym e) is
+first_of : (fs gs : List Framework) (last_round : LastRound) (o : Option _) → last_round.shares ≡ o → clients_of (take last_round.count gs) ≡ clients_of (take last_round.count fs)
+    → IfSome o (AreCounted (clients_of (take last_round.count fs))) → IfSome o (AreCounted (clients_of (take last_round.count gs)))
+first_of fs gs last_round None h e is = tt
+first_of fs gs last_round (Some t) h e is = subst (λ (cs : List Client). AreCounted cs t) (sym e) is
 
-pub told_alike : (fs gs : List Framework) (last_round : LastRound) → clients_of gs ≡ clients_of fs → IsOfFirst fs last_round → IsOfFirst gs last_round
-told_alike fs gs last_round e is = told_of fs gs last_round last_round.holdings refl (first_clients last_round.count fs gs e) is
+pub first_alike_are : (fs gs : List Framework) (last_round : LastRound) → clients_of gs ≡ clients_of fs → IsOfFirst fs last_round → IsOfFirst gs last_round
+first_alike_are fs gs last_round e is = first_of fs gs last_round last_round.shares refl (first_clients last_round.count fs gs e) is
 
-pub told_kept : (change : Framework → Framework) (fs : List Framework) (last_round : LastRound) → KeepsId change → KeepsRole change → IsOfFirst fs last_round → IsOfFirst (map change fs) last_round
-told_kept change fs last_round ids roles is = told_alike fs (map change fs) last_round (clients_kept change fs ids roles) is
+pub first_kept : (change : Framework → Framework) (fs : List Framework) (last_round : LastRound) → KeepsId change → KeepsRole change → IsOfFirst fs last_round → IsOfFirst (map change fs) last_round
+first_kept change fs last_round ids roles is = first_alike_are fs (map change fs) last_round (clients_kept change fs ids roles) is
 
 -- with others from a place on
-pub told_front : (fs gs : List Framework) (place : ℕ) (last_round : LastRound) → last_round.count ≤ place → take place gs ≡ take place fs → IsOfFirst fs last_round → IsOfFirst gs last_round
-told_front fs gs place last_round few e is = told_of fs gs last_round last_round.holdings refl (ap clients_of (first_alike fs gs last_round.count place few e)) is
+pub first_in_front : (fs gs : List Framework) (place : ℕ) (last_round : LastRound) → last_round.count ≤ place → take place gs ≡ take place fs → IsOfFirst fs last_round → IsOfFirst gs last_round
+first_in_front fs gs place last_round few e is = first_of fs gs last_round last_round.shares refl (ap clients_of (first_alike fs gs last_round.count place few e)) is
 
 -- where a framework is put
 

@@ -1,42 +1,42 @@
 //! Shares that are kept from one round to the next.
 
-ghost use Rattle.std.specs.Prelude.{◌≡◌, ◌≤◌, true, None, Some, List, take, length};
+ghost use Rattle.std.specs.Prelude.{◌≡◌, ◌≤◌, true, None, Some, List, take, length, IfSome};
 ghost use Rattle.mails.specs.declared.framework.Framework as model;
 ghost use Rattle.cluster_model.specs.Masters.{put_framework};
+ghost use Rattle.drf_pick.specs.Shown.{AreCounted};
 ghost use Rattle.frameworks.specs.Frameworks.{are_ordered};
-ghost use Rattle.frameworks.specs.LastRound.{IsOfFirst, Remembers, clients_of};
+ghost use Rattle.frameworks.specs.LastRound.{IsOfFirst, clients_of};
 
 use crate::look::{has_client, place_in};
-use drf_pick::Holdings;
+use drf_pick::CountedShares;
 use mails::Framework;
 use names_core::{FrameworkId, RoleName};
-use std::alloc::Global;
 use std::mem;
 
-/// What frameworks held in the round before, and how many of the first ones are registered in it.
+/// The shares of the round before, and how many of the first frameworks are registered in them.
 #[derive(Drop)]
 pub(crate) struct LastRound {
-    /// None where a round has it, and where a framework that is registered in it has another role
-    /// or place since.
-    holdings: Option<Holdings>,
+    /// None where a round has them, and where a framework that is registered in them has another
+    /// role or place since.
+    shares: Option<CountedShares>,
     count: usize,
 }
 
 impl LastRound {
     pub(crate) fn nothing() -> LastRound
-        ensures { result.holdings ≡ None }
+        ensures { result.shares ≡ None }
     {
         LastRound {
-            holdings: None,
+            shares: None,
             count: 0,
         }
     }
 
-    pub(crate) fn of(holdings: Holdings, count: usize) -> LastRound
-        ensures { result ≡ record { holdings = Some holdings; count = count } }
+    pub(crate) fn of(shares: CountedShares, count: usize) -> LastRound
+        ensures { result ≡ record { shares = Some shares; count = count } }
     {
         LastRound {
-            holdings: Some(holdings),
+            shares: Some(shares),
             count,
         }
     }
@@ -47,12 +47,12 @@ impl LastRound {
             → IsOfFirst fs self.old → IsOfFirst gs self.new }
     {
         if place < self.count {
-            self.holdings = None;
+            self.shares = None;
         }
     }
 
-    /// A framework of this id and role is about to be inserted at its place: holdings in which
-    /// another is registered there are dropped.
+    /// A framework of this id and role is about to be inserted at its place: shares in which another
+    /// is registered there are dropped.
     pub(crate) fn cut_for(&mut self, frameworks: &[Framework], id: FrameworkId, role: &RoleName)
         requires last_round { IsOfFirst frameworks.now self.old }
         requires ordered { are_ordered frameworks.now ≡ true }
@@ -66,17 +66,14 @@ impl LastRound {
         }
     }
 
-    /// The holdings, and how many of the first frameworks are registered in them; nothing and 0
-    /// where none are kept.
-    pub(crate) fn take(&mut self, alloc: Global, frameworks: &[Framework]) -> (Holdings, usize)
+    /// The shares, if they are kept, and how many of the first frameworks are registered in them.
+    pub(crate) fn take(&mut self, frameworks: &[Framework]) -> (Option<CountedShares>, usize)
         requires { IsOfFirst frameworks.now self.old }
-        ensures last_round { Remembers (clients_of (take result.1 frameworks.now)) result.0 }
+        ensures counted { IfSome result.0 (AreCounted (clients_of (take result.1 frameworks.now))) }
         ensures few { result.1 ≤ length frameworks.now }
-        ensures none { self.new.holdings ≡ None }
+        ensures none { self.new.shares ≡ None }
     {
-        match mem::replace(&mut self.holdings, None) {
-            Some(holdings) => (holdings, self.count.min(frameworks.len())),
-            None => (Holdings::new(alloc), 0),
-        }
+        let count = self.count.min(frameworks.len());
+        (mem::replace(&mut self.shares, None), count)
     }
 }

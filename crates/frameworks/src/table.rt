@@ -1,18 +1,19 @@
 //! The table of frameworks.
 
-ghost use Rattle.std.specs.Prelude.{◌≡◌, ◌≤◌, [], true, map, take, length, option_map, IsTrue, OnOk};
+ghost use Rattle.std.specs.Prelude.{◌≡◌, ◌≤◌, [], true, map, take, length, option_map, IfSome, IsTrue, OnOk};
 ghost use Rattle.std.specs.List.{find};
 ghost use Rattle.cluster_model.specs.Calls.{is_stream};
 ghost use Rattle.cluster_model.specs.Masters.{clear_on, put_framework};
 ghost use Rattle.cluster_model.specs.Mails.{beaten};
 ghost use Rattle.frameworks.specs.Frameworks.{are_ordered, changed, AreOfOneRole, HaveRole, revived, subscriber, suppressed, with_filter, with_id, without_stream};
 ghost use Rattle.frameworks.specs.Starts.{AreStarts};
-ghost use Rattle.frameworks.specs.LastRound.{Remembers, clients_of};
+ghost use Rattle.drf_pick.specs.Shown.{AreCounted};
+ghost use Rattle.frameworks.specs.LastRound.{clients_of};
 
 use crate::last_round::LastRound;
 use crate::starts::Starts;
 use crate::{edit, look, streams};
-use drf_pick::Holdings;
+use drf_pick::CountedShares;
 use listed::Listed;
 use mails::Framework;
 use names_core::{AgentName, FrameworkId, RoleName, StreamId};
@@ -211,22 +212,22 @@ impl Frameworks {
         edit::beat_in(&mut self.items, now);
     }
 
-    /// What frameworks held in the round before, and how many of the first ones are registered in
-    /// it; nothing and 0 where it isn't kept.
-    pub fn take_holdings(&mut self, alloc: Global) -> (Holdings, usize)
-        ensures last_round { Remembers (clients_of (take result.1 self.old)) result.0 }
+    /// The shares of the round before, if they are kept, and how many of the first frameworks are
+    /// registered in them.
+    pub fn take_shares(&mut self) -> (Option<CountedShares>, usize)
+        ensures counted { IfSome result.0 (AreCounted (clients_of (take result.1 self.old))) }
         ensures few { result.1 ≤ length self.old }
         ensures same { self.new ≡ self.old }
     {
-        self.last_round.take(alloc, &self.items)
+        self.last_round.take(&self.items)
     }
 
-    /// Keeps for the next round what all these frameworks hold.
-    pub fn keep_holdings(&mut self, holdings: Holdings)
-        requires { Remembers (clients_of self.old) holdings }
+    /// Keeps for the next round shares in which all these frameworks are registered.
+    pub fn keep_shares(&mut self, shares: CountedShares)
+        requires { AreCounted (clients_of self.old) shares }
         ensures { self.new ≡ self.old }
     {
-        self.last_round = LastRound::of(holdings, self.items.len());
+        self.last_round = LastRound::of(shares, self.items.len());
     }
 
     /// Where the searches of the round before ended.

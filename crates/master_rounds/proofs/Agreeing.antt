@@ -1,6 +1,7 @@
 -- The round of the code is the round of the model.
-use Rattle.std.proofs.Common.{◌≡◌, ℕ, Bool, true, false, List, [], ◌∷◌, ◌++◌, map, fold, length, Option, Some, None, option_map, refl, sym, ap, ◌∙◌, subst}
+use Rattle.std.proofs.Common.{◌≡◌, ℕ, Bool, true, false, List, [], ◌∷◌, ◌++◌, map, fold, length, Option, Some, None, option_map, refl, sym, ap, ◌∙◌, subst, append_assoc}
 use Rattle.std.specs.Prelude.{if◌then◌else◌, nat_lt, ◌≤◌}
+use Rattle.std.specs.List.{find}
 use Rattle.names_core.specs.Ids.{Numbered}
 use Rattle.quantity.specs.declared.rows.Row.{Row}
 use Rattle.cluster_model.specs.Ids.{following, last_number}
@@ -11,9 +12,15 @@ use Rattle.cluster_model.specs.Rounds as rounds
 use Rattle.role_weights.specs.Weights.{RoleWeight}
 use Rattle.cluster_model.specs.Rounds.{Client, Round, clients_of, free, pick, totals_of}
 use Rattle.frameworks.specs.Frameworks.{are_ordered}
-use Rattle.drf_pick.specs.Shares.{Tally, given}
+use Rattle.drf_pick.specs.Shares.{Tally, is_holder}
 use Rattle.side_fits.specs.Fits.{AllFitTotals, most_sides}
-use Rattle.round_shares.specs.Gifts.{holds, made_gift, shares_of, shares_with}
+use Rattle.drf_pick.specs.declared.holder.Client as drf
+use Rattle.drf_pick.specs.Allocations.{AddUp, all_rows, holds}
+use Rattle.drf_pick.specs.Shown.{TallyShows}
+use Rattle.drf_pick.proofs.Shown.{tally_more, weights_stay}
+use Rattle.frameworks.specs.LastRound as frameworks
+use Rattle.round_shares.specs.Allocations.{ShowRound, allocations_of, allocations_with, made_allocation}
+use Rattle.round_shares.proofs.Registered.{clients_once}
 use Rattle.round_shares.specs.Laws.{CanBeSummed}
 use Rattle.round_shares.specs.Picks.{picked}
 use Rattle.round_shares.proofs.Picking.{picks_alike}
@@ -23,52 +30,73 @@ use Rattle.master_rounds.proofs.Bounds.{HaveRows, Within, can_be_summed, visited
 pub record Agrees (ws : List RoleWeight) (m : Master) (run : ℕ) (r : Round) (p : Progress) : Type 0 where
   pub made : p.made ≡ map offer_of r.made
   pub next : r.next ≡ record { run = run; n = p.next }
-  pub shares : p.shares ≡ shares_with ws m r.made
+  pub shares : ShowRound ws m.sides m.registers.frameworks r.made p.shares
 
 offers_more : (made : List MadeOffer) (g : MadeOffer) → map offer_of made ++ offer_of g ∷ [] ≡ map offer_of (made ++ g ∷ [])
 offers_more [] g = refl
 offers_more (h ∷ made) g = ap (λ os. offer_of h ∷ os) (offers_more made g)
 
-held_more : (t : Tally) (made : List MadeOffer) (g : MadeOffer) → holds (fold holds t (map made_gift made)) (made_gift g) ≡ fold holds t (map made_gift (made ++ g ∷ []))
-held_more t [] g = refl
-held_more t (h ∷ made) g = held_more (holds t (made_gift h)) made g
+made_append : (made : List MadeOffer) (g : MadeOffer) → map made_allocation (made ++ g ∷ []) ≡ map made_allocation made ++ made_allocation g ∷ []
+made_append [] g = refl
+made_append (h ∷ made) g = ap (λ as_. made_allocation h ∷ as_) (made_append made g)
+
+with_one : (ss : List Side) (made : List MadeOffer) (g : MadeOffer) → allocations_with ss made ++ made_allocation g ∷ [] ≡ allocations_with ss (made ++ g ∷ [])
+with_one ss made g = append_assoc (allocations_of ss) (map made_allocation made) (made_allocation g ∷ []) ∙ ap (λ as_. allocations_of ss ++ as_) (sym (made_append made g))
+
+-- one offer more is shown once it is given
+shown_more : (ws : List RoleWeight) (m : Master) (made : List MadeOffer) (g : MadeOffer) (t : Tally) → CanBeSummed m (made ++ g ∷ []) → ShowRound ws m.sides m.registers.frameworks made t → ShowRound ws m.sides m.registers.frameworks (made ++ g ∷ []) (holds t (made_allocation g))
+shown_more ws m made g t can s = record {
+  totals = s.totals;
+  shown = subst (λ as_. TallyShows as_ cs (holds t (made_allocation g))) (with_one m.sides made g)
+      (tally_more (allocations_with m.sides made) (made_allocation g) cs t (subst (λ as_. AddUp (all_rows as_)) (sym (with_one m.sides made g)) can.held) (clients_once m.registers.frameworks can.ordered) s.shown);
+  weights = weights_stay ws (made_allocation g) (find (is_holder g.offer.framework) t.holders) t.roles s.weights;
+}
+  where
+    cs : List drf.Client
+    cs = frameworks.clients_of m.registers.frameworks
 
 abbrev made_for : List ℕ → List Row → Numbered → Numbered → MadeOffer
 made_for agent rows id f = record { agent = agent; offer = record { id = id; framework = f; resources = rows } }
 
-goes_alike : (ws : List RoleWeight) (m : Master) (run : ℕ) (r : Round) (p : Progress) (agent : List ℕ) (rows : List Row) (o : Option Client) → Agrees ws m run r p → Agrees ws m run (rounds.offers_to r agent rows o) (goes_to run agent rows p (option_map (λ c. c.framework.id) o))
-goes_alike ws m run r p agent rows None a = a
-goes_alike ws m run r p agent rows (Some c) a = record {
+goes_alike : (ws : List RoleWeight) (m : Master) (run : ℕ) (r : Round) (p : Progress) (agent : List ℕ) (rows : List Row) (o : Option Client) → CanBeSummed m (rounds.offers_to r agent rows o).made → Agrees ws m run r p → Agrees ws m run (rounds.offers_to r agent rows o) (goes_to run agent rows p (option_map (λ c. c.framework.id) o))
+goes_alike ws m run r p agent rows None after a = a
+goes_alike ws m run r p agent rows (Some c) after a = record {
   made = ap (λ os. os ++ offer_of (made_for agent rows (record { run = run; n = p.next }) c.framework.id) ∷ []) a.made
       ∙ ap (λ id. map offer_of r.made ++ offer_of (made_for agent rows id c.framework.id) ∷ []) (sym a.next)
       ∙ offers_more r.made (made_for agent rows r.next c.framework.id);
   next = ap following a.next;
-  shares = ap (given c.framework.id rows) a.shares ∙ held_more (shares_of ws m.sides m.registers.frameworks) r.made (made_for agent rows r.next c.framework.id);
+  shares = shown_more ws m r.made (made_for agent rows r.next c.framework.id) p.shares after a.shares;
 }
 
-free_alike : (ws : List RoleWeight) (m : Master) (run : ℕ) (r : Round) (p : Progress) (agent : List ℕ) (rows : List Row) → CanBeSummed m r.made → Agrees ws m run r p
+abbrev picked_for : List RoleWeight → Master → Round → List ℕ → List Row → Option Client
+picked_for ws m r agent rows = pick ws m.registers.now (totals_of m) (clients_of m) r.made agent rows
+
+free_alike : (ws : List RoleWeight) (m : Master) (run : ℕ) (r : Round) (p : Progress) (agent : List ℕ) (rows : List Row) → CanBeSummed m r.made → CanBeSummed m (rounds.offers_free ws m.registers.now (totals_of m) (clients_of m) r agent rows).made → Agrees ws m run r p
     → Agrees ws m run (rounds.offers_free ws m.registers.now (totals_of m) (clients_of m) r agent rows) (offers_free run m.registers.now m.registers.frameworks p agent rows)
-free_alike ws m run r p agent [] can a = a
-free_alike ws m run r p agent (row ∷ rows) can a =
-    subst (λ n. Agrees ws m run (if nat_lt last_number n then r else rounds.offers_to r agent (row ∷ rows) (pick ws m.registers.now (totals_of m) (clients_of m) r.made agent (row ∷ rows))) (offers_free run m.registers.now m.registers.frameworks p agent (row ∷ rows)))
-    (sym (ap (λ (id : Numbered). id.n) a.next)) (by (nat_lt last_number p.next))
+free_alike ws m run r p agent [] can after a = a
+free_alike ws m run r p agent (row ∷ rows) can after a =
+    by (nat_lt last_number r.next.n) after (ap (λ (id : Numbered). nat_lt last_number id.n) a.next)
   where
-    same_pick : picked m.registers.now agent (row ∷ rows) p.shares m.registers.frameworks ≡ option_map (λ c. c.framework.id) (pick ws m.registers.now (totals_of m) (clients_of m) r.made agent (row ∷ rows))
-    same_pick = ap (λ t. picked m.registers.now agent (row ∷ rows) t m.registers.frameworks) a.shares ∙ picks_alike ws m r.made agent (row ∷ rows) can
+    same_pick : picked m.registers.now agent (row ∷ rows) p.shares m.registers.frameworks ≡ option_map (λ c. c.framework.id) (picked_for ws m r agent (row ∷ rows))
+    same_pick = picks_alike ws m r.made p.shares agent (row ∷ rows) can a.shares
 
-    by : (b : Bool) → Agrees ws m run (if b then r else rounds.offers_to r agent (row ∷ rows) (pick ws m.registers.now (totals_of m) (clients_of m) r.made agent (row ∷ rows)))
-        (if b then p else goes_to run agent (row ∷ rows) p (picked m.registers.now agent (row ∷ rows) p.shares m.registers.frameworks))
-    by true = a
-    by false = subst (λ o. Agrees ws m run (rounds.offers_to r agent (row ∷ rows) (pick ws m.registers.now (totals_of m) (clients_of m) r.made agent (row ∷ rows))) (goes_to run agent (row ∷ rows) p o)) (sym same_pick)
-        (goes_alike ws m run r p agent (row ∷ rows) (pick ws m.registers.now (totals_of m) (clients_of m) r.made agent (row ∷ rows)) a)
+    by : (b : Bool) → CanBeSummed m (if b then r else rounds.offers_to r agent (row ∷ rows) (picked_for ws m r agent (row ∷ rows))).made → b ≡ nat_lt last_number p.next
+        → Agrees ws m run (if b then r else rounds.offers_to r agent (row ∷ rows) (picked_for ws m r agent (row ∷ rows)))
+        (if nat_lt last_number p.next then p else goes_to run agent (row ∷ rows) p (picked m.registers.now agent (row ∷ rows) p.shares m.registers.frameworks))
+    by true full e = subst (λ b. Agrees ws m run r (if b then p else goes_to run agent (row ∷ rows) p (picked m.registers.now agent (row ∷ rows) p.shares m.registers.frameworks))) e a
+    by false full e =
+        subst (λ b. Agrees ws m run (rounds.offers_to r agent (row ∷ rows) (picked_for ws m r agent (row ∷ rows))) (if b then p else goes_to run agent (row ∷ rows) p (picked m.registers.now agent (row ∷ rows) p.shares m.registers.frameworks))) e
+        (subst (λ o. Agrees ws m run (rounds.offers_to r agent (row ∷ rows) (picked_for ws m r agent (row ∷ rows))) (goes_to run agent (row ∷ rows) p o)) (sym same_pick)
+        (goes_alike ws m run r p agent (row ∷ rows) (picked_for ws m r agent (row ∷ rows)) full a))
 
-visit_alike : (ws : List RoleWeight) (m : Master) (run : ℕ) (r : Round) (p : Progress) (s : Side) → CanBeSummed m r.made → Agrees ws m run r p
+visit_alike : (ws : List RoleWeight) (m : Master) (run : ℕ) (r : Round) (p : Progress) (s : Side) → CanBeSummed m r.made → CanBeSummed m (rounds.visits ws m.registers.now (totals_of m) (clients_of m) r s).made → Agrees ws m run r p
     → Agrees ws m run (rounds.visits ws m.registers.now (totals_of m) (clients_of m) r s) (visits run m.registers.now m.registers.frameworks p s)
-visit_alike ws m run r p s can a = by s.is_open
+visit_alike ws m run r p s can after a = by s.is_open after
   where
-    by : (b : Bool) → Agrees ws m run (if b then rounds.offers_free ws m.registers.now (totals_of m) (clients_of m) r s.name (free s) else r) (visits_part run m.registers.now m.registers.frameworks p (if b then Some (s.name, free s) else None))
-    by true = free_alike ws m run r p s.name (free s) can a
-    by false = a
+    by : (b : Bool) → CanBeSummed m (if b then rounds.offers_free ws m.registers.now (totals_of m) (clients_of m) r s.name (free s) else r).made
+        → Agrees ws m run (if b then rounds.offers_free ws m.registers.now (totals_of m) (clients_of m) r s.name (free s) else r) (visits_part run m.registers.now m.registers.frameworks p (if b then Some (s.name, free s) else None))
+    by true full = free_alike ws m run r p s.name (free s) can full a
+    by false full = a
 
 -- what is known of a master when it allocates
 pub record Allocates (m : Master) : Type 0 where
@@ -81,6 +109,7 @@ pub rounds_alike : (ws : List RoleWeight) (m : Master) (run : ℕ) → Allocates
     → Agrees ws m run (fold (rounds.visits ws m.registers.now (totals_of m) (clients_of m)) r ss) (fold (visits run m.registers.now m.registers.frameworks) p ss)
 rounds_alike ws m run can [] rows r p w a = a
 rounds_alike ws m run can (s ∷ ss) rows r p w a =
-    rounds_alike ws m run can ss rows.1 (rounds.visits ws m.registers.now (totals_of m) (clients_of m) r s) (visits run m.registers.now m.registers.frameworks p s)
-    (within_next m r s ss (rounds.visits ws m.registers.now (totals_of m) (clients_of m) r s) (visited ws m.registers.now (totals_of m) (clients_of m) r s) w)
-    (visit_alike ws m run r p s (can_be_summed m r (s ∷ ss) can.ordered can.rows can.fits can.few w) a)
+    let after = rounds.visits ws m.registers.now (totals_of m) (clients_of m) r s in
+    let next = within_next m r s ss after (visited ws m.registers.now (totals_of m) (clients_of m) r s) w in
+    rounds_alike ws m run can ss rows.1 after (visits run m.registers.now m.registers.frameworks p s) next
+    (visit_alike ws m run r p s (can_be_summed m r (s ∷ ss) can.ordered can.rows can.fits can.few w) (can_be_summed m after ss can.ordered can.rows can.fits can.few next) a)

@@ -19,9 +19,10 @@ use Rattle.cluster_model.specs.Masters.{Master}
 use Rattle.cluster_model.specs.Rounds.{Client, Round, free, offers_free, offers_to, pick, visits}
 use Rattle.frameworks.specs.Frameworks.{are_ordered}
 use Rattle.side_fits.specs.Fits.{AllFitTotals, most_sides}
-use Rattle.round_shares.specs.Gifts.{all_rows, gifts_of, job_gift, made_gift, offer_gift, side_gifts}
+use Rattle.drf_pick.specs.Allocations.{AddUp, all_rows}
+use Rattle.round_shares.specs.Allocations.{allocations_of, job_allocation, made_allocation, offer_allocation, side_allocations}
 use Rattle.round_shares.specs.Laws.{CanBeSummed}
-use Rattle.round_shares.proofs.Rows.{all-append}
+use Rattle.drf_pick.proofs.AllocationRows.{all-append}
 
 abbrev pub HaveRows : List Side → Type 0
 HaveRows ss = AllByRecursion (λ s. AreRows s.total) ss
@@ -44,18 +45,18 @@ total_small name (s ∷ ss) rows =
 
 -- what is held on an agent is what is taken of it
 
-offers_held : (os : List Offer) → all_rows (map offer_gift os) ≡ offer_rows os
+offers_held : (os : List Offer) → all_rows (map offer_allocation os) ≡ offer_rows os
 offers_held [] = refl
 offers_held (o ∷ os) = ap (λ rows. o.resources ++ rows) (offers_held os)
 
-jobs_held : (js : List Job) → all_rows (map job_gift js) ≡ job_rows js
+jobs_held : (js : List Job) → all_rows (map job_allocation js) ≡ job_rows js
 jobs_held [] = refl
 jobs_held (j ∷ js) = ap (λ rows. j.resources ++ rows) (jobs_held js)
 
-side_held : (s : Side) → all_rows (side_gifts s) ≡ taken s
+side_held : (s : Side) → all_rows (side_allocations s) ≡ taken s
 side_held s =
-    all-append (map offer_gift s.offers) (map job_gift (unended s.booked))
-    ∙ ap (λ rows. rows ++ all_rows (map job_gift (unended s.booked))) (offers_held s.offers)
+    all-append (map offer_allocation s.offers) (map job_allocation (unended s.booked))
+    ∙ ap (λ rows. rows ++ all_rows (map job_allocation (unended s.booked))) (offers_held s.offers)
     ∙ ap (λ rows. offer_rows s.offers ++ rows) (jobs_held (unended s.booked))
 
 -- what is free on some agents
@@ -66,11 +67,11 @@ free_one : (name : List ℕ) (s : Side) (ss : List Side) → amount name (free_r
 free_one name s ss = amount-append name (free s) (free_rows ss)
 
 -- what is held and what is free are what all own
-all_held : (name : List ℕ) (ss : List Side) → HaveRows ss → AllFitTotals ss → amount name (all_rows (gifts_of ss)) + amount name (free_rows ss) ≤ amount name (total_rows ss)
+all_held : (name : List ℕ) (ss : List Side) → HaveRows ss → AllFitTotals ss → amount name (all_rows (allocations_of ss)) + amount name (free_rows ss) ≤ amount name (total_rows ss)
 all_held name [] rows fits = zero-le
 all_held name (s ∷ ss) rows fits =
-    let this : amount name (all_rows (gifts_of (s ∷ ss))) ≡ amount name (taken s) + amount name (all_rows (gifts_of ss)) =
-    omega (arith, ap (amount name) (all-append (side_gifts s) (gifts_of ss)), amount-append name (all_rows (side_gifts s)) (all_rows (gifts_of ss)), ap (amount name) (side_held s)) in
+    let this : amount name (all_rows (allocations_of (s ∷ ss))) ≡ amount name (taken s) + amount name (all_rows (allocations_of ss)) =
+    omega (arith, ap (amount name) (all-append (side_allocations s) (allocations_of ss)), amount-append name (all_rows (side_allocations s)) (all_rows (allocations_of ss)), ap (amount name) (side_held s)) in
     omega (arith, this, rests_are_less s.total (taken s) rows.0 name, fits.0 name, free_one name s ss, total_one name s ss, all_held name ss rows.1 fits.1)
 
 owned_held : (name : List ℕ) (ss : List Side) → amount name (flat_map (λ s. if s.is_open then s.total else []) ss) ≤ amount name (total_rows ss)
@@ -122,7 +123,7 @@ visited ws now totals cs r s = by s.is_open refl
 -- how much a round gives
 
 abbrev pub made_rows : List MadeOffer → List Row
-made_rows made = all_rows (map made_gift made)
+made_rows made = all_rows (map made_allocation made)
 
 made_append : (made : List MadeOffer) (g : MadeOffer) → made_rows (made ++ g ∷ []) ≡ made_rows made ++ made_rows (g ∷ [])
 made_append [] g = refl
@@ -152,5 +153,9 @@ can_be_summed m r ss ordered rows fits few w = record {
   ordered = ordered;
   rows = rows;
   totals = λ name. omega (arith, owned_held name m.sides, total_small name m.sides rows, few);
-  held = λ name. omega (arith, ap (amount name) (all-append (gifts_of m.sides) (map made_gift r.made)), amount-append name (all_rows (gifts_of m.sides)) (made_rows r.made), all_held name m.sides rows fits, total_small name m.sides rows, few, w name);
+  held = λ name. omega (arith, ap (amount name) (all-append (allocations_of m.sides) (map made_allocation r.made)), amount-append name (all_rows (allocations_of m.sides)) (made_rows r.made), all_held name m.sides rows fits, total_small name m.sides rows, few, w name);
 }
+
+-- before anything is offered
+pub sides_add_up : (ss : List Side) → HaveRows ss → AllFitTotals ss → length ss ≤ most_sides → AddUp (all_rows (allocations_of ss))
+sides_add_up ss rows fits few name = omega (arith, all_held name ss rows fits, total_small name ss rows, few)

@@ -1,46 +1,58 @@
--- The shares of a round know the frameworks that they were told of.
-use Rattle.std.proofs.Common.{◌≡◌, ap, ◌∙◌, ℕ, Bool, true, false, cond, List, [], ◌∷◌, fold, map, nat_lt, Option, Some, None, ◌||◌}
-use Rattle.names_core.specs.Ids.{Numbered}
-use Rattle.quantity.specs.declared.rows.Row.{Row}
+-- The shares of a round show what is allocated on the agents once its offers are taken back.
+use Rattle.std.proofs.Common.{◌≡◌, List, [], ◌∷◌, ◌++◌, map, refl, sym, ap, ◌∙◌, subst, arith, append-nil}
+use Rattle.quantity.specs.Rows.{amount}
+use Rattle.quantity.proofs.Amounts.{amount-append}
 use Rattle.mails.specs.declared.framework.Framework.{Framework}
 use Rattle.role_weights.specs.Weights.{RoleWeight}
-use Rattle.cluster_model.specs.Ids.{is_empty, last_number}
-use Rattle.cluster_model.specs.Sides.{Side}
-use Rattle.agent_sides.specs.Free.{open_part}
-use Rattle.drf_pick.specs.declared.holder.Client.{Client}
+use Rattle.cluster_model.specs.Events.{MadeOffer, offer_of}
 use Rattle.drf_pick.specs.Shares.{Tally}
-use Rattle.frameworks.specs.LastRound.{Remembers, client_of}
-use Rattle.round_shares.specs.Gifts.{shares_of}
-use Rattle.round_shares.specs.Picks.{picked}
-use Rattle.round_shares.proofs.Remembered.{given_remember, shares_remember}
+use Rattle.drf_pick.specs.declared.counted.Allocation.{Allocation}
+use Rattle.drf_pick.specs.declared.counted.CountedShares.{CountedShares}
+use Rattle.drf_pick.specs.Allocations.{rows_to}
+use Rattle.drf_pick.specs.Shown.{SameAllocations, TallyShows, all_found, counted_of}
+use Rattle.drf_pick.proofs.AllocationRows.{to-append}
+use Rattle.drf_pick.proofs.Counting.{counted_all}
+use Rattle.drf_pick.proofs.Less.{tally_alike}
+use Rattle.frameworks.specs.LastRound.{clients_of}
+use Rattle.round_shares.specs.Allocations.{BeginRound, ShowRound, allocations_of, allocations_with, made_allocation}
 use Rattle.master_state.specs.declared.state.State.{State}
-use Rattle.master_rounds.specs.Visits.{Progress, goes_to, offers_free, begins, round_of, round_with, visits, visits_part}
+use Rattle.master_rounds.specs.Visits.{Progress, allocation_by, round_with}
+use Rattle.master_state.specs.Works.{master_of}
+use Rattle.master_rounds.proofs.Agreeing.{Agrees}
+use Rattle.master_rounds.proofs.SendingAll.{Holds, agreed, round_after}
 
-gone : (cs : List Client) (run : ℕ) (agent : List ℕ) (free : List Row) (p : Progress) (o : Option Numbered) → Remembers cs p.shares → Remembers cs (goes_to run agent free p o).shares
-gone cs run agent free p None known = known
-gone cs run agent free p (Some framework) known = given_remember cs framework free p.shares known
+beside : (gs hs ks : List Allocation) → SameAllocations gs hs → SameAllocations (gs ++ ks) (hs ++ ks)
+beside gs hs ks e framework name =
+    omega (arith, e framework name, ap (amount name) (to-append framework gs ks), amount-append name (rows_to framework gs) (rows_to framework ks), ap (amount name) (to-append framework hs ks), amount-append name (rows_to framework hs) (rows_to framework ks))
 
-offered : (cs : List Client) (run now : ℕ) (fs : List Framework) (p : Progress) (agent : List ℕ) (free : List Row) → Remembers cs p.shares → Remembers cs (offers_free run now fs p agent free).shares
-offered cs run now fs p agent free known = by (is_empty free || nat_lt last_number p.next)
+made_by : (made : List MadeOffer) → map allocation_by (map offer_of made) ≡ map made_allocation made
+made_by [] = refl
+made_by (g ∷ made) = ap (λ as_. made_allocation g ∷ as_) (made_by made)
+
+pub begins_shown : (ws : List RoleWeight) (s : State) (k : CountedShares) → BeginRound ws s.sides s.frameworks k → ShowRound ws s.sides s.frameworks [] k.shares
+begins_shown ws s k b = record {
+  totals = b.totals;
+  shown = subst (λ as_. TallyShows as_ (clients_of s.frameworks) k.shares) (sym (append-nil (allocations_of s.sides)))
+      (tally_alike (all_found k.found.items) (allocations_of s.sides) (clients_of s.frameworks) k.shares b.found
+      (subst (λ as_. TallyShows as_ (clients_of s.frameworks) k.shares) (counted_all k.found.items b.all) b.counted.shown));
+  weights = b.weights;
+}
+
+pub round_shown : (ws : List RoleWeight) (s : State) (k : CountedShares) (p : Progress) → Holds s → BeginRound ws s.sides s.frameworks k → p ≡ round_with k.shares s → TallyShows (counted_of k.found.items ++ map allocation_by p.made) (clients_of s.frameworks) p.shares
+round_shown ws s k p h b is = subst (λ (q : Progress). TallyShows (counted_of k.found.items ++ map allocation_by q.made) (clients_of s.frameworks) q.shares) (sym is)
+    (subst (λ as_. TallyShows (counted_of k.found.items ++ as_) (clients_of s.frameworks) (round_with k.shares s).shares) (sym (ap (map allocation_by) a.made ∙ made_by (round_after ws s).made))
+    (tally_alike (allocations_with s.sides (round_after ws s).made) (counted_of k.found.items ++ map made_allocation (round_after ws s).made) (clients_of s.frameworks) (round_with k.shares s).shares
+    (beside (allocations_of s.sides) (counted_of k.found.items) (map made_allocation (round_after ws s).made) same_counted) a.shares.shown))
   where
-    by : (b : Bool) → Remembers cs (cond b p (goes_to run agent free p (picked now agent free p.shares fs))).shares
-    by true = known
-    by false = gone cs run agent free p (picked now agent free p.shares fs) known
+    a : Agrees ws (master_of s) s.run (round_after ws s) (round_with k.shares s)
+    a = agreed ws s k.shares h (begins_shown ws s k b)
 
-visited : (cs : List Client) (run now : ℕ) (fs : List Framework) (p : Progress) (o : Option (List ℕ × List Row)) → Remembers cs p.shares → Remembers cs (visits_part run now fs p o).shares
-visited cs run now fs p None known = known
-visited cs run now fs p (Some part) known = offered cs run now fs p part.0 part.1 known
-
-all_visited : (cs : List Client) (run now : ℕ) (fs : List Framework) (ss : List Side) (p : Progress) → Remembers cs p.shares → Remembers cs (fold (visits run now fs) p ss).shares
-all_visited cs run now fs [] p known = known
-all_visited cs run now fs (s ∷ ss) p known = all_visited cs run now fs ss (visits run now fs p s) (visited cs run now fs p (open_part s) known)
-
-pub round_remembers : (ws : List RoleWeight) (s : State) → Remembers (map client_of s.frameworks) (round_of ws s).shares
-round_remembers ws s = all_visited (map client_of s.frameworks) s.run s.moment s.frameworks s.sides (begins (shares_of ws s.sides s.frameworks) s) (shares_remember ws s.sides s.frameworks)
+    same_counted : SameAllocations (allocations_of s.sides) (counted_of k.found.items)
+    same_counted framework name = sym (ap (λ as_. amount name (rows_to framework as_)) (counted_all k.found.items b.all) ∙ b.found framework name)
 
 abbrev pub knowing : State → List Framework → State
 knowing s fs = record s { frameworks = fs }
 
--- a round over the same frameworks, that begins with the shares of a round
-pub round_so : (ws : List RoleWeight) (s : State) (fs : List Framework) (t : Tally) (p : Progress) → p ≡ round_with t (knowing s fs) → fs ≡ s.frameworks → t ≡ shares_of ws s.sides s.frameworks → p ≡ round_of ws s
-round_so ws s fs t p is same shares = is ∙ ap (λ (gs : List Framework). round_with t (knowing s gs)) same ∙ ap (λ (u : Tally). round_with u s) shares
+-- a round over the same frameworks
+pub round_so : (s : State) (fs : List Framework) (t : Tally) (p : Progress) → p ≡ round_with t (knowing s fs) → fs ≡ s.frameworks → p ≡ round_with t s
+round_so s fs t p is same = is ∙ ap (λ (gs : List Framework). round_with t (knowing s gs)) same

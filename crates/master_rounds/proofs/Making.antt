@@ -21,7 +21,7 @@ use Rattle.agent_sides.specs.Joined.{side_names}
 use Rattle.agent_sides.specs.Looks.{at_name}
 use Rattle.side_fits.specs.Fits.{AllFitTotals, FitsTotal, OffersBefore}
 use Rattle.side_fits.proofs.Numbering.{Goes, sides_later}
-use Rattle.round_shares.proofs.Rows.{same_itself}
+use Rattle.drf_pick.proofs.AllocationRows.{same_itself}
 use Rattle.master_state.proofs.Doings.{none_more}
 use Rattle.master_state.proofs.Moves.{before_differs, both_true, itself, moved_so}
 use Rattle.master_rounds.specs.News.{offers_all, offers_at}

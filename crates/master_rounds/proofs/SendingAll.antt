@@ -18,8 +18,9 @@ use Rattle.master_state.specs.Works.{Work, done, master_of, registers_of, run_of
 use Rattle.master_state.proofs.Doings.{none_more}
 use Rattle.master_state.proofs.Moves.{moved_so}
 use Rattle.master_rounds.specs.News.{event_on, news_of, offers_all}
-use Rattle.master_rounds.specs.Visits.{begins, round_of}
-use Rattle.round_shares.specs.Gifts.{shares_of}
+use Rattle.master_rounds.specs.Visits.{begins, round_with}
+use Rattle.drf_pick.specs.Shares.{Tally}
+use Rattle.round_shares.specs.Allocations.{ShowRound}
 use Rattle.master_rounds.proofs.Agreeing.{Agrees, rounds_alike}
 use Rattle.master_rounds.proofs.Bounds.{HaveRows}
 use Rattle.master_rounds.proofs.Making.{Made, all_made, offer_move, with_next}
@@ -60,7 +61,7 @@ told_all made (f ∷ fs) =
 abbrev start_of : State → Round
 start_of s = record { made = []; next = record { run = s.run; n = s.next_offer } }
 
-abbrev round_after : List RoleWeight → State → Round
+abbrev pub round_after : List RoleWeight → State → Round
 round_after ws s = fold (rounds.visits ws s.moment (totals_of (master_of s)) (clients_of (master_of s))) (start_of s) s.sides
 
 -- what a master holds that has allocated
@@ -70,11 +71,11 @@ pub record Holds (s : State) : Type 0 where
   pub rows : HaveRows s.sides
   pub fit : SidesFit (run_of s) s.sides
 
-begins_alike : (ws : List RoleWeight) (s : State) → Agrees ws (master_of s) s.run (start_of s) (begins (shares_of ws s.sides s.frameworks) s)
-begins_alike ws s = record { made = refl; next = refl; shares = refl }
+begins_alike : (ws : List RoleWeight) (s : State) (t : Tally) → ShowRound ws s.sides s.frameworks [] t → Agrees ws (master_of s) s.run (start_of s) (begins t s)
+begins_alike ws s t shown = record { made = refl; next = refl; shares = shown }
 
-agreed : (ws : List RoleWeight) (s : State) → Holds s → Agrees ws (master_of s) s.run (round_after ws s) (round_of ws s)
-agreed ws s h = rounds_alike ws (master_of s) s.run (record { ordered = h.ordered; rows = h.rows; fits = h.fit.totals; few = h.fit.few }) s.sides h.rows (start_of s) (begins (shares_of ws s.sides s.frameworks) s) (λ name. omega arith) (begins_alike ws s)
+pub agreed : (ws : List RoleWeight) (s : State) (t : Tally) → Holds s → ShowRound ws s.sides s.frameworks [] t → Agrees ws (master_of s) s.run (round_after ws s) (round_with t s)
+agreed ws s t h shown = rounds_alike ws (master_of s) s.run (record { ordered = h.ordered; rows = h.rows; fits = h.fit.totals; few = h.fit.few }) s.sides h.rows (start_of s) (begins t s) (λ name. omega arith) (begins_alike ws s t shown)
 
 made_of : (ws : List RoleWeight) (s : State) → Holds s → Made (start_of s) s.sides (round_after ws s)
 made_of ws s h = all_made ws s.moment (totals_of (master_of s)) (clients_of (master_of s)) s.sides (start_of s) h.rows h.fit.totals h.fit.ids h.names
@@ -83,10 +84,10 @@ length_mapped : (gs : List MadeOffer) → length (map offer_of gs) ≡ length gs
 length_mapped [] = refl
 length_mapped (g ∷ gs) = ap suc (length_mapped gs)
 
-pub few_made : (ws : List RoleWeight) (s : State) → Holds s → length (round_of ws s).made ≤ 256
-few_made ws s h =
+pub few_made : (ws : List RoleWeight) (s : State) (t : Tally) → Holds s → ShowRound ws s.sides s.frameworks [] t → length (round_with t s).made ≤ 256
+few_made ws s t h shown =
     let k = made_of ws s h in
-    omega (arith, ap length (agreed ws s h).made, length_mapped (round_after ws s).made, ap length k.made, k.few, h.fit.few)
+    omega (arith, ap length (agreed ws s t h shown).made, length_mapped (round_after ws s).made, ap length k.made, k.few, h.fit.few)
 
 abbrev pub with_all : State → ℕ → List Side → List StreamEvent → Work
 with_all s next ss events = record {
@@ -109,10 +110,10 @@ with_opens ws s opens closes = record {
   closes = closes;
 }
 
-pub allocated_so : (ws : List RoleWeight) (s : State) → Holds s → with_all s (round_of ws s).next (offers_all (round_of ws s).made s.sides) (s.outs.events ++ flat_map (news_of (round_of ws s).made) s.frameworks) ≡ done (allocated ws (master_of s)) (work_of s)
-allocated_so ws s h =
-    ap (λ os. with_all s (round_of ws s).next (offers_all os s.sides) (s.outs.events ++ flat_map (news_of os) s.frameworks)) (a.made ∙ ap (map offer_of) k.made)
-    ∙ ap (λ ss. with_all s (round_of ws s).next ss (s.outs.events ++ flat_map (news_of (map offer_of k.gs)) s.frameworks)) k.code
+pub allocated_so : (ws : List RoleWeight) (s : State) (t : Tally) → Holds s → ShowRound ws s.sides s.frameworks [] t → with_all s (round_with t s).next (offers_all (round_with t s).made s.sides) (s.outs.events ++ flat_map (news_of (round_with t s).made) s.frameworks) ≡ done (allocated ws (master_of s)) (work_of s)
+allocated_so ws s t h shown =
+    ap (λ os. with_all s (round_with t s).next (offers_all os s.sides) (s.outs.events ++ flat_map (news_of os) s.frameworks)) (a.made ∙ ap (map offer_of) k.made)
+    ∙ ap (λ ss. with_all s (round_with t s).next ss (s.outs.events ++ flat_map (news_of (map offer_of k.gs)) s.frameworks)) k.code
     ∙ ap (λ id. with_moved s (moved_so (with_next id (run_of s)) k.news s.outs.mails) (s.outs.events ++ flat_map (news_of (map offer_of k.gs)) s.frameworks)) (sym a.next)
     ∙ ap (λ x. with_moved s x (s.outs.events ++ flat_map (news_of (map offer_of k.gs)) s.frameworks)) (sym (k.moves (run_of s) s.outs.mails refl))
     ∙ ap (λ gs. with_moved s (move_all (map offer_move gs) (moved_so (run_of s) s.sides s.outs.mails)) (s.outs.events ++ flat_map (news_of (map offer_of k.gs)) s.frameworks)) (sym k.made)
@@ -123,8 +124,8 @@ allocated_so ws s h =
     k : Made (start_of s) s.sides (round_after ws s)
     k = made_of ws s h
 
-    a : Agrees ws (master_of s) s.run (round_after ws s) (round_of ws s)
-    a = agreed ws s h
+    a : Agrees ws (master_of s) s.run (round_after ws s) (round_with t s)
+    a = agreed ws s t h shown
 
     all_entered : entered s.sides (moved (master_of s) (making ws (master_of s))).sides ≡ k.gs
     all_entered =

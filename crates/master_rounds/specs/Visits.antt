@@ -1,5 +1,5 @@
 -- A round visits the agents, in order.
-use Rattle.std.specs.Prelude.{ℕ, suc, ◌||◌, nat_lt, if◌then◌else◌, List, [], ◌∷◌, ◌++◌, fold, Option, Some, None}
+use Rattle.std.specs.Prelude.{◌≡◌, ℕ, suc, ◌||◌, nat_lt, if◌then◌else◌, List, [], ◌∷◌, ◌++◌, fold, Option, Some, None}
 use Rattle.names_core.specs.Ids.{Numbered}
 use Rattle.quantity.specs.declared.rows.Row.{Row}
 use Rattle.mails.specs.declared.framework.Framework.{Framework}
@@ -9,7 +9,8 @@ use Rattle.cluster_model.specs.Ids.{is_empty, last_number}
 use Rattle.cluster_model.specs.Sides.{Side}
 use Rattle.drf_pick.specs.Shares.{Tally, given}
 use Rattle.agent_sides.specs.Free.{open_part}
-use Rattle.round_shares.specs.Gifts.{shares_of}
+use Rattle.drf_pick.specs.declared.counted.Allocation.{Allocation}
+use Rattle.round_shares.specs.Allocations.{ShowRound}
 use Rattle.round_shares.specs.Picks.{picked}
 use Rattle.master_state.specs.declared.state.State.{State}
 pub use Rattle.master_rounds.specs.declared.visit.Progress.{Progress}
@@ -55,5 +56,15 @@ begins shares s = record { made = []; next = s.next_offer; shares = shares }
 abbrev pub round_with : Tally → State → Progress
 round_with shares s = fold (visits s.run s.moment s.frameworks) (begins shares s) s.sides
 
-abbrev pub round_of : List RoleWeight → State → Progress
-round_of weights s = round_with (shares_of weights s.sides s.frameworks) s
+-- the offers of a round, and the number of the next offer after them, by shares that show what is
+-- allocated
+pub record IsRound (ws : List RoleWeight) (s : State) (made : List json_offer.Offer) (next : ℕ)
+    : Type 0 where
+  pub shares : Tally
+  pub shown : ShowRound ws s.sides s.frameworks [] shares
+  pub made_is : made ≡ (round_with shares s).made
+  pub next_is : next ≡ (round_with shares s).next
+
+-- what an offer allocates
+abbrev pub allocation_by : json_offer.Offer → Allocation
+allocation_by o = record { framework = o.framework; resources = o.resources }

@@ -1,13 +1,22 @@
 //! A round of offers.
 
-ghost use Rattle.std.specs.Prelude.{◌≡◌, ◌<◌, IfOk, OnOk};
+ghost use Rattle.std.specs.Prelude.{◌≡◌, ◌<◌, ◌++◌, true, List, map, IfOk, OnOk};
+ghost use Rattle.std.specs.List.{AllByRecursion};
+ghost use Rattle.quantity.specs.Rows.{AreRows};
 ghost use Rattle.cluster_model.specs.Rounds.{allocated};
 ghost use Rattle.master_state.specs.Works.{done, master_of, run_of, work_of};
 ghost use Rattle.side_fits.specs.Fits.{SidesFit};
-ghost use Rattle.master_rounds.specs.Visits.{round_of};
+ghost use Rattle.agent_sides.specs.Configs.{are_ordered};
+ghost use Rattle.agent_sides.specs.Joined.{side_names};
+ghost use Rattle.frameworks.specs.LastRound.{clients_of};
+ghost use Rattle.drf_pick.specs.declared.counted.Allocation.{Allocation};
+ghost use Rattle.drf_pick.specs.declared.holder.Client.{Client};
+ghost use Rattle.drf_pick.specs.Shown.{ClientsOnce, TallyShows, counted_of};
+ghost use Rattle.master_rounds.specs.Visits.{IsRound, allocation_by};
 
 use crate::news::{offer_all, send_offers};
 use crate::visit::{Progress, round_of};
+use drf_pick::{CountedShares, Found, Shares, SharesFault};
 use listed::Listed;
 use master_state::State;
 use role_weights::Weights;
@@ -15,24 +24,53 @@ use round_shares::shares_of;
 use scheduler_events::Offer;
 use std::alloc::{AllocError, Global};
 
-/// The offers of a round, and the number of the offer after them. What the next round needs of the
-/// shares, and where the search for each agent ended, is kept with the frameworks.
+fn take_back_made(shares: &mut Shares, alloc: Global, made: &[Offer]) -> Result<(), SharesFault>
+    ensures { OnOk result ((cs : List Client) (rest : List Allocation) → ClientsOnce cs
+        → TallyShows (rest ++ map allocation_by made.now) cs shares.old
+        → TallyShows rest cs shares.new) }
+{
+    for offer in made {
+        shares.take_back(alloc, offer.framework, &offer.resources)?;
+    }
+    Ok(())
+}
+
+/// Keeps for the next round the shares of this one, in which its offers aren't counted: they are
+/// found on the agents then. Where memory is refused nothing is kept.
+fn keep(state: &mut State, alloc: Global, shares: Shares, found: Vec<Found>, made: &[Offer])
+    requires { TallyShows (counted_of found.items ++ map allocation_by made.now)
+        (clients_of state.old.frameworks) shares }
+    ensures { state.new ≡ state.old }
+{
+    let mut counted = CountedShares { shares, found };
+    if let Ok(()) = take_back_made(&mut counted.shares, alloc, made) {
+        let _ordered = state.frameworks.as_slice();
+        state.frameworks.keep_shares(counted);
+    }
+}
+
+/// The offers of a round, and the number of the offer after them. The shares, and where the search
+/// for each agent ended, are kept with the frameworks for the next round.
 fn next_offers(
     state: &mut State,
     alloc: Global,
     weights: &Weights,
 ) -> Result<(Listed<Offer>, u64), AllocError>
-    requires { 0 < state.old.next_offer }
-    ensures made { IfOk result (λ offers. offers.0 ≡ (round_of weights.now state.old).made) }
-    ensures next { IfOk result (λ offers. offers.1 ≡ (round_of weights.now state.old).next) }
+    requires next { 0 < state.old.next_offer }
+    requires names { are_ordered (side_names state.old.sides) ≡ true }
+    requires rows { AllByRecursion (λ s. AreRows s.total) state.old.sides }
+    requires fits { SidesFit (run_of state.old) state.old.sides }
+    ensures round { IfOk result (λ offers. IsRound weights.now state.old offers.0 offers.1) }
     ensures state { OnOk result (state.new ≡ state.old) }
 {
-    let shares = shares_of(alloc, weights, &state.sides, &mut state.frameworks)?;
+    let _ordered = state.frameworks.as_slice();
+    let counted = shares_of(alloc, weights, &state.sides, &mut state.frameworks)?;
+    let CountedShares { shares, found } = counted;
     let mut starts = state.frameworks.take_starts(alloc);
     let progress = round_of(state, alloc, shares, &mut starts)?;
     let Progress { made, next, shares } = progress;
     state.frameworks.keep_starts(starts);
-    state.frameworks.keep_holdings(shares.into_holdings());
+    keep(state, alloc, shares, found, made.as_slice());
     Ok((made, next))
 }
 

@@ -1,7 +1,8 @@
 pub mod AtPlaces
-pub mod Rows
-pub mod Shown
+pub mod Registered
+pub mod Totals
+pub mod SameAmounts
+pub mod Finding
 pub mod Picking
 pub mod Parts
-pub mod Remembered
 pub mod FirstFound

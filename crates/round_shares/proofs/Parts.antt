@@ -3,7 +3,7 @@ use Rattle.std.proofs.Common.{◌≡◌, ℕ, zero, suc, ◌≤◌, List, [], �
 use Rattle.cluster_model.specs.Sides.{Side}
 use Rattle.offer_book.specs.declared.account.Account.{Account}
 use Rattle.agent_sides.specs.Joined.{AreOfOne, joined}
-use Rattle.round_shares.specs.Gifts.{gifts_of, gifts_on}
+use Rattle.round_shares.specs.Allocations.{allocations_of, allocations_on}
 
 pub joined_none : (ss : List Side) → joined ss [] ≡ []
 joined_none [] = refl
@@ -16,8 +16,8 @@ joined_past (suc i) ss [] past = joined_none ss
 joined_past zero ss (a ∷ as_) past = absurd (omega arith)
 joined_past (suc i) ss (a ∷ as_) past = joined_past i ss as_ (omega arith)
 
-pub given_parts : (ss : List Side) (as_ : List Account) → AreOfOne ss as_ → flat_map (λ a. gifts_on a.offers a.booked) as_ ≡ gifts_of (joined ss as_)
+pub given_parts : (ss : List Side) (as_ : List Account) → AreOfOne ss as_ → flat_map (λ a. allocations_on a.offers a.booked) as_ ≡ allocations_of (joined ss as_)
 given_parts [] [] one = refl
 given_parts [] (a ∷ as_) one = absurd one
 given_parts (s ∷ ss) [] one = absurd one
-given_parts (s ∷ ss) (a ∷ as_) one = ap (λ gs. gifts_on a.offers a.booked ++ gs) (given_parts ss as_ one.1)
+given_parts (s ∷ ss) (a ∷ as_) one = ap (λ gs. allocations_on a.offers a.booked ++ gs) (given_parts ss as_ one.1)

@@ -17,6 +17,13 @@ use Rattle.cluster_model.specs.Masters.{Master}
 use Rattle.cluster_model.specs.Rounds as rounds
 use Rattle.cluster_model.specs.Rounds.{Client, Share, allocated_on, allocation_of, clients_of, first_client, given_to, held_with, is_eligible, may_be_offered, pick, share, share_of, stands_at_most_at, stands_first, totals_of}
 use Rattle.frameworks.specs.Frameworks.{are_ordered}
+use Rattle.frameworks.specs.LastRound as frameworks
+use Rattle.frameworks.specs.LastRound.{client_of}
+use Rattle.drf_pick.specs.declared.counted.Allocation.{Allocation}
+use Rattle.drf_pick.specs.Allocations.{AddUp, role_rows, rows_to}
+use Rattle.drf_pick.specs.Shown.{Shows, TallyShows, WeightsShow, is_known}
+use Rattle.drf_pick.proofs.AllocationRows.{find_own, to-append}
+use Rattle.drf_pick.proofs.Shown.{Alike, found_alike}
 use Rattle.drf_pick.specs.declared.holder.Holder.{Holder}
 use Rattle.drf_pick.specs.Shares.{Tally, is_holder}
 use Rattle.drf_pick.specs.Least.{comes_before, held_of, role_share}
@@ -25,63 +32,63 @@ use Rattle.drf_pick.specs.Orders.{Among}
 use Rattle.share_sums.specs.Sums.{IsSum, summed}
 use Rattle.drf_pick.proofs.Standing.{amounts_decide}
 use Rattle.share_sums.proofs.Summing.{no_sum, sum_is}
-use Rattle.round_shares.specs.Gifts.{Gift, enters_row, gifts_of, gifts_with, job_gift, made_gift, offer_gift, role_rows, rows_to, shares_with, side_gifts}
-use Rattle.round_shares.specs.Laws.{AddUp, PicksAlike}
+use Rattle.round_shares.specs.Allocations.{allocations_of, allocations_with, enters_row, job_allocation, made_allocation, offer_allocation, side_allocations}
+use Rattle.round_shares.specs.Laws.{PicksAlike}
 use Rattle.round_shares.specs.Picks.{better, better_eligible, framework_holder}
-use Rattle.round_shares.proofs.Rows.{find_own, to-append}
-use Rattle.round_shares.proofs.Shown.{Alike, Shows, TallyShows, entered_amounts, found_alike, is_known, owned_rows, shares_show}
+use Rattle.round_shares.proofs.Registered.{clients_once}
+use Rattle.round_shares.proofs.Totals.{entered_amounts, owned_rows}
 
 -- the model's rows are those of what is held
 
-offers_to : (id : Numbered) (os : List Offer) → offer_rows (filter (λ o. same o.framework id) os) ≡ rows_to id (map offer_gift os)
+offers_to : (id : Numbered) (os : List Offer) → offer_rows (filter (λ o. same o.framework id) os) ≡ rows_to id (map offer_allocation os)
 offers_to id [] = refl
 offers_to id (o ∷ os) = by (same o.framework id) (offers_to id os)
   where
-    by : (b : Bool) → offer_rows (filter (λ p. same p.framework id) os) ≡ rows_to id (map offer_gift os)
-        → offer_rows (cond b (o ∷ filter (λ p. same p.framework id) os) (filter (λ p. same p.framework id) os)) ≡ cond b o.resources [] ++ rows_to id (map offer_gift os)
+    by : (b : Bool) → offer_rows (filter (λ p. same p.framework id) os) ≡ rows_to id (map offer_allocation os)
+        → offer_rows (cond b (o ∷ filter (λ p. same p.framework id) os) (filter (λ p. same p.framework id) os)) ≡ cond b o.resources [] ++ rows_to id (map offer_allocation os)
     by true ih = ap (λ rows. o.resources ++ rows) ih
     by false ih = ih
 
-jobs_to : (id : Numbered) (js : List Job) → job_rows (filter (λ j. same j.framework id) js) ≡ rows_to id (map job_gift js)
+jobs_to : (id : Numbered) (js : List Job) → job_rows (filter (λ j. same j.framework id) js) ≡ rows_to id (map job_allocation js)
 jobs_to id [] = refl
 jobs_to id (j ∷ js) = by (same j.framework id) (jobs_to id js)
   where
-    by : (b : Bool) → job_rows (filter (λ p. same p.framework id) js) ≡ rows_to id (map job_gift js)
-        → job_rows (cond b (j ∷ filter (λ p. same p.framework id) js) (filter (λ p. same p.framework id) js)) ≡ cond b j.resources [] ++ rows_to id (map job_gift js)
+    by : (b : Bool) → job_rows (filter (λ p. same p.framework id) js) ≡ rows_to id (map job_allocation js)
+        → job_rows (cond b (j ∷ filter (λ p. same p.framework id) js) (filter (λ p. same p.framework id) js)) ≡ cond b j.resources [] ++ rows_to id (map job_allocation js)
     by true ih = ap (λ rows. j.resources ++ rows) ih
     by false ih = ih
 
-side_to : (id : Numbered) (s : Side) → allocated_on id s ≡ rows_to id (side_gifts s)
+side_to : (id : Numbered) (s : Side) → allocated_on id s ≡ rows_to id (side_allocations s)
 side_to id s =
     ap (λ rows. rows ++ job_rows (filter (λ j. same j.framework id) (unended s.booked))) (offers_to id s.offers)
-    ∙ ap (λ rows. rows_to id (map offer_gift s.offers) ++ rows) (jobs_to id (unended s.booked))
-    ∙ sym (to-append id (map offer_gift s.offers) (map job_gift (unended s.booked)))
+    ∙ ap (λ rows. rows_to id (map offer_allocation s.offers) ++ rows) (jobs_to id (unended s.booked))
+    ∙ sym (to-append id (map offer_allocation s.offers) (map job_allocation (unended s.booked)))
 
-sides_to : (id : Numbered) (ss : List Side) → flat_map (allocated_on id) ss ≡ rows_to id (gifts_of ss)
+sides_to : (id : Numbered) (ss : List Side) → flat_map (allocated_on id) ss ≡ rows_to id (allocations_of ss)
 sides_to id [] = refl
 sides_to id (s ∷ ss) =
     ap (λ rows. rows ++ flat_map (allocated_on id) ss) (side_to id s)
-    ∙ ap (λ rows. rows_to id (side_gifts s) ++ rows) (sides_to id ss)
-    ∙ sym (to-append id (side_gifts s) (gifts_of ss))
+    ∙ ap (λ rows. rows_to id (side_allocations s) ++ rows) (sides_to id ss)
+    ∙ sym (to-append id (side_allocations s) (allocations_of ss))
 
-made_to : (id : Numbered) (made : List MadeOffer) → given_to id made ≡ rows_to id (map made_gift made)
+made_to : (id : Numbered) (made : List MadeOffer) → given_to id made ≡ rows_to id (map made_allocation made)
 made_to id [] = refl
 made_to id (g ∷ made) = ap (λ rows. cond (same g.offer.framework id) g.offer.resources [] ++ rows) (made_to id made)
 
 abbrev client : Master → Framework → Client
 client m f = record { framework = f; allocation = allocation_of m f.id }
 
-share_is : (m : Master) (made : List MadeOffer) (f : Framework) → held_with made (client m f) ≡ rows_to f.id (gifts_with m.sides made)
+share_is : (m : Master) (made : List MadeOffer) (f : Framework) → held_with made (client m f) ≡ rows_to f.id (allocations_with m.sides made)
 share_is m made f =
     ap (λ rows. rows ++ given_to f.id made) (sides_to f.id m.sides)
-    ∙ ap (λ rows. rows_to f.id (gifts_of m.sides) ++ rows) (made_to f.id made)
-    ∙ sym (to-append f.id (gifts_of m.sides) (map made_gift made))
+    ∙ ap (λ rows. rows_to f.id (allocations_of m.sides) ++ rows) (made_to f.id made)
+    ∙ sym (to-append f.id (allocations_of m.sides) (map made_allocation made))
 
-role_is : (m : Master) (made : List MadeOffer) (role : List ℕ) (fs : List Framework) → rounds.role_rows (map (client m) fs) made role ≡ role_rows fs role (gifts_with m.sides made)
+role_is : (m : Master) (made : List MadeOffer) (role : List ℕ) (fs : List Framework) → rounds.role_rows (map (client m) fs) made role ≡ role_rows (frameworks.clients_of fs) role (allocations_with m.sides made)
 role_is m made role [] = refl
 role_is m made role (f ∷ fs) =
     ap (λ rows. cond (bytes_eq f.role role) rows [] ++ rounds.role_rows (map (client m) fs) made role) (share_is m made f)
-    ∙ ap (λ rows. cond (bytes_eq f.role role) (rows_to f.id (gifts_with m.sides made)) [] ++ rows) (role_is m made role fs)
+    ∙ ap (λ rows. cond (bytes_eq f.role role) (rows_to f.id (allocations_with m.sides made)) [] ++ rows) (role_is m made role fs)
 
 owned_alike : (ss : List Side) → AddUp ([] ++ owned_rows ss) → (name : List ℕ) → amount name (fold enters_row [] ss) ≡ amount name (owned_rows ss)
 owned_alike ss below name = omega (arith, entered_amounts ss [] below name)
@@ -95,23 +102,24 @@ first_alike t a b t' a' b' tie p p' et ea eb =
 
 -- the shares and the books of a master that they show
 record Shown (ws : List RoleWeight) (m : Master) (made : List MadeOffer) (t : Tally) : Type 0 where
-  pub shows : TallyShows ws (gifts_with m.sides made) m.registers.frameworks t.totals t
+  pub shows : TallyShows (allocations_with m.sides made) (frameworks.clients_of m.registers.frameworks) t
+  pub weights : WeightsShow ws t.roles
   pub positive : ArePositive t.totals
   pub owned : ArePositive (totals_of m)
   pub totals : SameAmounts t.totals (totals_of m)
 
-known_role : (fs gs : List Framework) (t : Tally) (f : Framework) → AllByRecursion (λ g. is_known t.roles g.role ≡ true) gs → Among f gs → is_known t.roles f.role ≡ true
+known_role : (fs gs : List Framework) (t : Tally) (f : Framework) → AllByRecursion (λ c. is_known t.roles c.role ≡ true) (frameworks.clients_of gs) → Among f gs → is_known t.roles f.role ≡ true
 known_role fs [] t f k i = absurd i
 known_role fs (g ∷ gs) t f k (inl e) = ap (λ (x : Framework). is_known t.roles x.role) e ∙ k.0
 known_role fs (g ∷ gs) t f k (inr i) = known_role fs gs t f k.1 i
 
 role_alike : (ws : List RoleWeight) (m : Master) (made : List MadeOffer) (t : Tally) (f : Framework) → Shown ws m made t → Among f m.registers.frameworks → SameShare (role_share t.roles f.role) (rounds.role_share ws (clients_of m) made f.role)
-role_alike ws m made t f s i = (λ name. s.shows.roles f.role known name ∙ ap (amount name) (sym (role_is m made f.role m.registers.frameworks)), s.shows.weights f.role known)
+role_alike ws m made t f s i = (λ name. s.shows.roles f.role known name ∙ ap (amount name) (sym (role_is m made f.role m.registers.frameworks)), s.weights f.role known)
   where
     known : is_known t.roles f.role ≡ true
     known = known_role m.registers.frameworks m.registers.frameworks t f s.shows.known i
 
-share_alike : (m : Master) (made : List MadeOffer) (h : Holder) (f : Framework) → Shows (gifts_with m.sides made) h f → SameShare (share h.held 1) (share_of made (client m f))
+share_alike : (m : Master) (made : List MadeOffer) (h : Holder) (f : Framework) → Shows (allocations_with m.sides made) h (client_of f) → SameShare (share h.held 1) (share_of made (client m f))
 share_alike m made h f s = (λ name. s.2 name ∙ ap (amount name) (sym (share_is m made f)), refl)
 
 abbrev of_tally : Tally → Holder → Holder → List ℕ → List ℕ → Numbered → Numbered → Bool
@@ -120,7 +128,7 @@ of_tally t h k q r i j =
     else stands_first t.totals (role_share t.roles q) (role_share t.roles r) (bytes_before q r)
 
 comes_alike : (ws : List RoleWeight) (m : Master) (made : List MadeOffer) (t : Tally) (h k : Holder) (f g : Framework) → Shown ws m made t → Among f m.registers.frameworks → Among g m.registers.frameworks
-    → Shows (gifts_with m.sides made) h f → Shows (gifts_with m.sides made) k g → comes_before t h k ≡ rounds.comes_before ws (totals_of m) (clients_of m) made (client m f) (client m g)
+    → Shows (allocations_with m.sides made) h (client_of f) → Shows (allocations_with m.sides made) k (client_of g) → comes_before t h k ≡ rounds.comes_before ws (totals_of m) (clients_of m) made (client m f) (client m g)
 comes_alike ws m made t h k f g s i j sf sg =
     ap (λ x. of_tally t h k x k.role h.framework k.framework) sf.1
     ∙ ap (λ x. of_tally t h k f.role x h.framework k.framework) sg.1
@@ -136,13 +144,19 @@ comes_alike ws m made t h k f g s i j sf sg =
 
 -- a framework with what it holds by the shares
 
-own_shown : (gs : List Gift) (t : Tally) (f : Framework) (o : Option Holder) → Alike gs o (Some f) → Shows gs (record { framework = f.id; role = f.role; held = held_of o }) f
+own_shown : (gs : List Allocation) (t : Tally) (f : Framework) (o : Option Holder) → Alike gs o (Some (client_of f)) → Shows gs (record { framework = f.id; role = f.role; held = held_of o }) (client_of f)
 own_shown gs t f None a = absurd a
 own_shown gs t f (Some h) a = (refl, refl, a.2)
 
-shown_of : (ws : List RoleWeight) (m : Master) (made : List MadeOffer) (t : Tally) (f : Framework) → Shown ws m made t → are_ordered m.registers.frameworks ≡ true → Among f m.registers.frameworks → Shows (gifts_with m.sides made) (framework_holder t f) f
-shown_of ws m made t f s ordered i = own_shown (gifts_with m.sides made) t f (find (is_holder f.id) t.holders)
-    (subst (Alike (gifts_with m.sides made) (find (is_holder f.id) t.holders)) (find_own m.registers.frameworks f ordered i) (found_alike (gifts_with m.sides made) f.id t.holders m.registers.frameworks s.shows.holders))
+among_clients : (f : Framework) (fs : List Framework) → Among f fs → Among (client_of f) (frameworks.clients_of fs)
+among_clients f [] i = absurd i
+among_clients f (g ∷ fs) (inl e) = inl (ap client_of e)
+among_clients f (g ∷ fs) (inr i) = inr (among_clients f fs i)
+
+shown_of : (ws : List RoleWeight) (m : Master) (made : List MadeOffer) (t : Tally) (f : Framework) → Shown ws m made t → are_ordered m.registers.frameworks ≡ true → Among f m.registers.frameworks → Shows (allocations_with m.sides made) (framework_holder t f) (client_of f)
+shown_of ws m made t f s ordered i = own_shown (allocations_with m.sides made) t f (find (is_holder f.id) t.holders)
+    (subst (Alike (allocations_with m.sides made) (find (is_holder f.id) t.holders)) (find_own (frameworks.clients_of m.registers.frameworks) (client_of f) (clients_once m.registers.frameworks ordered) (among_clients f m.registers.frameworks i))
+    (found_alike (allocations_with m.sides made) f.id t.holders (frameworks.clients_of m.registers.frameworks) s.shows.holders))
 
 -- the best so far is the same
 
@@ -213,17 +227,15 @@ owned_positive (s ∷ ss) rows = by s.is_open (owned_positive ss rows.1)
     by false ih = ih
 
 pub picks_alike : PicksAlike
-picks_alike ws m made agent free can =
-    same_id m (fold (better_eligible m.registers.now agent free (shares_with ws m made)) None m.registers.frameworks) (pick ws m.registers.now (totals_of m) (clients_of m) made agent free)
-    (best_all ws m made (shares_with ws m made) agent free shown can.ordered m.registers.frameworks (λ f i. i) None None tt)
+picks_alike ws m made t agent free can show =
+    same_id m (fold (better_eligible m.registers.now agent free t) None m.registers.frameworks) (pick ws m.registers.now (totals_of m) (clients_of m) made agent free)
+    (best_all ws m made t agent free shown can.ordered m.registers.frameworks (λ f i. i) None None tt)
   where
-    shows : TallyShows ws (gifts_with m.sides made) m.registers.frameworks (fold enters_row [] m.sides) (shares_with ws m made)
-    shows = shares_show ws m.sides m.registers.frameworks (map made_gift made) can.ordered can.held
-
-    shown : Shown ws m made (shares_with ws m made)
+    shown : Shown ws m made t
     shown = record {
-      shows = record { totals_are = refl; holders = shows.holders; known = shows.known; roles = shows.roles; weights = shows.weights };
-      positive = subst ArePositive (sym shows.totals_are) (sums_positive m.sides [] no_sum can.rows).positive;
+      shows = show.shown;
+      weights = show.weights;
+      positive = subst ArePositive (sym show.totals) (sums_positive m.sides [] no_sum can.rows).positive;
       owned = owned_positive m.sides can.rows;
-      totals = λ name. ap (amount name) shows.totals_are ∙ owned_alike m.sides can.totals name;
+      totals = λ name. ap (amount name) show.totals ∙ owned_alike m.sides can.totals name;
     }

@@ -1,4 +1,4 @@
 pub mod Candidates
-pub mod Gifts
+pub mod Allocations
 pub mod Picks
 pub mod Laws

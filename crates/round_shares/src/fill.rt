@@ -1,22 +1,24 @@
 //! What agents own, and what frameworks hold of it.
 
-ghost use Rattle.std.specs.Prelude.{◌≡◌, [], fold, map, flat_map, IfOk, OnOk};
+ghost use Rattle.std.specs.Prelude.{◌≡◌, ◌≤◌, ◌<◌, ◌++◌, ◌∷◌, [], true, List, fold, take, length, IfOk, IfSome, OnOk};
+ghost use Rattle.mails.specs.declared.framework.Framework as model;
 ghost use Rattle.agent_sides.specs.Joined.{join, joined};
-ghost use Rattle.cluster_model.specs.Sides.{unended};
-ghost use Rattle.role_weights.specs.Weights.{weight_of};
-ghost use Rattle.drf_pick.specs.Shares.{restarted, weighed, with_role};
-ghost use Rattle.round_shares.specs.Gifts.{enters_row, gifts_of, gifts_on, holds, job_gift, knows, offer_gift, shares_of};
+ghost use Rattle.frameworks.specs.Frameworks.{are_ordered};
+ghost use Rattle.frameworks.specs.LastRound.{client_of, clients_of};
+ghost use Rattle.drf_pick.specs.Shares.{all_weighed, with_totals};
+ghost use Rattle.drf_pick.specs.declared.holder.Client.{Client};
+ghost use Rattle.drf_pick.specs.Allocations.{AddUp, all_rows};
+ghost use Rattle.drf_pick.specs.Shown.{AllCounted, AreCounted, NoneOf, SameAllocations, SameFound, StayCounted, all_found};
+ghost use Rattle.round_shares.specs.Allocations.{AreFoundOn, BeginRound, IsFoundAt, allocations_in, allocations_of, enters_row};
 
+use crate::found::{are_found, found_on};
 use agent_sides::Sides;
-use drf_pick::{Holdings, Shares};
+use drf_pick::{CountedShares, Sum};
 use frameworks::Frameworks;
-use mails::{Booked, Framework, Offer};
-use names_core::{FrameworkId, RoleName};
+use mails::Framework;
 use offer_book::Account;
-use quantity::Resources;
 use role_weights::Weights;
 use roster::RosterEntry;
-use share_sums::Sum;
 use std::alloc::{AllocError, Global};
 
 fn add_total(
@@ -27,9 +29,14 @@ fn add_total(
 ) -> Result<(), AllocError>
     ensures { OnOk result (totals.new ≡ enters_row totals.old (join entry.now account.now)) }
 {
-    if entry.is_open() {
-        *totals = totals.plus(alloc, &account.total)?;
+    if !entry.is_open() {
+        return Ok(());
     }
+    if totals.has_names_of(&account.total) {
+        totals.add(&account.total);
+        return Ok(());
+    }
+    *totals = totals.plus(alloc, &account.total)?;
     Ok(())
 }
 
@@ -51,144 +58,156 @@ fn add_all(
     Ok(())
 }
 
-fn enter_role(
-    holdings: &mut Holdings,
+/// The shares that are kept, and how many frameworks are registered in them, where they are of so
+/// many agents; else those of nobody.
+fn kept_or_new(
     alloc: Global,
-    framework: &Framework,
-) -> Result<(), AllocError>
-    ensures { OnOk result
-        (holdings.new ≡ with_role framework.now.id framework.now.role holdings.old) }
+    kept: Option<CountedShares>,
+    count: usize,
+    agents: usize,
+) -> Result<(CountedShares, usize), AllocError>
+    ensures counted { (frameworks : List model.Framework) → IfSome kept
+        (AreCounted (clients_of (take count frameworks)))
+        → IfOk result (λ k. AreCounted (clients_of (take k.1 frameworks)) k.0) }
+    ensures many { IfOk result (λ k. length k.0.found.items ≡ agents) }
+    ensures few { IfOk result (λ k. k.1 ≤ count) }
 {
-    holdings.role(alloc, framework.id, &framework.role)
-}
-
-fn weigh(
-    holdings: &mut Holdings,
-    alloc: Global,
-    weights: &Weights,
-    role: &RoleName,
-) -> Result<(), AllocError>
-    ensures { OnOk result (holdings.new
-        ≡ weighed role.now (weight_of weights.now role.now) holdings.old) }
-{
-    holdings.weigh(alloc, role, weights.of(role))
-}
-
-fn know(
-    holdings: &mut Holdings,
-    alloc: Global,
-    weights: &Weights,
-    framework: &Framework,
-) -> Result<(), AllocError>
-    ensures { OnOk result (holdings.new ≡ knows weights.now holdings.old framework.now) }
-{
-    enter_role(holdings, alloc, framework)?;
-    weigh(holdings, alloc, weights, &framework.role)
-}
-
-fn know_all(
-    holdings: &mut Holdings,
-    alloc: Global,
-    weights: &Weights,
-    frameworks: &[Framework],
-) -> Result<(), AllocError>
-    ensures { OnOk result (holdings.new ≡ fold (knows weights.now) holdings.old frameworks.now) }
-{
-    for framework in frameworks {
-        know(holdings, alloc, weights, framework)?;
-    }
-    Ok(())
-}
-
-fn give(
-    holdings: &mut Holdings,
-    alloc: Global,
-    framework: FrameworkId,
-    resources: &Resources,
-) -> Result<(), AllocError>
-    ensures { OnOk result (holdings.new ≡ holds holdings.old
-        (record { framework = framework; resources = resources.now })) }
-{
-    holdings.give(alloc, framework, resources)
-}
-
-fn give_offers(holdings: &mut Holdings, alloc: Global, offers: &[Offer]) -> Result<(), AllocError>
-    ensures { OnOk result (holdings.new ≡ fold holds holdings.old (map offer_gift offers.now)) }
-{
-    for offer in offers {
-        give(holdings, alloc, offer.framework, &offer.resources)?;
-    }
-    Ok(())
-}
-
-fn give_tasks(holdings: &mut Holdings, alloc: Global, tasks: &[Booked]) -> Result<(), AllocError>
-    ensures { OnOk result
-        (holdings.new ≡ fold holds holdings.old (map job_gift (unended tasks.now))) }
-{
-    for task in tasks {
-        if !task.ended {
-            give(holdings, alloc, task.job.framework, &task.job.resources)?;
+    if let Some(counted) = kept {
+        if counted.found.len() == agents {
+            return Ok((counted, count));
         }
     }
-    Ok(())
+    Ok((CountedShares::new(alloc, agents)?, 0))
 }
 
-fn give_account(holdings: &mut Holdings, alloc: Global, account: &Account) -> Result<(), AllocError>
-    ensures { OnOk result (holdings.new ≡ fold holds holdings.old
-        (gifts_on account.now.offers account.now.booked)) }
+fn register(
+    counted: &mut CountedShares,
+    alloc: Global,
+    framework: &Framework,
+) -> Result<(), AllocError>
+    ensures found { OnOk result (SameFound counted.old.found.items counted.new.found.items) }
+    ensures counted { OnOk result ((cs : List Client) → NoneOf framework.now.id cs
+        → AreCounted cs counted.old
+        → AreCounted (cs ++ client_of framework.now ∷ []) counted.new) }
 {
-    give_offers(holdings, alloc, account.offers.as_slice())?;
-    give_tasks(holdings, alloc, account.booked.as_slice())
+    match counted.register(alloc, framework.id, &framework.role) {
+        Ok(()) => Ok(()),
+        Err(_) => Err(AllocError),
+    }
 }
 
-fn give_all(holdings: &mut Holdings, alloc: Global, accounts: &[Account]) -> Result<(), AllocError>
-    ensures { OnOk result (holdings.new ≡ fold holds holdings.old
-        (flat_map (λ a. gifts_on a.offers a.booked) accounts.now)) }
+/// Registers the frameworks from a place on.
+fn register_all(
+    counted: &mut CountedShares,
+    alloc: Global,
+    frameworks: &[Framework],
+    from: usize,
+) -> Result<(), AllocError>
+    requires ordered { are_ordered frameworks.now ≡ true }
+    requires few { from ≤ length frameworks.now }
+    requires counted { AreCounted (clients_of (take from frameworks.now)) counted.old }
+    ensures counted { OnOk result (AreCounted (clients_of frameworks.now) counted.new) }
+    ensures many { OnOk result (length counted.new.found.items ≡ length counted.old.found.items) }
 {
-    for account in accounts {
-        give_account(holdings, alloc, account)?;
+    for place in from..frameworks.len() {
+        register(counted, alloc, &frameworks[place])?;
     }
     Ok(())
 }
 
-/// Counts anew what is held, by what agents own, and registers more frameworks.
-fn fill(
-    holdings: &mut Holdings,
+/// Looks at the agent at a place.
+fn find_at(
+    counted: &mut CountedShares,
+    alloc: Global,
+    place: usize,
+    account: &Account,
+) -> Result<(), AllocError>
+    requires { place < length counted.old.found.items }
+    ensures found { OnOk result (IsFoundAt place account.now counted.old.found.items
+        counted.new.found.items) }
+    ensures counted { OnOk result (StayCounted counted.old counted.new) }
+{
+    if are_found(&counted.found[place].allocations, account) {
+        return Ok(());
+    }
+    let allocations = found_on(alloc, account)?;
+    match counted.find(alloc, place, allocations) {
+        Ok(()) => Ok(()),
+        Err(_) => Err(AllocError),
+    }
+}
+
+/// Looks at all agents.
+fn find_all(
+    counted: &mut CountedShares,
+    alloc: Global,
+    accounts: &[Account],
+) -> Result<(), AllocError>
+    requires { length counted.old.found.items ≡ length accounts.now }
+    ensures found { OnOk result (AreFoundOn counted.new.found.items accounts.now) }
+    ensures counted { OnOk result (StayCounted counted.old counted.new) }
+{
+    for place in 0..accounts.len() {
+        find_at(counted, alloc, place, &accounts[place])?;
+    }
+    Ok(())
+}
+
+/// Counts what frameworks are allocated now, as far as that is other than before.
+fn recount(
+    counted: &mut CountedShares,
+    alloc: Global,
+    accounts: &[Account],
+) -> Result<(), AllocError>
+    requires many { length counted.old.found.items ≡ length accounts.now }
+    requires sums { AddUp (all_rows (allocations_in accounts.now)) }
+    ensures counted { OnOk result (StayCounted counted.old counted.new) }
+    ensures all { OnOk result (AllCounted counted.new.found.items) }
+    ensures found { OnOk result
+        (SameAllocations (all_found counted.new.found.items) (allocations_in accounts.now)) }
+{
+    find_all(counted, alloc, accounts)?;
+    counted.count(alloc)
+}
+
+/// Agents own this together, and roles have these weights.
+fn own(
+    counted: &mut CountedShares,
     alloc: Global,
     weights: &Weights,
-    sides: &Sides,
-    more: &[Framework],
+    totals: Sum,
 ) -> Result<(), AllocError>
-    ensures { OnOk result (holdings.new ≡ fold holds (fold (knows weights.now)
-        (restarted weights.now (fold enters_row [] sides.now) holdings.old) more.now)
-        (gifts_of sides.now)) }
+    ensures shares { OnOk result (counted.new.shares
+        ≡ all_weighed weights.now (with_totals totals counted.old.shares)) }
+    ensures found { counted.new.found ≡ counted.old.found }
 {
-    let (entries, accounts) = sides.parts();
-    let mut totals = Sum::new(alloc);
-    add_all(&mut totals, alloc, entries, accounts)?;
-    holdings.restart(alloc, totals, weights);
-    know_all(holdings, alloc, weights, more)?;
-    give_all(holdings, alloc, accounts)?;
+    counted.shares.own(alloc, totals)?;
+    counted.shares.reweigh(weights);
     Ok(())
 }
 
 /// The shares of a round: what the agents with an open session own, the frameworks with their roles
 /// and the weights of these, and their current offers and booked tasks that haven't ended, on every
-/// agent. It takes what was kept of the round before, so that only frameworks that aren't
-/// registered in that are visited.
+/// agent. They are made of those that were kept of the round before: only what is other than then
+/// is taken back and given, and only frameworks that are new are registered. What is allocated
+/// isn't more than can be summed.
 pub fn shares_of(
     alloc: Global,
     weights: &Weights,
     sides: &Sides,
     frameworks: &mut Frameworks,
-) -> Result<Shares, AllocError>
-    ensures shares { IfOk result (λ shares. shares
-        ≡ shares_of weights.now sides.now frameworks.old) }
+) -> Result<CountedShares, AllocError>
+    requires { AddUp (all_rows (allocations_of sides.now)) }
+    ensures shares { IfOk result (BeginRound weights.now sides.now frameworks.old) }
     ensures same { frameworks.new ≡ frameworks.old }
 {
-    let (mut holdings, known_count) = frameworks.take_holdings(alloc);
-    let more = &frameworks.as_slice()[known_count..];
-    fill(&mut holdings, alloc, weights, sides, more)?;
-    let shares = Shares::of(alloc, holdings)?;
-    Ok(shares)
+    let (entries, accounts) = sides.parts();
+    let (kept, count) = frameworks.take_shares();
+    let (mut counted, registered) = kept_or_new(alloc, kept, count, accounts.len())?;
+    register_all(&mut counted, alloc, frameworks.as_slice(), registered)?;
+    recount(&mut counted, alloc, accounts)?;
+    let mut totals = Sum::new(alloc);
+    add_all(&mut totals, alloc, entries, accounts)?;
+    own(&mut counted, alloc, weights, totals)?;
+    Ok(counted)
 }

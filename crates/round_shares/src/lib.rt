@@ -4,6 +4,7 @@
 
 mod candidates;
 mod fill;
+mod found;
 mod laws;
 mod pick;
 

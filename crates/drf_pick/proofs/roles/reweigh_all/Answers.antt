@@ -1,7 +1,7 @@
 use Rattle.std.proofs.Common.{rules, arith}
 use Rattle.std.proofs.lemmas.List.Edits.{map_over_more}
 use Rattle.drf_pick.specs.Shares.{reweighed}
-use Rattle.drf_pick.proofs.Restarting.{set_weighed}
+use Rattle.drf_pick.proofs.Reweighing.{set_weighed}
 use Rattle.drf_pick.proofs.roles.reweigh_all.Goals as goal
 
 pub loop-place-preserved : goal.loop-place-preserved

@@ -3,16 +3,17 @@ use Rattle.agent_sides.proofs.Joining.{on_ok}
 use Rattle.frameworks.specs.Frameworks.{are_ordered}
 use Rattle.master_state.specs.declared.state.State.{State}
 use Rattle.master_rounds.specs.News.{news_of, offers_all}
-use Rattle.master_rounds.specs.Visits.{round_of}
+use Rattle.master_rounds.specs.Visits.{round_with}
 use Rattle.master_rounds.proofs.SendingAll.{Holds, allocated_so, few_made, with_all}
 use Rattle.master_rounds.proofs.round.allocate.Goals as goal
 
 pub send_offers-requires-clause-few : goal.send_offers-requires-clause-few
 send_offers-requires-clause-few c =
     let s = c.args.state.now in
+    let r = c.in_ok-made.ensures.round in
     let ordered = subst (λ (t : State). are_ordered t.frameworks ≡ true) c.in_ok-made.ensures.state c.as_slice-frameworks.ensures.ordered in
     let holds : Holds s = record { ordered = ordered; names = c.stand_in_order.ensures; rows = c.own_rows.ensures; fit = c.requires } in
-    subst (λ n. n ≤ 256) (sym (ap length (c.as_slice-2.ensures ∙ c.in_ok-made.ensures.made))) (few_made c.args.weights.now s holds)
+    subst (λ n. n ≤ 256) (sym (ap length (c.as_slice-2.ensures ∙ r.made_is))) (few_made c.args.weights.now s r.shares holds r.shown)
 
 pub returns : goal.returns
 returns c =
@@ -21,6 +22,7 @@ returns c =
     let n = c.next_offers.new.state in
     let made = c.in_ok-made.made in
     let next = c.in_ok-made.next in
+    let r = c.in_ok-made.ensures.round in
     let ordered = subst (λ (t : State). are_ordered t.frameworks ≡ true) c.in_ok-made.ensures.state c.as_slice-frameworks.ensures.ordered in
     let holds : Holds s = record { ordered = ordered; names = c.stand_in_order.ensures; rows = c.own_rows.ensures; fit = c.requires } in
     let frameworks = c.as_slice-frameworks.ensures.items in
@@ -29,7 +31,7 @@ returns c =
     (λ e. ap (λ es. with_all n next c.offer_all.new.sides es) (e ∙ ap (λ os. n.outs.events ++ flat_map (news_of os) c.as_slice-frameworks.result.now) c.as_slice-2.ensures ∙ ap (λ fs. n.outs.events ++ flat_map (news_of made) fs) frameworks)
     ∙ ap (λ ss. with_all n next ss (n.outs.events ++ flat_map (news_of made) n.frameworks)) sides
     ∙ ap (λ (t : State). with_all t next (offers_all made t.sides) (t.outs.events ++ flat_map (news_of made) t.frameworks)) c.in_ok-made.ensures.state
-    ∙ ap (λ os. with_all s next (offers_all os s.sides) (s.outs.events ++ flat_map (news_of os) s.frameworks)) c.in_ok-made.ensures.made
-    ∙ ap (λ k. with_all s k (offers_all (round_of ws s).made s.sides) (s.outs.events ++ flat_map (news_of (round_of ws s).made) s.frameworks)) c.in_ok-made.ensures.next
-    ∙ allocated_so ws s holds)
+    ∙ ap (λ os. with_all s next (offers_all os s.sides) (s.outs.events ++ flat_map (news_of os) s.frameworks)) r.made_is
+    ∙ ap (λ k. with_all s k (offers_all (round_with r.shares s).made s.sides) (s.outs.events ++ flat_map (news_of (round_with r.shares s).made) s.frameworks)) r.next_is
+    ∙ allocated_so ws s r.shares holds r.shown)
     c.send_offers.ensures

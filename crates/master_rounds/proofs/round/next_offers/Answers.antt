@@ -1,31 +1,39 @@
-use Rattle.std.proofs.Common.{ap, ◌∙◌}
-use Rattle.master_rounds.specs.Visits.{Progress}
-use Rattle.master_rounds.proofs.Keeping.{knowing, round_remembers, round_so}
+use Rattle.std.proofs.Common.{◌++◌, List, map, ap, sym, subst, ◌∙◌}
+use Rattle.mails.specs.declared.framework.Framework.{Framework}
+use Rattle.drf_pick.specs.Shown.{TallyShows, counted_of}
+use Rattle.frameworks.specs.LastRound.{clients_of}
+use Rattle.master_rounds.specs.Visits.{Progress, allocation_by}
+use Rattle.master_rounds.proofs.Bounds.{sides_add_up}
+use Rattle.master_rounds.proofs.Keeping.{begins_shown, knowing, round_shown, round_so}
+use Rattle.master_rounds.proofs.SendingAll.{Holds}
 use Rattle.master_rounds.proofs.round.next_offers.Goals as goal
 
-pub keep_holdings-requires : goal.keep_holdings-requires
-keep_holdings-requires c =
-    let ws = c.args.weights.now in
-    let s = c.args.state.now in
-    let same = c.take_starts-starts.ensures.same ∙ c.in_ok-shares.ensures.same in
-    let so = round_so ws s c.take_starts-starts.new.self c.in_ok-shares.shares c.in_ok-progress.progress c.in_ok-progress.ensures.progress same c.in_ok-shares.ensures.shares in
-    rw (c.into_holdings.ensures, c.keep_starts.ensures, same, so) (round_remembers ws s)
+pub shares_of-requires : goal.shares_of-requires
+shares_of-requires c = sides_add_up c.args.state.now.sides c.requires.rows c.requires.fits.totals c.requires.fits.few
 
-pub returns-clause-made : goal.returns-clause-made
-returns-clause-made c =
-    let ws = c.args.weights.now in
+pub keep-requires : goal.keep-requires
+keep-requires c =
     let s = c.args.state.now in
-    let same = c.take_starts-starts.ensures.same ∙ c.in_ok-shares.ensures.same in
-    let so = round_so ws s c.take_starts-starts.new.self c.in_ok-shares.shares c.in_ok-progress.progress c.in_ok-progress.ensures.progress same c.in_ok-shares.ensures.shares in
-    ap (λ (p : Progress). p.made) so
+    let k = c.in_ok-counted.counted in
+    let p = c.in_ok-progress.progress in
+    let same = c.take_starts-starts.ensures.same ∙ c.in_ok-counted.ensures.same in
+    let holds : Holds s = record { ordered = c.as_slice-ordered.ensures.ordered; names = c.requires.names; rows = c.requires.rows; fit = c.requires.fits } in
+    let shown = round_shown c.args.weights.now s k p holds c.in_ok-counted.ensures.shares (round_so s c.take_starts-starts.new.self k.shares p c.in_ok-progress.ensures.progress same) in
+    subst (λ os. TallyShows (counted_of k.found.items ++ map allocation_by os) (clients_of c.keep_starts.new.self) p.shares) (sym c.as_slice.ensures)
+    (subst (λ (fs : List Framework). TallyShows (counted_of k.found.items ++ map allocation_by p.made) (clients_of fs) p.shares) (sym (c.keep_starts.ensures ∙ same)) shown)
 
-pub returns-clause-next : goal.returns-clause-next
-returns-clause-next c =
-    let ws = c.args.weights.now in
+pub returns-clause-round : goal.returns-clause-round
+returns-clause-round c =
     let s = c.args.state.now in
-    let same = c.take_starts-starts.ensures.same ∙ c.in_ok-shares.ensures.same in
-    let so = round_so ws s c.take_starts-starts.new.self c.in_ok-shares.shares c.in_ok-progress.progress c.in_ok-progress.ensures.progress same c.in_ok-shares.ensures.shares in
-    ap (λ (p : Progress). p.next) so
+    let k = c.in_ok-counted.counted in
+    let p = c.in_ok-progress.progress in
+    let so = round_so s c.take_starts-starts.new.self k.shares p c.in_ok-progress.ensures.progress (c.take_starts-starts.ensures.same ∙ c.in_ok-counted.ensures.same) in
+    record {
+      shares = k.shares;
+      shown = begins_shown c.args.weights.now s k c.in_ok-counted.ensures.shares;
+      made_is = ap (λ (q : Progress). q.made) so;
+      next_is = ap (λ (q : Progress). q.next) so;
+    }
 
 pub returns-clause-state : goal.returns-clause-state
-returns-clause-state c = ap (knowing c.args.state.now) (c.keep_holdings.ensures ∙ c.keep_starts.ensures ∙ c.take_starts-starts.ensures.same ∙ c.in_ok-shares.ensures.same)
+returns-clause-state c = c.keep.ensures ∙ ap (knowing c.args.state.now) (c.keep_starts.ensures ∙ c.take_starts-starts.ensures.same ∙ c.in_ok-counted.ensures.same)

@@ -1,5 +1,5 @@
 use Rattle.std.proofs.Common.{fold, drop, ap, sym, ◌∙◌}
-use Rattle.round_shares.specs.Gifts.{enters_row}
+use Rattle.round_shares.specs.Allocations.{enters_row}
 use Rattle.round_shares.proofs.Parts.{joined_past}
 use Rattle.round_shares.proofs.fill.add_all.Goals as goal
 

@@ -1,6 +1,6 @@
 use Rattle.std.proofs.Common.{◌≡◌, drop, fold}
 use Rattle.agent_sides.specs.Joined.{joined}
-use Rattle.round_shares.specs.Gifts.{enters_row}
+use Rattle.round_shares.specs.Allocations.{enters_row}
 use Rattle.round_shares.proofs.fill.add_all.Given as goal
 
 abbrev pub invariant-loop-i : goal.invariant-loop-i

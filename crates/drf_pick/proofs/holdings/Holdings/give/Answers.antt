@@ -1,14 +1,11 @@
-use Rattle.std.proofs.Common.{◌≡◌, List, None, Some, refl, ap, sym, subst, ◌∙◌}
+use Rattle.std.proofs.Common.{◌≡◌, List, None, refl, ap, sym, subst, ◌∙◌}
 use Rattle.std.specs.List.{find, position}
 use Rattle.quantity.specs.declared.rows.Row.{Row}
 use Rattle.names_core.specs.Ids.{Numbered}
-use Rattle.share_sums.specs.Lists.{Among}
 use Rattle.drf_pick.specs.Shares.{AreUpTo, Holder, HoldersOnce, RoleSum, Tally, at_first, given, given_holders, given_roles, holding, is_holder}
-use Rattle.drf_pick.specs.Renewing.{HoldNothingBut, HoldsNothing}
 use Rattle.drf_pick.proofs.FoundRoles.{either}
 use Rattle.drf_pick.proofs.Once.{once_changed}
 use Rattle.drf_pick.proofs.Places.{none_at, unchanged}
-use Rattle.drf_pick.proofs.Renewing.{other_first}
 use Rattle.drf_pick.proofs.UpTo.{changed_up_to}
 use Rattle.drf_pick.proofs.holdings.Holdings.give.Goals as goal
 
@@ -24,18 +21,11 @@ returns-in_default-clause-ok c =
     let at = subst (λ (hs : List Holder). position (is_holder f) hs ≡ None) (c.deref.ensures.value ∙ ap (λ (t : Tally). t.holders) c.self.view_is) (sym c.holder_place.ensures ∙ c.in_default.is) in
     none_given f c.args.resources.now c.args.self.now (none_at (is_holder f) c.args.self.now.holders at)
 
-pub invariant_of-self-2 : goal.invariant_of-self-2
-invariant_of-self-2 c =
+pub invariant_of-self : goal.invariant_of-self
+invariant_of-self c =
     let s = c.self.inside in
     let hs = s.holders.items in
     let f = c.args.framework in
-    let places = c.note.new.given.items in
     let change = holding c.args.resources.now in
-    let at = subst (λ (xs : List Holder). position (is_holder f) xs ≡ Some c.in-Some.place) c.deref.ensures.value (sym c.holder_place.ensures ∙ c.in-Some.is) in
-    let old = subst (λ (xs : List Holder). HoldNothingBut places xs) c.deref-2.ensures.value c.in_ok-note.ensures.given in
-    let new = other_first HoldsNothing (λ i. Among i places) (is_holder f) change hs c.in-Some.place at c.in_ok-note.ensures.noted old in
-    let before : (AreUpTo s.last hs × HoldersOnce hs) × HoldNothingBut places hs = (c.self.invariant.0, old) in
-    let changed : (AreUpTo s.last (at_first (is_holder f) change hs) × HoldersOnce (at_first (is_holder f) change hs)) × HoldNothingBut places (at_first (is_holder f) change hs) =
-    ((changed_up_to s.last f change (λ h. refl) hs c.self.invariant.0.0, once_changed f change (λ h. refl) hs c.self.invariant.0.1), new) in
-    let now = either c.give_in.result (λ (xs : List Holder). (AreUpTo s.last xs × HoldersOnce xs) × HoldNothingBut places xs) hs c.give_in.new.holders.items (at_first (is_holder f) change hs) c.give_in.ensures.holders c.give_in.ensures.same_holders before changed in
-    (now.0, (now.1, c.self.invariant.1.1))
+    let changed : AreUpTo s.last (at_first (is_holder f) change hs) × HoldersOnce (at_first (is_holder f) change hs) = (changed_up_to s.last f change (λ h. refl) hs c.self.invariant.0, once_changed f change (λ h. refl) hs c.self.invariant.1) in
+    either c.give_in.result (λ (xs : List Holder). AreUpTo s.last xs × HoldersOnce xs) hs c.give_in.new.holders.items (at_first (is_holder f) change hs) c.give_in.ensures.holders c.give_in.ensures.same_holders c.self.invariant changed

@@ -2,8 +2,8 @@ use Rattle.std.proofs.Common.{sym, subst}
 use Rattle.std.specs.BTreeMap.{get_by_text}
 use Rattle.drf_pick.specs.Shares.{RolesOnce}
 use Rattle.drf_pick.specs.Places.{AreFoundBy}
-use Rattle.drf_pick.proofs.Restarting.{found_reweighed, reweighed_once}
-use Rattle.drf_pick.proofs.roles.Roles.restart.Goals as goal
+use Rattle.drf_pick.proofs.Reweighing.{found_reweighed, reweighed_once}
+use Rattle.drf_pick.proofs.roles.Roles.reweigh.Goals as goal
 
 pub invariant_of-self : goal.invariant_of-self
 invariant_of-self c =

@@ -2,7 +2,7 @@ use Rattle.std.proofs.Common.{◌≡◌, ℕ, take, sym, ap, subst, ◌∙◌, I
 use Rattle.names_core.specs.Ids.{Numbered}
 use Rattle.cluster_model.specs.Masters.{put_framework}
 use Rattle.frameworks.specs.Frameworks.{place_of}
-use Rattle.frameworks.proofs.Clients.{put_front, told_alike}
+use Rattle.frameworks.proofs.Clients.{put_front, first_alike_are}
 use Rattle.frameworks.proofs.last_round.LastRound.cut_for.Goals as goal
 
 pub returns-then-not-has_client-clause-put : goal.returns-then-not-has_client-clause-put
@@ -15,4 +15,4 @@ pub returns-else-not-has_client-clause-put : goal.returns-else-not-has_client-cl
 returns-else-not-has_client-clause-put c = λ f id role.
     let fs = c.args.frameworks.now in
     let is : IsTrue c.has_client.result = search rules in
-    told_alike fs (put_framework f fs) c.args.self.now (c.has_client.ensures f is id role) c.requires.last_round
+    first_alike_are fs (put_framework f fs) c.args.self.now (c.has_client.ensures f is id role) c.requires.last_round

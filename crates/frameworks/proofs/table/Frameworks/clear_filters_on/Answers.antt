@@ -3,7 +3,7 @@ use Rattle.cluster_model.specs.Masters.{clear_on}
 use Rattle.frameworks.specs.OpenStreams.{led_by}
 use Rattle.frameworks.proofs.Leading.{table_kept}
 use Rattle.frameworks.proofs.OneRole.{one_kept}
-use Rattle.frameworks.proofs.Clients.{told_kept}
+use Rattle.frameworks.proofs.Clients.{first_kept}
 use Rattle.frameworks.proofs.Searches.{cut_all}
 use Rattle.frameworks.proofs.table.Frameworks.clear_filters_on.Goals as goal
 
@@ -11,6 +11,6 @@ pub invariant_of-self : goal.invariant_of-self
 invariant_of-self c = rw (c.clear_in.ensures, c.cut.ensures) (
   table_kept (led_by c.self.inside.by_stream) (clear_on c.args.agent.now) c.self.inside.items.items (λ f. refl) (λ f. refl) c.self.invariant.0,
   λ is. one_kept (clear_on c.args.agent.now) c.self.inside.items.items (λ f. refl) (c.self.invariant.1 is),
-  told_kept (clear_on c.args.agent.now) c.self.inside.items.items c.self.inside.last_round (λ f. refl) (λ f. refl) c.self.invariant.2,
+  first_kept (clear_on c.args.agent.now) c.self.inside.items.items c.self.inside.last_round (λ f. refl) (λ f. refl) c.self.invariant.2,
   cut_all c.self.inside.items.items (map (clear_on c.args.agent.now) c.self.inside.items.items) 0 c.self.inside.starts refl c.self.invariant.3,
 )

@@ -4,7 +4,7 @@ use Rattle.frameworks.specs.OpenStreams.{led_by}
 use Rattle.frameworks.proofs.Ordered.{changed_keeps}
 use Rattle.frameworks.proofs.Leading.{table_closed}
 use Rattle.frameworks.proofs.OneRole.{one_kept, changed_keeps_role}
-use Rattle.frameworks.proofs.Clients.{told_kept}
+use Rattle.frameworks.proofs.Clients.{first_kept}
 use Rattle.frameworks.proofs.Searches.{changed_makes_none, closed_makes_none, starts_kept}
 use Rattle.frameworks.proofs.table.Frameworks.close_stream.Goals as goal
 
@@ -12,6 +12,6 @@ pub invariant_of-self : goal.invariant_of-self
 invariant_of-self c = rw c.close_in.ensures (
   table_closed (led_by c.self.inside.by_stream) (led_by c.shut.new.by_stream) c.self.inside.items.items c.args.id c.open_stream-stream.result c.self.invariant.0 (rw c.deref.ensures.value at c.open_stream-stream.ensures) c.shut.ensures,
   λ is. one_kept (changed without_stream c.args.id) c.self.inside.items.items (changed_keeps_role without_stream c.args.id (λ f. refl)) (c.self.invariant.1 is),
-  told_kept (changed without_stream c.args.id) c.self.inside.items.items c.self.inside.last_round (changed_keeps without_stream c.args.id (λ f. refl)) (changed_keeps_role without_stream c.args.id (λ f. refl)) c.self.invariant.2,
+  first_kept (changed without_stream c.args.id) c.self.inside.items.items c.self.inside.last_round (changed_keeps without_stream c.args.id (λ f. refl)) (changed_keeps_role without_stream c.args.id (λ f. refl)) c.self.invariant.2,
   starts_kept (changed without_stream c.args.id) c.self.inside.items.items c.self.inside.starts (λ agent. changed_makes_none agent without_stream c.args.id (closed_makes_none agent)) c.self.invariant.3,
 )

@@ -4,7 +4,7 @@ use Rattle.frameworks.specs.OpenStreams.{led_by}
 use Rattle.frameworks.proofs.Ordered.{changed_keeps}
 use Rattle.frameworks.proofs.Leading.{table_kept, changed_keeps_stream}
 use Rattle.frameworks.proofs.OneRole.{one_kept, changed_keeps_role}
-use Rattle.frameworks.proofs.Clients.{told_kept}
+use Rattle.frameworks.proofs.Clients.{first_kept}
 use Rattle.frameworks.proofs.Searches.{changed_makes_none, suppressed_makes_none, starts_kept}
 use Rattle.frameworks.proofs.table.Frameworks.suppress.Goals as goal
 
@@ -12,6 +12,6 @@ pub invariant_of-self : goal.invariant_of-self
 invariant_of-self c = rw c.suppress_in.ensures (
   table_kept (led_by c.self.inside.by_stream) (changed suppressed c.args.id) c.self.inside.items.items (changed_keeps suppressed c.args.id (λ f. refl)) (changed_keeps_stream suppressed c.args.id (λ f. refl)) c.self.invariant.0,
   λ is. one_kept (changed suppressed c.args.id) c.self.inside.items.items (changed_keeps_role suppressed c.args.id (λ f. refl)) (c.self.invariant.1 is),
-  told_kept (changed suppressed c.args.id) c.self.inside.items.items c.self.inside.last_round (changed_keeps suppressed c.args.id (λ f. refl)) (changed_keeps_role suppressed c.args.id (λ f. refl)) c.self.invariant.2,
+  first_kept (changed suppressed c.args.id) c.self.inside.items.items c.self.inside.last_round (changed_keeps suppressed c.args.id (λ f. refl)) (changed_keeps_role suppressed c.args.id (λ f. refl)) c.self.invariant.2,
   starts_kept (changed suppressed c.args.id) c.self.inside.items.items c.self.inside.starts (λ agent. changed_makes_none agent suppressed c.args.id (suppressed_makes_none agent)) c.self.invariant.3,
 )

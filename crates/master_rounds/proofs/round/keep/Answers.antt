@@ -1,0 +1,10 @@
+use Rattle.drf_pick.specs.Shown.{counted_of}
+use Rattle.frameworks.specs.LastRound.{clients_of}
+use Rattle.round_shares.proofs.Registered.{clients_once}
+use Rattle.master_rounds.proofs.round.keep.Goals as goal
+
+pub keep_shares-requires : goal.keep_shares-requires
+keep_shares-requires c =
+    let fs = c.args.state.now.frameworks in
+    let once = clients_once fs c.as_slice-ordered.ensures.ordered in
+    record { once = once; shown = c.in-Ok.ensures (clients_of fs) (counted_of c.args.found.items) once c.requires }

@@ -1,0 +1,11 @@
+use Rattle.std.proofs.Common.{◌≡◌, length, take}
+use Rattle.drf_pick.specs.Shown.{StayCounted}
+use Rattle.round_shares.specs.Allocations.{AreFoundOn}
+use Rattle.round_shares.proofs.fill.find_all.Given as goal
+
+abbrev pub invariant-loop-place : goal.invariant-loop-place
+invariant-loop-place l = record {
+  found : AreFoundOn (take l.place l.counted.found.items) (take l.place l.accounts);
+  many : length l.counted.found.items ≡ length l.accounts;
+  counted : StayCounted l.fn.counted l.counted;
+}

@@ -1,0 +1,10 @@
+use Rattle.std.proofs.Common.{◌≡◌, length, take}
+use Rattle.frameworks.specs.LastRound.{clients_of}
+use Rattle.drf_pick.specs.Shown.{AreCounted}
+use Rattle.round_shares.proofs.fill.register_all.Given as goal
+
+abbrev pub invariant-loop-place : goal.invariant-loop-place
+invariant-loop-place l = record {
+  counted : AreCounted (clients_of (take l.place l.frameworks)) l.counted;
+  many : length l.counted.found.items ≡ length l.fn.counted.found.items;
+}
