@@ -9,3 +9,4 @@ pub mod Owning
 pub mod Freeing
 pub mod Placing
 pub mod Due
+pub mod Parting

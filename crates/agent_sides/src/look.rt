@@ -4,10 +4,13 @@ ghost use Rattle.std.specs.Prelude.{◌≡◌, ◌&&◌, ◌==◌, false, not, s
 ghost use Rattle.std.specs.List.{find, list_any};
 ghost use Rattle.names_core.specs.Ids.{same};
 ghost use Rattle.cluster_model.specs.Masters.{has_returned, may_have_numbers};
+ghost use Rattle.id_spans.specs.Spans.{IsSpan};
+ghost use Rattle.offer_book.specs.ById.{has_task_as};
 ghost use Rattle.offer_book.specs.Held.{all_placed, place, placed_on};
 ghost use Rattle.roster.specs.Places.{value_at};
 ghost use Rattle.agent_sides.specs.Looks.{is_received_last, is_session};
 
+use id_spans::Span;
 use mails::Booked;
 use names_core::{AgentName, FrameworkId, LaunchKey, TaskName};
 use offer_book::Account;
@@ -160,9 +163,7 @@ fn is_received_last_on(
     any_received_last(tasks, &account.name, framework, agent, name, key, k)
 }
 
-/// Whether this is the update last received of a framework's task of this name and key on this
-/// agent.
-pub fn is_received_last_in(
+fn any_account_received_last(
     accounts: &[Account],
     framework: FrameworkId,
     agent: &AgentName,
@@ -179,4 +180,23 @@ pub fn is_received_last_in(
         }
     }
     false
+}
+
+/// Whether this is the update last received of a framework's task of this name and key on this
+/// agent. Only the accounts at these places are looked at.
+pub fn is_received_last_in(
+    accounts: &[Account],
+    span: Span,
+    framework: FrameworkId,
+    agent: &AgentName,
+    name: &TaskName,
+    key: LaunchKey,
+    k: u32,
+) -> bool
+    requires { IsSpan (has_task_as key) accounts.now span.from span.to }
+    ensures { result ≡ list_any (is_received_last framework agent.now name.now key k)
+        (all_placed accounts.now) }
+{
+    let part = &accounts[span.from..span.to];
+    any_account_received_last(part, framework, agent, name, key, k)
 }

@@ -6,15 +6,19 @@ ghost use Rattle.std.specs.Option.{option_copied};
 ghost use Rattle.quantity.specs.Rows.{AreRows};
 ghost use Rattle.cluster_model.specs.Sides.{without_used};
 ghost use Rattle.cluster_model.specs.Masters.{has_numbers};
+ghost use Rattle.id_spans.specs.Spans.{IsSpan};
+ghost use Rattle.offer_book.specs.Accounts.{are_good};
 ghost use Rattle.roster.specs.Places.{at_place};
+ghost use Rattle.agent_sides.specs.Joined.{AreOfOne};
 ghost use Rattle.agent_sides.specs.Looks.{at_name};
 ghost use Rattle.agent_sides.specs.Own.{good_account, good_offers, holding, holding_of, lacks_numbers, names_with_tasks, sides_with_tasks};
 
 use crate::placed;
 use crate::sides::Sides;
+use id_spans::Span;
 use listed::Listed;
 use names_core::{AgentName, FrameworkId, OfferId};
-use offer_book::Account;
+use offer_book::{Account, OfferBook};
 use plain_data::Plain;
 use quantity::Resources;
 use roster::RosterEntry;
@@ -46,6 +50,35 @@ fn good_account<'a>(
         rest = others;
     }
     None
+}
+
+/// The places outside of which no account has offers of these ids that are good: those of the first
+/// id.
+fn places_of(book: &OfferBook, framework: FrameworkId, ids: &[OfferId]) -> Span
+    ensures { IsSpan (λ a. are_good a.offers framework ids.now) book.now result.from result.to }
+{
+    match ids.first() {
+        None => Span { from: 0, to: 0 },
+        Some(id) => book.places_of_offer(*id),
+    }
+}
+
+/// The account on which offers are good, looked for at these places alone.
+fn good_account_at<'a>(
+    entries: &[RosterEntry],
+    accounts: &'a [Account],
+    span: Span,
+    framework: FrameworkId,
+    ids: &[OfferId],
+) -> Option<&'a Account>
+    requires one { AreOfOne entries.now accounts.now }
+    requires span { IsSpan (λ a. are_good a.offers framework ids.now) accounts.now span.from
+        span.to }
+    ensures { option_copied result
+        ≡ good_account framework ids.now entries.now accounts.entry.now }
+{
+    let part = &accounts[span.from..span.to];
+    good_account(&entries[span.from..span.to], part, framework, ids)
 }
 
 fn lacks_numbers(entries: &[RosterEntry], accounts: &[Account], framework: FrameworkId) -> bool
@@ -112,8 +145,9 @@ impl Sides {
         ensures good { IfOk result (λ good. good ≡ good_offers framework ids.now self.now) }
         ensures rows { IfOk result (λ good. IfSome good (λ offers. AreRows offers.sum)) }
     {
-        let accounts = self.book.accounts();
-        let Some(account) = good_account(self.roster.entries(), accounts, framework, ids) else {
+        let (entries, accounts) = (self.roster.entries(), self.book.accounts());
+        let span = places_of(&self.book, framework, ids);
+        let Some(account) = good_account_at(entries, accounts, span, framework, ids) else {
             return Ok(None);
         };
         let agent = account.name.copy()?;

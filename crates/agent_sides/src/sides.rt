@@ -281,7 +281,8 @@ impl Sides {
         ensures { result ≡ list_any (is_received_last framework agent.now name.now key k)
             (all_placed self.now) }
     {
-        look::is_received_last_in(self.book.accounts(), framework, agent, name, key, k)
+        let span = self.book.places_of_task(key);
+        look::is_received_last_in(self.book.accounts(), span, framework, agent, name, key, k)
     }
 
     /// Whether so many command numbers are left in the session of the

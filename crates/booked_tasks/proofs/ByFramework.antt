@@ -11,19 +11,12 @@ use Rattle.names_core.specs.Ids.{Numbered, same}
 use Rattle.mails.specs.declared.task.Booked.{Booked}
 use Rattle.id_spans.proofs.ByIds.{by_ids}
 use Rattle.booked_tasks.specs.Tasks.{has_key, key_of}
-use Rattle.booked_tasks.specs.Launches.{AreKeys, HasAllBut, HasOthers, HasTask, HasTasks, HasTasksIfKnown, Launches, has_launched, id_cmp, is_among, is_task_of, keys_in, keys_of, tasks_of}
-
-pub at_same : (a b : Numbered) → is_at (id_cmp a) b ≡ same b a
-at_same a b = grind (arith, nat_tests)
+use Rattle.id_spans.specs.Orders.{id_cmp}
+use Rattle.id_spans.proofs.Orders.{at_same, same_is}
+use Rattle.booked_tasks.specs.Launches.{AreKeys, HasAllBut, HasOthers, HasTask, HasTasks, HasTasksIfKnown, Launches, has_launched, is_among, is_task_of, keys_in, keys_of, tasks_of}
 
 same_self : (a : Numbered) → same a a ≡ true
 same_self a = grind (arith, nat_tests)
-
-pub same_is : (a b : Numbered) → same a b ≡ true → a ≡ b
-same_is a b h =
-    let n : a.n ≡ b.n = grind (arith, nat_tests) in
-    let run : a.run ≡ b.run = grind (arith, nat_tests) in
-    let e : record { run = a.run; n = a.n } ≡ b = rw (n, run) refl in e
 
 differs : (k x key : Numbered) → same k key ≡ false → same x key ≡ true → same k x ≡ false
 differs k x key other is = grind (arith, nat_tests)

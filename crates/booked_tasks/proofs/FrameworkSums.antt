@@ -20,7 +20,8 @@ use Rattle.booked_tasks.specs.Used.{IsSum, unended_rows, freed_rows, used}
 use Rattle.booked_tasks.specs.Launches.{is_task_of, tasks_of}
 use Rattle.booked_tasks.specs.Sums.{AreLess, AreMore, AreSums, AreSumsIfKnown, AreWithout, FrameworkSum, Sums, framework_of, freed_rows_of, rows_if, rows_of}
 use Rattle.booked_tasks.proofs.Keys.{ended_job, received_job}
-use Rattle.booked_tasks.proofs.ByFramework.{none_left, same_is}
+use Rattle.id_spans.proofs.Orders.{same_is}
+use Rattle.booked_tasks.proofs.ByFramework.{none_left}
 use Rattle.booked_tasks.proofs.Places.{rows_if_none}
 use Rattle.booked_tasks.proofs.Unended.{commands_used, going_used, sum_ended, sum_forgotten, sum_more, sum_received}
 

@@ -13,7 +13,7 @@ use Rattle.names_core.specs.Ids.{Numbered, same, before}
 use Rattle.id_spans.specs.Spans.{AreRisingBy}
 use Rattle.id_spans.proofs.Rising.{rising_less}
 use Rattle.booked_tasks.specs.Sums.{AreLess, AreMore, AreWithout, FrameworkSum, IsGapAt, IsSumAt, framework_of, rows_if, rows_of}
-use Rattle.booked_tasks.proofs.ByFramework.{same_is}
+use Rattle.id_spans.proofs.Orders.{same_is}
 
 -- ids
 

@@ -2,18 +2,13 @@
 use Rattle.std.specs.Prelude.{◌≡◌, Bool, false, true, ◌&&◌, List, [], filter, Option, None, Some, IfSome}
 use Rattle.std.specs.Global.{Vec}
 use Rattle.std.specs.List.{AllByRecursion, list_any}
-use Rattle.std.specs.Ordering.{nat_cmp, ordering_then}
-use Rattle.std.specs.declared.cmp.Ordering.{Ordering}
 use Rattle.std.specs.BTreeMap.{get_by}
 use Rattle.names_core.specs.Ids.{Numbered, same}
 use Rattle.mails.specs.declared.task.Booked.{Booked}
+use Rattle.id_spans.specs.Orders.{id_cmp}
 use Rattle.id_spans.specs.Spans.{AreRisingBy}
 use Rattle.booked_tasks.specs.Tasks.{has_key, key_of}
 pub use Rattle.booked_tasks.specs.declared.launches.Launches.{Launches}
-
--- ids by run, then by number
-abbrev pub id_cmp : Numbered → Numbered → Ordering
-id_cmp a b = ordering_then (nat_cmp a.run b.run) (nat_cmp a.n b.n)
 
 abbrev pub keys_in : Option (Vec Numbered) → List Numbered
 keys_in None = []

@@ -1,3 +1,4 @@
 pub mod ByIds
 pub mod Rising
 pub mod Spans
+pub mod Orders

@@ -3,7 +3,9 @@
 #![tactic(auto)]
 
 mod has_id;
+mod holder;
 mod span;
 
 pub use has_id::HasId;
+pub use holder::{Holder, count};
 pub use span::{Span, are_rising, goes_on_rising, span_of};

@@ -4,7 +4,8 @@ ghost use Rattle.std.specs.Prelude.{◌≡◌, List, [], fold, IfOk, OnOk};
 ghost use Rattle.std.specs.BTreeMap.{is_at};
 ghost use Rattle.std.specs.List.{list_any};
 ghost use Rattle.mails.specs.declared.task.Booked.{Booked};
-ghost use Rattle.master_mails.specs.Reported.{frameworks_of, id_cmp, keys_of, with_framework, with_key};
+ghost use Rattle.id_spans.specs.Orders.{id_cmp};
+ghost use Rattle.master_mails.specs.Reported.{frameworks_of, keys_of, with_framework, with_key};
 ghost use Rattle.names_core.specs.Ids.{Numbered, same};
 
 use listed::Listed;
@@ -25,7 +26,8 @@ pub struct Reported {
 impl Model for Reported {
     ghost use Rattle.std.specs.Prelude.{◌≡◌, List};
     ghost use Rattle.mails.specs.declared.task.Booked.{Booked};
-    ghost use Rattle.master_mails.specs.Reported.{frameworks_of, keys_of};
+    ghost use Rattle.id_spans.specs.Orders.{id_cmp};
+ghost use Rattle.master_mails.specs.Reported.{frameworks_of, keys_of};
 
     ghost Value = { List Booked };
 

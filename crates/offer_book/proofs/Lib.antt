@@ -5,3 +5,5 @@ pub mod Holding
 pub mod Adding
 pub mod Named
 pub mod Refusing
+pub mod Parts
+pub mod Staying

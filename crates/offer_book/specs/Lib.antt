@@ -5,3 +5,4 @@ pub mod Found
 pub mod Faults
 pub mod Laws
 pub mod Named
+pub mod ById

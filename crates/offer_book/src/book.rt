@@ -1,25 +1,31 @@
 //! The book of all agents.
 
-ghost use Rattle.std.specs.Prelude.{◌≡◌, ◌<◌, [], Ok, map, option_map, OnOk, OnErr, IfOk, IfErr};
+ghost use Rattle.std.specs.Prelude.{◌≡◌, ◌<◌, ℕ, List, [], ◌∷◌, Ok, map, option_map, OnOk, OnErr, IfOk, IfErr};
 ghost use Rattle.std.specs.List.{position};
+ghost use Rattle.names_core.specs.Ids.{Numbered};
+ghost use Rattle.id_spans.specs.Spans.{IsSpan};
 ghost use Rattle.offer_book.specs.Accounts.{without_offer, with_ended, without_key, without_offers_of, without_named};
 ghost use Rattle.offer_book.specs.Books.{is_agent, is_named_so, is_offered, is_booked, booked_count, entered, dropped_from, reopened_on, received_on, applied_on, withdrawn_on, free_of, offered, booked, withdrawn, task_ended, forgotten};
-ghost use Rattle.offer_book.specs.Held.{place, held};
+ghost use Rattle.offer_book.specs.Held.{place, held, first_of_key};
+ghost use Rattle.offer_book.specs.ById.{AreOffersPlaced, AreTasksPlaced, has_offer_as, has_task_as};
 ghost use Rattle.offer_book.specs.Found.{made, offer_of, task_of};
-ghost use Rattle.offer_book.specs.Named.{AreAllNamed, IsNamed};
+ghost use Rattle.task_names.specs.Named.{IsNamed};
+ghost use Rattle.offer_book.specs.Named.{AreAllNamed};
 ghost use Rattle.offer_book.specs.Faults.{IsRefusal, IsDue};
 
 use crate::account::Account;
 use crate::fault::BookFault;
-use crate::held;
-use crate::names::{Keys, Names};
+use crate::{by_id, held};
 use booked_tasks::TaskUpdate;
+use id_places::Places;
+use id_spans::Span;
 use listed::Listed;
 use mails::{Booked, Command, Offer};
 use names_core::{AgentName, FrameworkId, LaunchKey, OfferId, TaskName};
 use quantity::Resources;
 use std::alloc::Global;
 use std::marker::Model;
+use task_names::{Keys, Names};
 
 /// Agents' totals, current offers and booked tasks: an account for each agent that ever entered,
 /// in order of first entering. An account keeps its place.
@@ -28,18 +34,23 @@ pub struct OfferBook {
     accounts: Vec<Account>,
     /// Among these are the names of all booked tasks.
     names: Names,
+    /// By its id, the place of the account that an offer is in.
+    offers_at: Places,
+    /// By its key, the place of the account that a task is in.
+    tasks_at: Places,
 }
 
 impl Model for OfferBook {
     ghost use Rattle.std.specs.Prelude.{List};
     ghost use Rattle.offer_book.specs.declared.account.Account.{Account};
-    ghost use Rattle.offer_book.specs.Named.{AreAllNamed};
+    ghost use Rattle.offer_book.specs.ById.{AreKept};
 
     ghost Value = { List Account };
 
     ghost view = { λ book. book.accounts.items };
 
-    ghost invariant = { λ book. AreAllNamed book.names book.accounts.items };
+    ghost invariant = { λ book. AreKept book.names book.offers_at book.tasks_at
+        book.accounts.items };
 }
 
 fn place_of(accounts: &[Account], name: &AgentName) -> Option<usize>
@@ -88,15 +99,27 @@ fn enter(
     Ok(())
 }
 
-fn drop_from(accounts: &mut Vec<Account>, alloc: Global, name: &AgentName) -> Result<(), BookFault>
+fn drop_from(
+    accounts: &mut Vec<Account>,
+    offers_at: &mut Places,
+    tasks_at: &mut Places,
+    alloc: Global,
+    name: &AgentName,
+) -> Result<(), BookFault>
     ensures ok { OnOk result (dropped_from name.now accounts.old.items ≡ Ok accounts.new.items) }
     ensures refused { IfErr result
         (λ fault. IsDue (dropped_from name.now accounts.old.items) fault) }
     ensures err { OnErr result (accounts.new.items ≡ accounts.old.items) }
+    ensures offers { AreOffersPlaced offers_at.old accounts.old.items
+        → AreOffersPlaced offers_at.new accounts.new.items }
+    ensures tasks { AreTasksPlaced tasks_at.old accounts.old.items
+        → AreTasksPlaced tasks_at.new accounts.new.items }
 {
     let Some(place) = place_of(accounts, name) else {
         return Err(BookFault::Unknown);
     };
+    offers_at.remove_all(accounts[place].offers.as_slice(), place);
+    tasks_at.remove_all(accounts[place].booked.as_slice(), place);
     accounts[place].drop_all(alloc);
     Ok(())
 }
@@ -111,33 +134,40 @@ fn free_in(accounts: &[Account], alloc: Global, name: &AgentName) -> Result<Reso
     Ok(accounts[place].free(alloc)?)
 }
 
+/// An offer is made, if none of its id is current.
 fn offer_in(
     accounts: &mut Vec<Account>,
+    offers_at: &mut Places,
     alloc: Global,
     name: &AgentName,
     offer: Offer,
+    is_current: bool,
 ) -> Result<(), BookFault>
+    requires { is_current ≡ is_offered offer.id accounts.old.items }
     ensures ok { OnOk result (offered name.now offer accounts.old.items ≡ Ok accounts.new.items) }
     ensures refused { IfErr result
         (λ fault. IsRefusal fault (offered name.now offer accounts.old.items)) }
     ensures err { OnErr result (accounts.new.items ≡ accounts.old.items) }
+    ensures offers { AreOffersPlaced offers_at.old accounts.old.items
+        → AreOffersPlaced offers_at.new accounts.new.items }
 {
     let Some(place) = place_of(accounts, name) else {
         return Err(BookFault::Unknown);
     };
-    if is_offered(accounts, offer.id) {
+    if is_current {
         return Err(BookFault::Twice);
     }
     if !accounts[place].fits(alloc, &offer.resources)? {
         return Err(BookFault::NoRoom);
     }
-    accounts[place].offers.push(alloc, offer)?;
+    by_id::push_offer(&mut accounts[place], offers_at, alloc, place, offer)?;
     Ok(())
 }
 
 /// A task is booked, if none of its key is known.
 fn book_in(
     accounts: &mut Vec<Account>,
+    tasks_at: &mut Places,
     alloc: Global,
     name: &AgentName,
     task: Booked,
@@ -148,6 +178,8 @@ fn book_in(
     ensures refused { IfErr result
         (λ fault. IsRefusal fault (booked name.now task accounts.old.items)) }
     ensures err { OnErr result (accounts.new.items ≡ accounts.old.items) }
+    ensures tasks { AreTasksPlaced tasks_at.old accounts.old.items
+        → AreTasksPlaced tasks_at.new accounts.new.items }
 {
     let Some(place) = place_of(accounts, name) else {
         return Err(BookFault::Unknown);
@@ -158,32 +190,66 @@ fn book_in(
     if !accounts[place].fits(alloc, &task.job.resources)? {
         return Err(BookFault::NoRoom);
     }
-    accounts[place].booked.push(alloc, task)?;
+    by_id::push_task(&mut accounts[place], tasks_at, alloc, place, task)?;
     Ok(())
 }
 
-fn withdraw_in(accounts: &mut Vec<Account>, id: OfferId)
+/// The offer of this id is withdrawn from the accounts at these places.
+fn withdraw_at(accounts: &mut Vec<Account>, span: Span, id: OfferId)
+    requires { IsSpan (has_offer_as id) accounts.old.items span.from span.to }
     ensures { accounts.new.items ≡ map (without_offer id) accounts.old.items }
 {
-    for i in 0..accounts.len() {
+    for i in span.from..span.to {
         accounts[i].offers.withdraw(id);
     }
 }
 
-fn end_in(accounts: &mut Vec<Account>, key: LaunchKey)
+fn withdraw_in(accounts: &mut Vec<Account>, offers_at: &mut Places, id: OfferId)
+    requires { AreOffersPlaced offers_at.old accounts.old.items }
+    ensures accounts { accounts.new.items ≡ map (without_offer id) accounts.old.items }
+    ensures offers { AreOffersPlaced offers_at.new accounts.new.items }
+{
+    let span = offers_at.span_in::<Offer, Account, OfferId>(accounts, &id);
+    withdraw_at(accounts, span, id);
+    by_id::forget_offer(offers_at, accounts, span.from, id);
+}
+
+/// The task of this key, in the accounts at these places, has ended.
+fn end_at(accounts: &mut Vec<Account>, span: Span, key: LaunchKey)
+    requires { IsSpan (has_task_as key) accounts.old.items span.from span.to }
     ensures { accounts.new.items ≡ map (with_ended key) accounts.old.items }
 {
-    for i in 0..accounts.len() {
+    for i in span.from..span.to {
         accounts[i].booked.end(key);
     }
 }
 
-fn forget_in(accounts: &mut Vec<Account>, key: LaunchKey)
+fn end_in(accounts: &mut Vec<Account>, tasks_at: &Places, key: LaunchKey)
+    requires { AreTasksPlaced tasks_at.now accounts.old.items }
+    ensures { accounts.new.items ≡ map (with_ended key) accounts.old.items }
+{
+    let span = tasks_at.span_in::<Booked, Account, LaunchKey>(accounts, &key);
+    end_at(accounts, span, key);
+}
+
+/// The task of this key is removed from the accounts at these places.
+fn forget_at(accounts: &mut Vec<Account>, span: Span, key: LaunchKey)
+    requires { IsSpan (has_task_as key) accounts.old.items span.from span.to }
     ensures { accounts.new.items ≡ map (without_key key) accounts.old.items }
 {
-    for i in 0..accounts.len() {
+    for i in span.from..span.to {
         accounts[i].booked.forget(key);
     }
+}
+
+fn forget_in(accounts: &mut Vec<Account>, tasks_at: &mut Places, key: LaunchKey)
+    requires { AreTasksPlaced tasks_at.old accounts.old.items }
+    ensures accounts { accounts.new.items ≡ map (without_key key) accounts.old.items }
+    ensures tasks { AreTasksPlaced tasks_at.new accounts.new.items }
+{
+    let span = tasks_at.span_in::<Booked, Account, LaunchKey>(accounts, &key);
+    forget_at(accounts, span, key);
+    by_id::forget_task(tasks_at, accounts, span.from, key);
 }
 
 fn withdraw_of_in(accounts: &mut Vec<Account>, framework: FrameworkId)
@@ -194,16 +260,51 @@ fn withdraw_of_in(accounts: &mut Vec<Account>, framework: FrameworkId)
     }
 }
 
-fn withdraw_offers_in(accounts: &mut Vec<Account>, framework: FrameworkId, ids: &[OfferId])
-    ensures { accounts.new.items ≡ map (without_named framework ids.now) accounts.old.items }
+/// The offer to a framework that has this id is withdrawn from the accounts at these places.
+fn withdraw_named_at(accounts: &mut Vec<Account>, span: Span, framework: FrameworkId, id: OfferId)
+    requires { IsSpan (has_offer_as id) accounts.old.items span.from span.to }
+    ensures { accounts.new.items ≡ map (without_named framework (id ∷ [])) accounts.old.items }
 {
-    for i in 0..accounts.len() {
-        accounts[i].offers.withdraw_named(framework, ids);
+    for i in span.from..span.to {
+        accounts[i].offers.withdraw_named(framework, &[id]);
+    }
+}
+
+fn withdraw_one_in(
+    accounts: &mut Vec<Account>,
+    offers_at: &mut Places,
+    framework: FrameworkId,
+    id: OfferId,
+)
+    requires { AreOffersPlaced offers_at.old accounts.old.items }
+    ensures accounts { accounts.new.items
+        ≡ map (without_named framework (id ∷ [])) accounts.old.items }
+    ensures offers { AreOffersPlaced offers_at.new accounts.new.items }
+{
+    let span = offers_at.span_in::<Offer, Account, OfferId>(accounts, &id);
+    withdraw_named_at(accounts, span, framework, id);
+    by_id::forget_offer(offers_at, accounts, span.from, id);
+}
+
+fn withdraw_offers_in(
+    accounts: &mut Vec<Account>,
+    offers_at: &mut Places,
+    framework: FrameworkId,
+    ids: &[OfferId],
+)
+    requires { AreOffersPlaced offers_at.old accounts.old.items }
+    ensures accounts { accounts.new.items
+        ≡ map (without_named framework ids.now) accounts.old.items }
+    ensures offers { AreOffersPlaced offers_at.new accounts.new.items }
+{
+    for id in ids {
+        withdraw_one_in(accounts, offers_at, framework, *id);
     }
 }
 
 fn withdraw_on(
     accounts: &mut Vec<Account>,
+    offers_at: &mut Places,
     name: &AgentName,
     framework: FrameworkId,
     ids: &[OfferId],
@@ -213,11 +314,14 @@ fn withdraw_on(
     ensures refused { IfErr result
         (λ fault. IsDue (withdrawn_on name.now framework ids.now accounts.old.items) fault) }
     ensures err { OnErr result (accounts.new.items ≡ accounts.old.items) }
+    ensures offers { AreOffersPlaced offers_at.old accounts.old.items
+        → AreOffersPlaced offers_at.new accounts.new.items }
 {
     let Some(place) = place_of(accounts, name) else {
         return Err(BookFault::Unknown);
     };
     accounts[place].offers.withdraw_named(framework, ids);
+    by_id::forget_offers(offers_at, accounts, place, ids);
     Ok(())
 }
 
@@ -242,6 +346,7 @@ fn receive_on(
 
 fn forget_by_on(
     accounts: &mut Vec<Account>,
+    tasks_at: &mut Places,
     name: &AgentName,
     commands: &[Command],
 ) -> Result<(), BookFault>
@@ -250,16 +355,21 @@ fn forget_by_on(
     ensures refused { IfErr result
         (λ fault. IsDue (applied_on name.now commands.now accounts.old.items) fault) }
     ensures err { OnErr result (accounts.new.items ≡ accounts.old.items) }
+    ensures tasks { AreTasksPlaced tasks_at.old accounts.old.items
+        → AreTasksPlaced tasks_at.new accounts.new.items }
 {
     let Some(place) = place_of(accounts, name) else {
         return Err(BookFault::Unknown);
     };
     accounts[place].booked.forget_by(commands);
+    by_id::forget_acknowledged(tasks_at, accounts, place, commands);
     Ok(())
 }
 
 fn reopen_on(
     accounts: &mut Vec<Account>,
+    offers_at: &mut Places,
+    tasks_at: &mut Places,
     alloc: Global,
     name: &AgentName,
     tasks: Listed<Booked>,
@@ -270,10 +380,17 @@ fn reopen_on(
     ensures refused { IfErr result
         (λ fault. IsDue (reopened_on name.now tasks total accounts.old.items) fault) }
     ensures err { OnErr result (accounts.new.items ≡ accounts.old.items) }
+    ensures offers { AreOffersPlaced offers_at.old accounts.old.items
+        → AreOffersPlaced offers_at.new accounts.new.items }
+    ensures tasks { AreTasksPlaced tasks_at.old accounts.old.items
+        → AreTasksPlaced tasks_at.new accounts.new.items }
 {
     let Some(place) = place_of(accounts, name) else {
         return Err(BookFault::Unknown);
     };
+    offers_at.remove_all(accounts[place].offers.as_slice(), place);
+    tasks_at.remove_all(accounts[place].booked.as_slice(), place);
+    tasks_at.add_all(tasks.as_slice(), place);
     accounts[place].reopen(alloc, tasks, total);
     Ok(())
 }
@@ -289,28 +406,39 @@ fn booked_count(accounts: &[Account]) -> u128
 }
 
 /// Removes a name whose only key is that of a task that is no longer booked.
-fn forget_name(names: &mut Names, accounts: &[Account], framework: FrameworkId, name: &TaskName)
+fn forget_name(
+    names: &mut Names,
+    tasks_at: &Places,
+    accounts: &[Account],
+    framework: FrameworkId,
+    name: &TaskName,
+)
+    requires { AreTasksPlaced tasks_at.now accounts.now }
     ensures { AreAllNamed names.old accounts.now → AreAllNamed names.new accounts.now }
 {
     let Some(Keys { only: Some(key) }) = names.keys_of(framework, name) else {
         return;
     };
-    if !is_booked(accounts, key) {
+    if !is_booked(by_id::part_of_task(tasks_at, accounts, key), key) {
         names.forget(framework, name, key);
     }
 }
 
 /// Stores the name of a task that is about to be booked, and removes names of tasks that are no
 /// longer booked where they are many.
-fn note(names: &mut Names, accounts: &[Account], task: &Booked)
+fn note(names: &mut Names, tasks_at: &Places, accounts: &[Account], task: &Booked)
+    requires { AreTasksPlaced tasks_at.now accounts.now }
     ensures noted { IsNamed names.new task.now }
     ensures kept { AreAllNamed names.old accounts.now → AreAllNamed names.new accounts.now }
 {
-    forget_name(names, accounts, task.job.framework, &task.job.name);
-    if names.are_due() {
-        let booked = booked_count(accounts);
-        names.review(accounts, booked);
-    }
+    forget_name(
+        names,
+        tasks_at,
+        accounts,
+        task.job.framework,
+        &task.job.name,
+    );
+    names.review::<Account>(accounts);
     names.note(task);
 }
 
@@ -322,6 +450,8 @@ impl OfferBook {
         OfferBook {
             accounts: Vec::new(alloc),
             names: Names::new(alloc),
+            offers_at: Places::new(alloc),
+            tasks_at: Places::new(alloc),
         }
     }
 
@@ -340,6 +470,51 @@ impl OfferBook {
         booked_count(&self.accounts)
     }
 
+    /// The places outside of which no account has an offer of this id: at most one, where memory
+    /// was granted for the ids of all offers.
+    pub fn places_of_offer(&self, id: OfferId) -> Span
+        ensures { IsSpan (has_offer_as id) self.now result.from result.to }
+    {
+        let accounts = self.accounts.as_slice();
+        self.offers_at
+            .span_in::<Offer, Account, OfferId>(accounts, &id)
+    }
+
+    /// The places outside of which no account has a task of this key: at most one, where memory
+    /// was granted for the keys of all tasks and no two have this key.
+    pub fn places_of_task(&self, key: LaunchKey) -> Span
+        ensures { IsSpan (has_task_as key) self.now result.from result.to }
+    {
+        let accounts = self.accounts.as_slice();
+        self.tasks_at
+            .span_in::<Booked, Account, LaunchKey>(accounts, &key)
+    }
+
+    /// The accounts outside of which none has an offer of this id.
+    fn part_of_offer(&self, id: OfferId) -> &[Account]
+        ensures any { is_offered id result.now ≡ is_offered id self.now }
+        ensures found { offer_of id result.now ≡ offer_of id self.now }
+    {
+        by_id::part_of_offer(&self.offers_at, &self.accounts, id)
+    }
+
+    /// The accounts outside of which none has a task of this key.
+    fn part_of_task(&self, key: LaunchKey) -> &[Account]
+        ensures any { is_booked key result.now ≡ is_booked key self.now }
+        ensures found { task_of key result.now ≡ task_of key self.now }
+        ensures held { (framework : Numbered) (name : List ℕ)
+            → first_of_key framework name key result.now
+            ≡ first_of_key framework name key self.now }
+    {
+        by_id::part_of_task(&self.tasks_at, &self.accounts, key)
+    }
+
+    fn is_offered(&self, id: OfferId) -> bool
+        ensures { result ≡ is_offered id self.now }
+    {
+        is_offered(self.part_of_offer(id), id)
+    }
+
     /// Whether a task of this key is booked. A key after those of all booked tasks isn't searched
     /// for.
     fn is_booked(&self, key: LaunchKey) -> bool
@@ -348,21 +523,21 @@ impl OfferBook {
         if self.names.is_past(key) {
             return false;
         }
-        is_booked(&self.accounts, key)
+        is_booked(self.part_of_task(key), key)
     }
 
     /// The offer of this id, if it is current, and its agent.
     pub fn offer_of(&self, id: OfferId) -> Option<(&AgentName, &Offer)>
         ensures { option_map (λ o. made o.0.now o.1.now) result ≡ offer_of id self.now }
     {
-        held::offer_of(&self.accounts, id)
+        held::offer_of(self.part_of_offer(id), id)
     }
 
     /// The booked task of this key, if any, and its agent.
     pub fn task_of(&self, key: LaunchKey) -> Option<(&AgentName, &Booked)>
         ensures { option_map (λ t. place t.0.now t.1.now) result ≡ task_of key self.now }
     {
-        held::task_of(&self.accounts, key)
+        held::task_of(self.part_of_task(key), key)
     }
 
     /// The booked task of a framework with this name, if any, and its agent. Of several it is one
@@ -374,7 +549,7 @@ impl OfferBook {
     {
         let keys = self.names.keys_of(framework, name)?;
         match keys.only {
-            Some(key) => held::first_of_key(&self.accounts, framework, name, key),
+            Some(key) => held::first_of_key(self.part_of_task(key), framework, name, key),
             None => held::first_of(&self.accounts, framework, name),
         }
     }
@@ -401,7 +576,8 @@ impl OfferBook {
         ensures refused { IfErr result (λ fault. IsDue (dropped_from name.now self.old) fault) }
         ensures err { OnErr result (self.new ≡ self.old) }
     {
-        drop_from(&mut self.accounts, alloc, name)
+        let (offers_at, tasks_at) = (&mut self.offers_at, &mut self.tasks_at);
+        drop_from(&mut self.accounts, offers_at, tasks_at, alloc, name)
     }
 
     /// An agent's total less current offers and booked tasks that haven't ended.
@@ -422,7 +598,10 @@ impl OfferBook {
             (λ fault. IsRefusal fault (offered name.now offer self.old)) }
         ensures err { OnErr result (self.new ≡ self.old) }
     {
-        offer_in(&mut self.accounts, alloc, name, offer)
+        let is_current = self.is_offered(offer.id);
+        self.offers_at.review::<Offer, Account>(&self.accounts);
+        let offers_at = &mut self.offers_at;
+        offer_in(&mut self.accounts, offers_at, alloc, name, offer, is_current)
     }
 
     /// Withdraws an offer. `B1 Unknown` where no offer of this id is current. It takes no memory.
@@ -431,10 +610,10 @@ impl OfferBook {
         ensures refused { IfErr result (λ fault. IsDue (withdrawn id self.old) fault) }
         ensures err { OnErr result (self.new ≡ self.old) }
     {
-        if !is_offered(&self.accounts, id) {
+        if !self.is_offered(id) {
             return Err(BookFault::Unknown);
         }
-        withdraw_in(&mut self.accounts, id);
+        withdraw_in(&mut self.accounts, &mut self.offers_at, id);
         Ok(())
     }
 
@@ -448,8 +627,16 @@ impl OfferBook {
     {
         let job = &task.job;
         let is_known = self.is_booked(job.key);
-        note(&mut self.names, &self.accounts, &task);
-        book_in(&mut self.accounts, alloc, name, task, is_known)
+        self.tasks_at.review::<Booked, Account>(&self.accounts);
+        note(&mut self.names, &self.tasks_at, &self.accounts, &task);
+        book_in(
+            &mut self.accounts,
+            &mut self.tasks_at,
+            alloc,
+            name,
+            task,
+            is_known,
+        )
     }
 
     /// Marks a booked task as ended: its resources are free again.
@@ -462,7 +649,7 @@ impl OfferBook {
         if !self.is_booked(key) {
             return Err(BookFault::Unknown);
         }
-        end_in(&mut self.accounts, key);
+        end_in(&mut self.accounts, &self.tasks_at, key);
         Ok(())
     }
 
@@ -476,18 +663,19 @@ impl OfferBook {
         if !self.is_booked(key) {
             return Err(BookFault::Unknown);
         }
-        forget_in(&mut self.accounts, key);
+        forget_in(&mut self.accounts, &mut self.tasks_at, key);
         Ok(())
     }
 }
 
 /// What the master receives from agents, and offers that are withdrawn.
 impl OfferBook {
-    /// Withdraws all offers to a framework. It takes no memory.
+    /// Withdraws all offers to a framework. It isn't refused for want of memory.
     pub fn withdraw_of(&mut self, framework: FrameworkId)
         ensures { self.new ≡ map (without_offers_of framework) self.old }
     {
         withdraw_of_in(&mut self.accounts, framework);
+        self.offers_at.store::<Offer, Account>(&self.accounts);
     }
 
     /// Withdraws the offers to a framework, on any agent,
@@ -495,7 +683,7 @@ impl OfferBook {
     pub fn withdraw_offers(&mut self, framework: FrameworkId, ids: &[OfferId])
         ensures { self.new ≡ map (without_named framework ids.now) self.old }
     {
-        withdraw_offers_in(&mut self.accounts, framework, ids);
+        withdraw_offers_in(&mut self.accounts, &mut self.offers_at, framework, ids);
     }
 
     /// Withdraws the offers to a framework on one agent that have one of these ids.
@@ -511,7 +699,13 @@ impl OfferBook {
             (λ fault. IsDue (withdrawn_on name.now framework ids.now self.old) fault) }
         ensures err { OnErr result (self.new ≡ self.old) }
     {
-        withdraw_on(&mut self.accounts, name, framework, ids)
+        withdraw_on(
+            &mut self.accounts,
+            &mut self.offers_at,
+            name,
+            framework,
+            ids,
+        )
     }
 
     /// An agent's session opens or ends: its offers are removed, the reported tasks replace those
@@ -530,7 +724,16 @@ impl OfferBook {
         ensures err { OnErr result (self.new ≡ self.old) }
     {
         self.names.note_all(tasks.as_slice());
-        reopen_on(&mut self.accounts, alloc, name, tasks, total)
+        let (offers_at, tasks_at) = (&mut self.offers_at, &mut self.tasks_at);
+        reopen_on(
+            &mut self.accounts,
+            offers_at,
+            tasks_at,
+            alloc,
+            name,
+            tasks,
+            total,
+        )
     }
 
     /// An update of a task on an agent is received. `B1 Unknown` where no agent of this name is in.
@@ -554,6 +757,6 @@ impl OfferBook {
             (λ fault. IsDue (applied_on name.now commands.now self.old) fault) }
         ensures err { OnErr result (self.new ≡ self.old) }
     {
-        forget_by_on(&mut self.accounts, name, commands)
+        forget_by_on(&mut self.accounts, &mut self.tasks_at, name, commands)
     }
 }

@@ -3,10 +3,10 @@
 
 mod account;
 mod book;
+mod by_id;
 mod fault;
 mod held;
 mod laws;
-mod names;
 mod rest;
 mod sum;
 

@@ -1,7 +1,10 @@
-use Rattle.std.proofs.Common.{rules, arith}
-use Rattle.std.proofs.lemmas.List.Edits.{map_over_more}
+use Rattle.current_offers.specs.Offers.{id_of}
 use Rattle.offer_book.specs.Accounts.{without_offer}
+use Rattle.id_places.proofs.Holding.{at_filter, placed_map}
+use Rattle.offer_book.proofs.Staying.{offers_on}
 use Rattle.offer_book.proofs.book.withdraw_in.Goals as goal
 
-pub loop-i-preserved : goal.loop-i-preserved
-loop-i-preserved c = rw c.withdraw.ensures (map_over_more (without_offer c.args.id) c.args.accounts.now.items c.loop-i.accounts.items c.loop-i.i c.index_mut.result.now (omega (arith, c.len-i-end.ensures)) c.loop-i.invariant (search rules))
+pub returns-clause-offers : goal.returns-clause-offers
+returns-clause-offers c =
+    (rw c.deref-2.ensures.value at c.forget_offer.ensures)
+    (rw c.withdraw_at.ensures (placed_map id_of offers_on c.args.offers_at.now (without_offer c.args.id) (λ p b had. at_filter id_of c.args.offers_at.now p _ b.offers had) 0 c.args.accounts.now.items c.requires))

@@ -1,7 +1,8 @@
 use Rattle.std.proofs.Common.{◌≡◌, ◌++◌, ◌∷◌, [], Some, IsSome, cond, refl, subst, ap, ◌∙◌}
 use Rattle.std.specs.BTreeMap.{get, is_at}
 use Rattle.names_core.specs.Ids.{Numbered}
-use Rattle.booked_tasks.specs.Launches.{id_cmp, keys_in}
+use Rattle.id_spans.specs.Orders.{id_cmp}
+use Rattle.booked_tasks.specs.Launches.{keys_in}
 use Rattle.booked_tasks.proofs.ByFramework.{pushed}
 use Rattle.booked_tasks.proofs.launches.Launches.push.Goals as goal
 

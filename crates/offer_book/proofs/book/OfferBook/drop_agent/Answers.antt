@@ -1,10 +1,20 @@
+use Rattle.offer_book.specs.Books.{is_agent}
+use Rattle.offer_book.specs.Named.{AreAllNamed}
+use Rattle.offer_book.proofs.Refusing.{after_change, settled}
 use Rattle.offer_book.specs.Accounts.{dropped}
-use Rattle.offer_book.proofs.Named.{settled}
-use Rattle.offer_book.proofs.Refusing.{changed_named}
+use Rattle.offer_book.proofs.Named.{all_at_first}
 use Rattle.offer_book.proofs.book.OfferBook.drop_agent.Goals as goal
 
 pub invariant_of-self : goal.invariant_of-self
 invariant_of-self c =
     let names = c.self.inside.names in
+    let offers_at = c.self.inside.offers_at in
+    let tasks_at = c.self.inside.tasks_at in
     let accounts = c.self.inside.accounts.items in
-    settled names c.drop_from.result accounts c.drop_from.new.accounts.items (changed_named names accounts c.drop_from.new.accounts.items c.args.name.now (dropped) (λ a are. tt) c.self.invariant) c.self.invariant c.drop_from.ensures.ok c.drop_from.ensures.err
+    let is = c.self.invariant in
+    let new = c.drop_from.new.accounts.items in
+    record {
+      named = settled (AreAllNamed names) accounts new c.drop_from.result (after_change (AreAllNamed names) accounts new c.args.name.now (dropped) (all_at_first names (is_agent c.args.name.now) (dropped) (λ a are. tt) accounts is.named)) is.named c.drop_from.ensures.ok c.drop_from.ensures.err;
+      offers = c.drop_from.ensures.offers is.offers;
+      tasks = c.drop_from.ensures.tasks is.tasks;
+    }

@@ -5,5 +5,5 @@ use Rattle.offer_book.proofs.book.OfferBook.is_booked.Goals as goal
 
 pub returns-then-is_past : goal.returns-then-is_past
 returns-then-is_past c =
-    sym (past_is_new c.self.inside.names c.args.key (sym c.is_past.ensures ∙ c.if-is_past.true) c.self.inside.accounts.items c.self.invariant)
+    sym (past_is_new c.self.inside.names c.args.key (sym c.is_past.ensures ∙ c.if-is_past.true) c.self.inside.accounts.items c.self.invariant.named)
     ∙ ap (is_booked c.args.key) c.self.view_is

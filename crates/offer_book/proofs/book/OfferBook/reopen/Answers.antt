@@ -1,14 +1,22 @@
+use Rattle.offer_book.specs.Books.{is_agent}
+use Rattle.offer_book.specs.Named.{AreAllNamed}
+use Rattle.offer_book.proofs.Refusing.{after_change, settled}
 use Rattle.std.proofs.Common.{subst}
 use Rattle.offer_book.specs.Accounts.{reopened}
-use Rattle.offer_book.specs.Named.{AreNamed, AreAllNamed}
-use Rattle.offer_book.proofs.Named.{all_wider, settled}
-use Rattle.offer_book.proofs.Refusing.{changed_named}
+use Rattle.task_names.specs.Named.{AreNamed}
+use Rattle.offer_book.proofs.Named.{all_at_first, all_wider}
 use Rattle.offer_book.proofs.book.OfferBook.reopen.Goals as goal
 
 pub invariant_of-self : goal.invariant_of-self
 invariant_of-self c =
     let names = c.note_all.new.self in
     let accounts = c.self.inside.accounts.items in
+    let new = c.reopen_on.new.accounts.items in
+    let change = reopened c.args.tasks c.args.total in
     let noted : AreNamed names c.args.tasks = subst (AreNamed names) c.as_slice.ensures c.note_all.ensures.noted in
-    let are : AreAllNamed names accounts = all_wider c.self.inside.names names c.note_all.ensures.kept accounts c.self.invariant in
-    settled names c.reopen_on.result accounts c.reopen_on.new.accounts.items (changed_named names accounts c.reopen_on.new.accounts.items c.args.name.now (reopened c.args.tasks c.args.total) (λ a was. noted) are) are c.reopen_on.ensures.ok c.reopen_on.ensures.err
+    let are : AreAllNamed names accounts = all_wider c.self.inside.names names c.note_all.ensures.kept accounts c.self.invariant.named in
+    record {
+      named = settled (AreAllNamed names) accounts new c.reopen_on.result (after_change (AreAllNamed names) accounts new c.args.name.now change (all_at_first names (is_agent c.args.name.now) change (λ a was. noted) accounts are)) are c.reopen_on.ensures.ok c.reopen_on.ensures.err;
+      offers = c.reopen_on.ensures.offers c.self.invariant.offers;
+      tasks = c.reopen_on.ensures.tasks c.self.invariant.tasks;
+    }

@@ -1,6 +1,20 @@
-use Rattle.offer_book.specs.Accounts.{without_offers_of}
+use Rattle.booked_tasks.specs.Tasks.{key_of}
+use Rattle.id_places.proofs.Holding.{placed_map}
 use Rattle.offer_book.proofs.Named.{all_map}
+use Rattle.offer_book.proofs.Staying.{tasks_on}
+use Rattle.offer_book.specs.Accounts.{without_offers_of}
 use Rattle.offer_book.proofs.book.OfferBook.withdraw_of.Goals as goal
 
 pub invariant_of-self : goal.invariant_of-self
-invariant_of-self c = rw c.withdraw_of_in.ensures (all_map c.self.inside.names (without_offers_of c.args.framework) (λ a are. are) c.self.inside.accounts.items c.self.invariant)
+invariant_of-self c =
+    let names = c.self.inside.names in
+    let offers_at = c.self.inside.offers_at in
+    let tasks_at = c.self.inside.tasks_at in
+    let accounts = c.self.inside.accounts.items in
+    let is = c.self.invariant in
+    let change = without_offers_of c.args.framework in
+    record {
+      named = rw c.withdraw_of_in.ensures (all_map names change (λ a are. are) accounts is.named);
+      offers = rw c.deref.ensures.value at c.store.ensures;
+      tasks = rw c.withdraw_of_in.ensures (placed_map key_of tasks_on tasks_at change (λ p a are. are) 0 accounts is.tasks);
+    }

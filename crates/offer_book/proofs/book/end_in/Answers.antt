@@ -1,7 +1,0 @@
-use Rattle.std.proofs.Common.{rules, arith}
-use Rattle.std.proofs.lemmas.List.Edits.{map_over_more}
-use Rattle.offer_book.specs.Accounts.{with_ended}
-use Rattle.offer_book.proofs.book.end_in.Goals as goal
-
-pub loop-i-preserved : goal.loop-i-preserved
-loop-i-preserved c = rw c.end.ensures (map_over_more (with_ended c.args.key) c.args.accounts.now.items c.loop-i.accounts.items c.loop-i.i c.index_mut.result.now (omega (arith, c.len-i-end.ensures)) c.loop-i.invariant (search rules))
