@@ -4,7 +4,24 @@ use crate::answers::{answer_text, word};
 use crate::words::{amounts, first};
 use drf_pick::{Client, Shares, pick};
 use names_core::{FrameworkId, RoleName};
+use role_weights::Weights;
 use std::alloc::Global;
+
+/// Shares, and the weights by which they are compared.
+#[derive(Drop)]
+pub struct WeighedShares {
+    shares: Shares,
+    weights: Weights,
+}
+
+impl WeighedShares {
+    pub fn new(alloc: Global) -> WeighedShares {
+        WeighedShares {
+            shares: Shares::new(alloc),
+            weights: Weights::new(alloc),
+        }
+    }
+}
 
 fn enter(shares: &mut Shares, alloc: Global, text: &str) -> Option<String> {
     let total = amounts(alloc, text)?;
@@ -23,14 +40,15 @@ fn role(shares: &mut Shares, alloc: Global, text: &str) -> Option<String> {
     answer_text(alloc, &shares.role(alloc, framework, &role))
 }
 
-fn weigh(shares: &mut Shares, alloc: Global, text: &str) -> Option<String> {
+fn weigh(weights: &mut Weights, alloc: Global, text: &str) -> Option<String> {
     let (role, weight) = first(text);
     let role = RoleName::from_text(alloc, role).ok()?;
     let weight = weight.parse::<u16>().ok()?;
     if weight < 1 || weight > 1_000 {
         return None;
     }
-    answer_text(alloc, &shares.weigh(alloc, &role, weight))
+    weights.set(alloc, &role, weight).ok()?;
+    word(alloc, "ok")
 }
 
 fn give(shares: &mut Shares, alloc: Global, text: &str) -> Option<String> {
@@ -76,16 +94,23 @@ fn least_of(shares: &Shares, alloc: Global, text: &str) -> Option<String> {
     least(alloc, pick(shares, &clients))
 }
 
-pub fn answer(shares: &mut Shares, alloc: Global, kind: &str, text: &str) -> Option<String> {
+fn answer_of(shares: &mut Shares, alloc: Global, kind: &str, text: &str) -> Option<String> {
     match kind {
         "enter" => enter(shares, alloc, text),
         "leave" => leave(shares, alloc, text),
         "role" => role(shares, alloc, text),
-        "weigh" => weigh(shares, alloc, text),
         "give" => give(shares, alloc, text),
         "back" => back(shares, alloc, text),
         "pick" => least_of(shares, alloc, text),
         "pick_none" => least(alloc, pick(shares, &[])),
         _ => None,
     }
+}
+
+pub fn answer(cases: &mut WeighedShares, alloc: Global, kind: &str, text: &str) -> Option<String> {
+    if kind == "weigh" {
+        return weigh(&mut cases.weights, alloc, text);
+    }
+    cases.shares.reweigh(&cases.weights);
+    answer_of(&mut cases.shares, alloc, kind, text)
 }

@@ -5,9 +5,9 @@ use Rattle.std.specs.List.{find}
 use Rattle.names_core.specs.Ids.{Numbered}
 use Rattle.quantity.specs.declared.rows.Row.{Row}
 use Rattle.share_sums.specs.Dominant.{Part, nothing}
-use Rattle.drf_pick.specs.Shares.{Holder, RoleSum, Tally, given_holders, given_roles, holder_of, holding, is_holder, is_role, returned_holders, returned_roles, returning, role_holding, role_returning, role_sum_of, roles_with, weighed_roles, weighing, with_holder, with_role}
+use Rattle.drf_pick.specs.Shares.{Holder, RoleSum, Tally, given_holders, given_roles, holder_of, holding, is_holder, is_role, returned_holders, returned_roles, returning, role_holding, role_returning, role_sum_of, roles_with, with_holder, with_role}
 use Rattle.drf_pick.specs.Fractions.{OfHolders, OfOthers, OfRoles, OfRolesBut, holder_held, role_held}
-use Rattle.drf_pick.proofs.KeptShares.{found_changed, held_same, kept, kept_to, more_to, one_more, others}
+use Rattle.drf_pick.proofs.KeptShares.{found_changed, kept, kept_to, more_to, one_more, others}
 
 pub given_others : (f : Numbered) (rows t : List Row) (hs : List Holder) (fs : List Part) → OfHolders t hs fs → OfOthers f t (given_holders f rows hs) fs
 given_others f rows t hs fs all = others holder_held (is_holder f) (holding rows) t (λ h. refl) hs fs all
@@ -39,19 +39,11 @@ with_fraction name t rs fs all = by_case (find (is_role name) rs)
     by_case None = one_more role_held t rs (role_sum_of name) fs refl all
     by_case (Some r) = kept role_held t rs fs (nothing ∷ []) all
 
-pub weighed_fraction : (name : List ℕ) (weight : ℕ) (t : List Row) (rs : List RoleSum) (fs : List Part) → OfRoles t rs fs → OfRoles t (weighed_roles name weight rs) (take (length rs) fs ++ nothing ∷ [])
-weighed_fraction name weight t rs fs all =
-    held_same role_held (is_role name) (weighing weight) t (λ r. refl) (roles_with name rs (find (is_role name) rs)) (take (length rs) fs ++ nothing ∷ []) (with_fraction name t rs fs all)
-
 -- as they are kept behind so many
 
 pub with_fraction_to : (name : List ℕ) (t : List Row) (rs : List RoleSum) (fs now : List Part) (n : ℕ) → n ≡ length rs → now ≡ take n fs ++ nothing ∷ [] → OfRoles t rs fs → OfRoles t (roles_with name rs (find (is_role name) rs)) now
 with_fraction_to name t rs fs now n all is have =
     subst (OfRoles t (roles_with name rs (find (is_role name) rs))) (sym (is ∙ ap (λ (k : ℕ). take k fs ++ nothing ∷ []) all)) (with_fraction name t rs fs have)
-
-pub weighed_fraction_to : (name : List ℕ) (weight : ℕ) (t : List Row) (rs : List RoleSum) (fs now : List Part) (n : ℕ) → n ≡ length rs → now ≡ take n fs ++ nothing ∷ [] → OfRoles t rs fs → OfRoles t (weighed_roles name weight rs) now
-weighed_fraction_to name weight t rs fs now n all is have =
-    subst (OfRoles t (weighed_roles name weight rs)) (sym (is ∙ ap (λ (k : ℕ). take k fs ++ nothing ∷ []) all)) (weighed_fraction name weight t rs fs have)
 
 -- a framework's role is told: it is known already, or holds nothing
 

@@ -74,18 +74,6 @@ with_holder framework role t None = record t {
 abbrev pub with_role : Numbered → List ℕ → Tally → Tally
 with_role framework role t = with_holder framework role t (find (is_holder framework) t.holders)
 
--- a role has this weight
-abbrev pub weighing : ℕ → RoleSum → RoleSum
-weighing weight r = record r { weight = weight }
-
-abbrev pub weighed_roles : List ℕ → ℕ → List RoleSum → List RoleSum
-weighed_roles role weight rs =
-    at_first (is_role role) (weighing weight) (roles_with role rs (find (is_role role) rs))
-
--- a role is known, and has this weight
-abbrev pub weighed : List ℕ → ℕ → Tally → Tally
-weighed role weight t = record t { roles = weighed_roles role weight t.roles }
-
 -- what is taken away again
 
 -- so much is there to be taken away of what agents own

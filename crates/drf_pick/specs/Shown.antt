@@ -11,13 +11,6 @@ use Rattle.drf_pick.specs.Shares.{Tally, Holder, RoleSum, is_holder, is_role}
 use Rattle.drf_pick.specs.Least.{role_share}
 use Rattle.drf_pick.specs.Allocations.{Allocation, Client, CountedShares, Found, role_rows, rows_to}
 
--- the frameworks that are registered, in the order of their registration
-abbrev pub client_in : Holder → Client
-client_in h = record { framework = h.framework; role = h.role }
-
-abbrev pub clients_in : List Holder → List Client
-clients_in hs = map client_in hs
-
 -- none of the frameworks has this id
 abbrev pub NoneOf : Numbered → List Client → Type 0
 NoneOf id cs = AllByRecursion (λ c. same c.framework id ≡ false) cs

@@ -3,8 +3,7 @@
 ghost use Rattle.std.specs.Prelude.{◌≡◌, ◌++◌, ◌∷◌, [], ℕ, List, true, false, Some, Err, OnOk, OnErr, is_some};
 ghost use Rattle.std.specs.List.{find, position};
 ghost use Rattle.std.specs.Option.{option_copied};
-ghost use Rattle.role_weights.specs.Weights.{IsWeight};
-ghost use Rattle.drf_pick.specs.Shares.{AreUpTo, Holder, HoldersOnce, all_weighed, is_behind, is_holder, is_role, given_holders, given_roles, given, holder_of, with_totals, roles_with, weighed, with_role, holder_has, can_back, returned_holders, returned_roles, returned};
+ghost use Rattle.drf_pick.specs.Shares.{AreUpTo, Holder, HoldersOnce, all_weighed, is_behind, is_holder, is_role, given_holders, given_roles, given, holder_of, with_totals, roles_with, with_role, holder_has, can_back, returned_holders, returned_roles, returned};
 
 use crate::holder::Holder;
 use crate::roles::Roles;
@@ -310,19 +309,6 @@ impl Holdings {
             role,
         )?;
         self.last = Some(later(self.last, framework));
-        Ok(())
-    }
-
-    /// A role has this weight from now on, 1 to 1,000; one whose weight was never set has 1. It
-    /// fails for want of memory alone, and then changes nothing.
-    pub fn weigh(&mut self, alloc: Global, role: &RoleName, weight: u16) -> Result<(), AllocError>
-        requires { IsWeight weight }
-        ensures ok { OnOk result (self.new ≡ weighed role.now weight self.old) }
-        ensures err { OnErr result (self.new ≡ self.old) }
-    {
-        let guess = last_place(&self.role_places);
-        let place = self.roles.add(alloc, guess, role)?;
-        self.roles.weigh(place, role, weight);
         Ok(())
     }
 

@@ -2,8 +2,7 @@
 
 ghost use Rattle.std.specs.Prelude.{◌≡◌, ◌<◌, ◌++◌, ◌∷◌, [], None, true, false, length, map, Some, Err, OnOk, OnErr};
 ghost use Rattle.std.specs.List.{find, position};
-ghost use Rattle.role_weights.specs.Weights.{IsWeight};
-ghost use Rattle.drf_pick.specs.Shares.{AreWeighed, RolesOnce, is_role, at_first, reweighed, role_holding, role_sum_of, roles_with, weighing, role_has, role_returning};
+ghost use Rattle.drf_pick.specs.Shares.{AreWeighed, RolesOnce, is_role, at_first, reweighed, role_holding, role_sum_of, roles_with, role_has, role_returning};
 
 use crate::holder::RoleSum;
 use names_core::RoleName;
@@ -81,13 +80,6 @@ fn back_at(
         }
         Err(fault) => Err(fault),
     }
-}
-
-fn weigh_at(sums: &mut Vec<RoleSum>, place: usize, role: &RoleName, weight: u16)
-    requires { position (is_role role.now) sums.old.items ≡ Some place }
-    ensures { sums.new.items ≡ at_first (is_role role.now) (weighing weight) sums.old.items }
-{
-    sums[place].weight = weight;
 }
 
 fn push_sum(sums: &mut Vec<RoleSum>, alloc: Global, role: &RoleName) -> Result<(), AllocError>
@@ -187,17 +179,6 @@ impl Roles {
             return Err(SharesFault::NotHeld);
         };
         back_at(&mut self.sums, alloc, place, role, resources)
-    }
-
-    /// A role has this weight, where it is known.
-    pub fn weigh(&mut self, guess: usize, role: &RoleName, weight: u16)
-        requires { IsWeight weight }
-        ensures { self.new ≡ at_first (is_role role.now) (weighing weight) self.old }
-    {
-        let Some(place) = self.place(guess, role) else {
-            return;
-        };
-        weigh_at(&mut self.sums, place, role, weight);
     }
 
     /// Each role has its weight among these from now on. It takes no memory.

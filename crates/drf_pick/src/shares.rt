@@ -2,11 +2,10 @@
 
 ghost use Rattle.std.specs.Prelude.{◌≡◌, [], true, false, Err, OnOk, OnErr, IfErr, IfSome, is_some};
 ghost use Rattle.std.specs.List.{find};
-ghost use Rattle.role_weights.specs.Weights.{IsWeight};
 ghost use Rattle.drf_pick.specs.Fractions.{OfHolders, OfOthers, OfOtherRoles, OfRoles, OfRolesBut};
 ghost use Rattle.share_sums.specs.Sums.{IsSum};
 ghost use Rattle.drf_pick.specs.Shown.{HoldSums};
-ghost use Rattle.drf_pick.specs.Shares.{all_weighed, is_holder, is_role, entered, given, with_totals, weighed, with_role, can_leave, departed, can_back, returned};
+ghost use Rattle.drf_pick.specs.Shares.{all_weighed, is_holder, is_role, entered, given, with_totals, with_role, can_leave, departed, can_back, returned};
 
 use crate::fractions::{keep_nothing, of_holders, of_roles};
 use crate::holdings::Holdings;
@@ -171,19 +170,6 @@ impl Shares {
         keep_nothing(&mut self.fractions, self.holdings.holders().len())?;
         keep_nothing(&mut self.role_fractions, self.holdings.roles().len())?;
         self.holdings.role(alloc, framework, role)?;
-        Ok(())
-    }
-
-    /// A role has this weight from now on, 1 to 1,000; one whose weight was never set has 1. `P2
-    /// OutOfMemory` changes nothing.
-    pub fn weigh(&mut self, alloc: Global, role: &RoleName, weight: u16) -> Result<(), SharesFault>
-        requires { IsWeight weight }
-        ensures ok { OnOk result (self.new ≡ weighed role.now weight self.old) }
-        ensures err { OnErr result (self.new ≡ self.old) }
-        ensures memory { IfErr result (λ fault. fault ≡ SharesFault.OutOfMemory) }
-    {
-        keep_nothing(&mut self.role_fractions, self.holdings.roles().len())?;
-        self.holdings.weigh(alloc, role, weight)?;
         Ok(())
     }
 
