@@ -27,7 +27,7 @@ impl Model for Reported {
     ghost use Rattle.std.specs.Prelude.{◌≡◌, List};
     ghost use Rattle.mails.specs.declared.task.Booked.{Booked};
     ghost use Rattle.id_spans.specs.Orders.{id_cmp};
-ghost use Rattle.master_mails.specs.Reported.{frameworks_of, keys_of};
+    ghost use Rattle.master_mails.specs.Reported.{frameworks_of, keys_of};
 
     ghost Value = { List Booked };
 

@@ -601,7 +601,14 @@ impl OfferBook {
         let is_current = self.is_offered(offer.id);
         self.offers_at.review::<Offer, Account>(&self.accounts);
         let offers_at = &mut self.offers_at;
-        offer_in(&mut self.accounts, offers_at, alloc, name, offer, is_current)
+        offer_in(
+            &mut self.accounts,
+            offers_at,
+            alloc,
+            name,
+            offer,
+            is_current,
+        )
     }
 
     /// Withdraws an offer. `B1 Unknown` where no offer of this id is current. It takes no memory.
