@@ -1,12 +1,14 @@
 -- What was found on agents, and what of it is counted.
-use Rattle.std.proofs.Common.{◌≡◌, ℕ, zero, suc, ◌+◌, ◌<◌, ◌≤◌, Bool, true, false, ◌||◌, cond, List, [], ◌∷◌, ◌++◌, map, flat_map, take, length, set, get_or, Result, Ok, Err, OnOk, refl, sym, ap, ◌∙◌, subst, arith, append_assoc}
+use Rattle.std.proofs.Common.{◌≡◌, ℕ, zero, suc, ◌+◌, ◌<◌, ◌≤◌, Bool, true, false, ◌||◌, cond, List, [], ◌∷◌, ◌++◌, map, flat_map, take, length, set, get_or, Result, Ok, Err, IfErr, OnOk, refl, sym, ap, ◌∙◌, subst, arith, append_assoc}
 use Rattle.std.specs.List.{AllByRecursion, list_any, fold}
 use Rattle.names_core.specs.Ids.{Numbered, same}
 use Rattle.quantity.specs.Rows.{amount}
 use Rattle.quantity.proofs.Amounts.{amount-append}
+use Rattle.share_sums.specs.declared.fault.SharesFault.{SharesFault}
+use Rattle.share_sums.specs.declared.fault.SharesFault.TheVariants.{OutOfMemory}
 use Rattle.drf_pick.specs.Shares.{Tally}
-use Rattle.drf_pick.specs.Allocations.{AddUp, Allocation, Client, Found, all_rows, holds, rows_to}
-use Rattle.drf_pick.specs.Shown.{AllCounted, ClientsOnce, HasNone, Moves, SameAllocations, SameFound, TallyShows, all_found, counted_in, counted_of, due_in, is_for}
+use Rattle.drf_pick.specs.Allocations.{AddUp, Allocation, Client, Found, all_rows, allocated, rows_to}
+use Rattle.drf_pick.specs.Shown.{AllCounted, ClientsOnce, HasNone, MemoryRefused, Moves, SameAllocations, SameFound, TallyShows, all_found, counted_in, counted_of, due_in, is_for}
 use Rattle.drf_pick.proofs.AllocationRows.{all-append, to-append}
 use Rattle.drf_pick.proofs.Less.{tally_alike}
 use Rattle.drf_pick.proofs.Shown.{allocations_shown}
@@ -52,6 +54,10 @@ module _ (fs : List Found) (i : ℕ) (f g : Found) (within : i < length fs) (is 
   moved_at cs one other once moves s =
       tally_alike (counted_of (set fs i off) ++ counted_in g) (counted_of (set fs i g)) cs other set_at
       (moves cs (counted_of (set fs i off)) once (tally_alike (counted_of fs) (counted_of (set fs i off) ++ counted_in f) cs one without_at s))
+
+  -- and where what was counted of it can't be taken back, memory was refused
+  pub memory_at : (cs : List Client) (one : Tally) (fault : SharesFault) → ClientsOnce cs → MemoryRefused (counted_in f) one fault → TallyShows (counted_of fs) cs one → fault ≡ OutOfMemory
+  memory_at cs one fault once only s = only cs (counted_of (set fs i off)) once (tally_alike (counted_of fs) (counted_of (set fs i off) ++ counted_in f) cs one without_at s)
 
 -- where nothing was counted of it before
 pub with_at : (fs : List Found) (i : ℕ) (f g : Found) → i < length fs → f ≡ get_or fs i f → counted_in f ≡ [] → SameAllocations (counted_of fs ++ counted_in g) (counted_of (set fs i g))
@@ -110,14 +116,18 @@ pub where_ok : {T E P Q : Type 0} (result : Result T E) → (P → Q) → OnOk r
 where_ok (Ok done) step is = step is
 where_ok (Err fault) step is = tt
 
+pub where_err : {T E : Type 0} {P Q : E → Type 0} (result : Result T E) → ((fault : E) → P fault → Q fault) → IfErr result P → IfErr result Q
+where_err (Ok done) step is = tt
+where_err (Err fault) step is = step fault is
+
 pub count_at : (fs : List Found) (i : ℕ) (f g : Found) (cs : List Client) (t : Tally) → i < length fs → f ≡ get_or fs i f → g ≡ record { allocations = f.allocations; is_counted = true } → AddUp (all_rows (all_found fs)) → ClientsOnce cs → TallyShows (counted_of fs) cs t
-    → TallyShows (counted_of (set fs i g)) cs (fold holds t (due_in f))
+    → TallyShows (counted_of (set fs i g)) cs (fold allocated t (due_in f))
 count_at fs i f g cs t within is now below once s = by f.is_counted refl
   where
     given : counted_in g ≡ f.allocations.items
     given = ap counted_in now
 
-    by : (b : Bool) → f.is_counted ≡ b → TallyShows (counted_of (set fs i g)) cs (fold holds t (cond b [] f.allocations.items))
+    by : (b : Bool) → f.is_counted ≡ b → TallyShows (counted_of (set fs i g)) cs (fold allocated t (cond b [] f.allocations.items))
     by true e =
         let own : counted_in f ≡ f.allocations.items = ap (λ b. cond b f.allocations.items []) e in
         let same_now : SameAllocations (counted_of fs) (counted_of (set fs i g)) = λ framework name. omega (arith, counted_at fs i f g within is framework name, ap (λ (as_ : List Allocation). amount name (rows_to framework as_)) given, ap (λ (as_ : List Allocation). amount name (rows_to framework as_)) own) in
@@ -125,8 +135,8 @@ count_at fs i f g cs t within is now below once s = by f.is_counted refl
     by false e =
         let none : counted_in f ≡ [] = ap (λ b. cond b f.allocations.items []) e in
         let add_up : AddUp (all_rows (counted_of fs ++ f.allocations.items)) = λ name. omega (arith, counted_more fs i f within is e name, below name) in
-        tally_alike (counted_of fs ++ counted_in g) (counted_of (set fs i g)) cs (fold holds t f.allocations.items) (with_at fs i f g within is none)
-        (subst (λ (as_ : List Allocation). TallyShows (counted_of fs ++ as_) cs (fold holds t f.allocations.items)) (sym given) (allocations_shown (counted_of fs) f.allocations.items cs t add_up once s))
+        tally_alike (counted_of fs ++ counted_in g) (counted_of (set fs i g)) cs (fold allocated t f.allocations.items) (with_at fs i f g within is none)
+        (subst (λ (as_ : List Allocation). TallyShows (counted_of fs ++ as_) cs (fold allocated t f.allocations.items)) (sym given) (allocations_shown (counted_of fs) f.allocations.items cs t add_up once s))
 
 -- the same was found where one is changed that keeps its allocations
 pub same_found : (start fs : List Found) (i : ℕ) (f g : Found) → i < length fs → f ≡ get_or fs i f → g.allocations ≡ f.allocations → SameFound start fs → SameFound start (set fs i g)

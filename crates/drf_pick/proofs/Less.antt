@@ -1,4 +1,4 @@
--- Shares show what was given when a allocation is taken back.
+-- Shares show what is allocated when an allocation is taken back.
 use Rattle.std.proofs.Common.{◌≡◌, ℕ, ◌+◌, ◌-◌, Bool, true, false, cond, List, [], ◌∷◌, ◌++◌, Option, Some, None, option_map, IfSome, refl, sym, ap, ◌∙◌, subst, arith, bytes_eq}
 use Rattle.std.specs.Prelude.{is_some}
 use Rattle.std.specs.List.{AllByRecursion, find}
@@ -37,7 +37,7 @@ tally_alike gs hs cs t e s = record {
   roles = λ role known name. s.roles role known name ∙ role_alike name cs role gs hs e;
 }
 
--- a allocation between others
+-- an allocation between others
 pub same_between : (gs : List Allocation) (g : Allocation) (hs : List Allocation) → SameAllocations (gs ++ g ∷ hs) ((gs ++ hs) ++ g ∷ [])
 same_between gs g hs framework name =
     omega (arith, ap (amount name) (to-append framework gs (g ∷ hs)), amount-append name (rows_to framework gs) (rows_to framework (g ∷ hs)), to-one name framework g hs, to-more name framework (gs ++ hs) g, ap (amount name) (to-append framework gs hs), amount-append name (rows_to framework gs) (rows_to framework hs))

@@ -6,6 +6,7 @@ pub mod Picks
 pub mod Once
 pub mod OnceRoles
 pub mod FoundRoles
+pub mod Held
 pub mod UpTo
 pub mod Weights
 pub mod Picked

@@ -1,4 +1,4 @@
--- Shares show what was given when a framework is registered.
+-- Shares show what is allocated when a framework is registered.
 use Rattle.std.proofs.Common.{◌≡◌, ℕ, Bool, true, false, ◌||◌, cond, List, [], ◌∷◌, ◌++◌, Option, Some, None, refl, sym, ap, ◌∙◌, subst, arith, bytes_eq}
 use Rattle.std.specs.List.{AllByRecursion, find}
 use Rattle.names_core.specs.Ids.{Numbered, same}

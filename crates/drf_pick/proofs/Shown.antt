@@ -1,4 +1,4 @@
--- Shares show what was given.
+-- Shares show what is allocated.
 use Rattle.std.proofs.Common.{◌≡◌, ℕ, ◌+◌, ◌≤◌, Bool, true, false, ◌||◌, cond, List, [], ◌∷◌, ◌++◌, Option, Some, None, option_map, refl, sym, ap, ◌∙◌, subst, arith, bytes_eq, zero-le, append_assoc, append-nil}
 use Rattle.std.specs.List.{AllByRecursion, find, fold}
 use Rattle.std.specs.Cmp.Lexicographic.{bytes_decides}
@@ -9,7 +9,7 @@ use Rattle.share_sums.specs.Sums.{summed}
 use Rattle.share_sums.proofs.Summing.{sums_add}
 use Rattle.drf_pick.specs.Shares.{Holder, RoleSum, Tally, at_first, given_holders, given_roles, holding, is_holder, is_role, role_holding}
 use Rattle.drf_pick.specs.Least.{role_share, share_of_sum}
-use Rattle.drf_pick.specs.Allocations.{AddUp, Client, Allocation, all_rows, holds, role_rows, rows_to}
+use Rattle.drf_pick.specs.Allocations.{AddUp, Client, Allocation, all_rows, allocated, role_rows, rows_to}
 use Rattle.role_weights.specs.Weights.{RoleWeight}
 use Rattle.drf_pick.specs.Shown.{ClientsOnce, HoldersShow, NoneOf, RolesShow, Shows, TallyShows, WeightsShow, is_known}
 use Rattle.drf_pick.proofs.KeptShares.{found_changed}
@@ -175,7 +175,7 @@ still_known g o rs [] k = tt
 still_known g None rs (f ∷ fs) k = k
 still_known g (Some h) rs (f ∷ fs) k = (changed_known (role_holding g.resources) (λ r. refl) h.role f.role rs ∙ k.0, still_known g (Some h) rs fs k.1)
 
-pub tally_more : (gs : List Allocation) (g : Allocation) (fs : List Client) (t : Tally) → AddUp (all_rows (gs ++ g ∷ [])) → ClientsOnce fs → TallyShows gs fs t → TallyShows (gs ++ g ∷ []) fs (holds t g)
+pub tally_more : (gs : List Allocation) (g : Allocation) (fs : List Client) (t : Tally) → AddUp (all_rows (gs ++ g ∷ [])) → ClientsOnce fs → TallyShows gs fs t → TallyShows (gs ++ g ∷ []) fs (allocated t g)
 tally_more gs g fs t below once s = record {
   holders = holders_more gs g t.holders fs below once s.holders;
   known = still_known g (find (is_holder g.framework) t.holders) t.roles fs s.known;
@@ -190,11 +190,11 @@ fewer_add_up (g ∷ gs) hs h name = omega (arith, all-one name g (gs ++ hs), all
     less [] = zero-le
     less (k ∷ ks) = omega (arith, all-one name k (ks ++ hs), all-one name k ks, less ks)
 
-pub allocations_shown : (gs hs : List Allocation) (fs : List Client) (t : Tally) → AddUp (all_rows (gs ++ hs)) → ClientsOnce fs → TallyShows gs fs t → TallyShows (gs ++ hs) fs (fold holds t hs)
+pub allocations_shown : (gs hs : List Allocation) (fs : List Client) (t : Tally) → AddUp (all_rows (gs ++ hs)) → ClientsOnce fs → TallyShows gs fs t → TallyShows (gs ++ hs) fs (fold allocated t hs)
 allocations_shown gs [] fs t below once s = subst (λ ks. TallyShows ks fs t) (sym (append-nil gs)) s
 allocations_shown gs (h ∷ hs) fs t below once s =
-    subst (λ ks. TallyShows ks fs (fold holds (holds t h) hs)) together
-    (allocations_shown (gs ++ h ∷ []) hs fs (holds t h) all once (tally_more gs h fs t (fewer_add_up (gs ++ h ∷ []) hs all) once s))
+    subst (λ ks. TallyShows ks fs (fold allocated (allocated t h) hs)) together
+    (allocations_shown (gs ++ h ∷ []) hs fs (allocated t h) all once (tally_more gs h fs t (fewer_add_up (gs ++ h ∷ []) hs all) once s))
   where
     together : (gs ++ h ∷ []) ++ hs ≡ gs ++ h ∷ hs
     together = append_assoc gs (h ∷ []) hs

@@ -11,8 +11,8 @@ pub use Rattle.drf_pick.specs.declared.counted.Allocation.{Allocation}
 pub use Rattle.drf_pick.specs.declared.counted.Found.{Found}
 pub use Rattle.drf_pick.specs.declared.counted.CountedShares.{CountedShares}
 
-abbrev pub holds : Tally → Allocation → Tally
-holds t g = given g.framework g.resources t
+abbrev pub allocated : Tally → Allocation → Tally
+allocated t g = given g.framework g.resources t
 
 -- the rows of what is held: all, by one framework, and by the frameworks of one role
 

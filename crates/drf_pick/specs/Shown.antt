@@ -1,4 +1,4 @@
--- Shares that show what was given to frameworks.
+-- Shares that show what frameworks are allocated.
 use Rattle.std.specs.Prelude.{◌≡◌, ⊤, ℕ, Bool, true, false, if◌then◌else◌, List, [], ◌∷◌, ◌++◌, map, flat_map, IfSome}
 use Rattle.std.specs.List.{AllByRecursion, find, list_any}
 use Rattle.names_core.specs.Ids.{Numbered, same}
@@ -7,6 +7,8 @@ use Rattle.quantity.specs.Rows.{amount}
 use Rattle.quantity.specs.Laws.{SameAmounts}
 use Rattle.role_weights.specs.Weights.{RoleWeight, weight_of}
 use Rattle.share_sums.specs.Sums.{IsSum}
+use Rattle.share_sums.specs.declared.fault.SharesFault.{SharesFault}
+use Rattle.share_sums.specs.declared.fault.SharesFault.TheVariants.{OutOfMemory}
 use Rattle.drf_pick.specs.Shares.{Tally, Holder, RoleSum, is_holder, is_role}
 use Rattle.drf_pick.specs.Least.{role_share}
 use Rattle.drf_pick.specs.Allocations.{Allocation, Client, CountedShares, Found, role_rows, rows_to}
@@ -20,7 +22,7 @@ abbrev pub ClientsOnce : List Client → Type 0
 ClientsOnce [] = ⊤
 ClientsOnce (c ∷ cs) = NoneOf c.framework cs × ClientsOnce cs
 
--- a framework is registered with its role, and holds what was given to it
+-- a framework is registered with its role, and holds what it is allocated
 abbrev pub Shows : List Allocation → Holder → Client → Type 0
 Shows gs h c =
     (h.framework ≡ c.framework) × (h.role ≡ c.role)
@@ -36,13 +38,13 @@ HoldersShow gs (h ∷ hs) (c ∷ cs) = Shows gs h c × HoldersShow gs hs cs
 abbrev pub is_known : List RoleSum → List ℕ → Bool
 is_known rs role = list_any (is_role role) rs
 
--- each known role holds what was given to its frameworks
+-- each known role holds what its frameworks are allocated
 abbrev pub RolesShow : List Allocation → List Client → List RoleSum → Type 0
 RolesShow gs cs rs =
     (role : List ℕ) → is_known rs role ≡ true
     → SameAmounts (role_share rs role).held (role_rows cs role gs)
 
--- the shares show what was given to these frameworks
+-- the shares show what these frameworks are allocated
 pub record TallyShows (gs : List Allocation) (cs : List Client) (t : Tally) : Type 0 where
   pub holders : HoldersShow gs t.holders cs
   pub known : AllByRecursion (λ c. is_known t.roles c.role ≡ true) cs
@@ -70,6 +72,12 @@ TakesBack framework rows one other =
     (cs : List Client) (rest more : List Allocation) → ClientsOnce cs
     → TallyShows (rest ++ record { framework = framework; resources = rows } ∷ more) cs one
     → TallyShows (rest ++ more) cs other
+
+-- where the shares show these allocations, beside others, memory was refused
+abbrev pub MemoryRefused : List Allocation → Tally → SharesFault → Type 0
+MemoryRefused held t fault =
+    (cs : List Client) (rest : List Allocation) → ClientsOnce cs → TallyShows (rest ++ held) cs t
+    → fault ≡ OutOfMemory
 
 -- what is counted of what was found on agents
 

@@ -1,10 +1,10 @@
 //! Shares that are kept, with what is counted in them of each agent: where an agent's offers and
 //! tasks are others than before, what was counted of it is taken back.
 
-ghost use Rattle.std.specs.Prelude.{◌≡◌, ◌<◌, [], true, false, fold, length, set, IfOk, OnOk, ◌++◌, ◌∷◌, List};
+ghost use Rattle.std.specs.Prelude.{◌≡◌, ◌<◌, [], true, false, fold, length, set, IfErr, IfOk, OnErr, OnOk, ◌++◌, ◌∷◌, List};
 ghost use Rattle.std.specs.List.{list_any};
-ghost use Rattle.drf_pick.specs.Allocations.{AddUp, Allocation as ModelAllocation, Client as ModelClient, all_rows, holds};
-ghost use Rattle.drf_pick.specs.Shown.{AllCounted, AreCounted, ClientsOnce, HasNone, Moves, NoneOf, SameFound, StayCounted, TakesBack, TallyShows, all_found, counted_in, counted_of, due_in, is_for, uncounted};
+ghost use Rattle.drf_pick.specs.Allocations.{AddUp, Allocation as ModelAllocation, Client as ModelClient, all_rows, allocated};
+ghost use Rattle.drf_pick.specs.Shown.{AllCounted, AreCounted, ClientsOnce, HasNone, MemoryRefused, Moves, NoneOf, SameFound, StayCounted, TakesBack, TallyShows, all_found, counted_in, counted_of, due_in, is_for, uncounted};
 
 use crate::shares::Shares;
 use names_core::{FrameworkId, RoleName};
@@ -35,31 +35,39 @@ pub struct CountedShares {
 }
 
 impl Shares {
-    /// A framework no longer has resources that it was given. Nothing changes where it isn't
-    /// registered. `P1 NotHeld` where it or its role holds less.
+    /// A framework is no longer allocated these resources. Nothing changes where it isn't
+    /// registered. `P1 NotHeld` where it is and it or its role holds less, which isn't so where the
+    /// shares show this allocation; a refusal changes nothing.
     pub fn take_back(
         &mut self,
         alloc: Global,
         framework: FrameworkId,
         resources: &Resources,
     ) -> Result<(), SharesFault>
-        ensures { OnOk result (TakesBack framework resources.now self.old self.new) }
+        ensures ok { OnOk result (TakesBack framework resources.now self.old self.new) }
+        ensures err { OnErr result (self.new ≡ self.old) }
+        ensures memory { IfErr result (λ fault. (more : List ModelAllocation) → MemoryRefused
+            (record { framework = framework; resources = resources.now } ∷ more)
+            self.old fault) }
     {
         if self.is_registered(framework) {
-            self.back(alloc, framework, resources)?;
+            self.back(alloc, framework, resources)
+        } else {
+            Ok(())
         }
-        Ok(())
     }
 }
 
-/// Takes back what was counted. `P1 NotHeld` where the shares don't have all of it.
+/// Takes back what was counted. `P1 NotHeld` where the shares don't have all of it. A refusal leaves
+/// some of it taken back.
 fn take_back_all(
     shares: &mut Shares,
     alloc: Global,
     allocations: &[Allocation],
 ) -> Result<(), SharesFault>
-    ensures { OnOk result ((cs : List ModelClient) (rest : List ModelAllocation) → ClientsOnce cs
+    ensures ok { OnOk result ((cs : List ModelClient) (rest : List ModelAllocation) → ClientsOnce cs
         → TallyShows (rest ++ allocations.now) cs shares.old → TallyShows rest cs shares.new) }
+    ensures memory { IfErr result (MemoryRefused allocations.now shares.old) }
 {
     for allocation in allocations {
         shares.take_back(alloc, allocation.framework, &allocation.resources)?;
@@ -72,7 +80,7 @@ fn give_all(
     alloc: Global,
     allocations: &[Allocation],
 ) -> Result<(), AllocError>
-    ensures { OnOk result (shares.new ≡ fold holds shares.old allocations.now) }
+    ensures { OnOk result (shares.new ≡ fold allocated shares.old allocations.now) }
 {
     for allocation in allocations {
         match shares.give(alloc, allocation.framework, &allocation.resources) {
@@ -87,6 +95,7 @@ fn give_all(
 fn take_back_of(found: &mut Found, shares: &mut Shares, alloc: Global) -> Result<(), SharesFault>
     ensures found { OnOk result (found.new ≡ uncounted found.old) }
     ensures moves { OnOk result (Moves found.old found.new shares.old shares.new) }
+    ensures memory { IfErr result (MemoryRefused (counted_in found.old) shares.old) }
 {
     if found.is_counted {
         take_back_all(shares, alloc, &found.allocations)?;
@@ -105,6 +114,7 @@ fn replace_in(
     ensures found { OnOk result
         (found.new ≡ record { allocations = allocations; is_counted = false }) }
     ensures moves { OnOk result (Moves found.old found.new shares.old shares.new) }
+    ensures memory { IfErr result (MemoryRefused (counted_in found.old) shares.old) }
 {
     take_back_of(found, shares, alloc)?;
     *found = Found {
@@ -132,6 +142,7 @@ fn take_back_for(
     ensures allocations { OnOk result (found.new.allocations ≡ found.old.allocations) }
     ensures none { OnOk result (HasNone framework (counted_in found.new)) }
     ensures moves { OnOk result (Moves found.old found.new shares.old shares.new) }
+    ensures memory { IfErr result (MemoryRefused (counted_in found.old) shares.old) }
 {
     if any_for(&found.allocations, framework) {
         take_back_of(found, shares, alloc)?;
@@ -143,7 +154,7 @@ fn take_back_for(
 fn count_of(found: &mut Found, shares: &mut Shares, alloc: Global) -> Result<(), AllocError>
     ensures found { OnOk result
         (found.new ≡ record { allocations = found.old.allocations; is_counted = true }) }
-    ensures shares { OnOk result (shares.new ≡ fold holds shares.old (due_in found.old)) }
+    ensures shares { OnOk result (shares.new ≡ fold allocated shares.old (due_in found.old)) }
 {
     if !found.is_counted {
         give_all(shares, alloc, &found.allocations)?;
@@ -170,7 +181,8 @@ impl CountedShares {
     }
 
     /// These allocations are found on the agent at a place; what was counted of it is taken back.
-    /// `P1 NotHeld` where the shares don't have it.
+    /// `P2 OutOfMemory` leaves some of it counted, so that the shares no longer show what was found:
+    /// whoever is refused drops them. `P1 NotHeld` where they didn't show it before.
     pub fn find(
         &mut self,
         alloc: Global,
@@ -181,11 +193,13 @@ impl CountedShares {
         ensures found { OnOk result (self.new.found.items ≡ set self.old.found.items place
             (record { allocations = allocations; is_counted = false })) }
         ensures counted { OnOk result (StayCounted self.old self.new) }
+        ensures memory { IfErr result (λ fault. (cs : List ModelClient)
+            → AreCounted cs self.old → fault ≡ SharesFault.OutOfMemory) }
     {
         replace_in(&mut self.found[place], &mut self.shares, alloc, allocations)
     }
 
-    /// Nothing of a framework is counted on any agent.
+    /// Nothing of a framework is counted on any agent. A refusal leaves some of it counted.
     fn take_back_framework(
         &mut self,
         alloc: Global,
@@ -194,6 +208,8 @@ impl CountedShares {
         ensures found { OnOk result (SameFound self.old.found.items self.new.found.items) }
         ensures none { OnOk result (HasNone framework (counted_of self.new.found.items)) }
         ensures counted { OnOk result (StayCounted self.old self.new) }
+        ensures memory { IfErr result (λ fault. (cs : List ModelClient)
+            → AreCounted cs self.old → fault ≡ SharesFault.OutOfMemory) }
     {
         for place in 0..self.found.len() {
             take_back_for(&mut self.found[place], &mut self.shares, alloc, framework)?;
@@ -202,7 +218,9 @@ impl CountedShares {
     }
 
     /// Registers a framework that isn't registered with its role. What was found of it on agents is
-    /// counted by `count`.
+    /// counted by `count`. `P2 OutOfMemory` leaves some of what was counted taken back, so that the
+    /// shares no longer show what was found: whoever is refused drops them. `P1 NotHeld` where they
+    /// didn't show it before.
     pub fn register(
         &mut self,
         alloc: Global,
@@ -213,12 +231,15 @@ impl CountedShares {
         ensures counted { OnOk result ((cs : List ModelClient) → NoneOf framework cs
             → AreCounted cs self.old
             → AreCounted (cs ++ record { framework = framework; role = role.now } ∷ []) self.new) }
+        ensures memory { IfErr result (λ fault. (cs : List ModelClient)
+            → AreCounted cs self.old → fault ≡ SharesFault.OutOfMemory) }
     {
         self.take_back_framework(alloc, framework)?;
         self.shares.role(alloc, framework, role)
     }
 
-    /// All that was found is counted.
+    /// All that was found is counted. Want of memory leaves some of it counted that isn't marked so:
+    /// whoever is refused drops the shares.
     pub fn count(&mut self, alloc: Global) -> Result<(), AllocError>
         requires { AddUp (all_rows (all_found self.old.found.items)) }
         ensures found { OnOk result (SameFound self.old.found.items self.new.found.items) }

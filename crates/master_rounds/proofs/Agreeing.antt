@@ -15,7 +15,7 @@ use Rattle.frameworks.specs.Frameworks.{are_ordered}
 use Rattle.drf_pick.specs.Shares.{Tally, is_holder}
 use Rattle.side_fits.specs.Fits.{AllFitTotals, most_sides}
 use Rattle.drf_pick.specs.declared.holder.Client as drf
-use Rattle.drf_pick.specs.Allocations.{AddUp, all_rows, holds}
+use Rattle.drf_pick.specs.Allocations.{AddUp, all_rows, allocated}
 use Rattle.drf_pick.specs.Shown.{TallyShows}
 use Rattle.drf_pick.proofs.Shown.{tally_more, weights_stay}
 use Rattle.frameworks.specs.LastRound as frameworks
@@ -44,10 +44,10 @@ with_one : (ss : List Side) (made : List MadeOffer) (g : MadeOffer) → allocati
 with_one ss made g = append_assoc (allocations_of ss) (map made_allocation made) (made_allocation g ∷ []) ∙ ap (λ as_. allocations_of ss ++ as_) (sym (made_append made g))
 
 -- one offer more is shown once it is given
-shown_more : (ws : List RoleWeight) (m : Master) (made : List MadeOffer) (g : MadeOffer) (t : Tally) → CanBeSummed m (made ++ g ∷ []) → ShowRound ws m.sides m.registers.frameworks made t → ShowRound ws m.sides m.registers.frameworks (made ++ g ∷ []) (holds t (made_allocation g))
+shown_more : (ws : List RoleWeight) (m : Master) (made : List MadeOffer) (g : MadeOffer) (t : Tally) → CanBeSummed m (made ++ g ∷ []) → ShowRound ws m.sides m.registers.frameworks made t → ShowRound ws m.sides m.registers.frameworks (made ++ g ∷ []) (allocated t (made_allocation g))
 shown_more ws m made g t can s = record {
   totals = s.totals;
-  shown = subst (λ as_. TallyShows as_ cs (holds t (made_allocation g))) (with_one m.sides made g)
+  shown = subst (λ as_. TallyShows as_ cs (allocated t (made_allocation g))) (with_one m.sides made g)
       (tally_more (allocations_with m.sides made) (made_allocation g) cs t (subst (λ as_. AddUp (all_rows as_)) (sym (with_one m.sides made g)) can.held) (clients_once m.registers.frameworks can.ordered) s.shown);
   weights = weights_stay ws (made_allocation g) (find (is_holder g.offer.framework) t.holders) t.roles s.weights;
 }

@@ -1,4 +1,4 @@
-use Rattle.drf_pick.proofs.Counting.{moved_at, where_ok}
+use Rattle.drf_pick.proofs.Counting.{memory_at, moved_at, where_err, where_ok}
 use Rattle.drf_pick.proofs.counted.CountedShares.find.Goals as goal
 
 pub returns-clause-counted : goal.returns-clause-counted
@@ -6,3 +6,9 @@ returns-clause-counted c =
     where_ok c.replace_in.result
     (λ moves. λ cs k. record { once = k.once; shown = moved_at c.args.self.now.found.items c.args.place c.index_mut.result.now c.replace_in.new.found c.requires c.index_mut.ensures.value cs c.args.self.now.shares c.replace_in.new.shares k.once moves k.shown })
     c.replace_in.ensures.moves
+
+pub returns-clause-memory : goal.returns-clause-memory
+returns-clause-memory c =
+    where_err c.replace_in.result
+    (λ fault only. λ cs k. memory_at c.args.self.now.found.items c.args.place c.index_mut.result.now c.replace_in.new.found c.requires c.index_mut.ensures.value cs c.args.self.now.shares fault k.once only k.shown)
+    c.replace_in.ensures.memory
