@@ -9,15 +9,10 @@ use Rattle.id_spans.specs.Spans.{IsSpan, has_id}
 use Rattle.id_places.specs.declared.places.Places.{Places}
 use Rattle.id_places.specs.Places.{AreAlike, AreAt, Keeps, KeepsAllOthers, KeepsBut, KeepsElsewhere, KeepsOthers, may_be_at}
 use Rattle.id_places.specs.Holders.{ArePlaced}
+use Rattle.id_spans.proofs.Orders.{same_is}
 
 same_turned : (a b : Numbered) → same a b ≡ same b a
 same_turned a b = grind (arith, nat_tests)
-
-same_is : (a b : Numbered) → same a b ≡ true → a ≡ b
-same_is a b h =
-    let n : a.n ≡ b.n = grind (arith, nat_tests) in
-    let run : a.run ≡ b.run = grind (arith, nat_tests) in
-    let e : record { run = a.run; n = a.n } ≡ b = rw (n, run) refl in e
 
 apart_first : (v w : Bool) → v ≡ false → (v && w) ≡ false
 apart_first v w e = ap (λ u. u && w) e

@@ -71,6 +71,15 @@ KeepsAllOthers id_of_item gone from one other =
     (id : Numbered) (place : ℕ) → (list_any (has_id id_of_item id) gone && place == from) ≡ false
     → may_be_at other id place ≡ may_be_at one id place
 
+-- what has this id isn't at this place, or may be at any
+abbrev pub IsGone : Numbered → ℕ → Places → Type 0
+IsGone gone from places =
+    may_be_at places gone from ≡ true → (place : ℕ) → may_be_at places gone place ≡ true
+
+-- the same of what has the id of one of these items
+abbrev pub AreGone : {X : Type 0} → (X → Numbered) → List X → ℕ → Places → Type 0
+AreGone id_of_item gone from places = AllByRecursion (λ x. IsGone (id_of_item x) from places) gone
+
 -- what may be at a place by the one may be so by the other, but for what has this id at this place
 abbrev pub KeepsBut : Numbered → ℕ → Places → Places → Type 0
 KeepsBut gone from one other =

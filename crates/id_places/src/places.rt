@@ -4,7 +4,7 @@ ghost use Rattle.std.specs.Prelude.{◌≡◌, ◌&&◌, ◌==◌, ◌<◌, ◌�
 ghost use Rattle.std.specs.List.{list_any, AllByRecursion};
 ghost use Rattle.names_core.specs.Ids.{Numbered, same};
 ghost use Rattle.indexmap.specs.IndexMap.{get_by};
-ghost use Rattle.id_places.specs.Places.{is_at, is_found_at, is_id, is_only, may_be_at, id_of, AreAlike, AreAt, Keeps, KeepsOthers, KeepsAllOthers, HasAll};
+ghost use Rattle.id_places.specs.Places.{is_at, is_found_at, is_id, is_only, may_be_at, id_of, AreAlike, AreAt, AreGone, IsGone, Keeps, KeepsOthers, KeepsAllOthers, HasAll};
 
 use id_spans::{HasId, Span};
 use indexmap::IndexMap;
@@ -183,11 +183,11 @@ impl Places {
         }
     }
 
-    /// Nothing at this place has this id any more.
+    /// Nothing at this place has this id any more. Where something else may have it, it stays known
+    /// that it may be anywhere.
     pub fn remove<K: HasId>(&mut self, id: &K, place: usize)
         ensures others { KeepsOthers (K.id id.now) place self.old self.new }
-        ensures gone { may_be_at self.new (K.id id.now) place ≡ true
-            → (other : ℕ) → may_be_at self.old (K.id id.now) other ≡ true }
+        ensures gone { IsGone (K.id id.now) place self.new }
     {
         let id = id_of(id);
         if is_only(self.by_id.get(&id).copied(), place) {
@@ -197,7 +197,8 @@ impl Places {
 
     /// Nothing at this place has the ids of these items any more.
     pub fn remove_all<T: HasId>(&mut self, items: &[T], place: usize)
-        ensures { KeepsAllOthers T.id items.now place self.old self.new }
+        ensures others { KeepsAllOthers T.id items.now place self.old self.new }
+        ensures gone { AreGone T.id items.now place self.new }
     {
         for item in items {
             self.remove(item, place);

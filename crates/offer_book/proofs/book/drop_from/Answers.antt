@@ -18,8 +18,8 @@ returns-clause-ok c =
 
 pub returns-clause-offers : goal.returns-clause-offers
 returns-clause-offers c = λ are. rw c.drop_all.ensures
-    (placed_set id_of offers_on c.args.offers_at.now c.remove_all.new.self c.in-Some.place (others_elsewhere id_of _ c.in-Some.place c.args.offers_at.now c.remove_all.new.self c.remove_all.ensures) c.args.accounts.now.items (dropped c.index_mut.result.now) tt are)
+    (placed_set id_of offers_on c.args.offers_at.now c.remove_all.new.self c.in-Some.place (others_elsewhere id_of _ c.in-Some.place c.args.offers_at.now c.remove_all.new.self c.remove_all.ensures.others) c.args.accounts.now.items (dropped c.index_mut.result.now) tt are)
 
 pub returns-clause-tasks : goal.returns-clause-tasks
 returns-clause-tasks c = λ are. rw c.drop_all.ensures
-    (placed_set key_of tasks_on c.args.tasks_at.now c.remove_all-2.new.self c.in-Some.place (others_elsewhere key_of _ c.in-Some.place c.args.tasks_at.now c.remove_all-2.new.self c.remove_all-2.ensures) c.args.accounts.now.items (dropped c.index_mut.result.now) tt are)
+    (placed_set key_of tasks_on c.args.tasks_at.now c.remove_all-2.new.self c.in-Some.place (others_elsewhere key_of _ c.in-Some.place c.args.tasks_at.now c.remove_all-2.new.self c.remove_all-2.ensures.others) c.args.accounts.now.items (dropped c.index_mut.result.now) tt are)

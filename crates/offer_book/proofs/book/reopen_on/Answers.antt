@@ -20,11 +20,11 @@ returns-clause-ok c =
 
 pub returns-clause-offers : goal.returns-clause-offers
 returns-clause-offers c = λ are. rw c.reopen.ensures
-    (placed_set id_of offers_on c.args.offers_at.now c.remove_all.new.self c.in-Some.place (others_elsewhere id_of _ c.in-Some.place c.args.offers_at.now c.remove_all.new.self c.remove_all.ensures) c.args.accounts.now.items (reopened c.args.tasks c.args.total c.index_mut.result.now) tt are)
+    (placed_set id_of offers_on c.args.offers_at.now c.remove_all.new.self c.in-Some.place (others_elsewhere id_of _ c.in-Some.place c.args.offers_at.now c.remove_all.new.self c.remove_all.ensures.others) c.args.accounts.now.items (reopened c.args.tasks c.args.total c.index_mut.result.now) tt are)
 
 pub returns-clause-tasks : goal.returns-clause-tasks
 returns-clause-tasks c = λ are.
     let added : AreAt c.add_all.new.self key_of c.in-Some.place c.args.tasks = subst (AreAt c.add_all.new.self key_of c.in-Some.place) c.as_slice-3.ensures c.add_all.ensures.added in
-    let elsewhere = all_elsewhere c.in-Some.place c.args.tasks_at.now c.remove_all-2.new.self c.add_all.new.self (others_elsewhere key_of _ c.in-Some.place c.args.tasks_at.now c.remove_all-2.new.self c.remove_all-2.ensures) c.add_all.ensures.kept in
+    let elsewhere = all_elsewhere c.in-Some.place c.args.tasks_at.now c.remove_all-2.new.self c.add_all.new.self (others_elsewhere key_of _ c.in-Some.place c.args.tasks_at.now c.remove_all-2.new.self c.remove_all-2.ensures.others) c.add_all.ensures.kept in
     rw c.reopen.ensures
     (placed_set key_of tasks_on c.args.tasks_at.now c.add_all.new.self c.in-Some.place elsewhere c.args.accounts.now.items (reopened c.args.tasks c.args.total c.index_mut.result.now) added are)
