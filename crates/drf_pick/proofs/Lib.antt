@@ -18,5 +18,6 @@ pub mod Reweighing
 pub mod AllocationRows
 pub mod Shown
 pub mod Less
+pub mod Ranked
 pub mod Registering
 pub mod Counting

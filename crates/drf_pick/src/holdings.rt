@@ -252,6 +252,13 @@ impl Holdings {
         self.holders.as_slice()
     }
 
+    /// Ranks the roles by their names, if some was added since they were ranked.
+    pub(crate) fn rank_roles(&mut self, alloc: Global) -> Result<(), AllocError>
+        ensures { self.new ≡ self.old }
+    {
+        self.roles.rank_all(alloc)
+    }
+
     pub(crate) fn roles(&self) -> &Roles
         ensures { result.now ≡ self.now.roles }
     {

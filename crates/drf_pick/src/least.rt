@@ -50,7 +50,10 @@ fn comes_by_role(
         && (!other
             .fraction
             .is_at_most(other.weight, one.fraction, one.weight)
-            || first.is_before(second))
+            || shares
+                .holdings
+                .roles()
+                .is_before(first, one.place, second, other.place))
 }
 
 /// Whether two roles are one, where each has its place among these if it is known.

@@ -8,6 +8,7 @@ mod holder;
 mod holdings;
 mod laws;
 mod least;
+mod ranks;
 mod roles;
 mod shares;
 

@@ -2,9 +2,11 @@
 
 ghost use Rattle.std.specs.Prelude.{◌≡◌, ◌<◌, ◌++◌, ◌∷◌, [], None, true, false, length, map, Some, Err, OnOk, OnErr};
 ghost use Rattle.std.specs.List.{find, position};
+ghost use Rattle.cluster_model.specs.Ids.{bytes_before};
 ghost use Rattle.drf_pick.specs.Shares.{AreWeighed, RolesOnce, is_role, at_first, reweighed, role_holding, role_sum_of, roles_with, role_has, role_returning};
 
 use crate::holder::RoleSum;
+use crate::ranks::{rank_at, ranks_of};
 use names_core::RoleName;
 use plain_data::Plain;
 use quantity::Resources;
@@ -20,20 +22,23 @@ pub(crate) struct Roles {
     sums: Vec<RoleSum>,
     /// The place of each role, by its name.
     places: BTreeMap<String, usize>,
+    /// The rank of each role, at its place; empty where one was added since they were ranked.
+    ranks: Vec<Option<usize>>,
 }
 
 impl Model for Roles {
     ghost use Rattle.std.specs.Prelude.{List};
     ghost use Rattle.std.specs.BTreeMap.{get_by_text};
     ghost use Rattle.drf_pick.specs.Shares.{AreWeighed, RoleSum, RolesOnce};
-    ghost use Rattle.drf_pick.specs.Places.{AreFoundBy};
+    ghost use Rattle.drf_pick.specs.Places.{AreFoundBy, AreRanks};
 
     ghost Value = { List RoleSum };
 
     ghost view = { λ roles. roles.sums.items };
 
-    ghost invariant = { λ roles. (RolesOnce roles.sums.items × AreWeighed roles.sums.items)
-        × AreFoundBy (get_by_text roles.places) roles.sums.items };
+    ghost invariant = { λ roles. ((RolesOnce roles.sums.items × AreWeighed roles.sums.items)
+        × AreFoundBy (get_by_text roles.places) roles.sums.items)
+        × AreRanks (get_by_text roles.places) roles.ranks.items };
 }
 
 fn give_at(
@@ -115,6 +120,7 @@ impl Roles {
         Roles {
             sums: Vec::new(alloc),
             places: BTreeMap::new(alloc),
+            ranks: Vec::new(alloc),
         }
     }
 
@@ -198,7 +204,10 @@ impl Roles {
         let name = String::from_str(alloc, role.as_text())?;
         push_sum(&mut self.sums, alloc, role)?;
         match self.places.insert(name, count) {
-            Ok(_) => Ok(()),
+            Ok(_) => {
+                self.ranks.clear();
+                Ok(())
+            }
             Err(_) => {
                 self.sums.truncate(count);
                 Err(AllocError)
@@ -219,5 +228,36 @@ impl Roles {
         let count = self.sums.len();
         self.push(alloc, role)?;
         Ok(count)
+    }
+
+    /// Ranks the roles by their names, if some was added since they were ranked.
+    pub fn rank_all(&mut self, alloc: Global) -> Result<(), AllocError>
+        ensures { self.new ≡ self.old }
+    {
+        if self.ranks.len() < self.sums.len() {
+            self.ranks = ranks_of(alloc, self.sums.as_slice(), &self.places)?;
+        }
+        Ok(())
+    }
+
+    /// Whether a role comes before another by their names, where each has its place among these if
+    /// it is known. Where both are ranked, their ranks are compared in place of their names.
+    pub fn is_before(
+        &self,
+        first: &RoleName,
+        one: Option<usize>,
+        second: &RoleName,
+        other: Option<usize>,
+    ) -> bool
+        requires one { one ≡ position (is_role first.now) self.now }
+        requires other { other ≡ position (is_role second.now) self.now }
+        ensures { result ≡ bytes_before first.now second.now }
+    {
+        if let Some(rank) = rank_at(&self.ranks, one) {
+            if let Some(other_rank) = rank_at(&self.ranks, other) {
+                return rank < other_rank;
+            }
+        }
+        first.is_before(second)
     }
 }

@@ -111,11 +111,13 @@ impl Shares {
     }
 
     /// Agents own this together. Dominant shares are made anew only where that is another sum than
-    /// before. A refusal changes nothing.
+    /// before, and roles are ranked by their names only where some was added since they were. A
+    /// refusal changes nothing.
     pub fn own(&mut self, alloc: Global, totals: Sum) -> Result<(), AllocError>
         ensures ok { OnOk result (self.new ≡ with_totals totals self.old) }
         ensures err { OnErr result (self.new ≡ self.old) }
     {
+        self.holdings.rank_roles(alloc)?;
         if are_same(self.holdings.totals().rows(), totals.rows()) {
             return Ok(());
         }

@@ -14,6 +14,8 @@ pub invariant_of-self : goal.invariant_of-self
 invariant_of-self c =
     let rs = c.self.inside.sums.items in
     let places = get_by_text c.self.inside.places in
-    let change = role_holding c.args.resources.now in
-    either c.give_at.result (IsTable places) rs c.give_at.new.sums.items (at_first (is_role c.args.role.now) change rs) c.give_at.ensures.ok c.give_at.ensures.err c.self.invariant
-    (table_changed places c.args.role.now change rs (λ r. refl) (λ r some. some) c.self.invariant)
+    let change = role_holding c.args.resources.now in (
+      either c.give_at.result (IsTable places) rs c.give_at.new.sums.items (at_first (is_role c.args.role.now) change rs) c.give_at.ensures.ok c.give_at.ensures.err c.self.invariant.0
+          (table_changed places c.args.role.now change rs (λ r. refl) (λ r some. some) c.self.invariant.0),
+      c.self.invariant.1,
+    )

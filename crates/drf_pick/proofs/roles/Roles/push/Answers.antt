@@ -2,6 +2,8 @@ use Rattle.std.proofs.Common.{◌≡◌, ℕ, List, None, bytes_eq, cond, Some, 
 use Rattle.std.specs.BTreeMap.{get_by_text}
 use Rattle.std.specs.List.{find}
 use Rattle.drf_pick.specs.Shares.{is_role}
+use Rattle.drf_pick.specs.Places.{AreRanks}
+use Rattle.drf_pick.proofs.Ranked.{unranked}
 use Rattle.drf_pick.proofs.FoundRoles.{IsTable, inserted, looked, more, table_pushed}
 use Rattle.drf_pick.proofs.roles.Roles.push.Goals as goal
 
@@ -16,6 +18,8 @@ invariant_of-self-in-Ok c =
     let is : string_bytes c.in_ok-name.name ≡ name = c.in_ok-name.ensures.ok ∙ c.as_text.ensures.text in
     let now : (role : List ℕ) → get_by_text c.insert.new.self role ≡ more (get_by_text s.places) name count role = λ role.
     ap (looked role) c.in-Ok.ensures.entries ∙ inserted s.places.entries c.in_ok-name.name count role
-    ∙ ap (λ (n : List ℕ). cond (bytes_eq n role) (Some count) (get_by_text s.places role)) is in
-    subst (IsTable (get_by_text c.insert.new.self)) (sym c.in_ok-push_sum.ensures.ok)
-    (table_pushed (get_by_text s.places) (get_by_text c.insert.new.self) name rs count all none now c.self.invariant)
+    ∙ ap (λ (n : List ℕ). cond (bytes_eq n role) (Some count) (get_by_text s.places role)) is in (
+      subst (IsTable (get_by_text c.insert.new.self)) (sym c.in_ok-push_sum.ensures.ok)
+          (table_pushed (get_by_text s.places) (get_by_text c.insert.new.self) name rs count all none now c.self.invariant.0),
+      subst (AreRanks (get_by_text c.insert.new.self)) (sym c.clear.ensures.items) (unranked (get_by_text c.insert.new.self)),
+    )

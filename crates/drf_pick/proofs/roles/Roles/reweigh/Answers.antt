@@ -11,6 +11,9 @@ invariant_of-self c =
     let ws = c.args.weights.now in
     let places = get_by_text c.self.inside.places in
     let is = c.reweigh_all.ensures.sums in (
-      (subst RolesOnce (sym is) (reweighed_once ws rs c.self.invariant.0.0), c.reweigh_all.ensures.weighed),
-      subst (AreFoundBy places) (sym is) (found_reweighed places ws rs c.self.invariant.1),
+      (
+        (subst RolesOnce (sym is) (reweighed_once ws rs c.self.invariant.0.0.0), c.reweigh_all.ensures.weighed),
+        subst (AreFoundBy places) (sym is) (found_reweighed places ws rs c.self.invariant.0.1),
+      ),
+      c.self.invariant.1,
     )
