@@ -11,6 +11,7 @@ use crate::replayer::Replayer;
 use device_io::{Stop, answer_lines};
 use std::alloc::Global;
 use std::io::{Read, Write};
+use std::mem;
 
 /// Replays a text with a replayer that has read none of it.
 fn replay_with<R: Read, W: Write>(
@@ -48,7 +49,8 @@ fn replay_with<R: Read, W: Write>(
 /// other one is a step of their cluster, all of whose calls and mails can be delivered any number
 /// of times. After each line it writes the answer to it, and at the end the agents, their tasks,
 /// and the number of entries. It returns the line that ended it, if one did: `X1 NotAStep`,
-/// `X2 BadCall`, or `X3 BadConfig`.
+/// `X2 BadCall`, or `X3 BadConfig`. The memory of the cluster isn't freed at the end: a replay is
+/// to be the last work of its process.
 pub fn replay<R: Read, W: Write>(
     alloc: Global,
     reader: &mut R,
@@ -71,6 +73,8 @@ pub fn replay<R: Read, W: Write>(
 {
     let mut replayer = Replayer::new();
     let replayed = replay_with(alloc, reader, &mut replayer, writer);
-    drop(replayer);
+    // With many tasks it takes a part of the whole time to free a cluster piece by piece, and the
+    // process ends next.
+    mem::forget(replayer);
     replayed
 }
