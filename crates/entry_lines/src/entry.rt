@@ -73,12 +73,12 @@ fn push_one_sent(
         Sent::ToAgent(to) => {
             let front = mail_front(alloc, number, to.get().agent.as_text())?;
             let body = to_agent_text(alloc, to.get())?;
-            push_line(text, front.as_str(), body.as_bytes())
+            push_line(text, front.as_str(), body.as_slice())
         }
         Sent::ToMaster(to) => {
             let front = mail_front(alloc, number, "master")?;
             let body = to_master_text(alloc, to.get())?;
-            push_line(text, front.as_str(), body.as_bytes())
+            push_line(text, front.as_str(), body.as_slice())
         }
     }
 }

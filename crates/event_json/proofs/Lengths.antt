@@ -125,7 +125,7 @@ items_short data_of most P short later (x ∷ xs) h =
 -- ---- offers
 
 row_short : (r : Row) → IsRow r → length (compact_text (row_data r)) ≤ 255
-unfolding row_data escape_byte
+unfolding escape_byte
 row_short r h =
     let name = resource_short r.name h.named in
     let amount : length (number_text (unsigned r.amount)) ≤ 13 = length-decimal-le 13 r.amount (omega arith) (omega (arith, h.at_most)) (omega (arith, h.at_most)) in
@@ -137,7 +137,7 @@ rows_short rows h =
     omega (arith, h.few)
 
 offer_short : (o : Offer) → IsOffer o → length (compact_text (offer_data o)) ≤ 4000
-unfolding offer_data escape_byte
+unfolding escape_byte
 offer_short o h =
     let agent = name_short o.agent h.agent in
     let framework = id_short o.framework h.framework in
@@ -154,7 +154,7 @@ offers_short os h =
 
 status_short : (agent : Option (List ℕ)) (state task : List ℕ) (uuid : Option (List ℕ)) → IfSome agent IsName → length (escape state) ≤ 14 → IsName task → IfSome uuid (λ text. length (escape text) ≤ 144)
     → length (compact_text (status_object agent state task uuid)) ≤ 2000
-unfolding status_object escape_byte
+unfolding escape_byte
 status_short None state task None a s t u = let h = name_short task t in simp length-append (omega arith)
 status_short None state task (Some uuid) a s t u = let h = name_short task t in simp length-append (omega arith)
 status_short (Some agent) state task None a s t u = let h = name_short task t in let g = name_short agent a in simp length-append (omega arith)

@@ -3,9 +3,12 @@ use Rattle.std.specs.Prelude.{ℕ, List, map, codes}
 use Rattle.serde_json.specs.Data.{Data, string, number, unsigned, array, object, no_members, member}
 use Rattle.serde_json.specs.View.{items_of}
 use Rattle.serde_json.specs.Written.{compact_text}
+use Rattle.names_core.specs.Ids.{Numbered}
 use Rattle.event_json.specs.Ids.{only, id_data, framework_data, offer_id_data}
 use Rattle.event_json.specs.Offers.{offer_data}
 use Rattle.event_json.specs.Statuses.{status_data}
+use Rattle.scheduler_events.specs.declared.offer.Offer.{Offer}
+use Rattle.scheduler_events.specs.declared.status.TaskStatus.{TaskStatus}
 use Rattle.scheduler_events.specs.declared.event.Event.{Event}
 use Rattle.scheduler_events.specs.declared.event.Event.TheVariants.{Subscribed, Offers, Rescind, Update, Failure, Error, Heartbeat}
 
@@ -22,24 +25,45 @@ abbrev pub behind_type : List ℕ → List ℕ → Data → Data
 behind_type kind name body =
     object (member (codes "type") (string kind) (member name body no_members))
 
-unfoldable pub event_data : Event → Data
-event_data (Subscribed framework) =
+abbrev pub subscribed_data : Numbered → Data
+subscribed_data framework =
     before_type (codes "subscribed") (object
     (member (codes "framework_id") (framework_data framework)
     (member (codes "heartbeat_interval_seconds") (number (unsigned 15)) no_members)))
     (codes "SUBSCRIBED")
-event_data (Offers offers) =
+
+abbrev pub offered_data : List Offer → Data
+offered_data offers =
     before_type (codes "offers") (only (codes "offers") (array (items_of (map offer_data offers))))
     (codes "OFFERS")
-event_data (Rescind offer) =
+
+abbrev pub rescind_data : Numbered → Data
+rescind_data offer =
     before_type (codes "rescind") (only (codes "offer_id") (offer_id_data offer)) (codes "RESCIND")
-event_data (Update status) =
+
+abbrev pub updated_data : TaskStatus → Data
+updated_data status =
     behind_type (codes "UPDATE") (codes "update") (only (codes "status") (status_data status))
-event_data (Failure agent) =
+
+abbrev pub failure_data : List ℕ → Data
+failure_data agent =
     before_type (codes "failure") (only (codes "agent_id") (id_data agent)) (codes "FAILURE")
-event_data (Error message) =
+
+abbrev pub error_data : List ℕ → Data
+error_data message =
     before_type (codes "error") (only (codes "message") (string message)) (codes "ERROR")
-event_data Heartbeat = type_data (codes "HEARTBEAT")
+
+abbrev pub heartbeat_data : Data
+heartbeat_data = type_data (codes "HEARTBEAT")
+
+unfoldable pub event_data : Event → Data
+event_data (Subscribed framework) = subscribed_data framework
+event_data (Offers offers) = offered_data offers
+event_data (Rescind offer) = rescind_data offer
+event_data (Update status) = updated_data status
+event_data (Failure agent) = failure_data agent
+event_data (Error message) = error_data message
+event_data Heartbeat = heartbeat_data
 
 abbrev pub event_text : Event → List ℕ
 event_text e = compact_text (event_data e)

@@ -1,15 +1,11 @@
 -- Ids as JSON.
 use Rattle.std.specs.Prelude.{ℕ, List, codes}
-use Rattle.serde_json.specs.Data.{Data, string, object, no_members, member, put}
+use Rattle.serde_json.specs.Data.{Data, string, object, no_members, member}
 use Rattle.names_core.specs.Ids.{Numbered, id_text}
 
 -- an object of one member
 abbrev pub only : List ℕ → Data → Data
 only name d = object (member name d no_members)
-
--- an object of two members, in byte order of their names
-abbrev pub pair : List ℕ → Data → List ℕ → Data → Data
-pair a x b y = object (put b y (member a x no_members))
 
 abbrev pub id_data : List ℕ → Data
 id_data text = only (codes "value") (string text)

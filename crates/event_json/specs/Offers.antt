@@ -1,24 +1,20 @@
 -- Offers as JSON.
-use Rattle.std.specs.Prelude.{ℕ, List, map, codes}
-use Rattle.serde_json.specs.Data.{Data, string, number, unsigned, array, object, Members, no_members, member, put}
+use Rattle.std.specs.Prelude.{map, codes}
+use Rattle.serde_json.specs.Data.{Data, string, number, unsigned, array, object, no_members, member}
 use Rattle.serde_json.specs.View.{items_of}
 use Rattle.quantity.specs.declared.rows.Row.{Row}
 use Rattle.event_json.specs.Ids.{only, id_data, framework_data, offer_id_data}
 use Rattle.scheduler_events.specs.declared.offer.Offer.{Offer}
 
 -- an amount of a resource, as a scalar that is reserved for no role
-unfoldable pub row_data : Row → Data
+abbrev pub row_data : Row → Data
 row_data row = object
     (member (codes "name") (string row.name)
     (member (codes "role") (string (codes "*"))
     (member (codes "scalar") (only (codes "value") (number (unsigned row.amount)))
     (member (codes "type") (string (codes "SCALAR")) no_members))))
 
--- members with the name of the agent's host
-abbrev pub hosted : List ℕ → Members → Data
-hosted agent ms = object (put (codes "hostname") (string agent) ms)
-
-unfoldable pub offer_data : Offer → Data
+abbrev pub offer_data : Offer → Data
 offer_data offer = object
     (member (codes "agent_id") (id_data offer.agent)
     (member (codes "framework_id") (framework_data offer.framework)

@@ -3,7 +3,6 @@
 
 mod object;
 mod offer;
-mod offers;
 mod status;
 mod write;
 

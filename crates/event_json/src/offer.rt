@@ -1,76 +1,108 @@
 //! Offers.
 
-ghost use Rattle.std.specs.Prelude.{◌≡◌, [], map, IfOk, OnOk};
-ghost use Rattle.serde_json.specs.Data.{array, object};
-ghost use Rattle.serde_json.specs.View.{view, items_of, members_view};
-ghost use Rattle.event_json.specs.Bounds.{IsOffer};
-ghost use Rattle.event_json.specs.Offers.{row_data, hosted, offer_data};
+ghost use Rattle.std.specs.Prelude.{◌≡◌, ◌∷◌, [], codes, map, OnOk};
+ghost use Rattle.std.specs.List.{AllByRecursion, flat_map};
+ghost use Rattle.json.specs.Token.{key, string};
+ghost use Rattle.quantity.specs.Rows.{AreRows};
+ghost use Rattle.serde_json.specs.Data.{array};
+ghost use Rattle.serde_json.specs.View.{items_of};
+ghost use Rattle.json_text.specs.Tokens.{tokens_of, written};
+ghost use Rattle.event_json.specs.Bounds.{IsName, IsOffer};
+ghost use Rattle.event_json.specs.Ids.{id_data};
+ghost use Rattle.event_json.specs.Offers.{row_data, offer_data};
 
-use crate::object::{framework_value, id_value, offer_id_value, only, put_text};
-use quantity::Row;
+use crate::object::{write_framework_id, write_id_member, write_offer_id};
+use json_text::JsonText;
+use names_core::AgentName;
+use quantity::{ResourceName, Resources, Row};
 use scheduler_events::Offer;
-use serde_json::{Map, Value, put};
 use std::alloc::{AllocError, Global};
 
-/// Inserts the members of an amount into an empty object.
-#[tactic(auto, unfolding(crate::specs::Offers::row_data))]
-fn put_row(members: &mut Map<String, Value>, alloc: Global, row: &Row) -> Result<(), AllocError>
-    requires { members.old.entries ≡ [] }
-    ensures { OnOk result (object (members_view members.new.entries) ≡ row_data row.now) }
+fn write_name(out: &mut JsonText, name: &ResourceName) -> Result<(), AllocError>
+    ensures { OnOk result
+        (out.new ≡ written out.old (key (codes "name") ∷ string name.now ∷ [])) }
 {
-    put_text(members, alloc, "name", row.name.as_str())?;
-    put_text(members, alloc, "role", "*")?;
-    let scalar = only(alloc, "value", Value::from(row.amount))?;
-    put(members, alloc, "scalar", scalar)?;
-    put_text(members, alloc, "type", "SCALAR")
+    out.string_member("name", name.as_str())
 }
 
-fn row_value(alloc: Global, row: &Row) -> Result<Value, AllocError>
-    ensures { IfOk result (λ v. view v ≡ row_data row.now) }
+/// An amount of a resource.
+fn write_row(out: &mut JsonText, row: &Row) -> Result<(), AllocError>
+    ensures { OnOk result (out.new ≡ written out.old (tokens_of (row_data row.now))) }
 {
-    let mut members = Map::new(alloc);
-    put_row(&mut members, alloc, row)?;
-    Ok(Value::Object(members))
+    out.begin_object()?;
+    write_name(out, &row.name)?;
+    out.string_member("role", "*")?;
+    out.key("scalar")?;
+    out.begin_object()?;
+    out.number_member("value", row.amount)?;
+    out.end_object()?;
+    out.string_member("type", "SCALAR")?;
+    out.end_object()
 }
 
-fn rows_value(alloc: Global, rows: &[Row]) -> Result<Value, AllocError>
-    ensures { IfOk result (λ v. view v ≡ array (items_of (map row_data rows.now))) }
+fn write_each_row(out: &mut JsonText, rows: &[Row]) -> Result<(), AllocError>
+    ensures { OnOk result
+        (out.new ≡ written out.old (flat_map (λ row. tokens_of (row_data row)) rows.now)) }
 {
-    let mut values = Vec::with_capacity(alloc, rows.len())?;
     for row in rows {
-        values.push(row_value(alloc, row)?)?;
+        write_row(out, row)?;
     }
-    Ok(Value::Array(values))
+    Ok(())
 }
 
-/// Inserts the members of an offer into an empty object, all but the name of its agent's host.
-#[tactic(auto, unfolding(crate::specs::Offers::offer_data))]
-fn put_offer(
-    members: &mut Map<String, Value>,
-    alloc: Global,
-    offer: &Offer,
-) -> Result<(), AllocError>
-    requires { members.old.entries ≡ [] }
-    ensures value { OnOk result (hosted offer.now.agent (members_view members.new.entries)
-        ≡ offer_data offer.now) }
+fn write_resources(out: &mut JsonText, resources: &Resources) -> Result<(), AllocError>
+    ensures tokens { OnOk result (out.new
+        ≡ written out.old (tokens_of (array (items_of (map row_data resources.now))))) }
+    ensures rows { OnOk result (AreRows resources.now) }
+{
+    out.begin_array()?;
+    write_each_row(out, resources.rows())?;
+    out.end_array()
+}
+
+/// The agent's id.
+fn write_agent_id(out: &mut JsonText, agent: &AgentName) -> Result<(), AllocError>
+    ensures tokens { OnOk result (out.new
+        ≡ written out.old (key (codes "agent_id") ∷ tokens_of (id_data agent.now))) }
+    ensures name { OnOk result (IsName agent.now) }
+{
+    write_id_member(out, "agent_id", agent.as_text())
+}
+
+/// The name of the agent's host, which is the agent's.
+fn write_host(out: &mut JsonText, agent: &AgentName) -> Result<(), AllocError>
+    ensures { OnOk result
+        (out.new ≡ written out.old (key (codes "hostname") ∷ string agent.now ∷ [])) }
+{
+    out.string_member("hostname", agent.as_text())
+}
+
+fn write_offer(out: &mut JsonText, alloc: Global, offer: &Offer) -> Result<(), AllocError>
+    ensures tokens { OnOk result (out.new ≡ written out.old (tokens_of (offer_data offer.now))) }
     ensures bounds { OnOk result (IsOffer offer.now) }
 {
-    let agent = id_value(alloc, offer.agent.as_text())?;
-    put(members, alloc, "agent_id", agent)?;
-    let framework = framework_value(alloc, &offer.framework)?;
-    put(members, alloc, "framework_id", framework)?;
-    let id = offer_id_value(alloc, &offer.id)?;
-    put(members, alloc, "id", id)?;
-    let resources = rows_value(alloc, offer.resources.rows())?;
-    put(members, alloc, "resources", resources)
+    out.begin_object()?;
+    write_agent_id(out, &offer.agent)?;
+    write_framework_id(out, alloc, "framework_id", &offer.framework)?;
+    write_host(out, &offer.agent)?;
+    write_offer_id(out, alloc, "id", &offer.id)?;
+    out.key("resources")?;
+    write_resources(out, &offer.resources)?;
+    out.end_object()
 }
 
-pub fn offer_value(alloc: Global, offer: &Offer) -> Result<Value, AllocError>
-    ensures value { IfOk result (λ v. view v ≡ offer_data offer.now) }
-    ensures bounds { IfOk result (λ _. IsOffer offer.now) }
+/// Offers, one after the other.
+pub fn write_each_offer(
+    out: &mut JsonText,
+    alloc: Global,
+    offers: &[Offer],
+) -> Result<(), AllocError>
+    ensures tokens { OnOk result
+        (out.new ≡ written out.old (flat_map (λ offer. tokens_of (offer_data offer)) offers.now)) }
+    ensures bounds { OnOk result (AllByRecursion IsOffer offers.now) }
 {
-    let mut members = Map::new(alloc);
-    put_offer(&mut members, alloc, offer)?;
-    put_text(&mut members, alloc, "hostname", offer.agent.as_text())?;
-    Ok(Value::Object(members))
+    for offer in offers {
+        write_offer(out, alloc, offer)?;
+    }
+    Ok(())
 }

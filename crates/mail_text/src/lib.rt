@@ -1,7 +1,7 @@
 //! Mails as texts.
 #![tactic(auto)]
 
-mod object;
+mod members;
 mod to_agent;
 mod to_master;
 

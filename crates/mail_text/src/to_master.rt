@@ -1,168 +1,182 @@
 //! Mails from agents.
 
-ghost use Rattle.std.specs.Prelude.{◌≡◌, [], codes, IfOk, OnOk, string_bytes};
-ghost use Rattle.serde_json.specs.Data.{object};
-ghost use Rattle.serde_json.specs.View.{view, members_view};
+ghost use Rattle.std.specs.Prelude.{◌≡◌, ◌∷◌, [], codes, IfOk, OnOk};
+ghost use Rattle.std.specs.List.{flat_map};
+ghost use Rattle.json.specs.Token.{key, boolean};
 ghost use Rattle.record_text.specs.Texts.{list_data};
-ghost use Rattle.mail_text.specs.Mails.{agent_mail_data, applied_data, booked_data, ending, only, report_data, to_master_form, update_members, update_data};
+ghost use Rattle.json_text.specs.Tokens.{tokens_of, written};
+ghost use Rattle.mail_text.specs.Mails.{agent_mail_data, applied_data, booked_data, only, report_object, to_master_form, update_data};
 
-use crate::object::{only, put_origin, put_text};
+use crate::members::{
+    write_agent, write_amounts, write_framework, write_key, write_name, write_number, write_state,
+};
+use json_text::JsonText;
 use mails::{AgentMail, Booked, ToMaster};
-use names_core::{LaunchKey, TaskState};
+use names_core::{AgentName, LaunchKey, TaskState};
 use quantity::Resources;
-use record_text::{amounts_value, key_value, put_job};
-use serde_json::{Map, Value, put};
 use std::alloc::{AllocError, Global};
 
-/// Inserts the members of a task into an empty object, all but whether it has ended.
-#[tactic(auto, unfolding(crate::specs::Mails::booked_data))]
-fn put_booked(
-    members: &mut Map<String, Value>,
-    alloc: Global,
-    task: &Booked,
-) -> Result<(), AllocError>
-    requires { members.old.entries ≡ [] }
-    ensures { OnOk result (ending task.now.ended (members_view members.new.entries)
-        ≡ booked_data task.now) }
-{
-    put_job(members, alloc, &task.job)?;
-    put(members, alloc, "sent", Value::from(task.received))?;
-    put_text(members, alloc, "state", task.state.as_text())
-}
-
-fn booked_value(alloc: Global, task: &Booked) -> Result<Value, AllocError>
-    ensures { IfOk result (λ v. view v ≡ booked_data task.now) }
-{
-    let mut members = Map::new(alloc);
-    put_booked(&mut members, alloc, task)?;
-    let ended = task.ended;
-    put(&mut members, alloc, "ended", Value::from(ended))?;
-    Ok(Value::Object(members))
-}
-
-fn tasks_value(alloc: Global, tasks: &[Booked]) -> Result<Value, AllocError>
-    ensures { IfOk result (λ v. view v ≡ list_data booked_data tasks.now) }
-{
-    let mut values = Vec::with_capacity(alloc, tasks.len())?;
-    for task in tasks {
-        values.push(booked_value(alloc, task)?)?;
-    }
-    Ok(Value::Array(values))
-}
-
-/// Inserts the members of a report into an empty object.
-#[tactic(auto, unfolding(crate::specs::Mails::report_data))]
-fn put_report(
-    members: &mut Map<String, Value>,
-    alloc: Global,
-    agent: &str,
-    session: u32,
-    run: u32,
-    tasks: &[Booked],
-    total: &Resources,
-) -> Result<(), AllocError>
-    requires { members.old.entries ≡ [] }
-    ensures { OnOk result (only (codes "report") (object (members_view members.new.entries))
-        ≡ report_data agent.now session run tasks.now total.now) }
-{
-    put_origin(members, alloc, agent, session)?;
-    put(members, alloc, "run", Value::from(run))?;
-    let tasks = tasks_value(alloc, tasks)?;
-    put(members, alloc, "tasks", tasks)?;
-    let total = amounts_value(alloc, total)?;
-    put(members, alloc, "total", total)
-}
-
-fn report_value(
-    alloc: Global,
-    agent: &str,
-    session: u32,
-    run: u32,
-    tasks: &[Booked],
-    total: &Resources,
-) -> Result<Value, AllocError>
-    ensures { IfOk result (λ v. view v ≡ report_data agent.now session run tasks.now total.now) }
-{
-    let mut members = Map::new(alloc);
-    put_report(&mut members, alloc, agent, session, run, tasks, total)?;
-    only(alloc, "report", Value::Object(members))
-}
-
-#[tactic(auto, unfolding(crate::specs::Mails::applied_data))]
-fn applied_value(alloc: Global, agent: &str, session: u32, count: u32) -> Result<Value, AllocError>
-    ensures { IfOk result (λ v. view v ≡ applied_data agent.now session count) }
-{
-    let mut members = Map::new(alloc);
-    put_origin(&mut members, alloc, agent, session)?;
-    put(&mut members, alloc, "n", Value::from(count))?;
-    only(alloc, "applied", Value::Object(members))
-}
-
-/// Inserts the members of an update into an empty object, all but its agent and session.
-fn put_update(
-    members: &mut Map<String, Value>,
-    alloc: Global,
-    key: &LaunchKey,
-    k: u32,
-    state: TaskState,
-    ended: bool,
-) -> Result<(), AllocError>
-    requires { members.old.entries ≡ [] }
+/// Whether something has ended.
+fn write_ended(out: &mut JsonText, ended: bool) -> Result<(), AllocError>
     ensures { OnOk result
-        (members_view members.new.entries ≡ update_members key.now k state ended) }
+        (out.new ≡ written out.old (key (codes "ended") ∷ boolean ended ∷ [])) }
 {
-    put(members, alloc, "ended", Value::from(ended))?;
-    put(members, alloc, "k", Value::from(k))?;
-    let key = key_value(alloc, key)?;
-    put(members, alloc, "key", key)?;
-    put_text(members, alloc, "state", state.as_text())
+    out.key("ended")?;
+    out.boolean(ended)
 }
 
-#[tactic(auto, unfolding(crate::specs::Mails::update_data))]
-fn update_value(
+fn write_booked(out: &mut JsonText, alloc: Global, task: &Booked) -> Result<(), AllocError>
+    ensures { OnOk result (out.new ≡ written out.old (tokens_of (booked_data task.now))) }
+{
+    out.begin_object()?;
+    write_ended(out, task.ended)?;
+    write_framework(out, alloc, "framework", &task.job.framework)?;
+    write_key(out, alloc, "key", &task.job.key)?;
+    write_name(out, &task.job.name)?;
+    out.key("resources")?;
+    write_amounts(out, &task.job.resources)?;
+    write_number(out, "sent", task.received)?;
+    write_state(out, task.state)?;
+    out.end_object()
+}
+
+fn write_each_task(out: &mut JsonText, alloc: Global, tasks: &[Booked]) -> Result<(), AllocError>
+    ensures { OnOk result
+        (out.new ≡ written out.old (flat_map (λ task. tokens_of (booked_data task)) tasks.now)) }
+{
+    for task in tasks {
+        write_booked(out, alloc, task)?;
+    }
+    Ok(())
+}
+
+fn write_tasks(out: &mut JsonText, alloc: Global, tasks: &[Booked]) -> Result<(), AllocError>
+    ensures { OnOk result
+        (out.new ≡ written out.old (tokens_of (list_data booked_data tasks.now))) }
+{
+    out.begin_array()?;
+    write_each_task(out, alloc, tasks)?;
+    out.end_array()
+}
+
+/// What an agent reports: its session in a run, its tasks, and what it owns.
+fn write_reported(
+    out: &mut JsonText,
     alloc: Global,
-    agent: &str,
+    agent: &AgentName,
+    session: u32,
+    run: u32,
+    tasks: &[Booked],
+    total: &Resources,
+) -> Result<(), AllocError>
+    ensures { OnOk result (out.new ≡ written out.old
+        (tokens_of (report_object agent.now session run tasks.now total.now))) }
+{
+    out.begin_object()?;
+    write_agent(out, agent)?;
+    write_number(out, "run", run)?;
+    write_number(out, "session", session)?;
+    out.key("tasks")?;
+    write_tasks(out, alloc, tasks)?;
+    out.key("total")?;
+    write_amounts(out, total)?;
+    out.end_object()
+}
+
+fn write_report(
+    out: &mut JsonText,
+    alloc: Global,
+    agent: &AgentName,
+    session: u32,
+    run: u32,
+    tasks: &[Booked],
+    total: &Resources,
+) -> Result<(), AllocError>
+    ensures { OnOk result (out.new ≡ written out.old
+        (tokens_of (only (codes "report")
+        (report_object agent.now session run tasks.now total.now)))) }
+{
+    out.begin_object()?;
+    out.key("report")?;
+    write_reported(out, alloc, agent, session, run, tasks, total)?;
+    out.end_object()
+}
+
+fn write_applied(
+    out: &mut JsonText,
+    agent: &AgentName,
+    session: u32,
+    count: u32,
+) -> Result<(), AllocError>
+    ensures { OnOk result
+        (out.new ≡ written out.old (tokens_of (applied_data agent.now session count))) }
+{
+    out.begin_object()?;
+    out.key("applied")?;
+    out.begin_object()?;
+    write_agent(out, agent)?;
+    write_number(out, "n", count)?;
+    write_number(out, "session", session)?;
+    out.end_object()?;
+    out.end_object()
+}
+
+fn write_update(
+    out: &mut JsonText,
+    alloc: Global,
+    agent: &AgentName,
     session: u32,
     key: &LaunchKey,
     k: u32,
     state: TaskState,
     ended: bool,
-) -> Result<Value, AllocError>
-    ensures { IfOk result (λ v. view v ≡ update_data agent.now session key.now k state ended) }
+) -> Result<(), AllocError>
+    ensures { OnOk result (out.new ≡ written out.old
+        (tokens_of (update_data agent.now session key.now k state ended))) }
 {
-    let mut members = Map::new(alloc);
-    put_update(&mut members, alloc, key, k, state, ended)?;
-    put_origin(&mut members, alloc, agent, session)?;
-    only(alloc, "update", Value::Object(members))
+    out.begin_object()?;
+    out.key("update")?;
+    out.begin_object()?;
+    write_agent(out, agent)?;
+    write_ended(out, ended)?;
+    write_number(out, "k", k)?;
+    write_key(out, alloc, "key", key)?;
+    write_number(out, "session", session)?;
+    write_state(out, state)?;
+    out.end_object()?;
+    out.end_object()
 }
 
-fn value_of(alloc: Global, to: &ToMaster) -> Result<Value, AllocError>
-    ensures { IfOk result (λ v. view v ≡ agent_mail_data to.now.agent to.now.mail) }
+#[tactic(auto, unfolding(crate::specs::Mails::agent_mail_data))]
+fn write_mail(out: &mut JsonText, alloc: Global, to: &ToMaster) -> Result<(), AllocError>
+    ensures { OnOk result
+        (out.new ≡ written out.old (tokens_of (agent_mail_data to.now.agent to.now.mail))) }
 {
-    let agent = to.agent.as_text();
+    let agent = &to.agent;
     match &to.mail {
         AgentMail::Report {
             session,
             run,
             tasks,
             total,
-        } => report_value(alloc, agent, *session, *run, tasks.as_slice(), total),
-        AgentMail::Applied { session, count } => applied_value(alloc, agent, *session, *count),
+        } => write_report(out, alloc, agent, *session, *run, tasks.as_slice(), total),
+        AgentMail::Applied { session, count } => write_applied(out, agent, *session, *count),
         AgentMail::Update {
             session,
             key,
             k,
             state,
             ended,
-        } => update_value(alloc, agent, *session, key, *k, *state, *ended),
+        } => write_update(out, alloc, agent, *session, key, *k, *state, *ended),
     }
 }
 
 /// The text of a mail from an agent: compact JSON (RFC 8259), in which an object's members are in
 /// byte order of their names, and a report's tasks in its own order, followed by the total.
-pub fn to_master_text(alloc: Global, to: &ToMaster) -> Result<String, AllocError>
-    ensures { IfOk result (λ text. string_bytes text ≡ to_master_form to.now) }
+pub fn to_master_text(alloc: Global, to: &ToMaster) -> Result<Vec<u8>, AllocError>
+    ensures { IfOk result (λ text. text.items ≡ to_master_form to.now) }
 {
-    let value = value_of(alloc, to)?;
-    value.to_string(alloc)
+    let mut out = JsonText::new(alloc)?;
+    write_mail(&mut out, alloc, to)?;
+    Ok(out.into_bytes())
 }

@@ -1,14 +1,6 @@
-use Rattle.std.proofs.Common.{◌≡◌, ap, ◌∙◌, false, string_bytes, String, Global}
-use Rattle.std.proofs.lemmas.Result.{IfOk-weaker}
-use Rattle.serde_json.specs.View.{view}
-use Rattle.serde_json.specs.Written.{compact_text, has_float}
-use Rattle.mail_text.specs.Mails.{to_master_form}
-use Rattle.mail_text.proofs.Floats.{agent_mail}
+use Rattle.json_text.proofs.Writing.{from_nothing}
+use Rattle.mail_text.specs.Mails.{agent_mail_data}
 use Rattle.mail_text.proofs.to_master.to_master_text.Goals as goal
 
 pub returns : goal.returns
-returns c =
-    let value = view c.in_ok-value.value in
-    let to = c.args.to.now in
-    IfOk-weaker c.to_string.result (λ (s : String Global). has_float value ≡ false → string_bytes s ≡ compact_text value) (λ (s : String Global). string_bytes s ≡ to_master_form to)
-    (λ s text. text (ap has_float c.in_ok-value.ensures ∙ agent_mail to.agent to.mail) ∙ ap compact_text c.in_ok-value.ensures) c.to_string.ensures.text
+returns c = c.into_bytes.ensures (agent_mail_data c.args.to.now.agent c.args.to.now.mail) (from_nothing _ _ _ c.in_ok-out.ensures c.in_ok-write_mail.ensures)

@@ -1,0 +1,13 @@
+use Rattle.std.proofs.lemmas.Result.{on_ok_weaker}
+use Rattle.json_text.proofs.Writing.{joined}
+use Rattle.event_json.proofs.write.write_subscribed.Goals as goal
+
+pub returns-clause-tokens : goal.returns-clause-tokens
+returns-clause-tokens c =
+    on_ok_weaker c.end_typed.result (λ last.
+    joined _ _ _ _ _ c.in_ok-begin_object.ensures (
+    joined _ _ _ _ _ c.in_ok-key.ensures (
+    joined _ _ _ _ _ c.in_ok-begin_object-2.ensures (
+    joined _ _ _ _ _ c.in_ok-write_framework_id.ensures.tokens (
+    joined _ _ _ _ _ c.in_ok-number_member.ensures last)))))
+    c.end_typed.ensures

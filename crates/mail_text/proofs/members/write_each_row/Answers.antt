@@ -1,0 +1,11 @@
+use Rattle.json_text.proofs.Writing.{each_begin, each_more}
+use Rattle.mail_text.specs.Mails.{row_tokens}
+use Rattle.mail_text.proofs.members.write_each_row.Goals as goal
+
+pub loop-row-init : goal.loop-row-init
+loop-row-init c = each_begin row_tokens c.args.rows.now c.args.out.now
+
+pub loop-row-preserved : goal.loop-row-preserved
+loop-row-preserved c =
+    each_more row_tokens c.args.rows.now c.args.out.now _ _ c.loop-row.row-index c.row-item.result
+    c.loop-row-test.true c.row-item.is c.loop-row.invariant c.in_ok-write_row.ensures
