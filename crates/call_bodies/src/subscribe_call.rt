@@ -2,30 +2,26 @@
 
 ghost use Rattle.std.specs.Prelude.{◌≡◌, Ok, option_and_then};
 ghost use Rattle.serde_json.specs.Find.{as_array};
-ghost use Rattle.serde_json.specs.View.{view};
+ghost use Rattle.json_values.specs.View.{seen, view};
 ghost use Rattle.call_members.specs.Answers.{Gives};
-ghost use Rattle.call_members.specs.Members.{seen};
 ghost use Rattle.call_bodies.specs.Subscribe.{roles_of, one_id, chosen_role, subscribe_of};
 
 use call_members::{
-    CallFault, Member, Refusal, member, optional_framework, optional_role, required_text,
+    CallFault, Member, Refusal, list, member, optional_framework, optional_role, required_text,
 };
+use json_values::{Value, get};
 use mails::Call;
 use names_core::{FrameworkId, RoleName};
-use serde_json::Value;
 use std::alloc::Global;
 
 /// The one role of a list of roles.
-fn roles(alloc: Global, value: Option<&Value>) -> Result<Option<RoleName>, CallFault>
+fn roles(alloc: Global, value: Option<&Value<'_>>) -> Result<Option<RoleName>, CallFault>
     ensures { Gives (λ r. r) result (roles_of (option_and_then as_array (seen value.entry))) }
 {
-    let Some(value) = value else {
+    let Some(values) = list(value) else {
         return Ok(None);
     };
-    let Some(list) = value.as_array() else {
-        return Ok(None);
-    };
-    match list.as_slice() {
+    match values {
         [] => Ok(None),
         [one] => {
             required_text(Some(one), Member::Roles)?;
@@ -73,16 +69,16 @@ fn choose_role(
 
 /// A SUBSCRIBE: the framework's id where it has one, and its one role.
 #[tactic(auto, unfolding(crate::specs::Subscribe::subscribe_of))]
-pub fn subscribe(alloc: Global, call: &Value) -> Result<Call, CallFault>
+pub fn subscribe(alloc: Global, call: &Value<'_>) -> Result<Call, CallFault>
     ensures { Gives (λ c. c) result (subscribe_of (view call.now)) }
 {
-    let info = member(call.get("subscribe"), "framework_info");
+    let info = member(get(call, "subscribe"), "framework_info");
     required_text(member(info, "user"), Member::User)?;
     required_text(member(info, "name"), Member::FrameworkName)?;
     let id = optional_framework(member(info, "id"))?;
     let role = optional_role(alloc, member(info, "role"))?;
     let one = roles(alloc, member(info, "roles"))?;
-    let framework = optional_framework(call.get("framework_id"))?;
+    let framework = optional_framework(get(call, "framework_id"))?;
     let same = same_id(id, framework)?;
     Ok(Call::Subscribe {
         role: choose_role(alloc, one, role)?,

@@ -1,20 +1,22 @@
-use Rattle.std.proofs.Common.{◌≡◌, ◌≤◌, List, [], ◌∷◌, length, Option, Some, Err, refl, ap, sym, ◌∙◌, arith, Bor}
-use Rattle.std.specs.Option.{option_and_then}
+use Rattle.std.proofs.Common.{◌≡◌, ◌≤◌, List, [], ◌∷◌, length, map, Option, None, Some, Err, refl, ap, sym, ◌∙◌, arith, Bor}
+use Rattle.std.specs.Option.{option_map, option_and_then}
+use Rattle.serde_json.specs.Data.{Data, Items, no_items, item}
 use Rattle.serde_json.specs.Find.{as_array}
-use Rattle.serde_json.specs.declared.value.Value.{Value}
-use Rattle.serde_json.specs.View.{items_view}
+use Rattle.json_values.specs.View.{JsonValue, seen, view}
+use Rattle.call_members.specs.Lists.{values_of}
 use Rattle.call_members.specs.declared.fault.Refusal.TheVariants.{TooManyRoles}
-use Rattle.call_members.specs.Members.{seen}
 use Rattle.call_bodies.specs.Subscribe.{roles_of}
 use Rattle.call_bodies.proofs.subscribe_call.roles.Goals as goal
 
-two_are_many : (vs : List Value) → 2 ≤ length vs → roles_of (Some (items_view vs)) ≡ Err TooManyRoles
-two_are_many [] h = absurd (omega arith)
-two_are_many (v ∷ []) h = absurd (omega arith)
-two_are_many (v ∷ w ∷ vs) h = refl
+two_are_many : (o : Option Items) (vs : List JsonValue) → Some (map view vs) ≡ option_map values_of o → 2 ≤ length vs → roles_of o ≡ Err TooManyRoles
+two_are_many None vs e h = absurd (cc)
+two_are_many (Some no_items) [] e h = absurd (omega arith)
+two_are_many (Some no_items) (v ∷ vs) e h = absurd (cc)
+two_are_many (Some (item d no_items)) [] e h = absurd (omega arith)
+two_are_many (Some (item d no_items)) (v ∷ []) e h = absurd (omega arith)
+two_are_many (Some (item d no_items)) (v ∷ w ∷ vs) e h = absurd (cc)
+two_are_many (Some (item d (item f ds))) vs e h = refl
 
-pub returns-in_default-as_slice : goal.returns-in_default-as_slice
-returns-in_default-as_slice c =
-    let many : 2 ≤ length c.in-Some-as_array.list.now.items = rw c.as_slice.ensures.value at c.in_default-as_slice.len_at_least in
-    ap (λ (o : Option (Bor Value)). roles_of (option_and_then as_array (seen o))) c.in-Some.is
-    ∙ (ap roles_of (sym c.in-Some-as_array.ensures) ∙ two_are_many c.in-Some-as_array.list.now.items many)
+pub returns-in_default-values : goal.returns-in_default-values
+returns-in_default-values c =
+    two_are_many (option_and_then as_array (seen c.args.value)) c.in-Some.values.now c.in-Some.ensures c.in_default-values.len_at_least
