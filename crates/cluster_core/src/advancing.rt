@@ -1,6 +1,6 @@
 //! A history goes on by one step.
 
-ghost use Rattle.std.specs.Prelude.{◌≡◌, ◌<◌, ◌≤◌, ◌+◌, drop, fold, length, map, vec_capacity, vec_len, IfOk, IfErr, OnErr, OnOk, ℕ};
+ghost use Rattle.std.specs.Prelude.{◌≡◌, ◌<◌, ◌≤◌, ◌+◌, drop, fold, length, map, vec_capacity, vec_len, IfOk, IfErr, IfSome, OnErr, OnOk, ℕ};
 ghost use Rattle.cluster_core.specs.Keeping.{IsKept, IsRefused, IsRefusedFirst, IsTaken, entry_made, known_after, story_of, taken_made};
 ghost use Rattle.cluster_core.specs.Putting.{ArePut, direction_of, place_in, place_or_end, with_handed};
 ghost use Rattle.cluster_core.specs.Stories.{state_of, with_entry};
@@ -50,6 +50,24 @@ fn direction_of(agents: &[ConfiguredAgent], item: &Item) -> Direction
     }
 }
 
+/// The same, by the item sent before it: all commands of a call are sent to one agent, whose place
+/// is then looked up once.
+fn next_direction(
+    agents: &[ConfiguredAgent],
+    last: Option<(&Item, Direction)>,
+    item: &Item,
+) -> Direction
+    requires { IfSome last (λ l. l.1 ≡ direction_of agents.now l.0.now) }
+    ensures { result ≡ direction_of agents.now item.now }
+{
+    if let (Some((Item::ToAgent(one), direction)), Item::ToAgent(to)) = (last, item) {
+        if to.agent.is(&one.agent) {
+            return direction;
+        }
+    }
+    direction_of(agents, item)
+}
+
 /// Enqueues in the post all items that were sent after the first so many, which it has.
 fn put_all<P: Post>(post: &mut P, agents: &[ConfiguredAgent], items: &[Item], before: usize)
     requires counted { P.count (P.known post.old) ≡ before }
@@ -65,8 +83,11 @@ fn put_all<P: Post>(post: &mut P, agents: &[ConfiguredAgent], items: &[Item], be
         (map (direction_of agents.now) (drop before items.now)) }
 {
     let sent = &items[before..];
+    let mut last: Option<(&Item, Direction)> = None;
     for item in sent {
-        post.put(direction_of(agents, item));
+        let direction = next_direction(agents, last, item);
+        post.put(direction);
+        last = Some((item, direction));
     }
 }
 

@@ -22,11 +22,12 @@ loop-item-preserved g c =
     let here : slice_get items (c.args.before + i) ≡ Some item = sym (behind c.args.before items i) ∙ at in
     let more = one_more_put put first way sent i item at in
     let last : g.P.Post.known c.put.new.self ≡ put (fold put first (map way (take i sent))) (way item) =
-    c.put.ensures.known ∙ (ap (λ k. put k c.direction_of.result) c.loop-item.invariant.1 ∙ ap (put (fold put first (map way (take i sent)))) c.direction_of.ensures) in
-    let newest = subst (λ (d : Direction). IfSome (g.P.Post.direction_at (g.P.Post.known c.put.new.self) (suc (g.P.Post.count (g.P.Post.known c.loop-item.post)))) (λ kept. kept ≡ d)) c.direction_of.ensures c.put.ensures.newest in
+    c.put.ensures.known ∙ (ap (λ k. put k c.next_direction-direction.result) c.loop-item.invariant.1 ∙ ap (put (fold put first (map way (take i sent)))) c.next_direction-direction.ensures) in
+    let newest = subst (λ (d : Direction). IfSome (g.P.Post.direction_at (g.P.Post.known c.put.new.self) (suc (g.P.Post.count (g.P.Post.known c.loop-item.post)))) (λ kept. kept ≡ d)) c.next_direction-direction.ensures c.put.ensures.newest in
     let next : suc i ≡ i + 1 = omega arith in (
       puts_one_more c.args.agents.now items c.args.before i _ _ _ _ _ _ _ _ _ _ item c.loop-item.invariant.0 c.put.ensures.count c.put.ensures.room c.put.ensures.gives newest c.put.ensures.directions here,
       subst (λ (n : ℕ). g.P.Post.known c.put.new.self ≡ fold put first (map way (take n sent))) next (last ∙ sym more),
+      c.next_direction-direction.ensures,
     )
 
 pub returns-clause-put : goal.returns-clause-put
