@@ -3,6 +3,7 @@ pub mod Joining
 pub mod Changing
 pub mod Apart
 pub mod Naming
+pub mod Ordered
 pub mod Looking
 pub mod AtNames
 pub mod Owning

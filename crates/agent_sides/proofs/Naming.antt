@@ -36,7 +36,7 @@ trans_step x y z true true false ih p q = absurd (true≢false (sym (ih refl ref
 trans_step x y z true false d ih p q = grind (arith, nat_tests)
 trans_step x y z false c d ih p q = grind (arith, nat_tests)
 
-before_trans : (xs ys zs : List ℕ) → bytes_before xs ys ≡ true → bytes_before ys zs ≡ true → bytes_before xs zs ≡ true
+pub before_trans : (xs ys zs : List ℕ) → bytes_before xs ys ≡ true → bytes_before ys zs ≡ true → bytes_before xs zs ≡ true
 before_trans xs ys [] p q = absurd (true≢false (sym q))
 before_trans xs [] (z ∷ zs) p q = absurd (true≢false (sym p))
 before_trans [] (y ∷ ys) (z ∷ zs) p q = refl

@@ -5,6 +5,7 @@
 mod by_name;
 mod config;
 mod free;
+mod in_order;
 mod look;
 mod own;
 mod placed;

@@ -17,6 +17,7 @@ ghost use Rattle.agent_sides.specs.Changes.{account_of, reporting, side_of};
 ghost use Rattle.agent_sides.specs.Looks.{all_placed, at_name, is_received_last, next_command, value_of, withdrawing};
 
 use crate::config::{Config, ConfiguredAgent};
+use crate::in_order::place_in;
 use crate::{look, placed};
 use listed::Listed;
 use mails::{Booked, Command, MasterRefusal};
@@ -242,7 +243,7 @@ impl Sides {
     pub fn place_of(&self, name: &AgentName) -> Option<usize>
         ensures { result ≡ place_of name.now self.now }
     {
-        self.roster.place_of(name)
+        place_in(self.roster.entries(), name)
     }
 
     /// The open session of the agent at a place; 0 where none is open, and past the end.

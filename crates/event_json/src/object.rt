@@ -11,7 +11,7 @@ use names_core::{FrameworkId, OfferId};
 use std::alloc::{AllocError, Global};
 
 /// The text of an id, as an object.
-pub fn write_id(out: &mut JsonText, text: &str) -> Result<(), AllocError>
+fn write_id(out: &mut JsonText, text: &str) -> Result<(), AllocError>
     ensures { OnOk result (out.new ≡ written out.old (tokens_of (id_data text.now))) }
 {
     out.begin_object()?;

@@ -1,7 +1,7 @@
 -- What is written one after the other.
-use Rattle.std.proofs.Common.{◌≡◌, ℕ, ◌+◌, ◌<◌, ◌≤◌, List, [], ◌∷◌, ◌++◌, length, take, get_or, map, refl, ap, sym, ◌∙◌}
+use Rattle.std.proofs.Common.{◌≡◌, ℕ, ◌+◌, ◌<◌, List, [], ◌∷◌, ◌++◌, length, take, get_or, map, refl, ap, sym, ◌∙◌}
 use Rattle.std.specs.List.{flat_map}
-use Rattle.std.proofs.lemmas.List.{append_assoc, append-nil, take_more, take_all}
+use Rattle.std.proofs.lemmas.List.{append_assoc, append-nil, take_more}
 use Rattle.std.proofs.lemmas.List.Concat.{flat_map-append}
 use Rattle.json.specs.Token.{Token}
 use Rattle.json.specs.Tree.{items_tokens}
@@ -37,9 +37,6 @@ module _ {X : Type 0} (f : X → List Token) (xs : List X) where
     where
       step : flat_map f (take (i + 1) xs) ≡ flat_map f (take i xs) ++ f x
       step = ap (flat_map f) (take_more xs i x below ∙ ap (λ y. take i xs ++ y ∷ []) (sym is)) ∙ (flat_map-append f (take i xs) (x ∷ []) ∙ ap (λ ts. flat_map f (take i xs) ++ ts) (append-nil (f x)))
-
-  pub each_end : (before after : List Token) (i : ℕ) → length xs ≤ i → after ≡ written before (flat_map f (take i xs)) → after ≡ written before (flat_map f xs)
-  each_end before after i all so_far = so_far ∙ ap (λ ys. written before (flat_map f ys)) (take_all i xs all)
 
 items_end : {X : Type 0} (f : X → Data) (xs : List X) → flat_map (λ x. tokens_of (f x)) xs ++ Token.end_array ∷ [] ≡ items_tokens (items_outline (items_of (map f xs)))
 items_end f [] = refl

@@ -4,7 +4,7 @@ ghost use Rattle.std.specs.Prelude.{◌≡◌, ◌++◌, ◌∷◌, [], Some, No
 ghost use Rattle.cluster_model.specs.Sides.{new_side, lost};
 ghost use Rattle.cluster_model.specs.Mails.{in_session};
 ghost use Rattle.roster.specs.Sessions.{reported, after_report, issued_number, with_command, is_spent, newly, after_applied};
-ghost use Rattle.roster.specs.Places.{place_of, at_place, value_at};
+ghost use Rattle.roster.specs.Places.{at_place, value_at};
 ghost use Rattle.roster.specs.Faults.{IsIssueRefusal, IsAppliedRefusal};
 
 use crate::entry::RosterEntry;
@@ -28,12 +28,6 @@ impl Model for Roster {
     ghost Value = { List Side };
 
     ghost view = { λ roster. roster.entries.items };
-}
-
-fn place_in(entries: &[RosterEntry], name: &AgentName) -> Option<usize>
-    ensures { result ≡ place_of name.now entries.now }
-{
-    entries.iter().position(|entry| entry.name().is(name))
 }
 
 fn report_in(
@@ -137,13 +131,6 @@ impl Roster {
         ensures { result.now ≡ self.now }
     {
         self.entries.as_slice()
-    }
-
-    /// The place of the agent of a name, if it is configured.
-    pub fn place_of(&self, name: &AgentName) -> Option<usize>
-        ensures { result ≡ place_of name.now self.now }
-    {
-        place_in(&self.entries, name)
     }
 
     /// An agent reports that it has opened a session with the master of a run. Returns whether the
