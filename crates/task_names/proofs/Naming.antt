@@ -1,7 +1,6 @@
 -- Names stay among those that are kept.
-use Rattle.std.proofs.Common.{◌≡◌, ℕ, Bool, true, false, cond, ◌&&◌, ◌<◌, ◌+◌, List, [], ◌∷◌, ◌++◌, length, take, get_or, map, filter, fold, Option, None, Some, string_bytes, bytes_eq, refl, sym, ap, ◌∙◌, subst, arith}
+use Rattle.std.proofs.Common.{◌≡◌, ℕ, Bool, true, false, ◌&&◌, ◌<◌, ◌+◌, List, [], ◌∷◌, ◌++◌, length, take, get_or, Option, None, Some, string_bytes, refl, sym, ap, ◌∙◌, subst, arith}
 use Rattle.std.specs.Cmp.Lexicographic.{bytes_decides}
-use Rattle.std.specs.List.{list_any}
 use Rattle.std.specs.Cmp.Lexicographic.{slice_cmp}
 use Rattle.std.specs.Ordering.{eq_by_cmp, is_eq, nat_cmp, ordering_then}
 use Rattle.std.specs.declared.cmp.Ordering.{Ordering}
@@ -13,15 +12,12 @@ use Rattle.std.proofs.lemmas.Map.Text.{is_eq-slice_cmp}
 use Rattle.std.proofs.lemmas.Bool.Decides.{nat_tests}
 use Rattle.task_names.specs.declared.names.Given.{Given}
 use Rattle.std.proofs.lemmas.List.{take_more}
-use Rattle.std.proofs.lemmas.Bool.{true≢false, or_parts}
+use Rattle.std.proofs.lemmas.Bool.{true≢false}
 use Rattle.names_core.specs.Ids.{Numbered, before, same}
-use Rattle.names_core.specs.declared.state.TaskState.{TaskState}
 use Rattle.mails.specs.declared.task.Booked.{Booked}
-use Rattle.mails.specs.declared.mail.Command.{Command}
-use Rattle.mails.specs.declared.mail.Command.TheVariants.{Launch, Kill, Ack, EndFramework}
 use Rattle.id_spans.specs.Orders.{id_cmp}
 use Rattle.id_spans.proofs.Orders.{at_same}
-use Rattle.task_names.specs.Named.{HaveNamed, AreKeysOf, AreNamed, GivenKeys, HasAllGiven, HasOtherGiven, IsNamed, Keeps, KeepsOthers, Keys, Names, given_cmp, has_given, has_only, is_key, is_past, may_be, may_have}
+use Rattle.task_names.specs.Named.{HaveNamed, AreNamed, GivenKeys, HasAllGiven, HasOtherGiven, IsNamed, Keeps, Keys, Names, given_cmp, has_given, has_only, is_key, is_past, may_be}
 
 -- names, and others
 
@@ -81,6 +77,17 @@ module _ (g : Given) (old new : GivenKeys) (keys : Option Keys) (updates : Updat
 
 pub with_keys : (g : Given) (old new : GivenKeys) (keys : Keys) → UpdatesBy cmp (cmp g) old new (Some keys) → ((key : Numbered) → may_be (get_by (cmp g) old) key ≡ true → may_be (Some keys) key ≡ true) → HasAllGiven old new
 with_keys g old new keys updates keeps framework name key had = kept_by g old new (Some keys) updates framework name key (keeps key) had
+
+-- a name may have any key in the end, and in between only its own changed
+pub with_any : (g : Given) (old between new : GivenKeys) (keys : Keys) → UpdatesBy cmp (cmp g) old between (Some keys) → HasAllGiven between new
+    → ((key : Numbered) → has_given new g.framework (string_bytes g.text) key ≡ true) → HasAllGiven old new
+with_any g old between new keys updates kept any framework name key had = by_case (is_at (given_cmp framework name) g) refl
+  where
+    by_case : (v : Bool) → is_at (given_cmp framework name) g ≡ v → has_given new framework name key ≡ true
+    by_case true e =
+        let parts = equal_is framework name g e in
+        subst (λ t. has_given new framework t key ≡ true) (sym parts.1) (subst (λ f. has_given new f (string_bytes g.text) key ≡ true) (sym parts.0) (any key))
+    by_case false e = kept framework name key (ap (λ ks. may_be ks key) (there g old between (Some keys) updates framework name e) ∙ had)
 
 pub same_turned : (a b : Numbered) → same a b ≡ same b a
 same_turned a b = grind (arith, nat_tests)

@@ -52,19 +52,6 @@ fn later(last: Option<LaunchKey>, key: LaunchKey) -> LaunchKey
     if last < key { key } else { last }
 }
 
-/// The keys of a name with one key more.
-fn with_key(keys: Option<Keys>, key: LaunchKey) -> Keys
-    ensures has { may_be (Some result) key ≡ true }
-    ensures kept { (other : Numbered) → may_be keys other ≡ true
-        → may_be (Some result) other ≡ true }
-{
-    if keys.is_none() || has_only(keys, key) {
-        Keys { only: Some(key) }
-    } else {
-        Keys { only: None }
-    }
-}
-
 fn has_only(keys: Option<Keys>, key: LaunchKey) -> bool
     ensures { result ≡ has_only keys key }
 {
@@ -77,6 +64,31 @@ fn has_only(keys: Option<Keys>, key: LaunchKey) -> bool
     }
 }
 
+/// Whether the tasks of a name have no key but this one.
+fn has_no_other(keys: Option<Keys>, key: LaunchKey) -> bool
+    ensures { result ≡ true → (other : Numbered) → may_be keys other ≡ true
+        → may_be (Some (record { only = Some key })) other ≡ true }
+{
+    keys.is_none() || has_only(keys, key)
+}
+
+/// The tasks of a name may have any key.
+fn insert_any(
+    given: &mut BTreeMap<Given, Keys>,
+    alloc: Global,
+    framework: FrameworkId,
+    name: &TaskName,
+) -> Result<(), AllocError>
+    ensures any { OnOk result ((key : Numbered)
+        → has_given given.new framework name.now key ≡ true) }
+    ensures kept { OnOk result (HasAllGiven given.old given.new) }
+{
+    let text = String::from_str(alloc, name.as_text())?;
+    given.insert(Given { framework, text }, Keys { only: None })?;
+    Ok(())
+}
+
+/// A name has a key more. The map is searched once, but where the tasks of the name had others.
 fn insert(
     given: &mut BTreeMap<Given, Keys>,
     alloc: Global,
@@ -88,10 +100,11 @@ fn insert(
     ensures kept { OnOk result (HasAllGiven given.old given.new) }
 {
     let text = String::from_str(alloc, name.as_text())?;
-    let name = Given { framework, text };
-    let keys = with_key(given.get(&name).copied(), key);
-    given.insert(name, keys)?;
-    Ok(())
+    let before = given.insert(Given { framework, text }, Keys { only: Some(key) })?;
+    if has_no_other(before, key) {
+        return Ok(());
+    }
+    insert_any(given, alloc, framework, name)
 }
 
 /// A name is forgotten, if its tasks have this key alone.
