@@ -1,4 +1,4 @@
--- The data that a value over a text stands for.
+-- The data of a value over a text.
 use Rattle.std.specs.Prelude.{ℕ, List, [], ◌∷◌, Option, option_map}
 use Rattle.std.specs.BTreeMap.{BTreeMap}
 use Rattle.std.specs.Borrow.{Bor}

@@ -23,13 +23,14 @@ pub fn get<'t, 'a>(value: &'t Value<'a>, name: &str) -> Option<&'t Value<'a>>
     value.get(name)
 }
 
+/// The string, where the value is one. Its escapes are resolved.
 pub fn text<'a>(value: &Value<'a>) -> Option<&'a str>
     ensures { option_map (λ s. s.now) result ≡ find.as_str (view value.now) }
 {
     value.as_str()
 }
 
-/// Whether the value is a number.
+/// Whether the value is a number, in the range of `read`.
 pub fn is_number(value: &Value<'_>) -> bool
     ensures { result ≡ is_some (find.as_number (view value.now)) }
 {
@@ -57,6 +58,7 @@ pub fn items<'t, 'a>(value: &'t Value<'a>) -> Option<&'t [Value<'a>]>
     }
 }
 
+/// Whether the value is an object.
 pub fn is_object(value: &Value<'_>) -> bool
     ensures { result ≡ is_some (find.as_object (view value.now)) }
 {

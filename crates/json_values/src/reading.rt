@@ -20,7 +20,8 @@ const MOST_LEVELS: usize = 127;
 /// Why a text wasn't read.
 #[derive(Clone, Copy, Debug, Drop, PartialEq, Eq)]
 pub enum ReadFault {
-    /// The text is no JSON of at most 127 levels, or has a number that is out of range.
+    /// The text isn't UTF-8, is no JSON (RFC 8259) of at most 127 levels, or has a number that is
+    /// out of range.
     NotJson,
     /// Memory ran out before the text was judged.
     OutOfMemory,
@@ -34,7 +35,7 @@ impl From<AllocError> for ReadFault {
     }
 }
 
-/// The value of a text that was read.
+/// The value of a text that was read. It borrows the text.
 #[derive(Drop)]
 pub struct JsonText<'a> {
     value: Value<'a>,
@@ -50,7 +51,7 @@ impl<'a> JsonText<'a> {
     }
 }
 
-/// A value that stands in a text that was read.
+/// A value in a text that was read: the whole, or a member of one.
 #[derive(Drop)]
 pub struct Part<'t, 'a> {
     value: &'t Value<'a>,
@@ -58,6 +59,7 @@ pub struct Part<'t, 'a> {
 }
 
 impl<'t, 'a> Part<'t, 'a> {
+    /// The value, to be looked into.
     pub fn value(&self) -> &'t Value<'a>
         ensures value { view result.now ≡ view self.now.value.now }
         ensures nests { depth (view result.now) ≤ max_depth }
