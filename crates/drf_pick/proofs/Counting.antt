@@ -1,12 +1,12 @@
 -- What was found on agents, and what of it is counted.
-use Rattle.std.proofs.Common.{◌≡◌, ℕ, zero, suc, ◌+◌, ◌<◌, ◌≤◌, Bool, true, false, ◌||◌, cond, List, [], ◌∷◌, ◌++◌, map, flat_map, take, length, set, get_or, Result, Ok, Err, IfErr, OnOk, refl, sym, ap, ◌∙◌, subst, arith, append_assoc}
-use Rattle.std.specs.List.{AllByRecursion, list_any, fold}
+use Rattle.std.proofs.Common.{◌≡◌, ℕ, zero, suc, ◌+◌, ◌<◌, ◌≤◌, Bool, true, false, ◌||◌, cond, List, [], ◌∷◌, ◌++◌, map, flat_map, take, length, set, get_or, Option, Some, None, Result, Ok, Err, IfErr, OnOk, refl, sym, ap, ◌∙◌, subst, arith, append_assoc}
+use Rattle.std.specs.List.{AllByRecursion, find, list_any, fold}
 use Rattle.names_core.specs.Ids.{Numbered, same}
 use Rattle.quantity.specs.Rows.{amount}
 use Rattle.quantity.proofs.Amounts.{amount-append}
 use Rattle.share_sums.specs.declared.fault.SharesFault.{SharesFault}
 use Rattle.share_sums.specs.declared.fault.SharesFault.TheVariants.{OutOfMemory}
-use Rattle.drf_pick.specs.Shares.{Tally}
+use Rattle.drf_pick.specs.Shares.{Holder, Tally, is_holder, with_holder, with_role}
 use Rattle.drf_pick.specs.Allocations.{AddUp, Allocation, Client, Found, all_rows, allocated, rows_to}
 use Rattle.drf_pick.specs.Shown.{AllCounted, ClientsOnce, HasNone, MemoryRefused, Moves, SameAllocations, SameFound, TallyShows, all_found, counted_in, counted_of, due_in, is_for}
 use Rattle.drf_pick.proofs.AllocationRows.{all-append, to-append}
@@ -193,3 +193,16 @@ none_in framework f none name = by f.is_counted
     by : (b : Bool) → amount name (rows_to framework (cond b f.allocations.items [])) ≡ 0
     by true = none_for framework f.allocations.items none name
     by false = refl
+
+-- what agents own stays the same
+
+pub totals_kept : (gs : List Allocation) (t : Tally) → (fold allocated t gs).totals ≡ t.totals
+totals_kept [] t = refl
+totals_kept (g ∷ gs) t = totals_kept gs (allocated t g)
+
+pub role_keeps : (framework : Numbered) (role : List ℕ) (t : Tally) → (with_role framework role t).totals ≡ t.totals
+role_keeps framework role t = by (find (is_holder framework) t.holders)
+  where
+    by : (o : Option Holder) → (with_holder framework role t o).totals ≡ t.totals
+    by None = refl
+    by (Some h) = refl

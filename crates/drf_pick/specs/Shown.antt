@@ -1,5 +1,5 @@
 -- Shares that show what frameworks are allocated.
-use Rattle.std.specs.Prelude.{◌≡◌, ⊤, ℕ, Bool, true, false, if◌then◌else◌, List, [], ◌∷◌, ◌++◌, map, flat_map, IfSome}
+use Rattle.std.specs.Prelude.{◌≡◌, ⊤, ℕ, Bool, true, false, if◌then◌else◌, List, [], ◌∷◌, ◌++◌, map, flat_map, Option, Some, None, IfSome}
 use Rattle.std.specs.List.{AllByRecursion, find, list_any}
 use Rattle.names_core.specs.Ids.{Numbered, same}
 use Rattle.quantity.specs.declared.rows.Row.{Row}
@@ -100,10 +100,21 @@ uncounted f = record { allocations = f.allocations; is_counted = false }
 abbrev pub counted_of : List Found → List Allocation
 counted_of fs = flat_map counted_in fs
 
--- just these frameworks are registered, none twice, and the shares show what is counted
+-- what an agent owns, where it has entered
+abbrev pub rows_owned : Option (List Row) → List Row
+rows_owned None = []
+rows_owned (Some rows) = rows
+
+-- what the agents own that have entered
+abbrev pub all_owned : List (Option (List Row)) → List Row
+all_owned os = flat_map rows_owned os
+
+-- just these frameworks are registered, none twice, and the shares show what is counted,
+-- and what the agents own that have entered
 pub record AreCounted (cs : List Client) (k : CountedShares) : Type 0 where
   pub once : ClientsOnce cs
   pub shown : TallyShows (counted_of k.found.items) cs k.shares
+  pub owned : SameAmounts k.shares.totals (all_owned k.owned.items)
 
 -- the shares still show what is counted, whichever frameworks are registered
 abbrev pub StayCounted : CountedShares → CountedShares → Type 0

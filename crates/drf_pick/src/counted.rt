@@ -27,11 +27,14 @@ pub struct Found {
     pub is_counted: bool,
 }
 
-/// Shares, and what was found on each agent, by its place.
+/// Shares, and what they were made of: for each agent, by its place, what was found on it, and what
+/// it owns.
 #[derive(Drop)]
 pub struct CountedShares {
     pub shares: Shares,
     pub found: Vec<Found>,
+    /// None of an agent that hasn't entered, or has left.
+    pub owned: Vec<Option<Resources>>,
 }
 
 impl Shares {
@@ -45,6 +48,7 @@ impl Shares {
         resources: &Resources,
     ) -> Result<(), SharesFault>
         ensures ok { OnOk result (TakesBack framework resources.now self.old self.new) }
+        ensures totals { self.new.totals ≡ self.old.totals }
         ensures err { OnErr result (self.new ≡ self.old) }
         ensures memory { IfErr result (λ fault. (more : List ModelAllocation) → MemoryRefused
             (record { framework = framework; resources = resources.now } ∷ more)
@@ -67,6 +71,7 @@ fn take_back_all(
 ) -> Result<(), SharesFault>
     ensures ok { OnOk result ((cs : List ModelClient) (rest : List ModelAllocation) → ClientsOnce cs
         → TallyShows (rest ++ allocations.now) cs shares.old → TallyShows rest cs shares.new) }
+    ensures totals { shares.new.totals ≡ shares.old.totals }
     ensures memory { IfErr result (MemoryRefused allocations.now shares.old) }
 {
     for allocation in allocations {
@@ -95,6 +100,7 @@ fn give_all(
 fn take_back_of(found: &mut Found, shares: &mut Shares, alloc: Global) -> Result<(), SharesFault>
     ensures found { OnOk result (found.new ≡ uncounted found.old) }
     ensures moves { OnOk result (Moves found.old found.new shares.old shares.new) }
+    ensures totals { shares.new.totals ≡ shares.old.totals }
     ensures memory { IfErr result (MemoryRefused (counted_in found.old) shares.old) }
 {
     if found.is_counted {
@@ -114,6 +120,7 @@ fn replace_in(
     ensures found { OnOk result
         (found.new ≡ record { allocations = allocations; is_counted = false }) }
     ensures moves { OnOk result (Moves found.old found.new shares.old shares.new) }
+    ensures totals { shares.new.totals ≡ shares.old.totals }
     ensures memory { IfErr result (MemoryRefused (counted_in found.old) shares.old) }
 {
     take_back_of(found, shares, alloc)?;
@@ -142,6 +149,7 @@ fn take_back_for(
     ensures allocations { OnOk result (found.new.allocations ≡ found.old.allocations) }
     ensures none { OnOk result (HasNone framework (counted_in found.new)) }
     ensures moves { OnOk result (Moves found.old found.new shares.old shares.new) }
+    ensures totals { shares.new.totals ≡ shares.old.totals }
     ensures memory { IfErr result (MemoryRefused (counted_in found.old) shares.old) }
 {
     if any_for(&found.allocations, framework) {
@@ -164,20 +172,28 @@ fn count_of(found: &mut Found, shares: &mut Shares, alloc: Global) -> Result<(),
 }
 
 impl CountedShares {
-    /// Nothing is owned, nobody holds anything, and nothing was found on so many agents.
+    /// Nothing is owned, nobody holds anything, and nothing was found on so many agents, none of
+    /// which has entered.
     pub fn new(alloc: Global, agents: usize) -> Result<CountedShares, AllocError>
         ensures counted { IfOk result (AreCounted []) }
         ensures found { IfOk result (λ counted. length counted.found.items ≡ agents) }
+        ensures owned { IfOk result (λ counted. length counted.owned.items ≡ agents) }
     {
         let mut found = Vec::new(alloc);
+        let mut owned = Vec::new(alloc);
         for _ in 0..agents {
             found.push(Found {
                 allocations: Vec::new(alloc),
                 is_counted: true,
             })?;
+            owned.push(None)?;
         }
         let shares = Shares::new(alloc);
-        Ok(CountedShares { shares, found })
+        Ok(CountedShares {
+            shares,
+            found,
+            owned,
+        })
     }
 
     /// These allocations are found on the agent at a place; what was counted of it is taken back.
@@ -193,6 +209,7 @@ impl CountedShares {
         ensures found { OnOk result (self.new.found.items ≡ set self.old.found.items place
             (record { allocations = allocations; is_counted = false })) }
         ensures counted { OnOk result (StayCounted self.old self.new) }
+        ensures owned { self.new.owned ≡ self.old.owned }
         ensures memory { IfErr result (λ fault. (cs : List ModelClient)
             → AreCounted cs self.old → fault ≡ SharesFault.OutOfMemory) }
     {
@@ -208,6 +225,7 @@ impl CountedShares {
         ensures found { OnOk result (SameFound self.old.found.items self.new.found.items) }
         ensures none { OnOk result (HasNone framework (counted_of self.new.found.items)) }
         ensures counted { OnOk result (StayCounted self.old self.new) }
+        ensures owned { self.new.owned ≡ self.old.owned }
         ensures memory { IfErr result (λ fault. (cs : List ModelClient)
             → AreCounted cs self.old → fault ≡ SharesFault.OutOfMemory) }
     {
@@ -231,6 +249,7 @@ impl CountedShares {
         ensures counted { OnOk result ((cs : List ModelClient) → NoneOf framework cs
             → AreCounted cs self.old
             → AreCounted (cs ++ record { framework = framework; role = role.now } ∷ []) self.new) }
+        ensures owned { self.new.owned ≡ self.old.owned }
         ensures memory { IfErr result (λ fault. (cs : List ModelClient)
             → AreCounted cs self.old → fault ≡ SharesFault.OutOfMemory) }
     {
@@ -245,6 +264,7 @@ impl CountedShares {
         ensures found { OnOk result (SameFound self.old.found.items self.new.found.items) }
         ensures all { OnOk result (AllCounted self.new.found.items) }
         ensures counted { OnOk result (StayCounted self.old self.new) }
+        ensures owned { self.new.owned ≡ self.old.owned }
     {
         for place in 0..self.found.len() {
             count_of(&mut self.found[place], &mut self.shares, alloc)?;

@@ -10,7 +10,6 @@ ghost use Rattle.drf_pick.specs.Shares.{all_weighed, is_holder, is_role, entered
 use crate::fractions::{keep_nothing, of_holders, of_roles};
 use crate::holdings::Holdings;
 use names_core::{FrameworkId, RoleName};
-use plain_data::are_same;
 use quantity::Resources;
 use role_weights::Weights;
 use share_sums::{Fraction, SharesFault, Sum};
@@ -110,18 +109,19 @@ impl Shares {
         Ok(())
     }
 
-    /// Agents own this together. Dominant shares are made anew only where that is another sum than
-    /// before, and roles are ranked by their names only where some was added since they were. A
-    /// refusal changes nothing.
-    pub fn own(&mut self, alloc: Global, totals: Sum) -> Result<(), AllocError>
-        ensures ok { OnOk result (self.new ≡ with_totals totals self.old) }
-        ensures err { OnErr result (self.new ≡ self.old) }
+    /// What agents own together.
+    pub fn totals(&self) -> &Sum
+        ensures { result.now ≡ self.now.totals }
     {
-        self.holdings.rank_roles(alloc)?;
-        if are_same(self.holdings.totals().rows(), totals.rows()) {
-            return Ok(());
-        }
-        self.renew(alloc, totals)
+        self.holdings.totals()
+    }
+
+    /// Roles are ranked by their names, if some was added since they were; until then a comparison
+    /// of two that stand alike reads both names. No answer depends on it.
+    pub fn rank_roles(&mut self, alloc: Global) -> Result<(), AllocError>
+        ensures { self.new ≡ self.old }
+    {
+        self.holdings.rank_roles(alloc)
     }
 
     /// Whether a framework is registered.

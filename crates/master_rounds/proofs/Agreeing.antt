@@ -47,6 +47,7 @@ with_one ss made g = append_assoc (allocations_of ss) (map made_allocation made)
 shown_more : (ws : List RoleWeight) (m : Master) (made : List MadeOffer) (g : MadeOffer) (t : Tally) → CanBeSummed m (made ++ g ∷ []) → ShowRound ws m.sides m.registers.frameworks made t → ShowRound ws m.sides m.registers.frameworks (made ++ g ∷ []) (allocated t (made_allocation g))
 shown_more ws m made g t can s = record {
   totals = s.totals;
+  positive = s.positive;
   shown = subst (λ as_. TallyShows as_ cs (allocated t (made_allocation g))) (with_one m.sides made g)
       (tally_more (allocations_with m.sides made) (made_allocation g) cs t (subst (λ as_. AddUp (all_rows as_)) (sym (with_one m.sides made g)) can.held) (clients_once m.registers.frameworks can.ordered) s.shown);
   weights = weights_stay ws (made_allocation g) (find (is_holder g.offer.framework) t.holders) t.roles s.weights;

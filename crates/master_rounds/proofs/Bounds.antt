@@ -22,6 +22,8 @@ use Rattle.side_fits.specs.Fits.{AllFitTotals, most_sides}
 use Rattle.drf_pick.specs.Allocations.{AddUp, all_rows}
 use Rattle.round_shares.specs.Allocations.{allocations_of, job_allocation, made_allocation, offer_allocation, side_allocations}
 use Rattle.round_shares.specs.Laws.{CanBeSummed}
+use Rattle.round_shares.specs.Owned.{totals_in}
+use Rattle.round_shares.proofs.Owning.{totals_alike}
 use Rattle.drf_pick.proofs.AllocationRows.{all-append}
 
 abbrev pub HaveRows : List Side → Type 0
@@ -152,10 +154,12 @@ pub can_be_summed : (m : Master) (r : Round) (ss : List Side) → are_ordered m.
 can_be_summed m r ss ordered rows fits few w = record {
   ordered = ordered;
   rows = rows;
-  totals = λ name. omega (arith, owned_held name m.sides, total_small name m.sides rows, few);
   held = λ name. omega (arith, ap (amount name) (all-append (allocations_of m.sides) (map made_allocation r.made)), amount-append name (all_rows (allocations_of m.sides)) (made_rows r.made), all_held name m.sides rows fits, total_small name m.sides rows, few, w name);
 }
 
 -- before anything is offered
 pub sides_add_up : (ss : List Side) → HaveRows ss → AllFitTotals ss → length ss ≤ most_sides → AddUp (all_rows (allocations_of ss))
 sides_add_up ss rows fits few name = omega (arith, all_held name ss rows fits, total_small name ss rows, few)
+
+pub totals_add_up : (ss : List Side) → HaveRows ss → length ss ≤ most_sides → AddUp (totals_in ss)
+totals_add_up ss rows few name = omega (arith, ap (amount name) (totals_alike ss), owned_held name ss, total_small name ss rows, few)

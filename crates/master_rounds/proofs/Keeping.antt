@@ -1,6 +1,7 @@
 -- The shares of a round show what is allocated on the agents once its offers are taken back.
 use Rattle.std.proofs.Common.{◌≡◌, List, [], ◌∷◌, ◌++◌, map, refl, sym, ap, ◌∙◌, subst, arith, append-nil}
 use Rattle.quantity.specs.Rows.{amount}
+use Rattle.quantity.specs.Laws.{SameAmounts}
 use Rattle.quantity.proofs.Amounts.{amount-append}
 use Rattle.mails.specs.declared.framework.Framework.{Framework}
 use Rattle.role_weights.specs.Weights.{RoleWeight}
@@ -9,7 +10,7 @@ use Rattle.drf_pick.specs.Shares.{Tally}
 use Rattle.drf_pick.specs.declared.counted.Allocation.{Allocation}
 use Rattle.drf_pick.specs.declared.counted.CountedShares.{CountedShares}
 use Rattle.drf_pick.specs.Allocations.{rows_to}
-use Rattle.drf_pick.specs.Shown.{SameAllocations, TallyShows, all_found, counted_of}
+use Rattle.drf_pick.specs.Shown.{SameAllocations, TallyShows, all_found, all_owned, counted_of}
 use Rattle.drf_pick.proofs.AllocationRows.{to-append}
 use Rattle.drf_pick.proofs.Counting.{counted_all}
 use Rattle.drf_pick.proofs.Less.{tally_alike}
@@ -32,6 +33,7 @@ made_by (g ∷ made) = ap (λ as_. made_allocation g ∷ as_) (made_by made)
 pub begins_shown : (ws : List RoleWeight) (s : State) (k : CountedShares) → BeginRound ws s.sides s.frameworks k → ShowRound ws s.sides s.frameworks [] k.shares
 begins_shown ws s k b = record {
   totals = b.totals;
+  positive = b.positive;
   shown = subst (λ as_. TallyShows as_ (clients_of s.frameworks) k.shares) (sym (append-nil (allocations_of s.sides)))
       (tally_alike (all_found k.found.items) (allocations_of s.sides) (clients_of s.frameworks) k.shares b.found
       (subst (λ as_. TallyShows as_ (clients_of s.frameworks) k.shares) (counted_all k.found.items b.all) b.counted.shown));
@@ -49,6 +51,14 @@ round_shown ws s k p h b is = subst (λ (q : Progress). TallyShows (counted_of k
 
     same_counted : SameAllocations (allocations_of s.sides) (counted_of k.found.items)
     same_counted framework name = sym (ap (λ as_. amount name (rows_to framework as_)) (counted_all k.found.items b.all) ∙ b.found framework name)
+
+-- and what the agents own that have entered
+pub round_owned : (ws : List RoleWeight) (s : State) (k : CountedShares) (p : Progress) → Holds s → BeginRound ws s.sides s.frameworks k → p ≡ round_with k.shares s → SameAmounts p.shares.totals (all_owned k.owned.items)
+round_owned ws s k p h b is name =
+    ap (λ (q : Progress). amount name q.shares.totals) is
+    ∙ (agreed ws s k.shares h (begins_shown ws s k b)).shares.totals name
+    ∙ sym (b.totals name)
+    ∙ b.counted.owned name
 
 abbrev pub knowing : State → List Framework → State
 knowing s fs = record s { frameworks = fs }

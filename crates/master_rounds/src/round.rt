@@ -3,6 +3,7 @@
 ghost use Rattle.std.specs.Prelude.{◌≡◌, ◌<◌, ◌++◌, true, List, map, IfOk, OnOk};
 ghost use Rattle.std.specs.List.{AllByRecursion};
 ghost use Rattle.quantity.specs.Rows.{AreRows};
+ghost use Rattle.quantity.specs.Laws.{SameAmounts};
 ghost use Rattle.cluster_model.specs.Rounds.{allocated};
 ghost use Rattle.master_state.specs.Works.{done, master_of, run_of, work_of};
 ghost use Rattle.side_fits.specs.Fits.{SidesFit};
@@ -11,12 +12,12 @@ ghost use Rattle.agent_sides.specs.Joined.{side_names};
 ghost use Rattle.frameworks.specs.LastRound.{clients_of};
 ghost use Rattle.drf_pick.specs.declared.counted.Allocation.{Allocation};
 ghost use Rattle.drf_pick.specs.declared.holder.Client.{Client};
-ghost use Rattle.drf_pick.specs.Shown.{ClientsOnce, TallyShows, counted_of};
+ghost use Rattle.drf_pick.specs.Shown.{ClientsOnce, TallyShows, all_owned, counted_of};
 ghost use Rattle.master_rounds.specs.Visits.{IsRound, allocation_by};
 
 use crate::news::{offer_all, send_offers};
 use crate::visit::{Progress, round_of};
-use drf_pick::{CountedShares, Found, Shares, SharesFault};
+use drf_pick::{CountedShares, Shares, SharesFault};
 use listed::Listed;
 use master_state::State;
 use role_weights::Weights;
@@ -25,9 +26,10 @@ use scheduler_events::Offer;
 use std::alloc::{AllocError, Global};
 
 fn take_back_made(shares: &mut Shares, alloc: Global, made: &[Offer]) -> Result<(), SharesFault>
-    ensures { OnOk result ((cs : List Client) (rest : List Allocation) → ClientsOnce cs
+    ensures shown { OnOk result ((cs : List Client) (rest : List Allocation) → ClientsOnce cs
         → TallyShows (rest ++ map allocation_by made.now) cs shares.old
         → TallyShows rest cs shares.new) }
+    ensures totals { shares.new.totals ≡ shares.old.totals }
 {
     for offer in made {
         shares.take_back(alloc, offer.framework, &offer.resources)?;
@@ -37,12 +39,12 @@ fn take_back_made(shares: &mut Shares, alloc: Global, made: &[Offer]) -> Result<
 
 /// Keeps for the next round the shares of this one, in which its offers aren't counted: they are
 /// found on the agents then. Where memory is refused nothing is kept.
-fn keep(state: &mut State, alloc: Global, shares: Shares, found: Vec<Found>, made: &[Offer])
-    requires { TallyShows (counted_of found.items ++ map allocation_by made.now)
-        (clients_of state.old.frameworks) shares }
+fn keep(state: &mut State, alloc: Global, mut counted: CountedShares, made: &[Offer])
+    requires shown { TallyShows (counted_of counted.found.items ++ map allocation_by made.now)
+        (clients_of state.old.frameworks) counted.shares }
+    requires owned { SameAmounts counted.shares.totals (all_owned counted.owned.items) }
     ensures { state.new ≡ state.old }
 {
-    let mut counted = CountedShares { shares, found };
     if let Ok(()) = take_back_made(&mut counted.shares, alloc, made) {
         let _ordered = state.frameworks.as_slice();
         state.frameworks.keep_shares(counted);
@@ -65,12 +67,21 @@ fn next_offers(
 {
     let _ordered = state.frameworks.as_slice();
     let counted = shares_of(alloc, weights, &state.sides, &mut state.frameworks)?;
-    let CountedShares { shares, found } = counted;
+    let CountedShares {
+        shares,
+        found,
+        owned,
+    } = counted;
     let mut starts = state.frameworks.take_starts(alloc);
     let progress = round_of(state, alloc, shares, &mut starts)?;
     let Progress { made, next, shares } = progress;
     state.frameworks.keep_starts(starts);
-    keep(state, alloc, shares, found, made.as_slice());
+    let counted = CountedShares {
+        shares,
+        found,
+        owned,
+    };
+    keep(state, alloc, counted, made.as_slice());
     Ok((made, next))
 }
 

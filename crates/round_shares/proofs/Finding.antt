@@ -17,8 +17,8 @@ use Rattle.drf_pick.specs.Allocations.{rows_to}
 use Rattle.role_weights.specs.Weights.{RoleWeight}
 use Rattle.drf_pick.specs.declared.counted.CountedShares.{CountedShares}
 use Rattle.drf_pick.specs.declared.holder.Client.{Client}
-use Rattle.drf_pick.specs.Shares.{Tally, all_weighed, with_totals}
-use Rattle.drf_pick.specs.Shown.{AreCounted, SameAllocations, TallyShows, all_found, counted_of}
+use Rattle.drf_pick.specs.Shares.{Tally, all_weighed}
+use Rattle.drf_pick.specs.Shown.{AreCounted, SameAllocations, TallyShows, all_found, all_owned, counted_of}
 use Rattle.drf_pick.proofs.Reweighing.{tally_reweighed}
 use Rattle.drf_pick.proofs.AllocationRows.{to-append}
 use Rattle.round_shares.specs.Allocations.{AreFoundOn, AreOfTasks, AreOn, IsFoundAt, allocations_in, allocations_on, job_allocation, offer_allocation, sum_allocation}
@@ -93,17 +93,18 @@ found_more fs gs as_ i a within inside is at are =
     one = omega arith
 
 -- one that stays is set as it is
-pub set_same : (fs : List Found) (i : ℕ) (f : Found) → i < length fs → f ≡ get_or fs i f → fs ≡ set fs i f
-set_same [] i f within is = absurd (omega arith)
-set_same (g ∷ fs) zero f within is = ap (λ (x : Found). x ∷ fs) (sym is)
-set_same (g ∷ fs) (suc i) f within is = ap (λ (hs : List Found). g ∷ hs) (set_same fs i f (omega arith) is)
+pub set_same : {X : Type 0} (xs : List X) (i : ℕ) (x : X) → i < length xs → x ≡ get_or xs i x → xs ≡ set xs i x
+set_same [] i x within is = absurd (omega arith)
+set_same (y ∷ xs) zero x within is = ap (λ z. z ∷ xs) (sym is)
+set_same (y ∷ xs) (suc i) x within is = ap (λ zs. y ∷ zs) (set_same xs i x (omega arith) is)
 
--- other totals and weights
+-- other weights
 
-pub owned : (ws : List RoleWeight) (totals : List Row) (cs : List Client) (one other : CountedShares) → other.shares ≡ all_weighed ws (with_totals totals one.shares) → other.found ≡ one.found → AreCounted cs one → AreCounted cs other
-owned ws totals cs one other shares found k = record {
+pub weighed : (ws : List RoleWeight) (cs : List Client) (one other : CountedShares) → other.shares ≡ all_weighed ws one.shares → other.found ≡ one.found → other.owned ≡ one.owned → AreCounted cs one → AreCounted cs other
+weighed ws cs one other shares found owned k = record {
   once = k.once;
   shown = subst (λ (t : Tally). TallyShows (counted_of other.found.items) cs t) (sym shares)
-      (subst (λ (fs : List Found). TallyShows (counted_of fs) cs (all_weighed ws (with_totals totals one.shares))) (sym (ap (λ v. v.items) found))
-      (tally_reweighed ws (counted_of one.found.items) cs (with_totals totals one.shares) (record { holders = k.shown.holders; known = k.shown.known; roles = k.shown.roles })));
+      (subst (λ (fs : List Found). TallyShows (counted_of fs) cs (all_weighed ws one.shares)) (sym (ap (λ v. v.items) found))
+      (tally_reweighed ws (counted_of one.found.items) cs one.shares k.shown));
+  owned = λ name. ap (λ (t : Tally). amount name t.totals) shares ∙ k.owned name ∙ ap (λ v. amount name (all_owned v.items)) (sym owned);
 }

@@ -1,8 +1,8 @@
 pub mod AtPlaces
 pub mod Registered
-pub mod Totals
 pub mod SameAmounts
 pub mod Finding
+pub mod Owning
 pub mod Picking
 pub mod Parts
 pub mod FirstFound

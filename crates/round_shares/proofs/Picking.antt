@@ -1,5 +1,5 @@
 -- What is picked.
-use Rattle.std.proofs.Common.{◌≡◌, ℕ, Bool, true, false, not, ◌&&◌, ◌||◌, cond, List, [], ◌∷◌, ◌++◌, map, filter, flat_map, Option, Some, None, option_map, refl, sym, ap, ◌∙◌, subst, arith, bytes_eq, inl, inr}
+use Rattle.std.proofs.Common.{◌≡◌, ℕ, Bool, true, false, not, ◌&&◌, ◌||◌, cond, List, [], ◌∷◌, ◌++◌, map, filter, flat_map, Option, Some, None, option_map, refl, sym, ap, ◌∙◌, subst, bytes_eq, inl, inr}
 use Rattle.std.specs.Prelude.{if◌then◌else◌}
 use Rattle.std.specs.List.{AllByRecursion, find, fold}
 use Rattle.names_core.specs.Ids.{Numbered, before, same}
@@ -20,7 +20,7 @@ use Rattle.frameworks.specs.Frameworks.{are_ordered}
 use Rattle.frameworks.specs.LastRound as frameworks
 use Rattle.frameworks.specs.LastRound.{client_of}
 use Rattle.drf_pick.specs.declared.counted.Allocation.{Allocation}
-use Rattle.drf_pick.specs.Allocations.{AddUp, role_rows, rows_to}
+use Rattle.drf_pick.specs.Allocations.{role_rows, rows_to}
 use Rattle.drf_pick.specs.Shown.{Shows, TallyShows, WeightsShow, is_known}
 use Rattle.drf_pick.proofs.AllocationRows.{find_own, to-append}
 use Rattle.drf_pick.proofs.Shown.{Alike, found_alike}
@@ -29,14 +29,12 @@ use Rattle.drf_pick.specs.Shares.{Tally, is_holder}
 use Rattle.drf_pick.specs.Least.{comes_before, held_of, role_share}
 use Rattle.drf_pick.specs.Laws.{ArePositive, SameShare}
 use Rattle.drf_pick.specs.Orders.{Among}
-use Rattle.share_sums.specs.Sums.{IsSum, summed}
 use Rattle.drf_pick.proofs.Standing.{amounts_decide}
-use Rattle.share_sums.proofs.Summing.{no_sum, sum_is}
-use Rattle.round_shares.specs.Allocations.{allocations_of, allocations_with, enters_row, job_allocation, made_allocation, offer_allocation, side_allocations}
+use Rattle.round_shares.specs.Allocations.{allocations_of, allocations_with, job_allocation, made_allocation, offer_allocation, side_allocations}
 use Rattle.round_shares.specs.Laws.{PicksAlike}
 use Rattle.round_shares.specs.Picks.{better, better_eligible, framework_holder}
 use Rattle.round_shares.proofs.Registered.{clients_once}
-use Rattle.round_shares.proofs.Totals.{entered_amounts, owned_rows}
+use Rattle.round_shares.proofs.Owning.{owned_rows, totals_alike}
 
 -- the model's rows are those of what is held
 
@@ -89,9 +87,6 @@ role_is m made role [] = refl
 role_is m made role (f ∷ fs) =
     ap (λ rows. cond (bytes_eq f.role role) rows [] ++ rounds.role_rows (map (client m) fs) made role) (share_is m made f)
     ∙ ap (λ rows. cond (bytes_eq f.role role) (rows_to f.id (allocations_with m.sides made)) [] ++ rows) (role_is m made role fs)
-
-owned_alike : (ss : List Side) → AddUp ([] ++ owned_rows ss) → (name : List ℕ) → amount name (fold enters_row [] ss) ≡ amount name (owned_rows ss)
-owned_alike ss below name = omega (arith, entered_amounts ss [] below name)
 
 -- two frameworks stand alike
 
@@ -206,14 +201,6 @@ same_id m (Some f) (Some c) b = ap (λ (d : Client). Some d.framework.id) (sym b
 
 -- positive totals
 
-sums_positive : (ss : List Side) (totals : List Row) → IsSum totals → AllByRecursion (λ s. AreRows s.total) ss → IsSum (fold enters_row totals ss)
-sums_positive [] totals is rows = is
-sums_positive (s ∷ ss) totals is rows = sums_positive ss (enters_row totals s) (by s.is_open) rows.1
-  where
-    by : (b : Bool) → IsSum (cond b (summed totals s.total) totals)
-    by true = sum_is totals s.total is rows.0
-    by false = is
-
 both_positive : (rows more : List Row) → AllByRecursion IsRow rows → ArePositive more → ArePositive (rows ++ more)
 both_positive [] more each p = p
 both_positive (r ∷ rows) more each p = (each.0.positive, both_positive rows more each.1 p)
@@ -235,7 +222,7 @@ picks_alike ws m made t agent free can show =
     shown = record {
       shows = show.shown;
       weights = show.weights;
-      positive = subst ArePositive (sym show.totals) (sums_positive m.sides [] no_sum can.rows).positive;
+      positive = show.positive;
       owned = owned_positive m.sides can.rows;
-      totals = λ name. ap (amount name) show.totals ∙ owned_alike m.sides can.totals name;
+      totals = λ name. show.totals name ∙ ap (amount name) (totals_alike m.sides);
     }

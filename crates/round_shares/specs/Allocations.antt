@@ -1,6 +1,6 @@
 -- What frameworks are allocated: by current offers, and by booked tasks that haven't ended.
-use Rattle.std.specs.Prelude.{◌≡◌, ⊤, ℕ, if◌then◌else◌, List, [], ◌∷◌, ◌++◌, map, flat_map, fold, set}
-use Rattle.quantity.specs.declared.rows.Row.{Row}
+use Rattle.std.specs.Prelude.{◌≡◌, ⊤, ℕ, List, [], ◌∷◌, ◌++◌, map, flat_map, set}
+use Rattle.quantity.specs.Laws.{SameAmounts}
 use Rattle.mails.specs.declared.framework.Framework.{Framework}
 use Rattle.mails.specs.declared.task.Job.{Job}
 use Rattle.mails.specs.declared.task.Offer.{Offer}
@@ -8,7 +8,7 @@ use Rattle.mails.specs.declared.task.Booked.{Booked}
 use Rattle.role_weights.specs.Weights.{RoleWeight}
 use Rattle.cluster_model.specs.Sides.{Side, unended}
 use Rattle.cluster_model.specs.Events.{MadeOffer}
-use Rattle.share_sums.specs.Sums.{summed}
+use Rattle.drf_pick.specs.Laws.{ArePositive}
 use Rattle.drf_pick.specs.Shares.{Tally}
 use Rattle.drf_pick.specs.declared.counted.Allocation.{Allocation}
 use Rattle.drf_pick.specs.declared.counted.CountedShares.{CountedShares}
@@ -17,6 +17,7 @@ use Rattle.drf_pick.specs.Shown.{AllCounted, AreCounted, SameAllocations, TallyS
 use Rattle.offer_book.specs.declared.account.Account.{Account}
 use Rattle.booked_tasks.specs.declared.sums.FrameworkSum.{FrameworkSum}
 use Rattle.frameworks.specs.LastRound.{clients_of}
+use Rattle.round_shares.specs.Owned.{totals_in}
 
 abbrev pub offer_allocation : Offer → Allocation
 offer_allocation o = record { framework = o.framework; resources = o.resources }
@@ -47,13 +48,6 @@ allocations_in as_ = flat_map (λ a. allocations_on a.offers a.booked) as_
 abbrev pub allocations_with : List Side → List MadeOffer → List Allocation
 allocations_with ss made = allocations_of ss ++ map made_allocation made
 
--- what agents own, with one that has an open session
-abbrev pub enters_row : List Row → Side → List Row
-enters_row totals s = if s.is_open then summed totals s.total else totals
-
-abbrev pub totals_in : List Side → List Row
-totals_in ss = fold enters_row [] ss
-
 -- these allocations are together what tasks use that haven't ended, for each framework
 abbrev pub AreOfTasks : List Booked → List Allocation → Type 0
 AreOfTasks bs as_ = SameAllocations as_ (map job_allocation (unended bs))
@@ -75,10 +69,11 @@ IsFoundAt place a fs gs = (g : Found) × (gs ≡ set fs place g) × AreOn a g.al
 
 -- the shares of a round: what the agents with an open session own, the frameworks with their roles,
 -- these with their weights, and what frameworks are allocated on the agents and by offers of the
--- round
+-- round; amounts of names are what counts, in whichever rows
 pub record ShowRound (ws : List RoleWeight) (ss : List Side) (fs : List Framework)
     (made : List MadeOffer) (t : Tally) : Type 0 where
-  pub totals : t.totals ≡ totals_in ss
+  pub totals : SameAmounts t.totals (totals_in ss)
+  pub positive : ArePositive t.totals
   pub shown : TallyShows (allocations_with ss made) (clients_of fs) t
   pub weights : WeightsShow ws t.roles
 
@@ -88,5 +83,6 @@ pub record BeginRound (ws : List RoleWeight) (ss : List Side) (fs : List Framewo
   pub counted : AreCounted (clients_of fs) k
   pub all : AllCounted k.found.items
   pub found : SameAllocations (all_found k.found.items) (allocations_of ss)
-  pub totals : k.shares.totals ≡ totals_in ss
+  pub totals : SameAmounts k.shares.totals (totals_in ss)
+  pub positive : ArePositive k.shares.totals
   pub weights : WeightsShow ws k.shares.roles

@@ -17,7 +17,6 @@ use Rattle.round_shares.specs.Picks.{picked}
 pub record CanBeSummed (m : Master) (made : List MadeOffer) : Type 0 where
   pub ordered : are_ordered m.registers.frameworks ≡ true
   pub rows : AllByRecursion (λ s. AreRows s.total) m.sides
-  pub totals : AddUp (totals_of m)
   pub held : AddUp (all_rows (allocations_with m.sides made))
 
 -- the framework that stands least by the shares of a round is the one that the model picks

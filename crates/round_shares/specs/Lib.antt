@@ -1,4 +1,5 @@
 pub mod Candidates
+pub mod Owned
 pub mod Allocations
 pub mod Picks
 pub mod Laws

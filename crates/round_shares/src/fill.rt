@@ -1,62 +1,26 @@
 //! What agents own, and what frameworks hold of it.
 
-ghost use Rattle.std.specs.Prelude.{◌≡◌, ◌≤◌, ◌<◌, ◌++◌, ◌∷◌, [], true, List, fold, take, length, IfOk, IfSome, OnOk};
+ghost use Rattle.std.specs.Prelude.{◌≡◌, ◌≤◌, ◌<◌, ◌++◌, ◌∷◌, [], true, List, take, length, IfOk, IfSome, OnOk};
 ghost use Rattle.mails.specs.declared.framework.Framework as model;
-ghost use Rattle.agent_sides.specs.Joined.{join, joined};
 ghost use Rattle.frameworks.specs.Frameworks.{are_ordered};
 ghost use Rattle.frameworks.specs.LastRound.{client_of, clients_of};
-ghost use Rattle.drf_pick.specs.Shares.{all_weighed, with_totals};
+ghost use Rattle.drf_pick.specs.Shares.{all_weighed};
 ghost use Rattle.drf_pick.specs.declared.holder.Client.{Client};
 ghost use Rattle.drf_pick.specs.Allocations.{AddUp, all_rows};
 ghost use Rattle.drf_pick.specs.Shown.{AllCounted, AreCounted, NoneOf, SameAllocations, SameFound, StayCounted, all_found};
-ghost use Rattle.round_shares.specs.Allocations.{AreFoundOn, BeginRound, IsFoundAt, allocations_in, allocations_of, enters_row};
+ghost use Rattle.share_sums.specs.Sums.{IsSum};
+ghost use Rattle.round_shares.specs.Allocations.{AreFoundOn, BeginRound, IsFoundAt, allocations_in, allocations_of};
+ghost use Rattle.round_shares.specs.Owned.{totals_in};
 
 use crate::found::{are_found, found_on};
+use crate::owned::own_all;
 use agent_sides::Sides;
-use drf_pick::{CountedShares, Sum};
+use drf_pick::CountedShares;
 use frameworks::Frameworks;
 use mails::Framework;
 use offer_book::Account;
 use role_weights::Weights;
-use roster::RosterEntry;
 use std::alloc::{AllocError, Global};
-
-fn add_total(
-    totals: &mut Sum,
-    alloc: Global,
-    entry: &RosterEntry,
-    account: &Account,
-) -> Result<(), AllocError>
-    ensures { OnOk result (totals.new ≡ enters_row totals.old (join entry.now account.now)) }
-{
-    if !entry.is_open() {
-        return Ok(());
-    }
-    if totals.has_names_of(&account.total) {
-        totals.add(&account.total);
-        return Ok(());
-    }
-    *totals = totals.plus(alloc, &account.total)?;
-    Ok(())
-}
-
-fn add_all(
-    totals: &mut Sum,
-    alloc: Global,
-    entries: &[RosterEntry],
-    accounts: &[Account],
-) -> Result<(), AllocError>
-    ensures { OnOk result (totals.new ≡ fold enters_row totals.old
-        (joined entries.now accounts.now)) }
-{
-    for i in 0..entries.len() {
-        if i >= accounts.len() {
-            return Ok(());
-        }
-        add_total(totals, alloc, &entries[i], &accounts[i])?;
-    }
-    Ok(())
-}
 
 /// The shares that are kept, and how many frameworks are registered in them, where they are of so
 /// many agents; else those of nobody.
@@ -70,10 +34,11 @@ fn kept_or_new(
         (AreCounted (clients_of (take count frameworks)))
         → IfOk result (λ k. AreCounted (clients_of (take k.1 frameworks)) k.0) }
     ensures many { IfOk result (λ k. length k.0.found.items ≡ agents) }
+    ensures owned { IfOk result (λ k. length k.0.owned.items ≡ agents) }
     ensures few { IfOk result (λ k. k.1 ≤ count) }
 {
     if let Some(counted) = kept {
-        if counted.found.len() == agents {
+        if counted.found.len() == agents && counted.owned.len() == agents {
             return Ok((counted, count));
         }
     }
@@ -89,6 +54,7 @@ fn register(
     ensures counted { OnOk result ((cs : List Client) → NoneOf framework.now.id cs
         → AreCounted cs counted.old
         → AreCounted (cs ++ client_of framework.now ∷ []) counted.new) }
+    ensures owned { counted.new.owned ≡ counted.old.owned }
 {
     match counted.register(alloc, framework.id, &framework.role) {
         Ok(()) => Ok(()),
@@ -108,6 +74,7 @@ fn register_all(
     requires counted { AreCounted (clients_of (take from frameworks.now)) counted.old }
     ensures counted { OnOk result (AreCounted (clients_of frameworks.now) counted.new) }
     ensures many { OnOk result (length counted.new.found.items ≡ length counted.old.found.items) }
+    ensures owned { OnOk result (counted.new.owned ≡ counted.old.owned) }
 {
     for place in from..frameworks.len() {
         register(counted, alloc, &frameworks[place])?;
@@ -126,6 +93,7 @@ fn find_at(
     ensures found { OnOk result (IsFoundAt place account.now counted.old.found.items
         counted.new.found.items) }
     ensures counted { OnOk result (StayCounted counted.old counted.new) }
+    ensures owned { counted.new.owned ≡ counted.old.owned }
 {
     if are_found(&counted.found[place].allocations, account) {
         return Ok(());
@@ -146,6 +114,7 @@ fn find_all(
     requires { length counted.old.found.items ≡ length accounts.now }
     ensures found { OnOk result (AreFoundOn counted.new.found.items accounts.now) }
     ensures counted { OnOk result (StayCounted counted.old counted.new) }
+    ensures owned { OnOk result (counted.new.owned ≡ counted.old.owned) }
 {
     for place in 0..accounts.len() {
         find_at(counted, alloc, place, &accounts[place])?;
@@ -165,23 +134,22 @@ fn recount(
     ensures all { OnOk result (AllCounted counted.new.found.items) }
     ensures found { OnOk result
         (SameAllocations (all_found counted.new.found.items) (allocations_in accounts.now)) }
+    ensures owned { OnOk result (counted.new.owned ≡ counted.old.owned) }
 {
     find_all(counted, alloc, accounts)?;
     counted.count(alloc)
 }
 
-/// Agents own this together, and roles have these weights.
-fn own(
-    counted: &mut CountedShares,
-    alloc: Global,
-    weights: &Weights,
-    totals: Sum,
-) -> Result<(), AllocError>
-    ensures shares { OnOk result (counted.new.shares
-        ≡ all_weighed weights.now (with_totals totals counted.old.shares)) }
+/// Roles are ranked, and have these weights.
+fn weigh(counted: &mut CountedShares, alloc: Global, weights: &Weights) -> Result<(), AllocError>
+    ensures shares { OnOk result
+        (counted.new.shares ≡ all_weighed weights.now counted.old.shares) }
+    ensures sum { OnOk result (IsSum counted.new.shares.totals) }
     ensures found { counted.new.found ≡ counted.old.found }
+    ensures owned { counted.new.owned ≡ counted.old.owned }
 {
-    counted.shares.own(alloc, totals)?;
+    let _sum = counted.shares.totals().rows();
+    counted.shares.rank_roles(alloc)?;
     counted.shares.reweigh(weights);
     Ok(())
 }
@@ -189,25 +157,26 @@ fn own(
 /// The shares of a round: what the agents with an open session own, the frameworks with their roles
 /// and the weights of these, and their current offers and booked tasks that haven't ended, on every
 /// agent. They are made of those that were kept of the round before: only what is other than then
-/// is taken back and given, and only frameworks that are new are registered. What is allocated
-/// isn't more than can be summed.
+/// is taken back and given, agents leave and enter whose sessions closed and opened, and only
+/// frameworks that are new are registered. Neither what is owned nor what is allocated is more than
+/// can be summed.
 pub fn shares_of(
     alloc: Global,
     weights: &Weights,
     sides: &Sides,
     frameworks: &mut Frameworks,
 ) -> Result<CountedShares, AllocError>
-    requires { AddUp (all_rows (allocations_of sides.now)) }
+    requires allocated { AddUp (all_rows (allocations_of sides.now)) }
+    requires owned { AddUp (totals_in sides.now) }
     ensures shares { IfOk result (BeginRound weights.now sides.now frameworks.old) }
     ensures same { frameworks.new ≡ frameworks.old }
 {
     let (entries, accounts) = sides.parts();
     let (kept, count) = frameworks.take_shares();
     let (mut counted, registered) = kept_or_new(alloc, kept, count, accounts.len())?;
+    own_all(&mut counted, alloc, entries, accounts)?;
     register_all(&mut counted, alloc, frameworks.as_slice(), registered)?;
     recount(&mut counted, alloc, accounts)?;
-    let mut totals = Sum::new(alloc);
-    add_all(&mut totals, alloc, entries, accounts)?;
-    own(&mut counted, alloc, weights, totals)?;
+    weigh(&mut counted, alloc, weights)?;
     Ok(counted)
 }

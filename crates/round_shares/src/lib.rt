@@ -6,6 +6,7 @@ mod candidates;
 mod fill;
 mod found;
 mod laws;
+mod owned;
 mod pick;
 
 pub use candidates::{Candidate, candidates_of};

@@ -3,16 +3,28 @@ use Rattle.mails.specs.declared.framework.Framework.{Framework}
 use Rattle.drf_pick.specs.Shown.{TallyShows, counted_of}
 use Rattle.frameworks.specs.LastRound.{clients_of}
 use Rattle.master_rounds.specs.Visits.{Progress, allocation_by}
-use Rattle.master_rounds.proofs.Bounds.{sides_add_up}
-use Rattle.master_rounds.proofs.Keeping.{begins_shown, knowing, round_shown, round_so}
+use Rattle.master_rounds.proofs.Bounds.{sides_add_up, totals_add_up}
+use Rattle.master_rounds.proofs.Keeping.{begins_shown, knowing, round_owned, round_shown, round_so}
 use Rattle.master_rounds.proofs.SendingAll.{Holds}
 use Rattle.master_rounds.proofs.round.next_offers.Goals as goal
 
-pub shares_of-requires : goal.shares_of-requires
-shares_of-requires c = sides_add_up c.args.state.now.sides c.requires.rows c.requires.fits.totals c.requires.fits.few
+pub shares_of-requires-clause-allocated : goal.shares_of-requires-clause-allocated
+shares_of-requires-clause-allocated c = sides_add_up c.args.state.now.sides c.requires.rows c.requires.fits.totals c.requires.fits.few
 
-pub keep-requires : goal.keep-requires
-keep-requires c =
+pub shares_of-requires-clause-owned : goal.shares_of-requires-clause-owned
+shares_of-requires-clause-owned c = totals_add_up c.args.state.now.sides c.requires.rows c.requires.fits.few
+
+pub keep-requires-clause-owned : goal.keep-requires-clause-owned
+keep-requires-clause-owned c =
+    let s = c.args.state.now in
+    let k = c.in_ok-counted.counted in
+    let p = c.in_ok-progress.progress in
+    let same = c.take_starts-starts.ensures.same ∙ c.in_ok-counted.ensures.same in
+    let holds : Holds s = record { ordered = c.as_slice-ordered.ensures.ordered; names = c.requires.names; rows = c.requires.rows; fit = c.requires.fits } in
+    round_owned c.args.weights.now s k p holds c.in_ok-counted.ensures.shares (round_so s c.take_starts-starts.new.self k.shares p c.in_ok-progress.ensures.progress same)
+
+pub keep-requires-clause-shown : goal.keep-requires-clause-shown
+keep-requires-clause-shown c =
     let s = c.args.state.now in
     let k = c.in_ok-counted.counted in
     let p = c.in_ok-progress.progress in

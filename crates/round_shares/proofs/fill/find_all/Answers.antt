@@ -15,5 +15,6 @@ loop-place-preserved c =
     record {
       found = found_more fs c.find_at.new.counted.found.items as_ i c.index-accounts-place.result within inside c.index-accounts-place.is at inv.found;
       many = ap length at.1 ∙ length-set fs i at.0 ∙ inv.many;
+      owned = c.find_at.ensures.owned ∙ inv.owned;
       counted = λ cs k. c.in_ok-find_at.ensures.counted cs (inv.counted cs k);
     }

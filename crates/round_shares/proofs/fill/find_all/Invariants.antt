@@ -8,4 +8,5 @@ invariant-loop-place l = record {
   found : AreFoundOn (take l.place l.counted.found.items) (take l.place l.accounts);
   many : length l.counted.found.items ≡ length l.accounts;
   counted : StayCounted l.fn.counted l.counted;
+  owned : l.counted.owned ≡ l.fn.counted.owned;
 }

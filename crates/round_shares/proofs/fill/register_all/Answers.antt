@@ -14,6 +14,7 @@ loop-place-preserved c =
     let inv = c.loop-place.invariant in
     let within : i < length fs = omega (arith, c.loop-place-test.true, c.loop-place.auto.place-end) in
     record {
+      owned = c.register.ensures.owned ∙ inv.owned;
       counted = subst (λ cs. AreCounted cs c.register.new.counted) (sym (clients_more fs i f within is)) (c.in_ok-register.ensures.counted (clients_of (take i fs)) (none_before fs i f c.requires.ordered within is) inv.counted);
       many = same_many c.loop-place.counted.found.items c.register.new.counted.found.items c.in_ok-register.ensures.found ∙ inv.many;
     }

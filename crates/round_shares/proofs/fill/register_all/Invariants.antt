@@ -7,4 +7,5 @@ abbrev pub invariant-loop-place : goal.invariant-loop-place
 invariant-loop-place l = record {
   counted : AreCounted (clients_of (take l.place l.frameworks)) l.counted;
   many : length l.counted.found.items ≡ length l.fn.counted.found.items;
+  owned : l.counted.owned ≡ l.fn.counted.owned;
 }

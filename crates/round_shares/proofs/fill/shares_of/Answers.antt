@@ -1,20 +1,24 @@
-use Rattle.std.proofs.Common.{◌≡◌, [], fold, ap, sym, subst, ◌∙◌}
-use Rattle.agent_sides.specs.Joined.{joined}
+use Rattle.std.proofs.Common.{◌≡◌, sym, subst, ap, ◌∙◌}
+use Rattle.quantity.specs.Rows.{amount}
 use Rattle.drf_pick.specs.Allocations.{AddUp, all_rows}
 use Rattle.drf_pick.specs.Shares.{Tally}
-use Rattle.drf_pick.specs.Shown.{AllCounted, AreCounted, SameAllocations, WeightsShow, all_found}
+use Rattle.drf_pick.specs.Shown.{AllCounted, AreCounted, SameAllocations, WeightsShow, all_found, all_owned}
 use Rattle.drf_pick.proofs.Reweighing.{weights_shown}
 use Rattle.frameworks.specs.LastRound.{clients_of}
-use Rattle.round_shares.specs.Allocations.{allocations_of, enters_row, totals_in}
-use Rattle.round_shares.proofs.Finding.{owned}
+use Rattle.round_shares.specs.Allocations.{allocations_of}
+use Rattle.round_shares.specs.Owned.{totals_in}
+use Rattle.round_shares.proofs.Finding.{weighed}
 use Rattle.round_shares.proofs.Parts.{given_parts}
 use Rattle.round_shares.proofs.fill.shares_of.Goals as goal
+
+pub own_all-requires-clause-sums : goal.own_all-requires-clause-sums
+own_all-requires-clause-sums c = subst (λ ss. AddUp (totals_in ss)) (sym c.parts.ensures.joined) c.requires.owned
 
 pub recount-requires-clause-sums : goal.recount-requires-clause-sums
 recount-requires-clause-sums c =
     let es = c.parts.result.0.now in
     let as_ = c.parts.result.1.now in
-    subst (λ xs. AddUp (all_rows xs)) (sym (given_parts es as_ c.parts.ensures.one ∙ ap allocations_of c.parts.ensures.joined)) c.requires
+    subst (λ xs. AddUp (all_rows xs)) (sym (given_parts es as_ c.parts.ensures.one ∙ ap allocations_of c.parts.ensures.joined)) c.requires.allocated
 
 pub returns-clause-shares : goal.returns-clause-shares
 returns-clause-shares c =
@@ -24,18 +28,20 @@ returns-clause-shares c =
     let ws = c.args.weights.now in
     let fs = c.args.frameworks.now in
     let k = c.recount.new.counted in
-    let other = c.own.new.counted in
+    let other = c.weigh.new.counted in
     let same = c.as_slice.ensures.items ∙ c.take_shares-kept.ensures.same in
-    let rows = c.add_all.new.totals in
-    let shares = c.in_ok-own.ensures.shares in
-    let found = c.own.ensures.found in
+    let shares = c.in_ok-weigh.ensures.shares in
+    let found = c.weigh.ensures.found in
     let items = ap (λ v. v.items) found in
     let counted : AreCounted (clients_of fs) k = c.in_ok-recount.ensures.counted (clients_of fs) (subst (λ xs. AreCounted (clients_of xs) c.register_all.new.counted) same c.in_ok-register_all.ensures.counted) in
-    let totals : rows ≡ totals_in ss = c.in_ok-add_all.ensures ∙ ap (λ t. fold enters_row t (joined es as_)) c.new-totals.ensures ∙ ap (fold enters_row []) c.parts.ensures.joined in
+    let after : AreCounted (clients_of fs) other = weighed ws (clients_of fs) k other shares found c.weigh.ensures.owned counted in
+    let owned : all_owned other.owned.items ≡ totals_in ss =
+    ap (λ v. all_owned v.items) (c.weigh.ensures.owned ∙ c.in_ok-recount.ensures.owned ∙ c.in_ok-register_all.ensures.owned) ∙ ap all_owned c.in_ok-own_all.ensures.entered ∙ ap totals_in c.parts.ensures.joined in
     record {
-      counted = owned ws rows (clients_of fs) k other shares found counted;
+      counted = after;
       all = subst AllCounted (sym items) c.in_ok-recount.ensures.all;
       found = subst (λ xs. SameAllocations (all_found xs) (allocations_of ss)) (sym items) (subst (SameAllocations (all_found k.found.items)) (given_parts es as_ c.parts.ensures.one ∙ ap allocations_of c.parts.ensures.joined) c.in_ok-recount.ensures.found);
-      totals = ap (λ (t : Tally). t.totals) shares ∙ totals;
+      totals = λ name. after.owned name ∙ ap (amount name) owned;
+      positive = c.in_ok-weigh.ensures.sum.positive;
       weights = subst (λ (t : Tally). WeightsShow ws t.roles) (sym shares) (weights_shown ws k.shares.roles);
     }

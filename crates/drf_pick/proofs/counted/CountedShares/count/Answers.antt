@@ -1,8 +1,10 @@
 use Rattle.std.proofs.Common.{length, ◌≡◌, ◌<◌, true, set, List, sym, subst, ap, ◌∙◌, arith}
 use Rattle.std.proofs.Math.ListN.{length-set}
+use Rattle.quantity.specs.Rows.{amount}
+use Rattle.drf_pick.specs.Shares.{Tally}
 use Rattle.drf_pick.specs.Allocations.{AddUp, Allocation, Found, all_rows}
-use Rattle.drf_pick.specs.Shown.{TallyShows, all_found, counted_of}
-use Rattle.drf_pick.proofs.Counting.{all_more, all_same, count_at, same_found}
+use Rattle.drf_pick.specs.Shown.{TallyShows, all_found, counted_of, due_in}
+use Rattle.drf_pick.proofs.Counting.{all_more, all_same, count_at, same_found, totals_kept}
 use Rattle.drf_pick.proofs.counted.CountedShares.count.Goals as goal
 
 pub loop-place-preserved : goal.loop-place-preserved
@@ -18,7 +20,8 @@ loop-place-preserved c =
     let below : AddUp (all_rows (all_found fs)) = subst (λ (as_ : List Allocation). AddUp (all_rows as_)) (sym (all_same start fs inv.found)) c.requires in
     record {
       many = length-set fs i g ∙ inv.many;
+      owned = inv.owned;
       found = same_found start fs i f g within is (ap (λ (h : Found). h.allocations) c.in_ok-count_of.ensures.found) inv.found;
       all = all_more (λ h. h.is_counted ≡ true) fs i g within inv.all (ap (λ (h : Found). h.is_counted) c.in_ok-count_of.ensures.found);
-      counted = λ cs k. let before = inv.counted cs k in record { once = before.once; shown = subst (TallyShows (counted_of (set fs i g)) cs) (sym c.in_ok-count_of.ensures.shares) (count_at fs i f g cs c.loop-place.self.shares within is c.in_ok-count_of.ensures.found below before.once before.shown) };
+      counted = λ cs k. let before = inv.counted cs k in record { once = before.once; owned = λ name. ap (amount name) (ap (λ (t : Tally). t.totals) c.in_ok-count_of.ensures.shares ∙ totals_kept (due_in f) c.loop-place.self.shares) ∙ before.owned name; shown = subst (TallyShows (counted_of (set fs i g)) cs) (sym c.in_ok-count_of.ensures.shares) (count_at fs i f g cs c.loop-place.self.shares within is c.in_ok-count_of.ensures.found below before.once before.shown) };
     }

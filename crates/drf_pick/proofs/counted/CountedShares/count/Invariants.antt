@@ -9,4 +9,5 @@ invariant-loop-place l = record {
   found : SameFound l.fn.self.found.items l.self.found.items;
   all : AllByRecursion (λ f. f.is_counted ≡ true) (take l.place l.self.found.items);
   counted : StayCounted l.fn.self l.self;
+  owned : l.self.owned ≡ l.fn.self.owned;
 }

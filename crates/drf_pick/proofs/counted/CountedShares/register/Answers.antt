@@ -1,7 +1,9 @@
-use Rattle.std.proofs.Common.{◌++◌, ◌∷◌, [], sym, subst}
+use Rattle.std.proofs.Common.{◌++◌, ◌∷◌, [], ap, sym, subst, ◌∙◌}
+use Rattle.quantity.specs.Rows.{amount}
+use Rattle.drf_pick.specs.Shares.{Tally}
 use Rattle.drf_pick.specs.Allocations.{Client}
 use Rattle.drf_pick.specs.Shown.{TallyShows, counted_of}
-use Rattle.drf_pick.proofs.Counting.{where_ok}
+use Rattle.drf_pick.proofs.Counting.{role_keeps, where_ok}
 use Rattle.drf_pick.proofs.Registering.{none_held, once_with, tally_with}
 use Rattle.drf_pick.proofs.counted.CountedShares.register.Goals as goal
 
@@ -15,6 +17,7 @@ returns-clause-counted c =
     let now = c.in_ok-take_back_framework.ensures.counted cs before in
     record {
       once = once_with cs new now.once none;
+      owned = λ name. ap (amount name) (ap (λ (t : Tally). t.totals) is ∙ role_keeps c.args.framework c.args.role.now k.shares) ∙ now.owned name;
       shown = subst (TallyShows counted (cs ++ new ∷ [])) (sym is) (tally_with counted new cs k.shares c.in_ok-take_back_framework.ensures.none now.shown (none_held c.args.framework counted k.shares.holders cs now.shown.holders none));
     })
     c.role.ensures.ok

@@ -3,6 +3,7 @@ use Rattle.std.specs.List.{AllByRecursion}
 use Rattle.std.proofs.lemmas.Result.{err_from_is_err_and}
 use Rattle.std.proofs.Math.ListN.{length-set}
 use Rattle.std.proofs.Math.Seq.{take-length}
+use Rattle.quantity.specs.Rows.{amount}
 use Rattle.drf_pick.specs.Allocations.{Found}
 use Rattle.drf_pick.specs.Shown.{HasNone, counted_in}
 use Rattle.drf_pick.proofs.Counting.{all_more, counted_none, memory_at, moved_at, same_found}
@@ -19,9 +20,10 @@ loop-place-preserved c =
     let within : i < length fs = omega (arith, c.loop-place-test.true, c.len-place-end.ensures, inv.many) in
     record {
       many = length-set fs i g ∙ inv.many;
+      owned = inv.owned;
       found = same_found c.args.self.now.found.items fs i f g within is c.in_ok-take_back_for.ensures.allocations inv.found;
       none = all_more (λ h. HasNone c.args.framework (counted_in h)) fs i g within inv.none c.in_ok-take_back_for.ensures.none;
-      counted = λ cs k. let before = inv.counted cs k in record { once = before.once; shown = moved_at fs i f g within is cs c.loop-place.self.shares c.take_back_for.new.shares before.once c.in_ok-take_back_for.ensures.moves before.shown };
+      counted = λ cs k. let before = inv.counted cs k in record { once = before.once; owned = λ name. ap (amount name) c.take_back_for.ensures.totals ∙ before.owned name; shown = moved_at fs i f g within is cs c.loop-place.self.shares c.take_back_for.new.shares before.once c.in_ok-take_back_for.ensures.moves before.shown };
     }
 
 pub returns-clause-none : goal.returns-clause-none

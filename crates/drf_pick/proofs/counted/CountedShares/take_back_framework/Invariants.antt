@@ -9,4 +9,5 @@ invariant-loop-place l = record {
   found : SameFound l.fn.self.found.items l.self.found.items;
   none : AllByRecursion (λ f. HasNone l.framework (counted_in f)) (take l.place l.self.found.items);
   counted : StayCounted l.fn.self l.self;
+  owned : l.self.owned ≡ l.fn.self.owned;
 }

@@ -1,0 +1,132 @@
+//! What agents own enters the shares when their sessions open, and leaves them when these close.
+
+ghost use Rattle.std.specs.Prelude.{◌≡◌, ◌<◌, List, length, set, OnOk};
+ghost use Rattle.agent_sides.specs.Joined.{AreOfOne, join, joined};
+ghost use Rattle.drf_pick.specs.declared.holder.Client.{Client};
+ghost use Rattle.drf_pick.specs.Allocations.{AddUp};
+ghost use Rattle.drf_pick.specs.Shown.{AreCounted, StayCounted, all_owned};
+ghost use Rattle.round_shares.specs.Owned.{AreUpToDate, IsUpToDateAt, LeavesAt, each_owned, owned_of, totals_in};
+
+use drf_pick::CountedShares;
+use offer_book::Account;
+use plain_data::Plain;
+use roster::RosterEntry;
+use std::alloc::{AllocError, Global};
+
+/// An agent leaves whose session closed, or that owns something else than it entered with.
+fn leave_at(
+    counted: &mut CountedShares,
+    alloc: Global,
+    place: usize,
+    entry: &RosterEntry,
+    account: &Account,
+) -> Result<(), AllocError>
+    requires { place < length counted.old.owned.items }
+    ensures left { OnOk result (LeavesAt place (join entry.now account.now)
+        counted.old.owned.items counted.new.owned.items) }
+    ensures counted { OnOk result (StayCounted counted.old counted.new) }
+    ensures found { counted.new.found ≡ counted.old.found }
+{
+    let _sum = counted.shares.totals().rows();
+    let Some(total) = &counted.owned[place] else {
+        return Ok(());
+    };
+    if entry.is_open() && total.is_same(&account.total) {
+        return Ok(());
+    }
+    match counted.shares.leave(alloc, total) {
+        Ok(()) => {}
+        Err(_) => return Err(AllocError),
+    }
+    counted.owned[place] = None;
+    Ok(())
+}
+
+/// The agents leave whose sessions closed, or that own something else than they entered with.
+fn leave_all(
+    counted: &mut CountedShares,
+    alloc: Global,
+    entries: &[RosterEntry],
+    accounts: &[Account],
+) -> Result<(), AllocError>
+    requires one { AreOfOne entries.now accounts.now }
+    requires many { length counted.old.owned.items ≡ length accounts.now }
+    ensures left { OnOk result (AreUpToDate (joined entries.now accounts.now)
+        counted.new.owned.items) }
+    ensures counted { OnOk result (StayCounted counted.old counted.new) }
+    ensures found { counted.new.found ≡ counted.old.found }
+{
+    for place in 0..accounts.len() {
+        leave_at(counted, alloc, place, &entries[place], &accounts[place])?;
+    }
+    Ok(())
+}
+
+/// An agent enters whose session is open, if it hasn't entered.
+fn enter_at(
+    counted: &mut CountedShares,
+    alloc: Global,
+    place: usize,
+    entry: &RosterEntry,
+    account: &Account,
+) -> Result<(), AllocError>
+    requires within { place < length counted.old.owned.items }
+    requires left { IsUpToDateAt place (join entry.now account.now) counted.old.owned.items }
+    ensures entered { OnOk result (counted.new.owned.items
+        ≡ set counted.old.owned.items place (owned_of (join entry.now account.now))) }
+    ensures counted { OnOk result ((cs : List Client) → AddUp (all_owned counted.new.owned.items)
+        → AreCounted cs counted.old → AreCounted cs counted.new) }
+    ensures found { counted.new.found ≡ counted.old.found }
+{
+    if !entry.is_open() || counted.owned[place].is_some() {
+        return Ok(());
+    }
+    let total = account.total.copy()?;
+    match counted.shares.enter(alloc, &total) {
+        Ok(()) => {}
+        Err(_) => return Err(AllocError),
+    }
+    counted.owned[place] = Some(total);
+    Ok(())
+}
+
+/// The agents enter whose sessions are open, if they haven't entered.
+fn enter_all(
+    counted: &mut CountedShares,
+    alloc: Global,
+    entries: &[RosterEntry],
+    accounts: &[Account],
+) -> Result<(), AllocError>
+    requires one { AreOfOne entries.now accounts.now }
+    requires left { AreUpToDate (joined entries.now accounts.now) counted.old.owned.items }
+    requires sums { AddUp (totals_in (joined entries.now accounts.now)) }
+    ensures entered { OnOk result (counted.new.owned.items
+        ≡ each_owned (joined entries.now accounts.now)) }
+    ensures counted { OnOk result (StayCounted counted.old counted.new) }
+    ensures found { counted.new.found ≡ counted.old.found }
+{
+    for place in 0..accounts.len() {
+        enter_at(counted, alloc, place, &entries[place], &accounts[place])?;
+    }
+    Ok(())
+}
+
+/// The shares have what the agents with an open session own, and nothing of others. An agent that
+/// owns the same as in the round before costs a comparison.
+pub(crate) fn own_all(
+    counted: &mut CountedShares,
+    alloc: Global,
+    entries: &[RosterEntry],
+    accounts: &[Account],
+) -> Result<(), AllocError>
+    requires one { AreOfOne entries.now accounts.now }
+    requires many { length counted.old.owned.items ≡ length accounts.now }
+    requires sums { AddUp (totals_in (joined entries.now accounts.now)) }
+    ensures entered { OnOk result (counted.new.owned.items
+        ≡ each_owned (joined entries.now accounts.now)) }
+    ensures counted { OnOk result (StayCounted counted.old counted.new) }
+    ensures found { counted.new.found ≡ counted.old.found }
+{
+    leave_all(counted, alloc, entries, accounts)?;
+    enter_all(counted, alloc, entries, accounts)
+}
