@@ -1,12 +1,12 @@
 -- What an answer leaves, and when a pass accounts for the entries of its seat.
 use Rattle.std.proofs.Common.{◌≡◌, ℕ, ◌+◌, List, [], ◌∷◌, ◌++◌, sym, ap, ◌∙◌, subst, arith, length, length-append, Some, ◌-◌}
-use Rattle.std.specs.Prelude.{slice_get}
+use Rattle.std.specs.Prelude.{slice_get, Result, Ok, Err, IfOk}
 use Rattle.std.proofs.Math.Seq.{get_or-append_seam}
 use Rattle.std.proofs.lemmas.List.{map-append}
 use Rattle.std.proofs.lemmas.Option.{slice_get-get_or}
 use Rattle.desk_seats.specs.declared.desk.pass.Receipt.{Receipt}
-use Rattle.desk_seats.specs.Receipts.{Enters, PassState, StandsIn, numbered, with_receipt}
-use Rattle.desk_seats.specs.Seats.{DeskState, Numbered, entries_of}
+use Rattle.desk_seats.specs.Receipts.{PassState, StandsIn, numbered, with_receipt}
+use Rattle.desk_seats.specs.Seats.{Numbered, entries_of}
 use Rattle.desk_seats.specs.Walked.{Rises}
 use Rattle.desk_seats.proofs.Rows.{seat_count, entries_pushed}
 use Rattle.desk_seats.proofs.Walks.{fits, whole}
@@ -20,15 +20,6 @@ pub pushed_is : {E : Type 0} (p : PassState E) (seat seen next : ℕ) (rs now : 
 pushed_is {E} p seat seen next rs now r was more later =
     let P : PassState E → Type 0 = λ q. pass_of seat next now ≡ with_receipt q r in
     subst P was (ap (λ (xs : List (Receipt E)). pass_of seat next xs) more ∙ ap (λ (n : ℕ). pass_of seat n (rs ++ r ∷ [])) later)
-
--- an entry that was made for a seat, told of the same seat and the same history
-pub enters_as : {C E : Type 0} (history : C → List E) (old mid new : DeskState C) (seat at : ℕ) (r : Receipt E) → Enters history old seat r mid
-    → new.recorded ≡ mid.recorded → new.seats ≡ mid.seats → seat ≡ at → Enters history old at r new
-enters_as {C} history old mid new seat at r e recorded seats same = record {
-  entry = ap history recorded ∙ e.entry;
-  seated = seats ∙ e.seated ∙ ap (λ s. old.seats ++ s ∷ []) same;
-  number = e.number;
-}
 
 -- a pass whose receipts were its seat's entries, after one more of both
 pub stands_more : {E : Type 0} (history more : List E) (seats longer : List ℕ) (p q : PassState E) (r : Receipt E) → StandsIn history seats p
@@ -86,3 +77,8 @@ last_is {A} xs ys y is =
     ∙ ap (λ (zs : List A). slice_get zs (length ys)) is
     ∙ slice_get-get_or (ys ++ y ∷ []) (length ys) y (let l = length-append ys (y ∷ []) in omega arith)
     ∙ ap Some (get_or-append_seam ys y [] y)
+
+-- what three facts of an answer give
+pub if_ok_by : {A F : Type 0} {P Q R S : A → Type 0} (r : Result A F) → IfOk r P → IfOk r Q → IfOk r R → ((a : A) → P a → Q a → R a → S a) → IfOk r S
+if_ok_by (Ok a) p q t f = f a p q t
+if_ok_by (Err e) p q t f = tt

@@ -69,22 +69,6 @@ entry_made entries more seats now_seats counts now total parts seat k some withi
       some_left = k.some_left;
     }
 
--- one answer more is counted, after an entry more
-pub one_counted : {E : Type 0} (before history : List E) (e : E) (seats counts : List ℕ) (total was now parts : ℕ) → IsKept (length history) seats counts total parts
-    → total ≡ was → was ≤ length before → history ≡ before ++ e ∷ [] → now ≡ total + 1 → IsKept (length history) seats counts now parts
-one_counted before history e seats counts total was now parts k same most more up =
-    let grown = ap length more in
-    let one = length-append before (e ∷ []) in
-    record {
-      seated = k.seated;
-      opened = k.opened;
-      from_one = k.from_one;
-      counts_seats = k.counts_seats;
-      counted = omega arith;
-      parts_left = k.parts_left;
-      some_left = k.some_left;
-    }
-
 -- there is room for one entry more in the number of a seat
 pub count_fits : (entries : ℕ) (seats counts : List ℕ) (total parts seat n : ℕ) → IsKept entries seats counts total parts → 0 < seat → seat ≤ length counts
     → entries ≤ 4294967294 → n ≡ get_or counts (seat - 1) n → n + 1 < 4294967296

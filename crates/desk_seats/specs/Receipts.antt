@@ -1,5 +1,5 @@
 -- Receipts, and what answers leave.
-use Rattle.std.specs.Prelude.{◌≡◌, ℕ, ◌+◌, ◌≤◌, List, [], ◌∷◌, ◌++◌, length, map}
+use Rattle.std.specs.Prelude.{◌≡◌, ℕ, ◌+◌, ◌≤◌, ◌<◌, List, [], ◌∷◌, ◌++◌, length, map}
 use Rattle.desk_seats.specs.declared.desk.pass.Answered.{Answered}
 use Rattle.desk_seats.specs.declared.desk.pass.Receipt.{Receipt}
 use Rattle.desk_seats.specs.Seats.{DeskState, Numbered, entries_of}
@@ -36,6 +36,17 @@ pub record Enters {C E : Type 0} (history : C → List E) (old : DeskState C) (s
   pub entry : history new.recorded ≡ history old.recorded ++ r.entry ∷ []
   pub seated : new.seats ≡ old.seats ++ seat ∷ []
   pub number : r.number ≡ length (history old.recorded) + 1
+
+-- a step was taken for a seat that had seen so much, and its answer can be counted
+pub record IsEntered {C S E G : Type 0} (history : C → List E) (step_of : E → S)
+    (takes : C → S → E → G → C → Type 0) (old : DeskState C) (seat seen : ℕ) (step : S)
+    (a : Answered E G) (new : DeskState C) : Type 0 where
+  pub enters : Enters history old seat a.receipt new
+  pub of_step : step_of a.receipt.entry ≡ step
+  pub taken : takes old.recorded step a.receipt.entry a.given new.recorded
+  pub later : seen ≤ a.receipt.number
+  pub level : length old.seats ≡ length (history old.recorded)
+  pub spare : new.total < length (history new.recorded)
 
 -- nothing was entered
 pub record Unchanged {C E : Type 0} (history : C → List E) (alike : C → C → Type 0)

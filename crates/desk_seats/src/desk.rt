@@ -1,7 +1,7 @@
 //! A recorded thing, and the seat of each of its entries.
 
-ghost use Rattle.std.specs.Prelude.{◌≡◌, ◌≤◌, ◌+◌, ◌<◌, ◌↔◌, ◌⊎◌, false, true, [], IsTrue, IfOk, IfErr, OnOk, OnErr, length};
-ghost use Rattle.desk_seats.specs.Receipts.{AnswersBy, Enters, StandsIn, Unchanged};
+ghost use Rattle.std.specs.Prelude.{◌≡◌, ◌≤◌, ◌+◌, ◌<◌, ◌↔◌, ◌⊎◌, ◌++◌, ◌∷◌, false, true, [], IsTrue, IfOk, IfErr, OnOk, OnErr, length, vec_len, vec_capacity};
+ghost use Rattle.desk_seats.specs.Receipts.{AnswersBy, Enters, IsEntered, StandsIn, Unchanged};
 ghost use Rattle.desk_seats.specs.Found.{Counts, IsFound};
 ghost use Rattle.desk_seats.specs.Refused.{IsForeign, MayRefuseCall, MayRefuseSeat, MayRefuseStep, refused_by};
 ghost use Rattle.desk_seats.specs.Seats.{DeskState};
@@ -78,16 +78,6 @@ pub fn refusal<C: Recorded>(fault: C::Fault) -> OfficeFault<C::Fault>
     }
 }
 
-/// A receipt of the same entry, which has one more owner.
-fn shared_receipt<C: Recorded>(receipt: &Receipt<C::Entry>) -> Receipt<C::Entry>
-    ensures { result ≡ receipt.now }
-{
-    Receipt {
-        number: receipt.number,
-        entry: C::share(&receipt.entry),
-    }
-}
-
 impl<C: Recorded, L: ledger::Ledger> Desk<C, L> {
     /// A desk over what has no entries since its opening.
     /// The blank is to be of 4,294,967,296 parts, one for each seat and one for the desk.
@@ -126,12 +116,15 @@ impl<C: Recorded, L: ledger::Ledger> Desk<C, L> {
         self.recorded.len() + 1
     }
 
-    /// Each entry has a seat, and no more answers are counted than there are entries.
-    fn is_counted(&self)
+    /// How many entries there are, the opening counted. Each has a seat, and no more answers are
+    /// counted than there are entries.
+    fn entries(&self) -> u32
+        ensures len { result ≡ length (C.history self.now.recorded) + 1 }
         ensures seated { length self.now.seats ≡ length (C.history self.now.recorded) }
         ensures counted { self.now.total ≤ length (C.history self.now.recorded) }
     {
         let _ = &self.seats;
+        self.len()
     }
 
     /// What is true of every desk, whatever steps it took.
@@ -139,7 +132,7 @@ impl<C: Recorded, L: ledger::Ledger> Desk<C, L> {
         ensures { IsFound C.history C.sound self.now }
     {
         self.recorded.is_sound();
-        self.is_counted();
+        self.entries();
     }
 
     /// A pass of its ledger holds no more answers than are counted. Nothing changes.
@@ -240,6 +233,62 @@ impl<C: Recorded, L: ledger::Ledger> Desk<C, L> {
         }
     }
 
+    /// Counts an answer, of which the receipts get one more. Returns how many entries there are,
+    /// the opening counted. The receipts have room.
+    fn count(
+        &mut self,
+        share: &mut Share<L>,
+        receipts: &mut Vec<Receipt<C::Entry>>,
+        receipt: &Receipt<C::Entry>,
+    ) -> u32
+        requires spare { self.old.total < length (C.history self.old.recorded) }
+        requires backed { 0 < share.old.parts }
+        requires room { vec_len receipts.old < vec_capacity receipts.old }
+        ensures len { result ≡ length (C.history self.old.recorded) + 1 }
+        ensures counted { self.new ≡ record self.old { total = self.old.total + 1 } }
+        ensures amount { share.new.amount ≡ share.old.amount + 1 }
+        ensures parts { share.new.parts ≡ share.old.parts }
+        ensures pushed { receipts.new.items ≡ receipts.old.items ++ receipt.now ∷ [] }
+    {
+        self.book.add(share, 1);
+        receipts.push_reserved(Receipt {
+            number: receipt.number,
+            entry: C::share(&receipt.entry),
+        });
+        self.len()
+    }
+
+    /// Takes a step for a seat that has seen so much of the history, once its receipts have room for
+    /// one more. Refusals: O1 where it has seen more than there is, else those of `apply`.
+    fn enter(
+        &mut self,
+        alloc: Global,
+        seat: u32,
+        seen: u32,
+        receipts: &mut Vec<Receipt<C::Entry>>,
+        step: C::Step,
+    ) -> Result<Answered<C::Entry, C::Given>, OfficeFault<C::Fault>>
+        ensures entered { IfOk result
+            (λ a. IsEntered C.history C.step_of C.takes self.old seat seen step a self.new) }
+        ensures kept { (self.new.opened ≡ self.old.opened) × (self.new.total ≡ self.old.total)
+            × (self.new.finished ≡ self.old.finished) }
+        ensures room { OnOk result (vec_len receipts.new < vec_capacity receipts.new) }
+        ensures same { receipts.new.items ≡ receipts.old.items }
+        ensures unchanged { OnErr result (Unchanged C.history C.alike self.old self.new) }
+        ensures refused { IfErr result
+            (λ fault. MayRefuseCall C.kind_of (λ f. C.may_refuse self.old.recorded step f)
+            (length (C.history self.old.recorded) + 1) self.old.opened seat seen fault) }
+    {
+        let entries = self.entries();
+        if seen > entries {
+            return Err(OfficeFault::ForeignPass(entries));
+        }
+        if receipts.reserve(1).is_err() {
+            return Err(OfficeFault::OutOfMemory);
+        }
+        self.apply(alloc, seat, step)
+    }
+
     /// Answers a call: one entry more with the seat of the pass, which gets its receipt. The
     /// receipt is returned too, with what comes with it. Refusals: O1 for a pass of an unopened
     /// seat or one that has seen more than there is, O2, O3 and O4.
@@ -267,20 +316,13 @@ impl<C: Recorded, L: ledger::Ledger> Desk<C, L> {
             (length (C.history self.old.recorded) + 1) self.old.opened pass.old.seat pass.old.seen
             fault) }
     {
-        self.is_counted();
-        let entries = self.len();
         let Pass { slip, share } = pass;
-        if slip.seen > entries {
-            return Err(OfficeFault::ForeignPass(entries));
+        match self.enter(alloc, slip.seat, slip.seen, &mut slip.receipts, step) {
+            Ok(answered) => {
+                slip.seen = self.count(share, &mut slip.receipts, &answered.receipt);
+                Ok(answered)
+            }
+            Err(fault) => Err(fault),
         }
-        if slip.receipts.reserve(1).is_err() {
-            return Err(OfficeFault::OutOfMemory);
-        }
-        let answered = self.apply(alloc, slip.seat, step)?;
-        slip.seen = self.len();
-        self.book.add(share, 1);
-        slip.receipts
-            .push_reserved(shared_receipt::<C>(&answered.receipt));
-        Ok(answered)
     }
 }

@@ -58,7 +58,7 @@ impl<C: Recorded, L: ledger::Ledger> Desk<C, L> {
     pub(super) fn accounts(&self, slip: &Slip<C::Entry>) -> bool
         ensures { IsTrue result ↔ StandsIn (C.history self.now.recorded) self.now.seats slip.now }
     {
-        self.is_counted();
+        self.entries();
         let receipts = slip.receipts();
         let seat = slip.seat();
         if self.entries_of(seat) != receipts.len() {

@@ -19,7 +19,7 @@ impl<C: Recorded, L: ledger::Ledger> Desk<C, L> {
             ≤ length (C.history self.old.recorded) }
         ensures same { (self.new ≡ self.old) × (passes.new ≡ passes.old) }
     {
-        self.is_counted();
+        self.entries();
         if let Some(all) = &mut passes.share {
             self.book.audit(all);
         }

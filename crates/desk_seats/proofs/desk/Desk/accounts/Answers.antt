@@ -11,7 +11,7 @@ returns-then-entries_of-receipts g c =
     let history = g.C.Recorded.history d.recorded in (
       (λ h. cc),
       (λ stands.
-          let as_many = accounts_as_many history d.seats p c.is_counted.ensures.seated stands in
+          let as_many = accounts_as_many history d.seats p c.entries.ensures.seated stands in
           absurd (c.if-entries_of-receipts.true (c.entries_of.ensures ∙ ap (λ s. seat_count s d.seats) c.seat-seat.ensures ∙ sym as_many ∙ sym (ap length c.receipts-receipts.ensures)))),
     )
 
@@ -25,7 +25,7 @@ returns g c =
     let hs = c.as_slice.ensures.value ∙ ap (λ (x : DeskState g.row.C.Denot). x.seats) c.self.view_is in
     let hr = c.receipts-receipts.ensures in
     let same = c.seat-seat.ensures in
-    let level = c.is_counted.ensures.seated in
+    let level = c.entries.ensures.seated in
     let as_many = sym (ap length hr) ∙ sym c.if-entries_of-receipts.false ∙ c.entries_of.ensures ∙ ap (λ s. seat_count s d.seats) same in (
       (λ t. accounts_yes history d.seats p level as_many
           (rises_as history es d.seats c.as_slice.result.now p c.receipts-receipts.result.now c.seat-seat.result he hs hr same (c.rise.ensures.0 t))),
