@@ -15,6 +15,7 @@ use crate::keeper::Keeper;
 use keep_rows::KeepFault;
 use record_saves::fault::fault_of;
 use sqlite::{Alter, Connection, Error, FileFrom, FileStore, Start, Unknown};
+use sqlite_disk::Disk;
 
 /// The keeper over a connection, where it was opened.
 /// Of one that isn't adopted only the reason is left.
@@ -49,6 +50,24 @@ fn keeper_over<S: Alter + Drop>(
     }
 }
 
+/// The keeper over a connection to files, where it was opened. That a store over files is a store
+/// is proved here for every disk, which is cheaper than for the files of `open_from`.
+fn files_keeper_over<D: Disk + Drop>(
+    opened: Result<Connection<FileStore<D>>, Error>,
+) -> Result<Keeper<FileStore<D>>, KeepFault>
+    ensures ready { IfOk result (λ keeper. HasCleanDisk (file_state keeper)
+        → IsReady (file_state keeper)) }
+    ensures found { IfOk result (λ keeper. HasCleanDisk (file_state keeper)
+        → (conn : _) × (opened ≡ Ok conn) × HasCleanDisk (file_state conn)
+        × ((file_state conn).now.schema ≢ no_schema
+        → (file_state conn).now.schema ≢ first_schema
+        → (file_state conn).now.schema ≢ second_schema
+        → (file_state keeper).now ≡ (file_state conn).now)) }
+    ensures unspent { IfErr result (λ e. e ≢ KeepFault.RunsSpent) }
+{
+    keeper_over(opened)
+}
+
 impl<S: Start> Keeper<FileStore<FileFrom<S>>> {
     /// Opens the files at a path, or makes them. `S` represents what they hold,
     /// and `start` is its value. Refusals are those of `adopt`.
@@ -64,7 +83,7 @@ impl<S: Start> Keeper<FileStore<FileFrom<S>>> {
             → (file_state keeper).now.trees ≡ db) }
         ensures unspent { IfErr result (λ e. e ≢ KeepFault.RunsSpent) }
     {
-        keeper_over(connect(rt, path, start))
+        files_keeper_over(connect(rt, path, start))
     }
 }
 

@@ -10,7 +10,7 @@ then : {X Y : Type 0} (r : Result X Y) {P Q : X → Type 0} → IfOk r P → ((x
 then r {P} {Q} h f = IfOk-weaker r P Q f h
 
 pub returns-clause-found : goal.returns-clause-found
-returns-clause-found g c = then c.keeper_over.result c.keeper_over.ensures.found (λ keeper read_back clean db holds ours.
+returns-clause-found g c = then c.files_keeper_over.result c.files_keeper_over.ensures.found (λ keeper read_back clean db holds ours.
     let over = read_back clean in
     let conn = over.0 in
     let opened = IfOk-at_ok _ over.1 c.connect.ensures.opened over.2 in
