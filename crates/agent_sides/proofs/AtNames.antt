@@ -1,7 +1,7 @@
 -- What is told of a name is the same of the roster, of the book and of the sides.
 use Rattle.std.proofs.Common.{◌≡◌, ℕ, Bool, true, false, cond, List, [], ◌∷◌, ◌++◌, flat_map, refl, sym, ap, ◌∙◌, bytes_eq}
 use Rattle.cluster_model.specs.Sides.{Side}
-use Rattle.offer_book.specs.declared.account.Account.{Account}
+use Rattle.agent_accounts.specs.Accounts.{Account}
 use Rattle.agent_sides.specs.Joined.{AreOfOne, join, joined}
 use Rattle.agent_sides.specs.Looks.{value_of}
 use Rattle.agent_sides.specs.ByName.{value_by}

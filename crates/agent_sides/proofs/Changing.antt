@@ -14,8 +14,8 @@ use Rattle.cluster_model.specs.Sides.{Run as ModelRun, Side, counts, received, l
 use Rattle.agent_sides.specs.Looks.{is_session}
 use Rattle.cluster_model.specs.Mails.{judged_session}
 use Rattle.roster.specs.Sessions.{after_applied, after_report, newly, answered, judged_report, report_opens, reported, with_command}
-use Rattle.offer_book.specs.declared.account.Account.{Account}
-use Rattle.offer_book.specs.Accounts as accounts
+use Rattle.agent_accounts.specs.Accounts.{Account}
+use Rattle.agent_accounts.specs.Accounts as accounts
 use Rattle.offer_book.specs.Books.{entered, entered_at, is_named_so}
 use Rattle.offer_book.specs.declared.fault.BookFault.{BookFault}
 use Rattle.offer_book.specs.declared.fault.BookFault.TheVariants.{Twice}

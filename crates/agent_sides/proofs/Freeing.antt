@@ -4,8 +4,8 @@ use Rattle.std.specs.List.{AllByRecursion}
 use Rattle.quantity.specs.Rows.{AreRows}
 use Rattle.cluster_model.specs.Sides.{Side}
 use Rattle.cluster_model.specs.Rounds.{free}
-use Rattle.offer_book.specs.Accounts as accounts
-use Rattle.offer_book.specs.declared.account.Account.{Account}
+use Rattle.agent_accounts.specs.Accounts as accounts
+use Rattle.agent_accounts.specs.Accounts.{Account}
 use Rattle.roster.specs.Places.{value_at}
 use Rattle.agent_sides.specs.Free.{open_part}
 use Rattle.agent_sides.specs.Joined.{join, joined}

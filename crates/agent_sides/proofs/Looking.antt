@@ -8,7 +8,7 @@ use Rattle.cluster_model.specs.Sides.{Side}
 use Rattle.cluster_model.specs.Masters.{may_have_numbers, placed_on}
 use Rattle.roster.specs.Places.{at_place, place_of, value_at}
 use Rattle.roster.specs.Sessions.{issued_number}
-use Rattle.offer_book.specs.declared.account.Account.{Account}
+use Rattle.agent_accounts.specs.Accounts.{Account}
 use Rattle.offer_book.specs.Books.{booked_count}
 use Rattle.offer_book.specs.Held as held
 use Rattle.agent_sides.specs.Joined.{AreOfOne, join, joined}

@@ -7,8 +7,8 @@ use Rattle.quantity.specs.Rows.{plus_rows}
 use Rattle.cluster_model.specs.Ids.{is_empty, is_repeated}
 use Rattle.cluster_model.specs.Sides.{Side, is_good, offer_rows}
 use Rattle.cluster_model.specs.Masters.{has_numbers}
-use Rattle.offer_book.specs.declared.account.Account.{Account}
-use Rattle.offer_book.specs.Accounts as accounts
+use Rattle.agent_accounts.specs.Accounts.{Account}
+use Rattle.agent_accounts.specs.Accounts as accounts
 use Rattle.agent_sides.specs.Joined.{AreOfOne, join, joined}
 use Rattle.agent_sides.specs.Own.{GoodOffers, good_account, good_offers, holding, holding_of, lacks_numbers, names_with_tasks, sides_with_tasks, sum_on}
 

@@ -10,8 +10,8 @@ use Rattle.cluster_model.specs.Ids.{is_repeated}
 use Rattle.cluster_model.specs.Sides.{Side}
 use Rattle.id_spans.specs.Spans.{IsSpan}
 use Rattle.id_spans.proofs.Spans.{any_part, spans_narrower}
-use Rattle.offer_book.specs.declared.account.Account.{Account}
-use Rattle.offer_book.specs.Accounts.{are_good, has_key, has_offer, is_offered_as}
+use Rattle.agent_accounts.specs.Accounts.{Account}
+use Rattle.agent_accounts.specs.Accounts.{are_good, has_key, has_offer, is_offered_as}
 use Rattle.offer_book.specs.ById.{has_offer_as, has_task_as}
 use Rattle.offer_book.specs.Held.{all_placed, place, placed_on}
 use Rattle.agent_sides.specs.Joined.{AreOfOne}

@@ -4,7 +4,7 @@ use Rattle.std.specs.List.{list_any}
 use Rattle.names_core.specs.Ids.{Numbered}
 use Rattle.mails.specs.declared.task.Booked.{Booked}
 use Rattle.cluster_model.specs.Masters.{Placed}
-use Rattle.offer_book.specs.Accounts.{has_key}
+use Rattle.agent_accounts.specs.Accounts.{has_key}
 use Rattle.offer_book.specs.Held.{place}
 use Rattle.agent_sides.specs.Looks.{is_received_last}
 

@@ -5,7 +5,7 @@ use Rattle.mails.specs.declared.mail.MasterMail.{MasterMail}
 use Rattle.mails.specs.declared.mail.MasterMail.TheVariants.{Hello, Issued}
 use Rattle.mails.specs.declared.mail.ToAgent.{ToAgent}
 use Rattle.cluster_model.specs.Sides.{Side}
-use Rattle.offer_book.specs.declared.account.Account.{Account}
+use Rattle.agent_accounts.specs.Accounts.{Account}
 
 -- what `field` returns for the first account of a name, or `none` where there is none
 abbrev pub value_by : {X : Type 0} → List ℕ → (Account → X) → X → List Account → X

@@ -3,7 +3,7 @@ use Rattle.std.specs.Prelude.{◌≡◌, ℕ, zero, suc, true, false, List, [], 
 use Rattle.std.specs.List.{AllByRecursion}
 use Rattle.cluster_model.specs.Ids.{is_repeated}
 use Rattle.cluster_model.specs.Sides.{Side}
-use Rattle.offer_book.specs.declared.account.Account.{Account}
+use Rattle.agent_accounts.specs.Accounts.{Account}
 use Rattle.agent_sides.specs.Configs.{are_ordered}
 
 -- the side of an agent: its session from the roster; what it owns,

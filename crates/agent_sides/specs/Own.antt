@@ -8,8 +8,8 @@ use Rattle.mails.specs.declared.task.Booked.{Booked}
 use Rattle.cluster_model.specs.Sides.{Side, is_good, offer_rows, used_offers}
 use Rattle.cluster_model.specs.Masters.{has_numbers}
 use Rattle.cluster_model.specs.Calls.{has_tasks_of}
-use Rattle.offer_book.specs.declared.account.Account.{Account}
-use Rattle.offer_book.specs.Accounts as accounts
+use Rattle.agent_accounts.specs.Accounts.{Account}
+use Rattle.agent_accounts.specs.Accounts as accounts
 pub use Rattle.agent_sides.specs.declared.own.GoodOffers.{GoodOffers}
 
 -- an agent with its offers and booked tasks

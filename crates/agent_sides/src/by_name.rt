@@ -11,10 +11,10 @@ ghost use Rattle.agent_sides.specs.Looks.{at_name, value_of};
 ghost use Rattle.agent_sides.specs.ByName.{again_of, mails_at_tick, value_by};
 
 use crate::sides::Sides;
+use agent_accounts::{Account, TaskUpdate};
 use listed::Listed;
 use mails::{Booked, MasterMail, MasterRefusal, Offer, ToAgent};
 use names_core::{AgentName, Run};
-use offer_book::{Account, TaskUpdate};
 use plain_data::Plain;
 use quantity::Resources;
 use roster::{RosterEntry, RosterFault};
@@ -122,8 +122,8 @@ fn offers_of<'a>(accounts: &'a [Account], name: &AgentName) -> &'a [Offer]
     ensures { result.now ≡ value_by name.now (λ a. a.offers) [] accounts.now }
 {
     for account in accounts {
-        if account.name.is(name) {
-            return account.offers.as_slice();
+        if account.name().is(name) {
+            return account.offers().as_slice();
         }
     }
     &[]
@@ -133,8 +133,8 @@ fn tasks_of<'a>(accounts: &'a [Account], name: &AgentName) -> &'a [Booked]
     ensures { result.now ≡ value_by name.now (λ a. a.booked) [] accounts.now }
 {
     for account in accounts {
-        if account.name.is(name) {
-            return account.booked.as_slice();
+        if account.name().is(name) {
+            return account.booked().as_slice();
         }
     }
     &[]

@@ -8,8 +8,8 @@ ghost use Rattle.agent_sides.specs.Free.{open_part};
 ghost use Rattle.agent_sides.specs.Joined.{AreOfOne, joined};
 
 use crate::sides::Sides;
+use agent_accounts::Account;
 use names_core::AgentName;
-use offer_book::Account;
 use quantity::Resources;
 use roster::RosterEntry;
 use std::alloc::{AllocError, Global};
@@ -42,7 +42,7 @@ fn open_part_in<'a>(
 fn own_rows(account: &Account)
     ensures { AreRows account.now.total }
 {
-    let _rows = account.total.rows();
+    let _total = account.total();
 }
 
 fn all_own_rows(accounts: &[Account])

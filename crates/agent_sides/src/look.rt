@@ -10,10 +10,10 @@ ghost use Rattle.offer_book.specs.Held.{all_placed, place, placed_on};
 ghost use Rattle.roster.specs.Places.{value_at};
 ghost use Rattle.agent_sides.specs.Looks.{is_received_last, is_session};
 
+use agent_accounts::Account;
 use id_spans::Span;
 use mails::Booked;
 use names_core::{AgentName, FrameworkId, LaunchKey, TaskName};
-use offer_book::Account;
 use roster::RosterEntry;
 
 /// Whether the agent at a place has an open session.
@@ -159,8 +159,8 @@ fn is_received_last_on(
     ensures { result ≡ list_any (is_received_last framework agent.now name.now key k)
         (placed_on account.now) }
 {
-    let tasks = account.booked.part_of(key);
-    any_received_last(tasks, &account.name, framework, agent, name, key, k)
+    let tasks = account.booked().part_of(key);
+    any_received_last(tasks, account.name(), framework, agent, name, key, k)
 }
 
 fn any_account_received_last(

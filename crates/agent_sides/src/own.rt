@@ -7,7 +7,7 @@ ghost use Rattle.quantity.specs.Rows.{AreRows};
 ghost use Rattle.cluster_model.specs.Sides.{without_used};
 ghost use Rattle.cluster_model.specs.Masters.{has_numbers};
 ghost use Rattle.id_spans.specs.Spans.{IsSpan};
-ghost use Rattle.offer_book.specs.Accounts.{are_good};
+ghost use Rattle.agent_accounts.specs.Accounts.{are_good};
 ghost use Rattle.roster.specs.Places.{at_place};
 ghost use Rattle.agent_sides.specs.Joined.{AreOfOne};
 ghost use Rattle.agent_sides.specs.Looks.{at_name};
@@ -15,10 +15,11 @@ ghost use Rattle.agent_sides.specs.Own.{good_account, good_offers, holding, hold
 
 use crate::placed;
 use crate::sides::Sides;
+use agent_accounts::Account;
 use id_spans::Span;
 use listed::Listed;
 use names_core::{AgentName, FrameworkId, OfferId};
-use offer_book::{Account, OfferBook};
+use offer_book::OfferBook;
 use plain_data::Plain;
 use quantity::Resources;
 use roster::RosterEntry;
@@ -44,7 +45,7 @@ fn good_account<'a>(
     let mut rest = accounts;
     for entry in entries {
         let (account, others) = rest.split_first()?;
-        if entry.is_open() && account.offers.are_good(framework, ids) {
+        if entry.is_open() && account.offers().are_good(framework, ids) {
             return Some(account);
         }
         rest = others;
@@ -89,7 +90,7 @@ fn lacks_numbers(entries: &[RosterEntry], accounts: &[Account], framework: Frame
         let Some((account, others)) = rest.split_first() else {
             return false;
         };
-        if account.booked.has_tasks_of(framework) && !entry.has_numbers(1) {
+        if account.booked().has_tasks_of(framework) && !entry.has_numbers(1) {
             return true;
         }
         rest = others;
@@ -105,8 +106,8 @@ fn push_if_has_tasks(
 ) -> Result<(), AllocError>
     ensures { OnOk result (names.new ≡ names.old ++ names_with_tasks framework (account.now ∷ [])) }
 {
-    if account.booked.has_tasks_of(framework) {
-        names.push(account.name.copy()?)?;
+    if account.booked().has_tasks_of(framework) {
+        names.push(account.name().copy()?)?;
     }
     Ok(())
 }
@@ -150,7 +151,7 @@ impl Sides {
         let Some(account) = good_account_at(entries, accounts, span, framework, ids) else {
             return Ok(None);
         };
-        let agent = account.name.copy()?;
+        let agent = account.name().copy()?;
         let sum = account.named_sum(alloc, framework, ids)?;
         let _rows = sum.rows();
         Ok(Some(GoodOffers { agent, sum }))

@@ -1,13 +1,14 @@
 //! Changes of the book at the places of the roster's agents.
 
 ghost use Rattle.std.specs.Prelude.{◌≡◌, ◌<◌};
-ghost use Rattle.offer_book.specs.Accounts.{after_commands, receiving, reopened, without_named};
+ghost use Rattle.agent_accounts.specs.Accounts.{after_commands, receiving, reopened, without_named};
 ghost use Rattle.agent_sides.specs.Joined.{Fit, at_place};
 
+use agent_accounts::TaskUpdate;
 use listed::Listed;
 use mails::{Booked, Command};
 use names_core::{FrameworkId, OfferId};
-use offer_book::{OfferBook, TaskUpdate};
+use offer_book::OfferBook;
 use quantity::Resources;
 use roster::RosterEntry;
 use std::alloc::Global;

@@ -19,10 +19,11 @@ ghost use Rattle.agent_sides.specs.Looks.{all_placed, at_name, is_received_last,
 use crate::config::{Config, ConfiguredAgent};
 use crate::in_order::place_in;
 use crate::{look, placed};
+use agent_accounts::{TaskUpdate, ids_name_offers};
 use listed::Listed;
 use mails::{Booked, Command, MasterRefusal};
 use names_core::{AgentName, FrameworkId, LaunchKey, OfferId, Run, TaskName};
-use offer_book::{OfferBook, TaskUpdate, ids_name_offers};
+use offer_book::OfferBook;
 use plain_data::Plain;
 use quantity::Resources;
 use roster::{Roster, RosterFault};

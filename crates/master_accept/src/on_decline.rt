@@ -10,11 +10,11 @@ ghost use Rattle.agent_sides.specs.Own.{holding_of};
 ghost use Rattle.master_state.specs.Works.{Gave, master_of};
 ghost use Rattle.master_accept.specs.Declines.{refuses_each, refuses_id, refuses_if_own, refuses_on};
 
+use agent_accounts::Account;
 use frameworks::Frameworks;
 use mails::Offer;
 use master_state::{MasterFault, State};
 use names_core::{AgentName, FrameworkId, OfferId, StreamId};
-use offer_book::Account;
 use std::alloc::{AllocError, Global};
 
 /// Who refuses, at which moment, and for how many seconds.
@@ -65,8 +65,8 @@ fn refuse_on(
     ensures { OnOk result (frameworks.new ≡ refuses_on by.now id frameworks.old
         (holding_of account.now)) }
 {
-    for offer in account.offers.as_slice() {
-        refuse_if_own(frameworks, alloc, by, id, &account.name, offer)?;
+    for offer in account.offers().as_slice() {
+        refuse_if_own(frameworks, alloc, by, id, account.name(), offer)?;
     }
     Ok(())
 }

@@ -10,11 +10,11 @@ ghost use Rattle.master_state.specs.Works.{Gave, master_of};
 ghost use Rattle.master_calls.specs.Reconciles.{gathers, gathers_all, gathers_on, reconciled, reconciled_as, reconciled_one, sends_held};
 
 use crate::on_kill::{HeldTask, copy_held, held_of};
+use agent_accounts::Account;
 use agent_sides::Sides;
 use mails::{Booked, ReconciledTask};
 use master_state::{MasterFault, State};
 use names_core::{AgentName, FrameworkId, LaunchKey, StreamId, TaskState};
-use offer_book::Account;
 use plain_data::Plain;
 use std::alloc::{AllocError, Global};
 use std::collections::BTreeMap;
@@ -137,8 +137,8 @@ fn gather_on(
     ensures { OnOk result (live.new.entries
         ≡ gathers_on framework live.old.entries (holding_of account.now)) }
 {
-    let tasks = account.booked.of_framework(alloc, framework)?;
-    gather_tasks(live, alloc, framework, &account.name, &tasks)
+    let tasks = account.booked().of_framework(alloc, framework)?;
+    gather_tasks(live, alloc, framework, account.name(), &tasks)
 }
 
 fn gather_each(

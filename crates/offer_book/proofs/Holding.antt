@@ -3,7 +3,7 @@ use Rattle.std.proofs.Common.{◌≡◌, ℕ, Bool, true, false, cond, List, [],
 use Rattle.names_core.specs.Ids.{Numbered}
 use Rattle.mails.specs.declared.task.Booked.{Booked}
 use Rattle.cluster_model.specs.Masters.{Placed, is_task_of, first_placed}
-use Rattle.offer_book.specs.Accounts.{Account}
+use Rattle.agent_accounts.specs.Accounts.{Account}
 use Rattle.offer_book.specs.Held.{place, all_placed, held, is_of_name, first_at, first_in, first_of}
 
 -- tasks of one account, before others

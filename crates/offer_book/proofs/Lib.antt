@@ -1,9 +1,7 @@
-pub mod Taking
 pub mod Places
-pub mod Summing
 pub mod Holding
-pub mod Adding
 pub mod Named
 pub mod Refusing
 pub mod Parts
 pub mod Staying
+pub mod ByName

@@ -9,7 +9,7 @@ use Rattle.mails.specs.declared.task.Booked.{Booked}
 use Rattle.mails.specs.declared.mail.Command.{Command}
 use Rattle.mails.specs.declared.mail.Command.TheVariants.{Launch, Kill, Ack, EndFramework}
 use Rattle.cluster_model.specs.Sides.{received_update, forget, forget_all}
-use Rattle.offer_book.specs.Accounts.{Account, with_task, with_ended, without_key, receiving, after_commands, ended, has_key}
+use Rattle.agent_accounts.specs.Accounts.{Account, with_task, with_ended, without_key, receiving, after_commands, ended, has_key}
 use Rattle.offer_book.specs.Books.{at_first, is_booked}
 use Rattle.cluster_model.specs.Masters.{Placed, first_placed}
 use Rattle.offer_book.specs.Held.{place, is_of_name, first_at, first_at_key, first_in, first_in_key, first_of, first_of_key}

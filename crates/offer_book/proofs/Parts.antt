@@ -13,7 +13,7 @@ use Rattle.cluster_model.specs.Sides.{is_named}
 use Rattle.cluster_model.specs.Masters.{Placed, is_of}
 use Rattle.id_spans.specs.Spans.{IsSpan}
 use Rattle.id_spans.proofs.Spans.{all_kept, any_part}
-use Rattle.offer_book.specs.Accounts.{Account, ended, has_key, is_offered_as, with_ended, without_key, without_named, without_offer}
+use Rattle.agent_accounts.specs.Accounts.{Account, ended, has_key, is_offered_as, with_ended, without_key, without_named, without_offer}
 use Rattle.offer_book.specs.Books.{is_booked, is_offered}
 use Rattle.offer_book.specs.ById.{has_offer_as, has_task_as}
 use Rattle.offer_book.specs.Found.{made_or, offer_of, placed_or, task_of}

@@ -6,7 +6,7 @@ use Rattle.std.proofs.lemmas.List.Folds.{find_at}
 use Rattle.std.proofs.lemmas.List.Quantifiers.{position-Some}
 use Rattle.std.proofs.lemmas.Bool.{ltb-false}
 use Rattle.std.proofs.lemmas.List.{get_or_default}
-use Rattle.offer_book.specs.Accounts.{Account}
+use Rattle.agent_accounts.specs.Accounts.{Account}
 use Rattle.offer_book.specs.Books.{at_first}
 
 -- the first place at which a test passes

@@ -4,9 +4,13 @@ use Rattle.std.specs.List.{find}
 use Rattle.quantity.specs.declared.rows.Row.{Row}
 use Rattle.mails.specs.declared.task.Offer.{Offer}
 use Rattle.mails.specs.declared.task.Booked.{Booked}
-use Rattle.offer_book.specs.Accounts.{Account, new_account, fits, with_offer, with_task}
+use Rattle.agent_accounts.specs.Accounts.{Account, new_account, fits, with_offer, with_task}
 use Rattle.offer_book.specs.Books.{at_first, is_named_so, is_agent, agent_of, entered_at, entered, changed_at, changed, offered_at, offered, booked_at, booked, is_offered, is_booked}
 use Rattle.offer_book.specs.declared.fault.BookFault.{BookFault}
+use Rattle.task_names.specs.declared.names.Names.{Names}
+use Rattle.task_names.specs.Named.{IsNamed}
+use Rattle.offer_book.specs.Named.{AreAllNamed}
+use Rattle.offer_book.proofs.Named.{all_at_first, task_keeps}
 
 module _ (Holds : List Account → Type 0) (as_ new : List Account) where
   -- what a test lets through
@@ -56,3 +60,8 @@ module _ (Holds : List Account → Type 0) (as_ new : List Account) where
   pub settled : {T E : Type 0} {P : Type 0} (result : Result T E) → (P → Holds new) → Holds as_ → OnOk result P → OnErr result (new ≡ as_) → Holds new
   settled (Ok x) step holds ok err = step ok
   settled (Err e) step holds ok err = subst Holds (sym err) holds
+
+-- the names of all tasks are among some names where they were and, once a task is booked, its name is too
+pub named_booked : {T E : Type 0} (names : Names) (as_ new : List Account) (name : List ℕ) (b : Booked) (result : Result T E) → OnOk result (booked name b as_ ≡ Ok new) → OnErr result (new ≡ as_) → OnOk result (IsNamed names b) → AreAllNamed names as_ → AreAllNamed names new
+named_booked names as_ new name b (Ok x) ok err is are = after_booking (AreAllNamed names) as_ new name b (all_at_first names (is_agent name) (with_task b) (task_keeps names b is) as_ are) ok
+named_booked names as_ new name b (Err e) ok err is are = subst (AreAllNamed names) (sym err) are

@@ -12,7 +12,7 @@ use Rattle.id_places.specs.Places.{AreAt}
 use Rattle.id_places.specs.Holders.{ArePlaced}
 use Rattle.offer_book.specs.Books.{at_first}
 use Rattle.booked_tasks.specs.Tasks.{key_of}
-use Rattle.offer_book.specs.Accounts.{Account, after_commands, ended, has_key, receiving, with_ended, without_key}
+use Rattle.agent_accounts.specs.Accounts.{Account, after_commands, ended, has_key, receiving, with_ended, without_key}
 use Rattle.id_places.proofs.Holding.{StaysPlaced, at_filter, at_map}
 
 abbrev pub offers_on : Account → List Offer

@@ -1,5 +1,5 @@
 -- What a book has of all agents, and what its calls do.
-use Rattle.std.specs.Prelude.{ℕ, Bool, ◌&&◌, if◌then◌else◌, List, [], ◌∷◌, ◌++◌, map, flat_map, length, Option, Some, None, Result, Ok, Err, bytes_eq}
+use Rattle.std.specs.Prelude.{ℕ, Bool, if◌then◌else◌, List, [], ◌∷◌, ◌++◌, map, flat_map, length, Option, Some, None, Result, Ok, Err, bytes_eq}
 use Rattle.std.specs.List.{list_any, find}
 use Rattle.names_core.specs.Ids.{Numbered}
 use Rattle.quantity.specs.declared.rows.Row.{Row}
@@ -7,13 +7,10 @@ use Rattle.mails.specs.declared.task.Offer.{Offer}
 use Rattle.mails.specs.declared.task.Booked.{Booked}
 use Rattle.mails.specs.declared.mail.Command.{Command}
 use Rattle.booked_tasks.specs.declared.tasks.TaskUpdate.{TaskUpdate}
-use Rattle.offer_book.specs.Accounts.{Account, new_account, dropped, free, fits, with_offer, without_offer, with_task, is_offered_as, has_key, with_ended, without_key, reopened, receiving, after_commands, without_named}
+use Rattle.agent_accounts.specs.Accounts.{Account, new_account, dropped, free, fits, with_offer, without_offer, with_task, is_offered_as, has_key, with_ended, without_key, reopened, receiving, after_commands, without_named}
+pub use Rattle.agent_accounts.specs.Accounts.{is_agent}
 use Rattle.offer_book.specs.declared.fault.BookFault.{BookFault}
 use Rattle.offer_book.specs.declared.fault.BookFault.TheVariants.{Unknown, NoRoom, Twice}
-
--- the account is of the agent of this name, and the agent is in
-abbrev pub is_agent : List ℕ → Account → Bool
-is_agent name a = a.is_in && bytes_eq a.name name
 
 abbrev pub is_named_so : List ℕ → Account → Bool
 is_named_so name a = bytes_eq a.name name

@@ -6,7 +6,7 @@ use Rattle.mails.specs.declared.task.Offer.{Offer}
 use Rattle.mails.specs.declared.task.Booked.{Booked}
 use Rattle.cluster_model.specs.Masters.{Placed}
 use Rattle.cluster_model.specs.Events.{MadeOffer}
-use Rattle.offer_book.specs.Accounts.{Account, is_offered_as, has_key}
+use Rattle.agent_accounts.specs.Accounts.{Account, is_offered_as, has_key}
 use Rattle.offer_book.specs.Held.{place}
 
 abbrev pub made : List ℕ → Offer → MadeOffer

@@ -3,7 +3,7 @@ use Rattle.std.specs.Prelude.{ℕ, Bool, ◌&&◌, if◌then◌else◌, List, ma
 use Rattle.names_core.specs.Ids.{Numbered, same}
 use Rattle.mails.specs.declared.task.Booked.{Booked}
 use Rattle.cluster_model.specs.Masters.{Placed, first_placed, held_among}
-use Rattle.offer_book.specs.Accounts.{Account, has_key}
+use Rattle.agent_accounts.specs.Accounts.{Account, has_key}
 
 abbrev pub place : List ℕ → Booked → Placed
 place agent b = record { agent = agent; booked = b }

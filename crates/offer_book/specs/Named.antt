@@ -2,7 +2,7 @@
 use Rattle.std.specs.Prelude.{List}
 use Rattle.task_names.specs.declared.names.Names.{Names}
 use Rattle.task_names.specs.Named.{HaveNamed}
-use Rattle.offer_book.specs.Accounts.{Account}
+use Rattle.agent_accounts.specs.Accounts.{Account}
 
 -- the names of all booked tasks are among these, with their keys
 abbrev pub AreAllNamed : Names → List Account → Type 0

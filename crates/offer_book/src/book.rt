@@ -1,37 +1,40 @@
 //! The book of all agents.
 
-ghost use Rattle.std.specs.Prelude.{◌≡◌, ◌<◌, ℕ, List, [], ◌∷◌, Ok, map, option_map, OnOk, OnErr, IfOk, IfErr};
+ghost use Rattle.std.specs.Prelude.{◌≡◌, ◌<◌, ℕ, List, [], ◌∷◌, ◌++◌, Ok, map, option_map, OnOk, OnErr, IfOk, IfErr};
 ghost use Rattle.std.specs.List.{position};
 ghost use Rattle.names_core.specs.Ids.{Numbered};
+ghost use Rattle.mails.specs.declared.task.Booked.{Booked};
 ghost use Rattle.id_spans.specs.Spans.{IsSpan};
-ghost use Rattle.offer_book.specs.Accounts.{without_offer, with_ended, without_key, without_offers_of, without_named};
-ghost use Rattle.offer_book.specs.Books.{is_agent, is_named_so, is_offered, is_booked, booked_count, entered, dropped_from, reopened_on, received_on, applied_on, withdrawn_on, free_of, offered, booked, withdrawn, task_ended, forgotten};
+ghost use Rattle.agent_accounts.specs.Accounts.{without_offer, with_ended, without_key, without_offers_of, without_named};
+ghost use Rattle.offer_book.specs.Books.{is_offered, is_booked, booked_count, entered, dropped_from, reopened_on, received_on, applied_on, withdrawn_on, free_of, offered, booked, withdrawn, task_ended, forgotten};
 ghost use Rattle.offer_book.specs.Held.{place, held, first_of_key};
+ghost use Rattle.offer_book.specs.ByName.{AreNamesOf};
 ghost use Rattle.offer_book.specs.ById.{AreOffersPlaced, AreTasksPlaced, has_offer_as, has_task_as};
 ghost use Rattle.offer_book.specs.Found.{made, offer_of, task_of};
-ghost use Rattle.task_names.specs.Named.{IsNamed};
+ghost use Rattle.task_names.specs.Named.{IsNamed, Keeps};
 ghost use Rattle.offer_book.specs.Named.{AreAllNamed};
 ghost use Rattle.offer_book.specs.Faults.{IsRefusal, IsDue};
 
-use crate::account::Account;
 use crate::fault::BookFault;
-use crate::{by_id, held};
-use booked_tasks::TaskUpdate;
+use crate::{by_id, by_name, held, names};
+use agent_accounts::{Account, TaskUpdate};
 use id_places::Places;
 use id_spans::Span;
+use indexmap::IndexSet;
 use listed::Listed;
 use mails::{Booked, Command, Offer};
 use names_core::{AgentName, FrameworkId, LaunchKey, OfferId, TaskName};
 use quantity::Resources;
 use std::alloc::Global;
 use std::marker::Model;
-use task_names::{Keys, Names};
+use task_names::Names;
 
 /// Agents' totals, current offers and booked tasks: an account for each agent that ever entered,
 /// in order of first entering. An account keeps its place.
-#[derive(Drop)]
 pub struct OfferBook {
     accounts: Vec<Account>,
+    /// The agents' names, each at the place of its account.
+    agents: IndexSet<String>,
     /// Among these are the names of all booked tasks.
     names: Names,
     /// By its id, the place of the account that an offer is in.
@@ -40,59 +43,51 @@ pub struct OfferBook {
     tasks_at: Places,
 }
 
+// By hand, so that who drops one goes through none of its parts.
+impl Drop for OfferBook {
+    fn drop(self) {
+        let OfferBook {
+            accounts: _,
+            agents: _,
+            names: _,
+            offers_at: _,
+            tasks_at: _,
+        } = self;
+    }
+}
+
 impl Model for OfferBook {
     ghost use Rattle.std.specs.Prelude.{List};
-    ghost use Rattle.offer_book.specs.declared.account.Account.{Account};
+    ghost use Rattle.agent_accounts.specs.Accounts.{Account};
     ghost use Rattle.offer_book.specs.ById.{AreKept};
 
     ghost Value = { List Account };
 
     ghost view = { λ book. book.accounts.items };
 
-    ghost invariant = { λ book. AreKept book.names book.offers_at book.tasks_at
+    ghost invariant = { λ book. AreKept book.agents book.names book.offers_at book.tasks_at
         book.accounts.items };
 }
 
-fn place_of(accounts: &[Account], name: &AgentName) -> Option<usize>
-    ensures { result ≡ position (is_agent name.now) accounts.now }
-{
-    accounts.iter().position(|account| account.is_agent(name))
-}
-
-fn place_named(accounts: &[Account], name: &AgentName) -> Option<usize>
-    ensures { result ≡ position (is_named_so name.now) accounts.now }
-{
-    accounts.iter().position(|account| account.name.is(name))
-}
-
-fn is_offered(accounts: &[Account], id: OfferId) -> bool
-    ensures { result ≡ is_offered id accounts.now }
-{
-    accounts.iter().any(|account| account.offers.is_offered(id))
-}
-
-fn is_booked(accounts: &[Account], key: LaunchKey) -> bool
-    ensures { result ≡ is_booked key accounts.now }
-{
-    accounts.iter().any(|account| account.booked.is_booked(key))
-}
-
 fn enter(
+    agents: &mut IndexSet<String>,
     accounts: &mut Vec<Account>,
     alloc: Global,
     name: AgentName,
     total: Resources,
 ) -> Result<(), BookFault>
+    requires { AreNamesOf agents.old accounts.old.items }
     ensures ok { OnOk result (entered name total accounts.old.items ≡ Ok accounts.new.items) }
     ensures refused { IfErr result
         (λ fault. IsRefusal fault (entered name total accounts.old.items)) }
     ensures err { OnErr result (accounts.new.items ≡ accounts.old.items) }
+    ensures names { AreNamesOf agents.new accounts.new.items }
 {
-    let Some(place) = place_named(accounts, &name) else {
-        accounts.push(Account::new(alloc, name, total))?;
+    let Some(place) = by_name::place_named(agents, accounts, &name) else {
+        by_name::append(agents, accounts, alloc, name, total)?;
         return Ok(());
     };
-    if accounts[place].is_in {
+    if accounts[place].is_in() {
         return Err(BookFault::Twice);
     }
     accounts[place] = Account::new(alloc, name, total);
@@ -100,12 +95,14 @@ fn enter(
 }
 
 fn drop_from(
+    agents: &IndexSet<String>,
     accounts: &mut Vec<Account>,
     offers_at: &mut Places,
     tasks_at: &mut Places,
     alloc: Global,
     name: &AgentName,
 ) -> Result<(), BookFault>
+    requires { AreNamesOf agents.now accounts.old.items }
     ensures ok { OnOk result (dropped_from name.now accounts.old.items ≡ Ok accounts.new.items) }
     ensures refused { IfErr result
         (λ fault. IsDue (dropped_from name.now accounts.old.items) fault) }
@@ -115,20 +112,26 @@ fn drop_from(
     ensures tasks { AreTasksPlaced tasks_at.old accounts.old.items
         → AreTasksPlaced tasks_at.new accounts.new.items }
 {
-    let Some(place) = place_of(accounts, name) else {
+    let Some(place) = by_name::place_of(agents, accounts, name) else {
         return Err(BookFault::Unknown);
     };
-    offers_at.remove_all(accounts[place].offers.as_slice(), place);
-    tasks_at.remove_all(accounts[place].booked.as_slice(), place);
+    offers_at.remove_all(accounts[place].offers().as_slice(), place);
+    tasks_at.remove_all(accounts[place].booked().as_slice(), place);
     accounts[place].drop_all(alloc);
     Ok(())
 }
 
-fn free_in(accounts: &[Account], alloc: Global, name: &AgentName) -> Result<Resources, BookFault>
+fn free_in(
+    agents: &IndexSet<String>,
+    accounts: &[Account],
+    alloc: Global,
+    name: &AgentName,
+) -> Result<Resources, BookFault>
+    requires { AreNamesOf agents.now accounts.now }
     ensures ok { IfOk result (λ rest. free_of name.now accounts.now ≡ Ok rest) }
     ensures refused { IfErr result (λ fault. IsRefusal fault (free_of name.now accounts.now)) }
 {
-    let Some(place) = place_of(accounts, name) else {
+    let Some(place) = by_name::place_of(agents, accounts, name) else {
         return Err(BookFault::Unknown);
     };
     Ok(accounts[place].free(alloc)?)
@@ -136,6 +139,7 @@ fn free_in(accounts: &[Account], alloc: Global, name: &AgentName) -> Result<Reso
 
 /// An offer is made, if none of its id is current.
 fn offer_in(
+    agents: &IndexSet<String>,
     accounts: &mut Vec<Account>,
     offers_at: &mut Places,
     alloc: Global,
@@ -143,7 +147,8 @@ fn offer_in(
     offer: Offer,
     is_current: bool,
 ) -> Result<(), BookFault>
-    requires { is_current ≡ is_offered offer.id accounts.old.items }
+    requires names { AreNamesOf agents.now accounts.old.items }
+    requires current { is_current ≡ is_offered offer.id accounts.old.items }
     ensures ok { OnOk result (offered name.now offer accounts.old.items ≡ Ok accounts.new.items) }
     ensures refused { IfErr result
         (λ fault. IsRefusal fault (offered name.now offer accounts.old.items)) }
@@ -151,7 +156,7 @@ fn offer_in(
     ensures offers { AreOffersPlaced offers_at.old accounts.old.items
         → AreOffersPlaced offers_at.new accounts.new.items }
 {
-    let Some(place) = place_of(accounts, name) else {
+    let Some(place) = by_name::place_of(agents, accounts, name) else {
         return Err(BookFault::Unknown);
     };
     if is_current {
@@ -164,24 +169,31 @@ fn offer_in(
     Ok(())
 }
 
-/// A task is booked, if none of its key is known.
+/// A task is booked, if none of its key is known. Its name is stored where nothing is refused any
+/// more.
 fn book_in(
+    agents: &IndexSet<String>,
     accounts: &mut Vec<Account>,
     tasks_at: &mut Places,
+    names: &mut Names,
     alloc: Global,
     name: &AgentName,
     task: Booked,
     is_known: bool,
 ) -> Result<(), BookFault>
-    requires { is_known ≡ is_booked task.job.key accounts.old.items }
+    requires names { AreNamesOf agents.now accounts.old.items }
+    requires known { is_known ≡ is_booked task.job.key accounts.old.items }
     ensures ok { OnOk result (booked name.now task accounts.old.items ≡ Ok accounts.new.items) }
     ensures refused { IfErr result
         (λ fault. IsRefusal fault (booked name.now task accounts.old.items)) }
     ensures err { OnErr result (accounts.new.items ≡ accounts.old.items) }
     ensures tasks { AreTasksPlaced tasks_at.old accounts.old.items
         → AreTasksPlaced tasks_at.new accounts.new.items }
+    ensures noted { OnOk result (IsNamed names.new task) }
+    ensures kept { Keeps names.old names.new }
+    ensures same { OnErr result (names.new ≡ names.old) }
 {
-    let Some(place) = place_of(accounts, name) else {
+    let Some(place) = by_name::place_of(agents, accounts, name) else {
         return Err(BookFault::Unknown);
     };
     if is_known {
@@ -191,6 +203,7 @@ fn book_in(
         return Err(BookFault::NoRoom);
     }
     by_id::push_task(&mut accounts[place], tasks_at, alloc, place, task)?;
+    names::note_last(names, &accounts[place]);
     Ok(())
 }
 
@@ -200,7 +213,7 @@ fn withdraw_at(accounts: &mut Vec<Account>, span: Span, id: OfferId)
     ensures { accounts.new.items ≡ map (without_offer id) accounts.old.items }
 {
     for i in span.from..span.to {
-        accounts[i].offers.withdraw(id);
+        accounts[i].withdraw(id);
     }
 }
 
@@ -220,7 +233,7 @@ fn end_at(accounts: &mut Vec<Account>, span: Span, key: LaunchKey)
     ensures { accounts.new.items ≡ map (with_ended key) accounts.old.items }
 {
     for i in span.from..span.to {
-        accounts[i].booked.end(key);
+        accounts[i].end(key);
     }
 }
 
@@ -238,7 +251,7 @@ fn forget_at(accounts: &mut Vec<Account>, span: Span, key: LaunchKey)
     ensures { accounts.new.items ≡ map (without_key key) accounts.old.items }
 {
     for i in span.from..span.to {
-        accounts[i].booked.forget(key);
+        accounts[i].forget(key);
     }
 }
 
@@ -256,7 +269,7 @@ fn withdraw_of_in(accounts: &mut Vec<Account>, framework: FrameworkId)
     ensures { accounts.new.items ≡ map (without_offers_of framework) accounts.old.items }
 {
     for i in 0..accounts.len() {
-        accounts[i].offers.withdraw_of(framework);
+        accounts[i].withdraw_of(framework);
     }
 }
 
@@ -266,7 +279,7 @@ fn withdraw_named_at(accounts: &mut Vec<Account>, span: Span, framework: Framewo
     ensures { accounts.new.items ≡ map (without_named framework (id ∷ [])) accounts.old.items }
 {
     for i in span.from..span.to {
-        accounts[i].offers.withdraw_named(framework, &[id]);
+        accounts[i].withdraw_named(framework, &[id]);
     }
 }
 
@@ -303,12 +316,14 @@ fn withdraw_offers_in(
 }
 
 fn withdraw_on(
+    agents: &IndexSet<String>,
     accounts: &mut Vec<Account>,
     offers_at: &mut Places,
     name: &AgentName,
     framework: FrameworkId,
     ids: &[OfferId],
 ) -> Result<(), BookFault>
+    requires { AreNamesOf agents.now accounts.old.items }
     ensures ok { OnOk result (withdrawn_on name.now framework ids.now accounts.old.items
         ≡ Ok accounts.new.items) }
     ensures refused { IfErr result
@@ -317,39 +332,43 @@ fn withdraw_on(
     ensures offers { AreOffersPlaced offers_at.old accounts.old.items
         → AreOffersPlaced offers_at.new accounts.new.items }
 {
-    let Some(place) = place_of(accounts, name) else {
+    let Some(place) = by_name::place_of(agents, accounts, name) else {
         return Err(BookFault::Unknown);
     };
-    accounts[place].offers.withdraw_named(framework, ids);
+    accounts[place].withdraw_named(framework, ids);
     by_id::forget_offers(offers_at, accounts, place, ids);
     Ok(())
 }
 
 fn receive_on(
+    agents: &IndexSet<String>,
     accounts: &mut Vec<Account>,
     name: &AgentName,
     update: &TaskUpdate,
 ) -> Result<(), BookFault>
-    requires { update.now.k < 4294967295 }
+    requires names { AreNamesOf agents.now accounts.old.items }
+    requires counted { update.now.k < 4294967295 }
     ensures ok { OnOk result (received_on name.now update.now accounts.old.items
         ≡ Ok accounts.new.items) }
     ensures refused { IfErr result
         (λ fault. IsDue (received_on name.now update.now accounts.old.items) fault) }
     ensures err { OnErr result (accounts.new.items ≡ accounts.old.items) }
 {
-    let Some(place) = place_of(accounts, name) else {
+    let Some(place) = by_name::place_of(agents, accounts, name) else {
         return Err(BookFault::Unknown);
     };
-    accounts[place].booked.receive(update);
+    accounts[place].receive(update);
     Ok(())
 }
 
 fn forget_by_on(
+    agents: &IndexSet<String>,
     accounts: &mut Vec<Account>,
     tasks_at: &mut Places,
     name: &AgentName,
     commands: &[Command],
 ) -> Result<(), BookFault>
+    requires { AreNamesOf agents.now accounts.old.items }
     ensures ok { OnOk result (applied_on name.now commands.now accounts.old.items
         ≡ Ok accounts.new.items) }
     ensures refused { IfErr result
@@ -358,15 +377,16 @@ fn forget_by_on(
     ensures tasks { AreTasksPlaced tasks_at.old accounts.old.items
         → AreTasksPlaced tasks_at.new accounts.new.items }
 {
-    let Some(place) = place_of(accounts, name) else {
+    let Some(place) = by_name::place_of(agents, accounts, name) else {
         return Err(BookFault::Unknown);
     };
-    accounts[place].booked.forget_by(commands);
+    accounts[place].forget_by(commands);
     by_id::forget_acknowledged(tasks_at, accounts, place, commands);
     Ok(())
 }
 
 fn reopen_on(
+    agents: &IndexSet<String>,
     accounts: &mut Vec<Account>,
     offers_at: &mut Places,
     tasks_at: &mut Places,
@@ -375,6 +395,7 @@ fn reopen_on(
     tasks: Listed<Booked>,
     total: Resources,
 ) -> Result<(), BookFault>
+    requires { AreNamesOf agents.now accounts.old.items }
     ensures ok { OnOk result (reopened_on name.now tasks total accounts.old.items
         ≡ Ok accounts.new.items) }
     ensures refused { IfErr result
@@ -385,11 +406,11 @@ fn reopen_on(
     ensures tasks { AreTasksPlaced tasks_at.old accounts.old.items
         → AreTasksPlaced tasks_at.new accounts.new.items }
 {
-    let Some(place) = place_of(accounts, name) else {
+    let Some(place) = by_name::place_of(agents, accounts, name) else {
         return Err(BookFault::Unknown);
     };
-    offers_at.remove_all(accounts[place].offers.as_slice(), place);
-    tasks_at.remove_all(accounts[place].booked.as_slice(), place);
+    offers_at.remove_all(accounts[place].offers().as_slice(), place);
+    tasks_at.remove_all(accounts[place].booked().as_slice(), place);
     tasks_at.add_all(tasks.as_slice(), place);
     accounts[place].reopen(alloc, tasks, total);
     Ok(())
@@ -400,46 +421,9 @@ fn booked_count(accounts: &[Account]) -> u128
 {
     let mut count = 0;
     for account in accounts {
-        count += account.booked.as_slice().len() as u128;
+        count += account.booked().as_slice().len() as u128;
     }
     count
-}
-
-/// Removes a name whose only key is that of a task that is no longer booked.
-fn forget_name(
-    names: &mut Names,
-    tasks_at: &Places,
-    accounts: &[Account],
-    framework: FrameworkId,
-    name: &TaskName,
-)
-    requires { AreTasksPlaced tasks_at.now accounts.now }
-    ensures { AreAllNamed names.old accounts.now → AreAllNamed names.new accounts.now }
-{
-    let Some(Keys { only: Some(key) }) = names.keys_of(framework, name) else {
-        return;
-    };
-    if !is_booked(by_id::part_of_task(tasks_at, accounts, key), key) {
-        names.forget(framework, name, key);
-    }
-}
-
-/// Stores the name of a task that is about to be booked, and removes names of tasks that are no
-/// longer booked where they are many.
-fn note(names: &mut Names, tasks_at: &Places, accounts: &[Account], task: &Booked)
-    requires { AreTasksPlaced tasks_at.now accounts.now }
-    ensures noted { IsNamed names.new task.now }
-    ensures kept { AreAllNamed names.old accounts.now → AreAllNamed names.new accounts.now }
-{
-    forget_name(
-        names,
-        tasks_at,
-        accounts,
-        task.job.framework,
-        &task.job.name,
-    );
-    names.review::<Account>(accounts);
-    names.note(task);
 }
 
 impl OfferBook {
@@ -449,6 +433,7 @@ impl OfferBook {
     {
         OfferBook {
             accounts: Vec::new(alloc),
+            agents: IndexSet::new(alloc),
             names: Names::new(alloc),
             offers_at: Places::new(alloc),
             tasks_at: Places::new(alloc),
@@ -512,7 +497,7 @@ impl OfferBook {
     fn is_offered(&self, id: OfferId) -> bool
         ensures { result ≡ is_offered id self.now }
     {
-        is_offered(self.part_of_offer(id), id)
+        by_id::is_offered(self.part_of_offer(id), id)
     }
 
     /// Whether a task of this key is booked. A key after those of all booked tasks isn't searched
@@ -523,7 +508,7 @@ impl OfferBook {
         if self.names.is_past(key) {
             return false;
         }
-        is_booked(self.part_of_task(key), key)
+        by_id::is_booked(self.part_of_task(key), key)
     }
 
     /// The offer of this id, if it is current, and its agent.
@@ -566,7 +551,7 @@ impl OfferBook {
         ensures refused { IfErr result (λ fault. IsRefusal fault (entered name total self.old)) }
         ensures err { OnErr result (self.new ≡ self.old) }
     {
-        enter(&mut self.accounts, alloc, name, total)
+        enter(&mut self.agents, &mut self.accounts, alloc, name, total)
     }
 
     /// An agent leaves, and with it its offers and booked tasks; its account keeps its place.
@@ -577,7 +562,14 @@ impl OfferBook {
         ensures err { OnErr result (self.new ≡ self.old) }
     {
         let (offers_at, tasks_at) = (&mut self.offers_at, &mut self.tasks_at);
-        drop_from(&mut self.accounts, offers_at, tasks_at, alloc, name)
+        drop_from(
+            &self.agents,
+            &mut self.accounts,
+            offers_at,
+            tasks_at,
+            alloc,
+            name,
+        )
     }
 
     /// An agent's total less current offers and booked tasks that haven't ended.
@@ -586,7 +578,7 @@ impl OfferBook {
         ensures ok { IfOk result (λ rest. free_of name.now self.now ≡ Ok rest) }
         ensures refused { IfErr result (λ fault. IsRefusal fault (free_of name.now self.now)) }
     {
-        free_in(&self.accounts, alloc, name)
+        free_in(&self.agents, &self.accounts, alloc, name)
     }
 
     /// Offers resources of an agent. Checked in this order: `B1 Unknown` where no agent of this
@@ -602,6 +594,7 @@ impl OfferBook {
         self.offers_at.review::<Offer, Account>(&self.accounts);
         let offers_at = &mut self.offers_at;
         offer_in(
+            &self.agents,
             &mut self.accounts,
             offers_at,
             alloc,
@@ -635,10 +628,12 @@ impl OfferBook {
         let job = &task.job;
         let is_known = self.is_booked(job.key);
         self.tasks_at.review::<Booked, Account>(&self.accounts);
-        note(&mut self.names, &self.tasks_at, &self.accounts, &task);
+        names::clear(&mut self.names, &self.tasks_at, &self.accounts, &task);
         book_in(
+            &self.agents,
             &mut self.accounts,
             &mut self.tasks_at,
+            &mut self.names,
             alloc,
             name,
             task,
@@ -707,6 +702,7 @@ impl OfferBook {
         ensures err { OnErr result (self.new ≡ self.old) }
     {
         withdraw_on(
+            &self.agents,
             &mut self.accounts,
             &mut self.offers_at,
             name,
@@ -733,6 +729,7 @@ impl OfferBook {
         self.names.note_all(tasks.as_slice());
         let (offers_at, tasks_at) = (&mut self.offers_at, &mut self.tasks_at);
         reopen_on(
+            &self.agents,
             &mut self.accounts,
             offers_at,
             tasks_at,
@@ -752,7 +749,7 @@ impl OfferBook {
             (λ fault. IsDue (received_on name.now update.now self.old) fault) }
         ensures err { OnErr result (self.new ≡ self.old) }
     {
-        receive_on(&mut self.accounts, name, update)
+        receive_on(&self.agents, &mut self.accounts, name, update)
     }
 
     /// An agent has applied these commands: a task is removed whose end is acknowledged by one, or
@@ -764,6 +761,7 @@ impl OfferBook {
             (λ fault. IsDue (applied_on name.now commands.now self.old) fault) }
         ensures err { OnErr result (self.new ≡ self.old) }
     {
-        forget_by_on(&mut self.accounts, &mut self.tasks_at, name, commands)
+        let tasks_at = &mut self.tasks_at;
+        forget_by_on(&self.agents, &mut self.accounts, tasks_at, name, commands)
     }
 }

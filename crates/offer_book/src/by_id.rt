@@ -3,33 +3,25 @@
 ghost use Rattle.std.specs.Prelude.{◌≡◌, ℕ, List, true, OnOk, OnErr};
 ghost use Rattle.names_core.specs.Ids.{Numbered};
 ghost use Rattle.id_places.specs.Places.{may_be_at, KeepsBut};
-ghost use Rattle.offer_book.specs.Accounts.{with_offer, with_task};
+ghost use Rattle.agent_accounts.specs.Accounts.{with_offer, with_task};
 ghost use Rattle.offer_book.specs.Books.{is_booked, is_offered};
 ghost use Rattle.offer_book.specs.ById.{AreOffersPlaced, AreTasksPlaced};
 ghost use Rattle.offer_book.specs.Found.{offer_of, task_of};
 ghost use Rattle.offer_book.specs.Held.{first_of_key};
 
-use crate::account::Account;
+use agent_accounts::Account;
 use id_places::Places;
-use id_spans::Holder;
 use mails::{Booked, Command, Offer};
 use names_core::{LaunchKey, OfferId};
 use std::alloc::{AllocError, Global};
 
-impl Holder<Offer> for Account {
-    ghost items = { λ a. a.offers };
-
-    fn items(&self) -> &[Offer] {
-        self.offers.as_slice()
-    }
-}
-
-impl Holder<Booked> for Account {
-    ghost items = { λ a. a.booked };
-
-    fn items(&self) -> &[Booked] {
-        self.booked.as_slice()
-    }
+/// Whether an offer of this id is current, on any agent.
+pub(crate) fn is_offered(accounts: &[Account], id: OfferId) -> bool
+    ensures { result ≡ is_offered id accounts.now }
+{
+    accounts
+        .iter()
+        .any(|account| account.offers().is_offered(id))
 }
 
 /// The accounts outside of which none has an offer of this id.
@@ -61,7 +53,7 @@ pub(crate) fn push_offer(
 {
     let id = offer.id;
     offers_at.add(&id, place)?;
-    if account.offers.push(alloc, offer).is_err() {
+    if account.offer(alloc, offer).is_err() {
         offers_at.remove(&id, place);
         return Err(AllocError);
     }
@@ -73,7 +65,7 @@ pub(crate) fn forget_offer(offers_at: &mut Places, accounts: &[Account], place: 
     ensures { AreOffersPlaced offers_at.old accounts.now
         → AreOffersPlaced offers_at.new accounts.now }
 {
-    if place < accounts.len() && !accounts[place].offers.is_offered(id) {
+    if place < accounts.len() && !accounts[place].offers().is_offered(id) {
         offers_at.remove(&id, place);
     }
 }
@@ -91,6 +83,15 @@ pub(crate) fn forget_offers(
     for id in ids {
         forget_offer(offers_at, accounts, place, *id);
     }
+}
+
+/// Whether a task of this key is booked, on any agent.
+pub(crate) fn is_booked(accounts: &[Account], key: LaunchKey) -> bool
+    ensures { result ≡ is_booked key accounts.now }
+{
+    accounts
+        .iter()
+        .any(|account| account.booked().is_booked(key))
 }
 
 /// The accounts outside of which none has a task of this key.
@@ -126,7 +127,7 @@ pub(crate) fn push_task(
     let job = &task.job;
     let key = job.key;
     tasks_at.add(&key, place)?;
-    if account.booked.push(alloc, task).is_err() {
+    if account.book(alloc, task).is_err() {
         tasks_at.remove(&key, place);
         return Err(AllocError);
     }
@@ -137,7 +138,7 @@ pub(crate) fn push_task(
 pub(crate) fn forget_task(tasks_at: &mut Places, accounts: &[Account], place: usize, key: LaunchKey)
     ensures { AreTasksPlaced tasks_at.old accounts.now → AreTasksPlaced tasks_at.new accounts.now }
 {
-    if place < accounts.len() && !accounts[place].booked.is_booked(key) {
+    if place < accounts.len() && !accounts[place].booked().is_booked(key) {
         tasks_at.remove(&key, place);
     }
 }

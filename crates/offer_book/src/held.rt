@@ -5,7 +5,7 @@ ghost use Rattle.cluster_model.specs.Masters.{stands_before, first_placed};
 ghost use Rattle.offer_book.specs.Held.{place, is_of_name, first_at, first_at_key, first_in, first_in_key, first_of, first_of_key};
 ghost use Rattle.offer_book.specs.Found.{made, offer_of, task_of};
 
-use crate::account::Account;
+use agent_accounts::Account;
 use mails::{Booked, Offer};
 use names_core::{AgentName, FrameworkId, LaunchKey, OfferId, TaskName};
 
@@ -79,8 +79,8 @@ fn first_in<'a>(
         ≡ first_in framework name.now (option_map (λ h. place h.0.now h.1.now) before.entry)
         account.entry.now }
 {
-    let tasks = account.booked.as_slice();
-    first_among(before, &account.name, tasks, framework, name)
+    let tasks = account.booked().as_slice();
+    first_among(before, account.name(), tasks, framework, name)
 }
 
 fn first_of_task<'a>(
@@ -132,8 +132,8 @@ fn first_in_account<'a>(
         ≡ first_in_key framework name.now key (option_map (λ h. place h.0.now h.1.now) before.entry)
         account.entry.now }
 {
-    let tasks = account.booked.part_of(key);
-    first_in_part(before, &account.name, tasks, framework, name, key)
+    let tasks = account.booked().part_of(key);
+    first_in_part(before, account.name(), tasks, framework, name, key)
 }
 
 /// The booked task of a framework with this name and this key, if any, and its agent.
@@ -174,8 +174,8 @@ pub(crate) fn offer_of(accounts: &[Account], id: OfferId) -> Option<(&AgentName,
     ensures { option_map (λ o. made o.0.now o.1.now) result ≡ offer_of id accounts.now }
 {
     for account in accounts {
-        if let Some(offer) = account.offers.find(id) {
-            return Some((&account.name, offer));
+        if let Some(offer) = account.offers().find(id) {
+            return Some((account.name(), offer));
         }
     }
     None
@@ -186,8 +186,8 @@ pub(crate) fn task_of(accounts: &[Account], key: LaunchKey) -> Option<(&AgentNam
     ensures { option_map (λ t. place t.0.now t.1.now) result ≡ task_of key accounts.now }
 {
     for account in accounts {
-        if let Some(task) = account.booked.find(key) {
-            return Some((&account.name, task));
+        if let Some(task) = account.booked().find(key) {
+            return Some((account.name(), task));
         }
     }
     None

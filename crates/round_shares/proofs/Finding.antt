@@ -10,7 +10,7 @@ use Rattle.cluster_model.specs.Sides.{job_rows, unended}
 use Rattle.booked_tasks.specs.Launches.{tasks_of}
 use Rattle.booked_tasks.specs.declared.sums.FrameworkSum.{FrameworkSum}
 use Rattle.booked_tasks.specs.Sums.{AreSums, rows_of}
-use Rattle.offer_book.specs.declared.account.Account.{Account}
+use Rattle.agent_accounts.specs.Accounts.{Account}
 use Rattle.drf_pick.specs.declared.counted.Allocation.{Allocation}
 use Rattle.drf_pick.specs.declared.counted.Found.{Found}
 use Rattle.drf_pick.specs.Allocations.{rows_to}

@@ -13,7 +13,7 @@ use Rattle.drf_pick.specs.Shares.{Tally, departed, entered}
 use Rattle.drf_pick.specs.Allocations.{AddUp}
 use Rattle.drf_pick.specs.Shown.{AreCounted, StayCounted, TallyShows, all_owned, counted_of, rows_owned}
 use Rattle.drf_pick.proofs.Shown.{summed_amounts}
-use Rattle.offer_book.specs.declared.account.Account.{Account}
+use Rattle.agent_accounts.specs.Accounts.{Account}
 use Rattle.agent_sides.specs.Joined.{AreOfOne, join, joined}
 use Rattle.round_shares.proofs.Finding.{set_same}
 use Rattle.round_shares.specs.Owned.{AreUpToDate, IsUpToDate, IsUpToDateAt, LeavesAt, each_owned, owned_of, totals_in}

@@ -1,7 +1,7 @@
 -- Agents' sessions and accounts are their sides.
 use Rattle.std.proofs.Common.{◌≡◌, ℕ, zero, suc, ◌≤◌, List, [], ◌∷◌, ◌++◌, length, drop, flat_map, refl, ap, arith}
 use Rattle.cluster_model.specs.Sides.{Side}
-use Rattle.offer_book.specs.declared.account.Account.{Account}
+use Rattle.agent_accounts.specs.Accounts.{Account}
 use Rattle.agent_sides.specs.Joined.{AreOfOne, joined}
 use Rattle.round_shares.specs.Allocations.{allocations_of, allocations_on}
 

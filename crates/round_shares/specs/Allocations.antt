@@ -14,7 +14,7 @@ use Rattle.drf_pick.specs.declared.counted.Allocation.{Allocation}
 use Rattle.drf_pick.specs.declared.counted.CountedShares.{CountedShares}
 use Rattle.drf_pick.specs.declared.counted.Found.{Found}
 use Rattle.drf_pick.specs.Shown.{AllCounted, AreCounted, SameAllocations, TallyShows, WeightsShow, all_found}
-use Rattle.offer_book.specs.declared.account.Account.{Account}
+use Rattle.agent_accounts.specs.Accounts.{Account}
 use Rattle.booked_tasks.specs.declared.sums.FrameworkSum.{FrameworkSum}
 use Rattle.frameworks.specs.LastRound.{clients_of}
 use Rattle.round_shares.specs.Owned.{totals_in}

@@ -14,11 +14,11 @@ ghost use Rattle.round_shares.specs.Owned.{totals_in};
 
 use crate::found::{are_found, found_on};
 use crate::owned::own_all;
+use agent_accounts::Account;
 use agent_sides::Sides;
 use drf_pick::CountedShares;
 use frameworks::Frameworks;
 use mails::Framework;
-use offer_book::Account;
 use role_weights::Weights;
 use std::alloc::{AllocError, Global};
 

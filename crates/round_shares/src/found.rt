@@ -6,11 +6,11 @@ ghost use Rattle.cluster_model.specs.Sides.{unended};
 ghost use Rattle.booked_tasks.specs.Sums.{AreSums};
 ghost use Rattle.round_shares.specs.Allocations.{AreOfTasks, AreOn, job_allocation, offer_allocation, sum_allocation};
 
+use agent_accounts::Account;
 use booked_tasks::{FrameworkSum, Tasks};
 use drf_pick::Allocation;
 use mails::{Booked, Offer};
 use names_core::FrameworkId;
-use offer_book::Account;
 use plain_data::Plain;
 use quantity::Resources;
 use std::alloc::{AllocError, Global};
@@ -65,9 +65,9 @@ fn are_parts(allocations: &[Allocation], sums: &[FrameworkSum], offers: &[Offer]
 pub(crate) fn are_found(allocations: &[Allocation], account: &Account) -> bool
     ensures { IsTrue result → AreOn account.now allocations.now }
 {
-    match account.booked.framework_sums() {
+    match account.booked().framework_sums() {
         None => false,
-        Some(sums) => are_parts(allocations, sums, account.offers.as_slice()),
+        Some(sums) => are_parts(allocations, sums, account.offers().as_slice()),
     }
 }
 
@@ -137,7 +137,7 @@ fn of_tasks(alloc: Global, tasks: &Tasks) -> Result<Vec<Allocation>, AllocError>
 pub(crate) fn found_on(alloc: Global, account: &Account) -> Result<Vec<Allocation>, AllocError>
     ensures { IfOk result (λ allocations. AreOn account.now allocations.items) }
 {
-    let mut allocations = of_tasks(alloc, &account.booked)?;
-    push_offers(&mut allocations, account.offers.as_slice())?;
+    let mut allocations = of_tasks(alloc, account.booked())?;
+    push_offers(&mut allocations, account.offers().as_slice())?;
     Ok(allocations)
 }

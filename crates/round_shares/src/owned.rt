@@ -7,8 +7,8 @@ ghost use Rattle.drf_pick.specs.Allocations.{AddUp};
 ghost use Rattle.drf_pick.specs.Shown.{AreCounted, StayCounted, all_owned};
 ghost use Rattle.round_shares.specs.Owned.{AreUpToDate, IsUpToDateAt, LeavesAt, each_owned, owned_of, totals_in};
 
+use agent_accounts::Account;
 use drf_pick::CountedShares;
-use offer_book::Account;
 use plain_data::Plain;
 use roster::RosterEntry;
 use std::alloc::{AllocError, Global};
@@ -31,7 +31,7 @@ fn leave_at(
     let Some(total) = &counted.owned[place] else {
         return Ok(());
     };
-    if entry.is_open() && total.is_same(&account.total) {
+    if entry.is_open() && total.is_same(account.total()) {
         return Ok(());
     }
     match counted.shares.leave(alloc, total) {
@@ -81,7 +81,7 @@ fn enter_at(
     if !entry.is_open() || counted.owned[place].is_some() {
         return Ok(());
     }
-    let total = account.total.copy()?;
+    let total = account.total().copy()?;
     match counted.shares.enter(alloc, &total) {
         Ok(()) => {}
         Err(_) => return Err(AllocError),

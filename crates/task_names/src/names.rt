@@ -173,7 +173,7 @@ impl Names {
         }
     }
 
-    /// The name and the key of a task that is about to be booked. Where memory is refused for it,
+    /// Stores the name and the key of a booked task. Where memory is refused for it,
     /// nothing is known of names from now on.
     pub fn note(&mut self, task: &Booked)
         ensures noted { IsNamed self.new task.now }

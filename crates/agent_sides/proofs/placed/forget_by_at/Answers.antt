@@ -1,5 +1,5 @@
 use Rattle.std.proofs.Common.{ap, ◌∙◌, arith}
-use Rattle.offer_book.specs.Accounts.{after_commands}
+use Rattle.agent_accounts.specs.Accounts.{after_commands}
 use Rattle.offer_book.specs.Books.{changed, applied_on}
 use Rattle.agent_sides.specs.Joined.{at_place}
 use Rattle.agent_sides.proofs.Placing.{done, past, placed}

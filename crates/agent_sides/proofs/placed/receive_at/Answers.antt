@@ -1,5 +1,5 @@
 use Rattle.std.proofs.Common.{ap, ◌∙◌, arith}
-use Rattle.offer_book.specs.Accounts.{receiving}
+use Rattle.agent_accounts.specs.Accounts.{receiving}
 use Rattle.offer_book.specs.Books.{changed, received_on}
 use Rattle.agent_sides.specs.Joined.{at_place}
 use Rattle.agent_sides.proofs.Placing.{done, past, placed}

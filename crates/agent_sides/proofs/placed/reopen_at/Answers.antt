@@ -1,5 +1,5 @@
 use Rattle.std.proofs.Common.{ap, ◌∙◌, arith}
-use Rattle.offer_book.specs.Accounts.{reopened}
+use Rattle.agent_accounts.specs.Accounts.{reopened}
 use Rattle.offer_book.specs.Books.{changed, reopened_on}
 use Rattle.agent_sides.specs.Joined.{at_place}
 use Rattle.agent_sides.proofs.Placing.{done, past, placed}

@@ -1,5 +1,5 @@
 use Rattle.std.proofs.Common.{ap, ◌∙◌, arith}
-use Rattle.offer_book.specs.Accounts.{without_named}
+use Rattle.agent_accounts.specs.Accounts.{without_named}
 use Rattle.offer_book.specs.Books.{changed, withdrawn_on}
 use Rattle.agent_sides.specs.Joined.{at_place}
 use Rattle.agent_sides.proofs.Placing.{done, past, placed}

@@ -8,5 +8,5 @@ returns c =
     let account = c.args.account.now in
     let old = c.args.live.now.entries in
     subst (λ es. OnOk c.gather_tasks.result (c.gather_tasks.new.live.entries ≡ es))
-    (ap (fold (gathers c.args.framework account.name) old) (ap (map (λ b. b.now)) c.deref.ensures.value ∙ c.in_ok-tasks.ensures) ∙ gathered_of c.args.framework account.name old account.booked)
-    c.gather_tasks.ensures
+    (ap (fold (gathers c.args.framework account.name) old) (ap (map (λ b. b.now)) c.deref.ensures.value ∙ rw c.booked.ensures at c.in_ok-tasks.ensures) ∙ gathered_of c.args.framework account.name old account.booked)
+    (rw c.name.ensures at c.gather_tasks.ensures)

@@ -3,7 +3,7 @@ use Rattle.mails.specs.declared.task.Offer.{Offer}
 use Rattle.quantity.specs.Rows.{plus_rows}
 use Rattle.cluster_model.specs.Sides.{offer_rows}
 use Rattle.std.specs.Prelude.{drop, ◌+◌}
-use Rattle.offer_book.proofs.Adding.{plus_more, plus_none}
+use Rattle.agent_accounts.proofs.Adding.{plus_more, plus_none}
 use Rattle.master_core.proofs.offered.sum_of.Goals as goal
 
 pub loop-offer-preserved : goal.loop-offer-preserved

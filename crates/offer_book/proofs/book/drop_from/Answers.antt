@@ -5,7 +5,7 @@ use Rattle.current_offers.specs.Offers.{id_of}
 use Rattle.booked_tasks.specs.Tasks.{key_of}
 use Rattle.id_places.proofs.Holding.{others_elsewhere, placed_set}
 use Rattle.offer_book.proofs.Staying.{offers_on, tasks_on}
-use Rattle.offer_book.specs.Accounts.{dropped}
+use Rattle.agent_accounts.specs.Accounts.{dropped}
 use Rattle.offer_book.proofs.book.drop_from.Goals as goal
 
 pub returns-in_default-clause-refused : goal.returns-in_default-clause-refused

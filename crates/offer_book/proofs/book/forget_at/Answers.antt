@@ -1,7 +1,7 @@
 use Rattle.std.proofs.Common.{◌≡◌, ◌++◌, rules, arith, map, take, drop, ap, ◌∙◌}
 use Rattle.std.proofs.lemmas.List.Edits.{map_over_more}
 use Rattle.id_spans.proofs.Spans.{changes_begin, changes_end}
-use Rattle.offer_book.specs.Accounts.{without_key}
+use Rattle.agent_accounts.specs.Accounts.{without_key}
 use Rattle.offer_book.specs.ById.{has_task_as}
 use Rattle.offer_book.proofs.Parts.{key_stays}
 use Rattle.offer_book.proofs.book.forget_at.Goals as goal

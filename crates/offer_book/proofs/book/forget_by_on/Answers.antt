@@ -5,7 +5,7 @@ use Rattle.std.proofs.lemmas.List.Quantifiers.{position-Some}
 use Rattle.booked_tasks.specs.Tasks.{key_of}
 use Rattle.id_places.proofs.Holding.{placed_change}
 use Rattle.offer_book.proofs.Staying.{commands_stay, tasks_on}
-use Rattle.offer_book.specs.Accounts.{after_commands}
+use Rattle.agent_accounts.specs.Accounts.{after_commands}
 use Rattle.offer_book.specs.ById.{AreTasksPlaced}
 use Rattle.std.proofs.Common.{set}
 use Rattle.offer_book.proofs.book.forget_by_on.Goals as goal

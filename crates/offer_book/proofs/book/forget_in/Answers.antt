@@ -1,5 +1,5 @@
 use Rattle.booked_tasks.specs.Tasks.{key_of}
-use Rattle.offer_book.specs.Accounts.{without_key}
+use Rattle.agent_accounts.specs.Accounts.{without_key}
 use Rattle.id_places.proofs.Holding.{placed_map}
 use Rattle.offer_book.proofs.Staying.{key_stay, tasks_on}
 use Rattle.offer_book.proofs.book.forget_in.Goals as goal

@@ -7,7 +7,7 @@ use Rattle.std.proofs.Common.{subst}
 use Rattle.id_places.specs.Places.{AreAt}
 use Rattle.id_places.proofs.Holding.{all_elsewhere, others_elsewhere, placed_set}
 use Rattle.offer_book.proofs.Staying.{offers_on, tasks_on}
-use Rattle.offer_book.specs.Accounts.{reopened}
+use Rattle.agent_accounts.specs.Accounts.{reopened}
 use Rattle.offer_book.proofs.book.reopen_on.Goals as goal
 
 pub returns-in_default-clause-refused : goal.returns-in_default-clause-refused

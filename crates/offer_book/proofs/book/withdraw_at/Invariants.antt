@@ -1,5 +1,5 @@
 use Rattle.std.proofs.Common.{◌≡◌, ◌++◌, map, take, drop}
-use Rattle.offer_book.specs.Accounts.{without_offer}
+use Rattle.agent_accounts.specs.Accounts.{without_offer}
 use Rattle.offer_book.proofs.book.withdraw_at.Given as goal
 
 abbrev pub invariant-loop-i : goal.invariant-loop-i

@@ -1,5 +1,5 @@
 use Rattle.current_offers.specs.Offers.{id_of}
-use Rattle.offer_book.specs.Accounts.{without_offer}
+use Rattle.agent_accounts.specs.Accounts.{without_offer}
 use Rattle.id_places.proofs.Holding.{at_filter, placed_map}
 use Rattle.offer_book.proofs.Staying.{offers_on}
 use Rattle.offer_book.proofs.book.withdraw_in.Goals as goal

@@ -1,6 +1,6 @@
 use Rattle.std.proofs.Common.{rules, arith}
 use Rattle.std.proofs.lemmas.List.Edits.{map_over_more}
-use Rattle.offer_book.specs.Accounts.{without_offers_of}
+use Rattle.agent_accounts.specs.Accounts.{without_offers_of}
 use Rattle.offer_book.proofs.book.withdraw_of_in.Goals as goal
 
 pub loop-i-preserved : goal.loop-i-preserved

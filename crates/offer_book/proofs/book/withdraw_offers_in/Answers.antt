@@ -1,6 +1,6 @@
 use Rattle.std.proofs.Common.{◌≡◌, ◌+◌, ◌∷◌, drop, map, sym, ap, ◌∙◌}
 use Rattle.std.proofs.lemmas.List.{drop_more, drop_all}
-use Rattle.offer_book.specs.Accounts.{without_named}
+use Rattle.agent_accounts.specs.Accounts.{without_named}
 use Rattle.offer_book.proofs.Parts.{named_first, named_none}
 use Rattle.offer_book.proofs.book.withdraw_offers_in.Goals as goal
 

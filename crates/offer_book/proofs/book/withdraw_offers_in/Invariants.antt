@@ -1,5 +1,5 @@
 use Rattle.std.proofs.Common.{◌≡◌, drop, map}
-use Rattle.offer_book.specs.Accounts.{without_named}
+use Rattle.agent_accounts.specs.Accounts.{without_named}
 use Rattle.offer_book.specs.ById.{AreOffersPlaced}
 use Rattle.offer_book.proofs.book.withdraw_offers_in.Given as goal
 

@@ -5,7 +5,7 @@ use Rattle.std.proofs.lemmas.List.Quantifiers.{position-Some}
 use Rattle.current_offers.specs.Offers.{id_of}
 use Rattle.id_places.proofs.Holding.{at_filter, placed_change}
 use Rattle.offer_book.proofs.Staying.{offers_on}
-use Rattle.offer_book.specs.Accounts.{without_named}
+use Rattle.agent_accounts.specs.Accounts.{without_named}
 use Rattle.offer_book.specs.ById.{AreOffersPlaced}
 use Rattle.std.proofs.Common.{set}
 use Rattle.offer_book.proofs.book.withdraw_on.Goals as goal

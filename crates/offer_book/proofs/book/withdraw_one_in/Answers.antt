@@ -1,6 +1,6 @@
 use Rattle.std.proofs.Common.{[], ◌∷◌}
 use Rattle.current_offers.specs.Offers.{id_of}
-use Rattle.offer_book.specs.Accounts.{without_named}
+use Rattle.agent_accounts.specs.Accounts.{without_named}
 use Rattle.id_places.proofs.Holding.{at_filter, placed_map}
 use Rattle.offer_book.proofs.Staying.{offers_on}
 use Rattle.offer_book.proofs.book.withdraw_one_in.Goals as goal

@@ -7,4 +7,4 @@ pub returns-in-Some : goal.returns-in-Some
 returns-in-Some c = λ found.
     let a = c.args.account.now in
     let sums = c.in-Some.sums.now in
-    subst (AreOn a) (sym (c.are_parts.ensures found ∙ ap (λ os. map sum_allocation sums ++ map offer_allocation os) c.as_slice.ensures)) (with_offers a (map sum_allocation sums) (sums_are sums a.booked c.in-Some.ensures))
+    subst (AreOn a) (sym (c.are_parts.ensures found ∙ ap (λ os. map sum_allocation sums ++ map offer_allocation os) (c.as_slice.ensures ∙ c.offers.ensures))) (with_offers a (map sum_allocation sums) (sums_are sums a.booked (rw c.booked.ensures at c.in-Some.ensures)))

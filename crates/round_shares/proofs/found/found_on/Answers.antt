@@ -7,4 +7,4 @@ pub returns : goal.returns
 returns c =
     let a = c.args.account.now in
     let as_ = c.in_ok-allocations.allocations.items in
-    subst (AreOn a) (sym (c.in_ok-push_offers.ensures ∙ ap (λ os. as_ ++ map offer_allocation os) c.as_slice.ensures)) (with_offers a as_ c.in_ok-allocations.ensures)
+    subst (AreOn a) (sym (c.in_ok-push_offers.ensures ∙ ap (λ os. as_ ++ map offer_allocation os) (c.as_slice.ensures ∙ c.offers.ensures))) (with_offers a as_ (rw c.booked.ensures at c.in_ok-allocations.ensures))

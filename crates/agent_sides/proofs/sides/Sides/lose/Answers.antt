@@ -1,6 +1,6 @@
 use Rattle.std.proofs.Common.{refl, ap, ◌∙◌, sym, ◌≡◌, true, false, []}
 use Rattle.cluster_model.specs.Sides.{lost}
-use Rattle.offer_book.specs.Accounts as accounts
+use Rattle.agent_accounts.specs.Accounts as accounts
 use Rattle.agent_sides.specs.Joined as joins
 use Rattle.roster.specs.Places.{at_place, value_at}
 use Rattle.agent_sides.proofs.Joining.{joined_same, joined_when, fit_book, fit_roster}

@@ -2,7 +2,7 @@ use Rattle.std.proofs.Common.{subst}
 use Rattle.std.specs.List.{AllByRecursion}
 use Rattle.quantity.specs.Rows.{AreRows}
 use Rattle.cluster_model.specs.Sides.{Side}
-use Rattle.offer_book.specs.declared.account.Account.{Account}
+use Rattle.agent_accounts.specs.Accounts.{Account}
 use Rattle.agent_sides.proofs.Freeing.{rows_joined}
 use Rattle.agent_sides.proofs.sides.Sides.own_rows.Goals as goal
 

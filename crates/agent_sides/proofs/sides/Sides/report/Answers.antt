@@ -1,5 +1,5 @@
 use Rattle.std.proofs.Common.{refl, ap, ◌∙◌, sym, true, false, Ok, Err}
-use Rattle.offer_book.specs.Accounts as accounts
+use Rattle.agent_accounts.specs.Accounts as accounts
 use Rattle.agent_sides.specs.Joined as joins
 use Rattle.roster.specs.Places.{at_place, value_at}
 use Rattle.roster.specs.Sessions.{after_report, reported}

@@ -1,6 +1,6 @@
 use Rattle.std.proofs.Common.{refl, ap, ◌∙◌, map}
 use Rattle.cluster_model.specs.Masters.{is_of}
-use Rattle.offer_book.specs.Accounts as accounts
+use Rattle.agent_accounts.specs.Accounts as accounts
 use Rattle.agent_sides.specs.Looks.{withdrawing}
 use Rattle.agent_sides.proofs.Joining.{fit_map}
 use Rattle.agent_sides.proofs.Apart.{joined_apart, of_apart, of_withdrawn}

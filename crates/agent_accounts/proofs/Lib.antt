@@ -1,0 +1,4 @@
+pub mod Taking
+pub mod Summing
+pub mod Adding
+pub mod Freeing

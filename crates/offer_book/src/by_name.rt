@@ -1,0 +1,67 @@
+//! The table by which accounts are found by their agents' names.
+
+ghost use Rattle.std.specs.Prelude.{◌≡◌, ◌∷◌, ◌++◌, [], None, OnOk, OnErr};
+ghost use Rattle.std.specs.List.{position};
+ghost use Rattle.agent_accounts.specs.Accounts.{new_account};
+ghost use Rattle.offer_book.specs.Books.{is_agent, is_named_so};
+ghost use Rattle.offer_book.specs.ByName.{AreNamesOf};
+
+use agent_accounts::Account;
+use indexmap::IndexSet;
+use names_core::AgentName;
+use quantity::Resources;
+use std::alloc::{AllocError, Global};
+
+/// The place of the account of the agent of this name, if it ever entered.
+pub(crate) fn place_named(
+    agents: &IndexSet<String>,
+    accounts: &[Account],
+    name: &AgentName,
+) -> Option<usize>
+    requires { AreNamesOf agents.now accounts.now }
+    ensures { result ≡ position (is_named_so name.now) accounts.now }
+{
+    agents.get_index_of(name.as_text())
+}
+
+/// The place of the account of the agent of this name, if it is in.
+pub(crate) fn place_of(
+    agents: &IndexSet<String>,
+    accounts: &[Account],
+    name: &AgentName,
+) -> Option<usize>
+    requires { AreNamesOf agents.now accounts.now }
+    ensures { result ≡ position (is_agent name.now) accounts.now }
+{
+    let _different = agents.as_slice();
+    let Some(place) = place_named(agents, accounts, name) else {
+        return None;
+    };
+    if !accounts[place].is_in() {
+        return None;
+    }
+    Some(place)
+}
+
+/// Appends an account for an agent that has none, and its name. Where memory is refused, neither.
+pub(crate) fn append(
+    agents: &mut IndexSet<String>,
+    accounts: &mut Vec<Account>,
+    alloc: Global,
+    name: AgentName,
+    total: Resources,
+) -> Result<(), AllocError>
+    requires names { AreNamesOf agents.old accounts.old.items }
+    requires new { position (is_named_so name) accounts.old.items ≡ None }
+    ensures names { AreNamesOf agents.new accounts.new.items }
+    ensures ok { OnOk result (accounts.new.items ≡ accounts.old.items ++ new_account name total ∷ []) }
+    ensures err { OnErr result (accounts.new.items ≡ accounts.old.items) }
+{
+    let text = String::from_str(alloc, name.as_text())?;
+    agents.insert(text)?;
+    let Ok(()) = accounts.push(Account::new(alloc, name, total)) else {
+        agents.truncate(accounts.len());
+        return Err(AllocError);
+    };
+    Ok(())
+}
