@@ -3,7 +3,7 @@
 
 Three frameworks launch short tasks, each under a name of its own, and go on by their ids after each kill; at the end the server runs until all that was launched is settled.
 No task is lost that was told to run, and none runs twice: each is told TASK_RUNNING and TASK_FINISHED, updates 0 and 1 of one launch key, in this order. A task of which
-nothing was told is asked for, and where it is answered TASK_LOST nothing is ever told of it. After each kill the agents' records, as sqlite3 reads a copy of them, have each
+nothing was told is asked for, and where it is answered TASK_LOST it never runs, and no later answer says otherwise. After each kill the agents' records, as sqlite3 reads a copy of them, have each
 task once, and no agent's live tasks have more than it owns. KILLS is 50 where it isn't given.
 """
 import base64
@@ -70,13 +70,10 @@ class Client:
     def told(self, event):
         status = event["update"]["status"]
         name, state = status["task_id"]["value"], status["state"]
-        check(name not in self.lost, f"{name} was answered TASK_LOST, and is told {state}")
         if "uuid" not in status:
-            if state == "TASK_LOST":
-                check(name in self.waits, f"{name} is lost, which ran")
-                del self.waits[name]
-                self.lost.add(name)
+            self.answered(name, state)
             return
+        check(name not in self.lost, f"{name} was answered TASK_LOST, and runs: {state}")
         uuid = base64.b64decode(status["uuid"])
         key, k = uuid[:6], int.from_bytes(uuid[12:], "big")
         check(self.keys.setdefault(name, key) == key, f"{name} runs under two launch keys")
@@ -89,6 +86,14 @@ class Client:
             del self.runs[name]
             self.finished.add(name)
         self.framework.acknowledge(event)
+
+    def answered(self, name, state):
+        """Takes the answer to a call. TASK_LOST may come twice: a task is asked for again where its ACCEPT, or the call before, was answered and the answer not yet read."""
+        check(name not in self.lost or state == "TASK_LOST", f"{name} was answered TASK_LOST, and then {state}")
+        if state == "TASK_LOST" and name not in self.lost:
+            check(name in self.waits, f"{name} is lost, which ran")
+            del self.waits[name]
+            self.lost.add(name)
 
     def is_settled(self):
         return not self.waits and not self.runs
