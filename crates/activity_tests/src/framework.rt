@@ -7,7 +7,7 @@ use listed::Listed;
 use mails::{Call, TaskInfo};
 use names_core::{AgentName, FrameworkId, OfferId, RoleName, StreamId, TaskName};
 use quantity::Resources;
-use recorded_clusters::RecordedCluster;
+use running_clusters::Running;
 use shared_value::Shared;
 use std::alloc::Global;
 use std::sync::{Wait, ledger};
@@ -55,10 +55,10 @@ fn accept(alloc: Global) -> Option<Step> {
 
 /// Takes a step once the history has so many entries;
 /// None where it hasn't in time, or the step is refused.
-fn take_at<L: ledger::Ledger, R: Wait + Clock>(
+fn take_at<D: Running, L: ledger::Ledger, R: Wait + Clock>(
     rt: &R,
     alloc: Global,
-    office: &Office<RecordedCluster, L>,
+    office: &Office<D, L>,
     pass: &mut Pass<KeptEntry, L>,
     count: usize,
     step: Step,
@@ -74,10 +74,10 @@ fn take_at<L: ledger::Ledger, R: Wait + Clock>(
 
 /// Once the agent has answered the greeting, by 3 entries, a framework subscribes by call 3,
 /// is offered the agent, and launches a task by call 4. The launch is sent to the agent as mail 5.
-pub fn launch<L: ledger::Ledger, R: Wait + Clock>(
+pub fn launch<D: Running, L: ledger::Ledger, R: Wait + Clock>(
     rt: &R,
     alloc: Global,
-    office: &Office<RecordedCluster, L>,
+    office: &Office<D, L>,
     pass: &mut Pass<KeptEntry, L>,
 ) -> Option<()> {
     take_at(rt, alloc, office, pass, 3, subscribe(alloc)?)?;
@@ -88,10 +88,10 @@ pub fn launch<L: ledger::Ledger, R: Wait + Clock>(
 }
 
 /// Once the agent has prepared the launch, by 9 entries, it is stopped.
-pub fn stop<L: ledger::Ledger, R: Wait + Clock>(
+pub fn stop<D: Running, L: ledger::Ledger, R: Wait + Clock>(
     rt: &R,
     alloc: Global,
-    office: &Office<RecordedCluster, L>,
+    office: &Office<D, L>,
     pass: &mut Pass<KeptEntry, L>,
 ) -> Option<()> {
     let step = Step::StopAgent {

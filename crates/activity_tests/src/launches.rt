@@ -7,7 +7,7 @@ use crate::cabinets::{Flags, Held};
 use crate::offices::{PARTS, named, office};
 use crate::parts::{End, Part, Played, both};
 use desk_lock::Office;
-use recorded_clusters::RecordedCluster;
+use running_clusters::Running;
 use std::alloc::Global;
 use std::marker::Brand;
 use std::sync::ledger::Blank;
@@ -17,10 +17,14 @@ use std::time::Clock;
 
 /// What an agent does that holds no save before so many,
 /// and what the framework does that launches a task there.
-fn launched_at<L: ledger::Ledger + Send + Sync, R: Threads + Wait + Clock + Sync>(
+fn launched_at<
+    D: Running + Send + Sync,
+    L: ledger::Ledger + Send + Sync,
+    R: Threads + Wait + Clock + Sync,
+>(
     rt: &R,
     alloc: Global,
-    office: &Office<RecordedCluster, L>,
+    office: &Office<D, L>,
     passes: u32,
     stops: bool,
     end: usize,

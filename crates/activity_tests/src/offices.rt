@@ -10,7 +10,7 @@ use post_rules::Queues;
 use quantity::Resources;
 use recorded_clusters::RecordedCluster;
 use role_weights::Weights;
-use running_clusters::Awaited;
+use running_clusters::{Awaited, Running};
 use std::alloc::{AllocError, Global};
 use std::sync::ledger::Blank;
 use std::sync::{Wait, ledger};
@@ -93,10 +93,10 @@ pub fn office<L: ledger::Ledger>(
     }
 }
 
-pub fn seat<L: ledger::Ledger, R: Wait>(
+pub fn seat<D: Running, L: ledger::Ledger, R: Wait>(
     rt: &R,
     alloc: Global,
-    office: &Office<RecordedCluster, L>,
+    office: &Office<D, L>,
 ) -> Option<Pass<KeptEntry, L>>
     ensures { IfSome result (λ pass. pass.receipts ≡ []) }
 {
@@ -104,14 +104,14 @@ pub fn seat<L: ledger::Ledger, R: Wait>(
 }
 
 /// Whether the history has so many entries, or the office is finished.
-fn has_entries<L: ledger::Ledger, R: Wait + Clock>(
+fn has_entries<D: Running, L: ledger::Ledger, R: Wait + Clock>(
     rt: &R,
-    office: &Office<RecordedCluster, L>,
+    office: &Office<D, L>,
     pass: &Pass<KeptEntry, L>,
     count: usize,
 ) -> bool {
-    let look = |recorded: &RecordedCluster| {
-        if recorded.cluster().entry_count() < count {
+    let look = |recorded: &D| {
+        if (recorded.len() as usize) < count {
             Ok(None)
         } else {
             Ok(Some(()))
@@ -124,9 +124,9 @@ fn has_entries<L: ledger::Ledger, R: Wait + Clock>(
 }
 
 /// Waits until the history has so many entries or the office is finished, for 20 seconds at most.
-pub fn wait_for_entries<L: ledger::Ledger, R: Wait + Clock>(
+pub fn wait_for_entries<D: Running, L: ledger::Ledger, R: Wait + Clock>(
     rt: &R,
-    office: &Office<RecordedCluster, L>,
+    office: &Office<D, L>,
     pass: &Pass<KeptEntry, L>,
     count: usize,
 ) -> bool {

@@ -5,11 +5,11 @@ ghost use Rattle.std.specs.Prelude.{◌≡◌, []};
 use crate::cabinets::{Flags, Held, Shelf};
 use crate::framework::{launch, stop};
 use crate::offices::{OWNED, cpus, seat, wait_for_entries};
-use activities::{ActivityFault, activity, ticker};
+use activities::{ActivityFault, Cabinet, activity, ticker};
 use cluster_core::{Keep, KeptEntry, Step, StepCause};
 use desk_lock::{Office, Pass};
 use names_core::{AgentName, TaskState};
-use recorded_clusters::RecordedCluster;
+use running_clusters::Running;
 use std::alloc::{AllocError, Global};
 use std::sync::{Wait, ledger};
 use std::thread;
@@ -127,10 +127,10 @@ pub fn end_of(fault: Option<ActivityFault<AllocError>>) -> End {
 
 /// Launches a task and stops the agent if so,
 /// and finishes the office once the history has so many entries.
-fn lead<L: ledger::Ledger, R: Wait + Clock>(
+fn lead<D: Running, L: ledger::Ledger, R: Wait + Clock>(
     rt: &R,
     alloc: Global,
-    office: &Office<RecordedCluster, L>,
+    office: &Office<D, L>,
     pass: &mut Pass<KeptEntry, L>,
     flags: &Flags,
     stops: bool,
@@ -146,54 +146,86 @@ fn lead<L: ledger::Ledger, R: Wait + Clock>(
     if there { End::Finished } else { End::Late }
 }
 
-/// Does a part from a seat, and returns what it did.
-fn play_from<L: ledger::Ledger, R: Wait + Clock>(
+/// An agent that owns so many cpus works from a seat over a cabinet, until its thread ends.
+fn work<D: Running, L: ledger::Ledger, R: Wait + Clock, C: Cabinet<Fault = AllocError>>(
     rt: &R,
     alloc: Global,
-    office: &Office<RecordedCluster, L>,
+    office: &Office<D, L>,
+    pass: Pass<KeptEntry, L>,
+    agent: &AgentName,
+    cabinet: &mut C,
+    amount: u64,
+) -> Result<(Pass<KeptEntry, L>, End), AllocError>
+    requires { pass.receipts ≡ [] }
+{
+    let total = cpus(alloc, amount)?;
+    let (pass, fault) = activity(rt, alloc, office, pass, agent, cabinet, 1, &total);
+    Ok((pass, end_of(fault)))
+}
+
+fn overlapped<L: ledger::Ledger>(
+    worked: Result<(Pass<KeptEntry, L>, End), AllocError>,
+) -> Result<(Pass<KeptEntry, L>, End), AllocError> {
+    match worked {
+        Ok((pass, _)) => Ok((pass, End::Overlapped)),
+        Err(fault) => Err(fault),
+    }
+}
+
+/// Does a part from a seat, and returns the seat and how the part ended.
+fn play_out<D: Running, L: ledger::Ledger, R: Wait + Clock>(
+    rt: &R,
+    alloc: Global,
+    office: &Office<D, L>,
     mut pass: Pass<KeptEntry, L>,
     part: Part<'_>,
-) -> Result<Played, AllocError>
+) -> Result<(Pass<KeptEntry, L>, End), AllocError>
     requires { pass.receipts ≡ [] }
 {
     match part {
         Part::Agent(agent, mut shelf, amount) => {
-            let total = cpus(alloc, amount)?;
-            let (pass, fault) = activity(rt, alloc, office, pass, &agent, &mut shelf, 1, &total);
-            played_from(alloc, &pass, end_of(fault))
+            work(rt, alloc, office, pass, &agent, &mut shelf, amount)
         }
         Part::Held(agent, mut held) => {
-            let total = cpus(alloc, OWNED)?;
-            let (pass, fault) = activity(rt, alloc, office, pass, &agent, &mut held, 1, &total);
-            let end = if held.has_overlapped {
-                End::Overlapped
-            } else {
-                end_of(fault)
-            };
-            played_from(alloc, &pass, end)
+            let worked = work(rt, alloc, office, pass, &agent, &mut held, OWNED);
+            if held.has_overlapped {
+                return overlapped(worked);
+            }
+            worked
         }
-        Part::Ticker => {
-            let pass = ticker(rt, alloc, office, pass, 1);
-            played_from(alloc, &pass, End::Finished)
-        }
+        Part::Ticker => Ok((ticker(rt, alloc, office, pass, 1), End::Finished)),
         Part::Launcher { flags, stops, end } => {
             let end = lead(rt, alloc, office, &mut pass, flags, stops, end);
-            played_from(alloc, &pass, end)
+            Ok((pass, end))
         }
         Part::Finisher(count) => {
             let there = wait_for_entries(rt, office, &pass, count);
             office.finish(rt);
-            played_from(alloc, &pass, if there { End::Finished } else { End::Late })
+            Ok((pass, if there { End::Finished } else { End::Late }))
         }
     }
 }
 
-/// Does a part, and returns what it did; None for want of memory.
-/// Where it can't begin it finishes the office, so that the other ends too.
-pub fn play<L: ledger::Ledger, R: Wait + Clock>(
+/// Does a part from a seat, and returns what it did.
+fn play_from<D: Running, L: ledger::Ledger, R: Wait + Clock>(
     rt: &R,
     alloc: Global,
-    office: &Office<RecordedCluster, L>,
+    office: &Office<D, L>,
+    pass: Pass<KeptEntry, L>,
+    part: Part<'_>,
+) -> Result<Played, AllocError>
+    requires { pass.receipts ≡ [] }
+{
+    let (pass, end) = play_out(rt, alloc, office, pass, part)?;
+    played_from(alloc, &pass, end)
+}
+
+/// Does a part, and returns what it did; None for want of memory.
+/// Where it can't begin it finishes the office, so that the other ends too.
+pub fn play<D: Running, L: ledger::Ledger, R: Wait + Clock>(
+    rt: &R,
+    alloc: Global,
+    office: &Office<D, L>,
     part: Part<'_>,
 ) -> Option<Played> {
     match seat(rt, alloc, office) {
@@ -206,10 +238,14 @@ pub fn play<L: ledger::Ledger, R: Wait + Clock>(
 }
 
 /// Two threads, and what each did.
-pub fn both<L: ledger::Ledger + Send + Sync, R: Threads + Wait + Clock + Sync>(
+pub fn both<
+    D: Running + Send + Sync,
+    L: ledger::Ledger + Send + Sync,
+    R: Threads + Wait + Clock + Sync,
+>(
     rt: &R,
     alloc: Global,
-    office: &Office<RecordedCluster, L>,
+    office: &Office<D, L>,
     one: Part<'_>,
     two: Part<'_>,
 ) -> (Option<Played>, Option<Played>) {

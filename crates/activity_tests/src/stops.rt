@@ -12,7 +12,7 @@ use cluster_core::KeptEntry;
 use desk_lock::{Office, Pass};
 use names_core::AgentName;
 use quantity::Resources;
-use recorded_clusters::RecordedCluster;
+use running_clusters::Running;
 use std::alloc::Global;
 use std::marker::Brand;
 use std::sync::ledger::Blank;
@@ -33,10 +33,10 @@ struct Stored {
 /// three of the greeting, five of the framework, and these two.
 const ENTRIES: usize = 10;
 
-fn stored_from<L: ledger::Ledger, R: Wait + Clock>(
+fn stored_from<D: Running, L: ledger::Ledger, R: Wait + Clock>(
     rt: &R,
     alloc: Global,
-    office: &Office<RecordedCluster, L>,
+    office: &Office<D, L>,
     pass: Pass<KeptEntry, L>,
     agent: &AgentName,
     total: &Resources,
@@ -55,10 +55,10 @@ fn stored_from<L: ledger::Ledger, R: Wait + Clock>(
     }
 }
 
-fn stored_at<L: ledger::Ledger, R: Wait + Clock>(
+fn stored_at<D: Running, L: ledger::Ledger, R: Wait + Clock>(
     rt: &R,
     alloc: Global,
-    office: &Office<RecordedCluster, L>,
+    office: &Office<D, L>,
     stop: StopAt,
 ) -> Option<Stored> {
     let agent = named(alloc, "a1")?;
@@ -71,10 +71,10 @@ fn stored_at<L: ledger::Ledger, R: Wait + Clock>(
 
 /// What the agent does whose store stops there. Where it can't begin it finishes the office,
 /// so that the framework ends too.
-fn stored_or_finished<L: ledger::Ledger, R: Wait + Clock>(
+fn stored_or_finished<D: Running, L: ledger::Ledger, R: Wait + Clock>(
     rt: &R,
     alloc: Global,
-    office: &Office<RecordedCluster, L>,
+    office: &Office<D, L>,
     stop: StopAt,
 ) -> Option<Stored> {
     let stored = stored_at(rt, alloc, office, stop);
@@ -85,12 +85,11 @@ fn stored_or_finished<L: ledger::Ledger, R: Wait + Clock>(
 }
 
 /// What the agent does while a framework launches a task on it.
-fn launched<L: ledger::Ledger + Send + Sync, R: Threads + Wait + Clock + Sync>(
-    rt: &R,
-    alloc: Global,
-    office: &Office<RecordedCluster, L>,
-    stop: StopAt,
-) -> (Option<Stored>, Option<Played>) {
+fn launched<
+    D: Running + Send + Sync,
+    L: ledger::Ledger + Send + Sync,
+    R: Threads + Wait + Clock + Sync,
+>(rt: &R, alloc: Global, office: &Office<D, L>, stop: StopAt) -> (Option<Stored>, Option<Played>) {
     let flags = Flags::new();
     let launcher = Part::Launcher {
         flags: &flags,

@@ -7,8 +7,7 @@ use crate::offices::{OWNED, PARTS, named, office, seat};
 use crate::parts::{End, Part, Played, both, play};
 use cluster_core::Step;
 use desk_lock::{Office, Turn};
-use recorded_clusters::RecordedCluster;
-use running_clusters::Awaited;
+use running_clusters::{Awaited, Running};
 use std::alloc::Global;
 use std::marker::Brand;
 use std::sync::ledger::Blank;
@@ -29,13 +28,11 @@ fn in_time(one: Option<Played>, finisher: Option<Played>) -> Option<Played> {
 }
 
 /// What an activity does whose first save fails, where the office is finished at so many entries.
-fn worked<L: ledger::Ledger + Send + Sync, R: Threads + Wait + Clock + Sync>(
-    rt: &R,
-    alloc: Global,
-    office: &Office<RecordedCluster, L>,
-    keeps: Kept,
-    count: usize,
-) -> Option<Played> {
+fn worked<
+    D: Running + Send + Sync,
+    L: ledger::Ledger + Send + Sync,
+    R: Threads + Wait + Clock + Sync,
+>(rt: &R, alloc: Global, office: &Office<D, L>, keeps: Kept, count: usize) -> Option<Played> {
     let part = Part::Agent(named(alloc, "a1")?, Shelf::new(Some(keeps)), OWNED);
     let (worked, finisher) = both(rt, alloc, office, part, Part::Finisher(count));
     in_time(worked, finisher)
@@ -100,12 +97,11 @@ pub fn the_new_record_stands<R: Threads + Wait + Clock + Sync>(rt: &R, alloc: Gl
 
 /// What an activity does of whose agent more is configured than it owns,
 /// where the office is finished at so many entries.
-fn grown<L: ledger::Ledger + Send + Sync, R: Threads + Wait + Clock + Sync>(
-    rt: &R,
-    alloc: Global,
-    office: &Office<RecordedCluster, L>,
-    count: usize,
-) -> Option<Played> {
+fn grown<
+    D: Running + Send + Sync,
+    L: ledger::Ledger + Send + Sync,
+    R: Threads + Wait + Clock + Sync,
+>(rt: &R, alloc: Global, office: &Office<D, L>, count: usize) -> Option<Played> {
     let part = Part::Agent(named(alloc, "a1")?, Shelf::new(None), OWNED + 2);
     let (grown, finisher) = both(rt, alloc, office, part, Part::Finisher(count));
     in_time(grown, finisher)
@@ -138,11 +134,11 @@ pub fn a_larger_total<R: Threads + Wait + Clock + Sync>(rt: &R, alloc: Global) -
 }
 
 /// Two agents, each of which holds its save until the other's is open.
-fn two_saves_at<L: ledger::Ledger + Send + Sync, R: Threads + Wait + Clock + Sync>(
-    rt: &R,
-    alloc: Global,
-    office: &Office<RecordedCluster, L>,
-) -> Option<(Option<Played>, Option<Played>)> {
+fn two_saves_at<
+    D: Running + Send + Sync,
+    L: ledger::Ledger + Send + Sync,
+    R: Threads + Wait + Clock + Sync,
+>(rt: &R, alloc: Global, office: &Office<D, L>) -> Option<(Option<Played>, Option<Played>)> {
     let flags = Flags::new();
     let one = Part::Held(named(alloc, "a1")?, Held::new(&flags, true));
     let two = Part::Held(named(alloc, "a2")?, Held::new(&flags, false));
@@ -206,10 +202,10 @@ pub fn two_rounds<R: Threads + Wait + Clock + Sync>(rt: &R, alloc: Global) -> bo
 }
 
 /// Whether an office answers others.
-fn answers<L: ledger::Ledger, R: Wait + Clock>(
+fn answers<D: Running, L: ledger::Ledger, R: Wait + Clock>(
     rt: &R,
     alloc: Global,
-    office: &Office<RecordedCluster, L>,
+    office: &Office<D, L>,
 ) -> bool {
     match seat(rt, alloc, office) {
         Some(mut pass) => {
@@ -230,10 +226,10 @@ fn answers<L: ledger::Ledger, R: Wait + Clock>(
     }
 }
 
-fn played_unknown<L: ledger::Ledger, R: Wait + Clock>(
+fn played_unknown<D: Running, L: ledger::Ledger, R: Wait + Clock>(
     rt: &R,
     alloc: Global,
-    office: &Office<RecordedCluster, L>,
+    office: &Office<D, L>,
 ) -> Option<Played> {
     let part = Part::Agent(named(alloc, "b9")?, Shelf::new(None), OWNED);
     play(rt, alloc, office, part)

@@ -5,7 +5,7 @@ use crate::scripts::Move;
 use cluster_core::{KeptEntry, Step, StepCause};
 use desk_lock::{Office, Pass};
 use names_core::{AgentName, StreamId};
-use recorded_clusters::RecordedCluster;
+use running_clusters::Running;
 use std::alloc::Global;
 use std::io::{Read, Write};
 use std::net::{Net, SocketAddr, TcpListener, TcpStream};
@@ -41,25 +41,25 @@ fn reads_last(alloc: Global, stream: &mut TcpStream, want: &str) -> bool {
 
 /// A client, with a seat of its own by which it has the cluster take steps.
 #[derive(Drop)]
-pub struct Client<'a, L: ledger::Ledger, R: Wait + Clock> {
+pub struct Client<'a, D: Running, L: ledger::Ledger, R: Wait + Clock> {
     rt: &'a R,
     alloc: Global,
-    office: &'a Office<RecordedCluster, L>,
+    office: &'a Office<D, L>,
     pass: Pass<KeptEntry, L>,
     gate: &'a Overlap<'a, R>,
     to: SocketAddr,
     connections: Vec<TcpStream>,
 }
 
-impl<'a, L: ledger::Ledger, R: Wait + Clock> Client<'a, L, R> {
+impl<'a, D: Running, L: ledger::Ledger, R: Wait + Clock> Client<'a, D, L, R> {
     pub fn new(
         rt: &'a R,
         alloc: Global,
-        office: &'a Office<RecordedCluster, L>,
+        office: &'a Office<D, L>,
         pass: Pass<KeptEntry, L>,
         gate: &'a Overlap<'a, R>,
         to: SocketAddr,
-    ) -> Client<'a, L, R> {
+    ) -> Client<'a, D, L, R> {
         Client {
             rt,
             alloc,
@@ -99,9 +99,10 @@ impl<'a, L: ledger::Ledger, R: Wait + Clock> Client<'a, L, R> {
 
 impl<
     'a,
+    D: Running,
     L: ledger::Ledger,
     R: Net<Listener = TcpListener, Stream = TcpStream> + Wait + Clock,
-> Client<'a, L, R> {
+> Client<'a, D, L, R> {
     fn ask(&mut self, request: &str) -> bool {
         match connect(self.rt, self.to, request) {
             Some(stream) => self.connections.push(stream).is_ok(),

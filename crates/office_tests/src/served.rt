@@ -16,6 +16,7 @@ use post_rules::Queues;
 use quantity::Resources;
 use recorded_clusters::RecordedCluster;
 use role_weights::Weights;
+use running_clusters::Running;
 use std::alloc::Global;
 use std::net::{Net, TcpListener, TcpStream};
 use std::sync::ledger::Blank;
@@ -106,7 +107,7 @@ impl<L: ledger::Ledger> Left<L> {
     }
 
     /// Adds the passes of all connections for the close.
-    fn hand_in_all<R: Wait>(&mut self, seats: Vec<Seating<'_, RecordedCluster, L, R>>) {
+    fn hand_in_all<D: Running, R: Wait>(&mut self, seats: Vec<Seating<'_, D, L, R>>) {
         for seat in seats {
             match seat.into_pass() {
                 Some(pass) => self.hand_in(pass),
@@ -116,24 +117,24 @@ impl<L: ledger::Ledger> Left<L> {
     }
 }
 
-fn client_of<'x, L: ledger::Ledger, R: Wait + Clock>(
+fn client_of<'x, D: Running, L: ledger::Ledger, R: Wait + Clock>(
     rt: &'x R,
     alloc: Global,
-    office: &'x Office<RecordedCluster, L>,
+    office: &'x Office<D, L>,
     gate: &'x Overlap<'x, R>,
     listener: &TcpListener,
-) -> Option<Client<'x, L, R>> {
+) -> Option<Client<'x, D, L, R>> {
     let to = listener.local_addr().ok()?;
     let pass = office.open_seat(rt, alloc).ok()?;
     Some(Client::new(rt, alloc, office, pass, gate, to))
 }
 
-fn arrivals_at<'x, L: ledger::Ledger, R: Wait + Clock>(
+fn arrivals_at<'x, D: Running, L: ledger::Ledger, R: Wait + Clock>(
     rt: &'x R,
     alloc: Global,
-    office: &'x Office<RecordedCluster, L>,
+    office: &'x Office<D, L>,
     listener: &'x TcpListener,
-) -> Option<TcpArrivals<'x, RecordedCluster, L, R>> {
+) -> Option<TcpArrivals<'x, D, L, R>> {
     let pass = office.open_seat(rt, alloc).ok()?;
     Some(TcpArrivals::new(rt, alloc, office, pass, listener, 0))
 }
@@ -141,13 +142,14 @@ fn arrivals_at<'x, L: ledger::Ledger, R: Wait + Clock>(
 /// Serves a client that plays a script, in two threads.
 fn join<
     'x,
+    D: Running + Send + Sync,
     L: ledger::Ledger + Send + Sync,
     R: Net<Listener = TcpListener, Stream = TcpStream> + Threads + Wait + Clock + Sync,
 >(
     rt: &'x R,
     alloc: Global,
-    client: Client<'x, L, R>,
-    mut arrivals: TcpArrivals<'x, RecordedCluster, L, R>,
+    client: Client<'x, D, L, R>,
+    mut arrivals: TcpArrivals<'x, D, L, R>,
     gate: &Overlap<'_, R>,
     script: &[Move],
     left: &mut Left<L>,
@@ -167,12 +169,13 @@ fn join<
 /// Serves a client that plays a script, and returns whether it could.
 fn serve<
     'x,
+    D: Running + Send + Sync,
     L: ledger::Ledger + Send + Sync,
     R: Net<Listener = TcpListener, Stream = TcpStream> + Threads + Wait + Clock + Sync,
 >(
     rt: &'x R,
     alloc: Global,
-    office: &'x Office<RecordedCluster, L>,
+    office: &'x Office<D, L>,
     gate: &'x Overlap<'x, R>,
     script: &[Move],
     left: &mut Left<L>,
@@ -247,10 +250,10 @@ pub fn served<
 
 /// Whether who waits on a stream that was never opened is refused: no step is taken,
 /// and the stream isn't reported to have ended.
-fn is_refused<L: ledger::Ledger, R: Wait>(
+fn is_refused<D: Running, L: ledger::Ledger, R: Wait>(
     rt: &R,
     alloc: Global,
-    office: &Office<RecordedCluster, L>,
+    office: &Office<D, L>,
 ) -> bool {
     let Ok(pass) = office.open_seat(rt, alloc) else {
         return false;

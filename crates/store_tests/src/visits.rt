@@ -52,6 +52,15 @@ pub(crate) trait Visitor {
     ) -> S::Disks;
 }
 
+/// What a visit leaves of files. (Over one kind of disk the prover takes nearly twice as long.)
+fn left_by<D: Disk + Drop, V: Visitor>(
+    alloc: Global,
+    disks: Files<D>,
+    visitor: &mut V,
+) -> Files<D> {
+    visitor.over(alloc, connected(alloc, disks))
+}
+
 /// What is left of files of these contents, which stop after so many calls, after a visit and a
 /// stop: all that was written, or what was synced alone. None for want of memory.
 pub(crate) fn visit<V: Visitor>(
@@ -62,8 +71,7 @@ pub(crate) fn visit<V: Visitor>(
     visitor: &mut V,
 ) -> Option<Contents> {
     let disks = disks_of(alloc, contents, calls)?;
-    let left = visitor.over(alloc, connected(alloc, disks));
-    contents_of(alloc, left, is_lossy)
+    contents_of(alloc, left_by(alloc, disks, visitor), is_lossy)
 }
 
 /// A keeper saves a record.
