@@ -4,4 +4,3 @@ pub mod Telling
 pub mod SafeStories
 pub mod Posted
 pub mod Found
-pub mod RunSteps

@@ -4,4 +4,3 @@ pub mod Keeping
 pub mod Safety
 pub mod Reading
 pub mod Stopping
-pub mod Running

@@ -5,7 +5,7 @@
 
 mod advancing;
 mod cluster;
-mod running;
+mod fresh;
 mod safety;
 mod stopping;
 mod taken;
@@ -15,6 +15,6 @@ pub use cluster::Cluster;
 pub use cluster_entries::{Entry, Outputs};
 pub use cluster_openings::{fresh_agents_open, fresh_records, good_opening};
 pub use cluster_steps::{ClusterFault, Keep, Sent, Step, StepCause, Verdict};
-pub use running::{open_fresh, run};
+pub use fresh::open_fresh;
 pub use running_clusters::KeptEntry;
 pub use taken::Taken;

@@ -3,9 +3,8 @@
 
 ghost use Rattle.std.specs.Prelude.{◌<◌};
 
-use cluster_core::{
-    Cluster, ClusterFault, Record, Step, Verdict, fresh_records, good_opening, run as run_of,
-};
+use cluster_core::{Cluster, ClusterFault, Record, Step, Verdict, fresh_records, good_opening};
+use cluster_runs::run as run_of;
 use master_core::Config;
 use names_core::Run;
 use post_rules::EverSent;

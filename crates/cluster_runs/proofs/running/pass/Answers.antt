@@ -2,9 +2,9 @@ use Rattle.std.proofs.Common.{◌≤◌, ℕ, subst, sym}
 use Rattle.std.specs.Prelude.{OnOk}
 use Rattle.post_rules.specs.Numbers.{is_number}
 use Rattle.cluster_steps.specs.declared.step.Step.{Step}
-use Rattle.cluster_core.specs.Running.{Passes}
-use Rattle.cluster_core.proofs.RunSteps.{numbers_so, passes_so}
-use Rattle.cluster_core.proofs.running.pass.Goals as goal
+use Rattle.cluster_runs.specs.Running.{Passes}
+use Rattle.cluster_runs.proofs.RunSteps.{numbers_so, passes_so}
+use Rattle.cluster_runs.proofs.running.pass.Goals as goal
 
 pub returns-clause-passed : goal.returns-clause-passed
 returns-clause-passed c =

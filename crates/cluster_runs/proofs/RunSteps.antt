@@ -11,7 +11,7 @@ use Rattle.cluster_steps.specs.declared.fault.ClusterFault.TheVariants as faults
 use Rattle.cluster_steps.specs.Verdicts.{fell}
 use Rattle.post_rules.specs.Numbers.{is_number}
 use Rattle.cluster_core.specs.Keeping.{IsRefused, IsTaken}
-use Rattle.cluster_core.specs.Running.{Passes, Ran, marked_as}
+use Rattle.cluster_runs.specs.Running.{Passes, Ran, marked_as}
 use Rattle.cluster_core.specs.Stories.{Story, history_of, state_of, with_entry}
 use Rattle.cluster_core.specs.declared.taken.Taken.{Taken}
 use Rattle.cluster_parts.proofs.Mastering.{extended_more}

@@ -1,9 +1,9 @@
 use Rattle.std.proofs.Common.{◌≡◌, ◌<◌, ◌+◌, ◌++◌, ◌∷◌, [], ◌∙◌, List, ap, arith, length, subst, sym, take}
 use Rattle.std.proofs.lemmas.List.{take_more}
 use Rattle.cluster_steps.specs.declared.step.Step.{Step}
-use Rattle.cluster_core.specs.Running.{Ran}
-use Rattle.cluster_core.proofs.RunSteps.{one_ran}
-use Rattle.cluster_core.proofs.running.pass_all.Goals as goal
+use Rattle.cluster_runs.specs.Running.{Ran}
+use Rattle.cluster_runs.proofs.RunSteps.{one_ran}
+use Rattle.cluster_runs.proofs.running.pass_all.Goals as goal
 
 pub loop-step-preserved : goal.loop-step-preserved
 loop-step-preserved c =

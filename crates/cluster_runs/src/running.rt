@@ -3,38 +3,16 @@
 ghost use Rattle.std.specs.Prelude.{◌≡◌, ◌≢◌, [], IfOk, IfErr, OnOk};
 ghost use Rattle.cluster_openings.specs.Fresh.{fresh_records};
 ghost use Rattle.cluster_core.specs.Safety.{Safe};
-ghost use Rattle.cluster_core.specs.Running.{Passes, Ran};
+ghost use Rattle.cluster_runs.specs.Running.{Passes, Ran};
 ghost use Rattle.cluster_steps.specs.declared.fault.ClusterFault.TheVariants.{OutOfMemory};
 
-use crate::cluster::Cluster;
-use crate::taken::Taken;
 use agent_sides::Config;
-use cluster_openings::{fresh_agents_open, fresh_records};
+use cluster_core::{Cluster, Taken, open_fresh};
 use cluster_steps::{ClusterFault, Step};
-use names_core::Run;
 use plain_data::Plain;
 use post_rules::EverSent;
 use role_weights::Weights;
 use std::alloc::Global;
-
-/// The cluster of configured agents that never ran, in run 1, with these weights of roles.
-pub fn open_fresh(
-    alloc: Global,
-    config: Config,
-    weights: Weights,
-) -> Result<Cluster<EverSent>, ClusterFault>
-    ensures opened { IfOk result (λ cluster. cluster.story
-        ≡ record {
-          setup = record { run = 1; weights = weights };
-          records = fresh_records config;
-          entries = [];
-        }) }
-    ensures memory { IfErr result (λ fault. fault ≡ OutOfMemory) }
-{
-    fresh_agents_open(&config);
-    let records = fresh_records(alloc, &config)?;
-    Cluster::open(alloc, config, weights, records, Run::new(1))
-}
 
 /// Of a step's refusals `C9 OutOfMemory` alone.
 fn unless_memory(taken: &Result<Taken, ClusterFault>) -> Result<(), ClusterFault>

@@ -1,0 +1,33 @@
+//! Clusters of agents that never ran.
+
+ghost use Rattle.std.specs.Prelude.{◌≡◌, [], IfOk, IfErr};
+ghost use Rattle.cluster_openings.specs.Fresh.{fresh_records};
+ghost use Rattle.cluster_steps.specs.declared.fault.ClusterFault.TheVariants.{OutOfMemory};
+
+use crate::cluster::Cluster;
+use agent_sides::Config;
+use cluster_openings::{fresh_agents_open, fresh_records};
+use cluster_steps::ClusterFault;
+use names_core::Run;
+use post_rules::EverSent;
+use role_weights::Weights;
+use std::alloc::Global;
+
+/// The cluster of configured agents that never ran, in run 1, with these weights of roles.
+pub fn open_fresh(
+    alloc: Global,
+    config: Config,
+    weights: Weights,
+) -> Result<Cluster<EverSent>, ClusterFault>
+    ensures opened { IfOk result (λ cluster. cluster.story
+        ≡ record {
+          setup = record { run = 1; weights = weights };
+          records = fresh_records config;
+          entries = [];
+        }) }
+    ensures memory { IfErr result (λ fault. fault ≡ OutOfMemory) }
+{
+    fresh_agents_open(&config);
+    let records = fresh_records(alloc, &config)?;
+    Cluster::open(alloc, config, weights, records, Run::new(1))
+}
