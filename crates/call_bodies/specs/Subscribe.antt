@@ -34,13 +34,29 @@ chosen_role None role = unwrap_or role (codes "*")
 abbrev pub info_of : Data → Option Data
 info_of d = member_of (codes "framework_info") (get (codes "subscribe") d)
 
+-- the id of a `framework_info`, which has a user and a name
+unfoldable pub info_id : Option Data → Result (Option Numbered) Refusal
+info_id info = do
+  user ← required members.User (text_of (member_of (codes "user") info))
+  name ← required members.FrameworkName (text_of (member_of (codes "name") info))
+  optional framework_id (id_text_of (member_of (codes "id") info))
+
+-- its role
+unfoldable pub info_role : Option Data → Result (List ℕ) Refusal
+info_role info = do
+  role ← optional role_name (text_of (member_of (codes "role") info))
+  one ← roles_of (option_and_then as_array (member_of (codes "roles") info))
+  Ok (chosen_role one role)
+
+-- the id of the framework, which `framework_info` has, or the call itself
+unfoldable pub call_id : Data → Option Numbered → Result (Option Numbered) Refusal
+call_id d id = do
+  framework ← optional framework_id (id_text_of (get (codes "framework_id") d))
+  one_id id framework
+
 unfoldable pub subscribe_of : Data → Result Call Refusal
 subscribe_of d = do
-  user ← required members.User (text_of (member_of (codes "user") (info_of d)))
-  name ← required members.FrameworkName (text_of (member_of (codes "name") (info_of d)))
-  id ← optional framework_id (id_text_of (member_of (codes "id") (info_of d)))
-  role ← optional role_name (text_of (member_of (codes "role") (info_of d)))
-  one ← roles_of (option_and_then as_array (member_of (codes "roles") (info_of d)))
-  framework ← optional framework_id (id_text_of (get (codes "framework_id") d))
-  same ← one_id id framework
-  Ok (Subscribe same (chosen_role one role))
+  id ← info_id (info_of d)
+  role ← info_role (info_of d)
+  framework ← call_id d id
+  Ok (Subscribe framework role)
