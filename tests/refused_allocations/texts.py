@@ -1,11 +1,12 @@
 #!/usr/bin/env python3
 """Runs the built `case_tables` over the short lines of texts of its table with one of its allocations refused, for many allocations in turn.
 
-At most one line may then differ from the one that is due, and that line must tell of memory; or the program ends there, with status 1 and a message
+At most one line may then differ from the one that is due, and that line must tell of memory; or the program ends there, with status 3 and a message
 that tells of memory. A C compiler is asked for. It prints what it checked, and ends within a minute. PROGRAM=.. names another program than
 crates/case_tables/out/case_tables; MOST=.. how many allocations are refused, evenly spread (1000).
 """
 
+import itertools
 import os
 import subprocess
 import sys
@@ -18,10 +19,11 @@ MOST = int(os.environ.get("MOST", "1000"))
 
 
 def short_lines():
-    """The lines of the table without a part that stands a thousand times or more, but for those whose last word alone is answered."""
+    """The lines of the table without a part that stands a thousand times or more, but for those whose last word alone is answered, and the history at its end."""
     with open(f"{CRATE}/stdin", encoding="utf-8") as table:
         counts = lambda line: [part.split("*")[0] for part in line.split("~")[1::2]]
-        asked = [line for line in table if not line.startswith(("named ", "updates ", "issued "))]
+        kinds = itertools.takewhile(lambda line: line != "history\n", table)
+        asked = [line for line in kinds if not line.startswith(("named ", "updates ", "issued "))]
     lines = [line for line in asked if all(len(count) < 4 for count in counts(line))]
     return "".join(lines).encode()
 
@@ -32,7 +34,7 @@ def run(shim, given, refuse, count_to="/dev/null"):
 
 
 def tells_of_memory(line):
-    return b"OutOfMemory" in line or b"AllocError" in line
+    return any(it in line.lower() for it in (b"outofmemory", b"allocerror", b"out of memory"))
 
 
 def check(due, ran):
@@ -43,7 +45,7 @@ def check(due, ran):
     if ran.returncode == 0:
         assert len(lines) == len(due), ran
         return False
-    assert ran.returncode == 1 and not others and tells_of_memory(ran.stderr), ran
+    assert ran.returncode == 3 and not others and tells_of_memory(ran.stderr), ran
     return True
 
 

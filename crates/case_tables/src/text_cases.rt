@@ -17,7 +17,6 @@
 //!   of a call are, and `written` writes a record's text again;
 //! - `message`, `offered`, `finished`: events whose texts no replay has;
 //! - `refusal`: the text of a refusal that no other line meets.
-#![tactic(auto)]
 
 mod amounts;
 mod events;
@@ -28,4 +27,4 @@ mod refusals;
 mod streams;
 mod texts;
 
-pub use lines::answer;
+pub(crate) use lines::answer;

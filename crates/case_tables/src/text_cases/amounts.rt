@@ -69,7 +69,7 @@ fn of_list(
     }
 }
 
-pub fn of_amounts(alloc: Global, kind: &str, text: &str) -> Result<String, AllocError> {
+pub(crate) fn of_amounts(alloc: Global, kind: &str, text: &str) -> Result<String, AllocError> {
     let (some, others) = text.split_once(" and ").unwrap_or((text, "-"));
     match amounts(alloc, some) {
         Ok(mut some) => of_list(alloc, kind, &mut some, others),

@@ -26,7 +26,7 @@ fn push_copies(text: &mut String, part: &str, count: u32) -> Result<(), AllocErr
 }
 
 /// The text with what each of its marks stands for in the mark's place.
-pub fn unmarked(alloc: Global, marked: &str) -> Result<String, AllocError> {
+pub(crate) fn unmarked(alloc: Global, marked: &str) -> Result<String, AllocError> {
     let mut text = String::new(alloc);
     let mut is_mark = false;
     for part in marked.split('~') {

@@ -5,7 +5,7 @@ use std::alloc::{AllocError, Global};
 use stream_core::{LinkIn, LinkOut, StreamFault, Updates};
 
 /// Whether the first of two launch keys is before the other.
-pub fn earlier(alloc: Global, text: &str) -> Result<String, AllocError> {
+pub(crate) fn earlier(alloc: Global, text: &str) -> Result<String, AllocError> {
     let (first, other) = text.split_once(' ').unwrap_or((text, ""));
     let is_earlier = LaunchKey::from_text(first).ok() < LaunchKey::from_text(other).ok();
     format!(in alloc; "{is_earlier}")
@@ -22,7 +22,7 @@ fn change(updates: &mut Updates, word: &str) -> Result<(), StreamFault> {
 /// What the last of the words is answered with, each a state or the number of an update that is
 /// acknowledged; then the front, how many of how many states are acknowledged, and whether the task
 /// is done.
-pub fn updates(alloc: Global, text: &str) -> Result<String, AllocError> {
+pub(crate) fn updates(alloc: Global, text: &str) -> Result<String, AllocError> {
     let mut updates = Updates::new(alloc);
     let mut last = Ok(());
     for word in text.split(' ') {
@@ -42,7 +42,7 @@ fn send(alloc: Global, sender: &mut LinkOut<char>, word: &str) -> Result<String,
 
 /// What a sender answers to the last of the words, each a letter to issue or a count to apply; then
 /// how many commands are known to be applied, how many wait, and whether the numbers are spent.
-pub fn issued(alloc: Global, text: &str) -> Result<String, AllocError> {
+pub(crate) fn issued(alloc: Global, text: &str) -> Result<String, AllocError> {
     let mut sender = LinkOut::new(alloc);
     let mut last = Ok(String::new(alloc));
     for word in text.split(' ') {
@@ -54,7 +54,7 @@ pub fn issued(alloc: Global, text: &str) -> Result<String, AllocError> {
 
 /// What a receiver answers to the last of the commands with these numbers,
 /// and how many it has taken then.
-pub fn taken(alloc: Global, text: &str) -> Result<String, AllocError> {
+pub(crate) fn taken(alloc: Global, text: &str) -> Result<String, AllocError> {
     let mut receiver = LinkIn::new();
     let mut last = Ok(());
     for word in text.split(' ') {

@@ -1,5 +1,5 @@
 use Rattle.std.proofs.Common.{◌≤◌, ◌-◌, length}
-use Rattle.text_cases.proofs.frames.push_pulls.Given as goal
+use Rattle.case_tables.proofs.text_cases.frames.push_pulls.Given as goal
 
 abbrev pub invariant-loop-taken : goal.invariant-loop-taken
 invariant-loop-taken l = l.used ≤ length l.piece

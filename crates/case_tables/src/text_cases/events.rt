@@ -15,7 +15,7 @@ fn written(alloc: Global, event: &Event) -> Result<String, AllocError> {
 }
 
 /// The error with this message.
-pub fn message(alloc: Global, text: &str) -> Result<String, AllocError> {
+pub(crate) fn message(alloc: Global, text: &str) -> Result<String, AllocError> {
     if text.len() > 255 {
         return "too long".to_string(alloc);
     }
@@ -33,7 +33,7 @@ fn status(alloc: Global, text: &str) -> Result<TaskStatus, NameFault> {
     })
 }
 
-pub fn finished(alloc: Global, text: &str) -> Result<String, AllocError> {
+pub(crate) fn finished(alloc: Global, text: &str) -> Result<String, AllocError> {
     match status(alloc, text) {
         Ok(status) => written(alloc, &Event::Update { status }),
         Err(fault) => format!(in alloc; "{fault}"),
@@ -58,7 +58,7 @@ fn offers(alloc: Global, agent: AgentName) -> Result<Event, AllocError> {
 }
 
 /// An offer of nothing on the agent of this name.
-pub fn offered(alloc: Global, text: &str) -> Result<String, AllocError> {
+pub(crate) fn offered(alloc: Global, text: &str) -> Result<String, AllocError> {
     match AgentName::from_text(alloc, text) {
         Ok(agent) => written(alloc, &offers(alloc, agent)?),
         Err(fault) => format!(in alloc; "{fault}"),

@@ -13,7 +13,7 @@ fn front(bytes: &[u8]) -> (usize, &str) {
 }
 
 /// The written form of a record with this text.
-pub fn frame(alloc: Global, text: &str) -> Result<String, AllocError> {
+pub(crate) fn frame(alloc: Global, text: &str) -> Result<String, AllocError> {
     match encode(alloc, text.as_bytes()) {
         Ok(written) => format!(in alloc; "{:?}", front(&written)),
         Err(fault) => format!(in alloc; "{fault}"),
@@ -57,7 +57,7 @@ fn push_all(
 
 /// The records of the text after the first word, read in pieces of as many bytes as that word
 /// says; then the answers to the last piece and to the end.
-pub fn frames(alloc: Global, text: &str) -> Result<String, AllocError> {
+pub(crate) fn frames(alloc: Global, text: &str) -> Result<String, AllocError> {
     let (size, text) = text.split_once(' ').unwrap_or((text, ""));
     let size = size.parse().unwrap_or(1);
     let mut reader = Reader::new(alloc);
@@ -102,7 +102,7 @@ fn push_all_pulls(
 
 /// What is pulled from the text after the first word,
 /// which comes in pieces of as many bytes as that word says; then the answer to the end.
-pub fn pulls(alloc: Global, text: &str) -> Result<String, AllocError> {
+pub(crate) fn pulls(alloc: Global, text: &str) -> Result<String, AllocError> {
     let (size, text) = text.split_once(' ').unwrap_or((text, ""));
     let size = size.parse().unwrap_or(1);
     let mut reader = Reader::new(alloc);

@@ -1,7 +1,7 @@
 //! A history, line by line.
 
-use crate::steps::{Mark, take_step};
-use crate::stop::Stop;
+use crate::marked_steps::steps::{Mark, take_step};
+use crate::marked_steps::stop::Stop;
 use cluster_core::{Cluster, open_fresh};
 use post_rules::EverSent;
 use replayed_clusters::end_table;

@@ -1,12 +1,12 @@
 //! What a line is answered with.
 
-use crate::amounts::of_amounts;
-use crate::events::{finished, message, offered};
-use crate::frames::{frame, frames, pulls};
-use crate::marks::unmarked;
-use crate::refusals::refusal;
-use crate::streams::{earlier, issued, taken, updates};
-use crate::texts::of_texts;
+use crate::text_cases::amounts::of_amounts;
+use crate::text_cases::events::{finished, message, offered};
+use crate::text_cases::frames::{frame, frames, pulls};
+use crate::text_cases::marks::unmarked;
+use crate::text_cases::refusals::refusal;
+use crate::text_cases::streams::{earlier, issued, taken, updates};
+use crate::text_cases::texts::of_texts;
 use std::alloc::{AllocError, Global};
 
 fn of_kind(alloc: Global, kind: &str, text: &str) -> Result<String, AllocError> {
@@ -30,7 +30,7 @@ fn of_kind(alloc: Global, kind: &str, text: &str) -> Result<String, AllocError> 
 }
 
 /// The answer to a line, which has no line feed.
-pub fn answer(alloc: Global, line: &str) -> Result<String, AllocError> {
+pub(crate) fn answer(alloc: Global, line: &str) -> Result<String, AllocError> {
     if line.is_empty() || line.starts_with('#') {
         return line.to_string(alloc);
     }

@@ -21,7 +21,7 @@ fn of_amounts(name: &str) -> QuantityFault {
 }
 
 /// The text of the refusal of this name: of amounts, or where memory was refused to what is named.
-pub fn refusal(alloc: Global, name: &str) -> Result<String, AllocError> {
+pub(crate) fn refusal(alloc: Global, name: &str) -> Result<String, AllocError> {
     match name {
         "memory agents" => format!(in alloc; "{}", AgentsFault::Memory),
         "memory call" => format!(in alloc; "{}", CallFault::OutOfMemory),

@@ -111,7 +111,7 @@ fn agents(alloc: Global, text: &str) -> Result<String, AllocError> {
     }
 }
 
-pub fn of_texts(alloc: Global, kind: &str, text: &str) -> Result<String, AllocError> {
+pub(crate) fn of_texts(alloc: Global, kind: &str, text: &str) -> Result<String, AllocError> {
     match kind {
         "trim" => trimmed(alloc, text),
         "call" => call(alloc, text),
