@@ -7,7 +7,7 @@ use Rattle.std.proofs.lemmas.Bool.Decides.{nat_tests}
 use Rattle.names_core.specs.Ids.{Numbered, same}
 use Rattle.id_spans.specs.Spans.{has_id}
 use Rattle.id_spans.proofs.Orders.{same_is}
-use Rattle.indexmap.specs.IndexMap.{IndexMap, Updates, get_by}
+use Rattle.std.specs.HashMap.{HashMap, Updates, get_by}
 use Rattle.id_places.specs.declared.places.Id.{Id}
 use Rattle.id_places.specs.declared.places.Place.{Place}
 use Rattle.id_places.specs.declared.places.Place.TheVariants.{At, Several}
@@ -31,7 +31,7 @@ elsewhere None from place only other = refl
 elsewhere (Some (At at)) from place only other = grind (arith, nat_tests)
 elsewhere (Some Several) from place only other = absurd (true≢false (sym only))
 
-module _ {S : Type 0} (k : Id) (old new : IndexMap Id Place S) where
+module _ {S : Type 0} (k : Id) (old new : HashMap Id Place S) where
   there : (w : Option Place) → Updates id_eq old new k w → (id : Numbered) → id_eq k (key id) ≡ false → get_by (is_id id) new ≡ get_by (is_id id) old
   there w updates id other = updates.0 (key id) ∙ ap (λ v. cond v w (get_by (is_id id) old)) other
 

@@ -3,7 +3,7 @@ use Rattle.std.specs.Prelude.{◌≡◌, ℕ, Bool, false, true, not, ◌&&◌, 
 use Rattle.std.specs.List.{AllByRecursion, list_any}
 use Rattle.names_core.specs.Ids.{Numbered, same}
 use Rattle.id_spans.specs.Spans.{has_id}
-use Rattle.indexmap.specs.IndexMap.{IndexMap, get_by}
+use Rattle.std.specs.HashMap.{HashMap, get_by}
 use Rattle.id_places.specs.declared.places.Id.{Id}
 use Rattle.id_places.specs.declared.places.Place.{Place}
 use Rattle.id_places.specs.declared.places.Place.TheVariants.{At, Several}
@@ -35,7 +35,7 @@ abbrev pub is_id : Numbered → Id → Bool
 is_id id other = id.run == other.run && id.n == other.number
 
 -- what may be at a place by the one table may be so by the other
-abbrev pub HasAll : {S : Type 0} → IndexMap Id Place S → IndexMap Id Place S → Type 0
+abbrev pub HasAll : {S : Type 0} → HashMap Id Place S → HashMap Id Place S → Type 0
 HasAll one other =
     (id : Numbered) (place : ℕ) → is_at (get_by (is_id id) one) place ≡ true
     → is_at (get_by (is_id id) other) place ≡ true

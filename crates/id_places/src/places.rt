@@ -3,12 +3,12 @@
 ghost use Rattle.std.specs.Prelude.{◌≡◌, ◌&&◌, ◌==◌, ◌<◌, ◌≤◌, ℕ, false, true, not, Some, IfSome, OnOk, OnErr};
 ghost use Rattle.std.specs.List.{list_any, AllByRecursion};
 ghost use Rattle.names_core.specs.Ids.{Numbered, same};
-ghost use Rattle.indexmap.specs.IndexMap.{get_by};
+ghost use Rattle.std.specs.HashMap.{get_by};
 ghost use Rattle.id_places.specs.Places.{is_at, is_found_at, is_id, is_only, may_be_at, id_of, AreAlike, AreAt, AreGone, IsGone, Keeps, KeepsOthers, KeepsAllOthers, HasAll};
 
 use id_spans::{HasId, Span};
-use indexmap::IndexMap;
 use std::alloc::{AllocError, Global};
+use std::collections::HashMap;
 
 /// So many ids are kept however few records there are.
 const LEAST_LIMIT: u128 = 1000;
@@ -44,7 +44,7 @@ pub enum Found {
 /// removed.
 #[derive(Drop)]
 pub struct Places {
-    by_id: IndexMap<Id, Place>,
+    by_id: HashMap<Id, Place>,
     /// Whether memory was granted for each id. If not, what has an id may be at any place.
     is_whole: bool,
     /// With more ids than this it is time to see how many records there are.
@@ -80,7 +80,7 @@ fn with_place(known: Option<Place>, place: usize) -> Place
     }
 }
 
-fn insert(by_id: &mut IndexMap<Id, Place>, id: Id, place: usize) -> Result<(), AllocError>
+fn insert(by_id: &mut HashMap<Id, Place>, id: Id, place: usize) -> Result<(), AllocError>
     ensures inserted { OnOk result (is_at (get_by (is_id (id_of id)) by_id.new) place ≡ true) }
     ensures kept { OnOk result (HasAll by_id.old by_id.new) }
     ensures err { OnErr result (by_id.new.entries ≡ by_id.old.entries) }
@@ -112,7 +112,7 @@ impl Places {
         ensures { (id : Numbered) (place : ℕ) → may_be_at result id place ≡ false }
     {
         Places {
-            by_id: IndexMap::new(alloc),
+            by_id: HashMap::new(alloc),
             is_whole: true,
             limit: LEAST_LIMIT,
         }
@@ -191,7 +191,7 @@ impl Places {
     {
         let id = id_of(id);
         if is_only(self.by_id.get(&id).copied(), place) {
-            let _place = self.by_id.swap_remove(&id);
+            let _place = self.by_id.remove(&id);
         }
     }
 

@@ -1,18 +1,21 @@
 -- Accounts are at the places of their agents' names.
-use Rattle.std.proofs.Common.{◌≡◌, ℕ, zero, suc, ◌+◌, ◌<◌, ◌≤◌, Bool, true, false, not, cond, ◌&&◌, ◌||◌, nat_lt, List, [], ◌∷◌, ◌++◌, length, map, set, get_or, None, Some, Result, Ok, OnOk, OnErr, bytes_eq, refl, sym, ap, ◌∙◌, subst, arith}
+use Rattle.std.proofs.Common.{◌≡◌, ℕ, zero, suc, ◌+◌, ◌<◌, ◌≤◌, Bool, true, false, not, cond, ◌&&◌, ◌||◌, nat_lt, eqb, List, [], ◌∷◌, ◌++◌, length, map, set, get_or, None, Some, Result, Ok, OnOk, OnErr, bytes_eq, string_bytes, refl, sym, ap, ◌∙◌, subst, arith}
 use Rattle.std.specs.Prelude.{String}
 use Rattle.std.specs.List.{list_any, position, position_or_len, AllByRecursion, IsDistinct}
-use Rattle.std.specs.Cmp.Lexicographic.{bytes_decides}
-use Rattle.std.proofs.lemmas.Bool.{true≢false, ltb-false}
+use Rattle.std.specs.Cmp.Lexicographic.{bytes_decides, nat_list_eq_equiv}
+use Rattle.std.proofs.lemmas.Bool.{ltb-false}
 use Rattle.std.proofs.lemmas.Bool.Decides.{nat_tests}
 use Rattle.std.proofs.lemmas.List.Quantifiers.{position-Some}
-use Rattle.std.proofs.lemmas.List.Sums.{position_or_len_is}
-use Rattle.std.proofs.lemmas.Map.Keys.{IsDistinct-head, IsDistinct-tail}
-use Rattle.indexmap.specs.IndexSet.{IndexSet}
+use Rattle.std.proofs.lemmas.List.{length-append}
+use Rattle.std.proofs.lemmas.List.Sums.{position_or_len_is, prefix_len-le-length}
+use Rattle.std.proofs.lemmas.List.Folds.{position_or_len_push}
+use Rattle.std.proofs.lemmas.Map.Keys.{IsDistinct-head, IsDistinct-push, IsDistinct-tail}
+use Rattle.std.specs.HashMap.{HashMap, get_by_text}
+use Rattle.std.specs.Map.{lookup, update}
 use Rattle.agent_accounts.specs.Accounts.{Account}
 use Rattle.offer_book.specs.Books.{at_first, changed, is_agent, is_named_so}
 use Rattle.offer_book.specs.declared.fault.BookFault.{BookFault}
-use Rattle.offer_book.specs.ByName.{AreNamesOf}
+use Rattle.offer_book.specs.ByName.{AreNames, AreNamesOf}
 use Rattle.offer_book.proofs.Refusing.{after_change, settled}
 
 abbrev pub name_of : Account → List ℕ
@@ -40,17 +43,6 @@ names_set (c ∷ as_) (suc i) a b within is same = ap (λ ns. c.name ∷ ns) (na
 pub names_more : (as_ : List Account) (a : Account) → map name_of (as_ ++ a ∷ []) ≡ map name_of as_ ++ a.name ∷ []
 names_more [] a = refl
 names_more (b ∷ as_) a = ap (λ ns. b.name ∷ ns) (names_more as_ a)
-
--- whether two names are one, either way
-
-turned : (xs ys : List ℕ) → bytes_eq ys xs ≡ bytes_eq xs ys
-turned xs ys = by (bytes_eq xs ys) refl (bytes_eq ys xs) refl
-  where
-    by : (v : Bool) → bytes_eq xs ys ≡ v → (w : Bool) → bytes_eq ys xs ≡ w → w ≡ v
-    by true e true f = refl
-    by false e false f = refl
-    by true e false f = absurd (true≢false (sym ((bytes_decides ys xs).1 (sym ((bytes_decides xs ys).0 e))) ∙ f))
-    by false e true f = absurd (true≢false (sym ((bytes_decides xs ys).1 (sym ((bytes_decides ys xs).0 f))) ∙ e))
 
 neither : (v w : Bool) → w ≡ false → (v && w) ≡ false
 neither true w e = e
@@ -92,88 +84,111 @@ module _ (name : List ℕ) (as_ : List Account) where
           by_case true e rest past = absurd (omega (arith, past))
           by_case false e rest past = rw (neither b.is_in (is_named_so name b) e) (omega (arith, rest (omega (arith, past))))
 
--- keys whose texts are the names
+-- the names
 
-module _ {K : Type 0} (text : K → List ℕ) (name : List ℕ) where
-  place_same : (ks : List K) (as_ : List Account) → map text ks ≡ map name_of as_ → position_or_len (λ k. bytes_eq name (text k)) ks ≡ position_or_len (is_named_so name) as_
-  place_same [] [] e = refl
-  place_same [] (a ∷ as_) e = absurd (cc)
-  place_same (k ∷ ks) [] e = absurd (cc)
-  place_same (k ∷ ks) (a ∷ as_) e =
-      let here : text k ≡ a.name = cc in
-      let rest : map text ks ≡ map name_of as_ = cc in
-      λ i. cond (not ((ap (bytes_eq name) here ∙ turned a.name name) i)) (1 + place_same ks as_ rest i) 0
+abbrev names_of : List Account → List (List ℕ)
+names_of as_ = map name_of as_
 
-  length_same : (ks : List K) (as_ : List Account) → map text ks ≡ map name_of as_ → length ks ≡ length as_
-  length_same [] [] e = refl
-  length_same [] (a ∷ as_) e = absurd (cc)
-  length_same (k ∷ ks) [] e = absurd (cc)
-  length_same (k ∷ ks) (a ∷ as_) e = let rest : map text ks ≡ map name_of as_ = cc in ap (λ n. suc n) (length_same ks as_ rest)
+turned : (xs ys : List ℕ) → bytes_eq ys xs ≡ bytes_eq xs ys
+turned xs ys = nat_list_eq_equiv.symm ys xs
 
-  pub position_same : (ks : List K) (as_ : List Account) → map text ks ≡ map name_of as_ → position (λ k. bytes_eq name (text k)) ks ≡ position (is_named_so name) as_
-  position_same ks as_ e = λ i. cond (nat_lt (place_same ks as_ e i) (length_same ks as_ e i)) (Some (place_same ks as_ e i)) None
+module _ (name : List ℕ) where
+  place_same : (as_ : List Account) → position_or_len (bytes_eq name) (names_of as_) ≡ position_or_len (is_named_so name) as_
+  place_same [] = refl
+  place_same (a ∷ as_) = λ i. cond (not (turned a.name name i)) (1 + place_same as_ i) 0
 
-  abbrev pub same_key : K → K → Bool
-  same_key x y = bytes_eq (text x) (text y)
+  length_same : (as_ : List Account) → length (names_of as_) ≡ length as_
+  length_same [] = refl
+  length_same (a ∷ as_) = ap (λ n. suc n) (length_same as_)
+
+  pub position_same : (as_ : List Account) → position (bytes_eq name) (names_of as_) ≡ position (is_named_so name) as_
+  position_same as_ = λ i. cond (nat_lt (place_same as_ i) (length_same as_ i)) (Some (place_same as_ i)) None
 
   -- no account behind one of this name has the name too
-  none_behind : (n : List ℕ) → bytes_eq n name ≡ true → (ks : List K) (as_ : List Account) → map text ks ≡ map name_of as_ → AllByRecursion (λ y. bytes_eq n (text y) ≡ false) ks → position_or_len (is_agent name) as_ ≡ length as_
-  none_behind n is [] [] e others = refl
-  none_behind n is [] (a ∷ as_) e others = absurd (cc)
-  none_behind n is (k ∷ ks) [] e others = absurd (cc)
-  none_behind n is (k ∷ ks) (a ∷ as_) e others =
-      let here : text k ≡ a.name = cc in
-      let rest : map text ks ≡ map name_of as_ = cc in
-      let other : bytes_eq a.name name ≡ false = turned name a.name ∙ (λ i. bytes_eq ((sym ((bytes_decides n name).0 is)) i) ((sym here) i)) ∙ others.0 in
-      rw (neither a.is_in (is_named_so name a) other) (omega (arith, none_behind n is ks as_ rest others.1))
+  none_behind : (n : List ℕ) → bytes_eq n name ≡ true → (as_ : List Account) → AllByRecursion (λ y. bytes_eq n y ≡ false) (names_of as_) → position_or_len (is_agent name) as_ ≡ length as_
+  none_behind n is [] others = refl
+  none_behind n is (a ∷ as_) others =
+      let other : bytes_eq a.name name ≡ false = turned name a.name ∙ (λ i. bytes_eq ((sym ((bytes_decides n name).0 is)) i) a.name) ∙ others.0 in
+      rw (neither a.is_in (is_named_so name a) other) (omega (arith, none_behind n is as_ others.1))
 
   -- an agent that isn't in has no other account
-  pub not_in : (ks : List K) (as_ : List Account) → map text ks ≡ map name_of as_ → IsDistinct same_key ks → (i : ℕ) (a : Account) → position (is_named_so name) as_ ≡ Some i → a ≡ get_or as_ i a → a.is_in ≡ false → position (is_agent name) as_ ≡ None
-  not_in ks as_ e different i a at is out =
+  pub not_in : (as_ : List Account) → IsDistinct bytes_eq (names_of as_) → (i : ℕ) (a : Account) → position (is_named_so name) as_ ≡ Some i → a ≡ get_or as_ i a → a.is_in ≡ false → position (is_agent name) as_ ≡ None
+  not_in as_ different i a at is out =
       let p = position-Some (is_named_so name) as_ i a at in
-      found_nowhere (is_agent name) as_ (past ks as_ e different i p.0 is p.1 p.2)
+      found_nowhere (is_agent name) as_ (past as_ different i p.0 is p.1 p.2)
     where
-      past : (ks : List K) (as_ : List Account) → map text ks ≡ map name_of as_ → IsDistinct same_key ks → (i : ℕ) → i < length as_ → a ≡ get_or as_ i a → is_named_so name (get_or as_ i a) ≡ true
+      past : (as_ : List Account) → IsDistinct bytes_eq (names_of as_) → (i : ℕ) → i < length as_ → a ≡ get_or as_ i a → is_named_so name (get_or as_ i a) ≡ true
           → ((k : ℕ) → k < i → is_named_so name (get_or as_ k a) ≡ false) → position_or_len (is_agent name) as_ ≡ length as_
-      past ks [] e different i within is named fails = absurd (omega (arith, within))
-      past [] (b ∷ bs) e different i within is named fails = absurd (cc)
-      past (k ∷ ks) (b ∷ bs) e different zero within is named fails =
-          let here : text k ≡ b.name = cc in
-          let rest : map text ks ≡ map name_of bs = cc in
+      past [] different i within is named fails = absurd (omega (arith, within))
+      past (b ∷ bs) different zero within is named fails =
           let out_here : b.is_in ≡ false = ap (λ (c : Account). c.is_in) (sym is) ∙ out in
-          let named_here : bytes_eq (text k) name ≡ true = ap (λ n. bytes_eq n name) here ∙ named in
-          rw out_here (omega (arith, none_behind (text k) named_here ks bs rest (IsDistinct-head same_key k ks different)))
-      past (k ∷ ks) (b ∷ bs) e different (suc i) within is named fails =
-          let rest : map text ks ≡ map name_of bs = cc in
-          rw (neither b.is_in (is_named_so name b) (fails 0 (omega arith))) (omega (arith, past ks bs rest (IsDistinct-tail same_key k ks different) i (omega (arith, within)) is named (λ j below. fails (suc j) (omega (arith, below)))))
+          rw out_here (omega (arith, none_behind b.name named bs (IsDistinct-head bytes_eq b.name (names_of bs) different)))
+      past (b ∷ bs) different (suc i) within is named fails =
+          rw (neither b.is_in (is_named_so name b) (fails 0 (omega arith))) (omega (arith, past bs (IsDistinct-tail bytes_eq b.name (names_of bs) different) i (omega (arith, within)) is named (λ j below. fails (suc j) (omega (arith, below)))))
 
--- a key whose text is a new name
+-- one name more
 
-module _ {K : Type 0} (text : K → List ℕ) (name : List ℕ) where
-  none_equal : (ks : List K) → length ks ≤ position_or_len (λ k. bytes_eq name (text k)) ks → list_any (λ k. bytes_eq name (text k)) ks ≡ false
+module _ (name : List ℕ) where
+  none_equal : (ns : List (List ℕ)) → length ns ≤ position_or_len (bytes_eq name) ns → list_any (bytes_eq name) ns ≡ false
   none_equal [] past = refl
-  none_equal (k ∷ ks) past = by_case (bytes_eq name (text k)) refl (none_equal ks) past
+  none_equal (n ∷ ns) past = by_case (bytes_eq name n) refl (none_equal ns) past
     where
-      by_case : (v : Bool) → bytes_eq name (text k) ≡ v → (length ks ≤ position_or_len (λ k. bytes_eq name (text k)) ks → list_any (λ k. bytes_eq name (text k)) ks ≡ false)
-          → length (k ∷ ks) ≤ cond (not v) (1 + position_or_len (λ k. bytes_eq name (text k)) ks) 0 → (bytes_eq name (text k) || list_any (λ k. bytes_eq name (text k)) ks) ≡ false
+      by_case : (v : Bool) → bytes_eq name n ≡ v → (length ns ≤ position_or_len (bytes_eq name) ns → list_any (bytes_eq name) ns ≡ false)
+          → length (n ∷ ns) ≤ cond (not v) (1 + position_or_len (bytes_eq name) ns) 0 → (bytes_eq name n || list_any (bytes_eq name) ns) ≡ false
       by_case true e rest past = absurd (omega (arith, past))
       by_case false e rest past = rw e (rest (omega (arith, past)))
 
-  pub no_key : (ks : List K) (as_ : List Account) → map text ks ≡ map name_of as_ → position (is_named_so name) as_ ≡ None → list_any (λ k. bytes_eq name (text k)) ks ≡ false
-  no_key ks as_ e none = none_equal ks (all_before (λ k. bytes_eq name (text k)) ks (position_same text name ks as_ e ∙ none))
+  -- where a name is, with one more behind the others
 
-  pub keys_more : (ks : List K) (k : K) → map text (ks ++ k ∷ []) ≡ map text ks ++ text k ∷ []
-  keys_more [] k = refl
-  keys_more (j ∷ ks) k = ap (λ ns. text j ∷ ns) (keys_more ks k)
+  at_end : (l n : ℕ) → l ≡ n → cond (eqb l n) (n + 0) l ≡ n
+  at_end l n e = grind arith
+
+  before_end : (l n : ℕ) → l ≤ n → cond (nat_lt (cond (eqb l n) (n + 1) l) (n + 1)) (Some (cond (eqb l n) (n + 1) l)) None ≡ cond (nat_lt l n) (Some l) None
+  before_end l n within = grind (arith, nat_tests)
+
+  place_with : (ns : List (List ℕ)) → length ns ≤ position_or_len (bytes_eq name) ns → (q : List ℕ) → position (bytes_eq q) (ns ++ name ∷ []) ≡ cond (bytes_eq name q) (Some (length ns)) (position (bytes_eq q) ns)
+  place_with ns past q = by_case (bytes_eq name q) refl
+    where
+      by_case : (v : Bool) → bytes_eq name q ≡ v → position (bytes_eq q) (ns ++ name ∷ []) ≡ cond v (Some (length ns)) (position (bytes_eq q) ns)
+      by_case true e =
+          let same : name ≡ q = (bytes_decides name q).0 e in
+          let is : position_or_len (bytes_eq name) ns ≡ length ns = omega (arith, past, prefix_len-le-length (λ x. not (bytes_eq name x)) ns) in
+          let there : position_or_len (bytes_eq name) (ns ++ name ∷ []) ≡ length ns = position_or_len_push (bytes_eq name) ns name ∙ rw (nat_list_eq_equiv.refl name) (at_end (position_or_len (bytes_eq name) ns) (length ns) is) in
+          subst (λ x. position (bytes_eq x) (ns ++ name ∷ []) ≡ Some (length ns)) same
+          (found_at (bytes_eq name) (ns ++ name ∷ []) (length ns) there (omega (arith, length-append ns (name ∷ []))))
+      by_case false e =
+          let l = position_or_len (bytes_eq q) ns in
+          let there : position_or_len (bytes_eq q) (ns ++ name ∷ []) ≡ cond (eqb l (length ns)) (length ns + 1) l = position_or_len_push (bytes_eq q) ns name ∙ rw (turned name q ∙ e) refl in
+          (λ i. cond (nat_lt (there i) (length-append ns (name ∷ []) i)) (Some (there i)) None) ∙ before_end l (length ns) (prefix_len-le-length (λ x. not (bytes_eq q x)) ns)
+
+  pub names_with : {Z S : Type 0} (agents after : HashMap (String Z) ℕ S) (as_ : List Account) (a : Account) → a.name ≡ name → AreNamesOf agents as_ → position (is_named_so name) as_ ≡ None
+      → ((q : List ℕ) → get_by_text after q ≡ update bytes_eq (get_by_text agents) name (Some (length as_)) q) → AreNamesOf after (as_ ++ a ∷ [])
+  names_with agents after as_ a is are none updates =
+      let ns = names_of as_ in
+      let past : length ns ≤ position_or_len (bytes_eq name) ns = all_before (bytes_eq name) ns (position_same name as_ ∙ none) in
+      let more : names_of (as_ ++ a ∷ []) ≡ ns ++ name ∷ [] = names_more as_ a ∙ ap (λ n. ns ++ n ∷ []) is in
+      subst (AreNames after) (sym more) (record {
+        different = IsDistinct-push nat_list_eq_equiv ns name are.different (none_equal ns past);
+        places = λ q. updates q ∙ (λ i. cond (bytes_eq name q) (Some (sym (length_same name as_) i)) (are.places q i)) ∙ sym (place_with ns past q);
+      })
+
+-- no name
+
+none_differ : IsDistinct bytes_eq []
+unfolding IsDistinct
+none_differ = tt
+
+pub no_names : {Z S : Type 0} (agents : HashMap (String Z) ℕ S) → agents.entries ≡ [] → AreNames agents []
+no_names agents empty = record { different = none_differ; places = λ name. ap (lookup (λ k. bytes_eq name (string_bytes k))) empty }
 
 -- where the accounts keep their names
 
-module _ {Z S : Type 0} (agents : IndexSet (String Z) S) (change : Account → Account) (stays : (a : Account) → (change a).name ≡ a.name) (as_ : List Account) (are : AreNamesOf agents as_) where
+module _ {Z S : Type 0} (agents : HashMap (String Z) ℕ S) (change : Account → Account) (stays : (a : Account) → (change a).name ≡ a.name) (as_ : List Account) (are : AreNamesOf agents as_) where
   pub named_at_first : (test : Account → Bool) → AreNamesOf agents (at_first test change as_)
-  named_at_first test = are ∙ sym (names_at_first test change stays as_)
+  named_at_first test = subst (AreNames agents) (sym (names_at_first test change stays as_)) are
 
   pub named_map : AreNamesOf agents (map change as_)
-  named_map = are ∙ sym (names_map change stays as_)
+  named_map = subst (AreNames agents) (sym (names_map change stays as_)) are
 
   pub named_changed : {T : Type 0} (new : List Account) (name : List ℕ) (result : Result T BookFault) → OnOk result (changed name change as_ ≡ Ok new) → OnErr result (new ≡ as_) → AreNamesOf agents new
   named_changed new name result ok err = settled (AreNamesOf agents) as_ new result (after_change (AreNamesOf agents) as_ new name change (named_at_first (is_agent name))) are ok err

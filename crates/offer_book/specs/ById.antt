@@ -1,7 +1,7 @@
 -- The tables by which offers and booked tasks are found by their ids.
-use Rattle.std.specs.Prelude.{Bool, List, String}
+use Rattle.std.specs.Prelude.{ℕ, Bool, List, String}
 use Rattle.std.specs.List.{list_any}
-use Rattle.indexmap.specs.IndexSet.{IndexSet}
+use Rattle.std.specs.HashMap.{HashMap}
 use Rattle.names_core.specs.Ids.{Numbered}
 use Rattle.id_places.specs.declared.places.Places.{Places}
 use Rattle.id_places.specs.Holders.{ArePlaced}
@@ -29,7 +29,7 @@ abbrev pub has_task_as : Numbered → Account → Bool
 has_task_as key a = list_any (has_key key) a.booked
 
 -- the tables of a book have what its accounts have
-pub record AreKept {Z S : Type 0} (agents : IndexSet (String Z) S) (names : Names)
+pub record AreKept {Z S : Type 0} (agents : HashMap (String Z) ℕ S) (names : Names)
     (offers_at tasks_at : Places) (as_ : List Account) : Type 0 where
   pub agents_named : AreNamesOf agents as_
   pub named : AreAllNamed names as_

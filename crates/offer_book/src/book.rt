@@ -20,12 +20,12 @@ use crate::{by_id, by_name, held, names};
 use agent_accounts::{Account, TaskUpdate};
 use id_places::Places;
 use id_spans::Span;
-use indexmap::IndexSet;
 use listed::Listed;
 use mails::{Booked, Command, Offer};
 use names_core::{AgentName, FrameworkId, LaunchKey, OfferId, TaskName};
 use quantity::Resources;
 use std::alloc::Global;
+use std::collections::HashMap;
 use std::marker::Model;
 use task_names::Names;
 
@@ -33,8 +33,8 @@ use task_names::Names;
 /// in order of first entering. An account keeps its place.
 pub struct OfferBook {
     accounts: Vec<Account>,
-    /// The agents' names, each at the place of its account.
-    agents: IndexSet<String>,
+    /// By an agent's name, the place of its account.
+    agents: HashMap<String, usize>,
     /// Among these are the names of all booked tasks.
     names: Names,
     /// By its id, the place of the account that an offer is in.
@@ -70,7 +70,7 @@ impl Model for OfferBook {
 }
 
 fn enter(
-    agents: &mut IndexSet<String>,
+    agents: &mut HashMap<String, usize>,
     accounts: &mut Vec<Account>,
     alloc: Global,
     name: AgentName,
@@ -95,7 +95,7 @@ fn enter(
 }
 
 fn drop_from(
-    agents: &IndexSet<String>,
+    agents: &HashMap<String, usize>,
     accounts: &mut Vec<Account>,
     offers_at: &mut Places,
     tasks_at: &mut Places,
@@ -122,7 +122,7 @@ fn drop_from(
 }
 
 fn free_in(
-    agents: &IndexSet<String>,
+    agents: &HashMap<String, usize>,
     accounts: &[Account],
     alloc: Global,
     name: &AgentName,
@@ -139,7 +139,7 @@ fn free_in(
 
 /// An offer is made, if none of its id is current.
 fn offer_in(
-    agents: &IndexSet<String>,
+    agents: &HashMap<String, usize>,
     accounts: &mut Vec<Account>,
     offers_at: &mut Places,
     alloc: Global,
@@ -172,7 +172,7 @@ fn offer_in(
 /// A task is booked, if none of its key is known. Its name is stored where nothing is refused any
 /// more.
 fn book_in(
-    agents: &IndexSet<String>,
+    agents: &HashMap<String, usize>,
     accounts: &mut Vec<Account>,
     tasks_at: &mut Places,
     names: &mut Names,
@@ -316,7 +316,7 @@ fn withdraw_offers_in(
 }
 
 fn withdraw_on(
-    agents: &IndexSet<String>,
+    agents: &HashMap<String, usize>,
     accounts: &mut Vec<Account>,
     offers_at: &mut Places,
     name: &AgentName,
@@ -341,7 +341,7 @@ fn withdraw_on(
 }
 
 fn receive_on(
-    agents: &IndexSet<String>,
+    agents: &HashMap<String, usize>,
     accounts: &mut Vec<Account>,
     name: &AgentName,
     update: &TaskUpdate,
@@ -362,7 +362,7 @@ fn receive_on(
 }
 
 fn forget_by_on(
-    agents: &IndexSet<String>,
+    agents: &HashMap<String, usize>,
     accounts: &mut Vec<Account>,
     tasks_at: &mut Places,
     name: &AgentName,
@@ -386,7 +386,7 @@ fn forget_by_on(
 }
 
 fn reopen_on(
-    agents: &IndexSet<String>,
+    agents: &HashMap<String, usize>,
     accounts: &mut Vec<Account>,
     offers_at: &mut Places,
     tasks_at: &mut Places,
@@ -433,7 +433,7 @@ impl OfferBook {
     {
         OfferBook {
             accounts: Vec::new(alloc),
-            agents: IndexSet::new(alloc),
+            agents: HashMap::new(alloc),
             names: Names::new(alloc),
             offers_at: Places::new(alloc),
             tasks_at: Places::new(alloc),

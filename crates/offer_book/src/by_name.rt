@@ -7,33 +7,32 @@ ghost use Rattle.offer_book.specs.Books.{is_agent, is_named_so};
 ghost use Rattle.offer_book.specs.ByName.{AreNamesOf};
 
 use agent_accounts::Account;
-use indexmap::IndexSet;
 use names_core::AgentName;
 use quantity::Resources;
 use std::alloc::{AllocError, Global};
+use std::collections::HashMap;
 
 /// The place of the account of the agent of this name, if it ever entered.
 pub(crate) fn place_named(
-    agents: &IndexSet<String>,
+    agents: &HashMap<String, usize>,
     accounts: &[Account],
     name: &AgentName,
 ) -> Option<usize>
     requires { AreNamesOf agents.now accounts.now }
     ensures { result ≡ position (is_named_so name.now) accounts.now }
 {
-    agents.get_index_of(name.as_text())
+    agents.get(name.as_text()).copied()
 }
 
 /// The place of the account of the agent of this name, if it is in.
 pub(crate) fn place_of(
-    agents: &IndexSet<String>,
+    agents: &HashMap<String, usize>,
     accounts: &[Account],
     name: &AgentName,
 ) -> Option<usize>
     requires { AreNamesOf agents.now accounts.now }
     ensures { result ≡ position (is_agent name.now) accounts.now }
 {
-    let _different = agents.as_slice();
     let Some(place) = place_named(agents, accounts, name) else {
         return None;
     };
@@ -45,7 +44,7 @@ pub(crate) fn place_of(
 
 /// Appends an account for an agent that has none, and its name. Where memory is refused, neither.
 pub(crate) fn append(
-    agents: &mut IndexSet<String>,
+    agents: &mut HashMap<String, usize>,
     accounts: &mut Vec<Account>,
     alloc: Global,
     name: AgentName,
@@ -57,11 +56,10 @@ pub(crate) fn append(
     ensures ok { OnOk result (accounts.new.items ≡ accounts.old.items ++ new_account name total ∷ []) }
     ensures err { OnErr result (accounts.new.items ≡ accounts.old.items) }
 {
+    let place = accounts.len();
+    accounts.reserve(1)?;
     let text = String::from_str(alloc, name.as_text())?;
-    agents.insert(text)?;
-    let Ok(()) = accounts.push(Account::new(alloc, name, total)) else {
-        agents.truncate(accounts.len());
-        return Err(AllocError);
-    };
+    agents.insert(text, place)?;
+    accounts.push_reserved(Account::new(alloc, name, total));
     Ok(())
 }

@@ -1,10 +1,11 @@
-use Rattle.std.proofs.Common.{◌≡◌, sym, ap, ◌∙◌, refl}
+use Rattle.std.proofs.Common.{◌≡◌, sym, ap, ◌∙◌, refl, subst}
 use Rattle.std.specs.Cmp.Lexicographic.{bytes_decides}
 use Rattle.std.proofs.lemmas.List.Quantifiers.{position-Some}
 use Rattle.agent_accounts.specs.Accounts.{new_account}
 use Rattle.offer_book.proofs.ByName.{names_set}
 use Rattle.offer_book.proofs.Places.{first_at, none_at}
 use Rattle.offer_book.specs.Books.{is_named_so}
+use Rattle.offer_book.specs.ByName.{AreNames}
 use Rattle.offer_book.proofs.book.enter.Goals as goal
 
 pub returns-in_default-clause-ok : goal.returns-in_default-clause-ok
@@ -27,4 +28,4 @@ returns-clause-names c =
     let a = c.index.result.now in
     let at = position-Some (is_named_so c.args.name) as_ place a (sym (rw c.deref.ensures.value at c.place_named.ensures) ∙ c.in-Some.is) in
     let same : c.args.name ≡ a.name = sym ((bytes_decides a.name c.args.name).0 (ap (is_named_so c.args.name) c.index.ensures ∙ at.1)) in
-    rw c.new.ensures (c.requires ∙ sym (names_set as_ place a (new_account c.args.name c.args.total) at.0 c.index.ensures same))
+    rw c.new.ensures (subst (AreNames c.args.agents.now) (sym (names_set as_ place a (new_account c.args.name c.args.total) at.0 c.index.ensures same)) c.requires)
