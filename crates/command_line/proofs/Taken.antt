@@ -100,7 +100,7 @@ serve_taken words e =
 stops_at_command : (words : List Text) → walk_fault line.top (names_of line) (walk_from nothing_held) words ≡ []
     → IfSome (stop_after line.top.rules (names_of line) words) (λ p. p.0 ≡ codes "help" → ⊥)
 stops_at_command words e =
-    (walk_keeps line.top (λ _. Unit {0}) (λ _. Unit {0}) (λ name. name ≡ codes "help" → ⊥) (tt, tt) (λ a values rows q none k. tt)
+    (walk_keeps line.top (λ _. Unit {0}) (λ _. Unit {0}) (λ name. name ≡ codes "help" → ⊥) (tt, (tt, tt)) (λ a values rows q none k. tt)
     (λ name word h none help. no_help name word h help none) (names_of line) words (walk_from nothing_held) e (tt, tt)).1
   where
     no_help : (name word : Text) (h : Held) → name ≡ codes "help" → other_fault line.top (Some name) word h ≡ [] → ⊥

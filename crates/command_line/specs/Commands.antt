@@ -11,11 +11,18 @@ use Rattle.command_line.specs.Options.{HasOptions, serve_command}
 abbrev pub asks_for_command : App → App
 asks_for_command a = record a { top = record a.top { subcommand_required = true } }
 
+-- `--version` is answered
+abbrev pub names_version : App → App
+names_version a = record a { top = record a.top { has_version = true } }
+
+-- the program, without commands
+abbrev pub program : App
+program = asks_for_command (names_version (new_app (codes "mesos_node")))
+
 -- the program's commands without arguments: `calls` and `replay`
 abbrev pub plain_commands : App
 plain_commands =
-    with_subcommand
-    (with_subcommand (asks_for_command (new_app (codes "mesos_node"))) (new_app (codes "calls")).top)
+    with_subcommand (with_subcommand program (new_app (codes "calls")).top)
     (new_app (codes "replay")).top
 
 -- and with `serve`

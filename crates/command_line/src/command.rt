@@ -21,6 +21,10 @@ pub enum Action<'a> {
     Serve(ServeOptions<'a>),
 }
 
+/// The version, and the toolchain whose proofs it rests on. `tests/docs` compares it with that of
+/// `rt version`.
+const VERSION: &str = "1.0.0 (rattle-kit-13f, logic dac8208d650f15bf)";
+
 const ABOUT: &str =
     "A cluster manager by resource offers that speaks the Mesos scheduler HTTP API.";
 
@@ -112,6 +116,7 @@ fn plain_commands<'a>(alloc: Global) -> Result<Command<'a>, AllocError>
 {
     let top = Command::new(alloc, "mesos_node")
         .about(ABOUT)
+        .version(VERSION)
         .subcommand_required(true);
     let with_calls = top.subcommand(calls_command(alloc))?;
     with_calls.subcommand(replay_command(alloc))
@@ -165,7 +170,7 @@ pub fn taken_words_ask()
 {}
 
 /// The action that the words of a command line ask for, the program's name first.
-/// A fault says what is wrong with them, or holds the help that they ask for.
+/// A fault says what is wrong with them, or holds the help or the version that they ask for.
 pub fn command_of<'a>(alloc: Global, words: &'a [&'a str]) -> Result<Action<'a>, Error>
     ensures asked { IfOk result (AsksFor (texts words.entry.now)) }
     ensures taken { IfOk result (λ _. IsTaken (texts words.entry.now)) }

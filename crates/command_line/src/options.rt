@@ -41,10 +41,15 @@ roles have a whole number from 1 to 1000:
 
   {\"agents\":{\"a1\":{\"cpus\":4,\"mem\":4096}},\"weights\":{\"prod\":2}}
 
+Of a name that is given twice the last one counts, and an agent may own nothing; both are noted on standard error at the start. Where
+FILE is refused, the line behind the refusal names the place. `jq -c . FILE` makes one line of several.
+
+No command of a task is run: a task is a timer, and its executor is simulated.
+
 DIR is a folder that is there. Each agent keeps its record in `agent-NAME.db` in it, and the master the number of its run in
 `master.db`; both are SQLite stores. Started again on the same folder, the agents come up over their records, with their tasks,
-and frameworks resubscribe by their ids. Have one process at a time on a folder: from an agent's first save on, soon after the
-start, its store is locked, and a process that finds it so ends (K1 Store); before that nothing keeps a second one away.
+and frameworks resubscribe by their ids. One server uses a folder at a time: each store is locked from before its first read until
+the server ends, and a second server ends at once (K1 Store).
 
 The master makes a round of offers each `--interval` seconds. A task runs at its agent's next turn (TASK_RUNNING), and ends by
 itself `--task-seconds` later (TASK_FINISHED); with 0 it runs until it is killed. Updates are sent again until they are
