@@ -14,14 +14,17 @@ def try_ports_and_files(folder):
         taken.bind(("127.0.0.1", 0))
         taken.listen()
         tell("a port in use", run_serve(folder, port=taken.getsockname()[1]), 3, "Z2 DeviceFault: port ")
-    for less in ({"cpus": 1}, {"mem": 64}, {}):
+    less_than_recorded = "Z1 TotalDiffers: a1's record has more than is configured"
+    for less in ({"cpus": 1}, {"mem": 64}):
         folder.write({"agents": {"a1": less}})
-        tell(f"a total of {less}", run_serve(folder), 2, "Z1 TotalDiffers: a1's record has more than is configured")
+        tell(f"a total of {less}", run_serve(folder), 2, less_than_recorded)
+    folder.write({"agents": {"a1": {}}})
+    tell("a total of nothing, which is noted too", run_serve(folder), 2, f"{folder.agents}: agents.a1 owns nothing", [less_than_recorded])
     folder.write('{"agents":{"a1":{"cpus":2}}}\n{"agents":{"a1":{"cpus":2}}}\n')
-    tell("two lines", run_serve(folder), 2, "X3 BadConfig: the file of the agents is to be one line")
+    tell("two lines", run_serve(folder), 2, "X3 BadConfig: the file of the agents is to be one line", [folder.agents])
     for case, text in {"no line": "", "no JSON": "a1\n", "no amount": '{"agents":{"a1":{"cpus":0}}}\n', "no agent": '{"agents":{}}\n'}.items():
         folder.write(text)
-        tell(case, run_serve(folder), 2, CONFIGURATION)
+        tell(case, run_serve(folder), 2, CONFIGURATION, [folder.agents])
     folder.write({"agents": AGENTS})
     os.rename(folder.agents, folder.agents + "-")
     tell("no file", run_serve(folder), 3, "Z2 DeviceFault: the file of the agents")
@@ -32,6 +35,8 @@ def try_words(folder):
     for words in ([], ["calls"], ["replay"], ["serve"]):
         status, out, err = run(*words, "--help")
         check(status == 0 and err == "" and "Usage:" in out, f"{words} --help has status {status}, and says {out!r} {err!r}")
+    version = run("--version")
+    check(version[0] == 0 and version[1].startswith("mesos_node ") and "logic " in version[1] and version[2] == "", f"--version says {version}")
     for words, answer in (
         (["--speed", "9"], "error: unexpected argument '--speed' found"),
         (["--interval", "3601"], "error: invalid value '3601' for '--interval <N>'"),
@@ -54,7 +59,7 @@ def main():
         try_words(folder)
         with Server(folder, "--task-seconds", "0") as server:
             Framework(server.port, framework=framework.id).next_offer({"cpus": 1})
-        print(f"{len(TOLD)} faults, each told by one line, with its status; t1 has its cpu after them: {', '.join(TOLD)}")
+        print(f"{len(TOLD)} faults, each told by a line or two, with its status; t1 has its cpu after them: {', '.join(TOLD)}")
         print("--help of the program and of each command has status 0; an option that isn't there, or is out of range, has status 2")
 
 

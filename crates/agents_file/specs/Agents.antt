@@ -6,7 +6,7 @@ use Rattle.step_lines.specs.Configurations.{configured_by}
 use Rattle.step_lines.specs.declared.config.Configuration.{Configuration}
 use Rattle.step_lines.specs.declared.fault.LineRefusal.{LineRefusal}
 use Rattle.agents_file.specs.declared.fault.AgentsFault.{AgentsFault}
-use Rattle.agents_file.specs.declared.fault.AgentsFault.TheVariants.{File, Lines, Config, Memory}
+use Rattle.agents_file.specs.declared.fault.AgentsFault.TheVariants.{Lines, Config, Memory}
 
 -- the text is this one line, whose line feed may lack
 abbrev pub IsLine : List ℕ → List ℕ → Type 0
@@ -29,8 +29,3 @@ Says text (Err Lines) = IsNoLine text
 Says text (Err Config) = (refusal : LineRefusal) × ReadsAs text (Err refusal)
 Says text (Err Memory) = ⊤
 Says text (Err f) = ⊥
-
--- what is said of a file: what is said of some text, or that the file can't be read
-abbrev pub IsRead : Result Configuration AgentsFault → Type 0
-IsRead (Err (File error)) = ⊤
-IsRead due = (text : List ℕ) × Says text due

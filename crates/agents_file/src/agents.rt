@@ -1,15 +1,14 @@
-//! The agents that a text says, and a file, with the weights of roles.
+//! The agents that a text says, with the weights of roles.
 
 ghost use Rattle.std.specs.Prelude.{MatchOption};
-ghost use Rattle.agents_file.specs.Agents.{IsLine, IsNoLine, IsRead, Says};
+ghost use Rattle.agents_file.specs.Agents.{IsLine, IsNoLine, Says};
 
 use crate::fault::AgentsFault;
 use std::alloc::Global;
-use std::fs;
 use step_lines::{Configuration, LineFault, read_config};
 
 /// The text of one line, whose end may lack.
-fn only_line(text: &[u8]) -> Option<&[u8]>
+pub(crate) fn only_line(text: &[u8]) -> Option<&[u8]>
     ensures { MatchOption result (IsNoLine text.now) (λ line. IsLine text.now line.now) }
 {
     let line = match text.split_last() {
@@ -36,16 +35,5 @@ pub fn agents_in(alloc: Global, text: &[u8]) -> Result<Configuration, AgentsFaul
         Ok(config) => Ok(config),
         Err(LineFault::OutOfMemory) => Err(AgentsFault::Memory),
         Err(LineFault::Refused(_)) => Err(AgentsFault::Config),
-    }
-}
-
-/// The agents and weights that the text of the file at this path says (see `agents_in`);
-/// `Z2 DeviceFault` where the file can't be read. Which text a file has no clause says.
-pub fn read_agents(rt: &HostRuntime, path: &str) -> Result<Configuration, AgentsFault>
-    ensures { IsRead result }
-{
-    match fs::read(rt, path) {
-        Ok(text) => agents_in(rt.alloc(), text.as_slice()),
-        Err(error) => Err(AgentsFault::File(error)),
     }
 }

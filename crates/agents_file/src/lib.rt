@@ -4,7 +4,11 @@
 
 mod agents;
 mod fault;
+mod file;
+mod notes;
+mod places;
 
-pub use agents::{agents_in, read_agents};
+pub use agents::agents_in;
 pub use fault::AgentsFault;
+pub use file::{AgentsFile, RefusedFile, read_agents};
 pub use step_lines::Configuration;

@@ -1,19 +1,26 @@
 //! Why a cluster isn't served.
 
 ghost use Rattle.std.specs.Prelude.{◌≡◌};
-ghost use Rattle.mesos_node.specs.Refusals.{is_refusal};
+ghost use Rattle.mesos_node.specs.Refusals.{is_refusal, is_unlike};
 ghost use Rattle.mesos_node.specs.declared.fault.ServeFault.TheVariants.{Agents, Folder, Memory};
 
-use agents_file::AgentsFault;
+use agents_file::{AgentsFault, RefusedFile};
 use record_folder::FolderFault;
 use serving::ServingFault;
 use std::alloc::AllocError;
 use std::{fmt, io};
 
+/// Whether the text of the file of the agents isn't as it is to be.
+fn is_unlike(fault: &AgentsFault) -> bool
+    ensures { result ≡ is_unlike fault.now }
+{
+    matches!(fault, AgentsFault::Lines | AgentsFault::Config)
+}
+
 /// Why a cluster isn't served, or stops being served.
 #[derive(Drop)]
 pub(crate) enum ServeFault {
-    Agents(AgentsFault),
+    Agents(RefusedFile),
     Folder(FolderFault),
     /// `Z2 DeviceFault`: the port can't be had.
     Port { port: u16, error: io::Error },
@@ -30,7 +37,7 @@ impl ServeFault {
         ensures { result ≡ is_refusal self.now }
     {
         match self {
-            ServeFault::Agents(AgentsFault::Lines | AgentsFault::Config) => true,
+            ServeFault::Agents(refused) => is_unlike(&refused.fault),
             ServeFault::Folder(FolderFault::TotalDiffers { .. }) => true,
             _ => false,
         }
@@ -45,11 +52,11 @@ impl From<AllocError> for ServeFault {
     }
 }
 
-impl From<AgentsFault> for ServeFault {
+impl From<RefusedFile> for ServeFault {
     ghost from_gives = { λ agents fault. fault ≡ Agents agents };
 
-    fn from(fault: AgentsFault) -> ServeFault {
-        ServeFault::Agents(fault)
+    fn from(refused: RefusedFile) -> ServeFault {
+        ServeFault::Agents(refused)
     }
 }
 
