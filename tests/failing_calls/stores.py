@@ -37,6 +37,8 @@ def start(folder, control):
     """A server is started under fail.c, and killed as soon as it serves. Its run, or None where a store failed."""
     process = subprocess.Popen(words(folder, free_port()), stdin=subprocess.DEVNULL, stdout=subprocess.PIPE, stderr=subprocess.PIPE, env=control.environment)
     line = process.stderr.readline().decode()
+    while line.endswith("starts fresh\n"):
+        line = process.stderr.readline().decode()
     if line.startswith("run "):
         process.kill()
         process.communicate(timeout=SECONDS)

@@ -62,11 +62,12 @@ def run_serve(folder, *options, state=None, port=None):
 TOLD = []
 
 
-def tell(case, got, status, text):
-    """A fault, which has to be told by one line that begins with a text, with nothing else written."""
+def tell(case, got, status, text, behind=()):
+    """A fault, which has to be told by one line that begins with a text, with these lines behind it, each as far as it is given, and nothing else written."""
     check(got[0] == status, f"{case}: the status is {got[0]}, and {status} is due: {got[2]}")
     check(got[1] == "", f"{case}: {got[1]!r} is written")
-    check(got[2].startswith(text) and got[2].count("\n") == 1 and got[2].endswith("\n"), f"{case}: standard error is {got[2]!r}")
+    lines, due = got[2].splitlines(keepends=True), (text, *behind)
+    check(len(lines) == len(due) and all(line.startswith(it) and line.endswith("\n") for line, it in zip(lines, due)), f"{case}: standard error is {got[2]!r}")
     TOLD.append(case)
 
 
@@ -78,8 +79,11 @@ class Server:
         words = [PROGRAM, "serve", "--port", str(self.port), "--agents", folder.agents, "--state", folder.state, *options]
         # It ignores SIGXFSZ, as Python does: a write past the limit of a file's size fails, and doesn't end it.
         self.process = subprocess.Popen(words, stdout=subprocess.PIPE, stderr=subprocess.PIPE, stdin=subprocess.DEVNULL, restore_signals=False, env=env)
-        self.said = self.process.stderr.readline().decode().strip()
-        check("serves at" in self.said, f"serve says: {self.said}")
+        self.noted, self.said = [], ""
+        while "serves at" not in self.said:
+            self.noted += [self.said] if self.said else []
+            self.said = self.process.stderr.readline().decode().strip()
+            check(self.said, f"serve ends, and says: {self.noted}")
 
     def kill(self):
         self.process.send_signal(signal.SIGKILL)

@@ -1,5 +1,5 @@
 #!/usr/bin/env python3
-"""A wrong folder at the start is told by one line on standard error with its status, and what stands in it stays as it is."""
+"""A wrong folder at the start is told by one line on standard error with its status, or two, and what stands in it stays as it is."""
 import os
 import shutil
 import sqlite3
@@ -16,8 +16,8 @@ def files(path):
 
 
 def try_no_folders(folder):
-    tell("no folder", run_serve(folder, state=os.path.join(folder.path, "nowhere")), 3, "K1 Store ")
-    tell("a file in the folder's place", run_serve(folder, state=folder.agents), 3, "K1 Store ")
+    tell("no folder", run_serve(folder, state=os.path.join(folder.path, "nowhere")), 3, "K1 Store ", ["the folder isn't there"])
+    tell("a file in the folder's place", run_serve(folder, state=folder.agents), 3, "K1 Store ", ["what is there in the folder's place is no folder"])
     tell("a folder that can't be written", run_serve(folder, state="/proc"), 3, "K1 Store ")
 
 
@@ -49,15 +49,30 @@ def try_foreign_record(folder):
     check(all(after[it] == data for it, data in before.items() if it.startswith("agent-")), "the records are as they were, byte by byte")
 
 
+def try_lost_record(folder):
+    """A record whose files are gone is named where its agent starts fresh, in a run that isn't the folder's first; one that is there isn't."""
+    folder.write({"agents": AGENTS})
+    with Server(folder) as server:
+        check(server.noted == [], f"nothing is noted of a record that is there: {server.noted}")
+        server.kill()
+    for name in files(folder.state):
+        if name.startswith("agent-a1"):
+            os.remove(os.path.join(folder.state, name))
+    with Server(folder) as server:
+        check(server.noted == [f"agent a1 has no record in {folder.state}, and starts fresh"], f"a lost record is named: {server.noted}")
+
+
 def main():
     with Folder(AGENTS) as folder:
         try_no_folders(folder)
         try_foreign_store(folder)
         with Server(folder) as server:
+            check(server.noted == [], f"nothing is noted in a folder's first run: {server.noted}")
             check(Framework(server.port).next_offer({"cpus": 2}), "a1 has a record")
-            tell("a folder in use", run_serve(folder), 3, "K1 Store ")
+            tell("a folder in use", run_serve(folder), 3, "K1 Store ", ["another server uses the folder"])
         try_foreign_record(folder)
-        print(f"{len(TOLD)} faults, each told by one line, with its status; the other program's store and the records are as they were, byte by byte: {', '.join(TOLD)}")
+        try_lost_record(folder)
+        print(f"{len(TOLD)} faults, each told by a line or two, with its status; the other program's store and the records are as they were, byte by byte: {', '.join(TOLD)}")
 
 
 main()

@@ -12,7 +12,7 @@ ghost use Rattle.mesos_node.specs.Refusals.{is_refusal};
 
 use crate::ends::print_fault;
 use crate::fault::ServeFault;
-use agents_file::{Configuration, read_agents};
+use agents_file::{AgentsFile, Configuration, read_agents};
 use cluster_core::Cluster;
 use command_line::ServeOptions;
 use device_io::put;
@@ -50,6 +50,7 @@ fn serve_folder<R: Threads + Wait + Clock + Sync>(
         run,
         records,
         files,
+        lock: _lock,
     } = folder;
     let Configuration { agents, weights } = config;
     let cluster = match Cluster::<Queues>::open(rt.alloc(), agents, weights, records, run) {
@@ -73,8 +74,31 @@ fn serve_folder<R: Threads + Wait + Clock + Sync>(
     }
 }
 
-/// Serves the cluster of the folder and the agents that the options name,
-/// and returns the table at its end. It prints on standard error where it serves, once it does.
+/// Prints on standard error what the writer of a file may not have meant.
+fn print_notes(rt: &HostRuntime, path: &str, notes: &[String]) {
+    for note in notes {
+        let note = note.as_str();
+        let _ = eprintln!(rt; "{path}: {note}");
+    }
+}
+
+/// Prints on standard error which agents start fresh, in a run that isn't the folder's first: their
+/// records may have been lost.
+fn print_fresh(rt: &HostRuntime, path: &str, folder: &Folder) {
+    if folder.run.number() == 1 {
+        return;
+    }
+    for file in &folder.files {
+        if let Some(agent) = file.fresh_agent() {
+            let agent = agent.as_text();
+            let _ = eprintln!(rt; "agent {agent} has no record in {path}, and starts fresh");
+        }
+    }
+}
+
+/// Serves the cluster of the folder and the agents that the options name, and returns the table at
+/// its end. It prints on standard error what is noted on the file of the agents, which agents start
+/// fresh, and where it serves, once it does.
 fn serve<R: Net<Listener = TcpListener, Stream = TcpStream> + Threads + Wait + Clock + Sync>(
     rt: &HostRuntime,
     threads: &R,
@@ -82,8 +106,10 @@ fn serve<R: Net<Listener = TcpListener, Stream = TcpStream> + Threads + Wait + C
 ) -> Result<Vec<u8>, ServeFault>
     ensures { IfOk result (λ text. IsEndTable text.items) }
 {
-    let config = read_agents(rt, options.agents)?;
+    let AgentsFile { config, notes } = read_agents(rt, options.agents)?;
+    print_notes(rt, options.agents, &notes);
     let folder = open_folder(rt, options.state, &config.agents)?;
+    print_fresh(rt, options.state, &folder);
     let port = options.port;
     let listener = match TcpListener::bind(threads, ("127.0.0.1", port)) {
         Ok(listener) => listener,

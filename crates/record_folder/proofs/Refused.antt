@@ -7,7 +7,7 @@ use Rattle.record_folder.specs.declared.folder_fault.FolderFault.{FolderFault}
 use Rattle.record_folder.specs.declared.folder_fault.FolderFault.TheVariants.{Store, TotalDiffers, NoCluster, OutOfMemory}
 
 pub file_refused : (agents : List ConfiguredAgent) (a : ConfiguredAgent) (fault : FolderFault) → Contains agents a → IsFileRefusal a fault → IsFolderRefusal agents fault
-file_refused agents a (Store path fault) among h = tt
+file_refused agents a (Store path fault hint) among h = tt
 file_refused agents a (TotalDiffers name) among h = (a, among, h)
 file_refused agents a NoCluster among h = tt
 file_refused agents a OutOfMemory among h = tt

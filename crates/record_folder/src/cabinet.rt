@@ -8,22 +8,38 @@ use quantity::Resources;
 use sqlite::{FileFrom, FileStore, Unknown};
 use std::alloc::Global;
 
-/// The file of an agent's record, and what is configured that the agent owns.
-/// It can go to another thread, and becomes a cabinet there.
+/// The file of an agent's record, and what is configured that the agent owns. Its store stays open
+/// from its load on, so that no other process has it. It can go to another thread.
 #[derive(Drop)]
 pub struct RecordFile<'a> {
     agent: AgentName,
     total: Resources,
-    place: FilePlace<'a>,
+    /// Whether no record was ever kept in it when it was loaded.
+    was_empty: bool,
+    cabinet: FileCabinet<'a>,
 }
 
 impl<'a> RecordFile<'a> {
-    pub(crate) fn new(agent: AgentName, total: Resources, place: FilePlace<'a>) -> RecordFile<'a> {
+    pub(crate) fn new(
+        agent: AgentName,
+        total: Resources,
+        was_empty: bool,
+        cabinet: FileCabinet<'a>,
+    ) -> RecordFile<'a> {
         RecordFile {
             agent,
             total,
-            place,
+            was_empty,
+            cabinet,
         }
+    }
+
+    /// The agent that starts fresh, since no record of it was ever kept; None where one was.
+    pub fn fresh_agent(&self) -> Option<&AgentName> {
+        if self.was_empty {
+            return Some(&self.agent);
+        }
+        None
     }
 
     /// Whose record it is, what is configured that the agent owns, and the store over the file.
@@ -31,9 +47,29 @@ impl<'a> RecordFile<'a> {
         let RecordFile {
             agent,
             total,
-            place,
+            was_empty: _,
+            cabinet,
         } = self;
-        (agent, total, FileCabinet::new(place))
+        (agent, total, cabinet)
+    }
+}
+
+/// The store of the master's runs of a folder, open: as long as it is, no other server can open the
+/// folder.
+pub struct FolderLock {
+    store: OpenFiles,
+}
+
+// By hand: who drops one calls this, and the proof visits none of its store.
+impl Drop for FolderLock {
+    fn drop(self) {
+        let FolderLock { store: _ } = self;
+    }
+}
+
+impl FolderLock {
+    pub(crate) fn new(store: OpenFiles) -> FolderLock {
+        FolderLock { store }
     }
 }
 

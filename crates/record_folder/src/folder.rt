@@ -8,8 +8,8 @@ ghost use Rattle.cluster_model.specs.Openings.{GoodOpening};
 ghost use Rattle.record_folder.specs.Refusals.{IsFileRefusal, IsFolderRefusal, IsRecordRefusal, IsStoreRefusal};
 ghost use Rattle.record_folder.specs.declared.folder_fault.FolderFault.TheVariants.{NoCluster};
 
-use crate::cabinet::{FileCabinet, OpenFiles, RecordFile};
-use crate::folder_fault::FolderFault;
+use crate::cabinet::{FileCabinet, FolderLock, OpenFiles, RecordFile};
+use crate::folder_fault::{FolderFault, StoreHint};
 use crate::stores::{FilePlace, Request};
 use agent_core::{Cabinet, Record};
 use agent_sides::{Config, ConfiguredAgent};
@@ -18,6 +18,7 @@ use keep_store::KeepFault;
 use names_core::Run;
 use plain_data::Plain;
 use std::alloc::{AllocError, Global};
+use std::{fs, io};
 
 /// What a folder keeps of a cluster.
 #[derive(Drop)]
@@ -28,26 +29,42 @@ pub struct Folder<'a> {
     pub records: Vec<Record>,
     /// Where they are kept, in the order of the configuration.
     pub files: Vec<RecordFile<'a>>,
+    /// What keeps other servers from the folder, as long as it is there.
+    pub lock: FolderLock,
 }
 
-/// The next run of the master, from the store of its runs.
-fn take_run(alloc: Global, place: &FilePlace<'_>) -> Result<Run, KeepFault> {
-    let mut store = OpenFiles::new();
+/// The next run of the master, from the store of its runs, which stays open.
+fn take_run(alloc: Global, store: &mut OpenFiles, place: &FilePlace<'_>) -> Result<Run, KeepFault> {
     let given = store.ask(place, alloc, Request::NextRun)?;
     given.run.ok_or(KeepFault::Damaged)
 }
 
-/// The next run of the master, from the store of its runs in a folder.
-fn next_run(rt: &HostRuntime, folder: &str) -> Result<Run, FolderFault>
+/// Why the store of the runs of a folder failed, as far as the fault and the folder tell.
+fn hint_at(rt: &HostRuntime, folder: &str, fault: &KeepFault) -> StoreHint {
+    match StoreHint::of(fault) {
+        StoreHint::Nothing => {}
+        hint => return hint,
+    }
+    match fs::metadata(rt, folder) {
+        Ok(found) if found.is_dir() => StoreHint::Nothing,
+        Ok(_) => StoreHint::NoFolder,
+        Err(error) if error.kind() == io::ErrorKind::NotFound => StoreHint::NoSuchFolder,
+        Err(_) => StoreHint::Nothing,
+    }
+}
+
+/// The next run of the master, from the store of its runs in a folder, which stays open.
+fn next_run(rt: &HostRuntime, folder: &str, store: &mut OpenFiles) -> Result<Run, FolderFault>
     ensures { IfErr result IsStoreRefusal }
 {
     let path = format!(in rt.alloc(); "{folder}/master.db")?;
     let place = FilePlace::new(rt, path);
-    match take_run(rt.alloc(), &place) {
+    match take_run(rt.alloc(), store, &place) {
         Ok(run) => Ok(run),
         Err(fault) => {
             let path = place.into_path();
-            Err(FolderFault::Store { path, fault })
+            let hint = hint_at(rt, folder, &fault);
+            Err(FolderFault::Store { path, fault, hint })
         }
     }
 }
@@ -80,22 +97,25 @@ fn record_of(
 /// The file of an agent's record, and what is configured that the agent owns.
 fn file_at<'a>(
     agent: &ConfiguredAgent,
-    place: FilePlace<'a>,
+    was_empty: bool,
+    cabinet: FileCabinet<'a>,
 ) -> Result<RecordFile<'a>, AllocError> {
     let name = agent.name.copy()?;
-    Ok(RecordFile::new(name, agent.total.copy()?, place))
+    let total = agent.total.copy()?;
+    Ok(RecordFile::new(name, total, was_empty, cabinet))
 }
 
-/// The record of an agent, of which this was found, with the file where it is kept.
+/// The record of an agent, of which this was found, with the file where it is kept, whose store is
+/// open.
 fn kept_at<'a>(
     alloc: Global,
     agent: &ConfiguredAgent,
     found: Option<Record>,
-    place: FilePlace<'a>,
+    cabinet: FileCabinet<'a>,
 ) -> Result<(Record, RecordFile<'a>), FolderFault>
     ensures { IfErr result (IsFileRefusal agent.now) }
 {
-    let file = file_at(agent, place)?;
+    let file = file_at(agent, found.is_none(), cabinet)?;
     match record_of(alloc, agent, found) {
         Ok(record) => Ok((record, file)),
         Err(fault) => Err(fault),
@@ -113,14 +133,13 @@ fn open_agent<'a>(
     let name = agent.name.as_text();
     let path = format!(in rt.alloc(); "{folder}/agent-{name}.db")?;
     let mut cabinet = FileCabinet::new(FilePlace::new(rt, path));
-    let found = cabinet.reopen(rt.alloc());
-    let place = cabinet.into_place();
-    match found {
-        Ok(found) => kept_at(rt.alloc(), agent, found, place),
-        Err(fault) => Err(FolderFault::Store {
-            path: place.into_path(),
-            fault,
-        }),
+    match cabinet.reopen(rt.alloc()) {
+        Ok(found) => kept_at(rt.alloc(), agent, found, cabinet),
+        Err(fault) => {
+            let path = cabinet.into_place().into_path();
+            let hint = StoreHint::of(&fault);
+            Err(FolderFault::Store { path, fault, hint })
+        }
     }
 }
 
@@ -173,9 +192,11 @@ fn add_agents<'a>(
 }
 
 /// Opens the stores of a folder, or makes those that lack: takes the master's next run, and reads
-/// the agents' records, a fresh one where there is none. The folder itself is to be there. Refusals
-/// come in the order: the store of runs, each agent's store and its total (Z1) in the order of
-/// their names, and then K2 where the records are those of no cluster.
+/// the agents' records, a fresh one where there is none. The stores stay open, and so locked: as
+/// long as what is returned is there, K1 is the answer to every other process that opens them. The
+/// folder itself is to be there. Refusals come in the order: the store of runs, each agent's store
+/// and its total (Z1) in the order of their names, and then K2 where the records are those of no
+/// cluster.
 pub fn open_folder<'a>(
     rt: &'a HostRuntime,
     folder: &str,
@@ -185,10 +206,13 @@ pub fn open_folder<'a>(
     ensures records { IfOk result (λ opened. AreRecordsOf config.now opened.records.items) }
     ensures refused { IfErr result (IsFolderRefusal config.now) }
 {
+    let mut runs = OpenFiles::new();
+    let run = next_run(rt, folder, &mut runs)?;
     let mut opened = Folder {
-        run: next_run(rt, folder)?,
+        run,
         records: Vec::new(rt.alloc()),
         files: Vec::new(rt.alloc()),
+        lock: FolderLock::new(runs),
     };
     let added = add_agents(rt, folder, config, &mut opened);
     added.and(Ok(opened))

@@ -7,6 +7,6 @@ mod folder;
 mod folder_fault;
 mod stores;
 
-pub use cabinet::{FileCabinet, RecordFile};
+pub use cabinet::{FileCabinet, FolderLock, RecordFile};
 pub use folder::{Folder, open_folder};
-pub use folder_fault::FolderFault;
+pub use folder_fault::{FolderFault, StoreHint};
