@@ -1,16 +1,16 @@
 //! The calls that name a framework and nothing else.
 
-ghost use Rattle.json_values.specs.View.{view};
+ghost use Rattle.serde_json.specs.View.{view};
 ghost use Rattle.call_members.specs.Answers.{Gives};
 ghost use Rattle.call_bodies.specs.Frameworks.{teardown_of, revive_of, suppress_of};
 
 use call_members::{CallFault, framework};
-use json_values::Value;
 use mails::Call;
+use serde_json::Value;
 
 /// A TEARDOWN.
 #[tactic(auto, unfolding(crate::specs::Frameworks::teardown_of))]
-pub fn teardown(call: &Value<'_>) -> Result<Call, CallFault>
+pub fn teardown(call: &Value) -> Result<Call, CallFault>
     ensures { Gives (λ c. c) result (teardown_of (view call.now)) }
 {
     let framework = framework(call)?;
@@ -19,7 +19,7 @@ pub fn teardown(call: &Value<'_>) -> Result<Call, CallFault>
 
 /// A REVIVE.
 #[tactic(auto, unfolding(crate::specs::Frameworks::revive_of))]
-pub fn revive(call: &Value<'_>) -> Result<Call, CallFault>
+pub fn revive(call: &Value) -> Result<Call, CallFault>
     ensures { Gives (λ c. c) result (revive_of (view call.now)) }
 {
     let framework = framework(call)?;
@@ -28,7 +28,7 @@ pub fn revive(call: &Value<'_>) -> Result<Call, CallFault>
 
 /// A SUPPRESS.
 #[tactic(auto, unfolding(crate::specs::Frameworks::suppress_of))]
-pub fn suppress(call: &Value<'_>) -> Result<Call, CallFault>
+pub fn suppress(call: &Value) -> Result<Call, CallFault>
     ensures { Gives (λ c. c) result (suppress_of (view call.now)) }
 {
     let framework = framework(call)?;

@@ -1,25 +1,25 @@
 //! A task that is to be launched.
 
 ghost use Rattle.std.specs.Prelude.{◌≡◌, map};
-ghost use Rattle.json_values.specs.View.{view};
+ghost use Rattle.serde_json.specs.View.{view};
 ghost use Rattle.call_members.specs.Answers.{Gives};
 ghost use Rattle.call_members.specs.Lists.{each_in};
 ghost use Rattle.call_bodies.specs.Launched.{task_of, add_task};
 
 use crate::resources::resources;
 use call_members::{CallFault, Member, required_agent, required_task, required_text};
-use json_values::{Value, get};
 use mails::TaskInfo;
+use serde_json::Value;
 use std::alloc::Global;
 
 #[tactic(auto, unfolding(crate::specs::Launched::task_of))]
-fn read_task(alloc: Global, value: &Value<'_>) -> Result<TaskInfo, CallFault>
+fn read_task(alloc: Global, value: &Value) -> Result<TaskInfo, CallFault>
     ensures { Gives (λ t. t) result (task_of (view value.now)) }
 {
-    required_text(get(value, "name"), Member::TaskLabel)?;
-    let name = required_task(alloc, get(value, "task_id"), Member::TaskId)?;
-    let agent = required_agent(alloc, get(value, "agent_id"), Member::TaskAgent)?;
-    let resources = resources(alloc, get(value, "resources"))?;
+    required_text(value.get("name"), Member::TaskLabel)?;
+    let name = required_task(alloc, value.get("task_id"), Member::TaskId)?;
+    let agent = required_agent(alloc, value.get("agent_id"), Member::TaskAgent)?;
+    let resources = resources(alloc, value.get("resources"))?;
     Ok(TaskInfo {
         name,
         agent,
@@ -28,7 +28,7 @@ fn read_task(alloc: Global, value: &Value<'_>) -> Result<TaskInfo, CallFault>
 }
 
 #[tactic(auto, unfolding(crate::specs::Launched::add_task))]
-fn add_task(alloc: Global, tasks: &mut Vec<TaskInfo>, value: &Value<'_>) -> Result<(), CallFault>
+fn add_task(alloc: Global, tasks: &mut Vec<TaskInfo>, value: &Value) -> Result<(), CallFault>
     ensures { Gives (λ _. tasks.new.items) result (add_task tasks.old.items (view value.now)) }
 {
     let task = read_task(alloc, value)?;
@@ -40,7 +40,7 @@ fn add_task(alloc: Global, tasks: &mut Vec<TaskInfo>, value: &Value<'_>) -> Resu
 pub fn add_tasks(
     alloc: Global,
     tasks: &mut Vec<TaskInfo>,
-    values: &[Value<'_>],
+    values: &[Value],
 ) -> Result<(), CallFault>
     ensures { Gives (λ _. tasks.new.items) result
         (each_in add_task tasks.old.items (map view values.now)) }

@@ -1,25 +1,25 @@
 //! The calls that answer offers.
 
-ghost use Rattle.json_values.specs.View.{view};
+ghost use Rattle.serde_json.specs.View.{view};
 ghost use Rattle.call_members.specs.Answers.{Gives};
 ghost use Rattle.call_bodies.specs.Offers.{accept_of, decline_of};
 
 use crate::offers::{offers, refuse_seconds};
 use crate::operations::launched_tasks;
 use call_members::{CallFault, Member, framework, member};
-use json_values::{Value, get};
 use listed::Listed;
 use mails::Call;
+use serde_json::Value;
 use std::alloc::Global;
 
 /// An ACCEPT: its framework, the offers (256 at most), the tasks that its LAUNCHes list (256 at
 /// most), and the seconds for which what is left is declined.
 #[tactic(auto, unfolding(crate::specs::Offers::accept_of))]
-pub fn accept(alloc: Global, call: &Value<'_>) -> Result<Call, CallFault>
+pub fn accept(alloc: Global, call: &Value) -> Result<Call, CallFault>
     ensures { Gives (λ c. c) result (accept_of (view call.now)) }
 {
     let framework = framework(call)?;
-    let body = get(call, "accept");
+    let body = call.get("accept");
     let offers = offers(alloc, member(body, "offer_ids"), Member::AcceptedOffers)?;
     let tasks = launched_tasks(alloc, member(body, "operations"))?;
     Ok(Call::Accept {
@@ -32,11 +32,11 @@ pub fn accept(alloc: Global, call: &Value<'_>) -> Result<Call, CallFault>
 
 /// A DECLINE: its framework, the offers (256 at most), and for how many seconds they are declined.
 #[tactic(auto, unfolding(crate::specs::Offers::decline_of))]
-pub fn decline(alloc: Global, call: &Value<'_>) -> Result<Call, CallFault>
+pub fn decline(alloc: Global, call: &Value) -> Result<Call, CallFault>
     ensures { Gives (λ c. c) result (decline_of (view call.now)) }
 {
     let framework = framework(call)?;
-    let body = get(call, "decline");
+    let body = call.get("decline");
     let offers = offers(alloc, member(body, "offer_ids"), Member::DeclinedOffers)?;
     Ok(Call::Decline {
         framework,

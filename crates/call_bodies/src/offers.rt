@@ -1,15 +1,16 @@
 //! Ids of offers, and for how long they are refused.
 
 ghost use Rattle.std.specs.Prelude.{◌≡◌, ◌≤◌, [], map};
-ghost use Rattle.json_values.specs.View.{seen, view};
+ghost use Rattle.serde_json.specs.View.{view};
 ghost use Rattle.call_members.specs.Answers.{Gives};
+ghost use Rattle.call_members.specs.Members.{seen};
 ghost use Rattle.call_members.specs.Lists.{each_in};
 ghost use Rattle.call_bodies.specs.Offers.{add_offer, offers_of, refused_for};
 
 use call_members::{CallFault, Member, member, required_offer, required_short_list};
-use json_values::{Value, whole_number};
 use listed::Listed;
 use names_core::OfferId;
+use serde_json::Value;
 use std::alloc::Global;
 
 /// So many offers may a call name.
@@ -22,7 +23,7 @@ const DEFAULT_SECONDS: u64 = 5;
 const MOST_SECONDS: u64 = 31_536_000;
 
 #[tactic(auto, unfolding(crate::specs::Offers::add_offer))]
-fn add_offer(ids: &mut Vec<OfferId>, value: &Value<'_>, member: Member) -> Result<(), CallFault>
+fn add_offer(ids: &mut Vec<OfferId>, value: &Value, member: Member) -> Result<(), CallFault>
     ensures { Gives (λ _. ids.new.items) result (add_offer member ids.old.items (view value.now)) }
 {
     let id = required_offer(Some(value), member)?;
@@ -30,11 +31,7 @@ fn add_offer(ids: &mut Vec<OfferId>, value: &Value<'_>, member: Member) -> Resul
     Ok(())
 }
 
-fn all_offers(
-    alloc: Global,
-    values: &[Value<'_>],
-    member: Member,
-) -> Result<Vec<OfferId>, CallFault>
+fn all_offers(alloc: Global, values: &[Value], member: Member) -> Result<Vec<OfferId>, CallFault>
     ensures { Gives (λ ids. ids.items) result
         (each_in (add_offer member) [] (map view values.now)) }
 {
@@ -49,7 +46,7 @@ fn all_offers(
 #[tactic(auto, unfolding(crate::specs::Offers::offers_of))]
 pub fn offers(
     alloc: Global,
-    value: Option<&Value<'_>>,
+    value: Option<&Value>,
     member: Member,
 ) -> Result<Listed<OfferId>, CallFault>
     ensures { Gives (λ ids. ids) result (offers_of member (seen value.entry)) }
@@ -60,12 +57,10 @@ pub fn offers(
 }
 
 /// For how many seconds the filters of a call's body refuse.
-pub fn refuse_seconds(body: Option<&Value<'_>>) -> u32
+pub fn refuse_seconds(body: Option<&Value>) -> u32
     ensures { result ≡ refused_for (seen body.entry) }
 {
-    let seconds = match member(member(body, "filters"), "refuse_seconds") {
-        Some(value) => whole_number(value).unwrap_or(DEFAULT_SECONDS),
-        None => DEFAULT_SECONDS,
-    };
+    let value = member(member(body, "filters"), "refuse_seconds");
+    let seconds = value.and_then(Value::as_u64).unwrap_or(DEFAULT_SECONDS);
     seconds.min(MOST_SECONDS) as u32
 }

@@ -1,7 +1,7 @@
 //! The call that asks for the states of tasks.
 
 ghost use Rattle.std.specs.Prelude.{◌≡◌, [], map};
-ghost use Rattle.json_values.specs.View.{view};
+ghost use Rattle.serde_json.specs.View.{view};
 ghost use Rattle.call_members.specs.Answers.{Gives};
 ghost use Rattle.call_members.specs.Lists.{each_in};
 ghost use Rattle.call_bodies.specs.Tasks.{add_query, reconcile_of};
@@ -9,9 +9,9 @@ ghost use Rattle.call_bodies.specs.Tasks.{add_query, reconcile_of};
 use call_members::{
     CallFault, Member, framework, member, optional_agent, required_short_list, required_task,
 };
-use json_values::{Value, get};
 use listed::Listed;
 use mails::{Call, ReconciledTask};
+use serde_json::Value;
 use std::alloc::Global;
 
 /// Of so many tasks may a call ask for the states.
@@ -21,17 +21,17 @@ const TASKS_LIMIT: usize = 1024;
 fn add_query(
     alloc: Global,
     queries: &mut Vec<ReconciledTask>,
-    value: &Value<'_>,
+    value: &Value,
 ) -> Result<(), CallFault>
     ensures { Gives (λ _. queries.new.items) result (add_query queries.old.items (view value.now)) }
 {
-    let name = required_task(alloc, get(value, "task_id"), Member::ReconciledTask)?;
-    let agent = optional_agent(alloc, get(value, "agent_id"))?;
+    let name = required_task(alloc, value.get("task_id"), Member::ReconciledTask)?;
+    let agent = optional_agent(alloc, value.get("agent_id"))?;
     queries.push(ReconciledTask { name, agent })?;
     Ok(())
 }
 
-fn all_queries(alloc: Global, values: &[Value<'_>]) -> Result<Vec<ReconciledTask>, CallFault>
+fn all_queries(alloc: Global, values: &[Value]) -> Result<Vec<ReconciledTask>, CallFault>
     ensures { Gives (λ queries. queries.items) result (each_in add_query [] (map view values.now)) }
 {
     let mut queries = Vec::new(alloc);
@@ -44,11 +44,11 @@ fn all_queries(alloc: Global, values: &[Value<'_>]) -> Result<Vec<ReconciledTask
 /// A RECONCILE: its framework, and the tasks whose states it asks for (1,024 at most);
 /// with none it asks for those of all.
 #[tactic(auto, unfolding(crate::specs::Tasks::reconcile_of))]
-pub fn reconcile(alloc: Global, call: &Value<'_>) -> Result<Call, CallFault>
+pub fn reconcile(alloc: Global, call: &Value) -> Result<Call, CallFault>
     ensures { Gives (λ c. c) result (reconcile_of (view call.now)) }
 {
     let framework = framework(call)?;
-    let list = member(get(call, "reconcile"), "tasks");
+    let list = member(call.get("reconcile"), "tasks");
     let values = required_short_list(list, Member::ReconciledTasks, TASKS_LIMIT)?;
     let tasks = all_queries(alloc, values)?;
     Ok(Call::Reconcile {

@@ -1,9 +1,9 @@
 //! The resources that a task asks for.
 
 ghost use Rattle.std.specs.Prelude.{◌≡◌, [], map};
-ghost use Rattle.json_values.specs.View.{seen, view};
+ghost use Rattle.serde_json.specs.View.{view};
 ghost use Rattle.call_members.specs.Answers.{Gives};
-ghost use Rattle.call_members.specs.Members.{text_of};
+ghost use Rattle.call_members.specs.Members.{seen, text_of};
 ghost use Rattle.call_members.specs.Ids.{needed};
 ghost use Rattle.call_members.specs.Lists.{each_in};
 ghost use Rattle.call_members.specs.declared.fault.Member.TheVariants as members;
@@ -11,12 +11,12 @@ ghost use Rattle.call_bodies.specs.Resources.{resource_name, only_scalar, only_d
 ghost use Rattle.quantity.specs.Rows.{added};
 
 use call_members::{CallFault, Member, Refusal, member, required_list, required_text, text};
-use json_values::{Value, get, is_number, whole_number};
 use quantity::{QuantityFault, ResourceName, Resources};
+use serde_json::Value;
 use std::alloc::Global;
 
 #[tactic(auto, unfolding(call_members::specs::Ids::needed))]
-fn name(alloc: Global, value: Option<&Value<'_>>) -> Result<ResourceName, CallFault>
+fn name(alloc: Global, value: Option<&Value>) -> Result<ResourceName, CallFault>
     ensures { Gives (λ n. n) result
         (needed members.ResourceName resource_name (text_of (seen value.entry))) }
 {
@@ -30,14 +30,14 @@ fn name(alloc: Global, value: Option<&Value<'_>>) -> Result<ResourceName, CallFa
 
 /// The kind of a resource, which is a scalar that is reserved for no role but the default one.
 #[tactic(auto, unfolding(crate::specs::Resources::kind_of))]
-fn kind<'a>(value: &Value<'a>) -> Result<&'a str, CallFault>
-    ensures { Gives (λ kind. kind.now) result (kind_of (view value.now)) }
+fn kind(value: &Value) -> Result<&str, CallFault>
+    ensures { Gives (λ kind. kind.now) result (kind_of (view value.entry.now)) }
 {
-    let kind = required_text(get(value, "type"), Member::ResourceType)?;
+    let kind = required_text(value.get("type"), Member::ResourceType)?;
     if kind != "SCALAR" {
         return Err(CallFault::Refused(Refusal::NotScalar));
     }
-    if let Some(role) = text(get(value, "role")) {
+    if let Some(role) = text(value.get("role")) {
         if role != "*" {
             return Err(CallFault::Refused(Refusal::NotScalar));
         }
@@ -47,15 +47,16 @@ fn kind<'a>(value: &Value<'a>) -> Result<&'a str, CallFault>
 
 /// The amount of a resource, a whole number.
 #[tactic(auto, unfolding(crate::specs::Resources::amount_of))]
-fn amount(value: &Value<'_>) -> Result<u64, CallFault>
+fn amount(value: &Value) -> Result<u64, CallFault>
     ensures { Gives (λ n. n) result (amount_of (view value.now)) }
 {
-    match member(get(value, "scalar"), "value") {
-        Some(amount) if is_number(amount) => match whole_number(amount) {
-            Some(amount) => Ok(amount),
-            None => Err(CallFault::Refused(Refusal::NotWhole)),
-        },
-        _ => Err(CallFault::Refused(Refusal::Missing(Member::ResourceValue))),
+    let amount = member(value.get("scalar"), "value");
+    let Some(number) = amount.and_then(Value::as_number) else {
+        return Err(CallFault::Refused(Refusal::Missing(Member::ResourceValue)));
+    };
+    match number.as_u64() {
+        Some(amount) => Ok(amount),
+        None => Err(CallFault::Refused(Refusal::NotWhole)),
     }
 }
 
@@ -71,20 +72,16 @@ fn raise(alloc: Global, resources: &mut Resources, name: &str, amount: u64) -> R
 }
 
 #[tactic(auto, unfolding(crate::specs::Resources::add_resource))]
-fn add_resource(
-    alloc: Global,
-    resources: &mut Resources,
-    value: &Value<'_>,
-) -> Result<(), CallFault>
+fn add_resource(alloc: Global, resources: &mut Resources, value: &Value) -> Result<(), CallFault>
     ensures { Gives (λ _. resources.new) result (add_resource resources.old (view value.now)) }
 {
-    let name = name(alloc, get(value, "name"))?;
+    let name = name(alloc, value.get("name"))?;
     let _kind = kind(value)?;
     let amount = amount(value)?;
     raise(alloc, resources, name.as_str(), amount)
 }
 
-fn all_resources(alloc: Global, values: &[Value<'_>]) -> Result<Resources, CallFault>
+fn all_resources(alloc: Global, values: &[Value]) -> Result<Resources, CallFault>
     ensures { Gives (λ r. r) result (each_in add_resource [] (map view values.now)) }
 {
     let mut resources = Resources::new(alloc);
@@ -96,7 +93,7 @@ fn all_resources(alloc: Global, values: &[Value<'_>]) -> Result<Resources, CallF
 
 /// The resources that a list asks for. Those of one name are added.
 #[tactic(auto, unfolding(crate::specs::Resources::resources_of))]
-pub fn resources(alloc: Global, value: Option<&Value<'_>>) -> Result<Resources, CallFault>
+pub fn resources(alloc: Global, value: Option<&Value>) -> Result<Resources, CallFault>
     ensures { Gives (λ r. r) result (resources_of (seen value.entry)) }
 {
     let values = required_list(value, Member::Resources)?;

@@ -2,20 +2,21 @@
 
 ghost use Rattle.std.specs.Prelude.{◌≡◌, Ok, option_and_then};
 ghost use Rattle.serde_json.specs.Find.{as_array};
-ghost use Rattle.json_values.specs.View.{seen, view};
+ghost use Rattle.serde_json.specs.View.{view};
 ghost use Rattle.call_members.specs.Answers.{Gives};
+ghost use Rattle.call_members.specs.Members.{seen};
 ghost use Rattle.call_bodies.specs.Subscribe.{roles_of, one_id, chosen_role, info_id, info_role, call_id, subscribe_of};
 
 use call_members::{
     CallFault, Member, Refusal, list, member, optional_framework, optional_role, required_text,
 };
-use json_values::{Value, get};
 use mails::Call;
 use names_core::{FrameworkId, RoleName};
+use serde_json::Value;
 use std::alloc::Global;
 
 /// The one role of a list of roles.
-fn roles(alloc: Global, value: Option<&Value<'_>>) -> Result<Option<RoleName>, CallFault>
+fn roles(alloc: Global, value: Option<&Value>) -> Result<Option<RoleName>, CallFault>
     ensures { Gives (λ r. r) result (roles_of (option_and_then as_array (seen value.entry))) }
 {
     let Some(values) = list(value) else {
@@ -69,7 +70,7 @@ fn choose_role(
 
 /// The id of a `framework_info`, which has a user and a name.
 #[tactic(auto, unfolding(crate::specs::Subscribe::info_id))]
-fn info_id(info: Option<&Value<'_>>) -> Result<Option<FrameworkId>, CallFault>
+fn info_id(info: Option<&Value>) -> Result<Option<FrameworkId>, CallFault>
     ensures { Gives (λ i. i) result (info_id (seen info.entry)) }
 {
     required_text(member(info, "user"), Member::User)?;
@@ -79,7 +80,7 @@ fn info_id(info: Option<&Value<'_>>) -> Result<Option<FrameworkId>, CallFault>
 
 /// The one role of a `framework_info`.
 #[tactic(auto, unfolding(crate::specs::Subscribe::info_role))]
-fn info_role(alloc: Global, info: Option<&Value<'_>>) -> Result<RoleName, CallFault>
+fn info_role(alloc: Global, info: Option<&Value>) -> Result<RoleName, CallFault>
     ensures { Gives (λ r. r) result (info_role (seen info.entry)) }
 {
     let role = optional_role(alloc, member(info, "role"))?;
@@ -89,19 +90,19 @@ fn info_role(alloc: Global, info: Option<&Value<'_>>) -> Result<RoleName, CallFa
 
 /// The id of a call's framework, whose `framework_info` has this one.
 #[tactic(auto, unfolding(crate::specs::Subscribe::call_id))]
-fn call_id(call: &Value<'_>, id: Option<FrameworkId>) -> Result<Option<FrameworkId>, CallFault>
+fn call_id(call: &Value, id: Option<FrameworkId>) -> Result<Option<FrameworkId>, CallFault>
     ensures { Gives (λ i. i) result (call_id (view call.now) id) }
 {
-    let framework = optional_framework(get(call, "framework_id"))?;
+    let framework = optional_framework(call.get("framework_id"))?;
     same_id(id, framework)
 }
 
 /// A SUBSCRIBE: the framework's id where it has one, and its one role.
 #[tactic(auto, unfolding(crate::specs::Subscribe::subscribe_of))]
-pub fn subscribe(alloc: Global, call: &Value<'_>) -> Result<Call, CallFault>
+pub fn subscribe(alloc: Global, call: &Value) -> Result<Call, CallFault>
     ensures { Gives (λ c. c) result (subscribe_of (view call.now)) }
 {
-    let info = member(get(call, "subscribe"), "framework_info");
+    let info = member(call.get("subscribe"), "framework_info");
     let id = info_id(info)?;
     let role = info_role(alloc, info)?;
     let framework = call_id(call, id)?;

@@ -1,6 +1,7 @@
 //! The calls of the Mesos scheduler HTTP API, read from JSON.
 #![tactic(auto)]
 
+mod nesting;
 mod read;
 
 pub use call_members::{CallFault, Member, Refusal};

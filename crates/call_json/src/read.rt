@@ -3,17 +3,18 @@
 ghost use Rattle.std.specs.Prelude.{◌≡◌, ◌≤◌};
 ghost use Rattle.serde_json.specs.Data.{depth};
 ghost use Rattle.serde_json.specs.Read.{max_depth};
-ghost use Rattle.json_values.specs.View.{view};
+ghost use Rattle.serde_json.specs.View.{view};
 ghost use Rattle.call_members.specs.Answers.{Gives};
 ghost use Rattle.call_json.specs.Calls.{kind_of, by_kind, call_of, nested_call, read_json, read_call};
 
+use crate::nesting::nests_within;
 use call_bodies::{
     accept, acknowledge, decline, kill, reconcile, revive, subscribe, suppress, teardown,
 };
-use call_members::{CallFault, Refusal, text};
-use json_values::{Part, ReadFault, Scratch, Value, get, is_object};
+use call_members::{CallFault, Refusal};
 use mails::Call;
 use number_trim::trim;
+use serde_json::Value;
 use std::alloc::Global;
 
 /// The types of calls.
@@ -48,7 +49,7 @@ fn kind_of(text: &str) -> Option<Kind>
     }
 }
 
-fn of_kind(alloc: Global, kind: Kind, value: &Value<'_>) -> Result<Call, CallFault>
+fn of_kind(alloc: Global, kind: Kind, value: &Value) -> Result<Call, CallFault>
     ensures { Gives (λ c. c) result (by_kind kind (view value.now)) }
 {
     match kind {
@@ -66,13 +67,13 @@ fn of_kind(alloc: Global, kind: Kind, value: &Value<'_>) -> Result<Call, CallFau
 
 /// The call that a value is which nests no deeper than a text may.
 #[tactic(auto, unfolding(crate::specs::Calls::nested_call))]
-fn nested_call(alloc: Global, value: &Value<'_>) -> Result<Call, CallFault>
+fn nested_call(alloc: Global, value: &Value) -> Result<Call, CallFault>
     ensures { Gives (λ c. c) result (nested_call (view value.now)) }
 {
-    if !is_object(value) {
+    if !value.is_object() {
         return Err(CallFault::Refused(Refusal::NotJson));
     }
-    let Some(text) = text(get(value, "type")) else {
+    let Some(text) = value.get("type").and_then(Value::as_str) else {
         return Err(CallFault::Refused(Refusal::NoType));
     };
     match kind_of(text) {
@@ -81,25 +82,32 @@ fn nested_call(alloc: Global, value: &Value<'_>) -> Result<Call, CallFault>
     }
 }
 
-/// The call that a value of a text is. A member of another kind than asked for counts as absent,
-/// and members that aren't asked for may hold anything. Of a member that is there twice the last
-/// counts.
+/// The call that a JSON value is. A member of another kind than asked for counts as absent, and
+/// members that aren't asked for may hold anything. Of a member that is there twice the last
+/// counts. As of a text, it is J1 where arrays and objects nest deeper than 127 levels.
 #[tactic(auto, unfolding(crate::specs::Calls::call_of))]
-pub fn call_of(alloc: Global, part: &Part<'_, '_>) -> Result<Call, CallFault>
-    ensures { Gives (λ c. c) result (call_of (view part.now.value.now)) }
+pub fn call_of(alloc: Global, value: &Value) -> Result<Call, CallFault>
+    ensures { Gives (λ c. c) result (call_of (view value.now)) }
 {
-    nested_call(alloc, part.value())
+    if !nests_within(value, 127) {
+        return Err(CallFault::Refused(Refusal::NotJson));
+    }
+    nested_call(alloc, value)
 }
 
 #[tactic(auto, unfolding(crate::specs::Calls::read_json))]
 fn read_json(alloc: Global, bytes: &[u8]) -> Result<Call, CallFault>
     ensures { Gives (λ c. c) result (read_json bytes.now) }
 {
-    let mut scratch = Scratch::new(alloc);
-    match json_values::read(alloc, bytes, &mut scratch) {
-        Ok(json) => call_of(alloc, &json.whole()),
-        Err(ReadFault::OutOfMemory) => Err(CallFault::OutOfMemory),
-        Err(ReadFault::NotJson) => Err(CallFault::Refused(Refusal::NotJson)),
+    match Value::from_slice(alloc, bytes) {
+        Ok(value) => nested_call(alloc, &value),
+        Err(e) => {
+            if e.is_memory() {
+                Err(CallFault::OutOfMemory)
+            } else {
+                Err(CallFault::Refused(Refusal::NotJson))
+            }
+        }
     }
 }
 

@@ -1,10 +1,17 @@
 -- Members of a JSON value.
-use Rattle.std.specs.Prelude.{ℕ, List, codes, Option, None, Some, Result, Ok, Err, option_and_then}
+use Rattle.std.specs.Prelude.{ℕ, List, codes, Option, None, Some, Result, Ok, Err, option_map, option_and_then}
+use Rattle.std.specs.Borrow.{Bor}
 use Rattle.serde_json.specs.Data.{Data}
 use Rattle.serde_json.specs.Find.{get, as_str}
+use Rattle.serde_json.specs.View.{view}
+use Rattle.serde_json.specs.declared.value.Value.{Value}
 use Rattle.call_members.specs.declared.fault.Member.{Member}
 use Rattle.call_members.specs.declared.fault.Refusal.{Refusal}
 use Rattle.call_members.specs.declared.fault.Refusal.TheVariants.{Missing}
+
+-- what a reference that may be absent refers to
+abbrev pub seen : Option (Bor Value) → Option Data
+seen o = option_map (λ v. view v.now) o
 
 -- the member of a value that may be absent; what is no object has none
 abbrev pub member_of : List ℕ → Option Data → Option Data

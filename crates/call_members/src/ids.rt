@@ -1,20 +1,20 @@
 //! Ids and names in a call.
 
 ghost use Rattle.std.specs.Prelude.{◌≡◌};
-ghost use Rattle.json_values.specs.View.{seen, view};
+ghost use Rattle.serde_json.specs.View.{view};
 ghost use Rattle.names_core.specs.Updates.{update_of};
 ghost use Rattle.call_members.specs.Answers.{Gives};
-ghost use Rattle.call_members.specs.Members.{text_of, id_text_of};
+ghost use Rattle.call_members.specs.Members.{seen, text_of, id_text_of};
 ghost use Rattle.call_members.specs.Ids.{optional, needed, framework_id, offer_id, role_name, plain_name, framework_of};
 
 use crate::fault::{CallFault, Member, Refusal};
 use crate::members::{id_text, required_id_text, required_text, text};
-use json_values::{Value, get};
 use names_core::{AgentName, FrameworkId, NameFault, OfferId, RoleName, TaskName, UpdateId};
+use serde_json::Value;
 use std::alloc::Global;
 
 #[tactic(auto, unfolding(crate::specs::Ids::optional))]
-pub fn optional_framework(value: Option<&Value<'_>>) -> Result<Option<FrameworkId>, CallFault>
+pub fn optional_framework(value: Option<&Value>) -> Result<Option<FrameworkId>, CallFault>
     ensures { Gives (λ i. i) result (optional framework_id (id_text_of (seen value.entry))) }
 {
     match id_text(value) {
@@ -28,10 +28,10 @@ pub fn optional_framework(value: Option<&Value<'_>>) -> Result<Option<FrameworkI
 
 /// The framework that a call is of.
 #[tactic(auto, unfolding(crate::specs::Ids::needed))]
-pub fn framework(call: &Value<'_>) -> Result<FrameworkId, CallFault>
+pub fn framework(call: &Value) -> Result<FrameworkId, CallFault>
     ensures { Gives (λ i. i) result (framework_of (view call.now)) }
 {
-    let text = required_id_text(get(call, "framework_id"), Member::FrameworkId)?;
+    let text = required_id_text(call.get("framework_id"), Member::FrameworkId)?;
     match FrameworkId::from_text(text) {
         Ok(id) => Ok(id),
         Err(_) => Err(CallFault::Refused(Refusal::BadId)),
@@ -39,7 +39,7 @@ pub fn framework(call: &Value<'_>) -> Result<FrameworkId, CallFault>
 }
 
 #[tactic(auto, unfolding(crate::specs::Ids::needed))]
-pub fn required_offer(value: Option<&Value<'_>>, member: Member) -> Result<OfferId, CallFault>
+pub fn required_offer(value: Option<&Value>, member: Member) -> Result<OfferId, CallFault>
     ensures { Gives (λ i. i) result (needed member offer_id (id_text_of (seen value.entry))) }
 {
     let text = required_id_text(value, member)?;
@@ -50,10 +50,7 @@ pub fn required_offer(value: Option<&Value<'_>>, member: Member) -> Result<Offer
 }
 
 #[tactic(auto, unfolding(crate::specs::Ids::optional))]
-pub fn optional_role(
-    alloc: Global,
-    value: Option<&Value<'_>>,
-) -> Result<Option<RoleName>, CallFault>
+pub fn optional_role(alloc: Global, value: Option<&Value>) -> Result<Option<RoleName>, CallFault>
     ensures { Gives (λ r. r) result (optional role_name (text_of (seen value.entry))) }
 {
     match text(value) {
@@ -69,7 +66,7 @@ pub fn optional_role(
 #[tactic(auto, unfolding(crate::specs::Ids::needed))]
 pub fn required_task(
     alloc: Global,
-    value: Option<&Value<'_>>,
+    value: Option<&Value>,
     member: Member,
 ) -> Result<TaskName, CallFault>
     ensures { Gives (λ n. n) result (needed member plain_name (id_text_of (seen value.entry))) }
@@ -85,7 +82,7 @@ pub fn required_task(
 #[tactic(auto, unfolding(crate::specs::Ids::needed))]
 pub fn required_agent(
     alloc: Global,
-    value: Option<&Value<'_>>,
+    value: Option<&Value>,
     member: Member,
 ) -> Result<AgentName, CallFault>
     ensures { Gives (λ n. n) result (needed member plain_name (id_text_of (seen value.entry))) }
@@ -99,10 +96,7 @@ pub fn required_agent(
 }
 
 #[tactic(auto, unfolding(crate::specs::Ids::optional))]
-pub fn optional_agent(
-    alloc: Global,
-    value: Option<&Value<'_>>,
-) -> Result<Option<AgentName>, CallFault>
+pub fn optional_agent(alloc: Global, value: Option<&Value>) -> Result<Option<AgentName>, CallFault>
     ensures { Gives (λ n. n) result (optional plain_name (id_text_of (seen value.entry))) }
 {
     match id_text(value) {
@@ -119,7 +113,7 @@ pub fn optional_agent(
 #[tactic(auto, unfolding(crate::specs::Ids::needed))]
 pub fn required_update(
     alloc: Global,
-    value: Option<&Value<'_>>,
+    value: Option<&Value>,
     member: Member,
 ) -> Result<UpdateId, CallFault>
     ensures { Gives (λ u. u) result (needed member update_of (text_of (seen value.entry))) }

@@ -1,10 +1,8 @@
 -- The state of a task as JSON.
-use Rattle.std.specs.Prelude.{ℕ, List, [], ◌∷◌, codes, Option, None, Some, option_map}
-use Rattle.json.specs.Token.{Token, key, string as string_token}
-use Rattle.serde_json.specs.Data.{Data, string, object, Members, no_members, member}
+use Rattle.std.specs.Prelude.{ℕ, List, codes, Option, None, Some, option_map}
+use Rattle.serde_json.specs.Data.{Data, string, object, Members, no_members, member, put}
 use Rattle.names_core.specs.States.{state_text}
 use Rattle.names_core.specs.Updates.{update_text}
-use Rattle.json_text.specs.Tokens.{tokens_of}
 use Rattle.event_json.specs.Ids.{id_data}
 use Rattle.scheduler_events.specs.declared.status.TaskStatus.{TaskStatus}
 
@@ -12,6 +10,11 @@ use Rattle.scheduler_events.specs.declared.status.TaskStatus.{TaskStatus}
 abbrev pub with_agent : Option (List ℕ) → Members → Members
 with_agent None others = others
 with_agent (Some agent) others = member (codes "agent_id") (id_data agent) others
+
+-- members with the id of an update, where there is one
+abbrev pub with_uuid : Option (List ℕ) → Members → Members
+with_uuid None others = others
+with_uuid (Some uuid) others = put (codes "uuid") (string uuid) others
 
 -- the id of an update, where there is one
 abbrev pub uuid_alone : Option (List ℕ) → Members
@@ -29,13 +32,3 @@ abbrev pub status_data : TaskStatus → Data
 status_data status =
     status_object status.agent (state_text status.state) status.task
     (option_map update_text status.update)
-
--- the tokens of the member with the agent, where there is one
-abbrev pub agent_tokens : Option (List ℕ) → List Token
-agent_tokens None = []
-agent_tokens (Some agent) = key (codes "agent_id") ∷ tokens_of (id_data agent)
-
--- the tokens of the member with the id of an update, where there is one
-abbrev pub uuid_tokens : Option (List ℕ) → List Token
-uuid_tokens None = []
-uuid_tokens (Some uuid) = key (codes "uuid") ∷ string_token uuid ∷ []

@@ -1,83 +1,79 @@
 //! What became of a task.
 
-ghost use Rattle.std.specs.Prelude.{◌≡◌, ◌∷◌, [], codes, option_map, IfSome, OnOk};
-ghost use Rattle.json.specs.Token.{key, string};
-ghost use Rattle.names_core.specs.States.{state_text};
+ghost use Rattle.std.specs.Prelude.{◌≡◌, [], option_map, IfOk, OnOk, IfSome};
+ghost use Rattle.serde_json.specs.Data.{object, no_members};
+ghost use Rattle.serde_json.specs.View.{view, members_view};
 ghost use Rattle.names_core.specs.Updates.{update_text};
-ghost use Rattle.json_text.specs.Tokens.{tokens_of, written};
 ghost use Rattle.event_json.specs.Bounds.{IsName, IsStatus};
-ghost use Rattle.event_json.specs.Ids.{id_data};
-ghost use Rattle.event_json.specs.Statuses.{agent_tokens, status_data, uuid_tokens};
+ghost use Rattle.event_json.specs.Statuses.{with_agent, with_uuid, status_data};
 
-use crate::object::write_id_member;
-use json_text::JsonText;
-use names_core::{AgentName, TaskName, TaskState, UpdateId};
+use crate::object::id_value;
+use names_core::{AgentName, UpdateId};
 use scheduler_events::TaskStatus;
+use serde_json::{Map, Value, put};
 use std::alloc::{AllocError, Global};
 
-/// The member that names the agent, where there is one.
-fn write_agent(out: &mut JsonText, agent: &Option<AgentName>) -> Result<(), AllocError>
-    ensures tokens { OnOk result (out.new ≡ written out.old (agent_tokens agent.now)) }
+/// Inserts the agent, where there is one, into an empty object.
+fn put_agent(
+    members: &mut Map<String, Value>,
+    alloc: Global,
+    agent: &Option<AgentName>,
+) -> Result<(), AllocError>
+    requires { members.old.entries ≡ [] }
+    ensures value { OnOk result (members_view members.new.entries
+        ≡ with_agent agent.now no_members) }
     ensures name { OnOk result (IfSome agent.now IsName) }
 {
-    match agent {
-        Some(agent) => write_id_member(out, "agent_id", agent.as_text()),
-        None => Ok(()),
-    }
+    let Some(agent) = agent else {
+        return Ok(());
+    };
+    let id = id_value(alloc, agent.as_text())?;
+    put(members, alloc, "agent_id", id)
 }
 
-fn write_state_text(out: &mut JsonText, state: TaskState) -> Result<(), AllocError>
-    ensures { OnOk result (out.new
-        ≡ written out.old (key (codes "state") ∷ string (state_text state) ∷ [])) }
-{
-    out.string_member("state", state.as_text())
-}
-
-fn write_task_id(out: &mut JsonText, task: &TaskName) -> Result<(), AllocError>
-    ensures tokens { OnOk result (out.new
-        ≡ written out.old (key (codes "task_id") ∷ tokens_of (id_data task.now))) }
-    ensures name { OnOk result (IsName task.now) }
-{
-    write_id_member(out, "task_id", task.as_text())
-}
-
-fn write_update_id(out: &mut JsonText, alloc: Global, update: &UpdateId) -> Result<(), AllocError>
-    ensures { OnOk result (out.new
-        ≡ written out.old (key (codes "uuid") ∷ string (update_text update.now) ∷ [])) }
-{
-    match update.to_text(alloc) {
-        Ok(uuid) => out.string_member("uuid", uuid.as_str()),
-        Err(_) => Err(AllocError),
-    }
-}
-
-/// The member with the id of an update, where there is one.
-fn write_uuid(
-    out: &mut JsonText,
+/// Inserts the id of an update, where there is one.
+fn put_uuid(
+    members: &mut Map<String, Value>,
     alloc: Global,
     update: &Option<UpdateId>,
 ) -> Result<(), AllocError>
-    ensures { OnOk result
-        (out.new ≡ written out.old (uuid_tokens (option_map update_text update.now))) }
+    ensures { OnOk result (members_view members.new.entries
+        ≡ with_uuid (option_map update_text update.now) (members_view members.old.entries)) }
 {
-    match update {
-        Some(update) => write_update_id(out, alloc, update),
-        None => Ok(()),
-    }
+    let Some(update) = update else {
+        return Ok(());
+    };
+    let Ok(uuid) = update.to_text(alloc) else {
+        return Err(AllocError);
+    };
+    put(members, alloc, "uuid", Value::String(uuid))
 }
 
-pub fn write_status(
-    out: &mut JsonText,
+/// Inserts the members of a state into an empty object.
+fn put_status(
+    members: &mut Map<String, Value>,
     alloc: Global,
     status: &TaskStatus,
 ) -> Result<(), AllocError>
-    ensures tokens { OnOk result (out.new ≡ written out.old (tokens_of (status_data status.now))) }
+    requires { members.old.entries ≡ [] }
+    ensures value { OnOk result (object (members_view members.new.entries)
+        ≡ status_data status.now) }
     ensures bounds { OnOk result (IsStatus status.now) }
 {
-    out.begin_object()?;
-    write_agent(out, &status.agent)?;
-    write_state_text(out, status.state)?;
-    write_task_id(out, &status.task)?;
-    write_uuid(out, alloc, &status.update)?;
-    out.end_object()
+    put_agent(members, alloc, &status.agent)?;
+    let state = Value::try_from_str(alloc, status.state.as_text())?;
+    put(members, alloc, "state", state)?;
+    let task = id_value(alloc, status.task.as_text())?;
+    put(members, alloc, "task_id", task)?;
+    put_uuid(members, alloc, &status.update)
+}
+
+/// The state of a task. Its agent and the id of its update are absent where there is none.
+pub fn status_value(alloc: Global, status: &TaskStatus) -> Result<Value, AllocError>
+    ensures value { IfOk result (λ v. view v ≡ status_data status.now) }
+    ensures bounds { IfOk result (λ _. IsStatus status.now) }
+{
+    let mut members = Map::new(alloc);
+    put_status(&mut members, alloc, status)?;
+    Ok(Value::Object(members))
 }

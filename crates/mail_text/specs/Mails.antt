@@ -1,6 +1,5 @@
 -- Mails as compact JSON, members in byte order of their names.
-use Rattle.std.specs.Prelude.{ℕ, Bool, List, [], ◌∷◌, codes, decimal}
-use Rattle.json.specs.Token.{Token}
+use Rattle.std.specs.Prelude.{ℕ, Bool, List, codes}
 use Rattle.serde_json.specs.Data.{Data, boolean, string, object, no_members, member}
 use Rattle.serde_json.specs.Written.{compact_text}
 use Rattle.names_core.specs.Ids.{Numbered, id_text}
@@ -112,10 +111,6 @@ agent_mail_data agent (Report session run tasks total) =
 agent_mail_data agent (Applied session count) = applied_data agent session count
 agent_mail_data agent (Update session key k state ended) =
     update_data agent session key k state ended
-
--- the tokens of an amount under its resource's name
-abbrev pub row_tokens : Row → List Token
-row_tokens r = Token.key r.name ∷ Token.number (decimal r.amount) ∷ []
 
 -- texts
 

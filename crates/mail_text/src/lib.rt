@@ -1,7 +1,6 @@
 //! Mails as texts.
 #![tactic(auto)]
 
-mod members;
 mod to_agent;
 mod to_master;
 

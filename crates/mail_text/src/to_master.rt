@@ -1,128 +1,88 @@
 //! Mails from agents.
 
-ghost use Rattle.std.specs.Prelude.{◌≡◌, ◌∷◌, [], codes, IfOk, OnOk};
-ghost use Rattle.std.specs.List.{flat_map};
-ghost use Rattle.json.specs.Token.{key, boolean};
+ghost use Rattle.std.specs.Prelude.{◌≡◌, codes, IfOk};
+ghost use Rattle.serde_json.specs.View.{view};
 ghost use Rattle.record_text.specs.Texts.{list_data};
-ghost use Rattle.json_text.specs.Tokens.{tokens_of, written};
 ghost use Rattle.mail_text.specs.Mails.{agent_mail_data, applied_data, booked_data, only, report_object, to_master_form, update_data};
 
-use crate::members::{
-    write_agent, write_amounts, write_framework, write_key, write_name, write_number, write_state,
-};
-use json_text::JsonText;
 use mails::{AgentMail, Booked, ToMaster};
 use names_core::{AgentName, LaunchKey, TaskState};
 use quantity::Resources;
+use record_text::{amounts_value, framework_value, key_value};
+use serde_json::{Value, json};
 use std::alloc::{AllocError, Global};
 
-/// Whether something has ended.
-fn write_ended(out: &mut JsonText, ended: bool) -> Result<(), AllocError>
-    ensures { OnOk result
-        (out.new ≡ written out.old (key (codes "ended") ∷ boolean ended ∷ [])) }
+fn booked_value(alloc: Global, task: &Booked) -> Result<Value, AllocError>
+    ensures { IfOk result (λ v. view v ≡ booked_data task.now) }
 {
-    out.key("ended")?;
-    out.boolean(ended)
+    json!(in alloc; {
+        "ended": task.ended,
+        "framework": framework_value(alloc, &task.job.framework)?,
+        "key": key_value(alloc, &task.job.key)?,
+        "name": task.job.name.as_text(),
+        "resources": amounts_value(alloc, &task.job.resources)?,
+        "sent": task.received,
+        "state": task.state.as_text()
+    })
 }
 
-fn write_booked(out: &mut JsonText, alloc: Global, task: &Booked) -> Result<(), AllocError>
-    ensures { OnOk result (out.new ≡ written out.old (tokens_of (booked_data task.now))) }
+fn tasks_value(alloc: Global, tasks: &[Booked]) -> Result<Value, AllocError>
+    ensures { IfOk result (λ v. view v ≡ list_data booked_data tasks.now) }
 {
-    out.begin_object()?;
-    write_ended(out, task.ended)?;
-    write_framework(out, alloc, "framework", &task.job.framework)?;
-    write_key(out, alloc, "key", &task.job.key)?;
-    write_name(out, &task.job.name)?;
-    out.key("resources")?;
-    write_amounts(out, &task.job.resources)?;
-    write_number(out, "sent", task.received)?;
-    write_state(out, task.state)?;
-    out.end_object()
-}
-
-fn write_each_task(out: &mut JsonText, alloc: Global, tasks: &[Booked]) -> Result<(), AllocError>
-    ensures { OnOk result
-        (out.new ≡ written out.old (flat_map (λ task. tokens_of (booked_data task)) tasks.now)) }
-{
+    let mut values = Vec::with_capacity(alloc, tasks.len())?;
     for task in tasks {
-        write_booked(out, alloc, task)?;
+        values.push(booked_value(alloc, task)?)?;
     }
-    Ok(())
-}
-
-fn write_tasks(out: &mut JsonText, alloc: Global, tasks: &[Booked]) -> Result<(), AllocError>
-    ensures { OnOk result
-        (out.new ≡ written out.old (tokens_of (list_data booked_data tasks.now))) }
-{
-    out.begin_array()?;
-    write_each_task(out, alloc, tasks)?;
-    out.end_array()
+    Ok(Value::Array(values))
 }
 
 /// What an agent reports: its session in a run, its tasks, and what it owns.
-fn write_reported(
-    out: &mut JsonText,
+fn reported_value(
     alloc: Global,
     agent: &AgentName,
     session: u32,
     run: u32,
     tasks: &[Booked],
     total: &Resources,
-) -> Result<(), AllocError>
-    ensures { OnOk result (out.new ≡ written out.old
-        (tokens_of (report_object agent.now session run tasks.now total.now))) }
+) -> Result<Value, AllocError>
+    ensures { IfOk result
+        (λ v. view v ≡ report_object agent.now session run tasks.now total.now) }
 {
-    out.begin_object()?;
-    write_agent(out, agent)?;
-    write_number(out, "run", run)?;
-    write_number(out, "session", session)?;
-    out.key("tasks")?;
-    write_tasks(out, alloc, tasks)?;
-    out.key("total")?;
-    write_amounts(out, total)?;
-    out.end_object()
+    json!(in alloc; {
+        "agent": agent.as_text(),
+        "run": run,
+        "session": session,
+        "tasks": tasks_value(alloc, tasks)?,
+        "total": amounts_value(alloc, total)?
+    })
 }
 
-fn write_report(
-    out: &mut JsonText,
+fn report_value(
     alloc: Global,
     agent: &AgentName,
     session: u32,
     run: u32,
     tasks: &[Booked],
     total: &Resources,
-) -> Result<(), AllocError>
-    ensures { OnOk result (out.new ≡ written out.old
-        (tokens_of (only (codes "report")
-        (report_object agent.now session run tasks.now total.now)))) }
+) -> Result<Value, AllocError>
+    ensures { IfOk result (λ v. view v
+        ≡ only (codes "report") (report_object agent.now session run tasks.now total.now)) }
 {
-    out.begin_object()?;
-    out.key("report")?;
-    write_reported(out, alloc, agent, session, run, tasks, total)?;
-    out.end_object()
+    json!(in alloc; {"report": reported_value(alloc, agent, session, run, tasks, total)?})
 }
 
-fn write_applied(
-    out: &mut JsonText,
+fn applied_value(
+    alloc: Global,
     agent: &AgentName,
     session: u32,
     count: u32,
-) -> Result<(), AllocError>
-    ensures { OnOk result
-        (out.new ≡ written out.old (tokens_of (applied_data agent.now session count))) }
+) -> Result<Value, AllocError>
+    ensures { IfOk result (λ v. view v ≡ applied_data agent.now session count) }
 {
-    out.begin_object()?;
-    out.key("applied")?;
-    out.begin_object()?;
-    write_agent(out, agent)?;
-    write_number(out, "n", count)?;
-    write_number(out, "session", session)?;
-    out.end_object()?;
-    out.end_object()
+    json!(in alloc; {"applied": {"agent": agent.as_text(), "n": count, "session": session}})
 }
 
-fn write_update(
-    out: &mut JsonText,
+fn update_value(
     alloc: Global,
     agent: &AgentName,
     session: u32,
@@ -130,27 +90,24 @@ fn write_update(
     k: u32,
     state: TaskState,
     ended: bool,
-) -> Result<(), AllocError>
-    ensures { OnOk result (out.new ≡ written out.old
-        (tokens_of (update_data agent.now session key.now k state ended))) }
+) -> Result<Value, AllocError>
+    ensures { IfOk result (λ v. view v ≡ update_data agent.now session key.now k state ended) }
 {
-    out.begin_object()?;
-    out.key("update")?;
-    out.begin_object()?;
-    write_agent(out, agent)?;
-    write_ended(out, ended)?;
-    write_number(out, "k", k)?;
-    write_key(out, alloc, "key", key)?;
-    write_number(out, "session", session)?;
-    write_state(out, state)?;
-    out.end_object()?;
-    out.end_object()
+    json!(in alloc; {
+        "update": {
+            "agent": agent.as_text(),
+            "ended": ended,
+            "k": k,
+            "key": key_value(alloc, key)?,
+            "session": session,
+            "state": state.as_text()
+        }
+    })
 }
 
 #[tactic(auto, unfolding(crate::specs::Mails::agent_mail_data))]
-fn write_mail(out: &mut JsonText, alloc: Global, to: &ToMaster) -> Result<(), AllocError>
-    ensures { OnOk result
-        (out.new ≡ written out.old (tokens_of (agent_mail_data to.now.agent to.now.mail))) }
+fn value_of(alloc: Global, to: &ToMaster) -> Result<Value, AllocError>
+    ensures { IfOk result (λ v. view v ≡ agent_mail_data to.now.agent to.now.mail) }
 {
     let agent = &to.agent;
     match &to.mail {
@@ -159,15 +116,15 @@ fn write_mail(out: &mut JsonText, alloc: Global, to: &ToMaster) -> Result<(), Al
             run,
             tasks,
             total,
-        } => write_report(out, alloc, agent, *session, *run, tasks.as_slice(), total),
-        AgentMail::Applied { session, count } => write_applied(out, agent, *session, *count),
+        } => report_value(alloc, agent, *session, *run, tasks.as_slice(), total),
+        AgentMail::Applied { session, count } => applied_value(alloc, agent, *session, *count),
         AgentMail::Update {
             session,
             key,
             k,
             state,
             ended,
-        } => write_update(out, alloc, agent, *session, key, *k, *state, *ended),
+        } => update_value(alloc, agent, *session, key, *k, *state, *ended),
     }
 }
 
@@ -176,7 +133,6 @@ fn write_mail(out: &mut JsonText, alloc: Global, to: &ToMaster) -> Result<(), Al
 pub fn to_master_text(alloc: Global, to: &ToMaster) -> Result<Vec<u8>, AllocError>
     ensures { IfOk result (λ text. text.items ≡ to_master_form to.now) }
 {
-    let mut out = JsonText::new(alloc)?;
-    write_mail(&mut out, alloc, to)?;
-    Ok(out.into_bytes())
+    let value = value_of(alloc, to)?;
+    value.to_vec(alloc)
 }

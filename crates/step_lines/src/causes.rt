@@ -1,7 +1,7 @@
 //! What an agent is to prepare.
 
 ghost use Rattle.std.specs.Prelude.{◌≡◌, option_map};
-ghost use Rattle.json_values.specs.View.{view};
+ghost use Rattle.serde_json.specs.View.{view};
 ghost use Rattle.step_lines.specs.Answers.{Gives, wanted};
 ghost use Rattle.step_lines.specs.Lines as lines;
 
@@ -9,12 +9,12 @@ use crate::fault::{LineFault, LineRefusal, NOT_A_STEP};
 use crate::members::{key_in, number_in, state_in, text_in};
 use crate::totals::total_of;
 use cluster_steps::StepCause;
-use json_values::{Value, get};
 use quantity::Resources;
+use serde_json::Value;
 use std::alloc::Global;
 
 /// What an agent owns from its start on, where that is named.
-fn total_named(alloc: Global, value: Option<&Value<'_>>) -> Result<Option<Resources>, LineFault>
+fn total_named(alloc: Global, value: Option<&Value>) -> Result<Option<Resources>, LineFault>
     ensures { Gives (λ t. t) result
         (wanted (lines.total_named (option_map (λ v. view v.now) value.entry))) }
 {
@@ -25,7 +25,7 @@ fn total_named(alloc: Global, value: Option<&Value<'_>>) -> Result<Option<Resour
 }
 
 #[tactic(auto, unfolding(crate::specs::Lines::named_cause))]
-fn named_cause(alloc: Global, text: &str, total: Option<&Value<'_>>) -> Result<StepCause, LineFault>
+fn named_cause(alloc: Global, text: &str, total: Option<&Value>) -> Result<StepCause, LineFault>
     ensures { Gives (λ c. c) result
         (wanted (lines.named_cause text.now (option_map (λ v. view v.now) total.entry))) }
 {
@@ -42,7 +42,7 @@ fn named_cause(alloc: Global, text: &str, total: Option<&Value<'_>>) -> Result<S
 }
 
 /// The state that an executor reports, with its task's key.
-fn report_in(value: &Value<'_>) -> Option<StepCause>
+fn report_in(value: &Value) -> Option<StepCause>
     ensures { result ≡ lines.report_in (view value.now) }
 {
     let key = key_in(value)?;
@@ -50,18 +50,18 @@ fn report_in(value: &Value<'_>) -> Option<StepCause>
 }
 
 /// A mail by its number, a cause by its name, or the state that an executor reports.
-pub fn cause_in(alloc: Global, value: &Value<'_>) -> Result<StepCause, LineFault>
+pub fn cause_in(alloc: Global, value: &Value) -> Result<StepCause, LineFault>
     ensures { Gives (λ c. c) result (wanted (lines.cause_in (view value.now))) }
 {
-    if get(value, "mail").is_some() {
+    if value.get("mail").is_some() {
         return match number_in(value, "mail") {
             Some(number) => Ok(StepCause::Mail(number)),
             None => Err(NOT_A_STEP),
         };
     }
-    if get(value, "cause").is_some() {
+    if value.get("cause").is_some() {
         return match text_in(value, "cause") {
-            Some(text) => named_cause(alloc, text, get(value, "total")),
+            Some(text) => named_cause(alloc, text, value.get("total")),
             None => Err(NOT_A_STEP),
         };
     }
@@ -71,19 +71,19 @@ pub fn cause_in(alloc: Global, value: &Value<'_>) -> Result<StepCause, LineFault
     }
 }
 
-fn named_members(value: &Value<'_>) -> usize
+fn named_members(value: &Value) -> usize
     ensures { result ≡ lines.named_members (view value.now) }
 {
-    if get(value, "total").is_some() { 4 } else { 3 }
+    if value.get("total").is_some() { 4 } else { 3 }
 }
 
 /// How many members a line has with its cause.
-pub fn cause_members(value: &Value<'_>) -> usize
+pub fn cause_members(value: &Value) -> usize
     ensures { result ≡ lines.cause_members (view value.now) }
 {
-    if get(value, "mail").is_some() {
+    if value.get("mail").is_some() {
         3
-    } else if get(value, "cause").is_some() {
+    } else if value.get("cause").is_some() {
         named_members(value)
     } else {
         4

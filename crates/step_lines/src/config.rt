@@ -1,7 +1,8 @@
 //! The first line: which agents there are, what each owns, and how much roles count.
 
-ghost use Rattle.std.specs.Prelude.{◌≡◌, [], IfSome, option_map};
-ghost use Rattle.json_values.specs.View.{members_seen, seen, view};
+ghost use Rattle.std.specs.Prelude.{◌≡◌, [], IfSome};
+ghost use Rattle.serde_json.specs.View.{view, members_view};
+ghost use Rattle.call_members.specs.Members.{seen};
 ghost use Rattle.step_lines.specs.Answers.{Gives};
 ghost use Rattle.names_core.specs.Names.{is_role};
 ghost use Rattle.role_weights.specs.Weights.{IsWeight};
@@ -14,11 +15,11 @@ use crate::members::has_members;
 use crate::read::LONGEST_LINE;
 use crate::totals::total_of;
 use agent_sides::{Config, ConfigFault};
-use json_values::{Members, ReadFault, Scratch, Value, get, sorted_members, whole_number};
 use names_core::{AgentName, NameFault, RoleName};
 use number_trim::trim;
 use quantity::Resources;
 use role_weights::Weights;
+use serde_json::{Map, Value};
 use std::alloc::Global;
 
 /// As many roles as a configuration names at most.
@@ -62,12 +63,7 @@ fn join(config: &mut Config, name: AgentName, total: Resources) -> Result<(), Li
 }
 
 #[tactic(auto, unfolding(crate::specs::Configs::agent_more))]
-fn add_agent(
-    alloc: Global,
-    config: &mut Config,
-    name: &str,
-    value: &Value<'_>,
-) -> Result<(), LineFault>
+fn add_agent(alloc: Global, config: &mut Config, name: &str, value: &Value) -> Result<(), LineFault>
     ensures { Gives (λ _. config.new) result
         (configs.configured (configs.agent_more name.now (view value.now) config.old)) }
 {
@@ -76,28 +72,25 @@ fn add_agent(
     join(config, name, total)
 }
 
-fn agents_of(alloc: Global, members: &Members<'_, '_>) -> Result<Config, LineFault>
+fn agents_of(alloc: Global, members: &Map<String, Value>) -> Result<Config, LineFault>
     ensures { Gives (λ c. c) result
-        (configs.configured (configs.agents_in [] (members_seen members.now))) }
+        (configs.configured (configs.agents_in [] (members_view members.now.entries))) }
 {
     let mut config = Config::new(alloc);
     for (name, value) in members.iter() {
-        add_agent(alloc, &mut config, name, value)?;
+        add_agent(alloc, &mut config, name.as_str(), value)?;
     }
     Ok(config)
 }
 
 #[tactic(auto, unfolding(crate::specs::Configs::agents_of))]
-fn some_agents(alloc: Global, value: &Value<'_>) -> Result<Config, LineFault>
+fn some_agents(alloc: Global, value: &Value) -> Result<Config, LineFault>
     ensures { Gives (λ c. c) result (configs.configured (configs.agents_of (view value.now))) }
 {
-    let Some(agents) = get(value, "agents") else {
+    let Some(members) = value.get("agents").and_then(Value::as_object) else {
         return Err(BAD_CONFIG);
     };
-    let Some(members) = sorted_members(alloc, agents)? else {
-        return Err(BAD_CONFIG);
-    };
-    let config = agents_of(alloc, &members)?;
+    let config = agents_of(alloc, members)?;
     if config.agents().is_empty() {
         return Err(BAD_CONFIG);
     }
@@ -105,11 +98,11 @@ fn some_agents(alloc: Global, value: &Value<'_>) -> Result<Config, LineFault>
 }
 
 /// The weight of a role.
-fn weight_of(value: &Value<'_>) -> Option<u16>
+fn weight_of(value: &Value) -> Option<u16>
     ensures weight { result ≡ configs.weight_of (view value.now) }
     ensures range { IfSome result IsWeight }
 {
-    let weight = whole_number(value)?;
+    let weight = value.as_u64()?;
     if weight < 1 || weight > 1_000 {
         return None;
     }
@@ -131,7 +124,7 @@ fn add_weight(
     alloc: Global,
     weights: &mut Weights,
     name: &str,
-    value: &Value<'_>,
+    value: &Value,
 ) -> Result<(), LineFault>
     ensures { Gives (λ _. weights.new) result (configs.configured (configs.weight_more name.now
         (view value.now) weights.old)) }
@@ -144,20 +137,20 @@ fn add_weight(
     Ok(())
 }
 
-fn all_weights(alloc: Global, members: &Members<'_, '_>) -> Result<Weights, LineFault>
+fn all_weights(alloc: Global, members: &Map<String, Value>) -> Result<Weights, LineFault>
     ensures { Gives (λ w. w) result (configs.configured (configs.weights_in []
-        (members_seen members.now))) }
+        (members_view members.now.entries))) }
 {
     let mut weights = Weights::new(alloc);
     for (name, value) in members.iter() {
-        add_weight(alloc, &mut weights, name, value)?;
+        add_weight(alloc, &mut weights, name.as_str(), value)?;
     }
     Ok(weights)
 }
 
-fn few_weights(alloc: Global, members: &Members<'_, '_>) -> Result<Weights, LineFault>
+fn few_weights(alloc: Global, members: &Map<String, Value>) -> Result<Weights, LineFault>
     ensures { Gives (λ w. w) result (configs.configured (configs.few_weights
-        (members_seen members.now))) }
+        (members_view members.now.entries))) }
 {
     if members.len() > MOST_WEIGHTS {
         return Err(BAD_CONFIG);
@@ -166,26 +159,26 @@ fn few_weights(alloc: Global, members: &Members<'_, '_>) -> Result<Weights, Line
 }
 
 /// The weights of roles, where they are named.
-fn weights_named(alloc: Global, value: Option<&Value<'_>>) -> Result<Weights, LineFault>
+fn weights_named(alloc: Global, value: Option<&Value>) -> Result<Weights, LineFault>
     ensures { Gives (λ w. w) result (configs.configured (configs.weights_named (seen value.entry))) }
 {
     let Some(value) = value else {
         return Ok(Weights::new(alloc));
     };
-    match sorted_members(alloc, value)? {
-        Some(members) => few_weights(alloc, &members),
+    match value.as_object() {
+        Some(members) => few_weights(alloc, members),
         None => Err(BAD_CONFIG),
     }
 }
 
 #[tactic(auto, unfolding(crate::specs::Configs::config_of))]
-fn config_of(alloc: Global, value: &Value<'_>) -> Result<Configuration, LineFault>
+fn config_of(alloc: Global, value: &Value) -> Result<Configuration, LineFault>
     ensures { Gives (λ c. configured_by c) result (configs.configured (configs.config_of
         (view value.now))) }
 {
-    let weights = get(value, "weights");
+    let weights = value.get("weights");
     let count = if weights.is_some() { 2 } else { 1 };
-    if !has_members(alloc, value, count)? {
+    if !has_members(value, count) {
         return Err(BAD_CONFIG);
     }
     let agents = some_agents(alloc, value)?;
@@ -197,11 +190,15 @@ fn config_of(alloc: Global, value: &Value<'_>) -> Result<Configuration, LineFaul
 fn config_json(alloc: Global, bytes: &[u8]) -> Result<Configuration, LineFault>
     ensures { Gives (λ c. configured_by c) result (configs.config_json bytes.now) }
 {
-    let mut scratch = Scratch::new(alloc);
-    match json_values::read(alloc, bytes, &mut scratch) {
-        Ok(json) => config_of(alloc, json.whole().value()),
-        Err(ReadFault::OutOfMemory) => Err(LineFault::OutOfMemory),
-        Err(ReadFault::NotJson) => Err(BAD_CONFIG),
+    match Value::from_slice(alloc, bytes) {
+        Ok(value) => config_of(alloc, &value),
+        Err(e) => {
+            if e.is_memory() {
+                Err(LineFault::OutOfMemory)
+            } else {
+                Err(BAD_CONFIG)
+            }
+        }
     }
 }
 

@@ -1,47 +1,47 @@
 //! Members of a line.
 
-ghost use Rattle.std.specs.Prelude.{◌≡◌, option_map, IfOk};
-ghost use Rattle.json_values.specs.View.{view};
+ghost use Rattle.std.specs.Prelude.{◌≡◌, option_map};
+ghost use Rattle.serde_json.specs.View.{view};
 ghost use Rattle.step_lines.specs.Answers.{Gives, wanted};
 ghost use Rattle.step_lines.specs.Members as members;
 
 use crate::fault::{LineFault, NOT_A_STEP};
 use cluster_steps::Keep;
-use json_values::{Value, get, sorted_members, text, whole_number};
 use names_core::{AgentName, LaunchKey, NameFault, StreamId, TaskState};
-use std::alloc::{AllocError, Global};
+use serde_json::Value;
+use std::alloc::Global;
 
 /// Whether a value is an object with so many members.
-pub fn has_members(alloc: Global, value: &Value<'_>, count: usize) -> Result<bool, AllocError>
-    ensures { IfOk result (λ has. has ≡ members.has_members count (view value.now)) }
+pub fn has_members(value: &Value, count: usize) -> bool
+    ensures { result ≡ members.has_members count (view value.now) }
 {
-    match sorted_members(alloc, value)? {
-        Some(members) => Ok(members.len() == count),
-        None => Ok(false),
+    match value.as_object() {
+        Some(map) => map.len() == count,
+        None => false,
     }
 }
 
-pub fn text_in<'a>(value: &Value<'a>, name: &str) -> Option<&'a str>
+pub fn text_in<'a>(value: &'a Value, name: &str) -> Option<&'a str>
     ensures { option_map (λ s. s.now) result ≡ members.text_in name.now (view value.now) }
 {
-    text(get(value, name)?)
+    value.get(name)?.as_str()
 }
 
-pub fn number_in(value: &Value<'_>, name: &str) -> Option<u64>
+pub fn number_in(value: &Value, name: &str) -> Option<u64>
     ensures { result ≡ members.number_in name.now (view value.now) }
 {
-    whole_number(get(value, name)?)
+    value.get(name)?.as_u64()
 }
 
 /// A moment, in seconds.
-pub fn moment_in(value: &Value<'_>) -> Option<u32>
+pub fn moment_in(value: &Value) -> Option<u32>
     ensures { result ≡ members.moment_in (view value.now) }
 {
     let now = number_in(value, "now")?;
     u32::try_from(now).ok()
 }
 
-pub fn agent_in(alloc: Global, value: &Value<'_>) -> Result<AgentName, LineFault>
+pub fn agent_in(alloc: Global, value: &Value) -> Result<AgentName, LineFault>
     ensures { Gives (λ n. n) result (wanted (members.agent_in (view value.now))) }
 {
     let Some(text) = text_in(value, "agent") else {
@@ -54,13 +54,13 @@ pub fn agent_in(alloc: Global, value: &Value<'_>) -> Result<AgentName, LineFault
     }
 }
 
-pub fn stream_in(value: &Value<'_>) -> Option<StreamId>
+pub fn stream_in(value: &Value) -> Option<StreamId>
     ensures { result ≡ members.stream_in (view value.now) }
 {
     StreamId::from_text(text_in(value, "stream")?).ok()
 }
 
-pub fn key_in(value: &Value<'_>) -> Option<LaunchKey>
+pub fn key_in(value: &Value) -> Option<LaunchKey>
     ensures { result ≡ members.key_in (view value.now) }
 {
     LaunchKey::from_text(text_in(value, "launch")?).ok()
@@ -79,7 +79,7 @@ fn reported_state(text: &str) -> Option<TaskState>
 }
 
 /// The state that an executor reports.
-pub fn state_in(value: &Value<'_>) -> Option<TaskState>
+pub fn state_in(value: &Value) -> Option<TaskState>
     ensures { result ≡ members.state_in (view value.now) }
 {
     reported_state(text_in(value, "state")?)
@@ -97,7 +97,7 @@ fn kept(text: &str) -> Option<Keep>
 }
 
 /// What an agent that stops is recovered from.
-pub fn keep_in(value: &Value<'_>) -> Option<Keep>
+pub fn keep_in(value: &Value) -> Option<Keep>
     ensures { result ≡ members.keep_in (view value.now) }
 {
     kept(text_in(value, "keep")?)

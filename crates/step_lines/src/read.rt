@@ -1,7 +1,7 @@
 //! Steps of values and of lines.
 
 ghost use Rattle.std.specs.Prelude.{◌≡◌};
-ghost use Rattle.json_values.specs.View.{view};
+ghost use Rattle.serde_json.specs.View.{view};
 ghost use Rattle.step_lines.specs.Answers.{Gives};
 ghost use Rattle.step_lines.specs.Lines as lines;
 
@@ -10,8 +10,8 @@ use crate::fault::{LineFault, NOT_A_STEP};
 use crate::members::{has_members, moment_in, number_in, stream_in, text_in};
 use crate::send::send;
 use cluster_steps::Step;
-use json_values::{Part, ReadFault, Scratch, Value};
 use number_trim::trim;
+use serde_json::Value;
 use std::alloc::Global;
 
 /// As many bytes as a line has at most, without its line feed.
@@ -54,15 +54,10 @@ fn kind_of(text: &str) -> Option<Kind>
 }
 
 /// A step that was read of an object with so many members.
-fn formed(
-    alloc: Global,
-    value: &Value<'_>,
-    count: usize,
-    step: Option<Step>,
-) -> Result<Step, LineFault>
+fn formed(value: &Value, count: usize, step: Option<Step>) -> Result<Step, LineFault>
     ensures { Gives (λ s. s) result (lines.formed count (view value.now) step) }
 {
-    if !has_members(alloc, value, count)? {
+    if !has_members(value, count) {
         return Err(NOT_A_STEP);
     }
     match step {
@@ -72,76 +67,75 @@ fn formed(
 }
 
 #[tactic(auto, unfolding(crate::specs::Lines::deliver_of))]
-fn deliver(alloc: Global, value: &Value<'_>) -> Result<Step, LineFault>
+fn deliver(value: &Value) -> Result<Step, LineFault>
     ensures { Gives (λ s. s) result (lines.deliver_of (view value.now)) }
 {
     match number_in(value, "mail") {
-        Some(number) => formed(alloc, value, 2, Some(Step::Deliver(number))),
+        Some(number) => formed(value, 2, Some(Step::Deliver(number))),
         None => Err(NOT_A_STEP),
     }
 }
 
 #[tactic(auto, unfolding(crate::specs::Lines::tick_of))]
-fn tick(alloc: Global, value: &Value<'_>) -> Result<Step, LineFault>
+fn tick(value: &Value) -> Result<Step, LineFault>
     ensures { Gives (λ s. s) result (lines.tick_of (view value.now)) }
 {
     match moment_in(value) {
-        Some(now) => formed(alloc, value, 2, Some(Step::Tick(now))),
+        Some(now) => formed(value, 2, Some(Step::Tick(now))),
         None => Err(NOT_A_STEP),
     }
 }
 
 #[tactic(auto, unfolding(crate::specs::Lines::hang_up_of))]
-fn hang_up(alloc: Global, value: &Value<'_>) -> Result<Step, LineFault>
+fn hang_up(value: &Value) -> Result<Step, LineFault>
     ensures { Gives (λ s. s) result (lines.hang_up_of (view value.now)) }
 {
     match stream_in(value) {
-        Some(stream) => formed(alloc, value, 2, Some(Step::HangUp(stream))),
+        Some(stream) => formed(value, 2, Some(Step::HangUp(stream))),
         None => Err(NOT_A_STEP),
     }
 }
 
 #[tactic(auto, unfolding(crate::specs::Lines::take_of))]
-fn take(alloc: Global, value: &Value<'_>) -> Result<Step, LineFault>
+fn take(value: &Value) -> Result<Step, LineFault>
     ensures { Gives (λ s. s) result (lines.take_of (view value.now)) }
 {
     match stream_in(value) {
-        Some(stream) => formed(alloc, value, 2, Some(Step::Take(stream))),
+        Some(stream) => formed(value, 2, Some(Step::Take(stream))),
         None => Err(NOT_A_STEP),
     }
 }
 
-fn of_kind(alloc: Global, kind: Kind, line: &Part<'_, '_>) -> Result<Step, LineFault>
-    ensures { Gives (λ s. s) result (lines.by_kind kind (view line.now.value.now)) }
+fn of_kind(alloc: Global, kind: Kind, value: &Value) -> Result<Step, LineFault>
+    ensures { Gives (λ s. s) result (lines.by_kind kind (view value.now)) }
 {
-    let value = line.value();
     match kind {
-        Kind::Send => send(alloc, line),
-        Kind::Deliver => deliver(alloc, value),
-        Kind::Allocate => formed(alloc, value, 1, Some(Step::Allocate)),
-        Kind::Tick => tick(alloc, value),
+        Kind::Send => send(alloc, value),
+        Kind::Deliver => deliver(value),
+        Kind::Allocate => formed(value, 1, Some(Step::Allocate)),
+        Kind::Tick => tick(value),
         Kind::Lose => lose(alloc, value),
-        Kind::HangUp => hang_up(alloc, value),
+        Kind::HangUp => hang_up(value),
         Kind::Prepare => prepare(alloc, value),
         Kind::Commit => commit(alloc, value),
         Kind::StopAgent => stop_agent(alloc, value),
-        Kind::StopMaster => formed(alloc, value, 1, Some(Step::StopMaster)),
-        Kind::Take => take(alloc, value),
+        Kind::StopMaster => formed(value, 1, Some(Step::StopMaster)),
+        Kind::Take => take(value),
     }
 }
 
-/// The step that the value of a line is. `X1 NotAStep` where it has no form of a step, of which a further
+/// The step that a JSON value is. `X1 NotAStep` where it has no form of a step, of which a further
 /// member is none either; `X2 BadCall` where the form is right and the call that it sends doesn't
 /// read; `X4 OutOfMemory` may come before these.
 #[tactic(auto, unfolding(crate::specs::Lines::step_of))]
-pub fn step_of(alloc: Global, line: &Part<'_, '_>) -> Result<Step, LineFault>
-    ensures { Gives (λ s. s) result (lines.step_of (view line.now.value.now)) }
+pub fn step_of(alloc: Global, value: &Value) -> Result<Step, LineFault>
+    ensures { Gives (λ s. s) result (lines.step_of (view value.now)) }
 {
-    let Some(text) = text_in(line.value(), "step") else {
+    let Some(text) = text_in(value, "step") else {
         return Err(NOT_A_STEP);
     };
     match kind_of(text) {
-        Some(kind) => of_kind(alloc, kind, line),
+        Some(kind) => of_kind(alloc, kind, value),
         None => Err(NOT_A_STEP),
     }
 }
@@ -150,11 +144,15 @@ pub fn step_of(alloc: Global, line: &Part<'_, '_>) -> Result<Step, LineFault>
 fn read_json(alloc: Global, bytes: &[u8]) -> Result<Step, LineFault>
     ensures { Gives (λ s. s) result (lines.read_json bytes.now) }
 {
-    let mut scratch = Scratch::new(alloc);
-    match json_values::read(alloc, bytes, &mut scratch) {
-        Ok(json) => step_of(alloc, &json.whole()),
-        Err(ReadFault::OutOfMemory) => Err(LineFault::OutOfMemory),
-        Err(ReadFault::NotJson) => Err(NOT_A_STEP),
+    match Value::from_slice(alloc, bytes) {
+        Ok(value) => step_of(alloc, &value),
+        Err(e) => {
+            if e.is_memory() {
+                Err(LineFault::OutOfMemory)
+            } else {
+                Err(NOT_A_STEP)
+            }
+        }
     }
 }
 

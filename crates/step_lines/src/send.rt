@@ -2,7 +2,7 @@
 
 ghost use Rattle.std.specs.Prelude.{◌≡◌, Ok, option_map};
 ghost use Rattle.cluster_steps.specs.declared.step.Step.TheVariants.{Send};
-ghost use Rattle.json_values.specs.View.{view};
+ghost use Rattle.serde_json.specs.View.{view};
 ghost use Rattle.step_lines.specs.Answers.{Gives, wanted};
 ghost use Rattle.step_lines.specs.Lines as lines;
 
@@ -11,17 +11,17 @@ use crate::members::{has_members, stream_in};
 use call_json::call_of;
 use call_members::CallFault;
 use cluster_steps::Step;
-use json_values::{Part, Value, get};
 use mails::Call;
 use names_core::StreamId;
+use serde_json::Value;
 use shared_value::Shared;
 use std::alloc::Global;
 
 /// The stream, which may be absent, but not wrong.
-fn maybe_stream(value: &Value<'_>) -> Result<Option<StreamId>, LineFault>
+fn maybe_stream(value: &Value) -> Result<Option<StreamId>, LineFault>
     ensures { Gives (λ s. s) result (wanted (lines.maybe_stream (view value.now))) }
 {
-    if get(value, "stream").is_none() {
+    if value.get("stream").is_none() {
         return Ok(None);
     }
     match stream_in(value) {
@@ -30,10 +30,10 @@ fn maybe_stream(value: &Value<'_>) -> Result<Option<StreamId>, LineFault>
     }
 }
 
-fn send_members(value: &Value<'_>) -> usize
+fn send_members(value: &Value) -> usize
     ensures { result ≡ lines.send_members (view value.now) }
 {
-    if get(value, "stream").is_some() { 3 } else { 2 }
+    if value.get("stream").is_some() { 3 } else { 2 }
 }
 
 /// A Send of a call, which is stored once and shared.
@@ -47,18 +47,17 @@ fn sent(alloc: Global, stream: Option<StreamId>, call: Call) -> Result<Step, Lin
 }
 
 #[tactic(auto, unfolding(crate::specs::Lines::send_of))]
-pub fn send(alloc: Global, line: &Part<'_, '_>) -> Result<Step, LineFault>
-    ensures { Gives (λ s. s) result (lines.send_of (view line.now.value.now)) }
+pub fn send(alloc: Global, value: &Value) -> Result<Step, LineFault>
+    ensures { Gives (λ s. s) result (lines.send_of (view value.now)) }
 {
-    let value = line.value();
-    if !has_members(alloc, value, send_members(value))? {
+    if !has_members(value, send_members(value)) {
         return Err(NOT_A_STEP);
     }
     let stream = maybe_stream(value)?;
-    let Some(call) = line.member("call") else {
+    let Some(call) = value.get("call") else {
         return Err(NOT_A_STEP);
     };
-    match call_of(alloc, &call) {
+    match call_of(alloc, call) {
         Ok(call) => sent(alloc, stream, call),
         Err(CallFault::Refused(refusal)) => Err(LineFault::Refused(LineRefusal::BadCall(refusal))),
         Err(CallFault::OutOfMemory) => Err(LineFault::OutOfMemory),

@@ -1,13 +1,13 @@
 //! What an agent owns.
 
 ghost use Rattle.std.specs.Prelude.{◌≡◌, []};
-ghost use Rattle.json_values.specs.View.{members_seen, view};
+ghost use Rattle.serde_json.specs.View.{view, members_view};
 ghost use Rattle.step_lines.specs.Answers.{Gives, or_refused};
 ghost use Rattle.step_lines.specs.Totals as totals;
 
 use crate::fault::{LineFault, LineRefusal};
-use json_values::{Members, Value, sorted_members, whole_number};
 use quantity::{QuantityFault, Resources};
+use serde_json::{Map, Value};
 use std::alloc::Global;
 
 /// An amount of a name more.
@@ -16,12 +16,12 @@ fn add(
     refusal: LineRefusal,
     resources: &mut Resources,
     name: &str,
-    value: &Value<'_>,
+    value: &Value,
 ) -> Result<(), LineFault>
     ensures { Gives (λ _. resources.new) result
         (or_refused refusal (totals.more_of name.now (view value.now) resources.old)) }
 {
-    let Some(amount) = whole_number(value) else {
+    let Some(amount) = value.as_u64() else {
         return Err(LineFault::Refused(refusal));
     };
     if amount == 0 {
@@ -37,29 +37,25 @@ fn add(
 fn rows_of(
     alloc: Global,
     refusal: LineRefusal,
-    members: &Members<'_, '_>,
+    members: &Map<String, Value>,
 ) -> Result<Resources, LineFault>
     ensures { Gives (λ r. r) result
-        (or_refused refusal (totals.rows_in [] (members_seen members.now))) }
+        (or_refused refusal (totals.rows_in [] (members_view members.now.entries))) }
 {
     let mut resources = Resources::new(alloc);
     for (name, value) in members.iter() {
-        add(alloc, refusal, &mut resources, name, value)?;
+        add(alloc, refusal, &mut resources, name.as_str(), value)?;
     }
     Ok(resources)
 }
 
 /// What an agent owns, which may be nothing: up to 8 amounts, each a whole number from 1 to 2^40.
 /// Every other value is refused with `refusal`.
-pub fn total_of(
-    alloc: Global,
-    refusal: LineRefusal,
-    value: &Value<'_>,
-) -> Result<Resources, LineFault>
+pub fn total_of(alloc: Global, refusal: LineRefusal, value: &Value) -> Result<Resources, LineFault>
     ensures { Gives (λ r. r) result (or_refused refusal (totals.total_of (view value.now))) }
 {
-    match sorted_members(alloc, value)? {
-        Some(members) => rows_of(alloc, refusal, &members),
+    match value.as_object() {
+        Some(members) => rows_of(alloc, refusal, members),
         None => Err(LineFault::Refused(refusal)),
     }
 }

@@ -1,5 +1,5 @@
 use Rattle.std.proofs.Common.{◌≡◌, map, drop}
-use Rattle.json_values.specs.View.{view}
+use Rattle.serde_json.specs.View.{view}
 use Rattle.call_members.specs.Lists.{each_in}
 use Rattle.call_bodies.specs.Launched.{add_task}
 use Rattle.call_bodies.proofs.launched.add_tasks.Given as goal

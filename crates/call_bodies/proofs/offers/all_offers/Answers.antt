@@ -1,6 +1,6 @@
 use Rattle.std.proofs.Common.{[], map}
 use Rattle.std.proofs.lemmas.Result.{err_from_is_err_and}
-use Rattle.json_values.specs.View.{view}
+use Rattle.serde_json.specs.View.{view}
 use Rattle.call_members.specs.Lists.{each_in}
 use Rattle.call_members.proofs.Each.{goes_on, ends, is_done}
 use Rattle.call_bodies.specs.Offers.{add_offer}

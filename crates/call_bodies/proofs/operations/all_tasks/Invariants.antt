@@ -1,5 +1,5 @@
 use Rattle.std.proofs.Common.{◌≡◌, [], map, drop}
-use Rattle.json_values.specs.View.{view}
+use Rattle.serde_json.specs.View.{view}
 use Rattle.call_members.specs.Lists.{each_in}
 use Rattle.call_bodies.specs.Launched.{add_operation}
 use Rattle.call_bodies.proofs.operations.all_tasks.Given as goal

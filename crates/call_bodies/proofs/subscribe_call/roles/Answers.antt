@@ -2,13 +2,15 @@ use Rattle.std.proofs.Common.{◌≡◌, ◌≤◌, List, [], ◌∷◌, length,
 use Rattle.std.specs.Option.{option_map, option_and_then}
 use Rattle.serde_json.specs.Data.{Items, no_items, item}
 use Rattle.serde_json.specs.Find.{as_array}
-use Rattle.json_values.specs.View.{JsonValue, seen, view}
+use Rattle.serde_json.specs.View.{view}
+use Rattle.serde_json.specs.declared.value.Value.{Value}
 use Rattle.call_members.specs.Lists.{values_of}
+use Rattle.call_members.specs.Members.{seen}
 use Rattle.call_members.specs.declared.fault.Refusal.TheVariants.{TooManyRoles}
 use Rattle.call_bodies.specs.Subscribe.{roles_of}
 use Rattle.call_bodies.proofs.subscribe_call.roles.Goals as goal
 
-two_are_many : (o : Option Items) (vs : List JsonValue) → Some (map view vs) ≡ option_map values_of o → 2 ≤ length vs → roles_of o ≡ Err TooManyRoles
+two_are_many : (o : Option Items) (vs : List Value) → Some (map view vs) ≡ option_map values_of o → 2 ≤ length vs → roles_of o ≡ Err TooManyRoles
 two_are_many None vs e h = absurd (cc)
 two_are_many (Some no_items) [] e h = absurd (omega arith)
 two_are_many (Some no_items) (v ∷ vs) e h = absurd (cc)

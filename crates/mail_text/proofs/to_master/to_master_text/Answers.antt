@@ -1,6 +1,14 @@
-use Rattle.json_text.proofs.Writing.{from_nothing}
-use Rattle.mail_text.specs.Mails.{agent_mail_data}
+use Rattle.std.proofs.Common.{◌≡◌, ap, ◌∙◌, false, ℕ, Vec, Global}
+use Rattle.std.proofs.lemmas.Result.{IfOk-weaker}
+use Rattle.serde_json.specs.View.{view}
+use Rattle.serde_json.specs.Written.{compact_text, has_float}
+use Rattle.mail_text.specs.Mails.{to_master_form}
+use Rattle.mail_text.proofs.Floats.{agent_mail}
 use Rattle.mail_text.proofs.to_master.to_master_text.Goals as goal
 
 pub returns : goal.returns
-returns c = c.into_bytes.ensures (agent_mail_data c.args.to.now.agent c.args.to.now.mail) (from_nothing _ _ _ c.in_ok-out.ensures c.in_ok-write_mail.ensures)
+returns c =
+    let value = view c.in_ok-value.value in
+    let to = c.args.to.now in
+    IfOk-weaker c.to_vec.result (λ (v : Vec ℕ Global). has_float value ≡ false → v.items ≡ compact_text value) (λ (v : Vec ℕ Global). v.items ≡ to_master_form to)
+    (λ v text. text (ap has_float c.in_ok-value.ensures ∙ agent_mail to.agent to.mail) ∙ ap compact_text c.in_ok-value.ensures) c.to_vec.ensures.text

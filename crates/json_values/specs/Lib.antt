@@ -1,2 +1,0 @@
-pub mod Data
-pub mod View
