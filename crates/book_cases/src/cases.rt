@@ -1,9 +1,9 @@
 //! What the lines speak of.
 
 use crate::agents::Kept;
-use crate::shares::WeighedShares;
 use crate::{agents, books, configs, sessions, shares, words};
 use agent_sides::Config;
+use drf_pick::Shares;
 use offer_book::OfferBook;
 use roster::Roster;
 use std::alloc::Global;
@@ -12,7 +12,7 @@ use std::alloc::Global;
 #[derive(Drop)]
 pub struct Cases {
     book: OfferBook,
-    shares: WeighedShares,
+    shares: Shares,
     roster: Roster,
     config: Config,
     agent: Kept,
@@ -22,7 +22,7 @@ impl Cases {
     pub fn new(alloc: Global) -> Cases {
         Cases {
             book: OfferBook::new(alloc),
-            shares: WeighedShares::new(alloc),
+            shares: Shares::new(alloc),
             roster: Roster::new(alloc),
             config: Config::new(alloc),
             agent: Kept::new(),

@@ -4,27 +4,13 @@ use crate::answers::{answer_text, word};
 use crate::words::{amounts, first};
 use drf_pick::{Client, Shares, pick};
 use names_core::{FrameworkId, RoleName};
-use role_weights::Weights;
 use std::alloc::Global;
-
-/// Shares, and the weights by which they are compared.
-#[derive(Drop)]
-pub struct WeighedShares {
-    shares: Shares,
-    weights: Weights,
-}
-
-impl WeighedShares {
-    pub fn new(alloc: Global) -> WeighedShares {
-        WeighedShares {
-            shares: Shares::new(alloc),
-            weights: Weights::new(alloc),
-        }
-    }
-}
 
 fn enter(shares: &mut Shares, alloc: Global, text: &str) -> Option<String> {
     let total = amounts(alloc, text)?;
+    if !shares.totals().can_add(&total) {
+        return None;
+    }
     answer_text(alloc, &shares.enter(alloc, &total))
 }
 
@@ -40,21 +26,24 @@ fn role(shares: &mut Shares, alloc: Global, text: &str) -> Option<String> {
     answer_text(alloc, &shares.role(alloc, framework, &role))
 }
 
-fn weigh(weights: &mut Weights, alloc: Global, text: &str) -> Option<String> {
+fn weigh(shares: &mut Shares, alloc: Global, text: &str) -> Option<String> {
     let (role, weight) = first(text);
     let role = RoleName::from_text(alloc, role).ok()?;
     let weight = weight.parse::<u16>().ok()?;
     if weight < 1 || weight > 1_000 {
         return None;
     }
-    weights.set(alloc, &role, weight).ok()?;
-    word(alloc, "ok")
+    answer_text(alloc, &shares.weigh(alloc, &role, weight))
 }
 
 fn give(shares: &mut Shares, alloc: Global, text: &str) -> Option<String> {
     let (framework, rest) = first(text);
     let framework = FrameworkId::from_text(framework).ok()?;
     let resources = amounts(alloc, rest)?;
+    let can = shares.can_hold(alloc, &resources).ok()?;
+    if !can {
+        return None;
+    }
     answer_text(alloc, &shares.give(alloc, framework, &resources))
 }
 
@@ -94,23 +83,20 @@ fn least_of(shares: &Shares, alloc: Global, text: &str) -> Option<String> {
     least(alloc, pick(shares, &clients))
 }
 
-fn answer_of(shares: &mut Shares, alloc: Global, kind: &str, text: &str) -> Option<String> {
+pub fn answer(shares: &mut Shares, alloc: Global, kind: &str, text: &str) -> Option<String> {
     match kind {
+        "new" => {
+            *shares = Shares::new(alloc);
+            word(alloc, "ok")
+        }
         "enter" => enter(shares, alloc, text),
         "leave" => leave(shares, alloc, text),
         "role" => role(shares, alloc, text),
+        "weigh" => weigh(shares, alloc, text),
         "give" => give(shares, alloc, text),
         "back" => back(shares, alloc, text),
         "pick" => least_of(shares, alloc, text),
         "pick_none" => least(alloc, pick(shares, &[])),
         _ => None,
     }
-}
-
-pub fn answer(cases: &mut WeighedShares, alloc: Global, kind: &str, text: &str) -> Option<String> {
-    if kind == "weigh" {
-        return weigh(&mut cases.weights, alloc, text);
-    }
-    cases.shares.reweigh(&cases.weights);
-    answer_of(&mut cases.shares, alloc, kind, text)
 }

@@ -6,7 +6,9 @@ use Rattle.quantity.specs.Rows.{amount}
 use Rattle.quantity.proofs.Amounts.{amount-append}
 use Rattle.share_sums.specs.declared.fault.SharesFault.{SharesFault}
 use Rattle.share_sums.specs.declared.fault.SharesFault.TheVariants.{OutOfMemory}
-use Rattle.drf_pick.specs.Shares.{Holder, Tally, is_holder, with_holder, with_role}
+use Rattle.share_sums.specs.Sums.{greatest_sum}
+use Rattle.drf_pick.specs.Shares.{CanHold, Holder, Tally, all_held, is_holder, with_holder, with_role}
+use Rattle.drf_pick.proofs.HeldRows.{held_all}
 use Rattle.drf_pick.specs.Allocations.{AddUp, Allocation, Client, Found, all_rows, allocated, rows_to}
 use Rattle.drf_pick.specs.Shown.{AllCounted, ClientsOnce, HasNone, MemoryRefused, Moves, SameAllocations, SameFound, TallyShows, all_found, counted_in, counted_of, due_in, is_for}
 use Rattle.drf_pick.proofs.AllocationRows.{all-append, to-append}
@@ -106,6 +108,15 @@ counted_more (h ∷ fs) (suc i) f within is not_yet name = by h.is_counted (coun
         )
     by false ih = omega (arith, ih, ap (amount name) (all-append h.allocations.items (all_found fs)), amount-append name (all_rows h.allocations.items) (all_rows (all_found fs)))
 
+-- what isn't counted yet can be
+pub can_count : (fs : List Found) (i : ℕ) (f : Found) (cs : List Client) (t : Tally) → i < length fs → f ≡ get_or fs i f → ClientsOnce cs → TallyShows (counted_of fs) cs t → AddUp (all_rows (all_found fs)) → CanHold (all_rows (due_in f)) t
+can_count fs i f cs t within is once s up name = by f.is_counted refl
+  where
+    by : (b : Bool) → f.is_counted ≡ b → amount name (all_held t.holders) + amount name (all_rows (cond b [] f.allocations.items)) ≤ greatest_sum
+    by true e = omega (arith, held_all name (counted_of fs) cs t once s, counted_some fs name, up name)
+    by false e =
+        omega (arith, held_all name (counted_of fs) cs t once s, counted_more fs i f within is e name, up name, ap (amount name) (all-append (counted_of fs) f.allocations.items), amount-append name (all_rows (counted_of fs)) (all_rows f.allocations.items))
+
 -- all is counted
 pub counted_all : (fs : List Found) → AllCounted fs → counted_of fs ≡ all_found fs
 counted_all [] all = refl
@@ -120,9 +131,9 @@ pub where_err : {T E : Type 0} {P Q : E → Type 0} (result : Result T E) → ((
 where_err (Ok done) step is = tt
 where_err (Err fault) step is = step fault is
 
-pub count_at : (fs : List Found) (i : ℕ) (f g : Found) (cs : List Client) (t : Tally) → i < length fs → f ≡ get_or fs i f → g ≡ record { allocations = f.allocations; is_counted = true } → AddUp (all_rows (all_found fs)) → ClientsOnce cs → TallyShows (counted_of fs) cs t
+pub count_at : (fs : List Found) (i : ℕ) (f g : Found) (cs : List Client) (t : Tally) → i < length fs → f ≡ get_or fs i f → g ≡ record { allocations = f.allocations; is_counted = true } → ClientsOnce cs → TallyShows (counted_of fs) cs t
     → TallyShows (counted_of (set fs i g)) cs (fold allocated t (due_in f))
-count_at fs i f g cs t within is now below once s = by f.is_counted refl
+count_at fs i f g cs t within is now once s = by f.is_counted refl
   where
     given : counted_in g ≡ f.allocations.items
     given = ap counted_in now
@@ -134,9 +145,8 @@ count_at fs i f g cs t within is now below once s = by f.is_counted refl
         tally_alike (counted_of fs) (counted_of (set fs i g)) cs t same_now s
     by false e =
         let none : counted_in f ≡ [] = ap (λ b. cond b f.allocations.items []) e in
-        let add_up : AddUp (all_rows (counted_of fs ++ f.allocations.items)) = λ name. omega (arith, counted_more fs i f within is e name, below name) in
         tally_alike (counted_of fs ++ counted_in g) (counted_of (set fs i g)) cs (fold allocated t f.allocations.items) (with_at fs i f g within is none)
-        (subst (λ (as_ : List Allocation). TallyShows (counted_of fs ++ as_) cs (fold allocated t f.allocations.items)) (sym given) (allocations_shown (counted_of fs) f.allocations.items cs t add_up once s))
+        (subst (λ (as_ : List Allocation). TallyShows (counted_of fs ++ as_) cs (fold allocated t f.allocations.items)) (sym given) (allocations_shown (counted_of fs) f.allocations.items cs t once s))
 
 -- the same was found where one is changed that keeps its allocations
 pub same_found : (start fs : List Found) (i : ℕ) (f g : Found) → i < length fs → f ≡ get_or fs i f → g.allocations ≡ f.allocations → SameFound start fs → SameFound start (set fs i g)

@@ -10,7 +10,8 @@ use Rattle.std.specs.Cmp.Lexicographic.{slice_cmp, texts_ties}
 use Rattle.std.proofs.lemmas.Bool.{true≢false}
 use Rattle.std.proofs.lemmas.Bool.Decides.{nat_tests}
 use Rattle.std.proofs.lemmas.Slice.Eq.{bytes_eq-Decides}
-use Rattle.drf_pick.specs.Shares.{AreWeighed, RoleSum, RolesOnce, at_first, is_role, role_sum_of}
+use Rattle.quantity.specs.declared.rows.Row.{Row}
+use Rattle.drf_pick.specs.Shares.{AreWeighed, RoleSum, RolesOnce, at_first, is_role, role_sum_with}
 use Rattle.drf_pick.specs.Places.{AreFoundBy}
 use Rattle.drf_pick.proofs.OnceRoles.{changed_once, push_once}
 use Rattle.drf_pick.proofs.Weights.{changed_weighed, push_weighed}
@@ -42,7 +43,7 @@ found_changed place_of t change rs keeps found role = rw (same_first role t chan
 
 -- one more
 
-at_next : (test : RoleSum → Bool) (rs : List RoleSum) (r : RoleSum) → find test rs ≡ None → test r ≡ true → position test (rs ++ r ∷ []) ≡ Some (length rs)
+pub at_next : (test : RoleSum → Bool) (rs : List RoleSum) (r : RoleSum) → find test rs ≡ None → test r ≡ true → position test (rs ++ r ∷ []) ≡ Some (length rs)
 at_next test [] r none here = rw here refl
 at_next test (q ∷ rs) r none here = by (test q) none (λ n. at_next test rs r n here)
   where
@@ -65,14 +66,14 @@ as_before test (q ∷ rs) r other = by (test q) (as_before test rs r other)
 abbrev pub more : (List ℕ → Option ℕ) → List ℕ → ℕ → List ℕ → Option ℕ
 more place_of name place role = cond (bytes_eq name role) (Some place) (place_of role)
 
-pub found_pushed : (place_of : List ℕ → Option ℕ) (name : List ℕ) (rs : List RoleSum) → find (is_role name) rs ≡ None → AreFoundBy place_of rs → AreFoundBy (more place_of name (length rs)) (rs ++ role_sum_of name ∷ [])
-found_pushed place_of name rs none found role = by (bytes_eq name role) refl
+pub found_pushed : (place_of : List ℕ → Option ℕ) (name : List ℕ) (held : List Row) (rs : List RoleSum) → find (is_role name) rs ≡ None → AreFoundBy place_of rs → AreFoundBy (more place_of name (length rs)) (rs ++ role_sum_with name held ∷ [])
+found_pushed place_of name held rs none found role = by (bytes_eq name role) refl
   where
-    by : (b : Bool) → bytes_eq name role ≡ b → cond b (Some (length rs)) (place_of role) ≡ position (is_role role) (rs ++ role_sum_of name ∷ [])
+    by : (b : Bool) → bytes_eq name role ≡ b → cond b (Some (length rs)) (place_of role) ≡ position (is_role role) (rs ++ role_sum_with name held ∷ [])
     by true e =
         let is : name ≡ role = (bytes_eq-Decides name role).0 e in
-        sym (at_next (is_role role) rs (role_sum_of name) (ap (λ (n : List ℕ). find (is_role n) rs) (sym is) ∙ none) e)
-    by false e = found role ∙ sym (as_before (is_role role) rs (role_sum_of name) e)
+        sym (at_next (is_role role) rs (role_sum_with name held) (ap (λ (n : List ℕ). find (is_role n) rs) (sym is) ∙ none) e)
+    by false e = found role ∙ sym (as_before (is_role role) rs (role_sum_with name held) e)
 
 -- by the entries of a map
 
@@ -149,10 +150,10 @@ IsTable place_of rs = (RolesOnce rs × AreWeighed rs) × AreFoundBy place_of rs
 pub table_changed : (place_of : List ℕ → Option ℕ) (t : List ℕ) (change : RoleSum → RoleSum) (rs : List RoleSum) → KeepsRole change → ((r : RoleSum) → 0 < r.weight → 0 < (change r).weight) → IsTable place_of rs → IsTable place_of (at_first (is_role t) change rs)
 table_changed place_of t change rs keeps some table = ((changed_once t change keeps rs table.0.0, changed_weighed t change some rs table.0.1), found_changed place_of t change rs keeps table.1)
 
-pub table_pushed : (place_of now : List ℕ → Option ℕ) (name : List ℕ) (rs : List RoleSum) (count : ℕ) → count ≡ length rs → find (is_role name) rs ≡ None → ((role : List ℕ) → now role ≡ more place_of name count role) → IsTable place_of rs → IsTable now (rs ++ role_sum_of name ∷ [])
-table_pushed place_of now name rs count all none is table = (
-  (push_once rs (role_sum_of name) table.0.0 none, push_weighed rs (role_sum_of name) table.0.1 (omega arith)),
-  λ role. is role ∙ ap (λ n. more place_of name n role) all ∙ found_pushed place_of name rs none table.1 role,
+pub table_pushed : (place_of now : List ℕ → Option ℕ) (name : List ℕ) (held : List Row) (rs : List RoleSum) (count : ℕ) → count ≡ length rs → find (is_role name) rs ≡ None → ((role : List ℕ) → now role ≡ more place_of name count role) → IsTable place_of rs → IsTable now (rs ++ role_sum_with name held ∷ [])
+table_pushed place_of now name held rs count all none is table = (
+  (push_once rs (role_sum_with name held) table.0.0 none, push_weighed rs (role_sum_with name held) table.0.1 (omega arith)),
+  λ role. is role ∙ ap (λ n. more place_of name n role) all ∙ found_pushed place_of name held rs none table.1 role,
 )
 
 -- behind a step that may fail and then changes nothing

@@ -99,6 +99,30 @@ others held test change t same (x ∷ xs) (f ∷ fs) all = by_case (test x) refl
     by_case true e ih = subst (λ b. MatchBool b (AreDominant held t xs fs) (IsDominant t (held (change x)) f × AreDominantBut held test t xs fs)) (sym (same x ∙ e)) all.1
     by_case false e ih = subst (λ b. MatchBool b (AreDominant held t (at_first test change xs) fs) (IsDominant t (held x) f × AreDominantBut held test t (at_first test change xs) fs)) (sym e) (all.0, ih)
 
+-- one more, of which no part is told, where no other passes
+pub others_more : {X : Type 0} (held : X → List Row) (test : X → Bool) (t : List Row) (xs : List X) (x : X) (fs : List Part) (p : Part) → find test xs ≡ None → test x ≡ true → AreDominant held t xs fs → AreDominantBut held test t (xs ++ x ∷ []) (take (length xs) fs ++ p ∷ [])
+others_more held test t [] x fs p none passes all = subst (λ b. MatchBool b (AreDominant held t [] []) (IsDominant t (held x) p × AreDominantBut held test t [] [])) (sym passes) tt
+others_more held test t (y ∷ ys) x [] p none passes all = absurd all
+others_more {X} held test t (y ∷ ys) x (f ∷ fs) p none passes all = by_case (test y) refl none (λ n. others_more held test t ys x fs p n passes all.1)
+  where
+    by_case : (b : Bool) → test y ≡ b → cond b (Some y) (find test ys) ≡ None → (find test ys ≡ None → AreDominantBut held test t (ys ++ x ∷ []) (take (length ys) fs ++ p ∷ []))
+        → MatchBool (test y) (AreDominant held t (ys ++ x ∷ []) (take (length ys) fs ++ p ∷ [])) (IsDominant t (held y) f × AreDominantBut held test t (ys ++ x ∷ []) (take (length ys) fs ++ p ∷ []))
+    by_case true e n ih = absurd (cc)
+    by_case false e n ih = subst (λ b. MatchBool b (AreDominant held t (ys ++ x ∷ []) (take (length ys) fs ++ p ∷ [])) (IsDominant t (held y) f × AreDominantBut held test t (ys ++ x ∷ []) (take (length ys) fs ++ p ∷ []))) (sym e) (all.0, ih n)
+
+-- the next one is made anew
+pub next_renewed : {X : Type 0} (held : X → List Row) (t : List Row) (xs : List X) (fs : List Part) (i : ℕ) (x : X) (f : Part) → i < length xs → length xs ≤ length fs → x ≡ get_or xs i x → AreDominant held t (take i xs) fs → IsDominant t (held x) f
+    → AreDominant held t (take (suc i) xs) (set fs i f)
+next_renewed held t [] fs i x f within room is all d = absurd (omega arith)
+next_renewed held t (y ∷ ys) [] i x f within room is all d = absurd (omega (arith, room))
+next_renewed {X} held t (y ∷ ys) (g ∷ gs) zero x f within room is all d = (subst (λ (z : X). IsDominant t (held z) f) is d, tt)
+next_renewed held t (y ∷ ys) (g ∷ gs) (suc i) x f within room is all d = (all.0, next_renewed held t ys gs i x f (omega arith) (omega (arith, room)) is all.1 d)
+
+pub many_kept : (n : ℕ) (fs : List Part) (p : Part) → n ≤ length fs → length (take n fs ++ p ∷ []) ≡ suc n
+many_kept zero fs p most = refl
+many_kept (suc n) [] p most = absurd (omega (arith, most))
+many_kept (suc n) (f ∷ fs) p most = ap suc (many_kept n fs p (omega (arith, most)))
+
 -- where none passes none is left out
 pub no_other : {X : Type 0} (held : X → List Row) (test : X → Bool) (t : List Row) (xs : List X) (fs : List Part) → find test xs ≡ None → AreDominantBut held test t xs fs → AreDominant held t xs fs
 no_other held test t [] fs none all = tt

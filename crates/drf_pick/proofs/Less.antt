@@ -81,7 +81,7 @@ holders_less gs g (h ∷ hs) (c ∷ cs) once sums s = by (same h.framework g.fra
 
 -- what a role holds with less
 
-less_held : (q : List ℕ) (rows : List Row) (rs : List RoleSum) → is_known rs q ≡ true → IfSome (find (is_role q) rs) (λ r. IsSum r.held) → (name : List ℕ)
+pub less_held : (q : List ℕ) (rows : List Row) (rs : List RoleSum) → is_known rs q ≡ true → IfSome (find (is_role q) rs) (λ r. IsSum r.held) → (name : List ℕ)
     → amount name (role_held (at_first (is_role q) (role_returning rows) rs) q) ≡ amount name (role_held rs q) - amount name rows
 less_held q rows rs known sums name = ap (λ o. amount name (held_of o)) (own_found (role_returning rows) (λ r. refl) q rs) ∙ by (find (is_role q) rs) (sym (known_found rs q) ∙ known) sums
   where

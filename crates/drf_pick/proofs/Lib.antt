@@ -21,3 +21,6 @@ pub mod Less
 pub mod Ranked
 pub mod Registering
 pub mod Counting
+pub mod RoleSums
+pub mod HeldRows
+pub mod PickedOnce

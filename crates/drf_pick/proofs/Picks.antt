@@ -24,7 +24,7 @@ use Rattle.names_core.proofs.Order.{before_text}
 
 -- ids
 
-abbrev id_le : Numbered → Numbered → Bool
+abbrev pub id_le : Numbered → Numbered → Bool
 id_le a b = nat_lt a.run b.run || (a.run == b.run && nat_le a.n b.n)
 
 id_total : (ar an br bn : ℕ) → (nat_lt ar br || (ar == br && nat_le an bn)) ≡ false → (nat_lt br ar || (br == ar && nat_le bn an)) ≡ true
@@ -33,7 +33,7 @@ id_total ar an br bn h = grind (arith, nat_tests)
 id_trans : (ar an br bn cr cn : ℕ) → (nat_lt ar br || (ar == br && nat_le an bn)) ≡ true → (nat_lt br cr || (br == cr && nat_le bn cn)) ≡ true → (nat_lt ar cr || (ar == cr && nat_le an cn)) ≡ true
 id_trans ar an br bn cr cn h g = grind (arith, nat_tests)
 
-not_before : (ar an br bn : ℕ) → not (nat_lt br ar || (br == ar && nat_lt bn an)) ≡ (nat_lt ar br || (ar == br && nat_le an bn))
+pub not_before : (ar an br bn : ℕ) → not (nat_lt br ar || (br == ar && nat_lt bn an)) ≡ (nat_lt ar br || (ar == br && nat_le an bn))
 not_before ar an br bn = grind (arith, nat_tests)
 
 ids : IsPreorder id_le
@@ -44,7 +44,7 @@ ids = record {
 
 -- names
 
-abbrev name_le : List ℕ → List ℕ → Bool
+abbrev pub name_le : List ℕ → List ℕ → Bool
 name_le a b = is_le (slice_cmp nat_cmp a b)
 
 turned : (a b : Ordering) → a ≡ ordering_reverse b → is_le a ≡ false → is_le b ≡ true
@@ -73,7 +73,7 @@ reversed_le a Less e = sym (ap is_le e)
 reversed_le a Equal e = sym (ap is_le e)
 reversed_le a Greater e = sym (ap is_le e)
 
-not_name_before : (a b : List ℕ) → not (bytes_before b a) ≡ name_le a b
+pub not_name_before : (a b : List ℕ) → not (bytes_before b a) ≡ name_le a b
 not_name_before a b = ap not (sym (before_text b a (slice_cmp nat_cmp b a) refl)) ∙ reversed_le (slice_cmp nat_cmp a b) (slice_cmp nat_cmp b a) (nat_list_cmp_total.antisymm a b)
 
 both_ways_equal : (a b : Ordering) → a ≡ ordering_reverse b → is_le a ≡ true → is_le b ≡ true → b ≡ Equal
@@ -81,7 +81,7 @@ both_ways_equal a Less e h g = absurd (false≢true (sym (ap is_le e) ∙ h))
 both_ways_equal a Equal e h g = refl
 both_ways_equal a Greater e h g = absurd (false≢true g)
 
-one_name : (a b : List ℕ) → name_le a b ≡ true → name_le b a ≡ true → b ≡ a
+pub one_name : (a b : List ℕ) → name_le a b ≡ true → name_le b a ≡ true → b ≡ a
 one_name a b h g = level_same b a (both_ways_equal (slice_cmp nat_cmp a b) (slice_cmp nat_cmp b a) (nat_list_cmp_total.antisymm a b) h g)
 
 -- orders

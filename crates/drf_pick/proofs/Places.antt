@@ -1,5 +1,5 @@
 -- Items at their places.
-use Rattle.std.proofs.Common.{◌≡◌, ℕ, zero, suc, ◌+◌, ◌<◌, Bool, true, false, not, cond, nat_lt, List, [], ◌∷◌, length, set, get_or, Option, Some, None, refl, sym, ap, ◌∙◌, arith}
+use Rattle.std.proofs.Common.{◌≡◌, ℕ, zero, suc, ◌+◌, ◌<◌, Bool, true, false, not, cond, nat_lt, List, [], ◌∷◌, ◌++◌, length, set, get_or, Option, Some, None, refl, sym, ap, ◌∙◌, subst, arith}
 use Rattle.std.specs.List.{position, position_or_len, find}
 use Rattle.std.proofs.lemmas.Option.{slice_get_past}
 use Rattle.std.proofs.lemmas.List.Folds.{find_at}
@@ -43,6 +43,32 @@ unchanged {X} test change (x ∷ xs) h = by_case (test x) (λ g. unchanged test 
     by_case : (b : Bool) → (find test xs ≡ None → xs ≡ at_first test change xs) → cond b (Some x) (find test xs) ≡ None → x ∷ xs ≡ cond b (change x ∷ xs) (x ∷ at_first test change xs)
     by_case true more k = absurd (cc)
     by_case false more k = ap (λ (zs : List X). x ∷ zs) (more k)
+
+-- where the first that passes is the last
+pub last_changed : {X : Type 0} (test : X → Bool) (change : X → X) (xs : List X) (x : X) → find test xs ≡ None → test x ≡ true → at_first test change (xs ++ x ∷ []) ≡ xs ++ change x ∷ []
+last_changed test change [] x none passes = rw passes refl
+last_changed {X} test change (y ∷ ys) x none passes = by_case (test y) none (λ n. last_changed test change ys x n passes)
+  where
+    by_case : (b : Bool) → cond b (Some y) (find test ys) ≡ None → (find test ys ≡ None → at_first test change (ys ++ x ∷ []) ≡ ys ++ change x ∷ []) → cond b (change y ∷ (ys ++ x ∷ [])) (y ∷ at_first test change (ys ++ x ∷ [])) ≡ y ∷ (ys ++ change x ∷ [])
+    by_case true n more = absurd (cc)
+    by_case false n more = ap (λ (zs : List X). y ∷ zs) (more n)
+
+-- only what becomes of the first that passes counts
+pub changed_so : {X : Type 0} (test : X → Bool) (change other : X → X) (xs : List X) (x : X) → find test xs ≡ Some x → change x ≡ other x → at_first test change xs ≡ at_first test other xs
+changed_so test change other [] x found so = absurd (cc)
+changed_so {X} test change other (y ∷ ys) x found so = by_case (test y) found (λ n. changed_so test change other ys x n so)
+  where
+    by_case : (b : Bool) → cond b (Some y) (find test ys) ≡ Some x → (find test ys ≡ Some x → at_first test change ys ≡ at_first test other ys) → cond b (change y ∷ ys) (y ∷ at_first test change ys) ≡ cond b (other y ∷ ys) (y ∷ at_first test other ys)
+    by_case true n more = let is : x ≡ y = cc in ap (λ (z : X). z ∷ ys) (subst (λ (z : X). change z ≡ other z) is so)
+    by_case false n more = ap (λ (zs : List X). y ∷ zs) (more n)
+
+pub first_same : {X : Type 0} (test : X → Bool) (change : X → X) (xs : List X) (x : X) → find test xs ≡ Some x → change x ≡ x → xs ≡ at_first test change xs
+first_same test change [] x found so = absurd (cc)
+first_same {X} test change (y ∷ ys) x found so = by_case (test y) found (λ n. first_same test change ys x n so)
+  where
+    by_case : (b : Bool) → cond b (Some y) (find test ys) ≡ Some x → (find test ys ≡ Some x → ys ≡ at_first test change ys) → y ∷ ys ≡ cond b (change y ∷ ys) (y ∷ at_first test change ys)
+    by_case true n more = let is : x ≡ y = cc in ap (λ (z : X). z ∷ ys) (sym (subst (λ (z : X). change z ≡ z) is so))
+    by_case false n more = ap (λ (zs : List X). y ∷ zs) (more n)
 
 -- where one has a place one is found
 len_at : {X : Type 0} (test : X → Bool) (xs : List X) → find test xs ≡ None → position_or_len test xs ≡ length xs

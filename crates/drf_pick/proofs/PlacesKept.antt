@@ -3,7 +3,7 @@ use Rattle.std.proofs.Common.{◌≡◌, ◌<◌, ℕ, suc, ◌+◌, Bool, true,
 use Rattle.std.specs.List.{find, position, position_or_len}
 use Rattle.names_core.specs.Ids.{Numbered}
 use Rattle.quantity.specs.declared.rows.Row.{Row}
-use Rattle.drf_pick.specs.Shares.{Holder, RoleSum, Tally, at_first, given, given_roles, holding, is_holder, is_role, role_holding}
+use Rattle.drf_pick.specs.Shares.{Holder, RoleSum, Tally, at_first, given_roles, held_more, holding, is_holder, is_role, role_holding}
 use Rattle.drf_pick.specs.ClientShares.{IsPlaceOf}
 use Rattle.drf_pick.specs.declared.client_share.ClientPlace.{ClientPlace}
 use Rattle.drf_pick.proofs.KeptShares.{stands}
@@ -32,7 +32,7 @@ roles_same : (role : List ℕ) (rows : List Row) (found : Option Holder) (rs : L
 roles_same role rows None rs = refl
 roles_same role rows (Some h) rs = position_same (is_role role) (is_role h.role) (role_holding rows) (λ r. refl) rs
 
-pub place_kept : (framework : Numbered) (rows : List Row) (t : Tally) (f : Numbered) (role : List ℕ) (p : ClientPlace) → IsPlaceOf t f role p → IsPlaceOf (given framework rows t) f role p
+pub place_kept : (framework : Numbered) (rows : List Row) (t : Tally) (f : Numbered) (role : List ℕ) (p : ClientPlace) → IsPlaceOf t f role p → IsPlaceOf (held_more framework rows t) f role p
 place_kept framework rows t f role p is = record {
   holder = position_same (is_holder f) (is_holder framework) (holding rows) (λ h. refl) t.holders ∙ is.holder;
   by_role = roles_same role rows (find (is_holder framework) t.holders) t.roles ∙ is.by_role;

@@ -68,7 +68,24 @@ all_with rs (d ∷ cs) c k own = (k.0, all_with rs cs c k.1 own)
 
 -- what is held is what was held, and a role that is new holds nothing
 
-held_with : (q role : List ℕ) (rs : List RoleSum) (o : Option RoleSum) → is_known rs role ≡ true → role_held (roles_with q rs o) role ≡ role_held rs role
+pub found_with : (q role : List ℕ) (rs : List RoleSum) (o : Option RoleSum) → is_known rs role ≡ true → find (is_role role) (roles_with q rs o) ≡ find (is_role role) rs
+found_with q role rs (Some r) k = refl
+found_with q role [] None k = absurd (let n : false ≡ true = k in cc)
+found_with q role (r ∷ rs) None k = by (is_role role r) k (found_with q role rs None)
+  where
+    by : (b : Bool) → (b || is_known rs role) ≡ true → (is_known rs role ≡ true → find (is_role role) (rs ++ role_sum_of q ∷ []) ≡ find (is_role role) rs)
+        → cond b (Some r) (find (is_role role) (rs ++ role_sum_of q ∷ [])) ≡ cond b (Some r) (find (is_role role) rs)
+    by true n ih = refl
+    by false n ih = ap (λ (o : Option RoleSum). o) (ih n)
+
+pub turned_names : (a b : List ℕ) → bytes_eq b a ≡ false → bytes_eq a b ≡ false
+turned_names a b h = by (bytes_eq a b) refl
+  where
+    by : (x : Bool) → bytes_eq a b ≡ x → bytes_eq a b ≡ false
+    by true e = absurd (let m : true ≡ false = sym (ap (λ (n : List ℕ). bytes_eq n a) (sym (name_is a b e)) ∙ name_itself a) ∙ h in cc)
+    by false e = e
+
+pub held_with : (q role : List ℕ) (rs : List RoleSum) (o : Option RoleSum) → is_known rs role ≡ true → role_held (roles_with q rs o) role ≡ role_held rs role
 held_with q role rs (Some r) k = refl
 held_with q role [] None k = absurd (let n : false ≡ true = k in cc)
 held_with q role (r ∷ rs) None k = by (is_role role r) k (held_with q role rs None)
@@ -78,7 +95,7 @@ held_with q role (r ∷ rs) None k = by (is_role role r) k (held_with q role rs 
     by true n ih = refl
     by false n ih = ih n
 
-new_held : (q role : List ℕ) (rs : List RoleSum) → is_known rs role ≡ false → role_held (rs ++ role_sum_of q ∷ []) role ≡ []
+pub new_held : (q role : List ℕ) (rs : List RoleSum) → is_known rs role ≡ false → role_held (rs ++ role_sum_of q ∷ []) role ≡ []
 new_held q role [] n = by (bytes_eq q role)
   where
     by : (b : Bool) → held_of (cond b (Some (role_sum_of q)) None) ≡ []

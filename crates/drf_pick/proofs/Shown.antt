@@ -1,19 +1,19 @@
 -- Shares show what is allocated.
-use Rattle.std.proofs.Common.{◌≡◌, ℕ, ◌+◌, ◌≤◌, Bool, true, false, ◌||◌, cond, List, [], ◌∷◌, ◌++◌, Option, Some, None, option_map, refl, sym, ap, ◌∙◌, subst, arith, bytes_eq, zero-le, append_assoc, append-nil}
+use Rattle.std.proofs.Common.{◌≡◌, ℕ, ◌+◌, Bool, true, false, ◌||◌, cond, List, [], ◌∷◌, ◌++◌, Option, Some, None, option_map, refl, sym, ap, ◌∙◌, subst, arith, bytes_eq, append_assoc, append-nil}
 use Rattle.std.specs.List.{AllByRecursion, find, fold}
 use Rattle.std.specs.Cmp.Lexicographic.{bytes_decides}
 use Rattle.names_core.specs.Ids.{Numbered, same}
 use Rattle.quantity.specs.declared.rows.Row.{Row}
 use Rattle.quantity.specs.Rows.{amount}
-use Rattle.share_sums.specs.Sums.{summed}
-use Rattle.share_sums.proofs.Summing.{sums_add}
+use Rattle.share_sums.specs.Sums.{plus_rows}
+use Rattle.quantity.proofs.Sums.{sums_add_up}
 use Rattle.drf_pick.specs.Shares.{Holder, RoleSum, Tally, at_first, given_holders, given_roles, holding, is_holder, is_role, role_holding}
 use Rattle.drf_pick.specs.Least.{role_share, share_of_sum}
-use Rattle.drf_pick.specs.Allocations.{AddUp, Client, Allocation, all_rows, allocated, role_rows, rows_to}
+use Rattle.drf_pick.specs.Allocations.{Client, Allocation, allocated, role_rows, rows_to}
 use Rattle.role_weights.specs.Weights.{RoleWeight}
 use Rattle.drf_pick.specs.Shown.{ClientsOnce, HoldersShow, NoneOf, RolesShow, Shows, TallyShows, WeightsShow, is_known}
 use Rattle.drf_pick.proofs.KeptShares.{found_changed}
-use Rattle.drf_pick.proofs.AllocationRows.{all-one, none_of_same, part, role-append, role-one, role_all, role_part, same_back, to-more, to_all}
+use Rattle.drf_pick.proofs.AllocationRows.{none_of_same, part, role-append, role-one, role_part, same_back, to-more}
 
 pub name_itself : (xs : List ℕ) → bytes_eq xs xs ≡ true
 name_itself xs = (bytes_decides xs xs).1 refl
@@ -75,10 +75,10 @@ pub other_held : (q role : List ℕ) (rows : List Row) (rs : List RoleSum) → b
 other_held q role rows rs h = ap held_of (other_found (role_holding rows) (λ r. refl) q role rs h)
 
 -- the role itself holds more
-pub more_held : (q : List ℕ) (rows : List Row) (rs : List RoleSum) → is_known rs q ≡ true → role_held (at_first (is_role q) (role_holding rows) rs) q ≡ summed (role_held rs q) rows
+pub more_held : (q : List ℕ) (rows : List Row) (rs : List RoleSum) → is_known rs q ≡ true → role_held (at_first (is_role q) (role_holding rows) rs) q ≡ plus_rows (role_held rs q) rows
 more_held q rows rs known = ap held_of (own_found (role_holding rows) (λ r. refl) q rs) ∙ by (find (is_role q) rs) (sym (known_found rs q) ∙ known)
   where
-    by : (o : Option RoleSum) → is_one o ≡ true → held_of (option_map (role_holding rows) o) ≡ summed (held_of o) rows
+    by : (o : Option RoleSum) → is_one o ≡ true → held_of (option_map (role_holding rows) o) ≡ plus_rows (held_of o) rows
     by None n = absurd (let m : false ≡ true = n in cc)
     by (Some r) n = refl
 
@@ -102,9 +102,6 @@ found_alike gs id (h ∷ hs) (f ∷ fs) s = rw (ap (λ (n : Numbered). same n id
 
 -- one more allocation
 
-pub summed_amounts : (held more : List Row) (whole : List Row) → ((name : List ℕ) → amount name held + amount name more ≤ amount name whole) → AddUp whole → (name : List ℕ) → amount name (summed held more) ≡ amount name held + amount name more
-summed_amounts held more whole le below name = sums_add held more (λ n. omega (arith, le n, below n)) name
-
 others_show : (gs : List Allocation) (g : Allocation) (hs : List Holder) (fs : List Client) → NoneOf g.framework fs → HoldersShow gs hs fs → HoldersShow (gs ++ g ∷ []) hs fs
 others_show gs g [] [] none s = tt
 others_show gs g [] (f ∷ fs) none s = absurd s
@@ -116,39 +113,36 @@ others_show gs g (h ∷ hs) (f ∷ fs) none s = ((s.0.0, s.0.1, λ name. s.0.2 n
         let nothing : part g name (same g.framework f.framework) ≡ 0 = ap (part g name) (same_back g.framework f.framework ∙ none.0) in
         omega (arith, to-more name f.framework gs g, nothing)
 
-more_shown : (gs : List Allocation) (g : Allocation) (h : Holder) (f : Client) → AddUp (all_rows (gs ++ g ∷ [])) → same f.framework g.framework ≡ true → Shows gs h f → Shows (gs ++ g ∷ []) (holding g.resources h) f
-more_shown gs g h f below is s = (s.0, s.1, λ name. summed_amounts h.held g.resources (all_rows (gs ++ g ∷ [])) within below name ∙ same_sum name)
+more_shown : (gs : List Allocation) (g : Allocation) (h : Holder) (f : Client) → same f.framework g.framework ≡ true → Shows gs h f → Shows (gs ++ g ∷ []) (holding g.resources h) f
+more_shown gs g h f is s = (s.0, s.1, λ name. sums_add_up h.held g.resources name ∙ same_sum name)
   where
     whole : (name : List ℕ) → part g name (same g.framework f.framework) ≡ amount name g.resources
     whole name = ap (part g name) (same_back g.framework f.framework ∙ is)
 
-    within : (name : List ℕ) → amount name h.held + amount name g.resources ≤ amount name (all_rows (gs ++ g ∷ []))
-    within name = omega (arith, s.2 name, to-more name f.framework gs g, whole name, to_all name f.framework (gs ++ g ∷ []))
-
     same_sum : (name : List ℕ) → amount name h.held + amount name g.resources ≡ amount name (rows_to f.framework (gs ++ g ∷ []))
     same_sum name = omega (arith, s.2 name, to-more name f.framework gs g, whole name)
 
-holders_more : (gs : List Allocation) (g : Allocation) (hs : List Holder) (fs : List Client) → AddUp (all_rows (gs ++ g ∷ [])) → ClientsOnce fs → HoldersShow gs hs fs → HoldersShow (gs ++ g ∷ []) (given_holders g.framework g.resources hs) fs
-holders_more gs g [] [] below once s = tt
-holders_more gs g [] (f ∷ fs) below once s = absurd s
-holders_more gs g (h ∷ hs) [] below once s = absurd s
-holders_more gs g (h ∷ hs) (f ∷ fs) below once s = rw (ap (λ (n : Numbered). same n g.framework) s.0.0) (by (same f.framework g.framework) refl (holders_more gs g hs fs below once.1 s.1))
+holders_more : (gs : List Allocation) (g : Allocation) (hs : List Holder) (fs : List Client) → ClientsOnce fs → HoldersShow gs hs fs → HoldersShow (gs ++ g ∷ []) (given_holders g.framework g.resources hs) fs
+holders_more gs g [] [] once s = tt
+holders_more gs g [] (f ∷ fs) once s = absurd s
+holders_more gs g (h ∷ hs) [] once s = absurd s
+holders_more gs g (h ∷ hs) (f ∷ fs) once s = rw (ap (λ (n : Numbered). same n g.framework) s.0.0) (by (same f.framework g.framework) refl (holders_more gs g hs fs once.1 s.1))
   where
     by : (b : Bool) → same f.framework g.framework ≡ b → HoldersShow (gs ++ g ∷ []) (given_holders g.framework g.resources hs) fs
         → HoldersShow (gs ++ g ∷ []) (cond b (holding g.resources h ∷ hs) (h ∷ given_holders g.framework g.resources hs)) (f ∷ fs)
-    by true e ih = (more_shown gs g h f below e s.0, others_show gs g hs fs (none_of_same f.framework g.framework fs e once.0) s.1)
+    by true e ih = (more_shown gs g h f e s.0, others_show gs g hs fs (none_of_same f.framework g.framework fs e once.0) s.1)
     by false e ih = ((others_show gs g (h ∷ []) (f ∷ []) (e, tt) (s.0, tt)).0, ih)
 
 -- roles
 
-roles_more : (gs : List Allocation) (g : Allocation) (fs : List Client) (rs : List RoleSum) → AddUp (all_rows (gs ++ g ∷ [])) → ClientsOnce fs
+roles_more : (gs : List Allocation) (g : Allocation) (fs : List Client) (rs : List RoleSum) → ClientsOnce fs
     → (o : Option Holder) (p : Option Client) → find (λ f. same f.framework g.framework) fs ≡ p → Alike gs o p → RolesShow gs fs rs → RolesShow (gs ++ g ∷ []) fs (given_roles g.resources o rs)
-roles_more gs g fs rs below once None None found a s role known name =
+roles_more gs g fs rs once None None found a s role known name =
     let nothing : role_part name g role (find (λ f. same f.framework g.framework) fs) ≡ 0 = ap (role_part name g role) found in
     omega (arith, s role known name, role-append name fs role gs (g ∷ []), role-one name fs role g once, nothing)
-roles_more gs g fs rs below once None (Some f) found a s role known name = absurd a
-roles_more gs g fs rs below once (Some h) None found a s role known name = absurd a
-roles_more gs g fs rs below once (Some h) (Some f) found a s role known name = by (bytes_eq h.role role) refl
+roles_more gs g fs rs once None (Some f) found a s role known name = absurd a
+roles_more gs g fs rs once (Some h) None found a s role known name = absurd a
+roles_more gs g fs rs once (Some h) (Some f) found a s role known name = by (bytes_eq h.role role) refl
   where
     was : is_known rs role ≡ true
     was = sym (changed_known (role_holding g.resources) (λ r. refl) h.role role rs) ∙ known
@@ -162,9 +156,8 @@ roles_more gs g fs rs below once (Some h) (Some f) found a s role known name = b
     by true e =
         let is : h.role ≡ role = name_is h.role role e in
         let whole = λ (n : List ℕ). ap (part g n) e in
-        let within : (n : List ℕ) → amount n (role_held rs role) + amount n g.resources ≤ amount n (all_rows (gs ++ g ∷ [])) = λ n. omega (arith, s role was n, gains n, whole n, role_all n fs role (gs ++ g ∷ []) once) in
-        let sum = summed_amounts (role_held rs role) g.resources (all_rows (gs ++ g ∷ [])) within below name in
-        let now : role_held (at_first (is_role h.role) (role_holding g.resources) rs) role ≡ summed (role_held rs role) g.resources = ap (λ q. role_held (at_first (is_role q) (role_holding g.resources) rs) role) is ∙ more_held role g.resources rs was in
+        let sum = sums_add_up (role_held rs role) g.resources name in
+        let now : role_held (at_first (is_role h.role) (role_holding g.resources) rs) role ≡ plus_rows (role_held rs role) g.resources = ap (λ q. role_held (at_first (is_role q) (role_holding g.resources) rs) role) is ∙ more_held role g.resources rs was in
         ap (amount name) now ∙ omega (arith, sum, s role was name, gains name, whole name)
     by false e =
         let nothing : part g name (bytes_eq h.role role) ≡ 0 = ap (part g name) e in
@@ -175,32 +168,18 @@ still_known g o rs [] k = tt
 still_known g None rs (f ∷ fs) k = k
 still_known g (Some h) rs (f ∷ fs) k = (changed_known (role_holding g.resources) (λ r. refl) h.role f.role rs ∙ k.0, still_known g (Some h) rs fs k.1)
 
-pub tally_more : (gs : List Allocation) (g : Allocation) (fs : List Client) (t : Tally) → AddUp (all_rows (gs ++ g ∷ [])) → ClientsOnce fs → TallyShows gs fs t → TallyShows (gs ++ g ∷ []) fs (allocated t g)
-tally_more gs g fs t below once s = record {
-  holders = holders_more gs g t.holders fs below once s.holders;
+pub tally_more : (gs : List Allocation) (g : Allocation) (fs : List Client) (t : Tally) → ClientsOnce fs → TallyShows gs fs t → TallyShows (gs ++ g ∷ []) fs (allocated t g)
+tally_more gs g fs t once s = record {
+  holders = holders_more gs g t.holders fs once s.holders;
   known = still_known g (find (is_holder g.framework) t.holders) t.roles fs s.known;
-  roles = roles_more gs g fs t.roles below once (find (is_holder g.framework) t.holders) (find (λ f. same f.framework g.framework) fs) refl (found_alike gs g.framework t.holders fs s.holders) s.roles;
+  roles = roles_more gs g fs t.roles once (find (is_holder g.framework) t.holders) (find (λ f. same f.framework g.framework) fs) refl (found_alike gs g.framework t.holders fs s.holders) s.roles;
 }
 
-pub fewer_add_up : (gs hs : List Allocation) → AddUp (all_rows (gs ++ hs)) → AddUp (all_rows gs)
-fewer_add_up [] hs h name = omega (arith, h name)
-fewer_add_up (g ∷ gs) hs h name = omega (arith, all-one name g (gs ++ hs), all-one name g gs, less gs, h name)
-  where
-    less : (ks : List Allocation) → amount name (all_rows ks) ≤ amount name (all_rows (ks ++ hs))
-    less [] = zero-le
-    less (k ∷ ks) = omega (arith, all-one name k (ks ++ hs), all-one name k ks, less ks)
-
-pub allocations_shown : (gs hs : List Allocation) (fs : List Client) (t : Tally) → AddUp (all_rows (gs ++ hs)) → ClientsOnce fs → TallyShows gs fs t → TallyShows (gs ++ hs) fs (fold allocated t hs)
-allocations_shown gs [] fs t below once s = subst (λ ks. TallyShows ks fs t) (sym (append-nil gs)) s
-allocations_shown gs (h ∷ hs) fs t below once s =
-    subst (λ ks. TallyShows ks fs (fold allocated (allocated t h) hs)) together
-    (allocations_shown (gs ++ h ∷ []) hs fs (allocated t h) all once (tally_more gs h fs t (fewer_add_up (gs ++ h ∷ []) hs all) once s))
-  where
-    together : (gs ++ h ∷ []) ++ hs ≡ gs ++ h ∷ hs
-    together = append_assoc gs (h ∷ []) hs
-
-    all : AddUp (all_rows ((gs ++ h ∷ []) ++ hs))
-    all = subst (λ ks. AddUp (all_rows ks)) (sym together) below
+pub allocations_shown : (gs hs : List Allocation) (fs : List Client) (t : Tally) → ClientsOnce fs → TallyShows gs fs t → TallyShows (gs ++ hs) fs (fold allocated t hs)
+allocations_shown gs [] fs t once s = subst (λ ks. TallyShows ks fs t) (sym (append-nil gs)) s
+allocations_shown gs (h ∷ hs) fs t once s =
+    subst (λ ks. TallyShows ks fs (fold allocated (allocated t h) hs)) (append_assoc gs (h ∷ []) hs)
+    (allocations_shown (gs ++ h ∷ []) hs fs (allocated t h) once (tally_more gs h fs t once s))
 
 -- each role has the weight that it had
 pub weights_stay : (ws : List RoleWeight) (g : Allocation) (o : Option Holder) (rs : List RoleSum) → WeightsShow ws rs → WeightsShow ws (given_roles g.resources o rs)

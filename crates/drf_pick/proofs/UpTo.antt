@@ -3,7 +3,8 @@ use Rattle.std.proofs.Common.{◌≡◌, ℕ, Bool, true, false, cond, List, [],
 use Rattle.std.specs.List.{AllByRecursion, find}
 use Rattle.std.proofs.lemmas.Bool.Decides.{nat_tests}
 use Rattle.names_core.specs.Ids.{Numbered, before, same}
-use Rattle.drf_pick.specs.Shares.{AreUpTo, Holder, holder_of, is_behind, is_holder, at_first}
+use Rattle.quantity.specs.declared.rows.Row.{Row}
+use Rattle.drf_pick.specs.Shares.{AreUpTo, Holder, holder_with, is_behind, is_holder, at_first}
 
 other : (last f g : Numbered) → before last f ≡ true → before last g ≡ false → same g f ≡ false
 other last f g h k = grind (arith, nat_tests)
@@ -33,15 +34,15 @@ all_onward last f (h ∷ hs) behind all = (onward last f h.framework behind all.
 itself : (f : Numbered) → before f f ≡ false
 itself f = grind (arith, nat_tests)
 
-pub push_first : (f : Numbered) (hs : List Holder) (role : List ℕ) → AreUpTo None hs → AreUpTo (Some f) (hs ++ holder_of f role ∷ [])
-push_first f [] role up = (itself f, tt)
-push_first f (h ∷ hs) role up = absurd (cc)
+pub push_first : (f : Numbered) (hs : List Holder) (role : List ℕ) (held : List Row) → AreUpTo None hs → AreUpTo (Some f) (hs ++ holder_with f role held ∷ [])
+push_first f [] role held up = (itself f, tt)
+push_first f (h ∷ hs) role held up = absurd (cc)
 
-pub push_behind : (last f : Numbered) (hs : List Holder) (role : List ℕ) → before last f ≡ true → AreUpTo (Some last) hs → AreUpTo (Some f) (hs ++ holder_of f role ∷ [])
-push_behind last f hs role behind up = all_push _ hs (holder_of f role) (all_onward last f hs behind up) (itself f)
+pub push_behind : (last f : Numbered) (hs : List Holder) (role : List ℕ) (held : List Row) → before last f ≡ true → AreUpTo (Some last) hs → AreUpTo (Some f) (hs ++ holder_with f role held ∷ [])
+push_behind last f hs role held behind up = all_push _ hs (holder_with f role held) (all_onward last f hs behind up) (itself f)
 
-pub push_within : (last f : Numbered) (hs : List Holder) (role : List ℕ) → before last f ≡ false → AreUpTo (Some last) hs → AreUpTo (Some last) (hs ++ holder_of f role ∷ [])
-push_within last f hs role within up = all_push _ hs (holder_of f role) up within
+pub push_within : (last f : Numbered) (hs : List Holder) (role : List ℕ) (held : List Row) → before last f ≡ false → AreUpTo (Some last) hs → AreUpTo (Some last) (hs ++ holder_with f role held ∷ [])
+push_within last f hs role held within up = all_push _ hs (holder_with f role held) up within
 
 -- one of them holds another amount
 

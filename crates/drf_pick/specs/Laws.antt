@@ -1,14 +1,14 @@
 -- What holds of sums and of the order.
-use Rattle.std.specs.Prelude.{◌≡◌, ℕ, ◌*◌, ◌≤◌, ◌<◌, ◌↔◌, true, false, List, [], fold, None, MatchOption}
+use Rattle.std.specs.Prelude.{◌≡◌, ℕ, ◌*◌, ◌≤◌, ◌<◌, ◌↔◌, true, false, List, [], fold, Option, None, MatchOption}
 use Rattle.std.specs.List.{AllByRecursion}
+use Rattle.names_core.specs.Ids.{Numbered}
 use Rattle.quantity.specs.declared.rows.Row.{Row}
 use Rattle.quantity.specs.Rows.{amount}
 use Rattle.quantity.specs.Laws.{SameAmounts}
 use Rattle.cluster_model.specs.Rounds.{Share, stands_at_most_at}
-pub use Rattle.share_sums.specs.Sums.{SumsAdd}
 use Rattle.drf_pick.specs.Shares.{Tally, Holder}
 pub use Rattle.drf_pick.specs.Shares.{AreWeighed}
-use Rattle.drf_pick.specs.Least.{comes_before, better}
+use Rattle.drf_pick.specs.Least.{Client, IsPick, comes_before, better}
 use Rattle.drf_pick.specs.Orders.{Among, IsPreorder}
 
 -- each row has some amount
@@ -68,3 +68,9 @@ abbrev pub PicksLeast : Type 0
 PicksLeast =
     (t : Tally) (hs : List Holder) → ArePositive t.totals → AreWeighed t.roles
     → MatchOption (fold (better t) None hs) (hs ≡ []) (IsLeast t hs)
+
+-- of the same clients by the same shares no two are picked
+abbrev pub PickIsOne : Type 0
+PickIsOne =
+    (t : Tally) (cs : List Client) (one other : Option Numbered) → IsPick t cs one
+    → IsPick t cs other → one ≡ other

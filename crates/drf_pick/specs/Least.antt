@@ -57,6 +57,11 @@ pub record IsPicked (t : Tally) (cs : List Client) (framework : Numbered) : Type
   pub named : client.framework ≡ framework
   pub least : (d : Client) → Among d cs → StandsLeast t (client_holder t client) (client_holder t d)
 
+-- which framework is picked of some clients: none where there is no client
+abbrev pub IsPick : Tally → List Client → Option Numbered → Type 0
+IsPick t cs None = cs ≡ []
+IsPick t cs (Some framework) = IsPicked t cs framework
+
 -- the same, one after another
 
 abbrev pub comes_within_role : Tally → Numbered → Numbered → Bool

@@ -2,6 +2,7 @@ pub mod Shares
 pub mod Fractions
 pub mod Places
 pub mod Least
+pub mod RoleSums
 pub mod Orders
 pub mod Laws
 pub mod ClientShares

@@ -1,6 +1,6 @@
 -- Shares that show what frameworks are allocated.
 use Rattle.std.specs.Prelude.{◌≡◌, ⊤, ℕ, Bool, true, false, if◌then◌else◌, List, [], ◌∷◌, ◌++◌, map, flat_map, Option, Some, None, IfSome}
-use Rattle.std.specs.List.{AllByRecursion, find, list_any}
+use Rattle.std.specs.List.{AllByRecursion, find}
 use Rattle.names_core.specs.Ids.{Numbered, same}
 use Rattle.quantity.specs.declared.rows.Row.{Row}
 use Rattle.quantity.specs.Rows.{amount}
@@ -9,6 +9,7 @@ use Rattle.role_weights.specs.Weights.{RoleWeight, weight_of}
 use Rattle.share_sums.specs.Sums.{IsSum}
 use Rattle.share_sums.specs.declared.fault.SharesFault.{SharesFault}
 use Rattle.share_sums.specs.declared.fault.SharesFault.TheVariants.{OutOfMemory}
+pub use Rattle.drf_pick.specs.Shares.{is_known}
 use Rattle.drf_pick.specs.Shares.{Tally, Holder, RoleSum, is_holder, is_role}
 use Rattle.drf_pick.specs.Least.{role_share}
 use Rattle.drf_pick.specs.Allocations.{Allocation, Client, CountedShares, Found, role_rows, rows_to}
@@ -34,9 +35,6 @@ HoldersShow gs [] [] = ⊤
 HoldersShow gs [] (c ∷ cs) = ⊥
 HoldersShow gs (h ∷ hs) [] = ⊥
 HoldersShow gs (h ∷ hs) (c ∷ cs) = Shows gs h c × HoldersShow gs hs cs
-
-abbrev pub is_known : List RoleSum → List ℕ → Bool
-is_known rs role = list_any (is_role role) rs
 
 -- each known role holds what its frameworks are allocated
 abbrev pub RolesShow : List Allocation → List Client → List RoleSum → Type 0
@@ -115,6 +113,10 @@ pub record AreCounted (cs : List Client) (k : CountedShares) : Type 0 where
   pub once : ClientsOnce cs
   pub shown : TallyShows (counted_of k.found.items) cs k.shares
   pub owned : SameAmounts k.shares.totals (all_owned k.owned.items)
+
+-- some frameworks are
+abbrev pub IsCounted : CountedShares → Type 0
+IsCounted k = (cs : List Client) × AreCounted cs k
 
 -- the shares still show what is counted, whichever frameworks are registered
 abbrev pub StayCounted : CountedShares → CountedShares → Type 0

@@ -4,7 +4,8 @@
 ghost use Rattle.std.specs.Prelude.{◌≡◌, ◌<◌, [], true, false, fold, length, set, IfErr, IfOk, OnErr, OnOk, ◌++◌, ◌∷◌, List};
 ghost use Rattle.std.specs.List.{list_any};
 ghost use Rattle.drf_pick.specs.Allocations.{AddUp, Allocation as ModelAllocation, Client as ModelClient, all_rows, allocated};
-ghost use Rattle.drf_pick.specs.Shown.{AllCounted, AreCounted, ClientsOnce, HasNone, MemoryRefused, Moves, NoneOf, SameFound, StayCounted, TakesBack, TallyShows, all_found, counted_in, counted_of, due_in, is_for, uncounted};
+ghost use Rattle.drf_pick.specs.Shares.{CanHold, held_more};
+ghost use Rattle.drf_pick.specs.Shown.{AllCounted, AreCounted, ClientsOnce, IsCounted, HasNone, MemoryRefused, Moves, NoneOf, SameFound, StayCounted, TakesBack, TallyShows, all_found, counted_in, counted_of, due_in, is_for, uncounted};
 
 use crate::shares::Shares;
 use names_core::{FrameworkId, RoleName};
@@ -38,6 +39,26 @@ pub struct CountedShares {
 }
 
 impl Shares {
+    /// A framework is allocated these resources. Nothing changes where it isn't registered.
+    /// `P2 OutOfMemory` changes nothing.
+    pub fn allocate(
+        &mut self,
+        alloc: Global,
+        framework: FrameworkId,
+        resources: &Resources,
+    ) -> Result<(), SharesFault>
+        requires { CanHold resources.now self.old }
+        ensures ok { OnOk result (self.new ≡ held_more framework resources.now self.old) }
+        ensures err { OnErr result (self.new ≡ self.old) }
+        ensures memory { IfErr result (λ fault. fault ≡ SharesFault.OutOfMemory) }
+    {
+        if self.is_registered(framework) {
+            self.give(alloc, framework, resources)
+        } else {
+            Ok(())
+        }
+    }
+
     /// A framework is no longer allocated these resources. Nothing changes where it isn't
     /// registered. `P1 NotHeld` where it is and it or its role holds less, which isn't so where the
     /// shares show this allocation; a refusal changes nothing.
@@ -85,10 +106,11 @@ fn give_all(
     alloc: Global,
     allocations: &[Allocation],
 ) -> Result<(), AllocError>
+    requires { CanHold (all_rows allocations.now) shares.old }
     ensures { OnOk result (shares.new ≡ fold allocated shares.old allocations.now) }
 {
     for allocation in allocations {
-        match shares.give(alloc, allocation.framework, &allocation.resources) {
+        match shares.allocate(alloc, allocation.framework, &allocation.resources) {
             Ok(()) => {}
             Err(_) => return Err(AllocError),
         }
@@ -160,6 +182,7 @@ fn take_back_for(
 
 /// All that was found on an agent is counted.
 fn count_of(found: &mut Found, shares: &mut Shares, alloc: Global) -> Result<(), AllocError>
+    requires { CanHold (all_rows (due_in found.old)) shares.old }
     ensures found { OnOk result
         (found.new ≡ record { allocations = found.old.allocations; is_counted = true }) }
     ensures shares { OnOk result (shares.new ≡ fold allocated shares.old (due_in found.old)) }
@@ -260,7 +283,8 @@ impl CountedShares {
     /// All that was found is counted. Want of memory leaves some of it counted that isn't marked so:
     /// whoever is refused drops the shares.
     pub fn count(&mut self, alloc: Global) -> Result<(), AllocError>
-        requires { AddUp (all_rows (all_found self.old.found.items)) }
+        requires shown { IsCounted self.old }
+        requires sums { AddUp (all_rows (all_found self.old.found.items)) }
         ensures found { OnOk result (SameFound self.old.found.items self.new.found.items) }
         ensures all { OnOk result (AllCounted self.new.found.items) }
         ensures counted { OnOk result (StayCounted self.old self.new) }

@@ -1,11 +1,10 @@
 //! Frameworks and roles, with what they hold.
 
 ghost use Rattle.std.specs.Prelude.{◌≡◌};
-ghost use Rattle.drf_pick.specs.Shares.{is_holder, is_role, holder_of, role_sum_of};
+ghost use Rattle.drf_pick.specs.Shares.{is_holder, is_role, holder_with, role_sum_with};
 
 use names_core::{FrameworkId, RoleName};
 use share_sums::Sum;
-use std::alloc::Global;
 
 /// A framework that may be picked, and its role.
 #[derive(Drop)]
@@ -32,13 +31,13 @@ pub struct RoleSum {
 }
 
 impl Holder {
-    pub(crate) fn new(alloc: Global, framework: FrameworkId, role: RoleName) -> Holder
-        ensures { result ≡ holder_of framework role }
+    pub(crate) fn new(framework: FrameworkId, role: RoleName, held: Sum) -> Holder
+        ensures { result ≡ holder_with framework role held }
     {
         Holder {
             framework,
             role,
-            held: Sum::new(alloc),
+            held,
         }
     }
 
@@ -50,12 +49,12 @@ impl Holder {
 }
 
 impl RoleSum {
-    pub(crate) fn new(alloc: Global, role: RoleName) -> RoleSum
-        ensures { result ≡ role_sum_of role }
+    pub(crate) fn new(role: RoleName, held: Sum) -> RoleSum
+        ensures { result ≡ role_sum_with role held }
     {
         RoleSum {
             role,
-            held: Sum::new(alloc),
+            held,
             weight: 1,
         }
     }

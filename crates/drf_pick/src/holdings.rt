@@ -1,16 +1,22 @@
 //! What frameworks and roles hold, and what all agents own.
 
-ghost use Rattle.std.specs.Prelude.{◌≡◌, ◌++◌, ◌∷◌, [], ℕ, List, true, false, Some, Err, OnOk, OnErr, is_some};
+ghost use Rattle.std.specs.Prelude.{◌≡◌, ◌++◌, ◌∷◌, [], ℕ, List, true, false, None, Some, Err, IfOk, IfSome, OnOk, OnErr, is_some};
 ghost use Rattle.std.specs.List.{find, position};
 ghost use Rattle.std.specs.Option.{option_copied};
-ghost use Rattle.drf_pick.specs.Shares.{AreUpTo, Holder, HoldersOnce, all_weighed, is_behind, is_holder, is_role, given_holders, given_roles, given, holder_of, with_totals, roles_with, with_role, holder_has, can_back, returned_holders, returned_roles, returned};
+ghost use Rattle.quantity.specs.declared.rows.Row.{Row};
+ghost use Rattle.quantity.specs.Laws.{SameAmounts};
+ghost use Rattle.share_sums.specs.Sums.{AddUp, CanAdd, IsSum};
+ghost use Rattle.drf_pick.specs.Least.{role_share};
+ghost use Rattle.role_weights.specs.Weights.{IsWeight};
+ghost use Rattle.drf_pick.specs.RoleSums.{AreSums};
+ghost use Rattle.drf_pick.specs.Shown.{HoldSums};
+ghost use Rattle.drf_pick.specs.Shares.{AreUpTo, CanHold, Holder, HoldersOnce, all_held, any_role, at_first, is_behind, is_holder, is_role, given_holders, given_roles, given, holder_of, holder_with, given_to, of_role, role_given, roles_moved_of, weighed, with_totals, roles_with, with_role, holder_has, can_back, returned_holders, returned_roles, returned};
 
 use crate::holder::Holder;
 use crate::roles::Roles;
 use names_core::{FrameworkId, RoleName};
 use plain_data::Plain;
 use quantity::Resources;
-use role_weights::Weights;
 use share_sums::{SharesFault, Sum};
 use std::alloc::{AllocError, Global};
 use std::marker::Model;
@@ -29,13 +35,15 @@ pub struct Holdings {
 }
 
 impl Model for Holdings {
+    ghost use Rattle.drf_pick.specs.RoleSums.{AreSums};
     ghost use Rattle.drf_pick.specs.Shares.{AreUpTo, Tally, HoldersOnce};
 
     ghost Value = { Tally };
 
     ghost view = { λ s. record { totals = s.totals; holders = s.holders.items; roles = s.roles } };
 
-    ghost invariant = { λ s. AreUpTo s.last s.holders.items × HoldersOnce s.holders.items };
+    ghost invariant = { λ s. AreUpTo s.last s.holders.items × HoldersOnce s.holders.items
+        × AreSums s.holders.items s.roles };
 }
 
 /// The place of a framework's holder. It is found by halving where the holders are in the order of
@@ -94,8 +102,8 @@ fn is_known(holders: &[Holder], last: Option<FrameworkId>, framework: FrameworkI
 
 /// The last framework once this one is added.
 fn later(last: Option<FrameworkId>, framework: FrameworkId) -> FrameworkId
-    ensures { (hs : List Holder) (role : List ℕ) → AreUpTo last hs
-        → AreUpTo (Some result) (hs ++ holder_of framework role ∷ []) }
+    ensures { (hs : List Holder) (role : List ℕ) (held : List Row) → AreUpTo last hs
+        → AreUpTo (Some result) (hs ++ holder_with framework role held ∷ []) }
 {
     let Some(last) = last else {
         return framework;
@@ -117,7 +125,9 @@ fn give_in(
     framework: FrameworkId,
     resources: &Resources,
 ) -> Result<(), AllocError>
-    requires { position (is_holder framework) holders.old.items ≡ Some place }
+    requires at { position (is_holder framework) holders.old.items ≡ Some place }
+    requires sums { AreSums holders.old.items roles.old }
+    requires room { CanAdd (all_held holders.old.items) resources.now }
     ensures holders { OnOk result (holders.new.items
         ≡ given_holders framework resources.now holders.old.items) }
     ensures roles { OnOk result (roles.new
@@ -213,7 +223,7 @@ fn add_holder(
     let count = holders.len();
     let guess = last_place(role_places);
     make_room(role_places, count)?;
-    holders.push(Holder::new(alloc, framework, role.copy()?))?;
+    holders.push(Holder::new(framework, role.copy()?, Sum::new(alloc)))?;
     match roles.add(alloc, guess, role) {
         Ok(place) => {
             keep_place(role_places, count, place);
@@ -223,6 +233,103 @@ fn add_holder(
             holders.truncate(count);
             Err(fault)
         }
+    }
+}
+
+/// A framework is added, with its role and what it holds.
+fn add_holding(
+    holders: &mut Vec<Holder>,
+    roles: &mut Roles,
+    role_places: &mut Vec<usize>,
+    alloc: Global,
+    framework: FrameworkId,
+    role: RoleName,
+    held: Sum,
+) -> Result<(), AllocError>
+    requires { CanAdd (role_share roles.old role).held held }
+    ensures holders { OnOk result (holders.new.items ≡ holders.old.items
+        ++ holder_with framework role held ∷ []) }
+    ensures roles { OnOk result (roles.new ≡ role_given role held roles.old) }
+    ensures err { OnErr result ((holders.new.items ≡ holders.old.items)
+        × (roles.new ≡ roles.old)) }
+{
+    let count = holders.len();
+    let guess = last_place(role_places);
+    make_room(role_places, count)?;
+    holders.push(Holder::new(framework, role, held))?;
+    match roles.raise(alloc, guess, &holders[count].role, &holders[count].held) {
+        Ok(place) => {
+            keep_place(role_places, count, place);
+            Ok(())
+        }
+        Err(fault) => {
+            holders.truncate(count);
+            Err(fault)
+        }
+    }
+}
+
+/// What a framework holds moves from its role to another.
+fn change_role(
+    holders: &mut Vec<Holder>,
+    roles: &mut Roles,
+    role_places: &mut Vec<usize>,
+    alloc: Global,
+    framework: FrameworkId,
+    role: &RoleName,
+) -> Result<(), AllocError>
+    requires once { HoldersOnce holders.old.items }
+    requires sums { AreSums holders.old.items roles.old }
+    ensures holders { OnOk result (holders.new.items
+        ≡ at_first (is_holder framework) (of_role role.now) holders.old.items) }
+    ensures roles { OnOk result (roles.new
+        ≡ roles_moved_of role.now roles.old (find (is_holder framework) holders.old.items)) }
+    ensures err { OnErr result ((holders.new.items ≡ holders.old.items)
+        × (roles.new ≡ roles.old)) }
+{
+    let Some(place) = holder_place(holders, framework) else {
+        return Ok(());
+    };
+    if holders[place].role.is(role) {
+        return Ok(());
+    }
+    let name = role.copy()?;
+    let guess = guess_at(role_places, place);
+    let holder = &holders[place];
+    let to = roles.move_held(alloc, guess, &holder.role, role, &holder.held)?;
+    holders[place].role = name;
+    keep_place(role_places, place, to);
+    Ok(())
+}
+
+/// What these hold together.
+fn sum_of(alloc: Global, holders: &[Holder]) -> Result<Sum, AllocError>
+    requires { AddUp (all_held holders.now) }
+    ensures { IfOk result (λ sum. SameAmounts sum (all_held holders.now)) }
+{
+    let mut sum = Sum::new(alloc);
+    for holder in holders {
+        sum = sum.plus_sum(alloc, &holder.held)?;
+    }
+    Ok(sum)
+}
+
+/// The role of frameworks that name none.
+fn any_role(alloc: Global) -> Result<RoleName, AllocError>
+    ensures { IfOk result (λ role. role ≡ any_role) }
+{
+    match RoleName::from_text(alloc, "*") {
+        Ok(role) => Ok(role),
+        Err(_) => Err(AllocError),
+    }
+}
+
+/// What a role holds, if it is known, is a sum.
+fn is_role_sum(roles: &Roles, guess: usize, role: &RoleName)
+    ensures { IfSome (find (is_role role.now) roles.now) (λ r. IsSum r.held) }
+{
+    if let Some(place) = roles.place(guess, role) {
+        let _held = roles.as_slice()[place].held.rows();
     }
 }
 
@@ -252,6 +359,13 @@ impl Holdings {
         self.holders.as_slice()
     }
 
+    /// What all frameworks hold.
+    pub(crate) fn held_together(&self, alloc: Global) -> Result<Sum, AllocError>
+        ensures { IfOk result (λ sum. SameAmounts sum (all_held self.now.holders)) }
+    {
+        sum_of(alloc, &self.holders)
+    }
+
     /// Ranks the roles by their names, if some was added since they were ranked.
     pub(crate) fn rank_roles(&mut self, alloc: Global) -> Result<(), AllocError>
         ensures { self.new ≡ self.old }
@@ -279,11 +393,37 @@ impl Holdings {
         self.roles.place(guess_at(&self.role_places, holder), role)
     }
 
-    /// Each role has its weight among these from now on. It takes no memory.
-    pub(crate) fn reweigh(&mut self, weights: &Weights)
-        ensures { self.new ≡ all_weighed weights.now self.old }
+    /// Whether a framework is registered.
+    pub(crate) fn is_registered(&self, framework: FrameworkId) -> bool
+        ensures registered { result ≡ is_some (find (is_holder framework) self.now.holders) }
+        ensures sums { HoldSums framework self.now }
     {
-        self.roles.reweigh(weights);
+        let Some(place) = holder_place(&self.holders, framework) else {
+            return false;
+        };
+        let holder = &self.holders[place];
+        let _held = holder.held.rows();
+        is_role_sum(
+            &self.roles,
+            guess_at(&self.role_places, place),
+            &holder.role,
+        );
+        true
+    }
+
+    /// A role has this weight; one that isn't known is added, and holds nothing. It fails for want
+    /// of memory alone, and then changes nothing.
+    pub(crate) fn weigh(
+        &mut self,
+        alloc: Global,
+        role: &RoleName,
+        weight: u16,
+    ) -> Result<(), AllocError>
+        requires { IsWeight weight }
+        ensures ok { OnOk result (self.new ≡ weighed role.now weight self.old) }
+        ensures err { OnErr result (self.new ≡ self.old) }
+    {
+        self.roles.weigh(alloc, role, weight)
     }
 
     /// Agents own this together.
@@ -293,8 +433,8 @@ impl Holdings {
         self.totals = totals;
     }
 
-    /// Registers a framework with this role; it holds nothing yet. One that is registered already
-    /// keeps its role. It fails for want of memory alone, and then changes nothing.
+    /// Registers a framework with this role. What one that is registered already holds moves from
+    /// its role to this one. It fails for want of memory alone, and then changes nothing.
     pub fn role(
         &mut self,
         alloc: Global,
@@ -305,7 +445,15 @@ impl Holdings {
         ensures err { OnErr result (self.new ≡ self.old) }
     {
         if is_known(&self.holders, self.last, framework) {
-            return Ok(());
+            let _sums = self.is_registered(framework);
+            return change_role(
+                &mut self.holders,
+                &mut self.roles,
+                &mut self.role_places,
+                alloc,
+                framework,
+                role,
+            );
         }
         add_holder(
             &mut self.holders,
@@ -319,20 +467,48 @@ impl Holdings {
         Ok(())
     }
 
-    /// A framework holds more, and so does its role; nothing changes where the framework isn't
-    /// registered. It takes no memory where both hold some of each name. It fails for want of
-    /// memory alone, and then changes nothing.
+    /// A framework that isn't registered is, with the role `*`, and holds this.
+    fn give_first(
+        &mut self,
+        alloc: Global,
+        framework: FrameworkId,
+        resources: &Resources,
+    ) -> Result<(), AllocError>
+        requires new { find (is_holder framework) self.old.holders ≡ None }
+        requires room { CanHold resources.now self.old }
+        ensures ok { OnOk result (self.new ≡ given_to framework resources.now self.old None) }
+        ensures err { OnErr result (self.new ≡ self.old) }
+    {
+        let role = any_role(alloc)?;
+        let held = Sum::new(alloc).plus(alloc, resources)?;
+        add_holding(
+            &mut self.holders,
+            &mut self.roles,
+            &mut self.role_places,
+            alloc,
+            framework,
+            role,
+            held,
+        )?;
+        self.last = Some(later(self.last, framework));
+        Ok(())
+    }
+
+    /// A framework holds more, and so does its role; one that isn't registered is of the role `*`
+    /// then. It takes no memory where both hold some of each name. It fails for want of memory
+    /// alone, and then changes nothing.
     pub fn give(
         &mut self,
         alloc: Global,
         framework: FrameworkId,
         resources: &Resources,
     ) -> Result<(), AllocError>
+        requires { CanHold resources.now self.old }
         ensures ok { OnOk result (self.new ≡ given framework resources.now self.old) }
         ensures err { OnErr result (self.new ≡ self.old) }
     {
         let Some(place) = holder_place(&self.holders, framework) else {
-            return Ok(());
+            return self.give_first(alloc, framework, resources);
         };
         give_in(
             &mut self.holders,
@@ -359,6 +535,9 @@ impl Holdings {
             → can_back framework resources.now self.old ≡ false }
         ensures err { OnErr result (self.new ≡ self.old) }
     {
+        if !self.is_registered(framework) {
+            return Err(SharesFault::NotHeld);
+        }
         back_in(
             &mut self.holders,
             &mut self.roles,

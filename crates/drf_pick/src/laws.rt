@@ -1,6 +1,6 @@
 //! What holds of shares: each function's contract is a law, and its call adds the law to a proof.
 
-ghost use Rattle.drf_pick.specs.Laws.{TestIsRelation, AmountsDecide, StandingIsOrder, SumsAdd, PicksLeast};
+ghost use Rattle.drf_pick.specs.Laws.{TestIsRelation, AmountsDecide, StandingIsOrder, PickIsOne, PicksLeast};
 
 /// The test over rows is the order of shares over all names: at each name that agents own,
 /// the first's share is at most the second's share of some name.
@@ -18,12 +18,13 @@ pub fn standing_is_order()
     ensures { StandingIsOrder }
 {}
 
-/// Sums that stay within 2^48 have the sums of the amounts.
-pub fn sums_add()
-    ensures { SumsAdd }
-{}
-
 /// What is picked is one of the frameworks, and none comes before it.
 pub fn picks_least()
     ensures { PicksLeast }
+{}
+
+/// Of the same clients, by the same shares, `pick` and any other function that is known to pick
+/// the one that stands least pick the same.
+pub fn pick_is_one()
+    ensures { PickIsOne }
 {}

@@ -1,12 +1,12 @@
 //! The framework that stands least.
 
-ghost use Rattle.std.specs.Prelude.{◌≡◌, [], None, fold, IfNone, IfSome, bytes_eq};
+ghost use Rattle.std.specs.Prelude.{◌≡◌, None, fold, IfSome, bytes_eq};
 ghost use Rattle.std.specs.List.{position};
 ghost use Rattle.std.specs.Option.{option_copied};
 ghost use Rattle.share_sums.specs.Dominant.{IsDominant};
 ghost use Rattle.drf_pick.specs.Laws.{ArePositive};
 ghost use Rattle.drf_pick.specs.Shares.{AreWeighed, is_role};
-ghost use Rattle.drf_pick.specs.Least.{IsPicked, better_client, comes_before, comes_by_role, comes_within_role, held_by, holder_for};
+ghost use Rattle.drf_pick.specs.Least.{IsPick, better_client, comes_before, comes_by_role, comes_within_role, held_by, holder_for};
 ghost use Rattle.drf_pick.specs.ClientShares.{IsRoleShare, IsClientShare};
 
 use crate::client_share::{ClientShare, RoleShare};
@@ -166,8 +166,7 @@ fn are_sound(shares: &Shares)
 /// framework that isn't registered in the shares holds nothing. None only where there is no client.
 /// It takes no memory.
 pub fn pick(shares: &Shares, clients: &[Client]) -> Option<FrameworkId>
-    ensures some { IfSome result (IsPicked shares.now clients.now) }
-    ensures none { IfNone result (clients.now ≡ []) }
+    ensures { IsPick shares.now clients.now result }
 {
     are_sound(shares);
     match best_of(shares, clients) {

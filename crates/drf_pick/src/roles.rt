@@ -1,16 +1,19 @@
 //! Roles, found by their names, with what their frameworks hold.
 
-ghost use Rattle.std.specs.Prelude.{◌≡◌, ◌<◌, ◌++◌, ◌∷◌, [], None, true, false, length, map, Some, Err, OnOk, OnErr};
+ghost use Rattle.std.specs.Prelude.{◌≡◌, ◌++◌, ◌∷◌, [], None, true, false, length, Some, Err, IfOk, OnOk, OnErr, bytes_eq};
 ghost use Rattle.std.specs.List.{find, position};
 ghost use Rattle.cluster_model.specs.Ids.{bytes_before};
-ghost use Rattle.drf_pick.specs.Shares.{AreWeighed, RolesOnce, is_role, at_first, reweighed, role_holding, role_sum_of, roles_with, role_has, role_returning};
+ghost use Rattle.quantity.specs.Rows.{rest_of};
+ghost use Rattle.role_weights.specs.Weights.{IsWeight};
+ghost use Rattle.share_sums.specs.Sums.{CanAdd, plus_rows};
+ghost use Rattle.drf_pick.specs.Least.{role_share};
+ghost use Rattle.drf_pick.specs.Shares.{AreWeighed, RolesOnce, is_role, at_first, role_given, role_holding, role_sum_with, roles_moved, roles_weighed, roles_with, role_has, role_returning, weighing, with_held};
 
 use crate::holder::RoleSum;
 use crate::ranks::{rank_at, ranks_of};
 use names_core::RoleName;
 use plain_data::Plain;
 use quantity::Resources;
-use role_weights::Weights;
 use share_sums::{SharesFault, Sum};
 use std::alloc::{AllocError, Global};
 use std::collections::BTreeMap;
@@ -48,7 +51,8 @@ fn give_at(
     role: &RoleName,
     resources: &Resources,
 ) -> Result<(), AllocError>
-    requires { position (is_role role.now) sums.old.items ≡ Some place }
+    requires at { position (is_role role.now) sums.old.items ≡ Some place }
+    requires room { CanAdd (role_share sums.old.items role.now).held resources.now }
     ensures ok { OnOk result (sums.new.items
         ≡ at_first (is_role role.now) (role_holding resources.now) sums.old.items) }
     ensures err { OnErr result (sums.new.items ≡ sums.old.items) }
@@ -87,29 +91,17 @@ fn back_at(
     }
 }
 
-fn push_sum(sums: &mut Vec<RoleSum>, alloc: Global, role: &RoleName) -> Result<(), AllocError>
-    ensures ok { OnOk result (sums.new.items ≡ sums.old.items ++ role_sum_of role.now ∷ []) }
+fn push_sum(
+    sums: &mut Vec<RoleSum>,
+    alloc: Global,
+    role: &RoleName,
+    held: Sum,
+) -> Result<(), AllocError>
+    ensures ok { OnOk result (sums.new.items ≡ sums.old.items ++ role_sum_with role.now held ∷ []) }
     ensures err { OnErr result (sums.new.items ≡ sums.old.items) }
 {
-    sums.push(RoleSum::new(alloc, role.copy()?))?;
+    sums.push(RoleSum::new(role.copy()?, held))?;
     Ok(())
-}
-
-fn reweigh_one(sum: &mut RoleSum, weights: &Weights)
-    ensures sum { sum.new ≡ reweighed weights.now sum.old }
-    ensures some { 0 < sum.new.weight }
-{
-    sum.weight = weights.of(&sum.role);
-}
-
-fn reweigh_all(sums: &mut Vec<RoleSum>, weights: &Weights)
-    requires { AreWeighed sums.old.items }
-    ensures sums { sums.new.items ≡ map (reweighed weights.now) sums.old.items }
-    ensures weighed { AreWeighed sums.new.items }
-{
-    for place in 0..sums.len() {
-        reweigh_one(&mut sums[place], weights);
-    }
 }
 
 impl Roles {
@@ -156,6 +148,7 @@ impl Roles {
         role: &RoleName,
         resources: &Resources,
     ) -> Result<(), AllocError>
+        requires { CanAdd (role_share self.old role.now).held resources.now }
         ensures ok { OnOk result (self.new
             ≡ at_first (is_role role.now) (role_holding resources.now) self.old) }
         ensures err { OnErr result (self.new ≡ self.old) }
@@ -187,22 +180,15 @@ impl Roles {
         back_at(&mut self.sums, alloc, place, role, resources)
     }
 
-    /// Each role has its weight among these from now on. It takes no memory.
-    pub fn reweigh(&mut self, weights: &Weights)
-        ensures { self.new ≡ map (reweighed weights.now) self.old }
-    {
-        reweigh_all(&mut self.sums, weights);
-    }
-
-    /// One that isn't known is added.
-    fn push(&mut self, alloc: Global, role: &RoleName) -> Result<(), AllocError>
+    /// One that isn't known is added, with what it holds.
+    fn push(&mut self, alloc: Global, role: &RoleName, held: Sum) -> Result<(), AllocError>
         requires { find (is_role role.now) self.old ≡ None }
-        ensures ok { OnOk result (self.new ≡ self.old ++ role_sum_of role.now ∷ []) }
+        ensures ok { OnOk result (self.new ≡ self.old ++ role_sum_with role.now held ∷ []) }
         ensures err { OnErr result (self.new ≡ self.old) }
     {
         let count = self.sums.len();
         let name = String::from_str(alloc, role.as_text())?;
-        push_sum(&mut self.sums, alloc, role)?;
+        push_sum(&mut self.sums, alloc, role, held)?;
         match self.places.insert(name, count) {
             Ok(_) => {
                 self.ranks.clear();
@@ -220,14 +206,98 @@ impl Roles {
     pub fn add(&mut self, alloc: Global, guess: usize, role: &RoleName) -> Result<usize, AllocError>
         ensures ok { OnOk result (self.new
             ≡ roles_with role.now self.old (find (is_role role.now) self.old)) }
+        ensures place { IfOk result (λ place. position (is_role role.now) self.new ≡ Some place) }
         ensures err { OnErr result (self.new ≡ self.old) }
     {
         if let Some(place) = self.place(guess, role) {
             return Ok(place);
         }
         let count = self.sums.len();
-        self.push(alloc, role)?;
+        self.push(alloc, role, Sum::new(alloc))?;
         Ok(count)
+    }
+
+    /// A role holds more; one that isn't known is added. The place of its sum. It is found at once
+    /// where the guess is right.
+    pub fn raise(
+        &mut self,
+        alloc: Global,
+        guess: usize,
+        role: &RoleName,
+        more: &Sum,
+    ) -> Result<usize, AllocError>
+        requires { CanAdd (role_share self.old role.now).held more.now }
+        ensures ok { OnOk result (self.new ≡ role_given role.now more.now self.old) }
+        ensures err { OnErr result (self.new ≡ self.old) }
+    {
+        if let Some(place) = self.place(guess, role) {
+            let held = self.sums[place].held.plus_sum(alloc, more)?;
+            self.sums[place].held = held;
+            return Ok(place);
+        }
+        let count = self.sums.len();
+        let held = Sum::new(alloc).plus_sum(alloc, more)?;
+        self.push(alloc, role, held)?;
+        Ok(count)
+    }
+
+    /// What is left of what a role holds.
+    fn rest_of(
+        &self,
+        alloc: Global,
+        guess: usize,
+        role: &RoleName,
+        less: &Sum,
+    ) -> Result<Sum, AllocError>
+        ensures { IfOk result (λ rest. rest ≡ rest_of (role_share self.now role.now).held less.now) }
+    {
+        match self.place(guess, role) {
+            Some(place) => self.sums[place].held.less_sum(alloc, less),
+            None => Ok(Sum::new(alloc)),
+        }
+    }
+
+    /// A role, if it is known, holds this.
+    fn keep(&mut self, guess: usize, role: &RoleName, held: Sum)
+        ensures { self.new ≡ at_first (is_role role.now) (with_held held) self.old }
+    {
+        if let Some(place) = self.place(guess, role) {
+            self.sums[place].held = held;
+        }
+    }
+
+    /// What was held of one role is held of another, which is added if it isn't known. The place of
+    /// that one's sum. The place of the first is found at once where the guess is right.
+    pub fn move_held(
+        &mut self,
+        alloc: Global,
+        guess: usize,
+        from: &RoleName,
+        to: &RoleName,
+        held: &Sum,
+    ) -> Result<usize, AllocError>
+        requires other { bytes_eq from.now to.now ≡ false }
+        requires room { CanAdd (role_share self.old to.now).held held.now }
+        ensures ok { OnOk result (self.new ≡ roles_moved from.now to.now held.now self.old) }
+        ensures err { OnErr result (self.new ≡ self.old) }
+    {
+        let rest = self.rest_of(alloc, guess, from, held)?;
+        let count = self.sums.len();
+        let place = self.raise(alloc, count, to, held)?;
+        self.keep(guess, from, rest);
+        Ok(place)
+    }
+
+    /// A role has this weight; one that isn't known is added, and holds nothing.
+    pub fn weigh(&mut self, alloc: Global, role: &RoleName, weight: u16) -> Result<(), AllocError>
+        requires { IsWeight weight }
+        ensures ok { OnOk result (self.new ≡ roles_weighed role.now weight self.old) }
+        ensures err { OnErr result (self.new ≡ self.old) }
+    {
+        let count = self.sums.len();
+        let place = self.add(alloc, count, role)?;
+        self.sums[place].weight = weight;
+        Ok(())
     }
 
     /// Ranks the roles by their names, if some was added since they were ranked.

@@ -1,17 +1,17 @@
 //! Dominant shares of what frameworks and roles hold.
 
-ghost use Rattle.std.specs.Prelude.{◌≡◌, [], true, false, Err, OnOk, OnErr, IfErr, IfSome, is_some};
+ghost use Rattle.std.specs.Prelude.{◌≡◌, ◌≤◌, ◌↔◌, [], None, true, false, length, Err, IfOk, OnOk, OnErr, IfErr, is_some};
 ghost use Rattle.std.specs.List.{find};
 ghost use Rattle.drf_pick.specs.Fractions.{OfHolders, OfOthers, OfOtherRoles, OfRoles, OfRolesBut};
-ghost use Rattle.share_sums.specs.Sums.{IsSum};
 ghost use Rattle.drf_pick.specs.Shown.{HoldSums};
-ghost use Rattle.drf_pick.specs.Shares.{all_weighed, is_holder, is_role, entered, given, with_totals, with_role, can_leave, departed, can_back, returned};
+ghost use Rattle.drf_pick.specs.Shares.{AreWeighed, CanHold, CanOwn, RolesOnce, is_holder, entered, given, with_totals, with_role, can_leave, departed, can_back, returned, weighed};
+ghost use Rattle.role_weights.specs.Weights.{IsWeight};
 
 use crate::fractions::{keep_nothing, of_holders, of_roles};
+use crate::holder::RoleSum;
 use crate::holdings::Holdings;
 use names_core::{FrameworkId, RoleName};
 use quantity::Resources;
-use role_weights::Weights;
 use share_sums::{Fraction, SharesFault, Sum};
 use std::alloc::{AllocError, Global};
 use std::marker::Model;
@@ -74,13 +74,14 @@ fn renew_of(
     renew_role(role_fractions, holdings, place, &holder.role);
 }
 
-/// What a role holds, if it is known, is a sum. It is likely to be the role of the holder at a
-/// place.
-fn is_role_sum(holdings: &Holdings, holder: usize, role: &RoleName)
-    ensures { IfSome (find (is_role role.now) holdings.now.roles) (λ r. IsSum r.held) }
+/// Each role's fraction is made anew.
+fn renew_roles(fractions: &mut Vec<Fraction>, holdings: &Holdings)
+    requires { length holdings.now.roles ≤ length fractions.old.items }
+    ensures { OfRoles holdings.now.totals holdings.now.roles fractions.new.items }
 {
-    if let Some(place) = holdings.role_place(holder, role) {
-        let _held = holdings.roles().as_slice()[place].held.rows();
+    let sums = holdings.roles().as_slice();
+    for place in 0..sums.len() {
+        fractions[place] = Fraction::dominant(holdings.totals(), &sums[place].held);
     }
 }
 
@@ -124,30 +125,39 @@ impl Shares {
         self.holdings.rank_roles(alloc)
     }
 
+    /// The roles that are known, with what their frameworks hold and their weights.
+    pub fn roles(&self) -> &[RoleSum]
+        ensures roles { result.now ≡ self.now.roles }
+        ensures once { RolesOnce self.now.roles }
+        ensures weighed { AreWeighed self.now.roles }
+    {
+        self.holdings.roles().as_slice()
+    }
+
     /// Whether a framework is registered.
     pub fn is_registered(&self, framework: FrameworkId) -> bool
         ensures registered { result ≡ is_some (find (is_holder framework) self.now.holders) }
         ensures sums { HoldSums framework self.now }
     {
-        let holders = self.holdings.holders();
-        let Some(place) = self.holdings.place(holders.len(), framework) else {
-            return false;
-        };
-        let holder = &holders[place];
-        let _held = holder.held.rows();
-        is_role_sum(&self.holdings, place, &holder.role);
-        true
+        self.holdings.is_registered(framework)
     }
 
-    /// Each role has its weight among these from now on. It takes no memory.
-    pub fn reweigh(&mut self, weights: &Weights)
-        ensures { self.new ≡ all_weighed weights.now self.old }
+    /// A role has this weight from now on, 1 to 1,000. It is kept for a role that no framework has
+    /// yet. `P2 OutOfMemory` changes nothing.
+    pub fn weigh(&mut self, alloc: Global, role: &RoleName, weight: u16) -> Result<(), SharesFault>
+        requires { IsWeight weight }
+        ensures ok { OnOk result (self.new ≡ weighed role.now weight self.old) }
+        ensures err { OnErr result (self.new ≡ self.old) }
+        ensures memory { IfErr result (λ fault. fault ≡ SharesFault.OutOfMemory) }
     {
-        self.holdings.reweigh(weights);
+        keep_nothing(&mut self.role_fractions, self.holdings.roles().len())?;
+        self.holdings.weigh(alloc, role, weight)?;
+        Ok(())
     }
 
     /// An agent owns this. `P2 OutOfMemory` changes nothing.
     pub fn enter(&mut self, alloc: Global, total: &Resources) -> Result<(), SharesFault>
+        requires { CanOwn total.now self.old }
         ensures ok { OnOk result (self.new ≡ entered total.now self.old) }
         ensures err { OnErr result (self.new ≡ self.old) }
         ensures memory { IfErr result (λ fault. fault ≡ SharesFault.OutOfMemory) }
@@ -157,14 +167,14 @@ impl Shares {
         Ok(())
     }
 
-    /// Registers a framework with this role; it holds nothing yet. One that is registered already
-    /// keeps its role. `P2 OutOfMemory` changes nothing.
-    pub fn role(
+    /// Registers a framework that isn't registered.
+    fn add(
         &mut self,
         alloc: Global,
         framework: FrameworkId,
         role: &RoleName,
     ) -> Result<(), SharesFault>
+        requires { find (is_holder framework) self.old.holders ≡ None }
         ensures ok { OnOk result (self.new ≡ with_role framework role.now self.old) }
         ensures err { OnErr result (self.new ≡ self.old) }
         ensures memory { IfErr result (λ fault. fault ≡ SharesFault.OutOfMemory) }
@@ -175,14 +185,77 @@ impl Shares {
         Ok(())
     }
 
-    /// A framework holds more, and so does its role; nothing changes where the framework isn't
-    /// registered. `P2 OutOfMemory` changes nothing.
-    pub fn give(
+    /// A framework that is registered has another role, if it hasn't this one.
+    fn change(
+        &mut self,
+        alloc: Global,
+        framework: FrameworkId,
+        role: &RoleName,
+    ) -> Result<(), SharesFault>
+        requires { is_some (find (is_holder framework) self.old.holders) ≡ true }
+        ensures ok { OnOk result (self.new ≡ with_role framework role.now self.old) }
+        ensures err { OnErr result (self.new ≡ self.old) }
+        ensures memory { IfErr result (λ fault. fault ≡ SharesFault.OutOfMemory) }
+    {
+        keep_nothing(&mut self.role_fractions, self.holdings.roles().len())?;
+        self.holdings.role(alloc, framework, role)?;
+        renew_roles(&mut self.role_fractions, &self.holdings);
+        Ok(())
+    }
+
+    /// A framework has this role from now on. What it holds moves from the role that it had, if it
+    /// had one. `P2 OutOfMemory` changes nothing.
+    pub fn role(
+        &mut self,
+        alloc: Global,
+        framework: FrameworkId,
+        role: &RoleName,
+    ) -> Result<(), SharesFault>
+        ensures ok { OnOk result (self.new ≡ with_role framework role.now self.old) }
+        ensures err { OnErr result (self.new ≡ self.old) }
+        ensures memory { IfErr result (λ fault. fault ≡ SharesFault.OutOfMemory) }
+    {
+        if self.is_registered(framework) {
+            self.change(alloc, framework, role)
+        } else {
+            self.add(alloc, framework, role)
+        }
+    }
+
+    /// A framework that isn't registered is, with the role `*`, and holds this.
+    fn give_first(
         &mut self,
         alloc: Global,
         framework: FrameworkId,
         resources: &Resources,
     ) -> Result<(), SharesFault>
+        requires new { find (is_holder framework) self.old.holders ≡ None }
+        requires room { CanHold resources.now self.old }
+        ensures ok { OnOk result (self.new ≡ given framework resources.now self.old) }
+        ensures err { OnErr result (self.new ≡ self.old) }
+        ensures memory { IfErr result (λ fault. fault ≡ SharesFault.OutOfMemory) }
+    {
+        keep_nothing(&mut self.fractions, self.holdings.holders().len())?;
+        keep_nothing(&mut self.role_fractions, self.holdings.roles().len())?;
+        self.holdings.give(alloc, framework, resources)?;
+        renew_of(
+            &mut self.fractions,
+            &mut self.role_fractions,
+            &self.holdings,
+            framework,
+        );
+        Ok(())
+    }
+
+    /// A framework that is registered holds more.
+    fn give_more(
+        &mut self,
+        alloc: Global,
+        framework: FrameworkId,
+        resources: &Resources,
+    ) -> Result<(), SharesFault>
+        requires known { is_some (find (is_holder framework) self.old.holders) ≡ true }
+        requires room { CanHold resources.now self.old }
         ensures ok { OnOk result (self.new ≡ given framework resources.now self.old) }
         ensures err { OnErr result (self.new ≡ self.old) }
         ensures memory { IfErr result (λ fault. fault ≡ SharesFault.OutOfMemory) }
@@ -195,6 +268,34 @@ impl Shares {
             framework,
         );
         Ok(())
+    }
+
+    /// Whether frameworks can hold more: of no name do they hold more than 2^48 together then.
+    pub fn can_hold(&self, alloc: Global, more: &Resources) -> Result<bool, AllocError>
+        ensures { IfOk result (λ can. (can ≡ true) ↔ CanHold more.now self.now) }
+    {
+        let held = self.holdings.held_together(alloc)?;
+        Ok(held.can_add(more))
+    }
+
+    /// A framework holds more, and so does its role. One that has no role yet counts as of the role
+    /// `*`. `P2 OutOfMemory` changes nothing.
+    pub fn give(
+        &mut self,
+        alloc: Global,
+        framework: FrameworkId,
+        resources: &Resources,
+    ) -> Result<(), SharesFault>
+        requires { CanHold resources.now self.old }
+        ensures ok { OnOk result (self.new ≡ given framework resources.now self.old) }
+        ensures err { OnErr result (self.new ≡ self.old) }
+        ensures memory { IfErr result (λ fault. fault ≡ SharesFault.OutOfMemory) }
+    {
+        if self.is_registered(framework) {
+            self.give_more(alloc, framework, resources)
+        } else {
+            self.give_first(alloc, framework, resources)
+        }
     }
 
     /// An agent no longer owns this. `P1 NotHeld` where all agents own less of some name;

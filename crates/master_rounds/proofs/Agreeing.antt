@@ -1,5 +1,5 @@
 -- The round of the code is the round of the model.
-use Rattle.std.proofs.Common.{◌≡◌, ℕ, Bool, true, false, List, [], ◌∷◌, ◌++◌, map, fold, length, Option, Some, None, option_map, refl, sym, ap, ◌∙◌, subst, append_assoc}
+use Rattle.std.proofs.Common.{◌≡◌, ℕ, zero, suc, Bool, true, false, List, [], ◌∷◌, ◌++◌, map, fold, length, take, Option, Some, None, option_map, refl, sym, ap, ◌∙◌, subst, append_assoc}
 use Rattle.std.specs.Prelude.{if◌then◌else◌, nat_lt, ◌≤◌}
 use Rattle.std.specs.List.{find}
 use Rattle.names_core.specs.Ids.{Numbered}
@@ -12,10 +12,16 @@ use Rattle.cluster_model.specs.Rounds as rounds
 use Rattle.role_weights.specs.Weights.{RoleWeight}
 use Rattle.cluster_model.specs.Rounds.{Client, Round, clients_of, free, pick, totals_of}
 use Rattle.frameworks.specs.Frameworks.{are_ordered}
-use Rattle.drf_pick.specs.Shares.{Tally, is_holder}
+use Rattle.drf_pick.specs.declared.holder.Holder.{Holder}
+use Rattle.drf_pick.specs.declared.holder.RoleSum.{RoleSum}
+use Rattle.drf_pick.specs.Shares.{AreWeighed, CanHold, Tally, given_roles, is_holder, role_holding}
+use Rattle.drf_pick.proofs.Weights.{changed_weighed}
+use Rattle.drf_pick.proofs.HeldRows.{can_hold}
+use Rattle.roster.specs.Places.{value_at}
+use Rattle.agent_sides.specs.Free.{open_part}
 use Rattle.side_fits.specs.Fits.{AllFitTotals, most_sides}
 use Rattle.drf_pick.specs.declared.holder.Client as drf
-use Rattle.drf_pick.specs.Allocations.{AddUp, all_rows, allocated}
+use Rattle.drf_pick.specs.Allocations.{allocated}
 use Rattle.drf_pick.specs.Shown.{TallyShows}
 use Rattle.drf_pick.proofs.Shown.{tally_more, weights_stay}
 use Rattle.frameworks.specs.LastRound as frameworks
@@ -24,8 +30,8 @@ use Rattle.round_shares.proofs.Registered.{clients_once}
 use Rattle.round_shares.specs.Laws.{CanBeSummed}
 use Rattle.round_shares.specs.Picks.{picked}
 use Rattle.round_shares.proofs.Picking.{picks_alike}
-use Rattle.master_rounds.specs.Visits.{Progress, goes_to, offers_free, visits, visits_part}
-use Rattle.master_rounds.proofs.Bounds.{HaveRows, Within, can_be_summed, visited, within_next}
+use Rattle.master_rounds.specs.Visits.{HasRoom, Progress, goes_to, offers_free, visits, visits_part}
+use Rattle.master_rounds.proofs.Bounds.{HaveRows, Within, can_be_summed, free_adds_up, visited, within_next}
 
 pub record Agrees (ws : List RoleWeight) (m : Master) (run : ℕ) (r : Round) (p : Progress) : Type 0 where
   pub made : p.made ≡ map offer_of r.made
@@ -43,13 +49,18 @@ made_append (h ∷ made) g = ap (λ as_. made_allocation h ∷ as_) (made_append
 with_one : (ss : List Side) (made : List MadeOffer) (g : MadeOffer) → allocations_with ss made ++ made_allocation g ∷ [] ≡ allocations_with ss (made ++ g ∷ [])
 with_one ss made g = append_assoc (allocations_of ss) (map made_allocation made) (made_allocation g ∷ []) ∙ ap (λ as_. allocations_of ss ++ as_) (sym (made_append made g))
 
+given_weighed : (rows : List Row) (o : Option Holder) (rs : List RoleSum) → AreWeighed rs → AreWeighed (given_roles rows o rs)
+given_weighed rows None rs w = w
+given_weighed rows (Some h) rs w = changed_weighed h.role (role_holding rows) (λ r some. some) rs w
+
 -- one offer more is shown once it is given
 shown_more : (ws : List RoleWeight) (m : Master) (made : List MadeOffer) (g : MadeOffer) (t : Tally) → CanBeSummed m (made ++ g ∷ []) → ShowRound ws m.sides m.registers.frameworks made t → ShowRound ws m.sides m.registers.frameworks (made ++ g ∷ []) (allocated t (made_allocation g))
 shown_more ws m made g t can s = record {
   totals = s.totals;
   positive = s.positive;
+  weighed = given_weighed g.offer.resources (find (is_holder g.offer.framework) t.holders) t.roles s.weighed;
   shown = subst (λ as_. TallyShows as_ cs (allocated t (made_allocation g))) (with_one m.sides made g)
-      (tally_more (allocations_with m.sides made) (made_allocation g) cs t (subst (λ as_. AddUp (all_rows as_)) (sym (with_one m.sides made g)) can.held) (clients_once m.registers.frameworks can.ordered) s.shown);
+      (tally_more (allocations_with m.sides made) (made_allocation g) cs t (clients_once m.registers.frameworks can.ordered) s.shown);
   weights = weights_stay ws (made_allocation g) (find (is_holder g.offer.framework) t.holders) t.roles s.weights;
 }
   where
@@ -90,7 +101,7 @@ free_alike ws m run r p agent (row ∷ rows) can after a =
         (subst (λ o. Agrees ws m run (rounds.offers_to r agent (row ∷ rows) (picked_for ws m r agent (row ∷ rows))) (goes_to run agent (row ∷ rows) p o)) (sym same_pick)
         (goes_alike ws m run r p agent (row ∷ rows) (picked_for ws m r agent (row ∷ rows)) full a))
 
-visit_alike : (ws : List RoleWeight) (m : Master) (run : ℕ) (r : Round) (p : Progress) (s : Side) → CanBeSummed m r.made → CanBeSummed m (rounds.visits ws m.registers.now (totals_of m) (clients_of m) r s).made → Agrees ws m run r p
+pub visit_alike : (ws : List RoleWeight) (m : Master) (run : ℕ) (r : Round) (p : Progress) (s : Side) → CanBeSummed m r.made → CanBeSummed m (rounds.visits ws m.registers.now (totals_of m) (clients_of m) r s).made → Agrees ws m run r p
     → Agrees ws m run (rounds.visits ws m.registers.now (totals_of m) (clients_of m) r s) (visits run m.registers.now m.registers.frameworks p s)
 visit_alike ws m run r p s can after a = by s.is_open after
   where
@@ -114,3 +125,25 @@ rounds_alike ws m run can (s ∷ ss) rows r p w a =
     let next = within_next m r s ss after (visited ws m.registers.now (totals_of m) (clients_of m) r s) w in
     rounds_alike ws m run can ss rows.1 after (visits run m.registers.now m.registers.frameworks p s) next
     (visit_alike ws m run r p s (can_be_summed m r (s ∷ ss) can.ordered can.rows can.fits can.few w) (can_be_summed m after ss can.ordered can.rows can.fits can.few next) a)
+
+-- what is free on the agent that comes next can be held
+
+room_here : (ws : List RoleWeight) (m : Master) (run : ℕ) → Allocates m → (s : Side) (ss : List Side) (r : Round) (p : Progress) → Within m r (s ∷ ss) → Agrees ws m run r p → HasRoom (open_part s) p.shares
+room_here ws m run can s ss r p w a = by s.is_open
+  where
+    room : CanHold (free s) p.shares
+    room = can_hold (allocations_with m.sides r.made) (free s) (frameworks.clients_of m.registers.frameworks) p.shares (clients_once m.registers.frameworks can.ordered) a.shares.shown (free_adds_up m r s ss can.rows can.fits can.few w)
+
+    by : (b : Bool) → HasRoom (if b then Some (s.name, free s) else None) p.shares
+    by true = room
+    by false = tt
+
+pub keeps_room : (ws : List RoleWeight) (m : Master) (run : ℕ) → Allocates m → (ss : List Side) → HaveRows ss → (r : Round) (p : Progress) → Within m r ss → Agrees ws m run r p → (i : ℕ)
+    → HasRoom (value_at i open_part None ss) (fold (visits run m.registers.now m.registers.frameworks) p (take i ss)).shares
+keeps_room ws m run can [] rows r p w a i = tt
+keeps_room ws m run can (s ∷ ss) rows r p w a zero = room_here ws m run can s ss r p w a
+keeps_room ws m run can (s ∷ ss) rows r p w a (suc i) =
+    let after = rounds.visits ws m.registers.now (totals_of m) (clients_of m) r s in
+    let next = within_next m r s ss after (visited ws m.registers.now (totals_of m) (clients_of m) r s) w in
+    keeps_room ws m run can ss rows.1 after (visits run m.registers.now m.registers.frameworks p s) next
+    (visit_alike ws m run r p s (can_be_summed m r (s ∷ ss) can.ordered can.rows can.fits can.few w) (can_be_summed m after ss can.ordered can.rows can.fits can.few next) a) i

@@ -20,7 +20,7 @@ use Rattle.cluster_model.specs.Rounds.{Client, Round, free, offers_free, offers_
 use Rattle.frameworks.specs.Frameworks.{are_ordered}
 use Rattle.side_fits.specs.Fits.{AllFitTotals, most_sides}
 use Rattle.drf_pick.specs.Allocations.{AddUp, all_rows}
-use Rattle.round_shares.specs.Allocations.{allocations_of, job_allocation, made_allocation, offer_allocation, side_allocations}
+use Rattle.round_shares.specs.Allocations.{allocations_of, allocations_with, job_allocation, made_allocation, offer_allocation, side_allocations}
 use Rattle.round_shares.specs.Laws.{CanBeSummed}
 use Rattle.round_shares.specs.Owned.{totals_in}
 use Rattle.round_shares.proofs.Owning.{totals_alike}
@@ -156,6 +156,21 @@ can_be_summed m r ss ordered rows fits few w = record {
   rows = rows;
   held = λ name. omega (arith, ap (amount name) (all-append (allocations_of m.sides) (map made_allocation r.made)), amount-append name (all_rows (allocations_of m.sides)) (made_rows r.made), all_held name m.sides rows fits, total_small name m.sides rows, few, w name);
 }
+
+-- with what is free on the next agent too
+pub free_adds_up : (m : Master) (r : Round) (s : Side) (ss : List Side) → HaveRows m.sides → AllFitTotals m.sides → length m.sides ≤ most_sides → Within m r (s ∷ ss) → AddUp (all_rows (allocations_with m.sides r.made) ++ free s)
+free_adds_up m r s ss rows fits few w name =
+    omega (
+      arith,
+      amount-append name (all_rows (allocations_with m.sides r.made)) (free s),
+      ap (amount name) (all-append (allocations_of m.sides) (map made_allocation r.made)),
+      amount-append name (all_rows (allocations_of m.sides)) (made_rows r.made),
+      all_held name m.sides rows fits,
+      total_small name m.sides rows,
+      few,
+      w name,
+      free_one name s ss,
+    )
 
 -- before anything is offered
 pub sides_add_up : (ss : List Side) → HaveRows ss → AllFitTotals ss → length ss ≤ most_sides → AddUp (all_rows (allocations_of ss))

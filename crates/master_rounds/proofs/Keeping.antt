@@ -38,6 +38,7 @@ begins_shown ws s k b = record {
       (tally_alike (all_found k.found.items) (allocations_of s.sides) (clients_of s.frameworks) k.shares b.found
       (subst (λ as_. TallyShows as_ (clients_of s.frameworks) k.shares) (counted_all k.found.items b.all) b.counted.shown));
   weights = b.weights;
+  weighed = b.weighed;
 }
 
 pub round_shown : (ws : List RoleWeight) (s : State) (k : CountedShares) (p : Progress) → Holds s → BeginRound ws s.sides s.frameworks k → p ≡ round_with k.shares s → TallyShows (counted_of k.found.items ++ map allocation_by p.made) (clients_of s.frameworks) p.shares

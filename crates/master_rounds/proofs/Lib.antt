@@ -6,3 +6,4 @@ pub mod SendingAll
 pub mod Starting
 pub mod Keeping
 pub mod Places
+pub mod RoundList

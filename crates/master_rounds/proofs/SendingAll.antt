@@ -1,5 +1,5 @@
 -- The events of a round, and all that a master holds after it.
-use Rattle.std.proofs.Common.{◌≡◌, ℕ, suc, ◌≤◌, Bool, true, false, cond, List, [], ◌∷◌, ◌++◌, map, filter, flat_map, fold, length, Option, Some, None, refl, sym, ap, ◌∙◌, arith}
+use Rattle.std.proofs.Common.{◌≡◌, ℕ, suc, ◌≤◌, Bool, true, false, cond, List, [], ◌∷◌, ◌++◌, map, filter, flat_map, fold, length, Option, Some, None, refl, sym, ap, subst, ◌∙◌, arith}
 use Rattle.names_core.specs.Ids.{Numbered, same}
 use Rattle.mails.specs.declared.framework.Framework.{Framework}
 use Rattle.cluster_model.specs.Sides.{Side}
@@ -7,7 +7,7 @@ use Rattle.cluster_model.specs.Events.{MadeOffer, Offers, offer_of}
 use Rattle.cluster_model.specs.Masters.{Moved, move_all, moved, on_stream}
 use Rattle.role_weights.specs.Weights.{RoleWeight}
 use Rattle.cluster_model.specs.Rounds as rounds
-use Rattle.cluster_model.specs.Rounds.{Round, allocated, clients_of, entered, making, offers_of, round, offer_events, totals_of}
+use Rattle.cluster_model.specs.Rounds.{Round, allocated, clients_of, entered, making, offers_of, offer_events, totals_of}
 use Rattle.frameworks.specs.Frameworks as frameworks
 use Rattle.agent_sides.specs.Configs.{are_ordered}
 use Rattle.agent_sides.specs.Joined.{side_names}
@@ -18,11 +18,13 @@ use Rattle.master_state.specs.Works.{Work, done, master_of, registers_of, run_of
 use Rattle.master_state.proofs.Doings.{none_more}
 use Rattle.master_state.proofs.Moves.{moved_so}
 use Rattle.master_rounds.specs.News.{event_on, news_of, offers_all}
-use Rattle.master_rounds.specs.Visits.{begins, round_with}
+use Rattle.master_rounds.specs.Visits.{KeepsRoom, begins, round_with}
 use Rattle.drf_pick.specs.Shares.{Tally}
 use Rattle.round_shares.specs.Allocations.{ShowRound}
-use Rattle.master_rounds.proofs.Agreeing.{Agrees, rounds_alike}
+use Rattle.master_rounds.proofs.Agreeing.{Agrees, keeps_room, rounds_alike}
 use Rattle.master_rounds.proofs.Bounds.{HaveRows}
+use Rattle.master_rounds.specs.Rounds.{AreOfRound}
+use Rattle.master_rounds.proofs.RoundList.{Listed, round_listed}
 use Rattle.master_rounds.proofs.Making.{Made, all_made, offer_move, with_next}
 
 -- events
@@ -76,6 +78,9 @@ begins_alike ws s t shown = record { made = refl; next = refl; shares = shown }
 
 pub agreed : (ws : List RoleWeight) (s : State) (t : Tally) → Holds s → ShowRound ws s.sides s.frameworks [] t → Agrees ws (master_of s) s.run (round_after ws s) (round_with t s)
 agreed ws s t h shown = rounds_alike ws (master_of s) s.run (record { ordered = h.ordered; rows = h.rows; fits = h.fit.totals; few = h.fit.few }) s.sides h.rows (start_of s) (begins t s) (λ name. omega arith) (begins_alike ws s t shown)
+
+pub round_room : (ws : List RoleWeight) (s : State) (t : Tally) → Holds s → ShowRound ws s.sides s.frameworks [] t → KeepsRoom s (begins t s)
+round_room ws s t h shown = keeps_room ws (master_of s) s.run (record { ordered = h.ordered; rows = h.rows; fits = h.fit.totals; few = h.fit.few }) s.sides h.rows (start_of s) (begins t s) (λ name. omega arith) (begins_alike ws s t shown)
 
 made_of : (ws : List RoleWeight) (s : State) → Holds s → Made (start_of s) s.sides (round_after ws s)
 made_of ws s h = all_made ws s.moment (totals_of (master_of s)) (clients_of (master_of s)) s.sides (start_of s) h.rows h.fit.totals h.fit.ids h.names
@@ -132,3 +137,19 @@ allocated_so ws s t h shown =
         ap (λ gs. entered s.sides (move_all (map offer_move gs) (moved_so (run_of s) s.sides [])).sides) k.made
         ∙ ap (λ (x : Moved). entered s.sides x.sides) (k.moves (run_of s) [] refl)
         ∙ k.entered_are
+
+-- what enters the current offers is the list of the round
+pub entered_listed : (ws : List RoleWeight) (s : State) (t : Tally) → Holds s → ShowRound ws s.sides s.frameworks [] t → AreOfRound ws (master_of s) (entered s.sides (offers_all (round_with t s).made s.sides))
+entered_listed ws s t h shown = subst (AreOfRound ws (master_of s)) (sym (all ∙ sym k.made ∙ listed.1)) listed.2
+  where
+    k : Made (start_of s) s.sides (round_after ws s)
+    k = made_of ws s h
+
+    all : entered s.sides (offers_all (round_with t s).made s.sides) ≡ k.gs
+    all =
+        ap (λ os. entered s.sides (offers_all os s.sides)) ((agreed ws s t h shown).made ∙ ap (map offer_of) k.made)
+        ∙ ap (entered s.sides) k.code
+        ∙ k.entered_are
+
+    listed : Listed ws (master_of s) (start_of s) s.sides (round_after ws s)
+    listed = round_listed ws (master_of s) s.run (record { ordered = h.ordered; rows = h.rows; fits = h.fit.totals; few = h.fit.few }) s.sides h.rows (start_of s) (begins t s) (λ name. omega arith) (begins_alike ws s t shown)

@@ -1,5 +1,5 @@
 -- A round visits the agents, in order.
-use Rattle.std.specs.Prelude.{◌≡◌, ℕ, suc, ◌||◌, nat_lt, if◌then◌else◌, List, [], ◌∷◌, ◌++◌, fold, Option, Some, None}
+use Rattle.std.specs.Prelude.{◌≡◌, ⊤, ℕ, suc, ◌||◌, nat_lt, if◌then◌else◌, List, [], ◌∷◌, ◌++◌, fold, take, Option, Some, None}
 use Rattle.names_core.specs.Ids.{Numbered}
 use Rattle.quantity.specs.declared.rows.Row.{Row}
 use Rattle.mails.specs.declared.framework.Framework.{Framework}
@@ -7,7 +7,8 @@ use Rattle.scheduler_events.specs.declared.offer.Offer as json_offer
 use Rattle.role_weights.specs.Weights.{RoleWeight}
 use Rattle.cluster_model.specs.Ids.{is_empty, last_number}
 use Rattle.cluster_model.specs.Sides.{Side}
-use Rattle.drf_pick.specs.Shares.{Tally, given}
+use Rattle.drf_pick.specs.Shares.{CanHold, Tally, held_more}
+use Rattle.roster.specs.Places.{value_at}
 use Rattle.agent_sides.specs.Free.{open_part}
 use Rattle.drf_pick.specs.declared.counted.Allocation.{Allocation}
 use Rattle.round_shares.specs.Allocations.{ShowRound}
@@ -32,7 +33,7 @@ goes_to run agent free p (Some framework) =
     record {
       made = p.made ++ next_offer run agent free p.next framework ∷ [];
       next = suc p.next;
-      shares = given framework free p.shares;
+      shares = held_more framework free p.shares;
     }
 
 -- a free part that isn't empty goes whole to the eligible framework
@@ -55,6 +56,19 @@ begins shares s = record { made = []; next = s.next_offer; shares = shares }
 -- a round that begins with these shares
 abbrev pub round_with : Tally → State → Progress
 round_with shares s = fold (visits s.run s.moment s.frameworks) (begins shares s) s.sides
+
+-- what is free on an agent, if it has an open session, can be held beside what is held
+
+abbrev pub HasRoom : Option (List ℕ × List Row) → Tally → Type 0
+HasRoom None t = ⊤
+HasRoom (Some part) t = CanHold part.1 t
+
+-- so it is at each agent that a round comes to
+abbrev pub KeepsRoom : State → Progress → Type 0
+KeepsRoom s p =
+    (place : ℕ)
+    → HasRoom (value_at place open_part None s.sides)
+    (fold (visits s.run s.moment s.frameworks) p (take place s.sides)).shares
 
 -- the offers of a round, and the number of the next offer after them, by shares that show what is
 -- allocated

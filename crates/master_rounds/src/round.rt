@@ -4,7 +4,7 @@ ghost use Rattle.std.specs.Prelude.{◌≡◌, ◌<◌, ◌++◌, true, List, ma
 ghost use Rattle.std.specs.List.{AllByRecursion};
 ghost use Rattle.quantity.specs.Rows.{AreRows};
 ghost use Rattle.quantity.specs.Laws.{SameAmounts};
-ghost use Rattle.cluster_model.specs.Rounds.{allocated};
+ghost use Rattle.cluster_model.specs.Rounds.{allocated, entered};
 ghost use Rattle.master_state.specs.Works.{done, master_of, run_of, work_of};
 ghost use Rattle.side_fits.specs.Fits.{SidesFit};
 ghost use Rattle.agent_sides.specs.Configs.{are_ordered};
@@ -13,6 +13,7 @@ ghost use Rattle.frameworks.specs.LastRound.{clients_of};
 ghost use Rattle.drf_pick.specs.declared.counted.Allocation.{Allocation};
 ghost use Rattle.drf_pick.specs.declared.holder.Client.{Client};
 ghost use Rattle.drf_pick.specs.Shown.{ClientsOnce, TallyShows, all_owned, counted_of};
+ghost use Rattle.master_rounds.specs.Rounds.{AreOfRound};
 ghost use Rattle.master_rounds.specs.Visits.{IsRound, allocation_by};
 
 use crate::news::{offer_all, send_offers};
@@ -87,12 +88,15 @@ fn next_offers(
 
 /// A round of offers: the agents with an open session are visited in order of their names, and what
 /// is free on each goes whole to the eligible framework that stands least by the weights of roles.
-/// Each framework with new offers receives them in one event. The shares, and where the search for
+/// What enters the current offers is that list. Each framework with new offers receives them in one
+/// event. The shares, and where the search for
 /// each agent ended, are kept for the next round; no answer depends on them.
 pub fn allocate(state: &mut State, alloc: Global, weights: &Weights) -> Result<(), AllocError>
     requires { SidesFit (run_of state.old) state.old.sides }
-    ensures { OnOk result (work_of state.new
+    ensures work { OnOk result (work_of state.new
         ≡ done (allocated weights.now (master_of state.old)) (work_of state.old)) }
+    ensures round { OnOk result (AreOfRound weights.now (master_of state.old)
+        (entered state.old.sides state.new.sides)) }
 {
     state.sides.own_rows();
     state.sides.stand_in_order();

@@ -2,12 +2,12 @@
 
 ghost use Rattle.std.specs.Prelude.{◌≡◌, ◌≤◌, ◌<◌, None, Some, fold, OnOk, IfOk};
 ghost use Rattle.cluster_model.specs.Ids.{is_empty, last_number};
-ghost use Rattle.drf_pick.specs.Shares.{given};
+ghost use Rattle.drf_pick.specs.Shares.{CanHold, held_more};
 ghost use Rattle.roster.specs.Places.{value_at};
 ghost use Rattle.agent_sides.specs.Free.{open_part};
 ghost use Rattle.frameworks.specs.Starts.{AreStarts};
 ghost use Rattle.round_shares.specs.Candidates.{AreCandidates};
-ghost use Rattle.master_rounds.specs.Visits.{goes_to, offers_free, round_with, visits, visits_part};
+ghost use Rattle.master_rounds.specs.Visits.{HasRoom, KeepsRoom, begins, goes_to, offers_free, round_with, visits, visits_part};
 
 use drf_pick::Shares;
 use frameworks::Starts;
@@ -40,9 +40,10 @@ fn give(
     framework: FrameworkId,
     free: &Resources,
 ) -> Result<(), AllocError>
-    ensures { OnOk result (shares.new ≡ given framework free.now shares.old) }
+    requires { CanHold free.now shares.old }
+    ensures { OnOk result (shares.new ≡ held_more framework free.now shares.old) }
 {
-    match shares.give(alloc, framework, free) {
+    match shares.allocate(alloc, framework, free) {
         Ok(()) => Ok(()),
         Err(_) => Err(AllocError),
     }
@@ -58,6 +59,7 @@ fn go_to(
 ) -> Result<(), AllocError>
     requires numbered { 0 < progress.old.next }
     requires left { progress.old.next ≤ last_number }
+    requires room { CanHold free progress.old.shares }
     ensures numbered { 0 < progress.new.next }
     ensures ok { OnOk result (progress.new ≡ goes_to run agent.now free progress.old
         (Some framework)) }
@@ -92,6 +94,7 @@ fn offer_free(
     free: Resources,
 ) -> Result<(), AllocError>
     requires numbered { 0 < progress.old.next }
+    requires room { CanHold free progress.old.shares }
     requires candidates { AreCandidates progress.old.shares state.now.frameworks candidates.now }
     requires starts { AreStarts state.now.frameworks starts.old }
     ensures numbered { 0 < progress.new.next }
@@ -123,6 +126,7 @@ fn visit(
     place: usize,
 ) -> Result<(), AllocError>
     requires numbered { 0 < progress.old.next }
+    requires room { HasRoom (value_at place open_part None state.now.sides) progress.old.shares }
     requires candidates { AreCandidates progress.old.shares state.now.frameworks candidates.now }
     requires starts { AreStarts state.now.frameworks starts.old }
     ensures numbered { 0 < progress.new.next }
@@ -148,6 +152,7 @@ fn visit_all(
     starts: &mut Starts,
 ) -> Result<(), AllocError>
     requires numbered { 0 < progress.old.next }
+    requires room { KeepsRoom state.now progress.old }
     requires candidates { AreCandidates progress.old.shares state.now.frameworks candidates.now }
     requires starts { AreStarts state.now.frameworks starts.old }
     ensures starts { OnOk result (AreStarts state.now.frameworks starts.new) }
@@ -169,6 +174,7 @@ pub fn round_of(
     starts: &mut Starts,
 ) -> Result<Progress, AllocError>
     requires next { 0 < state.now.next_offer }
+    requires room { KeepsRoom state.now (begins shares state.now) }
     requires starts { AreStarts state.now.frameworks starts.old }
     ensures progress { IfOk result (λ progress. progress ≡ round_with shares state.now) }
     ensures starts { OnOk result (AreStarts state.now.frameworks starts.new) }

@@ -6,7 +6,7 @@ use Rattle.std.proofs.lemmas.List.{length-take-le, take_more}
 use Rattle.names_core.specs.Ids.{Numbered}
 use Rattle.quantity.specs.declared.rows.Row.{Row}
 use Rattle.mails.specs.declared.framework.Framework.{Framework}
-use Rattle.drf_pick.specs.Shares.{Tally, given}
+use Rattle.drf_pick.specs.Shares.{Tally, held_more}
 use Rattle.drf_pick.specs.ClientShares.{IsPlaceOf}
 use Rattle.drf_pick.specs.declared.client_share.ClientPlace.{ClientPlace}
 use Rattle.drf_pick.proofs.PlacesKept.{place_kept}
@@ -43,11 +43,11 @@ candidates_more t fs cs i f c are all within here is =
 
 -- when more is given
 
-kept_place : (framework : Numbered) (rows : List Row) (t : Tally) (f : Framework) (place : Option ClientPlace) → IfSome place (IsPlaceOf t f.id f.role) → IfSome place (IsPlaceOf (given framework rows t) f.id f.role)
+kept_place : (framework : Numbered) (rows : List Row) (t : Tally) (f : Framework) (place : Option ClientPlace) → IfSome place (IsPlaceOf t f.id f.role) → IfSome place (IsPlaceOf (held_more framework rows t) f.id f.role)
 kept_place framework rows t f None is = tt
 kept_place framework rows t f (Some place) is = place_kept framework rows t f.id f.role place is
 
-pub candidates_kept : (framework : Numbered) (rows : List Row) (t : Tally) (fs : List Framework) (cs : List Candidate) → AreCandidates t fs cs → AreCandidates (given framework rows t) fs cs
+pub candidates_kept : (framework : Numbered) (rows : List Row) (t : Tally) (fs : List Framework) (cs : List Candidate) → AreCandidates t fs cs → AreCandidates (held_more framework rows t) fs cs
 candidates_kept framework rows t fs [] are = tt
 candidates_kept framework rows t [] (c ∷ cs) are = absurd are
 candidates_kept framework rows t (f ∷ fs) (c ∷ cs) are = (

@@ -6,3 +6,6 @@ pub mod Owning
 pub mod Picking
 pub mod Parts
 pub mod FirstFound
+pub mod Weighing
+pub mod EligiblePicks
+pub mod Serving

@@ -11,8 +11,10 @@ use Rattle.drf_pick.specs.declared.counted.Found.{Found}
 use Rattle.drf_pick.specs.declared.holder.Client.{Client}
 use Rattle.drf_pick.specs.Shares.{Tally, departed, entered}
 use Rattle.drf_pick.specs.Allocations.{AddUp}
-use Rattle.drf_pick.specs.Shown.{AreCounted, StayCounted, TallyShows, all_owned, counted_of, rows_owned}
-use Rattle.drf_pick.proofs.Shown.{summed_amounts}
+use Rattle.drf_pick.specs.Shown.{StayCounted, TallyShows, all_owned, counted_of, rows_owned}
+use Rattle.quantity.proofs.Sums.{sums_add_up}
+use Rattle.share_sums.specs.Sums.{CanAdd}
+use Rattle.quantity.specs.Laws.{SameAmounts}
 use Rattle.agent_accounts.specs.Accounts.{Account}
 use Rattle.agent_sides.specs.Joined.{AreOfOne, join, joined}
 use Rattle.round_shares.proofs.Finding.{set_same}
@@ -54,15 +56,23 @@ has_left k m i total within is sum shares found owned cs a = record {
 
 -- an agent enters
 pub has_entered : (k m : CountedShares) (i : ℕ) (total : List Row) → i < length k.owned.items → None ≡ get_or k.owned.items i None → m.shares ≡ entered total k.shares → m.found ≡ k.found → m.owned.items ≡ set k.owned.items i (Some total)
-    → (cs : List Client) → AddUp (all_owned m.owned.items) → AreCounted cs k → AreCounted cs m
-has_entered k m i total within is shares found owned cs below a = record {
+    → StayCounted k m
+has_entered k m i total within is shares found owned cs a = record {
   once = a.once;
   shown = same_shown k m cs (entered total k.shares) shares refl refl found a.shown;
-  owned = λ name. omega (arith, ap (λ (t : Tally). amount name t.totals) shares, summed_amounts k.shares.totals total (all_owned m.owned.items) (λ n. omega (arith, more n)) below name, more name);
+  owned = λ name. omega (
+    arith,
+    ap (λ (t : Tally). amount name t.totals) shares,
+    sums_add_up k.shares.totals total name,
+    a.owned name,
+    ap (λ (os : List Owned). amount name (all_owned os)) owned,
+    owned_at k.owned.items i None (Some total) within is name,
+  );
 }
-  where
-    more : (name : List ℕ) → amount name k.shares.totals + amount name total ≡ amount name (all_owned m.owned.items)
-    more name = omega (arith, a.owned name, ap (λ (os : List Owned). amount name (all_owned os)) owned, owned_at k.owned.items i None (Some total) within is name)
+
+-- where what is owned then can be summed
+pub can_enter : (totals : List Row) (os : List Owned) (i : ℕ) (total : List Row) → i < length os → None ≡ get_or os i None → SameAmounts totals (all_owned os) → AddUp (all_owned (set os i (Some total))) → CanAdd totals total
+can_enter totals os i total within is same up name = omega (arith, same name, up name, owned_at os i None (Some total) within is name)
 
 -- up to date
 

@@ -30,7 +30,7 @@ use Rattle.drf_pick.specs.Least.{comes_before, held_of, role_share}
 use Rattle.drf_pick.specs.Laws.{ArePositive, SameShare}
 use Rattle.drf_pick.specs.Orders.{Among}
 use Rattle.drf_pick.proofs.Standing.{amounts_decide}
-use Rattle.round_shares.specs.Allocations.{allocations_of, allocations_with, job_allocation, made_allocation, offer_allocation, side_allocations}
+use Rattle.round_shares.specs.Allocations.{ShowRound, allocations_of, allocations_with, job_allocation, made_allocation, offer_allocation, side_allocations}
 use Rattle.round_shares.specs.Laws.{PicksAlike}
 use Rattle.round_shares.specs.Picks.{better, better_eligible, framework_holder}
 use Rattle.round_shares.proofs.Registered.{clients_once}
@@ -73,7 +73,7 @@ made_to : (id : Numbered) (made : List MadeOffer) → given_to id made ≡ rows_
 made_to id [] = refl
 made_to id (g ∷ made) = ap (λ rows. cond (same g.offer.framework id) g.offer.resources [] ++ rows) (made_to id made)
 
-abbrev client : Master → Framework → Client
+abbrev pub client : Master → Framework → Client
 client m f = record { framework = f; allocation = allocation_of m f.id }
 
 share_is : (m : Master) (made : List MadeOffer) (f : Framework) → held_with made (client m f) ≡ rows_to f.id (allocations_with m.sides made)
@@ -96,7 +96,7 @@ first_alike t a b t' a' b' tie p p' et ea eb =
     ∙ ap (λ v. stands_at_most_at t' a' b' && (tie || not v)) (amounts_decide t b a t' b' a' p p' et eb ea)
 
 -- the shares and the books of a master that they show
-record Shown (ws : List RoleWeight) (m : Master) (made : List MadeOffer) (t : Tally) : Type 0 where
+pub record Shown (ws : List RoleWeight) (m : Master) (made : List MadeOffer) (t : Tally) : Type 0 where
   pub shows : TallyShows (allocations_with m.sides made) (frameworks.clients_of m.registers.frameworks) t
   pub weights : WeightsShow ws t.roles
   pub positive : ArePositive t.totals
@@ -108,13 +108,13 @@ known_role fs [] t f k i = absurd i
 known_role fs (g ∷ gs) t f k (inl e) = ap (λ (x : Framework). is_known t.roles x.role) e ∙ k.0
 known_role fs (g ∷ gs) t f k (inr i) = known_role fs gs t f k.1 i
 
-role_alike : (ws : List RoleWeight) (m : Master) (made : List MadeOffer) (t : Tally) (f : Framework) → Shown ws m made t → Among f m.registers.frameworks → SameShare (role_share t.roles f.role) (rounds.role_share ws (clients_of m) made f.role)
+pub role_alike : (ws : List RoleWeight) (m : Master) (made : List MadeOffer) (t : Tally) (f : Framework) → Shown ws m made t → Among f m.registers.frameworks → SameShare (role_share t.roles f.role) (rounds.role_share ws (clients_of m) made f.role)
 role_alike ws m made t f s i = (λ name. s.shows.roles f.role known name ∙ ap (amount name) (sym (role_is m made f.role m.registers.frameworks)), s.weights f.role known)
   where
     known : is_known t.roles f.role ≡ true
     known = known_role m.registers.frameworks m.registers.frameworks t f s.shows.known i
 
-share_alike : (m : Master) (made : List MadeOffer) (h : Holder) (f : Framework) → Shows (allocations_with m.sides made) h (client_of f) → SameShare (share h.held 1) (share_of made (client m f))
+pub share_alike : (m : Master) (made : List MadeOffer) (h : Holder) (f : Framework) → Shows (allocations_with m.sides made) h (client_of f) → SameShare (share h.held 1) (share_of made (client m f))
 share_alike m made h f s = (λ name. s.2 name ∙ ap (amount name) (sym (share_is m made f)), refl)
 
 abbrev of_tally : Tally → Holder → Holder → List ℕ → List ℕ → Numbered → Numbered → Bool
@@ -148,7 +148,7 @@ among_clients f [] i = absurd i
 among_clients f (g ∷ fs) (inl e) = inl (ap client_of e)
 among_clients f (g ∷ fs) (inr i) = inr (among_clients f fs i)
 
-shown_of : (ws : List RoleWeight) (m : Master) (made : List MadeOffer) (t : Tally) (f : Framework) → Shown ws m made t → are_ordered m.registers.frameworks ≡ true → Among f m.registers.frameworks → Shows (allocations_with m.sides made) (framework_holder t f) (client_of f)
+pub shown_of : (ws : List RoleWeight) (m : Master) (made : List MadeOffer) (t : Tally) (f : Framework) → Shown ws m made t → are_ordered m.registers.frameworks ≡ true → Among f m.registers.frameworks → Shows (allocations_with m.sides made) (framework_holder t f) (client_of f)
 shown_of ws m made t f s ordered i = own_shown (allocations_with m.sides made) t f (find (is_holder f.id) t.holders)
     (subst (Alike (allocations_with m.sides made) (find (is_holder f.id) t.holders)) (find_own (frameworks.clients_of m.registers.frameworks) (client_of f) (clients_once m.registers.frameworks ordered) (among_clients f m.registers.frameworks i))
     (found_alike (allocations_with m.sides made) f.id t.holders (frameworks.clients_of m.registers.frameworks) s.shows.holders))
@@ -213,16 +213,16 @@ owned_positive (s ∷ ss) rows = by s.is_open (owned_positive ss rows.1)
     by true ih = both_positive s.total (owned_rows ss) rows.0.each ih
     by false ih = ih
 
+pub shown_round : (ws : List RoleWeight) (m : Master) (made : List MadeOffer) (t : Tally) → AllByRecursion (λ s. AreRows s.total) m.sides → ShowRound ws m.sides m.registers.frameworks made t → Shown ws m made t
+shown_round ws m made t rows show = record {
+  shows = show.shown;
+  weights = show.weights;
+  positive = show.positive;
+  owned = owned_positive m.sides rows;
+  totals = λ name. show.totals name ∙ ap (amount name) (totals_alike m.sides);
+}
+
 pub picks_alike : PicksAlike
 picks_alike ws m made t agent free can show =
     same_id m (fold (better_eligible m.registers.now agent free t) None m.registers.frameworks) (pick ws m.registers.now (totals_of m) (clients_of m) made agent free)
-    (best_all ws m made t agent free shown can.ordered m.registers.frameworks (λ f i. i) None None tt)
-  where
-    shown : Shown ws m made t
-    shown = record {
-      shows = show.shown;
-      weights = show.weights;
-      positive = show.positive;
-      owned = owned_positive m.sides can.rows;
-      totals = λ name. show.totals name ∙ ap (amount name) (totals_alike m.sides);
-    }
+    (best_all ws m made t agent free (shown_round ws m made t can.rows show) can.ordered m.registers.frameworks (λ f i. i) None None tt)

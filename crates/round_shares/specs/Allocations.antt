@@ -9,7 +9,7 @@ use Rattle.role_weights.specs.Weights.{RoleWeight}
 use Rattle.cluster_model.specs.Sides.{Side, unended}
 use Rattle.cluster_model.specs.Events.{MadeOffer}
 use Rattle.drf_pick.specs.Laws.{ArePositive}
-use Rattle.drf_pick.specs.Shares.{Tally}
+use Rattle.drf_pick.specs.Shares.{AreWeighed, Tally}
 use Rattle.drf_pick.specs.declared.counted.Allocation.{Allocation}
 use Rattle.drf_pick.specs.declared.counted.CountedShares.{CountedShares}
 use Rattle.drf_pick.specs.declared.counted.Found.{Found}
@@ -76,6 +76,7 @@ pub record ShowRound (ws : List RoleWeight) (ss : List Side) (fs : List Framewor
   pub positive : ArePositive t.totals
   pub shown : TallyShows (allocations_with ss made) (clients_of fs) t
   pub weights : WeightsShow ws t.roles
+  pub weighed : AreWeighed t.roles
 
 -- shares with which a round begins, in which all that is allocated on the agents is counted
 pub record BeginRound (ws : List RoleWeight) (ss : List Side) (fs : List Framework)
@@ -86,3 +87,4 @@ pub record BeginRound (ws : List RoleWeight) (ss : List Side) (fs : List Framewo
   pub totals : SameAmounts k.shares.totals (totals_in ss)
   pub positive : ArePositive k.shares.totals
   pub weights : WeightsShow ws k.shares.roles
+  pub weighed : AreWeighed k.shares.roles

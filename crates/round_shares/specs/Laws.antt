@@ -12,6 +12,7 @@ use Rattle.drf_pick.specs.Allocations.{AddUp, all_rows}
 use Rattle.frameworks.specs.Frameworks.{are_ordered}
 use Rattle.round_shares.specs.Allocations.{ShowRound, allocations_with}
 use Rattle.round_shares.specs.Picks.{picked}
+use Rattle.round_shares.specs.Served.{GoesTo}
 
 -- what holds of a master where its shares can be summed
 pub record CanBeSummed (m : Master) (made : List MadeOffer) : Type 0 where
@@ -28,3 +29,14 @@ PicksAlike =
     → picked m.registers.now agent free t m.registers.frameworks
     ≡ option_map (λ c. c.framework.id)
     (pick weights m.registers.now (totals_of m) (clients_of m) made agent free)
+
+-- where shares of a round show what is allocated, what is free on an agent goes by the amounts in
+-- the master's books to the framework that the model picks
+abbrev pub GoesToPicked : Type 0
+GoesToPicked =
+    (weights : List RoleWeight) (m : Master) (made : List MadeOffer) (t : Tally)
+    (agent : List ℕ) (free : List Row) → CanBeSummed m made
+    → ShowRound weights m.sides m.registers.frameworks made t
+    → GoesTo weights m made agent free
+    (option_map (λ c. c.framework.id)
+    (pick weights m.registers.now (totals_of m) (clients_of m) made agent free))

@@ -3,3 +3,5 @@ pub mod Owned
 pub mod Allocations
 pub mod Picks
 pub mod Laws
+pub mod Weighing
+pub mod Served

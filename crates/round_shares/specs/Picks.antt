@@ -1,9 +1,11 @@
 -- The eligible framework that stands least.
-use Rattle.std.specs.Prelude.{ℕ, if◌then◌else◌, List, fold, Option, Some, None, option_map}
+use Rattle.std.specs.Prelude.{ℕ, if◌then◌else◌, List, filter, fold, Option, Some, None, option_map}
 use Rattle.names_core.specs.Ids.{Numbered}
 use Rattle.quantity.specs.declared.rows.Row.{Row}
 use Rattle.mails.specs.declared.framework.Framework.{Framework}
 use Rattle.cluster_model.specs.Rounds.{may_be_offered}
+use Rattle.frameworks.specs.LastRound.{clients_of}
+use Rattle.drf_pick.specs.declared.holder.Client.{Client}
 use Rattle.drf_pick.specs.declared.holder.Holder.{Holder}
 use Rattle.drf_pick.specs.Shares.{Tally}
 use Rattle.drf_pick.specs.Least.{comes_before, holder_for}
@@ -26,3 +28,7 @@ better_eligible now agent free t best f =
 abbrev pub picked : ℕ → List ℕ → List Row → Tally → List Framework → Option Numbered
 picked now agent free t fs =
     option_map (λ f. f.id) (fold (better_eligible now agent free t) None fs)
+
+-- the clients to which what is free on an agent may be offered
+abbrev pub eligible_clients : ℕ → List ℕ → List Row → List Framework → List Client
+eligible_clients now agent free fs = clients_of (filter (may_be_offered now agent free) fs)

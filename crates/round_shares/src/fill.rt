@@ -4,21 +4,23 @@ ghost use Rattle.std.specs.Prelude.{◌≡◌, ◌≤◌, ◌<◌, ◌++◌, ◌
 ghost use Rattle.mails.specs.declared.framework.Framework as model;
 ghost use Rattle.frameworks.specs.Frameworks.{are_ordered};
 ghost use Rattle.frameworks.specs.LastRound.{client_of, clients_of};
-ghost use Rattle.drf_pick.specs.Shares.{all_weighed};
+ghost use Rattle.drf_pick.specs.Shares.{AreWeighed, all_weighed};
 ghost use Rattle.drf_pick.specs.declared.holder.Client.{Client};
 ghost use Rattle.drf_pick.specs.Allocations.{AddUp, all_rows};
-ghost use Rattle.drf_pick.specs.Shown.{AllCounted, AreCounted, NoneOf, SameAllocations, SameFound, StayCounted, all_found};
+ghost use Rattle.drf_pick.specs.Shown.{AllCounted, AreCounted, IsCounted, NoneOf, SameAllocations, SameFound, StayCounted, all_found};
 ghost use Rattle.share_sums.specs.Sums.{IsSum};
 ghost use Rattle.round_shares.specs.Allocations.{AreFoundOn, BeginRound, IsFoundAt, allocations_in, allocations_of};
 ghost use Rattle.round_shares.specs.Owned.{totals_in};
+ghost use Rattle.round_shares.specs.Weighing.{IsWeighedAt};
 
 use crate::found::{are_found, found_on};
 use crate::owned::own_all;
 use agent_accounts::Account;
 use agent_sides::Sides;
-use drf_pick::CountedShares;
+use drf_pick::{CountedShares, Shares};
 use frameworks::Frameworks;
 use mails::Framework;
+use plain_data::Plain;
 use role_weights::Weights;
 use std::alloc::{AllocError, Global};
 
@@ -129,6 +131,7 @@ fn recount(
     accounts: &[Account],
 ) -> Result<(), AllocError>
     requires many { length counted.old.found.items ≡ length accounts.now }
+    requires counted { IsCounted counted.old }
     requires sums { AddUp (all_rows (allocations_in accounts.now)) }
     ensures counted { OnOk result (StayCounted counted.old counted.new) }
     ensures all { OnOk result (AllCounted counted.new.found.items) }
@@ -140,17 +143,51 @@ fn recount(
     counted.count(alloc)
 }
 
+/// The role at a place has its weight among these.
+fn weigh_at(
+    shares: &mut Shares,
+    alloc: Global,
+    weights: &Weights,
+    place: usize,
+) -> Result<(), AllocError>
+    requires { place < length shares.old.roles }
+    ensures { OnOk result (IsWeighedAt place weights.now shares.old shares.new) }
+{
+    let sum = &shares.roles()[place];
+    let weight = weights.of(&sum.role);
+    if sum.weight == weight {
+        return Ok(());
+    }
+    let role = sum.role.copy()?;
+    match shares.weigh(alloc, &role, weight) {
+        Ok(()) => Ok(()),
+        Err(_) => Err(AllocError),
+    }
+}
+
+/// Each role that is known has its weight among these.
+fn weigh_all(shares: &mut Shares, alloc: Global, weights: &Weights) -> Result<(), AllocError>
+    ensures { OnOk result (shares.new ≡ all_weighed weights.now shares.old) }
+{
+    for place in 0..shares.roles().len() {
+        weigh_at(shares, alloc, weights, place)?;
+    }
+    Ok(())
+}
+
 /// Roles are ranked, and have these weights.
 fn weigh(counted: &mut CountedShares, alloc: Global, weights: &Weights) -> Result<(), AllocError>
     ensures shares { OnOk result
         (counted.new.shares ≡ all_weighed weights.now counted.old.shares) }
     ensures sum { OnOk result (IsSum counted.new.shares.totals) }
+    ensures weighed { OnOk result (AreWeighed counted.new.shares.roles) }
     ensures found { counted.new.found ≡ counted.old.found }
     ensures owned { counted.new.owned ≡ counted.old.owned }
 {
     let _sum = counted.shares.totals().rows();
     counted.shares.rank_roles(alloc)?;
-    counted.shares.reweigh(weights);
+    weigh_all(&mut counted.shares, alloc, weights)?;
+    let _roles = counted.shares.roles();
     Ok(())
 }
 

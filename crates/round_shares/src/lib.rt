@@ -11,5 +11,5 @@ mod pick;
 
 pub use candidates::{Candidate, candidates_of};
 pub use fill::shares_of;
-pub use laws::picks_alike;
+pub use laws::{goes_to_picked, picks_alike};
 pub use pick::picked;

@@ -1,10 +1,10 @@
 //! What agents own enters the shares when their sessions open, and leaves them when these close.
 
-ghost use Rattle.std.specs.Prelude.{◌≡◌, ◌<◌, List, length, set, OnOk};
+ghost use Rattle.std.specs.Prelude.{◌≡◌, ◌<◌, length, set, OnOk};
+ghost use Rattle.quantity.specs.Laws.{SameAmounts};
 ghost use Rattle.agent_sides.specs.Joined.{AreOfOne, join, joined};
-ghost use Rattle.drf_pick.specs.declared.holder.Client.{Client};
 ghost use Rattle.drf_pick.specs.Allocations.{AddUp};
-ghost use Rattle.drf_pick.specs.Shown.{AreCounted, StayCounted, all_owned};
+ghost use Rattle.drf_pick.specs.Shown.{IsCounted, StayCounted, all_owned};
 ghost use Rattle.round_shares.specs.Owned.{AreUpToDate, IsUpToDateAt, LeavesAt, each_owned, owned_of, totals_in};
 
 use agent_accounts::Account;
@@ -72,10 +72,12 @@ fn enter_at(
 ) -> Result<(), AllocError>
     requires within { place < length counted.old.owned.items }
     requires left { IsUpToDateAt place (join entry.now account.now) counted.old.owned.items }
+    requires owned { SameAmounts counted.old.shares.totals (all_owned counted.old.owned.items) }
+    requires sums { AddUp (all_owned (set counted.old.owned.items place
+        (owned_of (join entry.now account.now)))) }
     ensures entered { OnOk result (counted.new.owned.items
         ≡ set counted.old.owned.items place (owned_of (join entry.now account.now))) }
-    ensures counted { OnOk result ((cs : List Client) → AddUp (all_owned counted.new.owned.items)
-        → AreCounted cs counted.old → AreCounted cs counted.new) }
+    ensures counted { OnOk result (StayCounted counted.old counted.new) }
     ensures found { counted.new.found ≡ counted.old.found }
 {
     if !entry.is_open() || counted.owned[place].is_some() {
@@ -98,6 +100,7 @@ fn enter_all(
     accounts: &[Account],
 ) -> Result<(), AllocError>
     requires one { AreOfOne entries.now accounts.now }
+    requires counted { IsCounted counted.old }
     requires left { AreUpToDate (joined entries.now accounts.now) counted.old.owned.items }
     requires sums { AddUp (totals_in (joined entries.now accounts.now)) }
     ensures entered { OnOk result (counted.new.owned.items
@@ -120,6 +123,7 @@ pub(crate) fn own_all(
     accounts: &[Account],
 ) -> Result<(), AllocError>
     requires one { AreOfOne entries.now accounts.now }
+    requires counted { IsCounted counted.old }
     requires many { length counted.old.owned.items ≡ length accounts.now }
     requires sums { AddUp (totals_in (joined entries.now accounts.now)) }
     ensures entered { OnOk result (counted.new.owned.items

@@ -6,7 +6,10 @@ ghost use Rattle.frameworks.specs.Frameworks.{are_ordered, AreOfOneRole};
 ghost use Rattle.frameworks.specs.Starts.{NoneEligible};
 ghost use Rattle.drf_pick.specs.ClientShares.{IsClientShare};
 ghost use Rattle.round_shares.specs.Candidates.{AreCandidates, IsCandidate};
-ghost use Rattle.round_shares.specs.Picks.{better_eligible, picked};
+ghost use Rattle.round_shares.specs.Picks.{better_eligible, eligible_clients, picked};
+ghost use Rattle.drf_pick.specs.Laws.{ArePositive};
+ghost use Rattle.drf_pick.specs.Least.{IsPick};
+ghost use Rattle.drf_pick.specs.Shares.{AreWeighed};
 
 use crate::candidates::{Candidate, may_be_offered, share_of};
 use drf_pick::{ClientShare, Shares, comes_before};
@@ -89,10 +92,16 @@ fn best_of<'a>(
     best
 }
 
-/// The framework that stands least of those to which what is free on an agent may
-/// be offered at this moment. To none of the first frameworks, `first` of them, it may.
-/// It takes no memory.
-pub fn picked(
+/// Of each name that agents own they own some amount, and each role has some weight.
+fn are_sound(shares: &Shares)
+    ensures positive { ArePositive shares.now.totals }
+    ensures weighed { AreWeighed shares.now.roles }
+{
+    let _totals = shares.totals().rows();
+    let _roles = shares.roles();
+}
+
+fn picked_of(
     shares: &Shares,
     frameworks: &Frameworks,
     candidates: &[Candidate],
@@ -118,4 +127,26 @@ pub fn picked(
         free,
     )?;
     Some(framework.id)
+}
+
+/// The framework that stands least of those to which what is free on an agent may
+/// be offered at this moment: the one that `drf_pick::pick` picks of these clients, without a list
+/// of them. To none of the first frameworks, `first` of them, it may. It takes no memory.
+pub fn picked(
+    shares: &Shares,
+    frameworks: &Frameworks,
+    candidates: &[Candidate],
+    first: usize,
+    now: u32,
+    agent: &AgentName,
+    free: &Resources,
+) -> Option<FrameworkId>
+    requires candidates { AreCandidates shares.now frameworks.now candidates.now }
+    requires first { NoneEligible now agent.now free.now (take first frameworks.now) }
+    ensures picked { result ≡ picked now agent.now free.now shares.now frameworks.now }
+    ensures pick { IsPick shares.now (eligible_clients now agent.now free.now frameworks.now)
+        result }
+{
+    are_sound(shares);
+    picked_of(shares, frameworks, candidates, first, now, agent, free)
 }

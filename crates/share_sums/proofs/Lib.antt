@@ -2,3 +2,4 @@ pub mod Lists
 pub mod Summing
 pub mod Dominating
 pub mod Reaching
+pub mod Fitting

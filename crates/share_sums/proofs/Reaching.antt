@@ -11,7 +11,7 @@ use Rattle.quantity.specs.declared.rows.Row.{Row}
 use Rattle.quantity.specs.Rows.{amount, part_of, name_order, row}
 use Rattle.quantity.proofs.Amounts.{amount-cons, amount-above, all_above}
 use Rattle.quantity.proofs.Orders.{below_back, below_other, level_equal, level_itself, level_same}
-use Rattle.share_sums.specs.Sums.{capped, has_names_of, has_some, is_reached, with_more, IsSum}
+use Rattle.share_sums.specs.Sums.{has_names_of, has_some, is_reached, raised, IsSum}
 
 -- a name of which there is some is reached
 reached : (name : List ℕ) (rows : List Row) → IsStrictlySortedBy name_order rows → 0 < amount name rows → is_reached name rows ≡ true
@@ -35,23 +35,23 @@ each_reached rows (r ∷ more) is all =
     (reached r.name rows is.ordered (ltb-true 0 (amount r.name rows) both.0), each_reached rows more is both.1)
 
 -- it is reached still when another that is reached gets more
-still_reached : (other name : List ℕ) (n : ℕ) (rows : List Row) → is_reached name rows ≡ true → is_reached other rows ≡ true → is_reached other (with_more name n rows) ≡ true
+still_reached : (other name : List ℕ) (n : ℕ) (rows : List Row) → is_reached name rows ≡ true → is_reached other rows ≡ true → is_reached other (raised name n rows) ≡ true
 still_reached other name n [] at its = absurd (false≢true at)
 still_reached other name n (r ∷ rows) at its = by_order (slice_cmp nat_cmp name r.name) refl at (λ a i. still_reached other name n rows a i)
   where
-    behind_it : (o : Ordering) → match_ordering o false true (is_reached other rows) ≡ true → is_reached name rows ≡ true → (is_reached name rows ≡ true → is_reached other rows ≡ true → is_reached other (with_more name n rows) ≡ true)
-        → match_ordering o false true (is_reached other (with_more name n rows)) ≡ true
+    behind_it : (o : Ordering) → match_ordering o false true (is_reached other rows) ≡ true → is_reached name rows ≡ true → (is_reached name rows ≡ true → is_reached other rows ≡ true → is_reached other (raised name n rows) ≡ true)
+        → match_ordering o false true (is_reached other (raised name n rows)) ≡ true
     behind_it Less i a ih = i
     behind_it Equal i a ih = refl
     behind_it Greater i a ih = ih a i
 
-    by_order : (o : Ordering) → slice_cmp nat_cmp name r.name ≡ o → match_ordering o false true (is_reached name rows) ≡ true → (is_reached name rows ≡ true → is_reached other rows ≡ true → is_reached other (with_more name n rows) ≡ true)
-        → is_reached other (match_ordering o (row name n ∷ r ∷ rows) (row name (capped (r.amount + n)) ∷ rows) (r ∷ with_more name n rows)) ≡ true
+    by_order : (o : Ordering) → slice_cmp nat_cmp name r.name ≡ o → match_ordering o false true (is_reached name rows) ≡ true → (is_reached name rows ≡ true → is_reached other rows ≡ true → is_reached other (raised name n rows) ≡ true)
+        → is_reached other (match_ordering o (row name n ∷ r ∷ rows) (row name ((r.amount + n)) ∷ rows) (r ∷ raised name n rows)) ≡ true
     by_order Less e a ih = absurd (false≢true a)
     by_order Equal e a ih = subst (λ x. match_ordering (slice_cmp nat_cmp other x) false true (is_reached other rows) ≡ true) (sym (level_same name r.name e)) its
     by_order Greater e a ih = behind_it (slice_cmp nat_cmp other r.name) its a ih
 
-pub all_still_reached : (name : List ℕ) (n : ℕ) (rows more : List Row) → is_reached name rows ≡ true → AllByRecursion (λ r. is_reached r.name rows ≡ true) more → AllByRecursion (λ r. is_reached r.name (with_more name n rows) ≡ true) more
+pub all_still_reached : (name : List ℕ) (n : ℕ) (rows more : List Row) → is_reached name rows ≡ true → AllByRecursion (λ r. is_reached r.name rows ≡ true) more → AllByRecursion (λ r. is_reached r.name (raised name n rows) ≡ true) more
 all_still_reached name n rows [] at all = tt
 all_still_reached name n rows (r ∷ more) at all = (still_reached r.name name n rows at all.0, all_still_reached name n rows more at all.1)
 
@@ -69,7 +69,7 @@ level a b e = subst (λ x. slice_cmp nat_cmp b x ≡ Equal) (sym ((bytes_decides
 
 -- what is missing of the walk once the row of another name is passed over
 pub walked : (name : List ℕ) (n : ℕ) (rows : List Row) (i : ℕ) (r : Row) → i < length rows → r ≡ get_or rows i r → is_reached name (drop i rows) ≡ true → pointwise nat_eq r.name name ≡ false
-    → (take (suc i) rows ++ with_more name n (drop (suc i) rows) ≡ take i rows ++ with_more name n (drop i rows)) × (is_reached name (drop (suc i) rows) ≡ true)
+    → (take (suc i) rows ++ raised name n (drop (suc i) rows) ≡ take i rows ++ raised name n (drop i rows)) × (is_reached name (drop (suc i) rows) ≡ true)
 walked name n [] i r within is at other = absurd (omega arith)
 walked name n (s ∷ rows) zero r within is at other =
     let later : slice_cmp nat_cmp name s.name ≡ Greater = passed name s rows at (ap (λ (x : Row). pointwise nat_eq x.name name) (sym is) ∙ other) in

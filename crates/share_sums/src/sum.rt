@@ -1,9 +1,9 @@
 //! Sums of amounts by name.
 
-ghost use Rattle.std.specs.Prelude.{◌≡◌, ◌+◌, ◌≤◌, [], true, false, Err, OnOk, IfOk};
+ghost use Rattle.std.specs.Prelude.{◌≡◌, ◌+◌, ◌≤◌, ◌↔◌, [], true, false, Err, OnOk, IfOk};
 ghost use Rattle.std.specs.List.{AllByRecursion};
-ghost use Rattle.quantity.specs.Rows.{amount, covers, rest_of};
-ghost use Rattle.share_sums.specs.Sums.{capped, first_amount, greatest_sum, has_names_of, has_some, is_reached, summed, with_more, IsSum};
+ghost use Rattle.quantity.specs.Rows.{AreRows, amount, covers, rest_of};
+ghost use Rattle.share_sums.specs.Sums.{AddUp, CanAdd, first_amount, fits_all, greatest_sum, has_names_of, has_some, is_reached, plus_rows, raised, IsSum};
 
 use crate::fault::SharesFault;
 use plain_data::{Plain, push_copies};
@@ -12,11 +12,11 @@ use std::alloc::{AllocError, Global};
 use std::cmp::Ordering;
 use std::marker::Model;
 
-/// No amount is kept above this: what 256 agents own of a name, of at most 2^40 each.
+/// What 256 agents own of a name at most.
 const GREATEST_SUM: u64 = 281_474_976_710_656;
 
-/// Amounts of any number of names, in byte order of these;
-/// an amount stays at 2^48 once it is reached.
+/// Amounts of any number of names, in byte order of these. No amount is above 2^48, which is what
+/// 256 agents own of a name, of at most 2^40 each.
 pub struct Sum {
     rows: Vec<Row>,
 }
@@ -40,19 +40,9 @@ impl Model for Sum {
     ghost invariant = { λ sum. IsSum sum.rows.items };
 }
 
-fn capped(amount: u64, more: u64) -> u64
-    ensures { result ≡ capped (amount + more) }
-{
-    let sum = u128::from(amount) + u128::from(more);
-    if sum < u128::from(GREATEST_SUM) {
-        sum as u64
-    } else {
-        GREATEST_SUM
-    }
-}
-
 fn raise(rows: &mut Vec<Row>, more: &Row) -> Result<(), AllocError>
-    ensures { OnOk result (rows.new.items ≡ with_more more.now.name more.now.amount
+    requires { amount more.now.name rows.old.items + more.now.amount ≤ greatest_sum }
+    ensures { OnOk result (rows.new.items ≡ raised more.now.name more.now.amount
         rows.old.items) }
 {
     for i in 0..rows.len() {
@@ -62,7 +52,7 @@ fn raise(rows: &mut Vec<Row>, more: &Row) -> Result<(), AllocError>
                 return Ok(());
             }
             Ordering::Equal => {
-                rows[i].amount = capped(rows[i].amount, more.amount);
+                rows[i].amount += more.amount;
                 return Ok(());
             }
             Ordering::Greater => {}
@@ -74,20 +64,22 @@ fn raise(rows: &mut Vec<Row>, more: &Row) -> Result<(), AllocError>
 
 /// The row of this name has more.
 fn raise_known(rows: &mut Vec<Row>, more: &Row)
-    requires { is_reached more.now.name rows.old.items ≡ true }
-    ensures { rows.new.items ≡ with_more more.now.name more.now.amount rows.old.items }
+    requires reached { is_reached more.now.name rows.old.items ≡ true }
+    requires room { amount more.now.name rows.old.items + more.now.amount ≤ greatest_sum }
+    ensures { rows.new.items ≡ raised more.now.name more.now.amount rows.old.items }
 {
     for i in 0..rows.len() {
         if rows[i].name == more.name {
-            rows[i].amount = capped(rows[i].amount, more.amount);
+            rows[i].amount += more.amount;
             return;
         }
     }
 }
 
 fn raise_all(rows: &mut Vec<Row>, more: &[Row])
-    requires { AllByRecursion (λ r. is_reached r.name rows.old.items ≡ true) more.now }
-    ensures { rows.new.items ≡ summed rows.old.items more.now }
+    requires reached { AllByRecursion (λ r. is_reached r.name rows.old.items ≡ true) more.now }
+    requires room { CanAdd rows.old.items more.now }
+    ensures { rows.new.items ≡ plus_rows rows.old.items more.now }
 {
     for row in more {
         raise_known(rows, row);
@@ -95,7 +87,8 @@ fn raise_all(rows: &mut Vec<Row>, more: &[Row])
 }
 
 fn with_rows(alloc: Global, rows: &[Row], more: &[Row]) -> Result<Vec<Row>, AllocError>
-    ensures { IfOk result (λ sum. sum.items ≡ summed rows.now more.now) }
+    requires { CanAdd rows.now more.now }
+    ensures { IfOk result (λ sum. sum.items ≡ plus_rows rows.now more.now) }
 {
     let mut sum = Vec::new(alloc);
     push_copies(&mut sum, rows)?;
@@ -129,6 +122,22 @@ fn covers(sum: &Sum, less: &Resources) -> bool
     true
 }
 
+/// Whether the amount of each of these names can be added.
+fn fits_all(sum: &Sum, more: &Resources) -> bool
+    ensures tests { result ≡ fits_all sum.now more.now }
+    ensures sum { IsSum sum.now }
+    ensures rows { AreRows more.now }
+{
+    let _sum = sum.rows();
+    for row in more.rows() {
+        let together = u128::from(sum.amount(row.name.as_str())) + u128::from(row.amount);
+        if together > u128::from(GREATEST_SUM) {
+            return false;
+        }
+    }
+    true
+}
+
 fn amount_of(rows: &[Row], name: &ResourceName) -> u64
     ensures { result ≡ first_amount name.now rows.now }
 {
@@ -146,6 +155,22 @@ fn without(alloc: Global, rows: &[Row], less: &Resources) -> Result<Vec<Row>, Al
     let mut rest = Vec::new(alloc);
     for row in rows {
         let taken = less.get(row.name.as_str());
+        if taken < row.amount {
+            rest.push(Row {
+                name: row.name.copy()?,
+                amount: row.amount - taken,
+            })?;
+        }
+    }
+    Ok(rest)
+}
+
+fn without_sum(alloc: Global, rows: &[Row], less: &Sum) -> Result<Vec<Row>, AllocError>
+    ensures { IfOk result (λ rest. rest.items ≡ rest_of rows.now less.now) }
+{
+    let mut rest = Vec::new(alloc);
+    for row in rows {
+        let taken = less.amount(row.name.as_str());
         if taken < row.amount {
             rest.push(Row {
                 name: row.name.copy()?,
@@ -190,10 +215,37 @@ impl Sum {
 
     /// The sum with more resources.
     pub fn plus(&self, alloc: Global, more: &Resources) -> Result<Sum, AllocError>
-        ensures { IfOk result (λ sum. sum ≡ summed self.now more.now) }
+        requires { CanAdd self.now more.now }
+        ensures { IfOk result (λ sum. sum ≡ plus_rows self.now more.now) }
     {
         let rows = with_rows(alloc, &self.rows, more.rows())?;
         Ok(Sum { rows })
+    }
+
+    /// The sum with another.
+    pub fn plus_sum(&self, alloc: Global, more: &Sum) -> Result<Sum, AllocError>
+        requires { CanAdd self.now more.now }
+        ensures { IfOk result (λ sum. sum ≡ plus_rows self.now more.now) }
+    {
+        let rows = with_rows(alloc, &self.rows, more.rows())?;
+        Ok(Sum { rows })
+    }
+
+    /// What is left of it where another is taken away: nothing of a name of which as much or more
+    /// is taken.
+    pub fn less_sum(&self, alloc: Global, less: &Sum) -> Result<Sum, AllocError>
+        ensures { IfOk result (λ rest. rest ≡ rest_of self.now less.now) }
+    {
+        let rows = without_sum(alloc, &self.rows, less)?;
+        Ok(Sum { rows })
+    }
+
+    /// Whether more resources can be added: of no name is there more than 2^48 then. It takes no
+    /// memory.
+    pub fn can_add(&self, more: &Resources) -> bool
+        ensures { (result ≡ true) ↔ CanAdd self.now more.now }
+    {
+        fits_all(self, more)
     }
 
     /// Whether there is some of each of these names. It takes no memory.
@@ -205,8 +257,9 @@ impl Sum {
 
     /// There is more of names of which there is some. It takes no memory.
     pub fn add(&mut self, more: &Resources)
-        requires { has_names_of self.old more.now ≡ true }
-        ensures { self.new ≡ summed self.old more.now }
+        requires names { has_names_of self.old more.now ≡ true }
+        requires room { CanAdd self.old more.now }
+        ensures { self.new ≡ plus_rows self.old more.now }
     {
         raise_all(&mut self.rows, more.rows());
     }

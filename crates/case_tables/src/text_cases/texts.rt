@@ -31,6 +31,7 @@ fn call(alloc: Global, text: &str) -> Result<String, AllocError> {
 fn counts(call: &Call) -> (usize, usize) {
     match call {
         Call::Accept { offers, tasks, .. } => (offers.len(), tasks.len()),
+        Call::Decline { offers, .. } => (offers.len(), 0),
         Call::Reconcile { tasks, .. } => (0, tasks.len()),
         _ => (0, 0),
     }

@@ -1,10 +1,14 @@
-use Rattle.std.proofs.Common.{◌≡◌, ◌≤◌, ◌++◌, true, ap, sym, ◌∙◌, subst, flat_map, length}
+use Rattle.std.proofs.Common.{◌≡◌, ◌≤◌, ◌++◌, true, ap, sym, ◌∙◌, subst, List, flat_map, length}
 use Rattle.agent_sides.proofs.Joining.{on_ok}
 use Rattle.frameworks.specs.Frameworks.{are_ordered}
 use Rattle.master_state.specs.declared.state.State.{State}
+use Rattle.cluster_model.specs.Sides.{Side}
+use Rattle.cluster_model.specs.Rounds.{entered}
+use Rattle.master_state.specs.Works.{master_of}
+use Rattle.master_rounds.specs.Rounds.{AreOfRound}
 use Rattle.master_rounds.specs.News.{news_of, offers_all}
 use Rattle.master_rounds.specs.Visits.{round_with}
-use Rattle.master_rounds.proofs.SendingAll.{Holds, allocated_so, few_made, with_all}
+use Rattle.master_rounds.proofs.SendingAll.{Holds, allocated_so, entered_listed, few_made, with_all}
 use Rattle.master_rounds.proofs.round.allocate.Goals as goal
 
 pub send_offers-requires-clause-few : goal.send_offers-requires-clause-few
@@ -15,8 +19,8 @@ send_offers-requires-clause-few c =
     let holds : Holds s = record { ordered = ordered; names = c.stand_in_order.ensures; rows = c.own_rows.ensures; fit = c.requires } in
     subst (λ n. n ≤ 256) (sym (ap length (c.as_slice-2.ensures ∙ r.made_is))) (few_made c.args.weights.now s r.shares holds r.shown)
 
-pub returns : goal.returns
-returns c =
+pub returns-clause-work : goal.returns-clause-work
+returns-clause-work c =
     let ws = c.args.weights.now in
     let s = c.args.state.now in
     let n = c.next_offers.new.state in
@@ -35,3 +39,15 @@ returns c =
     ∙ ap (λ k. with_all s k (offers_all (round_with r.shares s).made s.sides) (s.outs.events ++ flat_map (news_of (round_with r.shares s).made) s.frameworks)) r.next_is
     ∙ allocated_so ws s r.shares holds r.shown)
     c.send_offers.ensures
+
+pub returns-clause-round : goal.returns-clause-round
+returns-clause-round c =
+    let ws = c.args.weights.now in
+    let s = c.args.state.now in
+    let n = c.next_offers.new.state in
+    let made = c.in_ok-made.made in
+    let r = c.in_ok-made.ensures.round in
+    let ordered = subst (λ (t : State). are_ordered t.frameworks ≡ true) c.in_ok-made.ensures.state c.as_slice-frameworks.ensures.ordered in
+    let holds : Holds s = record { ordered = ordered; names = c.stand_in_order.ensures; rows = c.own_rows.ensures; fit = c.requires } in
+    let sides = c.in_ok-offer_all.ensures ∙ ap (λ os. offers_all os n.sides) c.as_slice.ensures ∙ ap (λ (t : State). offers_all made t.sides) c.in_ok-made.ensures.state ∙ ap (λ os. offers_all os s.sides) r.made_is in
+    on_ok c.send_offers.result (λ e. subst (λ (ss : List Side). AreOfRound ws (master_of s) (entered s.sides ss)) (sym sides) (entered_listed ws s r.shares holds r.shown)) c.send_offers.ensures

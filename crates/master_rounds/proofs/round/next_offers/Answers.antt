@@ -2,10 +2,10 @@ use Rattle.std.proofs.Common.{◌++◌, List, map, ap, sym, subst, ◌∙◌}
 use Rattle.mails.specs.declared.framework.Framework.{Framework}
 use Rattle.drf_pick.specs.Shown.{TallyShows, counted_of}
 use Rattle.frameworks.specs.LastRound.{clients_of}
-use Rattle.master_rounds.specs.Visits.{Progress, allocation_by}
+use Rattle.master_rounds.specs.Visits.{KeepsRoom, Progress, allocation_by, begins}
 use Rattle.master_rounds.proofs.Bounds.{sides_add_up, totals_add_up}
 use Rattle.master_rounds.proofs.Keeping.{begins_shown, knowing, round_owned, round_shown, round_so}
-use Rattle.master_rounds.proofs.SendingAll.{Holds}
+use Rattle.master_rounds.proofs.SendingAll.{Holds, round_room}
 use Rattle.master_rounds.proofs.round.next_offers.Goals as goal
 
 pub shares_of-requires-clause-allocated : goal.shares_of-requires-clause-allocated
@@ -13,6 +13,15 @@ shares_of-requires-clause-allocated c = sides_add_up c.args.state.now.sides c.re
 
 pub shares_of-requires-clause-owned : goal.shares_of-requires-clause-owned
 shares_of-requires-clause-owned c = totals_add_up c.args.state.now.sides c.requires.rows c.requires.fits.few
+
+pub round_of-requires-clause-room : goal.round_of-requires-clause-room
+round_of-requires-clause-room c =
+    let s = c.args.state.now in
+    let k = c.in_ok-counted.counted in
+    let same = c.take_starts-starts.ensures.same ∙ c.in_ok-counted.ensures.same in
+    let holds : Holds s = record { ordered = c.as_slice-ordered.ensures.ordered; names = c.requires.names; rows = c.requires.rows; fit = c.requires.fits } in
+    let room = round_room c.args.weights.now s k.shares holds (begins_shown c.args.weights.now s k c.in_ok-counted.ensures.shares) in
+    subst (λ (fs : List Framework). KeepsRoom (knowing s fs) (begins k.shares (knowing s fs))) (sym same) room
 
 pub keep-requires-clause-owned : goal.keep-requires-clause-owned
 keep-requires-clause-owned c =

@@ -8,8 +8,11 @@ use Rattle.round_shares.proofs.Finding.{found_together}
 use Rattle.round_shares.proofs.SameAmounts.{same_together}
 use Rattle.round_shares.proofs.fill.recount.Goals as goal
 
-pub count-requires : goal.count-requires
-count-requires c = λ name.
+pub count-requires-clause-shown : goal.count-requires-clause-shown
+count-requires-clause-shown c = (c.requires.counted.0, c.in_ok-find_all.ensures.counted c.requires.counted.0 c.requires.counted.1)
+
+pub count-requires-clause-sums : goal.count-requires-clause-sums
+count-requires-clause-sums c = λ name.
     let fs = c.find_all.new.counted.found.items in
     let as_ = c.args.accounts.now in
     omega (arith, same_together (all_found fs) (allocations_in as_) (found_together fs as_ c.in_ok-find_all.ensures.found) name, c.requires.sums name)

@@ -43,5 +43,6 @@ returns-clause-shares c =
       found = subst (λ xs. SameAllocations (all_found xs) (allocations_of ss)) (sym items) (subst (SameAllocations (all_found k.found.items)) (given_parts es as_ c.parts.ensures.one ∙ ap allocations_of c.parts.ensures.joined) c.in_ok-recount.ensures.found);
       totals = λ name. after.owned name ∙ ap (amount name) owned;
       positive = c.in_ok-weigh.ensures.sum.positive;
+      weighed = c.in_ok-weigh.ensures.weighed;
       weights = subst (λ (t : Tally). WeightsShow ws t.roles) (sym shares) (weights_shown ws k.shares.roles);
     }

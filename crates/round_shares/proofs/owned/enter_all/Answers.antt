@@ -1,9 +1,7 @@
-use Rattle.std.proofs.Common.{◌≡◌, ◌<◌, ◌+◌, length, take, ap, sym, subst, ◌∙◌, arith}
+use Rattle.std.proofs.Common.{◌≡◌, ◌<◌, ◌+◌, length, set, take, ap, sym, subst, ◌∙◌, arith}
 use Rattle.std.proofs.lemmas.List.{take_all}
 use Rattle.agent_sides.specs.Joined.{join, joined}
-use Rattle.drf_pick.specs.Allocations.{AddUp}
-use Rattle.drf_pick.specs.Shown.{all_owned}
-use Rattle.round_shares.specs.Owned.{AreUpToDate, each_owned}
+use Rattle.round_shares.specs.Owned.{AreUpToDate, each_owned, owned_of}
 use Rattle.round_shares.proofs.Owning.{as_many, entered_more, joined_at, joined_many, left_at, left_below, left_many, left_set, owned_many}
 use Rattle.round_shares.proofs.owned.enter_all.Goals as goal
 
@@ -26,6 +24,25 @@ enter_at-requires-clause-left c =
     let inside : i < length as_ = omega (arith, c.loop-place-test.true, c.loop-place.auto.place-end) in
     left_at (joined es as_) c.loop-place.counted.owned.items i (join e a) (omega (arith, inside, joined_many es as_ c.requires.one)) (joined_at es as_ i e a c.requires.one inside c.index-entries-place.is c.index-accounts-place.is) c.loop-place.invariant.left
 
+pub enter_at-requires-clause-owned : goal.enter_at-requires-clause-owned
+enter_at-requires-clause-owned c = (c.loop-place.invariant.counted c.requires.counted.0 c.requires.counted.1).owned
+
+pub enter_at-requires-clause-sums : goal.enter_at-requires-clause-sums
+enter_at-requires-clause-sums c =
+    let es = c.args.entries.now in
+    let as_ = c.args.accounts.now in
+    let e = c.index-entries-place.result in
+    let a = c.index-accounts-place.result in
+    let i = c.loop-place.place in
+    let ss = joined es as_ in
+    let os = c.loop-place.counted.owned.items in
+    let inside : i < length as_ = omega (arith, c.loop-place-test.true, c.loop-place.auto.place-end) in
+    let in_sides : i < length ss = omega (arith, inside, joined_many es as_ c.requires.one) in
+    let is = joined_at es as_ i e a c.requires.one inside c.index-entries-place.is c.index-accounts-place.is in
+    let now = set os i (owned_of (join e a)) in
+    let left : AreUpToDate ss now = left_set ss os i (join e a) in_sides is c.loop-place.invariant.left in
+    λ name. omega (arith, left_below ss now left name, c.requires.sums name)
+
 pub loop-place-preserved : goal.loop-place-preserved
 loop-place-preserved c =
     let es = c.args.entries.now in
@@ -43,11 +60,10 @@ loop-place-preserved c =
     let is = joined_at es as_ i e a c.requires.one inside c.index-entries-place.is c.index-accounts-place.is in
     let set_so = c.in_ok-enter_at.ensures.entered in
     let left : AreUpToDate ss now = subst (AreUpToDate ss) (sym set_so) (left_set ss os i (join e a) in_sides is inv.left) in
-    let below : AddUp (all_owned now) = λ name. omega (arith, left_below ss now left name, c.requires.sums name) in
     record {
       left = left;
       entered = ap (take (i + 1)) set_so ∙ entered_more ss os i (join e a) in_sides within is inv.entered;
-      counted = λ cs k. c.in_ok-enter_at.ensures.counted cs below (inv.counted cs k);
+      counted = λ cs k. c.in_ok-enter_at.ensures.counted cs (inv.counted cs k);
       found = c.enter_at.ensures.found ∙ inv.found;
     }
 

@@ -1,8 +1,6 @@
-use Rattle.std.proofs.Common.{List, refl}
-use Rattle.drf_pick.specs.Shares.{AreUpTo, Holder, HoldersOnce, at_first, is_holder, returning}
-use Rattle.drf_pick.proofs.FoundRoles.{either}
-use Rattle.drf_pick.proofs.Once.{once_changed}
-use Rattle.drf_pick.proofs.UpTo.{changed_up_to}
+use Rattle.std.proofs.Common.{sym, subst}
+use Rattle.drf_pick.specs.Shown.{HoldSums}
+use Rattle.drf_pick.proofs.RoleSums.{back_sums}
 use Rattle.drf_pick.proofs.holdings.Holdings.back.Goals as goal
 
 pub invariant_of-self : goal.invariant_of-self
@@ -10,6 +8,6 @@ invariant_of-self c =
     let s = c.self.inside in
     let hs = s.holders.items in
     let f = c.args.framework in
-    let change = returning c.args.resources.now in
-    let changed : AreUpTo s.last (at_first (is_holder f) change hs) × HoldersOnce (at_first (is_holder f) change hs) = (changed_up_to s.last f change (λ h. refl) hs c.self.invariant.0, once_changed f change (λ h. refl) hs c.self.invariant.1) in
-    either c.back_in.result (λ (xs : List Holder). AreUpTo s.last xs × HoldersOnce xs) hs c.back_in.new.holders.items (at_first (is_holder f) change hs) c.back_in.ensures.holders c.back_in.ensures.same_holders c.self.invariant changed
+    let rows = c.args.resources.now in
+    let held : HoldSums f (record { totals = s.totals; holders = hs; roles = s.roles }) = subst (HoldSums f) (sym c.self.view_is) c.is_registered.ensures.sums in
+    back_sums f rows s.last hs c.back_in.new.holders.items s.roles c.back_in.new.roles c.back_in.result held c.back_in.ensures.covered c.back_in.ensures.holders c.back_in.ensures.roles c.back_in.ensures.same_holders c.back_in.ensures.same_roles c.self.invariant

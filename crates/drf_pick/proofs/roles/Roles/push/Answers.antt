@@ -20,6 +20,6 @@ invariant_of-self-in-Ok c =
     ap (looked role) c.in-Ok.ensures.entries ∙ inserted s.places.entries c.in_ok-name.name count role
     ∙ ap (λ (n : List ℕ). cond (bytes_eq n role) (Some count) (get_by_text s.places role)) is in (
       subst (IsTable (get_by_text c.insert.new.self)) (sym c.in_ok-push_sum.ensures.ok)
-          (table_pushed (get_by_text s.places) (get_by_text c.insert.new.self) name rs count all none now c.self.invariant.0),
+          (table_pushed (get_by_text s.places) (get_by_text c.insert.new.self) name c.args.held rs count all none now c.self.invariant.0),
       subst (AreRanks (get_by_text c.insert.new.self)) (sym c.clear.ensures.items) (unranked (get_by_text c.insert.new.self)),
     )

@@ -1,0 +1,42 @@
+use Rattle.std.proofs.Common.{◌≡◌, None, length, subst, sym, ap, ◌∙◌}
+use Rattle.std.specs.List.{find}
+use Rattle.drf_pick.specs.Shares.{Tally, is_holder}
+use Rattle.drf_pick.specs.Fractions.{OfHolders, OfRoles, holder_held, role_held}
+use Rattle.drf_pick.proofs.KeptShares.{cut_to, kept_to}
+use Rattle.drf_pick.proofs.ChangedShares.{added_holders, added_roles}
+use Rattle.drf_pick.proofs.shares.Shares.add.Goals as goal
+
+pub invariant_of-self : goal.invariant_of-self
+invariant_of-self c =
+    let s = c.self.inside in
+    let t : Tally = s.holdings in
+    (cut_to holder_held t.totals t.holders s.fractions.items c.keep_nothing.new.fractions.items _ (ap length c.holders.ensures) c.in_err-keep_nothing.ensures.err c.self.invariant.0, c.self.invariant.1)
+
+pub invariant_of-self-in_err-keep_nothing-2 : goal.invariant_of-self-in_err-keep_nothing-2
+invariant_of-self-in_err-keep_nothing-2 c =
+    let s = c.self.inside in
+    let t : Tally = s.holdings in (
+      kept_to holder_held t.totals t.holders s.fractions.items c.keep_nothing.new.fractions.items _ (ap length c.holders.ensures) c.in_ok-keep_nothing.ensures.ok c.self.invariant.0,
+      cut_to role_held t.totals t.roles s.role_fractions.items c.keep_nothing-2.new.fractions.items c.len.result (c.len.ensures ∙ ap length c.roles.ensures) c.in_err-keep_nothing-2.ensures.err c.self.invariant.1,
+    )
+
+pub invariant_of-self-in_err-role : goal.invariant_of-self-in_err-role
+invariant_of-self-in_err-role c =
+    let s = c.self.inside in
+    let t : Tally = s.holdings in
+    let is = sym c.in_err-role.ensures.err in (
+      subst (λ (x : Tally). OfHolders x.totals x.holders c.keep_nothing.new.fractions.items) is (kept_to holder_held t.totals t.holders s.fractions.items c.keep_nothing.new.fractions.items _ (ap length c.holders.ensures) c.in_ok-keep_nothing.ensures.ok c.self.invariant.0),
+      subst (λ (x : Tally). OfRoles x.totals x.roles c.keep_nothing-2.new.fractions.items) is (kept_to role_held t.totals t.roles s.role_fractions.items c.keep_nothing-2.new.fractions.items c.len.result (c.len.ensures ∙ ap length c.roles.ensures) c.in_ok-keep_nothing-2.ensures.ok c.self.invariant.1),
+    )
+
+pub invariant_of-self-2 : goal.invariant_of-self-2
+invariant_of-self-2 c =
+    let s = c.self.inside in
+    let t : Tally = s.holdings in
+    let f = c.args.framework in
+    let name = c.args.role.now in
+    let none : find (is_holder f) t.holders ≡ None = ap (λ (x : Tally). find (is_holder f) x.holders) c.self.view_is ∙ c.requires in
+    let is = sym c.in_ok-role.ensures.ok in (
+      subst (λ (x : Tally). OfHolders x.totals x.holders c.keep_nothing.new.fractions.items) is (added_holders f name t s.fractions.items c.keep_nothing.new.fractions.items _ none (ap length c.holders.ensures) c.in_ok-keep_nothing.ensures.ok c.self.invariant.0),
+      subst (λ (x : Tally). OfRoles x.totals x.roles c.keep_nothing-2.new.fractions.items) is (added_roles f name t s.role_fractions.items c.keep_nothing-2.new.fractions.items c.len.result none (c.len.ensures ∙ ap length c.roles.ensures) c.in_ok-keep_nothing-2.ensures.ok c.self.invariant.1),
+    )
