@@ -8,6 +8,7 @@ use crate::name::{is_configured_name, is_plain_name, is_text_before, name_number
 use plain_data::Plain;
 use std::alloc::{AllocError, Global};
 use std::fmt;
+use std::hash::{Hash, Hasher};
 use std::marker::Model;
 
 /// The name of an agent, its `agent_id`: 1 to 255 bytes of UTF-8 without control characters,
@@ -113,6 +114,26 @@ impl PartialEq for AgentName {
 
     fn eq(&self, other: &AgentName) -> bool {
         self.text == other.text
+    }
+}
+
+impl Eq for AgentName {
+    ghost use Rattle.std.specs.Cmp.Lexicographic.{nat_list_eq_equiv};
+
+    ghost laws = { nat_list_eq_equiv };
+}
+
+impl Hash for AgentName {
+    ghost use Rattle.std.proofs.Common.{rules};
+    ghost use Rattle.std.specs.Hash as fed;
+    ghost use Rattle.std.specs.Cmp.Rules.{hashing};
+
+    ghost hash_input = { fed.str };
+
+    ghost respects_eq = { Prim.search (hashing, rules) };
+
+    fn hash<H: Hasher>(&self, state: &mut H) {
+        self.text.as_str().hash(state);
     }
 }
 

@@ -12,7 +12,7 @@ use std::marker::Model;
 
 /// The launch of a task, counted from 1 in each run of the master.
 /// Task names may be used again; a launch key never is.
-#[derive(Clone, Copy, Debug, Drop, PartialEq, Eq, PartialOrd, Ord)]
+#[derive(Clone, Copy, Debug, Drop, PartialEq, Eq, PartialOrd, Ord, Hash)]
 pub struct LaunchKey {
     run: u16,
     n: u32,

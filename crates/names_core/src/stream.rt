@@ -12,7 +12,7 @@ use std::marker::Model;
 
 /// A stream of events to a framework, counted from 1 in each run of the master.
 /// It is the value of the header `Mesos-Stream-Id` of the scheduler HTTP API.
-#[derive(Clone, Copy, Debug, Drop, PartialEq, Eq, PartialOrd, Ord)]
+#[derive(Clone, Copy, Debug, Drop, PartialEq, Eq, PartialOrd, Ord, Hash)]
 pub struct StreamId {
     run: u16,
     n: u32,

@@ -1,0 +1,15 @@
+//! The tables of a master's book (Mesos paper, section 3.1): current offers by their ids and booked
+//! tasks by their launch keys, each with its agent's place, and for each place the ids there.
+#![tactic(auto)]
+
+mod booked;
+mod located;
+mod names;
+mod offers;
+mod tasks;
+
+pub use booked::BookedTasks;
+pub use located::Located;
+pub use names::Names;
+pub use offers::Offers;
+pub use tasks::{TaskUpdate, Tasks};

@@ -1,0 +1,30 @@
+use Rattle.std.proofs.Common.{false, [], None, Some, Ok, sym, ap, subst, ◌∙◌}
+use Rattle.offer_tables.specs.Accounts.{dropped}
+use Rattle.offer_tables.specs.Books.{dropped_from}
+use Rattle.offer_tables.specs.Rows.{IsEmptied, IsPlaceOf, account}
+use Rattle.offer_tables.proofs.Amounts.{row_emptied}
+use Rattle.offer_tables.proofs.Booking.{changed_unknown, changed_there}
+use Rattle.offer_tables.proofs.Books.{book_emptied, view_changed}
+use Rattle.offer_tables.proofs.book.OfferBook.drop_agent.Goals as goal
+
+pub returns-in_default-clause-refused : goal.returns-in_default-clause-refused
+returns-in_default-clause-refused c =
+    let n = c.args.name.now in
+    let placed : IsPlaceOf n c.self.inside.agents.items None = subst (λ rs. IsPlaceOf n rs None) c.deref.ensures.value c.in_default.ensures in
+    ap (dropped_from n) (sym c.self.view_is) ∙ changed_unknown n c.self.inside.agents.items c.self.inside.offers c.self.inside.tasks c.self.invariant.each dropped placed
+
+pub invariant_of-self : goal.invariant_of-self
+invariant_of-self c =
+    book_emptied (IsEmptied false []) c.self.inside.names.keys c.self.inside.agents.items c.vacate.new.agents.items c.self.inside.offers c.clear.new.self c.self.inside.tasks c.clear-2.new.self c.in-Some.place
+    (λ r s set. ap (λ x. x.name) set) (row_emptied false []) c.vacate.ensures c.self.invariant c.clear.ensures c.clear-2.ensures
+
+pub returns-clause-ok : goal.returns-clause-ok
+returns-clause-ok c =
+    let n = c.args.name.now in
+    let p = c.in-Some.place in
+    let rs = c.self.inside.agents.items in
+    let placed : IsPlaceOf n rs (Some p) = subst (λ x. IsPlaceOf n x (Some p)) c.deref.ensures.value c.in-Some.ensures in
+    ap (dropped_from n) (sym c.self.view_is)
+    ∙ changed_there n rs c.self.inside.offers c.self.inside.tasks c.self.invariant.each p placed dropped
+    ∙ ap (λ x. Ok x) (sym (view_changed (IsEmptied false []) (λ os. []) (λ bs. []) dropped rs c.vacate.new.agents.items c.self.inside.offers c.clear.new.self c.self.inside.tasks c.clear-2.new.self p
+    c.vacate.ensures c.self.invariant.each c.clear.ensures c.clear-2.ensures (λ r s os bs row set is_row. λ i. account (set i) [] [])))

@@ -1,0 +1,6 @@
+pub mod Accounts
+pub mod Faults
+pub mod Books
+pub mod Found
+pub mod Held
+pub mod Rows
