@@ -1,5 +1,5 @@
-//! What the executors of an agent's tasks report: a task runs at once,
-//! and ends by itself after some time.
+//! What the executors of an agent's tasks report: a task runs at once, and ends by itself after some
+//! time. When a turn is due, and whose turn it is within one: a mail's, or a cause's.
 
 use mails::{Durable, RecordedTask};
 use names_core::{LaunchKey, TaskState};
@@ -10,6 +10,9 @@ use shared_value::Shared;
 use std::alloc::{AllocError, Global};
 use std::collections::{BTreeMap, VecDeque};
 use std::time::{Duration, Instant};
+
+/// How long after the end of a turn the next one is due, in seconds.
+const PAUSE: u64 = 1;
 
 /// Whether a total covers what a record has, and is more.
 fn is_more(total: &Resources, record: &Durable) -> bool {
@@ -48,6 +51,10 @@ pub(crate) struct Executors {
     began: BTreeMap<LaunchKey, Instant>,
     /// What is still to be prepared in this turn.
     due: VecDeque<StepCause>,
+    /// When the next turn is due; None until the clock is read for it.
+    next_turn: Option<Instant>,
+    /// Whether a mail was the last cause, so that what is due goes before the next one.
+    mail_was_last: bool,
 }
 
 impl Executors {
@@ -61,17 +68,51 @@ impl Executors {
             },
             began: BTreeMap::new(alloc),
             due: VecDeque::new(alloc),
+            next_turn: None,
+            mail_was_last: false,
         }
     }
 
-    /// The next cause of this turn.
+    /// The next cause of this turn. A mail may go before the one behind it.
     pub fn pop(&mut self) -> Option<StepCause> {
+        self.mail_was_last = false;
         self.due.pop_front()
     }
 
-    /// Whether there is a next cause of this turn.
-    pub fn is_due(&self) -> bool {
-        !self.due.is_empty()
+    /// A mail is the next cause. What is due in this turn goes before the one behind it.
+    pub fn note_mail(&mut self) {
+        self.mail_was_last = true;
+    }
+
+    /// Whether what is due in this turn goes before the next mail.
+    pub fn goes_first(&self) -> bool {
+        self.mail_was_last && !self.due.is_empty()
+    }
+
+    /// Whether a turn begins now: the one before has ended, a second ago or longer.
+    pub fn is_turn(&mut self, now: Instant) -> bool {
+        if !self.due.is_empty() {
+            return false;
+        }
+        match self.next_turn {
+            Some(at) => now >= at,
+            None => {
+                self.next_turn = now.checked_add(Duration::from_secs(PAUSE));
+                false
+            }
+        }
+    }
+
+    /// How long the agent may wait for a mail: not at all where something is due, and else until
+    /// its next turn.
+    pub fn wait(&self, now: Instant) -> Duration {
+        if !self.due.is_empty() {
+            return Duration::ZERO;
+        }
+        match self.next_turn {
+            Some(at) => at.saturating_duration_since(now),
+            None => Duration::from_secs(PAUSE),
+        }
     }
 
     /// When a task began to run; one that wasn't seen to run yet begins now.
@@ -137,6 +178,7 @@ impl Executors {
         is_in_session: bool,
         now: Instant,
     ) -> Result<(), AllocError> {
+        self.next_turn = None;
         let tasks = record.tasks.as_slice();
         self.follow(tasks, now)?;
         if can_grow(record, total, is_in_session) {

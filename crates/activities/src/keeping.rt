@@ -16,7 +16,7 @@ use names_core::AgentName;
 use plain_data::Plain;
 use running_clusters::{Awaited, ClusterFault, Keep, KeptEntry, Running, StepCause};
 use std::sync::{Wait, ledger};
-use std::time::Clock;
+use std::time::{Clock, Duration};
 
 /// What became of the draft that the last answer of a pass opened.
 #[derive(Clone, Copy, Drop)]
@@ -70,10 +70,13 @@ impl<'a, D: Running, L: ledger::Ledger, R: Wait + Clock> Worker<'a, D, L, R> {
             Some(own) => Ok(Some(is_own(kept, own))),
             None => Err(ClusterFault::NoSuchAgent),
         };
-        match self
-            .office
-            .wait_for(self.rt, pass, Awaited::mails_to(agent), 0, look)
-        {
+        match self.office.wait_for(
+            self.rt,
+            pass,
+            Awaited::mails_to(agent),
+            Duration::ZERO,
+            look,
+        ) {
             Ok(Waited::Found(owns)) => Ok(owns),
             Ok(_) => Err(Stop::Ended),
             Err(fault) => Err(stop_of(fault)),

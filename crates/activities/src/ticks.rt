@@ -9,7 +9,7 @@ use running_clusters::{Awaited, ClusterFault, KeptEntry, Running, Step};
 use running_offices::ask;
 use std::alloc::Global;
 use std::sync::{Wait, ledger};
-use std::time::{Clock, Instant};
+use std::time::{Clock, Duration, Instant};
 
 /// Whether the ticker goes on after an answer.
 fn goes_on<A: Drop>(answer: Result<A, OfficeFault<ClusterFault>>) -> bool
@@ -95,7 +95,8 @@ pub fn ticker<D: Running, L: ledger::Ledger, R: Wait + Clock>(
             return pass;
         }
         let look = |_: &D| -> Result<Option<()>, ClusterFault> { Ok(None) };
-        match office.wait_for(rt, &pass, Awaited::time(), interval, look) {
+        let pause = Duration::from_secs(interval);
+        match office.wait_for(rt, &pass, Awaited::time(), pause, look) {
             Ok(Waited::Elapsed) => {}
             _ => return pass,
         }

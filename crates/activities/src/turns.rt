@@ -13,10 +13,7 @@ use quantity::Resources;
 use running_clusters::{Awaited, ClusterFault, KeptEntry, Running, StepCause};
 use std::alloc::Global;
 use std::sync::{Wait, ledger};
-use std::time::{Clock, Instant};
-
-/// How long an agent waits for a mail before its turn, in seconds.
-const WAIT: u64 = 1;
+use std::time::{Clock, Duration, Instant};
 
 impl<'a, D: Running, L: ledger::Ledger, R: Wait + Clock> Worker<'a, D, L, R> {
     /// Whether the agent has an open session.
@@ -24,7 +21,10 @@ impl<'a, D: Running, L: ledger::Ledger, R: Wait + Clock> Worker<'a, D, L, R> {
         let agent = self.agent;
         let look = |cluster: &D| Ok(Some(cluster.is_in_session(agent)));
         let mails = Awaited::mails_to(agent);
-        match self.office.wait_for(self.rt, pass, mails, 0, look) {
+        match self
+            .office
+            .wait_for(self.rt, pass, mails, Duration::ZERO, look)
+        {
             Ok(Waited::Found(is)) => Ok(is),
             Ok(_) => Err(Stop::Ended),
             Err(fault) => Err(stop_of(fault)),
@@ -42,7 +42,10 @@ impl<'a, D: Running, L: ledger::Ledger, R: Wait + Clock> Worker<'a, D, L, R> {
             None => Err(ClusterFault::NoSuchAgent),
         };
         let mails = Awaited::mails_to(agent);
-        match self.office.wait_for(self.rt, pass, mails, 0, look) {
+        match self
+            .office
+            .wait_for(self.rt, pass, mails, Duration::ZERO, look)
+        {
             Ok(Waited::Found(record)) => Ok(record),
             Ok(_) => Err(Stop::Ended),
             Err(fault) => Err(stop_of(fault)),
@@ -56,11 +59,9 @@ impl<'a, D: Running, L: ledger::Ledger, R: Wait + Clock> Worker<'a, D, L, R> {
         pass: &Pass<KeptEntry, L>,
         own: &mut Option<Record>,
         executors: &mut Executors,
+        now: Instant,
     ) -> Result<(), Stop<F>> {
         let is_in_session = self.is_in_session(pass)?;
-        let Ok(now) = Instant::now(self.rt) else {
-            return Err(Stop::Later);
-        };
         let record = match own.take() {
             Some(record) => record,
             None => self.record(pass)?,
@@ -73,22 +74,31 @@ impl<'a, D: Running, L: ledger::Ledger, R: Wait + Clock> Worker<'a, D, L, R> {
         }
     }
 
-    /// What the agent acts on next: the first mail, or what is due in this turn.
-    /// Where no mail came within a second a turn begins.
+    /// What the agent acts on next: the first mail, or what is due in this turn, the one after the
+    /// other where there are both. A turn begins a second after the last one ended, whether mails
+    /// came or not. None where nothing is due, and no mail came until the next turn.
     fn next_cause<F>(
         &self,
         pass: &Pass<KeptEntry, L>,
         own: &mut Option<Record>,
         executors: &mut Executors,
     ) -> Result<Option<StepCause>, Stop<F>> {
-        let seconds = if executors.is_due() { 0 } else { WAIT };
-        if let Some(number) = self.first_mail(pass, seconds)? {
-            return Ok(Some(StepCause::Mail(number)));
+        let Ok(now) = Instant::now(self.rt) else {
+            return Err(Stop::Later);
+        };
+        if executors.is_turn(now) {
+            self.begin_turn(pass, own, executors, now)?;
         }
-        if !executors.is_due() {
-            self.begin_turn(pass, own, executors)?;
+        if executors.goes_first() {
+            return Ok(executors.pop());
         }
-        Ok(executors.pop())
+        match self.first_mail(pass, executors.wait(now))? {
+            Some(number) => {
+                executors.note_mail();
+                Ok(Some(StepCause::Mail(number)))
+            }
+            None => Ok(executors.pop()),
+        }
     }
 
     /// Takes the agent on by a step or two: what the last answer leaves to be done,
@@ -147,7 +157,8 @@ impl<'a, D: Running, L: ledger::Ledger, R: Wait + Clock> Worker<'a, D, L, R> {
 /// for what the executors of its tasks report, saves each draft in the cabinet before it commits
 /// it, and delivers the agent's mails to the master. `pace` is after how many seconds a task has
 /// finished, 0 for never; `total` is what is configured that the agent owns: where its record has
-/// less, it starts with that at its first turn in a session. What another caller commits of the
+/// less, it starts with that at its first turn in a session. A turn is due a second after the last
+/// one ended; what is due in it and the agent's mails take turns. What another caller commits of the
 /// agent is seen at a turn once the activity commits or stops the agent itself. It ends before by
 /// O1 and C8, and by a fault that it returns, for which it finishes the office; after other
 /// refusals it does the same again a second later.

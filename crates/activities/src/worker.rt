@@ -15,7 +15,7 @@ use running_clusters::{Awaited, ClusterFault, Given, Keep, KeptEntry, Running, S
 use running_offices::ask;
 use std::alloc::Global;
 use std::sync::{Wait, ledger};
-use std::time::Clock;
+use std::time::{Clock, Duration};
 
 /// What is left for the next turn stops nothing else.
 fn unless_later<F>(stop: Stop<F>) -> Result<(), Stop<F>> {
@@ -218,7 +218,10 @@ impl<'a, D: Running, L: ledger::Ledger, R: Wait + Clock> Worker<'a, D, L, R> {
         let agent = self.agent;
         let look = |cluster: &D| Ok(cluster.first_mail_from(agent));
         let mails = Awaited::mails_to(agent);
-        match self.office.wait_for(self.rt, pass, mails, 0, look) {
+        match self
+            .office
+            .wait_for(self.rt, pass, mails, Duration::ZERO, look)
+        {
             Ok(Waited::Found(number)) => Ok(Some(number)),
             Ok(_) => Ok(None),
             Err(fault) => Err(stop_of(fault)),
@@ -243,11 +246,11 @@ impl<'a, D: Running, L: ledger::Ledger, R: Wait + Clock> Worker<'a, D, L, R> {
         unreachable!()
     }
 
-    /// Waits for the first mail to the agent, for so many seconds at most.
+    /// Waits for the first mail to the agent, for so long at most.
     pub fn first_mail<F>(
         &self,
         pass: &Pass<KeptEntry, L>,
-        seconds: u64,
+        time: Duration,
     ) -> Result<Option<u64>, Stop<F>> {
         let agent = self.agent;
         let look = |cluster: &D| match cluster.durable(agent) {
@@ -255,7 +258,7 @@ impl<'a, D: Running, L: ledger::Ledger, R: Wait + Clock> Worker<'a, D, L, R> {
             None => Err(ClusterFault::NoSuchAgent),
         };
         let mails = Awaited::mails_to(agent);
-        match self.office.wait_for(self.rt, pass, mails, seconds, look) {
+        match self.office.wait_for(self.rt, pass, mails, time, look) {
             Ok(Waited::Found(number)) => Ok(Some(number)),
             Ok(Waited::Elapsed) => Ok(None),
             Ok(Waited::Finished) => Err(Stop::Ended),
@@ -266,10 +269,7 @@ impl<'a, D: Running, L: ledger::Ledger, R: Wait + Clock> Worker<'a, D, L, R> {
     /// Waits for a second, and returns whether the activity goes on.
     pub fn pause(&self, pass: &Pass<KeptEntry, L>) -> bool {
         let look = |_: &D| -> Result<Option<()>, ClusterFault> { Ok(None) };
-        match self
-            .office
-            .wait_for(self.rt, pass, Awaited::time(), 1, look)
-        {
+        match self.office.wait_for(self.rt, pass, Awaited::time(), Duration::from_secs(1), look) {
             Ok(Waited::Finished) | Err(_) => false,
             Ok(_) => true,
         }

@@ -117,7 +117,7 @@ fn has_entries<D: Running, L: ledger::Ledger, R: Wait + Clock>(
             Ok(Some(()))
         }
     };
-    match office.wait_for(rt, pass, Awaited::time(), 0, look) {
+    match office.wait_for(rt, pass, Awaited::time(), Duration::ZERO, look) {
         Ok(Waited::Found(()) | Waited::Finished) => true,
         _ => false,
     }

@@ -38,13 +38,17 @@ task_seconds = otherwise (codes "10") (number_in 0 86400 (option (codes "task-se
 abbrev pub connections : Rule
 connections = otherwise (codes "0") (number_in 0 18446744073709551615 (option (codes "conns")))
 
+abbrev pub idle_seconds : Rule
+idle_seconds = otherwise (codes "75") (number_in 0 86400 (option (codes "idle-seconds")))
+
 -- with the options that are required
 abbrev pub with_required : App → App
 with_required a = with_rule (with_rule (with_rule a port) agents) state
 
 -- and with those that aren't
 abbrev pub with_optional : App → App
-with_optional a = with_rule (with_rule (with_rule a interval) task_seconds) connections
+with_optional a =
+    with_rule (with_rule (with_rule (with_rule a interval) task_seconds) connections) idle_seconds
 
 -- the command `serve`
 abbrev pub serve_command : App
@@ -66,3 +70,4 @@ pub record HasOptions (rows : List Row) (o : ServeOptions) : Type 0 where
   pub interval : HasNumber 64 rows (codes "interval") o.interval
   pub task_seconds : HasNumber 64 rows (codes "task-seconds") o.task_seconds
   pub connections : HasNumber 64 rows (codes "conns") o.connections
+  pub idle_seconds : HasNumber 64 rows (codes "idle-seconds") o.idle_seconds

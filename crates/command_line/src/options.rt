@@ -24,6 +24,9 @@ pub struct ServeOptions<'a> {
     pub task_seconds: u64,
     /// So many connections are accepted; with 0 there is no limit.
     pub connections: u64,
+    /// After so many seconds without a byte a connection is at the end of its input, from 0 to
+    /// 86,400; with 0 it waits for ever.
+    pub idle_seconds: u64,
 }
 
 const SERVE_ABOUT: &str =
@@ -47,9 +50,13 @@ FILE is refused, the line behind the refusal names the place. `jq -c . FILE` mak
 No command of a task is run: a task is a timer, and its executor is simulated.
 
 DIR is a folder that is there. Each agent keeps its record in `agent-NAME.db` in it, and the master the number of its run in
-`master.db`; both are SQLite stores. Started again on the same folder, the agents come up over their records, with their tasks,
-and frameworks resubscribe by their ids. One server uses a folder at a time: each store is locked from before its first read until
-the server ends, and a second server ends at once (K1 Store).
+`master.db`; both are SQLite stores, each with a log beside it (`agent-NAME.db-wal`, `master.db-wal`) that is folded into it after at
+most 1000 saves. For a backup copy all files of the folder while no server uses it. A limit on the size of files (`ulimit -f`) ends
+the process by its signal, unless that is ignored where it is started.
+
+Started again on the same folder, the agents come up over their records, with their tasks, and frameworks resubscribe by their ids.
+One server uses a folder at a time: `master.db` is locked from before its first read until the server ends, and a second server ends
+at once (K1 Store).
 
 The master makes a round of offers each `--interval` seconds. A task runs at its agent's next turn (TASK_RUNNING), and ends by
 itself `--task-seconds` later (TASK_FINISHED); with 0 it runs until it is killed. Updates are sent again until they are
@@ -61,6 +68,13 @@ one of them ends. So have at most 63 frameworks, or no call is answered.
 A HEARTBEAT goes out on each stream every 15 seconds, rounded up to a multiple of `--interval`. A framework whose connection is gone
 is noticed when a write to it fails, no later than at its second HEARTBEAT from then on: with `--interval` 1 after at most some 30
 seconds, and with one over 15 after at most twice `--interval`. Its offers come back then.
+
+A connection from which no byte came for `--idle-seconds` is at the end of its input: between requests it ends without a word, within
+one its request is refused (H1 BadHead, H6 BadBody). The stream of a framework isn't read, and stays.
+
+Where an agent's record can't be kept any more, or a thread or memory is refused, the server ends: it says why, answers what it is
+answering, ends the streams and the connections that wait, and is gone within two seconds of its last answer. A connection that the
+system can't make is told once a minute, and the server goes on.
 
 With `--conns` N no more than N connections are accepted, and when all have ended each agent is written with its tasks, as
 `replay` does at its end.
@@ -157,6 +171,19 @@ fn connections<'a>(alloc: Global) -> Arg<'a>
     .default_value("0")
 }
 
+fn idle_seconds<'a>(alloc: Global) -> Arg<'a>
+    ensures { rule_of result ≡ options.idle_seconds }
+{
+    number_option(
+        alloc,
+        "idle-seconds",
+        "seconds without a byte after which a connection ends, from 0 to 86400; 0 is never",
+        0,
+        86_400,
+    )
+    .default_value("75")
+}
+
 /// With the options that are required.
 fn with_required<'a>(alloc: Global, command: Command<'a>) -> Result<Command<'a>, AllocError>
     ensures { IfOk result (λ more. app_of more ≡ options.with_required (app_of command.entry)) }
@@ -172,7 +199,8 @@ fn with_optional<'a>(alloc: Global, command: Command<'a>) -> Result<Command<'a>,
 {
     let with_interval = command.arg(interval(alloc))?;
     let with_task_seconds = with_interval.arg(task_seconds(alloc))?;
-    with_task_seconds.arg(connections(alloc))
+    let with_connections = with_task_seconds.arg(connections(alloc))?;
+    with_connections.arg(idle_seconds(alloc))
 }
 
 /// The command `serve` and its options.
@@ -223,5 +251,6 @@ pub(crate) fn serve_options<'a>(found: &ArgMatches<'a>) -> Option<ServeOptions<'
         interval: number_in(found, "interval")?,
         task_seconds: number_in(found, "task-seconds")?,
         connections: number_in(found, "conns")?,
+        idle_seconds: number_in(found, "idle-seconds")?,
     })
 }

@@ -12,7 +12,7 @@ use crate::groups::Groups;
 use desk_seats::{Answered, Desk, OfficeFault, Pass, Passes, Recorded, SeatedHistory, refusal};
 use std::alloc::Global;
 use std::sync::{Mutex, MutexGuard, Wait, ledger};
-use std::time::Clock;
+use std::time::{Clock, Duration};
 
 /// What a waiting caller does in a state.
 #[derive(Clone, Copy, Drop, PartialEq, Eq)]
@@ -224,24 +224,24 @@ impl<C: Recorded, L: ledger::Ledger> Office<C, L> {
         }
     }
 
-    /// Waits for what is awaited, for so many seconds at most, while a look at what is recorded
+    /// Waits for what is awaited, for so long at most, while a look at what is recorded
     /// finds nothing. It returns the locked desk.
     fn await_found<'a, T: Drop, R: Wait + Clock, F: Fn(&C) -> Result<Option<T>, C::Fault>>(
         &'a self,
         rt: &R,
         desk: MutexGuard<'a, Desk<C, L>>,
         awaited: C::Awaited,
-        seconds: u64,
+        time: Duration,
         look: &F,
     ) -> MutexGuard<'a, Desk<C, L>>
         requires { F.IsAlwaysCallable look.now }
     {
         let group = C::group_of(&awaited);
         self.groups
-            .wait_for(rt, group, desk, seconds, |desk| waits_at(&*desk, look))
+            .wait_for(rt, group, desk, time, |desk| waits_at(&*desk, look))
     }
 
-    /// Waits for what is awaited, for so many seconds at most, until a look at what is recorded
+    /// Waits for what is awaited, for so long at most, until a look at what is recorded
     /// finds something; it was so in one state, and may have changed since. Refusals: O1 for a pass
     /// of another history, and O2, O3 or O4 for a fault that the look returns.
     pub fn wait_for<T: Drop, R: Wait + Clock, F: Fn(&C) -> Result<Option<T>, C::Fault>>(
@@ -249,7 +249,7 @@ impl<C: Recorded, L: ledger::Ledger> Office<C, L> {
         rt: &R,
         pass: &Pass<C::Entry, L>,
         awaited: C::Awaited,
-        seconds: u64,
+        time: Duration,
         look: F,
     ) -> Result<Waited<T>, OfficeFault<C::Fault>>
         requires { F.IsAlwaysCallable look }
@@ -266,7 +266,7 @@ impl<C: Recorded, L: ledger::Ledger> Office<C, L> {
             found.is_sound();
             return Err(OfficeFault::ForeignPass(found.len()));
         }
-        let desk = self.await_found(rt, desk, awaited, seconds, &look);
+        let desk = self.await_found(rt, desk, awaited, time, &look);
         let desk = &*desk;
         desk.is_sound();
         found_at(desk, &look)

@@ -2,6 +2,7 @@
 
 ghost use Rattle.std.specs.Prelude.{◌<◌, IfSome, IfNone};
 
+use crate::fault::HttpFault;
 use http_door::{Bench, Inlet, Outlet};
 
 /// Connections, in the order in which they come.
@@ -23,4 +24,7 @@ pub trait Arrivals {
         ensures inlet_countable { IfSome result (λ c. Self.In.faults c.0 < u64.MAX) }
         ensures outlet_countable { IfSome result (λ c. Self.Out.faults c.1 < u64.MAX) }
         ensures end { IfNone result (ended self.new) };
+
+    /// No more connections are taken, for this fault. Who waits on those that were taken is to end.
+    fn give_up(&mut self, fault: HttpFault);
 }

@@ -179,6 +179,36 @@ fn accept_all<
     unreachable!()
 }
 
+/// Has all connections served, until no more come, or a worker is missing: then the arrivals are told
+/// so.
+fn accept_or_give_up<
+    's,
+    E,
+    I: Inlet + Send + Drop + 's,
+    O: Outlet + Send + Drop + 's,
+    B: Bench + Send + Drop + 's,
+    A: Arrivals<In = I, Out = O, Seat = B>,
+    G: Gate + Sync + 's,
+    R: Threads + Wait + Sync + 's,
+>(
+    scope: &Scope<'s, E>,
+    rt: &'s R,
+    alloc: Global,
+    arrivals: &mut A,
+    shop: &'s Shop<I, O, B>,
+    gate: &'s G,
+) -> Option<HttpFault>
+    ensures { IfNone result (A.ended arrivals.new) }
+{
+    match accept_all(scope, rt, alloc, arrivals, shop, gate) {
+        None => None,
+        Some(fault) => {
+            arrivals.give_up(fault);
+            Some(fault)
+        }
+    }
+}
+
 /// Serves all connections in one scope, and returns once every worker has ended.
 fn serve_shop<
     I: Inlet + Send + Drop,
@@ -197,7 +227,7 @@ fn serve_shop<
             ensures same { result.1.ghost_name ≡ arrivals.entry.ghost_name }
             ensures ended { IfNone result.0 (A.ended result.1.now) }
         {
-            let fault = accept_all(scope, rt, alloc, &mut *arrivals, shop, gate);
+            let fault = accept_or_give_up(scope, rt, alloc, &mut *arrivals, shop, gate);
             (fault, arrivals)
         },
     );
@@ -208,7 +238,8 @@ fn serve_shop<
 /// one comes. It returns once every worker has ended, with the benches of all connections that it
 /// took from the arrivals, in no order. Room for a bench is reserved before its connection is
 /// taken, so none is lost for want of memory. A fault, `H8 OutOfMemory` or `H9 NoThread`, ends the
-/// accepting alone: workers that run go on to the end of their connections; the connection that no
+/// accepting, and the arrivals give up the connections that they gave: workers that run go on to
+/// the ends of these; the connection that no
 /// worker was found for is closed unanswered, and its bench is returned too. A connection that
 /// breaks off (`H7 LinkFault`, `H8 OutOfMemory`) ends alone. No contract can say which benches are
 /// returned or that a worker gets on, since nothing but its type is known of what workers share.

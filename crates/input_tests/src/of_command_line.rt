@@ -20,9 +20,10 @@ const SERVED: Action<'static> = Action::Serve(ServeOptions {
     interval: 1,
     task_seconds: 10,
     connections: 3,
+    idle_seconds: 75,
 });
 
-const SERVE_SLOWLY: [&str; 10] = [
+const SERVE_SLOWLY: [&str; 11] = [
     "mesos_node",
     "serve",
     "--interval",
@@ -33,6 +34,7 @@ const SERVE_SLOWLY: [&str; 10] = [
     "--agents",
     "f",
     "--port=65535",
+    "--idle-seconds=0",
 ];
 
 const SERVED_SLOWLY: Action<'static> = Action::Serve(ServeOptions {
@@ -42,6 +44,7 @@ const SERVED_SLOWLY: Action<'static> = Action::Serve(ServeOptions {
     interval: 3_600,
     task_seconds: 0,
     connections: 0,
+    idle_seconds: 0,
 });
 
 fn asks_for<'a>(alloc: Global, words: &'a [&'a str], action: Action<'a>) -> bool {

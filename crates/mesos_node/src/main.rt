@@ -42,11 +42,9 @@ fn texts_of(alloc: Global, words: &[String]) -> io::Result<Vec<&str>> {
 }
 
 /// Does what the words name, or prints why they name nothing.
-fn run_words<R: Net<Listener = TcpListener, Stream = TcpStream> + Threads + Wait + Clock + Sync>(
-    rt: &HostRuntime,
-    threads: &R,
-    words: &[&str],
-) -> io::Result<ExitCode>
+fn run_words<
+    R: Net<Listener = TcpListener, Stream = TcpStream> + Threads + Wait + Clock + Eprint + Sync,
+>(rt: &HostRuntime, threads: &R, words: &[&str]) -> io::Result<ExitCode>
     ensures { IfOk result (λ code. IsStatus (exit_status code)) }
 {
     match command_of(rt.alloc(), words) {
@@ -58,7 +56,7 @@ fn run_words<R: Net<Listener = TcpListener, Stream = TcpStream> + Threads + Wait
 }
 
 /// Does what the words of the command line name.
-fn run<R: Net<Listener = TcpListener, Stream = TcpStream> + Threads + Wait + Clock + Sync>(
+fn run<R: Net<Listener = TcpListener, Stream = TcpStream> + Threads + Wait + Clock + Eprint + Sync>(
     rt: &HostRuntime,
     threads: &R,
 ) -> io::Result<ExitCode>

@@ -1,8 +1,10 @@
 //! The command `serve`: a cluster that runs over a folder of records,
 //! with what is printed on standard error, and the exit status.
 
-ghost use Rattle.std.specs.Prelude.{◌≡◌, IfOk};
+ghost use Rattle.std.specs.Prelude.{◌≡◌, ◌∷◌, [], IfOk};
 ghost use Rattle.std.specs.Io.KnownBytes.{Keeps};
+ghost use Rattle.std.specs.Net.Addr.{ipv4_octets};
+ghost use Rattle.std.specs.Net.Socket.{v4_ip, v4_port};
 ghost use Rattle.std.specs.Process.{exit_status};
 ghost use Rattle.cluster_openings.specs.Records.{AreRecordsOf};
 ghost use Rattle.cluster_model.specs.Openings.{GoodOpening};
@@ -10,7 +12,7 @@ ghost use Rattle.mesos_node.specs.Statuses.{IsStatus, status_of_fault};
 ghost use Rattle.mesos_node.specs.Ends.{AppendsTable, IsEndTable};
 ghost use Rattle.mesos_node.specs.Refusals.{is_refusal};
 
-use crate::ends::print_fault;
+use crate::ends::{FAILED, print_fault};
 use crate::fault::ServeFault;
 use agents_file::{AgentsFile, Configuration, read_agents};
 use cluster_core::Cluster;
@@ -23,7 +25,7 @@ use replayed_clusters::end_table;
 use serving::{Pace, read_recorded, serve_cluster};
 use std::io::Write;
 use std::marker::Brand;
-use std::net::{Net, TcpListener, TcpStream};
+use std::net::{Ipv4Addr, Net, SocketAddrV4, TcpListener, TcpStream};
 use std::process::ExitCode;
 use std::sync::Wait;
 use std::sync::ledger::Blank;
@@ -33,8 +35,18 @@ use std::time::Clock;
 /// One part for each seat, and one for the desk.
 const PARTS: u64 = 1 << 32;
 
+/// Where a cluster is served: a port of 127.0.0.1, which no other machine reaches.
+fn endpoint(port: u16) -> SocketAddrV4
+    ensures address { ipv4_octets (v4_ip result) ≡ 127 ∷ 0 ∷ 0 ∷ 1 ∷ [] }
+    ensures port { v4_port result ≡ port }
+{
+    SocketAddrV4::new(Ipv4Addr::new(127, 0, 0, 1), port)
+}
+
 /// Serves the cluster of a folder, and returns the table at its end.
-fn serve_folder<R: Threads + Wait + Clock + Sync>(
+fn serve_folder<
+    R: Net<Listener = TcpListener, Stream = TcpStream> + Threads + Wait + Clock + Eprint + Sync,
+>(
     rt: &HostRuntime,
     threads: &R,
     options: &ServeOptions,
@@ -61,6 +73,7 @@ fn serve_folder<R: Threads + Wait + Clock + Sync>(
         interval: options.interval,
         task_seconds: options.task_seconds,
         connections: options.connections,
+        idle_seconds: options.idle_seconds,
     };
     let blank = Blank::new(PARTS);
     let alloc = rt.alloc();
@@ -99,11 +112,9 @@ fn print_fresh(rt: &HostRuntime, path: &str, folder: &Folder) {
 /// Serves the cluster of the folder and the agents that the options name, and returns the table at
 /// its end. It prints on standard error what is noted on the file of the agents, which agents start
 /// fresh, and where it serves, once it does.
-fn serve<R: Net<Listener = TcpListener, Stream = TcpStream> + Threads + Wait + Clock + Sync>(
-    rt: &HostRuntime,
-    threads: &R,
-    options: &ServeOptions,
-) -> Result<Vec<u8>, ServeFault>
+fn serve<
+    R: Net<Listener = TcpListener, Stream = TcpStream> + Threads + Wait + Clock + Eprint + Sync,
+>(rt: &HostRuntime, threads: &R, options: &ServeOptions) -> Result<Vec<u8>, ServeFault>
     ensures { IfOk result (λ text. IsEndTable text.items) }
 {
     let AgentsFile { config, notes } = read_agents(rt, options.agents)?;
@@ -111,7 +122,7 @@ fn serve<R: Net<Listener = TcpListener, Stream = TcpStream> + Threads + Wait + C
     let folder = open_folder(rt, options.state, &config.agents)?;
     print_fresh(rt, options.state, &folder);
     let port = options.port;
-    let listener = match TcpListener::bind(threads, ("127.0.0.1", port)) {
+    let listener = match TcpListener::bind(threads, endpoint(port)) {
         Ok(listener) => listener,
         Err(error) => return Err(ServeFault::Port { port, error }),
     };
@@ -120,10 +131,14 @@ fn serve<R: Net<Listener = TcpListener, Stream = TcpStream> + Threads + Wait + C
     serve_folder(rt, threads, options, config, folder, &listener)
 }
 
-/// Prints on standard error why a cluster isn't served, or isn't any more.
+/// Prints on standard error why a cluster isn't served; why it isn't any more was printed when that
+/// came.
 fn print_serving_fault(rt: &HostRuntime, fault: &ServeFault) -> ExitCode
     ensures { exit_status result ≡ status_of_fault (is_refusal fault.now) }
 {
+    if let ServeFault::Serving(_) = fault {
+        return ExitCode::from(FAILED);
+    }
     print_fault(rt, fault, fault.is_refusal())
 }
 
@@ -133,7 +148,7 @@ fn print_serving_fault(rt: &HostRuntime, fault: &ServeFault) -> ExitCode
 /// records are refused (`X3 BadConfig`, `Z1 TotalDiffers`), and 3 where a store, the port, a
 /// thread, the output or memory fails.
 pub(crate) fn run_serve<
-    R: Net<Listener = TcpListener, Stream = TcpStream> + Threads + Wait + Clock + Sync,
+    R: Net<Listener = TcpListener, Stream = TcpStream> + Threads + Wait + Clock + Eprint + Sync,
     W: Write,
 >(rt: &HostRuntime, threads: &R, options: &ServeOptions, writer: &mut W) -> ExitCode
     ensures status { IsStatus (exit_status result) }

@@ -1,15 +1,16 @@
 //! The connections of a TCP listener.
 
-ghost use Rattle.std.specs.Prelude.{◌≡◌, false, nat_le, IfOk, IfSome, IsTrue};
+ghost use Rattle.std.specs.Prelude.{◌≡◌, false, IfOk, IfSome, IsTrue};
 ghost use Rattle.office_bench.specs.Arrivals.{HasEnded};
 
 use crate::bench::SeatBench;
+use crate::ending::Ending;
 use crate::fault::bench_fault;
 use crate::inlet::TcpInlet;
 use crate::outlet::TcpOutlet;
 use crate::seating::Seating;
 use desk_lock::{Office, Pass, Waited};
-use http_workers::Arrivals;
+use http_workers::{Arrivals, HttpFault};
 use running_clusters::{Awaited, ClusterFault, KeptEntry, Running};
 use std::alloc::Global;
 use std::marker::Model;
@@ -18,61 +19,78 @@ use std::sync::{Wait, ledger};
 use std::time::{Clock, Duration};
 use std::{io, thread};
 
-/// So many times in a row may a connection fail before it is served.
-const FAILURES: u32 = 64;
-
 /// How long is waited after a connection that failed, in milliseconds.
 const PAUSE: u64 = 50;
+
+/// After so many connections in a row that failed it is told again, which is about a minute.
+const TELLS_AGAIN: u64 = 1_200;
 
 /// How long a write may wait for a client that doesn't read, in seconds.
 const WRITE_SECONDS: u64 = 30;
 
 /// Waits for the next connection. What is written is sent at once,
 /// and a write that waits for longer than 30 seconds fails.
-fn accept(listener: &TcpListener) -> io::Result<(TcpInlet, TcpOutlet)>
+fn accept<'a>(
+    listener: &TcpListener,
+    idle_seconds: u64,
+    ending: &'a Ending,
+) -> io::Result<(TcpInlet<'a>, TcpOutlet)>
     ensures { IfOk result (λ ends. (ends.0.faults ≡ 0) × (ends.1.faults ≡ 0)) }
 {
     let (stream, _) = listener.accept()?;
     stream.set_nodelay(true)?;
     stream.set_write_timeout(Some(Duration::from_secs(WRITE_SECONDS)))?;
     let other = stream.try_clone()?;
-    Ok((TcpInlet::new(stream), TcpOutlet::new(other)))
+    let inlet = TcpInlet::new(stream, idle_seconds, ending)?;
+    Ok((inlet, TcpOutlet::new(other)))
+}
+
+/// How many connections are taken, and how long one may wait for its client.
+#[derive(Clone, Copy, Drop)]
+pub struct ConnectionLimits {
+    /// So many connections are taken at most; with 0 there is no limit.
+    pub connections: u64,
+    /// A connection from which no byte came for so many seconds is at the end of its input; with 0
+    /// it waits for ever.
+    pub idle_seconds: u64,
 }
 
 /// The connections of a listener, each with a seat of an office over a cluster, which is opened for
-/// it. Where the office refuses a seat (O3, O5), the connection's calls are refused so.
+/// it. Where the office refuses a seat (O3, O5), the connection's calls are refused so. A connection
+/// that fails before it is taken, as where the system lacks descriptors, is told on standard error,
+/// once a minute while they fail in a row, and the next is waited for.
 #[derive(Drop)]
-pub struct TcpArrivals<'a, D: Running, L: ledger::Ledger, R: Wait + Clock> {
+pub struct TcpArrivals<'a, D: Running, L: ledger::Ledger, R: Wait + Clock + Eprint> {
     rt: &'a R,
     alloc: Global,
     office: &'a Office<D, L>,
     /// The seat by which is read whether the office is finished.
     pass: Pass<KeptEntry, L>,
     listener: &'a TcpListener,
-    /// How many connections are taken at most; 0 is no limit.
-    limit: u64,
+    limits: ConnectionLimits,
+    ending: &'a Ending,
     taken: u64,
     /// How many connections failed since the last that was taken.
-    failures: u32,
+    failures: u64,
     finished: bool,
 }
 
-impl<'a, D: Running, L: ledger::Ledger, R: Wait + Clock> Model for TcpArrivals<'a, D, L, R> {
+impl<'a, D: Running, L: ledger::Ledger, R: Wait + Clock + Eprint> Model
+    for TcpArrivals<'a, D, L, R> {
     ghost use Rattle.office_bench.specs.Arrivals.{ArrivalsState};
 
     ghost Value = { ArrivalsState };
 
     ghost view = { λ a. record {
       pass = a.pass;
-      limit = a.limit;
+      limit = a.limits.connections;
       taken = a.taken;
-      failures = a.failures;
       finished = a.finished;
     } };
 }
 
-impl<'a, D: Running, L: ledger::Ledger, R: Wait + Clock> TcpArrivals<'a, D, L, R> {
-    /// The connections of a listener, at most so many; with the limit 0 any number.
+impl<'a, D: Running, L: ledger::Ledger, R: Wait + Clock + Eprint> TcpArrivals<'a, D, L, R> {
+    /// The connections of a listener, within these limits.
     /// The pass is of a seat of the office that is not used otherwise.
     pub fn new(
         rt: &'a R,
@@ -80,13 +98,13 @@ impl<'a, D: Running, L: ledger::Ledger, R: Wait + Clock> TcpArrivals<'a, D, L, R
         office: &'a Office<D, L>,
         pass: Pass<KeptEntry, L>,
         listener: &'a TcpListener,
-        limit: u64,
+        limits: ConnectionLimits,
+        ending: &'a Ending,
     ) -> TcpArrivals<'a, D, L, R>
         ensures { result ≡ record {
           pass = pass;
-          limit = limit;
+          limit = limits.connections;
           taken = 0;
-          failures = 0;
           finished = false;
         } }
     {
@@ -96,7 +114,8 @@ impl<'a, D: Running, L: ledger::Ledger, R: Wait + Clock> TcpArrivals<'a, D, L, R
             office,
             pass,
             listener,
-            limit,
+            limits,
+            ending,
             taken: 0,
             failures: 0,
             finished: false,
@@ -110,20 +129,13 @@ impl<'a, D: Running, L: ledger::Ledger, R: Wait + Clock> TcpArrivals<'a, D, L, R
         self.pass
     }
 
-    /// Whether there are no more connections because 64 in a row failed.
-    pub fn has_failed(&self) -> bool
-        ensures { result ≡ nat_le 64 self.now.failures }
-    {
-        self.failures >= FAILURES
-    }
-
     /// Whether the office is finished; a look at it finds something at once otherwise.
     fn is_office_finished(&self) -> bool {
         let found = self.office.wait_for(
             self.rt,
             &self.pass,
             Awaited::time(),
-            0,
+            Duration::ZERO,
             |_cluster: &D| -> Result<Option<()>, ClusterFault> { Ok(Some(())) },
         );
         match found {
@@ -136,10 +148,8 @@ impl<'a, D: Running, L: ledger::Ledger, R: Wait + Clock> TcpArrivals<'a, D, L, R
     fn has_ended(&mut self) -> bool
         ensures { IsTrue result → HasEnded self.new }
     {
-        if self.limit > 0 && self.taken >= self.limit {
-            return true;
-        }
-        if self.failures >= FAILURES {
+        let limit = self.limits.connections;
+        if limit > 0 && self.taken >= limit {
             return true;
         }
         if self.is_office_finished() {
@@ -149,19 +159,27 @@ impl<'a, D: Running, L: ledger::Ledger, R: Wait + Clock> TcpArrivals<'a, D, L, R
         false
     }
 
+    /// Tells that a connection failed, where it is the first in a row, or the last was told long ago.
+    fn tell(&mut self, error: &io::Error) {
+        if self.failures % TELLS_AGAIN == 0 {
+            let _ = eprintln!(self.rt; "Z2 DeviceFault: a connection can't be taken: {error}");
+        }
+        self.failures = self.failures.saturating_add(1);
+    }
+
     /// Waits for the next connection. Where it fails there is none; since the next would fail at
     /// once where the system lacks descriptors or memory, it waits for 50 milliseconds then.
-    fn take(&mut self) -> Option<(TcpInlet, TcpOutlet)>
+    fn take(&mut self) -> Option<(TcpInlet<'a>, TcpOutlet)>
         ensures { IfSome result (λ ends. (ends.0.faults ≡ 0) × (ends.1.faults ≡ 0)) }
     {
-        match accept(self.listener) {
+        match accept(self.listener, self.limits.idle_seconds, self.ending) {
             Ok(ends) => {
                 self.failures = 0;
                 self.taken = self.taken.saturating_add(1);
                 Some(ends)
             }
-            Err(_) => {
-                self.failures = self.failures.saturating_add(1);
+            Err(error) => {
+                self.tell(&error);
                 thread::sleep(self.rt, Duration::from_millis(PAUSE));
                 None
             }
@@ -177,9 +195,13 @@ impl<'a, D: Running, L: ledger::Ledger, R: Wait + Clock> TcpArrivals<'a, D, L, R
     }
 }
 
-impl<'a, D: Running + Send + Sync, L: ledger::Ledger + Send + Sync, R: Wait + Clock + Sync> Arrivals
-    for TcpArrivals<'a, D, L, R> {
-    type In = TcpInlet;
+impl<
+    'a,
+    D: Running + Send + Sync,
+    L: ledger::Ledger + Send + Sync,
+    R: Wait + Clock + Eprint + Sync,
+> Arrivals for TcpArrivals<'a, D, L, R> {
+    type In = TcpInlet<'a>;
 
     type Out = TcpOutlet;
 
@@ -187,7 +209,7 @@ impl<'a, D: Running + Send + Sync, L: ledger::Ledger + Send + Sync, R: Wait + Cl
 
     ghost ended = { HasEnded };
 
-    fn next(&mut self) -> Option<(TcpInlet, TcpOutlet, Seating<'a, D, L, R>)> {
+    fn next(&mut self) -> Option<(TcpInlet<'a>, TcpOutlet, Seating<'a, D, L, R>)> {
         let rt = self.rt;
         for _ in rt.forever() {
             if self.has_ended() {
@@ -198,5 +220,13 @@ impl<'a, D: Running + Send + Sync, L: ledger::Ledger + Send + Sync, R: Wait + Cl
             }
         }
         unreachable!()
+    }
+    /// Prints the fault on standard error, and ends the streams, and the connections that wait for
+    /// their clients.
+    fn give_up(&mut self, fault: HttpFault) {
+        if self.ending.begin() {
+            let _ = eprintln!(self.rt; "{fault}");
+        }
+        self.office.finish(self.rt);
     }
 }

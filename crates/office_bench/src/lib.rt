@@ -3,14 +3,16 @@
 
 mod arrivals;
 mod bench;
+mod ending;
 mod fault;
 mod inlet;
 mod outlet;
 mod reading;
 mod seating;
 
-pub use arrivals::TcpArrivals;
+pub use arrivals::{ConnectionLimits, TcpArrivals};
 pub use bench::SeatBench;
+pub use ending::Ending;
 pub use fault::bench_fault;
 pub use inlet::TcpInlet;
 pub use outlet::TcpOutlet;

@@ -30,32 +30,29 @@ fn all_of(moves: usize, overlapped: bool, hang_ups: usize) -> Option<Closed> {
 }
 
 /// What is seen at the close of an office of its own.
-fn seen<R: Net<Listener = TcpListener, Stream = TcpStream> + Threads + Wait + Clock + Sync>(
-    rt: &R,
-    alloc: Global,
-    held: u64,
-    script: &[Move],
-) -> Option<Closed> {
+fn seen<
+    R: Net<Listener = TcpListener, Stream = TcpStream> + Threads + Wait + Clock + Eprint + Sync,
+>(rt: &R, alloc: Global, held: u64, script: &[Move]) -> Option<Closed> {
     served::<Brand, R>(rt, alloc, Blank::new(PARTS), held, script)
 }
 
 /// A stream ends once the office is finished.
 pub fn a_subscription_ends_with_the_office<
-    R: Net<Listener = TcpListener, Stream = TcpStream> + Threads + Wait + Clock + Sync,
+    R: Net<Listener = TcpListener, Stream = TcpStream> + Threads + Wait + Clock + Eprint + Sync,
 >(rt: &R, alloc: Global) -> bool {
     seen(rt, alloc, NONE, SUBSCRIBES) == all_of(SUBSCRIBES.len(), false, 0)
 }
 
 /// A stream ends once its master stops.
 pub fn a_master_stops<
-    R: Net<Listener = TcpListener, Stream = TcpStream> + Threads + Wait + Clock + Sync,
+    R: Net<Listener = TcpListener, Stream = TcpStream> + Threads + Wait + Clock + Eprint + Sync,
 >(rt: &R, alloc: Global) -> bool {
     seen(rt, alloc, NONE, LOSES_MASTER) == all_of(LOSES_MASTER.len(), false, 0)
 }
 
 /// The second call, from 0, is held until the third is answered.
 pub fn two_calls_overlap<
-    R: Net<Listener = TcpListener, Stream = TcpStream> + Threads + Wait + Clock + Sync,
+    R: Net<Listener = TcpListener, Stream = TcpStream> + Threads + Wait + Clock + Eprint + Sync,
 >(rt: &R, alloc: Global) -> bool {
     seen(rt, alloc, 1, OVERLAPS) == all_of(OVERLAPS.len(), true, 1)
 }

@@ -11,7 +11,7 @@ use http_door::Bench;
 use http_workers::serve_all;
 use master_core::Config;
 use names_core::{AgentName, Run, StreamId};
-use office_bench::{SeatBench, Seating, TcpArrivals};
+use office_bench::{ConnectionLimits, Ending, SeatBench, Seating, TcpArrivals};
 use post_rules::Queues;
 use quantity::Resources;
 use recorded_clusters::RecordedCluster;
@@ -129,14 +129,19 @@ fn client_of<'x, D: Running, L: ledger::Ledger, R: Wait + Clock>(
     Some(Client::new(rt, alloc, office, pass, gate, to))
 }
 
-fn arrivals_at<'x, D: Running, L: ledger::Ledger, R: Wait + Clock>(
+fn arrivals_at<'x, D: Running, L: ledger::Ledger, R: Wait + Clock + Eprint>(
     rt: &'x R,
     alloc: Global,
     office: &'x Office<D, L>,
     listener: &'x TcpListener,
+    ending: &'x Ending,
 ) -> Option<TcpArrivals<'x, D, L, R>> {
+    let limits = ConnectionLimits {
+        connections: 0,
+        idle_seconds: 0,
+    };
     let pass = office.open_seat(rt, alloc).ok()?;
-    Some(TcpArrivals::new(rt, alloc, office, pass, listener, 0))
+    Some(TcpArrivals::new(rt, alloc, office, pass, listener, limits, ending))
 }
 
 /// Serves a client that plays a script, in two threads.
@@ -144,7 +149,7 @@ fn join<
     'x,
     D: Running + Send + Sync,
     L: ledger::Ledger + Send + Sync,
-    R: Net<Listener = TcpListener, Stream = TcpStream> + Threads + Wait + Clock + Sync,
+    R: Net<Listener = TcpListener, Stream = TcpStream> + Threads + Wait + Clock + Eprint + Sync,
 >(
     rt: &'x R,
     alloc: Global,
@@ -160,7 +165,7 @@ fn join<
         || serve_all(rt, alloc, &mut arrivals, gate),
     );
     left.moves = moves;
-    left.failed = fault.is_some() || arrivals.has_failed();
+    left.failed = fault.is_some();
     left.hand_in(pass);
     left.hand_in(arrivals.into_pass());
     left.hand_in_all(seats);
@@ -171,7 +176,7 @@ fn serve<
     'x,
     D: Running + Send + Sync,
     L: ledger::Ledger + Send + Sync,
-    R: Net<Listener = TcpListener, Stream = TcpStream> + Threads + Wait + Clock + Sync,
+    R: Net<Listener = TcpListener, Stream = TcpStream> + Threads + Wait + Clock + Eprint + Sync,
 >(
     rt: &'x R,
     alloc: Global,
@@ -181,8 +186,9 @@ fn serve<
     left: &mut Left<L>,
 ) -> Option<()> {
     let listener = TcpListener::bind(rt, "127.0.0.1:0").ok()?;
+    let ending = Ending::new();
     let client = client_of(rt, alloc, office, gate, &listener)?;
-    let arrivals = arrivals_at(rt, alloc, office, &listener)?;
+    let arrivals = arrivals_at(rt, alloc, office, &listener, &ending)?;
     join(rt, alloc, client, arrivals, gate, script, left);
     Some(())
 }
@@ -235,7 +241,7 @@ fn close_office<L: ledger::Ledger>(
 /// while the call of this number is held until the next is answered.
 pub fn served<
     L: ledger::Ledger + Send + Sync,
-    R: Net<Listener = TcpListener, Stream = TcpStream> + Threads + Wait + Clock + Sync,
+    R: Net<Listener = TcpListener, Stream = TcpStream> + Threads + Wait + Clock + Eprint + Sync,
 >(rt: &R, alloc: Global, blank: Blank, held: u64, script: &[Move]) -> Option<Closed>
     requires name { blank.name ≡ L.name }
     requires parts { (blank.parts ≡ L.parts) × (blank.parts ≡ 4294967296) }

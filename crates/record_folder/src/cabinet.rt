@@ -8,15 +8,15 @@ use quantity::Resources;
 use sqlite::{FileFrom, FileStore, Unknown};
 use std::alloc::Global;
 
-/// The file of an agent's record, and what is configured that the agent owns. Its store stays open
-/// from its load on, so that no other process has it. It can go to another thread.
+/// The file of an agent's record, and what is configured that the agent owns.
+/// It can go to another thread, and becomes a cabinet there.
 #[derive(Drop)]
 pub struct RecordFile<'a> {
     agent: AgentName,
     total: Resources,
     /// Whether no record was ever kept in it when it was loaded.
     was_empty: bool,
-    cabinet: FileCabinet<'a>,
+    place: FilePlace<'a>,
 }
 
 impl<'a> RecordFile<'a> {
@@ -24,13 +24,13 @@ impl<'a> RecordFile<'a> {
         agent: AgentName,
         total: Resources,
         was_empty: bool,
-        cabinet: FileCabinet<'a>,
+        place: FilePlace<'a>,
     ) -> RecordFile<'a> {
         RecordFile {
             agent,
             total,
             was_empty,
-            cabinet,
+            place,
         }
     }
 
@@ -48,9 +48,9 @@ impl<'a> RecordFile<'a> {
             agent,
             total,
             was_empty: _,
-            cabinet,
+            place,
         } = self;
-        (agent, total, cabinet)
+        (agent, total, FileCabinet::new(place))
     }
 }
 

@@ -98,24 +98,23 @@ fn record_of(
 fn file_at<'a>(
     agent: &ConfiguredAgent,
     was_empty: bool,
-    cabinet: FileCabinet<'a>,
+    place: FilePlace<'a>,
 ) -> Result<RecordFile<'a>, AllocError> {
     let name = agent.name.copy()?;
     let total = agent.total.copy()?;
-    Ok(RecordFile::new(name, total, was_empty, cabinet))
+    Ok(RecordFile::new(name, total, was_empty, place))
 }
 
-/// The record of an agent, of which this was found, with the file where it is kept, whose store is
-/// open.
+/// The record of an agent, of which this was found, with the file where it is kept.
 fn kept_at<'a>(
     alloc: Global,
     agent: &ConfiguredAgent,
     found: Option<Record>,
-    cabinet: FileCabinet<'a>,
+    place: FilePlace<'a>,
 ) -> Result<(Record, RecordFile<'a>), FolderFault>
     ensures { IfErr result (IsFileRefusal agent.now) }
 {
-    let file = file_at(agent, found.is_none(), cabinet)?;
+    let file = file_at(agent, found.is_none(), place)?;
     match record_of(alloc, agent, found) {
         Ok(record) => Ok((record, file)),
         Err(fault) => Err(fault),
@@ -133,10 +132,12 @@ fn open_agent<'a>(
     let name = agent.name.as_text();
     let path = format!(in rt.alloc(); "{folder}/agent-{name}.db")?;
     let mut cabinet = FileCabinet::new(FilePlace::new(rt, path));
-    match cabinet.reopen(rt.alloc()) {
-        Ok(found) => kept_at(rt.alloc(), agent, found, cabinet),
+    let found = cabinet.reopen(rt.alloc());
+    let place = cabinet.into_place();
+    match found {
+        Ok(found) => kept_at(rt.alloc(), agent, found, place),
         Err(fault) => {
-            let path = cabinet.into_place().into_path();
+            let path = place.into_path();
             let hint = StoreHint::of(&fault);
             Err(FolderFault::Store { path, fault, hint })
         }
@@ -192,11 +193,11 @@ fn add_agents<'a>(
 }
 
 /// Opens the stores of a folder, or makes those that lack: takes the master's next run, and reads
-/// the agents' records, a fresh one where there is none. The stores stay open, and so locked: as
-/// long as what is returned is there, K1 is the answer to every other process that opens them. The
-/// folder itself is to be there. Refusals come in the order: the store of runs, each agent's store
-/// and its total (Z1) in the order of their names, and then K2 where the records are those of no
-/// cluster.
+/// the agents' records, a fresh one where there is none. The store of runs stays open, and so
+/// locked: as long as what is returned is there, K1 is the answer to every other server that opens
+/// the folder. The folder itself is to be there. Refusals come in the order: the store of runs,
+/// each agent's store and its total (Z1) in the order of their names, and then K2 where the records
+/// are those of no cluster.
 pub fn open_folder<'a>(
     rt: &'a HostRuntime,
     folder: &str,

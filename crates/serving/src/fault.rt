@@ -19,8 +19,6 @@ pub enum ServingFault {
     },
     /// A thread or memory was refused: `H8 OutOfMemory` or `H9 NoThread`.
     Http(HttpFault),
-    /// `Z2 DeviceFault`: connection after connection failed.
-    Listener,
     /// The office refused a seat, or its close.
     Office(OfficeFault<ClusterFault>),
 }
@@ -36,7 +34,6 @@ impl fmt::Display for ServingFault {
                 let fault = *fault;
                 write!(f, "{fault}")
             }
-            ServingFault::Listener => f.write_str("Z2 DeviceFault: no connection can be taken"),
             ServingFault::Office(fault) => {
                 let fault = *fault;
                 write!(f, "{fault}")

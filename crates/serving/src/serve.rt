@@ -4,15 +4,15 @@ ghost use Rattle.std.specs.Fn.{FnReturnsAt};
 ghost use Rattle.std.specs.Prelude.{◌≡◌, [], IfOk, Ok};
 
 use crate::fault::ServingFault;
-use crate::staff::{Leaver, Pace, seated, start_all};
+use crate::staff::{Entrance, Leaver, Pace, seated, start_all};
 use desk_lock::{Desk, Office, OfficeFault, Pass, Passes, Recorded, SeatedHistory};
 use http_door::NoGate;
 use http_workers::{HttpFault, serve_all};
-use office_bench::{Seating, TcpArrivals};
+use office_bench::{ConnectionLimits, Ending, Seating, TcpArrivals};
 use record_folder::RecordFile;
 use running_clusters::{KeptEntry, Running};
 use std::alloc::Global;
-use std::net::TcpListener;
+use std::net::{Net, TcpListener, TcpStream};
 use std::sync::ledger::Blank;
 use std::sync::{Wait, ledger};
 use std::thread;
@@ -56,10 +56,9 @@ fn hand_in_all<D: Running, L: ledger::Ledger, R: Wait>(
 }
 
 /// Why no more connections were served, unless no more came.
-fn why_ended(fault: Option<HttpFault>, has_failed: bool) -> Result<(), ServingFault> {
+fn why_ended(fault: Option<HttpFault>) -> Result<(), ServingFault> {
     match fault {
         Some(fault) => Err(ServingFault::Http(fault)),
-        None if has_failed => Err(ServingFault::Listener),
         None => Ok(()),
     }
 }
@@ -69,19 +68,24 @@ fn why_ended(fault: Option<HttpFault>, has_failed: bool) -> Result<(), ServingFa
 fn serve_connections<
     D: Running + Send + Sync,
     L: ledger::Ledger + Send + Sync,
-    R: Threads + Wait + Clock + Sync,
+    R: Threads + Wait + Clock + Eprint + Sync,
 >(
     rt: &R,
     alloc: Global,
     office: &Office<D, L>,
-    listener: &TcpListener,
-    connections: u64,
+    entrance: Entrance<'_>,
+    pace: Pace,
     passes: &mut Passes<KeptEntry, L>,
 ) -> Result<(), ServingFault> {
     let pass = seated(rt, alloc, office)?;
-    let mut arrivals = TcpArrivals::new(rt, alloc, office, pass, listener, connections);
+    let limits = ConnectionLimits {
+        connections: pace.connections,
+        idle_seconds: pace.idle_seconds,
+    };
+    let Entrance { listener, ending } = entrance;
+    let mut arrivals = TcpArrivals::new(rt, alloc, office, pass, listener, limits, ending);
     let (benches, fault) = serve_all(rt, alloc, &mut arrivals, &NoGate);
-    let ended = why_ended(fault, arrivals.has_failed());
+    let ended = why_ended(fault);
     let own = hand_in(passes, arrivals.into_pass());
     let handed = first_fault(own, hand_in_all(passes, benches));
     first_fault(ended, handed)
@@ -97,7 +101,7 @@ fn join_all<L: ledger::Ledger, R: Threads>(
     for thread in threads {
         let Leaver { pass, fault } = thread.join(rt);
         let left = match fault {
-            Some((agent, fault)) => Err(ServingFault::Agent { agent, fault }),
+            Some(fault) => Err(fault),
             None => Ok(()),
         };
         ended = first_fault(ended, first_fault(left, hand_in(passes, pass)));
@@ -112,21 +116,36 @@ fn run<
     E,
     D: Running + Send + Sync + 's,
     L: ledger::Ledger + Send + Sync + 's,
-    R: Threads + Wait + Clock + Sync + 's,
+    R: Net<Listener = TcpListener, Stream = TcpStream>
+        + Threads
+        + Wait
+        + Clock
+        + Eprint
+        + Sync
+        + 's,
 >(
     scope: &Scope<'s, E>,
     rt: &'s R,
     alloc: Global,
     office: &'s Office<D, L>,
     files: Vec<RecordFile<'s>>,
-    listener: &TcpListener,
+    entrance: Entrance<'s>,
     pace: Pace,
 ) -> (Passes<KeptEntry, L>, Result<(), ServingFault>) {
     let mut passes = Passes::new(alloc);
     let mut threads = Vec::new(alloc);
-    let started = start_all(scope, rt, alloc, office, files, pace, &mut threads);
+    let started = start_all(
+        scope,
+        rt,
+        alloc,
+        office,
+        files,
+        entrance,
+        pace,
+        &mut threads,
+    );
     let served = match started {
-        Ok(()) => serve_connections(rt, alloc, office, listener, pace.connections, &mut passes),
+        Ok(()) => serve_connections(rt, alloc, office, entrance, pace, &mut passes),
         Err(fault) => Err(fault),
     };
     office.finish(rt);
@@ -138,17 +157,17 @@ fn run<
 fn run_office<
     D: Running + Send + Sync,
     L: ledger::Ledger + Send + Sync,
-    R: Threads + Wait + Clock + Sync,
+    R: Net<Listener = TcpListener, Stream = TcpStream> + Threads + Wait + Clock + Eprint + Sync,
 >(
     rt: &R,
     alloc: Global,
     office: &Office<D, L>,
     files: Vec<RecordFile<'_>>,
-    listener: &TcpListener,
+    entrance: Entrance<'_>,
     pace: Pace,
 ) -> (Passes<KeptEntry, L>, Result<(), ServingFault>) {
     thread::scope(thread::scope_env(), rt, |scope| {
-        run(scope, rt, alloc, office, files, listener, pace)
+        run(scope, rt, alloc, office, files, entrance, pace)
     })
 }
 
@@ -207,15 +226,25 @@ pub fn read_recorded<C: Recorded, T, F: Fn(&C) -> T>(history: SeatedHistory<C>, 
     look(history.recorded())
 }
 
+/// Prints on standard error why a cluster isn't served any more, unless that was printed.
+fn print_once<T, R: Eprint>(rt: &R, ending: &Ending, served: &Result<T, ServingFault>) {
+    if let Err(fault) = served {
+        if ending.begin() {
+            let _ = eprintln!(rt; "{fault}");
+        }
+    }
+}
+
 /// Runs a cluster of agents whose records are kept in files, until so many connections as its pace
 /// says have come and ended, and returns its whole history, with the seat of each entry. Each
 /// connection has a seat, as has each agent and the master's time. Where an agent's record can't be
-/// kept any more, where memory or a thread is refused, or where connection after connection fails,
-/// it ends too, once the connections that there are have ended; the fault says why.
+/// kept any more, or where memory or a thread is refused, it ends too: the fault, which says why, is
+/// printed on standard error at once, streams and connections that wait for their clients are
+/// ended, and what is being answered is answered.
 pub fn serve_cluster<
     D: Running + Send + Sync,
     L: ledger::Ledger + Send + Sync,
-    R: Threads + Wait + Clock + Sync,
+    R: Net<Listener = TcpListener, Stream = TcpStream> + Threads + Wait + Clock + Eprint + Sync,
 >(
     rt: &R,
     alloc: Global,
@@ -231,6 +260,13 @@ pub fn serve_cluster<
     ensures { IfOk result (λ history. D.sound history.recorded) }
 {
     let office: Office<D, L> = opened(alloc, cluster, blank);
-    let (passes, ended) = run_office(rt, alloc, &office, files, listener, pace);
-    unless_failed(close(office, passes), ended)
+    let ending = Ending::new();
+    let entrance = Entrance {
+        listener,
+        ending: &ending,
+    };
+    let (passes, ended) = run_office(rt, alloc, &office, files, entrance, pace);
+    let closed = unless_failed(close(office, passes), ended);
+    print_once(rt, &ending, &closed);
+    closed
 }

@@ -3,14 +3,14 @@
 ghost use Rattle.std.specs.Prelude.{◌≡◌, [], IfOk};
 
 use crate::fault::ServingFault;
-use activities::{ActivityFault, activity, ticker};
+use activities::{activity, ticker};
 use desk_lock::{Office, Pass};
 use http_workers::HttpFault;
-use keep_store::KeepFault;
-use names_core::AgentName;
+use office_bench::Ending;
 use record_folder::RecordFile;
 use running_clusters::{KeptEntry, Running};
 use std::alloc::Global;
+use std::net::{Net, TcpListener, TcpStream};
 use std::sync::{Wait, ledger};
 use std::thread::{JoinHandle, Scope, Threads};
 use std::time::Clock;
@@ -25,22 +25,54 @@ pub struct Pace {
     pub task_seconds: u64,
     /// So many connections are taken, any number; with 0 there is no limit.
     pub connections: u64,
+    /// After so many seconds without a byte a connection is at its end; with 0 never.
+    pub idle_seconds: u64,
+}
+
+/// Where a server takes its connections, and whether it ends before they do.
+#[derive(Clone, Copy, Drop)]
+pub(crate) struct Entrance<'a> {
+    pub listener: &'a TcpListener,
+    pub ending: &'a Ending,
+}
+
+impl<'a> Entrance<'a> {
+    /// Has the server end, and prints why on standard error, unless it ends already. Who waits for
+    /// a connection gets one, and sees it then.
+    fn close<R: Net<Listener = TcpListener, Stream = TcpStream> + Eprint>(
+        &self,
+        rt: &R,
+        fault: &ServingFault,
+    ) {
+        if !self.ending.begin() {
+            return;
+        }
+        let _ = eprintln!(rt; "{fault}");
+        if let Ok(address) = self.listener.local_addr() {
+            let _ = TcpStream::connect(rt, address);
+        }
+    }
 }
 
 /// What a thread leaves: its pass, and why an agent's activity ended.
 #[derive(Drop)]
 pub(crate) struct Leaver<L: ledger::Ledger> {
     pub pass: Pass<KeptEntry, L>,
-    pub fault: Option<(AgentName, ActivityFault<KeepFault>)>,
+    pub fault: Option<ServingFault>,
 }
 
-/// An agent's activity.
-fn keep_going<D: Running, L: ledger::Ledger, R: Wait + Clock>(
+/// An agent's activity. A fault that ends it ends the server.
+fn keep_going<
+    D: Running,
+    L: ledger::Ledger,
+    R: Net<Listener = TcpListener, Stream = TcpStream> + Wait + Clock + Eprint,
+>(
     rt: &R,
     alloc: Global,
     office: &Office<D, L>,
     pass: Pass<KeptEntry, L>,
     file: RecordFile<'_>,
+    entrance: Entrance<'_>,
     task_seconds: u64,
 ) -> Leaver<L>
     requires { pass.receipts ≡ [] }
@@ -56,12 +88,14 @@ fn keep_going<D: Running, L: ledger::Ledger, R: Wait + Clock>(
         task_seconds,
         &total,
     );
-    match fault {
-        Some(fault) => Leaver {
-            pass,
-            fault: Some((agent, fault)),
-        },
-        None => Leaver { pass, fault: None },
+    let Some(fault) = fault else {
+        return Leaver { pass, fault: None };
+    };
+    let fault = ServingFault::Agent { agent, fault };
+    entrance.close(rt, &fault);
+    Leaver {
+        pass,
+        fault: Some(fault),
     }
 }
 
@@ -120,18 +154,25 @@ fn start_agent<
     E,
     D: Running + Send + Sync + 's,
     L: ledger::Ledger + Send + Sync + 's,
-    R: Threads + Wait + Clock + Sync + 's,
+    R: Net<Listener = TcpListener, Stream = TcpStream>
+        + Threads
+        + Wait
+        + Clock
+        + Eprint
+        + Sync
+        + 's,
 >(
     scope: &Scope<'s, E>,
     rt: &'s R,
     alloc: Global,
     office: &'s Office<D, L>,
     file: RecordFile<'s>,
+    entrance: Entrance<'s>,
     pace: Pace,
 ) -> Result<JoinHandle<Leaver<L>>, ServingFault> {
     let pass = seated(rt, alloc, office)?;
     let seconds = pace.task_seconds;
-    started(scope.spawn(move || keep_going(rt, alloc, office, pass, file, seconds)))
+    started(scope.spawn(move || keep_going(rt, alloc, office, pass, file, entrance, seconds)))
 }
 
 /// Starts the thread of the master's time.
@@ -159,18 +200,26 @@ fn start_agents<
     E,
     D: Running + Send + Sync + 's,
     L: ledger::Ledger + Send + Sync + 's,
-    R: Threads + Wait + Clock + Sync + 's,
+    R: Net<Listener = TcpListener, Stream = TcpStream>
+        + Threads
+        + Wait
+        + Clock
+        + Eprint
+        + Sync
+        + 's,
 >(
     scope: &Scope<'s, E>,
     rt: &'s R,
     alloc: Global,
     office: &'s Office<D, L>,
     files: Vec<RecordFile<'s>>,
+    entrance: Entrance<'s>,
     pace: Pace,
     threads: &mut Vec<JoinHandle<Leaver<L>>>,
 ) -> Result<(), ServingFault> {
     for file in files {
-        keep(threads, start_agent(scope, rt, alloc, office, file, pace)?);
+        let thread = start_agent(scope, rt, alloc, office, file, entrance, pace)?;
+        keep(threads, thread);
     }
     Ok(())
 }
@@ -182,18 +231,25 @@ pub(crate) fn start_all<
     E,
     D: Running + Send + Sync + 's,
     L: ledger::Ledger + Send + Sync + 's,
-    R: Threads + Wait + Clock + Sync + 's,
+    R: Net<Listener = TcpListener, Stream = TcpStream>
+        + Threads
+        + Wait
+        + Clock
+        + Eprint
+        + Sync
+        + 's,
 >(
     scope: &Scope<'s, E>,
     rt: &'s R,
     alloc: Global,
     office: &'s Office<D, L>,
     files: Vec<RecordFile<'s>>,
+    entrance: Entrance<'s>,
     pace: Pace,
     threads: &mut Vec<JoinHandle<Leaver<L>>>,
 ) -> Result<(), ServingFault> {
     make_room(threads, files.len())?;
-    start_agents(scope, rt, alloc, office, files, pace, threads)?;
+    start_agents(scope, rt, alloc, office, files, entrance, pace, threads)?;
     make_room(threads, 1)?;
     keep(threads, start_ticker(scope, rt, alloc, office, pace)?);
     Ok(())

@@ -268,7 +268,7 @@ fn sum_above<L: ledger::Ledger, R: Wait + Clock>(
     pass: &Pass<Added, L>,
     least: u64,
 ) -> Result<Waited<u64>, OfficeFault<FaultKind>> {
-    office.wait_for(rt, pass, Sum, 0, |adder: &Adder| {
+    office.wait_for(rt, pass, Sum, Duration::ZERO, |adder: &Adder| {
         if adder.sum > least {
             Ok(Some(adder.sum))
         } else {
@@ -428,7 +428,7 @@ fn refusals<L: ledger::Ledger, R: Wait + Clock>(
     let answers = |_: &Refuser| Turn::Answer;
     let waited = office.wait_call(rt, alloc, pass, (), answers, kind).err();
     let look = |_: &Refuser| -> Result<Option<()>, FaultKind> { Err(kind) };
-    let looked = office.wait_for(rt, pass, (), 0, look).err();
+    let looked = office.wait_for(rt, pass, (), Duration::ZERO, look).err();
     [called, waited, looked]
 }
 

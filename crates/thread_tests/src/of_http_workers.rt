@@ -97,6 +97,8 @@ impl Arrivals for Waiting {
             },
         ))
     }
+
+    fn give_up(&mut self, _fault: HttpFault) {}
 }
 
 fn push_request(requests: &mut Vec<Vec<u8>>, alloc: Global, request: &str) -> Option<()> {
@@ -267,6 +269,8 @@ impl<'a> Arrivals for Accepting<'a> {
             },
         ))
     }
+
+    fn give_up(&mut self, _fault: HttpFault) {}
 }
 
 /// Connects, and sends a request.

@@ -12,3 +12,6 @@ returns-in_err-number_in-2-clause-none c = at_none _ c.from_residual-in_err-numb
 
 pub returns-in_err-number_in-3-clause-none : goal.returns-in_err-number_in-3-clause-none
 returns-in_err-number_in-3-clause-none c = at_none _ c.from_residual-in_err-number_in-3.result (λ o has. c.in_err-number_in-3.ensures.none o.connections has.connections)
+
+pub returns-in_err-number_in-4-clause-none : goal.returns-in_err-number_in-4-clause-none
+returns-in_err-number_in-4-clause-none c = at_none _ c.from_residual-in_err-number_in-4.result (λ o has. c.in_err-number_in-4.ensures.none o.idle_seconds has.idle_seconds)
