@@ -58,6 +58,8 @@ def main():
         try_ports_and_files(folder)
         try_words(folder)
         with Server(folder, "--task-seconds", "0") as server:
+            with socket.socket() as it:
+                check(it.connect_ex(("127.0.0.2", server.port)) != 0, "another address than 127.0.0.1 isn't served")
             Framework(server.port, framework=framework.id).next_offer({"cpus": 1})
         print(f"{len(TOLD)} faults, each told by a line or two, with its status; t1 has its cpu after them: {', '.join(TOLD)}")
         print("--help of the program and of each command has status 0; an option that isn't there, or is out of range, has status 2")

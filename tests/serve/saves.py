@@ -2,8 +2,6 @@
 """An agent's record that can't be saved: for a while, and then for good, where its store can't be opened again either."""
 import os
 import resource
-import socket
-from contextlib import suppress
 
 from cluster import Folder, Framework, Server, check, tell
 
@@ -32,9 +30,6 @@ def fail_for_good(folder, server, framework):
     os.rename(folder.state, folder.state + "-")
     framework.accept(offer, [("t2", {"cpus": 1})])
     check(framework.ends(), "the stream ends where a store can't be opened again")
-    # One more connection may come before the server sees that it has ended.
-    with suppress(ConnectionError):
-        socket.create_connection(("127.0.0.1", server.port), 5).close()
     out, err = server.process.communicate(timeout=15)
     tell("a store that can't be opened again", (server.process.returncode, out.decode(), err.decode()), 3, "K1 Store ")
     check(err.decode().endswith(": the record of a1\n"), f"whose record it is: {err.decode()!r}")
