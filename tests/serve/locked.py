@@ -40,6 +40,15 @@ def strace_words():
     return words
 
 
+def is_gone(pid):
+    """Whether a process has ended, and holds no lock any more; its parent may not know yet."""
+    try:
+        with open(f"/proc/{pid}/stat", encoding="utf-8") as it:
+            return it.read().rpartition(")")[2].split()[0] in "ZX"
+    except FileNotFoundError:
+        return True
+
+
 class Held:
     """A server that is held between the load of its folder and its first thread."""
 
@@ -61,6 +70,9 @@ class Held:
         for pid in [*below, self.process.pid]:
             subprocess.run(["kill", "-9", str(pid)], check=False, stderr=subprocess.DEVNULL)
         self.process.wait()
+        end = time.monotonic() + 10
+        while not all(is_gone(pid) for pid in below) and time.monotonic() < end:
+            time.sleep(0.05)
 
     def __enter__(self):
         return self
