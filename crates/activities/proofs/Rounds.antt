@@ -2,7 +2,7 @@
 use Rattle.std.proofs.Common.{List, [], ◌∷◌, ◌++◌, refl, subst}
 use Rattle.desk_seats.specs.Receipts.{PassState}
 use Rattle.cluster_entries.specs.declared.entry.Entry.{Entry}
-use Rattle.running_offices.specs.Answering.{Refusing, Taking}
+use Rattle.desk_lock.specs.Answering.{Refusing, Taking}
 use Rattle.activities.specs.Rounds.{AreRounds, IsRound}
 
 -- one round more

@@ -11,7 +11,7 @@ use Rattle.desk_seats.specs.declared.desk.pass.Answered.{Answered}
 use Rattle.desk_seats.specs.declared.desk.pass.Receipt.{Receipt}
 use Rattle.desk_seats.specs.Receipts.{AnswersBy, PassState}
 use Rattle.running_clusters.specs.declared.given.Given.{Given}
-use Rattle.running_offices.specs.Answering.{Answers, Taking, step_in}
+use Rattle.desk_lock.specs.Answering.{Answers, Taking, step_in}
 use Rattle.activities.specs.Saved.{IsBehindSave, IsDraftIn, IsGrown, IsLastSaved, IsOpen, IsSaved, Keeps, SavedFrom, last_of, taker_of}
 
 pub grown_itself : (p : PassState Entry) → IsGrown p p

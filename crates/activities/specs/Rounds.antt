@@ -10,7 +10,7 @@ use Rattle.desk_seats.specs.declared.desk.pass.Answered.{Answered}
 use Rattle.desk_seats.specs.declared.fault.OfficeFault.{OfficeFault}
 use Rattle.desk_seats.specs.declared.fault.OfficeFault.TheVariants.{Core, ForeignPass}
 use Rattle.running_clusters.specs.declared.given.Given.{Given}
-use Rattle.running_offices.specs.Answering.{Answers, Refusing, Taking}
+use Rattle.desk_lock.specs.Answering.{Answers, Refusing, Taking}
 
 -- the step is answered: it is taken, and the pass has its receipt
 abbrev pub IsAnswered : Taking → Step → PassState Entry → PassState Entry → Type 0

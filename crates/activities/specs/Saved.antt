@@ -8,7 +8,7 @@ use Rattle.cluster_steps.specs.declared.step.StepCause.{StepCause}
 use Rattle.cluster_steps.specs.declared.step.Keep.TheVariants.{After}
 use Rattle.desk_seats.specs.declared.desk.pass.Receipt.{Receipt}
 use Rattle.desk_seats.specs.Receipts.{PassState}
-use Rattle.running_offices.specs.Answering.{Taking}
+use Rattle.desk_lock.specs.Answering.{Taking}
 use Rattle.running_clusters.specs.declared.given.Given.{Given}
 
 -- the receipt is of a Prepare of this agent, which some state took and

@@ -1,7 +1,7 @@
 //! What the executors of an agent's tasks report: a task runs at once, and ends by itself after some
 //! time. When a turn is due, and whose turn it is within one: a mail's, or a cause's.
 
-use mails::{Durable, RecordedTask};
+use mails::{Durable, ExecutorState, RecordedTask};
 use names_core::{LaunchKey, TaskState};
 use plain_data::Plain;
 use quantity::Resources;
@@ -155,12 +155,12 @@ impl Executors {
     }
 
     /// The state that the executor of a task reports now; None where it reports none.
-    fn next_state(&self, task: &RecordedTask, now: Instant) -> Option<TaskState> {
+    fn next_state(&self, task: &RecordedTask, now: Instant) -> Option<ExecutorState> {
         match state_of(task) {
-            None => Some(TaskState::Running),
+            None => Some(ExecutorState::Running),
             Some(TaskState::Running) => {
                 if self.is_over(self.began(task.job.key, now), now) {
-                    Some(TaskState::Finished)
+                    Some(ExecutorState::Finished)
                 } else {
                     None
                 }

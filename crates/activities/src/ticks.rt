@@ -6,7 +6,6 @@ ghost use Rattle.cluster_steps.specs.declared.step.Step.TheVariants.{Allocate, T
 
 use desk_lock::{Office, OfficeFault, Pass, Waited};
 use running_clusters::{Awaited, ClusterFault, KeptEntry, Running, Step};
-use running_offices::ask;
 use std::alloc::Global;
 use std::sync::{Wait, ledger};
 use std::time::{Clock, Duration, Instant};
@@ -43,7 +42,7 @@ fn tick<D: Running, L: ledger::Ledger, R: Wait>(
     ensures { MatchBool result (IsAsked D.is_taken D.is_refused (Tick moment) pass.old pass.new)
         (IsCutRound D.is_refused pass.old pass.new) }
 {
-    goes_on(ask(rt, alloc, office, pass, Step::Tick(moment)))
+    goes_on(office.ask(rt, alloc, pass, Step::Tick(moment)))
 }
 
 /// A round of offers. It returns whether the ticker goes on.
@@ -55,7 +54,7 @@ fn allocate<D: Running, L: ledger::Ledger, R: Wait>(
 ) -> bool
     ensures { IsAsked D.is_taken D.is_refused Allocate pass.old pass.new }
 {
-    goes_on(ask(rt, alloc, office, pass, Step::Allocate))
+    goes_on(office.ask(rt, alloc, pass, Step::Allocate))
 }
 
 /// A Tick, and a round of offers where the ticker goes on after it.

@@ -1,6 +1,8 @@
 //! What an agent does in a thread of its own.
 
+ghost use Rattle.std.specs.Prelude.{◌≡◌, Some, IfOk};
 ghost use Rattle.activities.specs.Saved.{CommitsSaved, IsGrown, IsOpen, Keeps};
+ghost use Rattle.activities.specs.Seen.{IsSeen};
 
 use crate::executor::Executors;
 use crate::fault::{ActivityFault, Stop, stop_of};
@@ -15,9 +17,25 @@ use std::alloc::Global;
 use std::sync::{Wait, ledger};
 use std::time::{Clock, Duration, Instant};
 
+/// A copy of an agent's record, which has an owner more of each task. Refusals: C8 and C9.
+fn copy_of<D: Running>(cluster: &D, agent: &AgentName) -> Result<Option<Record>, ClusterFault>
+    ensures { IfOk result (λ copy. D.record_of cluster.now agent.now ≡ copy) }
+{
+    match cluster.durable(agent) {
+        Some(own) => match own.copy() {
+            Ok(copy) => Ok(Some(copy)),
+            Err(_) => Err(ClusterFault::OutOfMemory),
+        },
+        None => Err(ClusterFault::NoSuchAgent),
+    }
+}
+
 impl<'a, D: Running, L: ledger::Ledger, R: Wait + Clock> Worker<'a, D, L, R> {
     /// Whether the agent has an open session.
-    fn is_in_session<F>(&self, pass: &Pass<KeptEntry, L>) -> Result<bool, Stop<F>> {
+    fn is_in_session<F>(&self, pass: &Pass<KeptEntry, L>) -> Result<bool, Stop<F>>
+        ensures { IfOk result (λ is. IsSeen D.history D.sound
+            (λ c. is ≡ D.has_session c self.now.agent.now)) }
+    {
         let agent = self.agent;
         let look = |cluster: &D| Ok(Some(cluster.is_in_session(agent)));
         let mails = Awaited::mails_to(agent);
@@ -32,15 +50,12 @@ impl<'a, D: Running, L: ledger::Ledger, R: Wait + Clock> Worker<'a, D, L, R> {
     }
 
     /// A copy of the agent's own record, which has an owner more of each task.
-    fn record<F>(&self, pass: &Pass<KeptEntry, L>) -> Result<Record, Stop<F>> {
+    fn record<F>(&self, pass: &Pass<KeptEntry, L>) -> Result<Record, Stop<F>>
+        ensures { IfOk result (λ own. IsSeen D.history D.sound
+            (λ c. D.record_of c self.now.agent.now ≡ Some own)) }
+    {
         let agent = self.agent;
-        let look = |cluster: &D| match cluster.durable(agent) {
-            Some(own) => match own.copy() {
-                Ok(copy) => Ok(Some(copy)),
-                Err(_) => Err(ClusterFault::OutOfMemory),
-            },
-            None => Err(ClusterFault::NoSuchAgent),
-        };
+        let look = |cluster: &D| copy_of(cluster, agent);
         let mails = Awaited::mails_to(agent);
         match self
             .office

@@ -1,18 +1,18 @@
 //! The steps that an activity takes, each at the office.
 
-ghost use Rattle.std.specs.Prelude.{◌≡◌, Bool, None, IfOk, OnErr, OnOk};
+ghost use Rattle.std.specs.Prelude.{◌≡◌, Bool, None, Some, IfOk, IfSome, OnErr, OnOk};
 ghost use Rattle.mails.specs.declared.record.Durable.{Durable};
-ghost use Rattle.running_offices.specs.Answering.{Answers};
+ghost use Rattle.desk_lock.specs.Answering.{Answers};
 ghost use Rattle.activities.specs.Saved.{IsBehindSave, IsLastSaved, IsOpen, Keeps, last_of};
+ghost use Rattle.activities.specs.Seen.{IsSeen};
 
 use crate::fault::{Stop, stop_of};
 use agent_core::Record;
-use desk_lock::{Answered, Office, OfficeFault, Pass, Waited};
+use desk_lock::{Answered, Office, OfficeFault, Pass, Waited, Wake};
 use names_core::AgentName;
 use plain_data::Plain;
 use quantity::Resources;
 use running_clusters::{Awaited, ClusterFault, Given, Keep, KeptEntry, Running, Step, StepCause};
-use running_offices::ask;
 use std::alloc::Global;
 use std::sync::{Wait, ledger};
 use std::time::{Clock, Duration};
@@ -93,7 +93,7 @@ impl<'a, D: Running, L: ledger::Ledger, R: Wait + Clock> Worker<'a, D, L, R> {
         ensures answered { IfOk result (λ a. Answers D.is_taken pass.old step a pass.new) }
         ensures unchanged { OnErr result (pass.new ≡ pass.old) }
     {
-        ask(self.rt, self.alloc, self.office, pass, step)
+        self.office.ask(self.rt, self.alloc, pass, step)
     }
 
     /// The agent stops, and comes up over its record.
@@ -214,7 +214,10 @@ impl<'a, D: Running, L: ledger::Ledger, R: Wait + Clock> Worker<'a, D, L, R> {
     }
 
     /// The first mail from the agent that waits; none where the office is finished.
-    fn first_sent<F>(&self, pass: &Pass<KeptEntry, L>) -> Result<Option<u64>, Stop<F>> {
+    fn first_sent<F>(&self, pass: &Pass<KeptEntry, L>) -> Result<Option<u64>, Stop<F>>
+        ensures { IfOk result (λ mail. IfSome mail (λ number. IsSeen D.history D.sound
+            (λ c. D.is_first_from c self.now.agent.now (Some number)))) }
+    {
         let agent = self.agent;
         let look = |cluster: &D| Ok(cluster.first_mail_from(agent));
         let mails = Awaited::mails_to(agent);
@@ -251,17 +254,14 @@ impl<'a, D: Running, L: ledger::Ledger, R: Wait + Clock> Worker<'a, D, L, R> {
         &self,
         pass: &Pass<KeptEntry, L>,
         time: Duration,
-    ) -> Result<Option<u64>, Stop<F>> {
-        let agent = self.agent;
-        let look = |cluster: &D| match cluster.durable(agent) {
-            Some(_) => Ok(cluster.first_mail(agent)),
-            None => Err(ClusterFault::NoSuchAgent),
-        };
-        let mails = Awaited::mails_to(agent);
-        match self.office.wait_for(self.rt, pass, mails, time, look) {
-            Ok(Waited::Found(number)) => Ok(Some(number)),
-            Ok(Waited::Elapsed) => Ok(None),
-            Ok(Waited::Finished) => Err(Stop::Ended),
+    ) -> Result<Option<u64>, Stop<F>>
+        ensures { IfOk result (λ mail. IsSeen D.history D.sound
+            (λ c. D.is_first_to c self.now.agent.now mail)) }
+    {
+        match self.office.wait_mail(self.rt, pass, self.agent, time) {
+            Ok(Wake::Mail(number)) => Ok(Some(number)),
+            Ok(Wake::Turn) => Ok(None),
+            Ok(Wake::Finished) => Err(Stop::Ended),
             Err(fault) => Err(stop_of(fault)),
         }
     }

@@ -2,9 +2,9 @@
 
 ghost use Rattle.std.specs.Prelude.{◌≡◌, [], IfSome};
 
-use cluster_core::{Cluster, KeptEntry, fresh_agents_open, fresh_records};
+use cluster_core::{Cluster, Config, KeptEntry, fresh_agents_open, fresh_records};
 use desk_lock::{Desk, Office, Pass, Waited};
-use master_core::Config;
+use master_core::ConfiguredAgents;
 use names_core::{AgentName, Run};
 use post_rules::Queues;
 use quantity::Resources;
@@ -35,23 +35,24 @@ pub fn cpus(alloc: Global, amount: u64) -> Result<Resources, AllocError> {
     }
 }
 
-fn add_agent(config: &mut Config, alloc: Global, name: &str) -> Option<()> {
+fn add_agent(agents: &mut ConfiguredAgents, alloc: Global, name: &str) -> Option<()> {
     let name = named(alloc, name)?;
-    config.add(name, cpus(alloc, OWNED).ok()?).ok()
+    agents.add(name, cpus(alloc, OWNED).ok()?).ok()
 }
 
-fn add_agents(config: &mut Config, alloc: Global, names: &[&str]) -> Option<()> {
+fn add_agents(agents: &mut ConfiguredAgents, alloc: Global, names: &[&str]) -> Option<()> {
     for name in names {
-        add_agent(config, alloc, name)?;
+        add_agent(agents, alloc, name)?;
     }
     Some(())
 }
 
 /// Agents of these names, of 4 cpus each.
 fn config(alloc: Global, names: &[&str]) -> Option<Config> {
-    let mut config = Config::new(alloc);
-    match add_agents(&mut config, alloc, names) {
-        Some(()) => Some(config),
+    let mut agents = ConfiguredAgents::new(alloc);
+    let weights = Weights::new(alloc);
+    match add_agents(&mut agents, alloc, names) {
+        Some(()) => Some(Config { agents, weights }),
         None => None,
     }
 }
@@ -59,11 +60,11 @@ fn config(alloc: Global, names: &[&str]) -> Option<Config> {
 fn recorded(alloc: Global, config: Config) -> Option<RecordedCluster>
     ensures { IfSome result (λ recorded. recorded.story.entries ≡ []) }
 {
-    fresh_agents_open(&config);
-    let Ok(records) = fresh_records(alloc, &config) else {
+    fresh_agents_open(&config.agents);
+    let Ok(records) = fresh_records(alloc, &config.agents) else {
         return None;
     };
-    match Cluster::<Queues>::open(alloc, config, Weights::new(alloc), records, Run::new(1)) {
+    match Cluster::<Queues>::open(alloc, config, records, Run::new(1)) {
         Ok(cluster) => Some(RecordedCluster::new(cluster)),
         Err(_) => None,
     }

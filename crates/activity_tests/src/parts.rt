@@ -8,7 +8,8 @@ use crate::offices::{OWNED, cpus, seat, wait_for_entries};
 use activities::{ActivityFault, Cabinet, activity, ticker};
 use cluster_core::{Keep, KeptEntry, Step, StepCause};
 use desk_lock::{Office, Pass};
-use names_core::{AgentName, TaskState};
+use mails::ExecutorState;
+use names_core::AgentName;
 use running_clusters::Running;
 use std::alloc::{AllocError, Global};
 use std::sync::{Wait, ledger};
@@ -84,8 +85,8 @@ fn letter(step: &Step) -> u8 {
 fn cause_letter(cause: &StepCause) -> u8 {
     match cause {
         StepCause::Mail(_) => b'M',
-        StepCause::Executor(_, TaskState::Running) => b'R',
-        StepCause::Executor(_, TaskState::Finished) => b'F',
+        StepCause::Executor(_, ExecutorState::Running) => b'R',
+        StepCause::Executor(_, ExecutorState::Finished) => b'F',
         StepCause::Executor(..) => b'?',
         StepCause::Again => b'A',
         StepCause::Start(None) => b'S',

@@ -1,10 +1,9 @@
 -- The first tasks, where a cause spares them, stand as they are in what it makes of an agent.
-use Rattle.std.proofs.Common.{◌≡◌, ℕ, zero, suc, ◌≤◌, Bool, true, false, not, ◌&&◌, ◌||◌, max, nat_lt, nat_le, List, [], ◌∷◌, length, take, map, filter, Option, Some, None, Result, Ok, Err, refl, sym, ap, subst, bytes_eq}
+use Rattle.std.proofs.Common.{◌≡◌, ℕ, zero, suc, ◌≤◌, Bool, true, false, not, ◌&&◌, ◌||◌, max, nat_lt, nat_le, List, [], ◌∷◌, length, take, map, filter, Option, Some, None, Result, Ok, Err, refl, ap, subst, arith, bytes_eq}
 use Rattle.std.specs.Prelude.{if◌then◌else◌, ◌==◌}
 use Rattle.std.specs.List.{list_all, list_any}
 use Rattle.std.proofs.lemmas.Bool.{and_parts, cond_both, not-true}
-use Rattle.std.proofs.lemmas.List.{take-append-le}
-use Rattle.names_core.specs.Ids.{Numbered, same}
+use Rattle.names_core.specs.Ids.{Numbered, before, same}
 use Rattle.names_core.specs.declared.state.TaskState.{TaskState}
 use Rattle.names_core.specs.declared.state.TaskState.TheVariants.{Killed}
 use Rattle.quantity.specs.declared.rows.Row.{Row}
@@ -12,6 +11,7 @@ use Rattle.quantity.specs.Rows.{covers}
 use Rattle.stream_core.specs.Updates.{is_done, is_full}
 use Rattle.mails.specs.declared.cause.Cause.{Cause}
 use Rattle.mails.specs.declared.cause.Cause.TheVariants.{Start, Mail, Executor, Again}
+use Rattle.mails.specs.Causes.{task_state}
 use Rattle.mails.specs.declared.mail.AgentMail.TheVariants.{Applied}
 use Rattle.mails.specs.declared.mail.Command.{Command}
 use Rattle.mails.specs.declared.mail.Command.TheVariants.{Launch, Kill, Ack, EndFramework}
@@ -20,10 +20,11 @@ use Rattle.mails.specs.declared.mail.MasterMail.TheVariants.{Hello, Issued}
 use Rattle.mails.specs.declared.record.RecordedTask.{RecordedTask}
 use Rattle.mails.specs.declared.refusal.AgentRefusal.{AgentRefusal}
 use Rattle.mails.specs.declared.refusal.AgentRefusal.TheVariants.{NotForMe, OldSession, NotNext, NoSuchTask, Ended, NoRoom, UpdatesFull, SessionsSpent, TotalLess}
-use Rattle.cluster_model.specs.Agents.{Agent, Draft, acknowledged, applies, executes, front_at, has_ended, has_room, receives_command, receives_hello, receives_mail, is_task, launched_task, needs_place, next_of, opens_again, opens_next, owning, reopened, reports, starts, stated, tasks_after, with_tasks}
+use Rattle.cluster_model.specs.Agents.{Agent, Draft, acknowledged, applies, executes, front_at, has_ended, has_room, receives_command, receives_hello, receives_mail, is_task, launched_task, needs_place, put_task, next_of, opens_again, opens_next, owning, reopened, reports, starts, stated, tasks_after, with_tasks}
 use Rattle.cluster_model.specs.Ids.{last_number}
 use Rattle.agent_core.specs.Records.{none_is_done}
 use Rattle.agent_core.specs.Spared.{command_spares, mail_spares, spares}
+use Rattle.agent_core.proofs.Places.{not_both_ways}
 
 -- a change of the tasks of a key alone
 stated_front : (key : Numbered) (state : TaskState) (n : ℕ) (ts : List RecordedTask) → list_all (λ t. not (is_task key t)) (take n ts) ≡ true → take n ts ≡ take n (map (stated key state) ts)
@@ -57,8 +58,17 @@ passed_front test (suc n) (t ∷ ts) h =
     let both = and_parts (test t) (list_all test (take n ts)) h in
     rw both.0 (ap (λ (us : List RecordedTask). t ∷ us) (passed_front test n ts both.1))
 
+-- a task that is put in its place stands behind those before it
+put_front : (n : ℕ) (new : RecordedTask) (ts : List RecordedTask) → n ≤ length ts → list_all (λ t. before t.job.key new.job.key) (take n ts) ≡ true → take n ts ≡ take n (put_task new ts)
+put_front zero new ts within h = refl
+put_front (suc n) new [] within h = absurd (omega arith)
+put_front (suc n) new (t ∷ ts) within h =
+    let both = and_parts (before t.job.key new.job.key) (list_all (λ u. before u.job.key new.job.key) (take n ts)) h in
+    let later : before new.job.key t.job.key ≡ false = not_both_ways t.job.key new.job.key both.0 in
+    rw (both.0, later) (ap (λ (us : List RecordedTask). t ∷ us) (put_front n new ts (omega arith) both.1))
+
 command_front : (n : ℕ) (command : Command) (ts : List RecordedTask) → none_is_done ts ≡ true → n ≤ length ts → list_all (command_spares command) (take n ts) ≡ true → take n ts ≡ take n (tasks_after command ts)
-command_front n (Launch job offers) ts undone within h = sym (take-append-le n ts (launched_task job offers ∷ []) within)
+command_front n (Launch job offers) ts undone within h = put_front n (launched_task job offers) ts within h
 command_front n (Kill key) ts undone within h = stated_front key Killed n ts h
 command_front n (Ack key k) ts undone within h = acknowledged_front key k n ts undone h
 command_front n (EndFramework framework) ts undone within h = passed_front (λ t. not (same t.job.framework framework)) n ts h
@@ -131,7 +141,7 @@ keeps_all : (n : ℕ) (a : Agent) (cause : Cause) → none_is_done a.durable.tas
 unfolding Keeps
 keeps_all n a (Start total) undone within h = keeps_if n a.durable.tasks (a.durable.run == 0) (Err OldSession) (starts a total) (λ e. tt) (λ e. starts_keeps n a total)
 keeps_all n a Again undone within h = refl
-keeps_all n a (Executor key state) undone within h = state_keeps n a key state h
+keeps_all n a (Executor key state) undone within h = state_keeps n a key (task_state state) h
 keeps_all n a (Mail to) undone within h = keeps_if n a.durable.tasks (bytes_eq to.agent a.durable.name) (receives_mail a to.mail) (Err NotForMe) (λ e. mail_keeps n a to.mail undone within h) (λ e. tt)
 
 pub kept_front : (n : ℕ) (a : Agent) (cause : Cause) (d : Draft) → none_is_done a.durable.tasks ≡ true → n ≤ length a.durable.tasks → list_all (spares cause) (take n a.durable.tasks) ≡ true → next_of a cause ≡ Ok d → take n a.durable.tasks ≡ take n d.after.durable.tasks

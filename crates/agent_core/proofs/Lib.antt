@@ -1,3 +1,5 @@
 mod Fronts
-mod Recorded
+pub mod Places
+pub mod Recorded
 mod Runs
+pub mod Taking

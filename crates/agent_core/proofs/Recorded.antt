@@ -1,7 +1,7 @@
 -- What changes of an agent's tasks leave is a record.
 use Rattle.std.proofs.Common.{◌≡◌, ℕ, ◌+◌, ◌≤◌, ◌<◌, Bool, true, false, not, ◌&&◌, eqb, nat_le, List, [], ◌∷◌, ◌++◌, length, map, filter, Option, Some, None, refl, ap, inl, inr, arith}
 use Rattle.std.specs.Prelude.{if◌then◌else◌, ⊤}
-use Rattle.std.specs.List.{AllByRecursion as Each, list_all, list_any}
+use Rattle.std.specs.List.{AllByRecursion as Each, insert, list_all, list_any, take_while}
 use Rattle.std.proofs.lemmas.Bool.{and_from, and_parts, cond_both, cases_Bool}
 use Rattle.std.proofs.lemmas.Bool.Decides.{nat_tests}
 use Rattle.std.proofs.Math.Bool.{and-false}
@@ -21,15 +21,12 @@ use Rattle.mails.specs.declared.mail.Command.TheVariants.{Launch, Kill, Ack, End
 use Rattle.mails.specs.declared.record.Durable.{Durable}
 use Rattle.mails.specs.declared.record.RecordedTask.{RecordedTask}
 use Rattle.mails.specs.declared.task.Job.{Job}
-use Rattle.cluster_model.specs.Agents.{Agent, acknowledged, has_ended, has_room, is_task, launched_task, live_tasks, stated, task_rows, tasks_after, with_session}
-use Rattle.agent_core.specs.Drafts.{launches_in_order}
+use Rattle.cluster_model.specs.Agents.{Agent, acknowledged, has_ended, has_room, is_task, launched_task, live_tasks, put_task, stated, task_rows, tasks_after, with_session}
 use Rattle.recorded_tasks.specs.Room.{Leaves}
+use Rattle.agent_core.proofs.Places.{before_both, not_both_ways, placed}
 use Rattle.agent_core.specs.Records.{HasRoom, has_begun, is_behind, is_record, keys_rise, none_is_done, rise_behind, with_other_tasks}
 
 -- launch keys
-
-before_both : (a b c : Numbered) → before a b ≡ true → before b c ≡ true → before a c ≡ true
-before_both a b c h k = grind (arith, nat_tests)
 
 behind_both : (last : Option Numbered) (a b : Numbered) → is_behind last a ≡ true → before a b ≡ true → is_behind last b ≡ true
 behind_both None a b h k = refl
@@ -53,12 +50,31 @@ rise_mapped : (change : RecordedTask → RecordedTask) (last : Option Numbered) 
 rise_mapped change last [] same_job = refl
 rise_mapped change last (t ∷ ts) same_job = rw (same_job t) (ap (λ rest. is_behind last t.job.key && rest) (rise_mapped change (Some t.job.key) ts same_job))
 
-rise_more : (last : Option Numbered) (ts : List RecordedTask) (t : RecordedTask) → rise_behind last ts ≡ true → is_behind last t.job.key ≡ true → list_all (λ u. before u.job.key t.job.key) ts ≡ true → rise_behind last (ts ++ t ∷ []) ≡ true
-rise_more last [] t h k all = and_from (is_behind last t.job.key) true k refl
-rise_more last (u ∷ ts) t h k all =
+filtered_pass : (test : RecordedTask → Bool) (ts : List RecordedTask) → list_all test (filter test ts) ≡ true
+filtered_pass test [] = refl
+filtered_pass test (t ∷ ts) =
+    cond_both (test t) (t ∷ filter test ts) (filter test ts) (λ us. list_all test us ≡ true)
+    (λ e. and_from (test t) (list_all test (filter test ts)) e (filtered_pass test ts))
+    (λ e. filtered_pass test ts)
+
+-- a key between those before it and those behind it
+rise_joined : (last : Option Numbered) (ts : List RecordedTask) (t : RecordedTask) (us : List RecordedTask) → rise_behind last ts ≡ true → is_behind last t.job.key ≡ true → list_all (λ u. before u.job.key t.job.key) ts ≡ true → rise_behind (Some t.job.key) us ≡ true → rise_behind last (ts ++ t ∷ us) ≡ true
+rise_joined last [] t us h k all rest = and_from (is_behind last t.job.key) (rise_behind (Some t.job.key) us) k rest
+rise_joined last (u ∷ ts) t us h k all rest =
     let both = and_parts (is_behind last u.job.key) (rise_behind (Some u.job.key) ts) h in
     let behind = and_parts (before u.job.key t.job.key) (list_all (λ u. before u.job.key t.job.key) ts) all in
-    and_from (is_behind last u.job.key) (rise_behind (Some u.job.key) (ts ++ t ∷ [])) both.0 (rise_more (Some u.job.key) ts t both.1 behind.0 behind.1)
+    and_from (is_behind last u.job.key) (rise_behind (Some u.job.key) (ts ++ t ∷ us)) both.0 (rise_joined (Some u.job.key) ts t us both.1 behind.0 behind.1 rest)
+
+rise_later : (key : Numbered) (ts : List RecordedTask) → rise_behind None ts ≡ true → list_all (λ t. before key t.job.key) ts ≡ true → rise_behind (Some key) ts ≡ true
+rise_later key [] h all = refl
+rise_later key (t ∷ ts) h all =
+    let behind = and_parts (before key t.job.key) (list_all (λ u. before key u.job.key) ts) all in
+    and_from (before key t.job.key) (rise_behind (Some t.job.key) ts) behind.0 h
+
+pub rise_put : (t : RecordedTask) (ts : List RecordedTask) → keys_rise ts ≡ true → keys_rise (put_task t ts) ≡ true
+rise_put t ts h =
+    rise_joined None (filter (λ u. before u.job.key t.job.key) ts) t (filter (λ u. before t.job.key u.job.key) ts) (rise_kept (λ u. before u.job.key t.job.key) None ts h) refl (filtered_pass (λ u. before u.job.key t.job.key) ts)
+    (rise_later t.job.key (filter (λ u. before t.job.key u.job.key) ts) (rise_kept (λ u. before t.job.key u.job.key) None ts h) (filtered_pass (λ u. before t.job.key u.job.key) ts))
 
 -- tasks that aren't done
 
@@ -69,13 +85,6 @@ kept_pass pass test (t ∷ ts) h =
     cond_both (test t) (t ∷ filter test ts) (filter test ts) (λ us. list_all pass us ≡ true)
     (λ e. and_from (pass t) (list_all pass (filter test ts)) both.0 (kept_pass pass test ts both.1))
     (λ e. kept_pass pass test ts both.1)
-
-filtered_pass : (test : RecordedTask → Bool) (ts : List RecordedTask) → list_all test (filter test ts) ≡ true
-filtered_pass test [] = refl
-filtered_pass test (t ∷ ts) =
-    cond_both (test t) (t ∷ filter test ts) (filter test ts) (λ us. list_all test us ≡ true)
-    (λ e. and_from (test t) (list_all test (filter test ts)) e (filtered_pass test ts))
-    (λ e. filtered_pass test ts)
 
 -- a state that comes isn't acknowledged
 pushed_is_not_done : (state : TaskState) (t : RecordedTask) → are_updates t.updates.states t.updates.acknowledged ≡ true → not (is_done (updates.pushed state t.updates)) ≡ true
@@ -104,9 +113,44 @@ held name ts = amount name (task_rows (live_tasks ts))
 held-cons : (name : List ℕ) (t : RecordedTask) (ts : List RecordedTask) → AmountsAddUp → held name (t ∷ ts) ≡ (if has_ended t then held name ts else amount name t.job.resources + held name ts)
 held-cons name t ts laws = elim (cases_Bool (has_ended t)) [ inl e ↦ rw e refl | inr e ↦ rw e (laws name t.job.resources (task_rows (live_tasks ts))) ]
 
-held_more : (name : List ℕ) (ts : List RecordedTask) (t : RecordedTask) → AmountsAddUp → has_ended t ≡ false → held name (ts ++ t ∷ []) ≡ amount name t.job.resources + held name ts
-held_more name [] t laws e = rw (held-cons name t [] laws, e) refl
-held_more name (u ∷ ts) t laws e = elim (cases_Bool (has_ended u)) [ inl d ↦ rw (held-cons name u ts laws, held-cons name u (ts ++ t ∷ []) laws, d) (held_more name ts t laws e) | inr d ↦ rw (held-cons name u ts laws, held-cons name u (ts ++ t ∷ []) laws, d) (omega (arith, held_more name ts t laws e)) ]
+held_joined : (name : List ℕ) (ts : List RecordedTask) (t : RecordedTask) (us : List RecordedTask) → AmountsAddUp → has_ended t ≡ false → held name (ts ++ t ∷ us) ≡ amount name t.job.resources + (held name ts + held name us)
+held_joined name [] t us laws e = rw (held-cons name t us laws, e) (omega arith)
+held_joined name (u ∷ ts) t us laws e = elim (cases_Bool (has_ended u)) [ inl d ↦ rw (held-cons name u ts laws, held-cons name u (ts ++ t ∷ us) laws, d) (held_joined name ts t us laws e) | inr d ↦ rw (held-cons name u ts laws, held-cons name u (ts ++ t ∷ us) laws, d) (omega (arith, held_joined name ts t us laws e)) ]
+
+-- tasks before a key and tasks behind it have at most what all have
+held_apart : (name : List ℕ) (key : Numbered) (ts : List RecordedTask) → AmountsAddUp → held name (filter (λ t. before t.job.key key) ts) + held name (filter (λ t. before key t.job.key) ts) ≤ held name ts
+held_apart name key [] laws = omega arith
+held_apart name key (t ∷ ts) laws = by (before t.job.key key) (before key t.job.key) refl refl (held_apart name key ts laws)
+  where
+    front : List RecordedTask
+    front = filter (λ u. before u.job.key key) ts
+
+    rest : List RecordedTask
+    rest = filter (λ u. before key u.job.key) ts
+
+    more : (us : List RecordedTask) → held name (t ∷ us) ≡ (if has_ended t then held name us else amount name t.job.resources + held name us)
+    more us = held-cons name t us laws
+
+    with_first : (e : Bool) → has_ended t ≡ e → held name front + held name rest ≤ held name ts → held name (t ∷ front) + held name rest ≤ held name (t ∷ ts)
+    with_first true e ih = rw (more front, more ts, e) ih
+    with_first false e ih = rw (more front, more ts, e) (omega (arith, ih))
+
+    with_last : (e : Bool) → has_ended t ≡ e → held name front + held name rest ≤ held name ts → held name front + held name (t ∷ rest) ≤ held name (t ∷ ts)
+    with_last true e ih = rw (more rest, more ts, e) ih
+    with_last false e ih = rw (more rest, more ts, e) (omega (arith, ih))
+
+    with_none : (e : Bool) → has_ended t ≡ e → held name front + held name rest ≤ held name ts → held name front + held name rest ≤ held name (t ∷ ts)
+    with_none true e ih = rw (more ts, e) ih
+    with_none false e ih = rw (more ts, e) (omega (arith, ih))
+
+    by : (b c : Bool) → before t.job.key key ≡ b → before key t.job.key ≡ c → held name front + held name rest ≤ held name ts → held name (filter (λ u. before u.job.key key) (t ∷ ts)) + held name (filter (λ u. before key u.job.key) (t ∷ ts)) ≤ held name (t ∷ ts)
+    by true true e d ih = absurd (let no : before key t.job.key ≡ false = not_both_ways t.job.key key e in cc)
+    by true false e d ih = rw (e, d) (with_first (has_ended t) refl ih)
+    by false true e d ih = rw (e, d) (with_last (has_ended t) refl ih)
+    by false false e d ih = rw (e, d) (with_none (has_ended t) refl ih)
+
+held_put : (name : List ℕ) (t : RecordedTask) (ts : List RecordedTask) → AmountsAddUp → has_ended t ≡ false → held name (put_task t ts) ≤ amount name t.job.resources + held name ts
+held_put name t ts laws e = omega (arith, held_joined name (filter (λ u. before u.job.key t.job.key) ts) t (filter (λ u. before t.job.key u.job.key) ts) laws e, held_apart name t.job.key ts laws)
 
 held_kept : (name : List ℕ) (test : RecordedTask → Bool) (ts : List RecordedTask) → AmountsAddUp → held name (filter test ts) ≤ held name ts
 held_kept name test [] laws = omega arith
@@ -207,25 +251,47 @@ kept_recorded d test sums covering h above =
     (begun_above (with_other_tasks d (filter test d.tasks)) above)
     (covers_less d.total d.tasks (filter test d.tasks) covering p.fit (λ name. held_kept name test d.tasks sums))
 
-launched_recorded : (d : Durable) (job : Job) (offers : List Numbered) → AmountsAddUp → CoversIsAtLeast → is_record d ≡ true → 0 < d.run → covers d.total (job.resources ++ task_rows (live_tasks d.tasks)) ≡ true → list_all (λ t. before t.job.key job.key) d.tasks ≡ true → is_record (with_other_tasks d (d.tasks ++ launched_task job offers ∷ [])) ≡ true
-launched_recorded d job offers sums covering h above room order =
-    let p = parts_of d h in
-    record_from (with_other_tasks d (d.tasks ++ launched_task job offers ∷ []))
-    (rise_more None d.tasks (launched_task job offers) p.rise refl order)
-    (rw (list_all-append (λ t. not (is_done t.updates)) d.tasks (launched_task job offers ∷ []), p.not_done) refl)
-    (begun_above (with_other_tasks d (d.tasks ++ launched_task job offers ∷ [])) above)
-    ((covering d.total (task_rows (live_tasks (d.tasks ++ launched_task job offers ∷ [])))).1 (λ name. let least = (covering d.total (job.resources ++ task_rows (live_tasks d.tasks))).0 room name in omega (arith, least, sums name job.resources (task_rows (live_tasks d.tasks)), held_more name d.tasks (launched_task job offers) sums refl)))
+not_done_put : (t : RecordedTask) (ts : List RecordedTask) → not (is_done t.updates) ≡ true → none_is_done ts ≡ true → none_is_done (put_task t ts) ≡ true
+not_done_put t ts e h =
+    rw (list_all-append (λ u. not (is_done u.updates)) (filter (λ u. before u.job.key t.job.key) ts) (t ∷ filter (λ u. before t.job.key u.job.key) ts), kept_pass (λ u. not (is_done u.updates)) (λ u. before u.job.key t.job.key) ts h)
+    (and_from (not (is_done t.updates)) (none_is_done (filter (λ u. before t.job.key u.job.key) ts)) e (kept_pass (λ u. not (is_done u.updates)) (λ u. before t.job.key u.job.key) ts h))
 
-pub command_recorded : (a : Agent) (command : Command) → AmountsAddUp → CoversIsAtLeast → Each (λ t. are_updates t.updates.states t.updates.acknowledged ≡ true) a.durable.tasks → is_record a.durable ≡ true → 0 < a.durable.run → has_room a command ≡ true → launches_in_order a command ≡ true → is_record (with_other_tasks a.durable (tasks_after command a.durable.tasks)) ≡ true
-command_recorded a (Launch job offers) sums covering each h above room order = launched_recorded a.durable job offers sums covering h above room order
-command_recorded a (Kill key) sums covering each h above room order = stated_recorded a.durable key Killed sums covering each h
-command_recorded a (Ack key k) sums covering each h above room order = acknowledged_recorded a.durable key k sums covering h above
-command_recorded a (EndFramework framework) sums covering each h above room order = kept_recorded a.durable (λ t. not (same t.job.framework framework)) sums covering h above
+launched_recorded : (d : Durable) (job : Job) (offers : List Numbered) → AmountsAddUp → CoversIsAtLeast → is_record d ≡ true → 0 < d.run → covers d.total (job.resources ++ task_rows (live_tasks d.tasks)) ≡ true → is_record (with_other_tasks d (put_task (launched_task job offers) d.tasks)) ≡ true
+launched_recorded d job offers sums covering h above room =
+    let p = parts_of d h in
+    let after = put_task (launched_task job offers) d.tasks in
+    record_from (with_other_tasks d after)
+    (rise_put (launched_task job offers) d.tasks p.rise)
+    (not_done_put (launched_task job offers) d.tasks refl p.not_done)
+    (begun_above (with_other_tasks d after) above)
+    ((covering d.total (task_rows (live_tasks after))).1 (λ name. let least = (covering d.total (job.resources ++ task_rows (live_tasks d.tasks))).0 room name in omega (arith, least, sums name job.resources (task_rows (live_tasks d.tasks)), held_put name (launched_task job offers) d.tasks sums refl)))
+
+pub command_recorded : (a : Agent) (command : Command) → AmountsAddUp → CoversIsAtLeast → Each (λ t. are_updates t.updates.states t.updates.acknowledged ≡ true) a.durable.tasks → is_record a.durable ≡ true → 0 < a.durable.run → has_room a command ≡ true → is_record (with_other_tasks a.durable (tasks_after command a.durable.tasks)) ≡ true
+command_recorded a (Launch job offers) sums covering each h above room = launched_recorded a.durable job offers sums covering h above room
+command_recorded a (Kill key) sums covering each h above room = stated_recorded a.durable key Killed sums covering each h
+command_recorded a (Ack key k) sums covering each h above room = acknowledged_recorded a.durable key k sums covering h above
+command_recorded a (EndFramework framework) sums covering each h above room = kept_recorded a.durable (λ t. not (same t.job.framework framework)) sums covering h above
+
+-- a new task stands behind those before it, where the record has none of its key
+pub launched_placed : (d : Durable) (job : Job) (offers : List Numbered) → is_record d ≡ true → not (list_any (is_task job.key) d.tasks) ≡ true →
+    insert d.tasks (length (take_while (λ t. before t.job.key job.key) d.tasks)) (launched_task job offers) ≡ put_task (launched_task job offers) d.tasks
+launched_placed d job offers h new = placed (launched_task job offers) d.tasks (parts_of d h).rise new
+
+-- launch keys rise after every change
+
+pub stated_rises : (key : Numbered) (state : TaskState) (ts : List RecordedTask) → keys_rise ts ≡ true → keys_rise (map (stated key state) ts) ≡ true
+stated_rises key state ts h = rw (rise_mapped (stated key state) None ts (λ t. (stated_keeps key state t).0)) h
+
+pub command_rises : (command : Command) (ts : List RecordedTask) → keys_rise ts ≡ true → keys_rise (tasks_after command ts) ≡ true
+command_rises (Launch job offers) ts h = rise_put (launched_task job offers) ts h
+command_rises (Kill key) ts h = stated_rises key Killed ts h
+command_rises (Ack key k) ts h = rise_kept (λ t. not (is_done t.updates)) None (map (acknowledged key k) ts) (rw (rise_mapped (acknowledged key k) None ts (λ t. (acknowledged_keeps key k t).0)) h)
+command_rises (EndFramework framework) ts h = rise_kept (λ t. not (same t.job.framework framework)) None ts h
 
 -- what is left
 
-pub launched_leaves : (d : Durable) (job : Job) (offers : List Numbered) (room : List Row) → AmountsAddUp → Leaves room (job.resources ++ task_rows (live_tasks d.tasks)) d.total → HasRoom room (with_other_tasks d (d.tasks ++ launched_task job offers ∷ []))
-launched_leaves d job offers room sums left name = omega (arith, left name, sums name job.resources (task_rows (live_tasks d.tasks)), held_more name d.tasks (launched_task job offers) sums refl)
+pub launched_leaves : (d : Durable) (job : Job) (offers : List Numbered) (room : List Row) → AmountsAddUp → Leaves room (job.resources ++ task_rows (live_tasks d.tasks)) d.total → HasRoom room (with_other_tasks d (put_task (launched_task job offers) d.tasks))
+launched_leaves d job offers room sums left name = omega (arith, left name, sums name job.resources (task_rows (live_tasks d.tasks)), held_put name (launched_task job offers) d.tasks sums refl)
 
 pub stated_leaves : (d : Durable) (key : Numbered) (state : TaskState) (room : List Row) → AmountsAddUp → HasRoom room d → HasRoom room (with_other_tasks d (map (stated key state) d.tasks))
 stated_leaves d key state room sums left name = omega (arith, left name, held_mapped name (stated key state) d.tasks sums (stated_keeps key state))

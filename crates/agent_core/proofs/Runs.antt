@@ -11,6 +11,7 @@ use Rattle.quantity.specs.Rows.{covers}
 use Rattle.stream_core.specs.Updates.{is_full}
 use Rattle.mails.specs.declared.cause.Cause.{Cause}
 use Rattle.mails.specs.declared.cause.Cause.TheVariants.{Start, Mail, Executor, Again}
+use Rattle.mails.specs.Causes.{task_state}
 use Rattle.mails.specs.declared.mail.AgentMail.TheVariants.{Applied}
 use Rattle.mails.specs.declared.mail.Command.{Command}
 use Rattle.mails.specs.declared.mail.MasterMail.{MasterMail}
@@ -19,7 +20,7 @@ use Rattle.mails.specs.declared.refusal.AgentRefusal.{AgentRefusal}
 use Rattle.mails.specs.declared.refusal.AgentRefusal.TheVariants.{NotForMe, OldSession, NotNext, NoSuchTask, Ended, NoRoom, UpdatesFull, SessionsSpent, TotalLess}
 use Rattle.cluster_model.specs.Agents.{Agent, Draft, applies, executes, front_at, has_ended, has_room, receives_command, receives_hello, receives_mail, is_task, needs_place, next_of, opens_again, opens_next, owning, reopened, reports, starts, stated, with_tasks}
 use Rattle.cluster_model.specs.Ids.{last_number}
-use Rattle.agent_core.specs.Drafts.{receives_in_order, is_in_order, is_with_run}
+use Rattle.agent_core.specs.Drafts.{is_with_run, mail_names_run, names_run}
 
 -- the draft has an open session with a run, or none
 WithRun : Result Draft AgentRefusal → Type 0
@@ -62,7 +63,7 @@ command_run a session number command k =
     third : Result Draft AgentRefusal
     third = if nat_le number a.applied then Ok (record { after = a; mails = Applied a.durable.session a.applied ∷ [] }) else second
 
-mail_run : (a : Agent) (m : MasterMail) → is_with_run a ≡ true → receives_in_order a m ≡ true → WithRun (receives_mail a m)
+mail_run : (a : Agent) (m : MasterMail) → is_with_run a ≡ true → mail_names_run m ≡ true → WithRun (receives_mail a m)
 mail_run a (Hello run dead) k h = hello_run a run dead k h
 mail_run a (Issued session number command) k h = command_run a session number command k
 
@@ -85,13 +86,13 @@ state_run a key state k =
     third : Result Draft AgentRefusal
     third = if list_any (λ t. is_task key t && has_ended t) a.durable.tasks then Err Ended else second
 
-run_all : (a : Agent) (cause : Cause) → is_with_run a ≡ true → is_in_order a cause ≡ true → WithRun (next_of a cause)
+run_all : (a : Agent) (cause : Cause) → is_with_run a ≡ true → names_run cause ≡ true → WithRun (next_of a cause)
 unfolding WithRun
 run_all a (Start total) k h = run_if (a.durable.run == 0) (Err OldSession) (starts a total) (λ e. tt) (λ e. starts_run a total (grind (arith, nat_tests)))
 run_all a Again k h = k
-run_all a (Executor key state) k h = state_run a key state k
-run_all a (Mail to) k h = run_if (bytes_eq to.agent a.durable.name) (receives_mail a to.mail) (Err NotForMe) (λ e. mail_run a to.mail k (rw e at h)) (λ e. tt)
+run_all a (Executor key state) k h = state_run a key (task_state state) k
+run_all a (Mail to) k h = run_if (bytes_eq to.agent a.durable.name) (receives_mail a to.mail) (Err NotForMe) (λ e. mail_run a to.mail k h) (λ e. tt)
 
-pub draft_with_run : (a : Agent) (cause : Cause) (d : Draft) → is_with_run a ≡ true → is_in_order a cause ≡ true → next_of a cause ≡ Ok d → is_with_run d.after ≡ true
+pub draft_with_run : (a : Agent) (cause : Cause) (d : Draft) → is_with_run a ≡ true → names_run cause ≡ true → next_of a cause ≡ Ok d → is_with_run d.after ≡ true
 unfolding WithRun
 draft_with_run a cause d k h e = subst WithRun e (run_all a cause k h)

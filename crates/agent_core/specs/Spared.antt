@@ -8,11 +8,11 @@ use Rattle.mails.specs.declared.mail.MasterMail.{MasterMail}
 use Rattle.mails.specs.declared.mail.MasterMail.TheVariants.{Hello, Issued}
 use Rattle.mails.specs.declared.record.RecordedTask.{RecordedTask}
 use Rattle.cluster_model.specs.Agents.{is_task}
-use Rattle.names_core.specs.Ids.{same}
+use Rattle.names_core.specs.Ids.{before, same}
 
--- a command names neither a task nor its framework
+-- a command names neither a task nor its framework, and launches none before it
 abbrev pub command_spares : Command → RecordedTask → Bool
-command_spares (Launch job offers) t = true
+command_spares (Launch job offers) t = before t.job.key job.key
 command_spares (Kill key) t = not (is_task key t)
 command_spares (Ack key k) t = not (is_task key t)
 command_spares (EndFramework framework) t = not (same t.job.framework framework)
@@ -21,7 +21,7 @@ abbrev pub mail_spares : MasterMail → RecordedTask → Bool
 mail_spares (Hello run dead) t = true
 mail_spares (Issued session number command) t = command_spares command t
 
--- a cause names neither a task nor its framework
+-- a cause leaves a task as it is, and in its place
 abbrev pub spares : Cause → RecordedTask → Bool
 spares (Start total) t = true
 spares Again t = true

@@ -5,6 +5,7 @@ ghost use Rattle.cluster_model.specs.Agents.{next_of, recovered, recovered_from}
 ghost use Rattle.agent_core.specs.Drafts.{IsRefusal, is_in_order};
 ghost use Rattle.agent_core.specs.declared.fault.AgentFault.TheVariants.{StaleDraft};
 
+use crate::causes::hello_names_run;
 use crate::draft::Draft;
 use crate::fault::AgentFault;
 use crate::record::Record;
@@ -85,9 +86,8 @@ impl Agent {
         self.stop();
     }
 
-    /// Whether a cause is in order: a Hello for this agent is of a run above 0, and the next
-    /// command of the open session launches no task under a key that isn't after all launch keys
-    /// of the record.
+    /// Whether a cause is in order: where it is the next command of the open session, it launches
+    /// no task under a key that is in the record.
     pub fn is_in_order(&self, cause: &Cause) -> bool
         ensures { result ≡ is_in_order self.now cause.now }
     {
@@ -110,13 +110,17 @@ impl Agent {
     /// - `A10 SessionsSpent` where the next session would be the 4,294,967,296th,
     /// - `A11 TotalLess`, after A2 and before A10, at a start with a total that doesn't cover what
     ///   the agent owns,
-    /// - `A8 OutOfMemory`, which may come before any other.
+    /// - `A8 OutOfMemory` in place of a draft or of A6, and of no other.
+    ///
+    /// The caller owes that the key of a Launch that is the next command of the open session isn't
+    /// in the record.
     pub fn next(&self, alloc: Global, cause: Cause) -> Result<Draft, AgentFault>
         requires { is_in_order self.now cause ≡ true }
         ensures draft { IfOk result (λ d. next_of self.now cause ≡ Ok d.draft) }
         ensures before { IfOk result (λ d. d.before ≡ self.now) }
         ensures refused { IfErr result (IsRefusal (next_of self.now cause)) }
     {
+        hello_names_run(&cause);
         let kept = self.state.kept_first(&cause);
         let next = self.state.next(alloc, cause)?;
         Ok(Draft::of(alloc, &self.state, next, kept)?)

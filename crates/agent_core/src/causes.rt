@@ -1,19 +1,41 @@
 //! What an agent prepares at a cause.
 
-ghost use Rattle.std.specs.Prelude.{◌≡◌, ◌<◌, true, Ok, IfOk};
+ghost use Rattle.std.specs.Prelude.{◌≡◌, ◌<◌, true, false, suc, nat_le, Ok, IfErr, IfOk};
+ghost use Rattle.mails.specs.declared.refusal.AgentRefusal.TheVariants.{SessionsSpent};
+ghost use Rattle.cluster_model.specs.Ids.{last_number};
 ghost use Rattle.cluster_model.specs.Agents.{reports, opens_again, opens_next, receives_hello, receives_mail, executes, next_of};
-ghost use Rattle.agent_core.specs.Drafts.{agent_of, next_draft, after_state, receives_in_order, is_in_order, is_next_command, is_with_run, launches_in_order, Prepares};
+ghost use Rattle.agent_core.specs.Drafts.{agent_of, next_draft, after_state, receives_in_order, is_in_order, is_next_command, is_with_run, launches_anew, names_run, Prepares};
 
 use crate::commands::Next;
 use crate::fault::AgentFault;
 use crate::state::State;
 use mails::{AgentRefusal, Cause, Command, MasterMail};
-use names_core::{LaunchKey, TaskState};
+use names_core::{LaunchKey, Run, TaskState};
 use quantity::Resources;
-use recorded_tasks::{
-    has_ended_task, has_task, is_behind_all, lacks_place, push_fronts_at, stated_all,
-};
+use recorded_tasks::{has_ended_task, has_task, lacks_place, push_fronts_at, stated_all};
 use std::alloc::{AllocError, Global};
+
+/// A Hello names a run above 0: the call adds this to a proof.
+pub fn hello_names_run(cause: &Cause)
+    ensures { names_run cause.now ≡ true }
+{
+    if let Cause::Mail(to) = cause {
+        if let MasterMail::Hello { run, .. } = &to.mail {
+            let _number = run.number();
+        }
+    }
+}
+
+/// The number of the session after the last one.
+fn next_session(last: u32) -> Result<u32, AgentRefusal>
+    ensures next { IfOk result (λ next. (next ≡ suc last) × (nat_le last_number last ≡ false)) }
+    ensures spent { IfErr result (λ e. (e ≡ SessionsSpent) × (nat_le last_number last ≡ true)) }
+{
+    if last == u32::MAX {
+        return Err(AgentRefusal::SessionsSpent);
+    }
+    Ok(last + 1)
+}
 
 impl State {
     /// The state as it is, with its Report and its fronts.
@@ -31,17 +53,15 @@ impl State {
         requires { 0 < run }
         ensures { Prepares result (opens_next (agent_of self.now) last run) }
     {
-        if last == u32::MAX {
-            return Err(AgentFault::Refused(AgentRefusal::SessionsSpent));
-        }
-        let after = self.reopened(last + 1, run)?;
+        let session = next_session(last)?;
+        let after = self.reopened(session, run)?;
         Ok(after.reporting(alloc)?)
     }
 
-    fn receive_hello(&self, alloc: Global, run: u32, dead: u32) -> Result<Next, AgentFault>
-        requires { 0 < run }
+    fn receive_hello(&self, alloc: Global, run: Run, dead: u32) -> Result<Next, AgentFault>
         ensures { Prepares result (receives_hello (agent_of self.now) run dead) }
     {
+        let run = u32::from(run.number());
         let session = self.parts().session;
         if run < self.parts().run {
             return Err(AgentFault::Refused(AgentRefusal::OldSession));
@@ -88,6 +108,8 @@ impl State {
         if !total.covers(&self.parts().total) {
             return Err(AgentFault::Refused(AgentRefusal::TotalLess));
         }
+        // A10 is found before memory is asked for.
+        next_session(self.parts().session)?;
         let owner = self.owning(total)?;
         owner.open_again(alloc)
     }
@@ -136,11 +158,11 @@ impl State {
         Ok(self.with_state(alloc, key, state)?)
     }
 
-    fn launches_in_order(&self, command: &Command) -> bool
-        ensures { result ≡ launches_in_order (agent_of self.now) command.now }
+    fn launches_anew(&self, command: &Command) -> bool
+        ensures { result ≡ launches_anew (agent_of self.now) command.now }
     {
         match command {
-            Command::Launch(job, _) => is_behind_all(self.tasks(), job.key),
+            Command::Launch(job, _) => !has_task(job.key, self.tasks()),
             _ => true,
         }
     }
@@ -154,19 +176,18 @@ impl State {
             && number - 1 == self.link.count()
     }
 
-    /// Whether a mail for this agent is a Hello of a run above 0, or a command that isn't the next
-    /// one of the open session, or one that launches no task under a key that isn't after all
-    /// launch keys of the record.
+    /// Whether a mail for this agent isn't the next command of the open session, or launches no
+    /// task under a key that is in the record.
     pub fn receives_in_order(&self, mail: &MasterMail) -> bool
         ensures { result ≡ receives_in_order (agent_of self.now) mail.now }
     {
         match mail {
-            MasterMail::Hello { run, .. } => *run > 0,
+            MasterMail::Hello { .. } => true,
             MasterMail::Issued {
                 session,
                 number,
                 command,
-            } => !self.is_next_command(*session, *number) || self.launches_in_order(command),
+            } => !self.is_next_command(*session, *number) || self.launches_anew(command),
         }
     }
 
@@ -178,7 +199,7 @@ impl State {
         match cause {
             Cause::Start(total) => self.start(alloc, total),
             Cause::Again => Ok(self.send_again(alloc)?),
-            Cause::Executor(key, state) => self.execute(alloc, key, state),
+            Cause::Executor(key, state) => self.execute(alloc, key, state.task_state()),
             Cause::Mail(to) => {
                 if !to.agent.is(&self.parts().name) {
                     return Err(AgentFault::Refused(AgentRefusal::NotForMe));

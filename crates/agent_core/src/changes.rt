@@ -6,7 +6,7 @@ ghost use Rattle.quantity.specs.declared.rows.Row.{Row};
 ghost use Rattle.std.specs.List.{AllByRecursion as Each};
 ghost use Rattle.stream_core.specs.Updates.{are_updates};
 ghost use Rattle.cluster_model.specs.Agents.{has_room, stated, tasks_after};
-ghost use Rattle.agent_core.specs.Drafts.{agent_of, launches_in_order};
+ghost use Rattle.agent_core.specs.Drafts.{agent_of};
 ghost use Rattle.agent_core.specs.Records.{HasRoom, is_record, with_other_tasks};
 
 use crate::state::State;
@@ -42,7 +42,6 @@ impl State {
     pub fn applied_is_record(&self, command: &Command)
         requires run { 0 < self.now.durable.run }
         requires room { has_room (agent_of self.now) command.now ≡ true }
-        requires order { launches_in_order (agent_of self.now) command.now ≡ true }
         ensures { is_record (with_other_tasks self.now.durable
             (tasks_after command.now self.now.durable.tasks)) ≡ true }
     {

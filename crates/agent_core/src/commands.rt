@@ -4,7 +4,7 @@ ghost use Rattle.std.specs.Prelude.{◌≡◌, ◌<◌, true, Ok, IfOk, IfSome, 
 ghost use Rattle.cluster_model.specs.Agents.{has_room, receives_command, applies, tasks_after};
 ghost use Rattle.mails.specs.declared.mail.Command.TheVariants.{Launch};
 ghost use Rattle.mails.specs.declared.mail.MasterMail.TheVariants.{Issued};
-ghost use Rattle.agent_core.specs.Drafts.{agent_of, applied_with, receives_in_order, is_with_run, launches_in_order, next_draft, Prepares, reported_again};
+ghost use Rattle.agent_core.specs.Drafts.{agent_of, applied_with, receives_in_order, is_with_run, launches_anew, next_draft, Prepares, reported_again};
 ghost use Rattle.agent_core.specs.Records.{HasRoom, is_record, with_other_tasks};
 
 use crate::fault::AgentFault;
@@ -12,10 +12,10 @@ use crate::state::State;
 use listed::Listed;
 use mails::{AgentMail, AgentRefusal, Command, Job, RecordedTask};
 use names_core::{LaunchKey, OfferId, TaskState};
-use plain_data::push_copies;
+use plain_data::copies_of;
 use quantity::Resources;
 use recorded_tasks::{
-    acknowledged_all, front_sent_after, push_fronts_at, stated_all, without_framework,
+    acknowledged_all, count_before, front_sent_after, push_fronts_at, stated_all, without_framework,
 };
 use shared_value::Shared;
 use std::alloc::{AllocError, Global};
@@ -28,26 +28,30 @@ pub struct Next {
     pub mails: Vec<AgentMail>,
 }
 
-fn launched(
-    alloc: Global,
-    tasks: &[Shared<RecordedTask>],
-    job: Job,
-    offers: Listed<OfferId>,
-) -> Result<Vec<Shared<RecordedTask>>, AllocError>
-    ensures { IfOk result (λ v. v.items ≡ tasks_after (Launch job offers) tasks.now) }
-{
-    let mut all = Vec::new(alloc);
-    push_copies(&mut all, tasks)?;
-    let task = RecordedTask {
-        job,
-        offers,
-        updates: Updates::new(alloc),
-    };
-    all.push(Shared::new(alloc, task)?)?;
-    Ok(all)
-}
-
 impl State {
+    /// The tasks with one more, in its place by launch key.
+    fn launched(
+        &self,
+        alloc: Global,
+        job: Job,
+        offers: Listed<OfferId>,
+    ) -> Result<Vec<Shared<RecordedTask>>, AllocError>
+        requires { launches_anew (agent_of self.now) (Launch job offers) ≡ true }
+        ensures { IfOk result (λ v. v.items
+            ≡ tasks_after (Launch job offers) self.now.durable.tasks) }
+    {
+        let _recorded = self.parts();
+        let place = count_before(self.tasks(), job.key);
+        let mut all = copies_of(alloc, self.tasks())?;
+        let task = RecordedTask {
+            job,
+            offers,
+            updates: Updates::new(alloc),
+        };
+        all.insert(place, Shared::new(alloc, task)?)?;
+        Ok(all)
+    }
+
     /// The next command is applied, and leaves these tasks; the front of one task is sent with it.
     fn applied_with(
         &self,
@@ -88,13 +92,13 @@ impl State {
         requires has_room { has_room (agent_of self.now) command ≡ true }
         requires room { HasRoom room (with_other_tasks self.now.durable
             (tasks_after command self.now.durable.tasks)) }
-        requires order { launches_in_order (agent_of self.now) command ≡ true }
+        requires order { launches_anew (agent_of self.now) command ≡ true }
         ensures { IfOk result (λ n. next_draft n ≡ applies (agent_of self.now) command) }
     {
         self.applied_is_record(&command);
         match command {
             Command::Launch(job, offers) => {
-                let tasks = launched(alloc, self.tasks(), job, offers)?;
+                let tasks = self.launched(alloc, job, offers)?;
                 self.applied_with(alloc, link, tasks, room, None)
             }
             Command::Kill(key) => {
@@ -145,6 +149,7 @@ impl State {
     }
 
     /// At the command with this number of a session.
+    #[tactic(auto, using(crate::proofs::Taking::room_takes_memory))]
     pub fn receive_command(
         &self,
         alloc: Global,

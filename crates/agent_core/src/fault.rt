@@ -20,6 +20,14 @@ pub enum AgentFault {
     OutOfMemory,
 }
 
+impl From<AgentRefusal> for AgentFault {
+    ghost from_gives = { λ refusal e. e ≡ Refused refusal };
+
+    fn from(refusal: AgentRefusal) -> AgentFault {
+        AgentFault::Refused(refusal)
+    }
+}
+
 impl From<AllocError> for AgentFault {
     ghost from_gives = { λ _ e. e ≡ OutOfMemory };
 

@@ -11,18 +11,18 @@ use mails::{Cause, Command, MasterMail, RecordedTask};
 use recorded_tasks::is_of_key;
 use shared_value::Shared;
 
-/// Whether a command names neither a task nor its framework.
+/// Whether a command names neither a task nor its framework, and launches none before it.
 fn command_spares(command: &Command, task: &RecordedTask) -> bool
     ensures { result ≡ command_spares command.now task.now }
 {
     match command {
-        Command::Launch(..) => true,
+        Command::Launch(job, _) => task.job.key < job.key,
         Command::Kill(key) | Command::Ack(key, _) => !is_of_key(*key, task),
         Command::EndFramework(framework) => task.job.framework != *framework,
     }
 }
 
-/// Whether a cause names neither a task nor its framework.
+/// Whether a cause leaves a task as it is, and in its place.
 fn spares(cause: &Cause, task: &RecordedTask) -> bool
     ensures { result ≡ spares cause.now task.now }
 {

@@ -7,9 +7,9 @@ use Rattle.mails.specs.declared.task.Offer.{Offer}
 use Rattle.cluster_model.specs.Ids.{is_among, is_repeated}
 use Rattle.cluster_model.specs.Sides.{Side, is_named}
 use Rattle.cluster_model.specs.Masters.{is_of}
-use Rattle.agent_accounts.specs.Accounts as accounts
-use Rattle.agent_accounts.specs.Accounts.{Account}
-use Rattle.agent_accounts.specs.Laws.{IdsNameOffers}
+use Rattle.offer_tables.specs.Accounts as accounts
+use Rattle.offer_tables.specs.Accounts.{Account}
+use Rattle.agent_sides.proofs.NamedIds.{IdsNameOffers}
 use Rattle.agent_sides.specs.Joined.{AreApart, AreOfOne, join, joined}
 use Rattle.agent_sides.specs.Looks.{withdrawing}
 use Rattle.agent_sides.proofs.Joining.{KeepsApart}

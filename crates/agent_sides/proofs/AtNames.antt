@@ -1,10 +1,9 @@
 -- What is told of a name is the same of the roster, of the book and of the sides.
-use Rattle.std.proofs.Common.{◌≡◌, ℕ, Bool, true, false, cond, List, [], ◌∷◌, ◌++◌, flat_map, refl, sym, ap, ◌∙◌, bytes_eq}
+use Rattle.std.proofs.Common.{◌≡◌, ℕ, Bool, true, false, cond, List, [], ◌∷◌, ◌++◌, flat_map, refl, ap, ◌∙◌, bytes_eq}
 use Rattle.cluster_model.specs.Sides.{Side}
-use Rattle.agent_accounts.specs.Accounts.{Account}
+use Rattle.offer_tables.specs.Accounts.{Account}
 use Rattle.agent_sides.specs.Joined.{AreOfOne, join, joined}
 use Rattle.agent_sides.specs.Looks.{value_of}
-use Rattle.agent_sides.specs.ByName.{value_by}
 
 pub told_joined : {X : Type 0} (name : List ℕ) (field : Side → X) (none : X) → ((s : Side) (a : Account) → field s ≡ field (join s a)) → (ss : List Side) (as_ : List Account) → AreOfOne ss as_
     → value_of name field none ss ≡ value_of name field none (joined ss as_)
@@ -14,18 +13,6 @@ told_joined name field none same (s ∷ ss) [] one = absurd one
 told_joined {X} name field none same (s ∷ ss) (a ∷ as_) one = by (bytes_eq s.name name) (told_joined name field none same ss as_ one.1)
   where
     by : (b : Bool) → value_of name field none ss ≡ value_of name field none (joined ss as_) → cond b (field s) (value_of name field none ss) ≡ cond b (field (join s a)) (value_of name field none (joined ss as_))
-    by true ih = same s a
-    by false ih = ih
-
-pub book_joined : {X : Type 0} (name : List ℕ) (of_account : Account → X) (field : Side → X) (none : X) → ((s : Side) (a : Account) → of_account a ≡ field (join s a)) → (ss : List Side) (as_ : List Account) → AreOfOne ss as_
-    → value_by name of_account none as_ ≡ value_of name field none (joined ss as_)
-book_joined name of_account field none same [] [] one = refl
-book_joined name of_account field none same [] (a ∷ as_) one = absurd one
-book_joined name of_account field none same (s ∷ ss) [] one = absurd one
-book_joined {X} name of_account field none same (s ∷ ss) (a ∷ as_) one =
-    ap (λ n. cond (bytes_eq n name) (of_account a) (value_by name of_account none as_)) (sym one.0) ∙ by (bytes_eq s.name name) (book_joined name of_account field none same ss as_ one.1)
-  where
-    by : (b : Bool) → value_by name of_account none as_ ≡ value_of name field none (joined ss as_) → cond b (of_account a) (value_by name of_account none as_) ≡ cond b (field (join s a)) (value_of name field none (joined ss as_))
     by true ih = same s a
     by false ih = ih
 

@@ -14,11 +14,11 @@ use Rattle.cluster_model.specs.Sides.{Run as ModelRun, Side, counts, received, l
 use Rattle.agent_sides.specs.Looks.{is_session}
 use Rattle.cluster_model.specs.Mails.{judged_session}
 use Rattle.roster.specs.Sessions.{after_applied, after_report, newly, answered, judged_report, report_opens, reported, with_command}
-use Rattle.agent_accounts.specs.Accounts.{Account}
-use Rattle.agent_accounts.specs.Accounts as accounts
-use Rattle.offer_book.specs.Books.{entered, entered_at, is_named_so}
-use Rattle.offer_book.specs.declared.fault.BookFault.{BookFault}
-use Rattle.offer_book.specs.declared.fault.BookFault.TheVariants.{Twice}
+use Rattle.offer_tables.specs.Accounts.{Account}
+use Rattle.offer_tables.specs.Accounts as accounts
+use Rattle.offer_tables.specs.Books.{entered, entered_at, is_named_so}
+use Rattle.offer_tables.specs.declared.fault.BookFault.{BookFault}
+use Rattle.offer_tables.specs.declared.fault.BookFault.TheVariants.{Twice}
 use Rattle.agent_sides.specs.Changes.{account_of, reporting, side_of}
 use Rattle.agent_sides.specs.declared.config.ConfiguredAgent.{ConfiguredAgent}
 use Rattle.std.specs.List.{AllByRecursion, find}
@@ -81,7 +81,7 @@ opens_by : (run : ℕ) (s : Side) (session number : ℕ) (judged : Option Master
 opens_by run s session number None b j e = cc
 opens_by run s session number (Some refusal) b j e = absurd cc
 
-opens_if : (run : ℕ) (s : Side) (session number : ℕ) (b : Bool) → reported run s session number ≡ Ok b → report_opens run s session number ≡ b
+pub opens_if : (run : ℕ) (s : Side) (session number : ℕ) (b : Bool) → reported run s session number ≡ Ok b → report_opens run s session number ≡ b
 opens_if run s session number b e = opens_by run s session number (judged_report run s session number) b refl e
 
 same_run_opens_not : (run : ℕ) (s : Side) (session number : ℕ) (refusal : MasterRefusal) (b : Bool) → (number == run) ≡ b → judged_report run s session number ≡ Some refusal → report_opens run s session number ≡ false

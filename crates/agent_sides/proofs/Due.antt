@@ -1,16 +1,17 @@
 -- What is due where an offer is made or a task is booked, of the book and of the sides.
 use Rattle.std.proofs.Common.{◌≡◌, ℕ, Bool, true, false, cond, ◌&&◌, ◌||◌, List, [], ◌∷◌, Option, None, Some, Result, Ok, Err, OnOk, OnErr, refl, sym, ap, ◌∙◌, subst, bytes_eq}
 use Rattle.std.specs.List.{AllByRecursion, list_any}
+use Rattle.std.specs.Result.{IsOk}
 use Rattle.names_core.specs.Ids.{Numbered}
 use Rattle.mails.specs.declared.task.Offer.{Offer}
 use Rattle.mails.specs.declared.task.Booked.{Booked}
 use Rattle.cluster_model.specs.Sides.{Side}
-use Rattle.agent_accounts.specs.Accounts as accounts
-use Rattle.offer_book.specs.Books as books
-use Rattle.agent_accounts.specs.Accounts.{Account}
-use Rattle.offer_book.specs.declared.fault.BookFault.{BookFault}
-use Rattle.offer_book.specs.declared.fault.BookFault.TheVariants.{Unknown, NoRoom, Twice, OutOfMemory}
-use Rattle.offer_book.specs.Faults.{IsRefusal}
+use Rattle.offer_tables.specs.Accounts as accounts
+use Rattle.offer_tables.specs.Books as books
+use Rattle.offer_tables.specs.Accounts.{Account}
+use Rattle.offer_tables.specs.declared.fault.BookFault.{BookFault}
+use Rattle.offer_tables.specs.declared.fault.BookFault.TheVariants.{Unknown, NoRoom, Twice, OutOfMemory}
+use Rattle.offer_tables.specs.Faults.{IsRefusal}
 use Rattle.agent_sides.specs.Changes.{offering, with_offer, with_task}
 use Rattle.agent_sides.specs.Joined.{AreApart, AreOfOne, Fit, IsIn, join, joined}
 use Rattle.agent_sides.specs.Looks.{at_name, value_of}
@@ -86,18 +87,22 @@ offered_lifts name o ss as_ fit =
 pub booked_lifts : (name : List ℕ) (b : Booked) (ss : List Side) (as_ : List Account) → Fit ss as_ → lift ss (books.booked name b as_) ≡ booked_on name b (joined ss as_)
 booked_lifts name b ss as_ fit =
     told_agent name (λ found. lift ss (books.booked_at name b as_ found)) (booked_at name b (joined ss as_))
-    (λ s a. step (books.is_booked b.job.key as_) (is_booked b.job.key (joined ss as_)) (booked_joined b.job.key ss as_ fit.one) (accounts.fits a b.job.resources) ss (books.at_first (books.is_agent name) (accounts.with_task b) as_) (at_name name (with_task b) (joined ss as_))
+    (λ s a. step (books.is_booked b.job.key as_) (is_booked b.job.key (joined ss as_)) (booked_joined b.job.key ss as_ fit.one) (accounts.fits a (accounts.unended_rows b)) ss (books.at_first (books.is_agent name) (accounts.with_task b) as_) (at_name name (with_task b) (joined ss as_))
     (named_book name (accounts.with_task b) (with_task b) (λ t c. refl) ss as_ fit.one fit.present))
     ss as_ fit.one fit.present
 
 pub ok_lifts : (ss : List Side) (due : Result (List Account) BookFault) (new : List Account) (of : Result (List Side) BookFault) → lift ss due ≡ of → due ≡ Ok new → of ≡ Ok (joined ss new)
 ok_lifts ss due new of lifts is = sym lifts ∙ ap (lift ss) is
 
+lift_ok : (ss : List Side) (due : Result (List Account) BookFault) → IsOk due → IsOk (lift ss due)
+lift_ok ss (Ok as_) h = refl
+lift_ok ss (Err fault) h = h
+
 pub refusal_lifts : (ss : List Side) (due : Result (List Account) BookFault) (of : Result (List Side) BookFault) → lift ss due ≡ of → (fault : BookFault) → IsRefusal fault due → IsRefusal fault of
 refusal_lifts ss due of lifts Unknown is = sym lifts ∙ ap (lift ss) is
 refusal_lifts ss due of lifts NoRoom is = sym lifts ∙ ap (lift ss) is
 refusal_lifts ss due of lifts Twice is = sym lifts ∙ ap (lift ss) is
-refusal_lifts ss due of lifts OutOfMemory is = is
+refusal_lifts ss due of lifts OutOfMemory is = subst IsOk lifts (lift_ok ss due is)
 
 -- what isn't refused
 
@@ -147,7 +152,7 @@ offered_is name o ss new e =
     d.is ∙ offering_there name o ss d.once d.room
 
 pub booked_is : (name : List ℕ) (b : Booked) (ss new : List Side) → booked_on name b ss ≡ Ok new → new ≡ at_name name (with_task b) ss
-booked_is name b ss new e = (done_where name (is_booked b.job.key ss) (fits b.job.resources) (at_name name (with_task b) ss) new ss e).is
+booked_is name b ss new e = (done_where name (is_booked b.job.key ss) (fits (accounts.unended_rows b)) (at_name name (with_task b) ss) new ss e).is
 
 -- books still fit the roster
 
@@ -214,7 +219,7 @@ booked_fit name b ss as_ new fit e = by (books.agent_of name as_) e
     by : (found : Option Account) → books.booked_at name b as_ found ≡ Ok new → Fit ss new
     by None q = absurd cc
     by (Some a) q =
-        let made = made_so (books.is_booked b.job.key as_) (accounts.fits a b.job.resources) (books.at_first (books.is_agent name) (accounts.with_task b) as_) new q in
+        let made = made_so (books.is_booked b.job.key as_) (accounts.fits a (accounts.unended_rows b)) (books.at_first (books.is_agent name) (accounts.with_task b) as_) new q in
         let keeps : KeepsAccount (accounts.with_task b) = record { name = λ c. refl; present = λ c. refl } in
         subst (Fit ss) made.1
         (record { one = one_first (books.is_agent name) (accounts.with_task b) keeps ss as_ fit.one; ordered = fit.ordered; present = present_first (books.is_agent name) (accounts.with_task b) keeps as_ fit.present; apart = tasks_apart (books.is_agent name) b as_ fit.apart })

@@ -2,7 +2,7 @@
 use Rattle.std.proofs.Common.{◌≡◌, ℕ, zero, suc, ◌<◌, ◌≤◌, length, get_or, arith, List, [], ◌∷◌, map, refl, sym, ap, subst, ◌∙◌, Result, Ok, Err, OnOk, OnErr, IfOk, IfErr}
 use Rattle.cluster_model.specs.Sides.{Side}
 use Rattle.roster.specs.Places.{at_place, value_at}
-use Rattle.agent_accounts.specs.Accounts.{Account}
+use Rattle.offer_tables.specs.Accounts.{Account}
 use Rattle.std.specs.List.{AllByRecursion}
 use Rattle.agent_sides.specs.Configs.{are_ordered}
 use Rattle.agent_sides.specs.Joined as joins

@@ -1,6 +1,6 @@
-pub mod TaskUpdate
 pub mod Joining
 pub mod Changing
+pub mod NamedIds
 pub mod Apart
 pub mod Naming
 pub mod Ordered
@@ -10,4 +10,5 @@ pub mod Owning
 pub mod Freeing
 pub mod Placing
 pub mod Due
-pub mod Parting
+pub mod Reading
+pub mod Reporting

@@ -1,5 +1,5 @@
 -- What is told of the roster and of the book is told of the sides.
-use Rattle.std.proofs.Common.{◌≡◌, ◌<◌, ◌≤◌, ◌+◌, arith, get_or, ℕ, zero, suc, Bool, true, false, ◌||◌, List, [], ◌∷◌, ◌++◌, length, map, flat_map, cond, Option, Some, None, option_map, refl, sym, ap, ◌∙◌, bytes_eq}
+use Rattle.std.proofs.Common.{◌≡◌, ◌<◌, ◌≤◌, ◌+◌, arith, get_or, ℕ, zero, suc, Bool, true, false, ◌||◌, List, [], ◌∷◌, ◌++◌, length, map, cond, Option, Some, None, option_map, refl, sym, ap, ◌∙◌, bytes_eq}
 use Rattle.std.specs.Prelude.{nat_lt}
 use Rattle.std.specs.List.{find, list_any, position_or_len}
 use Rattle.std.proofs.lemmas.List.Quantifiers.{position-Some}
@@ -8,9 +8,9 @@ use Rattle.cluster_model.specs.Sides.{Side}
 use Rattle.cluster_model.specs.Masters.{may_have_numbers, placed_on}
 use Rattle.roster.specs.Places.{at_place, place_of, value_at}
 use Rattle.roster.specs.Sessions.{issued_number}
-use Rattle.agent_accounts.specs.Accounts.{Account}
-use Rattle.offer_book.specs.Books.{booked_count}
-use Rattle.offer_book.specs.Held as held
+use Rattle.offer_tables.specs.Accounts.{Account}
+use Rattle.offer_tables.specs.Found.{place}
+use Rattle.offer_tables.specs.Held as held
 use Rattle.agent_sides.specs.Joined.{AreOfOne, join, joined}
 use Rattle.agent_sides.specs.Looks.{all_placed, at_name, next_command, value_of}
 
@@ -21,17 +21,7 @@ placed_joined [] [] one = refl
 placed_joined [] (a ∷ as_) one = absurd one
 placed_joined (s ∷ ss) [] one = absurd one
 placed_joined (s ∷ ss) (a ∷ as_) one =
-    ap (λ n. map (held.place n) a.booked ++ held.all_placed as_) (sym one.0) ∙ ap (λ ps. placed_on (join s a) ++ ps) (placed_joined ss as_ one.1)
-
-length_alike : {A B : Type 0} (f : A → B) (xs us : List A) (vs : List B) → length us ≡ length vs → length (xs ++ us) ≡ length (map f xs ++ vs)
-length_alike f [] us vs e = e
-length_alike f (x ∷ xs) us vs e = ap suc (length_alike f xs us vs e)
-
-pub count_joined : (ss : List Side) (as_ : List Account) → AreOfOne ss as_ → booked_count as_ ≡ length (all_placed (joined ss as_))
-count_joined [] [] one = refl
-count_joined [] (a ∷ as_) one = absurd one
-count_joined (s ∷ ss) [] one = absurd one
-count_joined (s ∷ ss) (a ∷ as_) one = length_alike (held.place s.name) a.booked (flat_map (λ b. b.booked) as_) (all_placed (joined ss as_)) (count_joined ss as_ one.1)
+    ap (λ n. map (place n) a.booked ++ held.all_placed as_) (sym one.0) ∙ ap (λ ps. placed_on (join s a) ++ ps) (placed_joined ss as_ one.1)
 
 -- entries
 

@@ -1,101 +1,136 @@
--- What accounts tell of a framework's offers and tasks is what the sides tell.
-use Rattle.std.proofs.Common.{◌≡◌, ℕ, ◌≤◌, length, drop, Bool, true, false, not, ◌&&◌, ◌||◌, cond, List, [], ◌∷◌, ◌++◌, map, filter, Some, None, option_map, refl, sym, ap, ◌∙◌}
-use Rattle.std.specs.List.{find, list_any, list_all}
-use Rattle.std.proofs.lemmas.List.{drop_all}
-use Rattle.names_core.specs.Ids.{Numbered}
+-- What sides tell of a framework's offers and tasks.
+use Rattle.std.proofs.Common.{◌≡◌, ℕ, zero, suc, ◌+◌, ◌<◌, Bool, true, false, not, ◌&&◌, ◌||◌, cond, List, [], ◌∷◌, ◌++◌, map, filter, flat_map, slice_get, drop, Option, Some, None, refl, sym, ap, ◌∙◌, arith, ⊎_elim}
+use Rattle.std.specs.List.{AllByRecursion, find, list_any, list_all}
+use Rattle.std.proofs.lemmas.Bool.{cases_Bool, true≢false}
+use Rattle.names_core.specs.Ids.{Numbered, same}
+use Rattle.quantity.specs.declared.rows.Row.{Row}
 use Rattle.quantity.specs.Rows.{plus_rows}
+use Rattle.mails.specs.declared.task.Offer.{Offer}
+use Rattle.cluster_model.specs.Calls.{has_tasks_of}
 use Rattle.cluster_model.specs.Ids.{is_empty, is_repeated}
-use Rattle.cluster_model.specs.Sides.{Side, is_good, offer_rows}
 use Rattle.cluster_model.specs.Masters.{has_numbers}
-use Rattle.agent_accounts.specs.Accounts.{Account}
-use Rattle.agent_accounts.specs.Accounts as accounts
-use Rattle.agent_sides.specs.Joined.{AreOfOne, join, joined}
-use Rattle.agent_sides.specs.Own.{GoodOffers, good_account, good_offers, holding, holding_of, lacks_numbers, names_with_tasks, sides_with_tasks, sum_on}
+use Rattle.cluster_model.specs.Sides.{Side, has_offer, is_good, is_named, offer_rows}
+use Rattle.offer_tables.specs.Accounts.{Account}
+use Rattle.offer_tables.specs.Places.{IsNowhere, IsOnlyFrom}
+use Rattle.agent_sides.specs.Joined.{join, joined}
+use Rattle.agent_sides.specs.Own.{if_good, named_rows, sides_with_tasks}
 
-pub holdings_joined : (ss : List Side) (as_ : List Account) → AreOfOne ss as_ → map holding_of as_ ≡ map holding (joined ss as_)
-holdings_joined [] [] one = refl
-holdings_joined [] (a ∷ as_) one = absurd one
-holdings_joined (s ∷ ss) [] one = absurd one
-holdings_joined (s ∷ ss) (a ∷ as_) one = rw (one.0, holdings_joined ss as_ one.1) refl
+abbrev NoneOf : Numbered → List Offer → Type 0
+NoneOf id os = AllByRecursion (λ o. same o.id id ≡ false) os
 
-abbrev pub sum_of : Numbered → List Numbered → Account → GoodOffers
-sum_of framework ids a = record { agent = a.name; sum = plus_rows [] (offer_rows (accounts.named_offers a framework ids)) }
+and_false : (v : Bool) → (v && false) ≡ false
+and_false true = refl
+and_false false = refl
 
-and_grouped : (a b c d : Bool) → (a && (b && c && d)) ≡ (a && b && c && d)
-and_grouped true b c d = refl
-and_grouped false b c d = refl
+no_offer : (framework id : Numbered) (os : List Offer) → NoneOf id os → list_any (λ o. same o.framework framework && same o.id id) os ≡ false
+no_offer framework id [] h = refl
+no_offer framework id (o ∷ os) h =
+    ap (λ v. (same o.framework framework && v) || list_any (λ p. same p.framework framework && same p.id id) os) h.0
+    ∙ ap (λ v. v || list_any (λ p. same p.framework framework && same p.id id) os) (and_false (same o.framework framework)) ∙ no_offer framework id os h.1
 
-pub good_joined : (framework : Numbered) (ids : List Numbered) (ss : List Side) (as_ : List Account) → AreOfOne ss as_
-    → option_map (sum_of framework ids) (good_account framework ids ss as_) ≡ good_offers framework ids (joined ss as_)
-good_joined framework ids [] [] one = refl
-good_joined framework ids [] (a ∷ as_) one = absurd one
-good_joined framework ids (s ∷ ss) [] one = absurd one
-good_joined framework ids (s ∷ ss) (a ∷ as_) one =
-    by (s.is_open && accounts.are_good a.offers framework ids) (is_good (join s a) framework ids) grouped (good_joined framework ids ss as_ one.1)
+-- an agent that has no offer of the first id
+not_good : (framework id : Numbered) (ids : List Numbered) (s : Side) → NoneOf id s.offers → is_good s framework (id ∷ ids) ≡ false
+not_good framework id ids s none =
+    ap (λ v. s.is_open && not (is_empty (id ∷ ids)) && not (is_repeated (id ∷ ids)) && (v && list_all (has_offer s framework) ids)) (no_offer framework id s.offers none)
+    ∙ and_false (s.is_open && not (is_empty (id ∷ ids)) && not (is_repeated (id ∷ ids)))
+
+pub none_good : (framework id : Numbered) (ids : List Numbered) (ss : List Side) (as_ : List Account) → IsNowhere (λ o. o.id) (λ a. a.offers) id as_
+    → find (λ s. is_good s framework (id ∷ ids)) (joined ss as_) ≡ None
+none_good framework id ids [] as_ none = refl
+none_good framework id ids (s ∷ ss) [] none = refl
+none_good framework id ids (s ∷ ss) (a ∷ as_) none =
+    ap (λ v. cond v (Some (join s a)) (find (λ t. is_good t framework (id ∷ ids)) (joined ss as_))) (not_good framework id ids (join s a) none.0) ∙ none_good framework id ids ss as_ none.1
+
+none_there : (q p : ℕ) (id : Numbered) (x : Offer) (os : List Offer) → (q ≡ p → ⊥) → AllByRecursion (λ o. same o.id id ≡ true → (o ≡ x) × (q ≡ p)) os → NoneOf id os
+none_there q p id x [] other h = tt
+none_there q p id x (o ∷ os) other h = (⊎_elim (λ t. absurd (other (h.0 t).1)) (λ t. t) (cases_Bool (same o.id id)), none_there q p id x os other h.1)
+
+none_past : (framework id : Numbered) (ids : List Numbered) (q p : ℕ) (x : Offer) (ss : List Side) (as_ : List Account) → p < q → IsOnlyFrom (λ o. o.id) (λ a. a.offers) q id p x as_
+    → find (λ s. is_good s framework (id ∷ ids)) (joined ss as_) ≡ None
+none_past framework id ids q p x [] as_ lt h = refl
+none_past framework id ids q p x (s ∷ ss) [] lt h = refl
+none_past framework id ids q p x (s ∷ ss) (a ∷ as_) lt h =
+    ap (λ v. cond v (Some (join s a)) (find (λ t. is_good t framework (id ∷ ids)) (joined ss as_))) (not_good framework id ids (join s a) (none_there q p id x a.offers (λ e. omega (arith, e)) h.0))
+    ∙ none_past framework id ids (suc q) p x ss as_ (omega arith) h.1
+
+-- only the agent of the first id may be the one
+pub good_from : (framework id : Numbered) (ids : List Numbered) (q n p : ℕ) (x : Offer) (ss : List Side) (as_ : List Account) → q + n ≡ p → IsOnlyFrom (λ o. o.id) (λ a. a.offers) q id p x as_
+    → find (λ s. is_good s framework (id ∷ ids)) (joined ss as_) ≡ if_good framework (id ∷ ids) (slice_get (joined ss as_) n)
+good_from framework id ids q n p x [] as_ e h = refl
+good_from framework id ids q n p x (s ∷ ss) [] e h = refl
+good_from framework id ids q zero p x (s ∷ ss) (a ∷ as_) e h =
+    ap (λ w. cond (is_good (join s a) framework (id ∷ ids)) (Some (join s a)) w) (none_past framework id ids (suc q) p x ss as_ (omega arith) h.1)
+good_from framework id ids q (suc n) p x (s ∷ ss) (a ∷ as_) e h =
+    ap (λ v. cond v (Some (join s a)) (find (λ t. is_good t framework (id ∷ ids)) (joined ss as_))) (not_good framework id ids (join s a) (none_there q p id x a.offers (λ d. omega (arith, d)) h.0))
+    ∙ good_from framework id ids (suc q) n p x ss as_ (omega arith) h.1
+
+-- no ids are none that are good
+pub no_ids : (framework : Numbered) (ss : List Side) → find (λ s. is_good s framework []) ss ≡ None
+no_ids framework [] = refl
+no_ids framework (s ∷ ss) = ap (λ v. cond v (Some s) (find (λ t. is_good t framework []) ss)) (shut s.is_open) ∙ no_ids framework ss
   where
-    grouped : (s.is_open && accounts.are_good a.offers framework ids) ≡ is_good (join s a) framework ids
-    grouped = and_grouped s.is_open (not (is_empty ids)) (not (is_repeated ids)) (list_all (accounts.has_offer a.offers framework) ids)
+    shut : (v : Bool) → (v && false && not (is_repeated []) && true) ≡ false
+    shut true = refl
+    shut false = refl
 
-    here : sum_of framework ids a ≡ sum_on framework ids (join s a)
-    here = ap (λ (n : List ℕ). record { agent = n; sum = plus_rows [] (offer_rows (accounts.named_offers a framework ids)) }) (sym one.0)
+-- sums
 
-    by : (u v : Bool) → u ≡ v → option_map (sum_of framework ids) (good_account framework ids ss as_) ≡ good_offers framework ids (joined ss as_)
-        → option_map (sum_of framework ids) (cond u (Some a) (good_account framework ids ss as_)) ≡ option_map (sum_on framework ids) (cond v (Some (join s a)) (find (λ t. is_good t framework ids) (joined ss as_)))
-    by true true e ih = ap (λ g. Some g) here
-    by true false e ih = absurd cc
-    by false true e ih = absurd cc
-    by false false e ih = ih
+pub plus_joined : (sum first second : List Row) → plus_rows sum (first ++ second) ≡ plus_rows (plus_rows sum first) second
+plus_joined sum [] second = refl
+plus_joined sum (r ∷ first) second = plus_joined (plus_rows sum (r ∷ [])) first second
 
-pub lacks_joined : (framework : Numbered) (ss : List Side) (as_ : List Account) → AreOfOne ss as_
-    → lacks_numbers framework ss as_ ≡ list_any (λ s. not (has_numbers 1 s)) (sides_with_tasks framework (joined ss as_))
-lacks_joined framework [] [] one = refl
-lacks_joined framework [] (a ∷ as_) one = absurd one
-lacks_joined framework (s ∷ ss) [] one = absurd one
-lacks_joined framework (s ∷ ss) (a ∷ as_) one = by (accounts.has_tasks_of framework a.booked) (lacks_joined framework ss as_ one.1)
+pub named_rows_are : (framework : Numbered) (ids : List Numbered) (os : List Offer) → flat_map (named_rows framework ids) os ≡ offer_rows (filter (is_named framework ids) os)
+named_rows_are framework ids [] = refl
+named_rows_are framework ids (o ∷ os) = by (is_named framework ids o) (named_rows_are framework ids os)
   where
-    by : (b : Bool) → lacks_numbers framework ss as_ ≡ list_any (λ t. not (has_numbers 1 t)) (sides_with_tasks framework (joined ss as_))
-        → (b && not (has_numbers 1 s) || lacks_numbers framework ss as_) ≡ list_any (λ t. not (has_numbers 1 t)) (cond b (join s a ∷ sides_with_tasks framework (joined ss as_)) (sides_with_tasks framework (joined ss as_)))
-    by true ih = ap (λ b. not (has_numbers 1 s) || b) ih
-    by false ih = ih
+    by : (v : Bool) → flat_map (named_rows framework ids) os ≡ offer_rows (filter (is_named framework ids) os)
+        → cond v o.resources [] ++ flat_map (named_rows framework ids) os ≡ offer_rows (cond v (o ∷ filter (is_named framework ids) os) (filter (is_named framework ids) os))
+    by true e = ap (λ rows. o.resources ++ rows) e
+    by false e = e
 
-pub names_joined : (framework : Numbered) (ss : List Side) (as_ : List Account) → AreOfOne ss as_
-    → names_with_tasks framework as_ ≡ map (λ s. s.name) (sides_with_tasks framework (joined ss as_))
-names_joined framework [] [] one = refl
-names_joined framework [] (a ∷ as_) one = absurd one
-names_joined framework (s ∷ ss) [] one = absurd one
-names_joined framework (s ∷ ss) (a ∷ as_) one = by (accounts.has_tasks_of framework a.booked) (names_joined framework ss as_ one.1)
+pub plus_more : (framework : Numbered) (ids : List Numbered) (sum : List Row) (o : Offer) (rest : List Offer)
+    → plus_rows (plus_rows sum (named_rows framework ids o)) (flat_map (named_rows framework ids) rest) ≡ plus_rows sum (flat_map (named_rows framework ids) (o ∷ rest))
+plus_more framework ids sum o rest = sym (plus_joined sum (named_rows framework ids o) (flat_map (named_rows framework ids) rest))
+
+-- agents with tasks
+
+abbrev pub lacks : Numbered → List Side → Bool
+lacks framework ss = list_any (λ s. not (has_numbers 1 s)) (sides_with_tasks framework ss)
+
+pub lacks_more : (framework : Numbered) (s : Side) (rest : List Side) → lacks framework (s ∷ rest) ≡ ((has_tasks_of framework s && not (has_numbers 1 s)) || lacks framework rest)
+lacks_more framework s rest = by (has_tasks_of framework s)
   where
-    by : (b : Bool) → names_with_tasks framework as_ ≡ map (λ t. t.name) (sides_with_tasks framework (joined ss as_))
-        → map (λ x. x.name) (cond b (a ∷ filter (λ x. accounts.has_tasks_of framework x.booked) as_) (filter (λ x. accounts.has_tasks_of framework x.booked) as_))
-        ≡ map (λ t. t.name) (cond b (join s a ∷ sides_with_tasks framework (joined ss as_)) (sides_with_tasks framework (joined ss as_)))
-    by true ih = rw (one.0, ih) refl
-    by false ih = ih
+    by : (v : Bool) → list_any (λ t. not (has_numbers 1 t)) (cond v (s ∷ sides_with_tasks framework rest) (sides_with_tasks framework rest)) ≡ ((v && not (has_numbers 1 s)) || lacks framework rest)
+    by true = refl
+    by false = refl
 
--- names, account by account
-pub names_more : (framework : Numbered) (as_ bs : List Account) → names_with_tasks framework (as_ ++ bs) ≡ names_with_tasks framework as_ ++ names_with_tasks framework bs
-names_more framework [] bs = refl
-names_more framework (a ∷ as_) bs = by (accounts.has_tasks_of framework a.booked) (names_more framework as_ bs)
+abbrev pub names_with_tasks : Numbered → List Side → List (List ℕ)
+names_with_tasks framework ss = map (λ s. s.name) (sides_with_tasks framework ss)
+
+pub names_more : (framework : Numbered) (s : Side) (rest : List Side) → names_with_tasks framework (s ∷ []) ++ names_with_tasks framework rest ≡ names_with_tasks framework (s ∷ rest)
+names_more framework s rest = by (has_tasks_of framework s)
   where
-    rest : List Account
-    rest = filter (λ x. accounts.has_tasks_of framework x.booked) (as_ ++ bs)
+    by : (v : Bool) → map (λ t. t.name) (cond v (s ∷ []) []) ++ names_with_tasks framework rest ≡ map (λ t. t.name) (cond v (s ∷ sides_with_tasks framework rest) (sides_with_tasks framework rest))
+    by true = refl
+    by false = refl
 
-    by : (b : Bool) → map (λ x. x.name) rest ≡ names_with_tasks framework as_ ++ names_with_tasks framework bs
-        → map (λ x. x.name) (cond b (a ∷ rest) rest) ≡ map (λ x. x.name) (cond b (a ∷ filter (λ x. accounts.has_tasks_of framework x.booked) as_) (filter (λ x. accounts.has_tasks_of framework x.booked) as_)) ++ names_with_tasks framework bs
-    by true ih = ap (λ ns. a.name ∷ ns) ih
-    by false ih = ih
+-- goodness, step by step
 
--- past the last entry
+pub shut_good : (framework : Numbered) (ids : List Numbered) (s : Side) → s.is_open ≡ false → false ≡ is_good s framework ids
+shut_good framework ids s h = rw h refl
 
-no_entry_good : (framework : Numbered) (ids : List Numbered) (as_ : List Account) → good_account framework ids [] as_ ≡ None
-no_entry_good framework ids [] = refl
-no_entry_good framework ids (a ∷ as_) = refl
+grouped : (a b c d : Bool) → a ≡ true → (b && c && d) ≡ (a && b && c && d)
+grouped true b c d h = refl
+grouped false b c d h = absurd (true≢false (sym h))
 
-pub none_good : (framework : Numbered) (ids : List Numbered) (ss : List Side) (i : ℕ) (as_ : List Account) → length ss ≤ i → good_account framework ids (drop i ss) as_ ≡ None
-none_good framework ids ss i as_ past = ap (λ ts. good_account framework ids ts as_) (drop_all i ss past) ∙ no_entry_good framework ids as_
+pub open_good : (framework : Numbered) (ids : List Numbered) (s : Side) → s.is_open ≡ true
+    → (not (is_empty ids) && not (is_repeated ids) && list_all (has_offer s framework) ids) ≡ is_good s framework ids
+open_good framework ids s h = grouped s.is_open (not (is_empty ids)) (not (is_repeated ids)) (list_all (has_offer s framework) ids) h
 
-no_entry_lacks : (framework : Numbered) (as_ : List Account) → lacks_numbers framework [] as_ ≡ false
-no_entry_lacks framework [] = refl
-no_entry_lacks framework (a ∷ as_) = refl
+pub first_is : (ids : List Numbered) (id : Numbered) → Some id ≡ slice_get ids zero → ids ≡ id ∷ drop 1 ids
+first_is [] id h = absurd (cc)
+first_is (j ∷ ids) id h = let e : id ≡ j = cc in ap (λ k. k ∷ ids) (sym e)
 
-pub none_lacks : (framework : Numbered) (ss : List Side) (i : ℕ) (as_ : List Account) → length ss ≤ i → lacks_numbers framework (drop i ss) as_ ≡ false
-none_lacks framework ss i as_ past = ap (λ ts. lacks_numbers framework ts as_) (drop_all i ss past) ∙ no_entry_lacks framework as_
+pub empty_is : (ids : List Numbered) → ◌≡◌ {A = Option Numbered} None (slice_get ids zero) → ids ≡ []
+empty_is [] h = refl
+empty_is (j ∷ ids) h = absurd (cc)

@@ -6,10 +6,10 @@ use Rattle.std.proofs.lemmas.Bool.{true≢false}
 use Rattle.std.proofs.lemmas.Bool.Decides.{nat_tests}
 use Rattle.cluster_model.specs.Ids.{bytes_before}
 use Rattle.cluster_model.specs.Sides.{Side}
-use Rattle.agent_accounts.specs.Accounts.{Account}
-use Rattle.offer_book.specs.declared.fault.BookFault.{BookFault}
-use Rattle.offer_book.specs.Books.{at_first, changed, changed_at, is_agent}
-use Rattle.offer_book.specs.Faults.{IsDue}
+use Rattle.offer_tables.specs.Accounts.{Account}
+use Rattle.offer_tables.specs.declared.fault.BookFault.{BookFault}
+use Rattle.offer_tables.specs.Books.{at_first, changed, changed_at, is_agent}
+use Rattle.offer_tables.specs.Faults.{IsDue}
 use Rattle.agent_sides.specs.Configs.{are_ordered}
 use Rattle.agent_sides.specs.Joined.{AreOfOne, Fit, IsIn, at_place, side_names}
 use Rattle.agent_sides.proofs.Naming.{both_true}
@@ -20,25 +20,25 @@ not_itself : (xs : List ℕ) → bytes_before xs xs ≡ false
 not_itself [] = refl
 not_itself (x ∷ xs) = rw (not_itself xs) (grind (arith, nat_tests))
 
-other_names : (xs ys : List ℕ) → bytes_before xs ys ≡ true → bytes_eq xs ys ≡ false
+pub other_names : (xs ys : List ℕ) → bytes_before xs ys ≡ true → bytes_eq xs ys ≡ false
 other_names xs ys before = by (bytes_eq xs ys) refl
   where
     by : (v : Bool) → bytes_eq xs ys ≡ v → v ≡ false
     by true same = absurd (true≢false (sym before ∙ ap (bytes_before xs) (sym ((bytes_decides xs ys).0 same)) ∙ not_itself xs))
     by false same = refl
 
-all_named : (test : List ℕ → Bool) (ss : List Side) → list_all test (side_names ss) ≡ true → (i : ℕ) (s : Side) → i < length ss → s ≡ get_or ss i s → test s.name ≡ true
+pub all_named : (test : List ℕ → Bool) (ss : List Side) → list_all test (side_names ss) ≡ true → (i : ℕ) (s : Side) → i < length ss → s ≡ get_or ss i s → test s.name ≡ true
 all_named test [] all i s within is = absurd (omega arith)
 all_named test (t ∷ ss) all zero s within is = ap (λ (u : Side). test u.name) is ∙ (both_true (test t.name) (list_all test (side_names ss)) all).0
 all_named test (t ∷ ss) all (suc i) s within is = all_named test ss (both_true (test t.name) (list_all test (side_names ss)) all).1 i s (omega arith) is
 
 -- a test passes at a place, and at none before
-abbrev FirstAt : (Account → Bool) → List Account → ℕ → Type 0
+abbrev pub FirstAt : (Account → Bool) → List Account → ℕ → Type 0
 FirstAt test [] i = ⊥
 FirstAt test (a ∷ as_) zero = test a ≡ true
 FirstAt test (a ∷ as_) (suc i) = (test a ≡ false) × FirstAt test as_ i
 
-changes_there : (test : Account → Bool) (change : Account → Account) (as_ : List Account) (i : ℕ) → FirstAt test as_ i → at_first test change as_ ≡ at_place i change as_
+pub changes_there : (test : Account → Bool) (change : Account → Account) (as_ : List Account) (i : ℕ) → FirstAt test as_ i → at_first test change as_ ≡ at_place i change as_
 changes_there test change [] i first = absurd first
 changes_there test change (a ∷ as_) zero first = rw first refl
 changes_there test change (a ∷ as_) (suc i) first = rw first.0 (ap (λ bs. a ∷ bs) (changes_there test change as_ i first.1))
@@ -52,7 +52,7 @@ and_false : (v : Bool) → (v && false) ≡ false
 and_false true = refl
 and_false false = refl
 
-named_first : (ss : List Side) (as_ : List Account) → AreOfOne ss as_ → are_ordered (side_names ss) ≡ true → AllByRecursion IsIn as_
+pub named_first : (ss : List Side) (as_ : List Account) → AreOfOne ss as_ → are_ordered (side_names ss) ≡ true → AllByRecursion IsIn as_
     → (i : ℕ) (s : Side) → i < length ss → s ≡ get_or ss i s → FirstAt (is_agent s.name) as_ i
 named_first [] as_ one ordered present i s within is = absurd (omega arith)
 named_first (t ∷ ss) [] one ordered present i s within is = absurd one

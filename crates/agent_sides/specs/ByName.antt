@@ -1,17 +1,10 @@
--- Look-ups of accounts by their agents' names, and what a tick sends to agents.
-use Rattle.std.specs.Prelude.{ℕ, suc, if◌then◌else◌, List, [], ◌∷◌, Option, Some, None, bytes_eq}
+-- What a tick sends to agents.
+use Rattle.std.specs.Prelude.{ℕ, suc, if◌then◌else◌, List, [], ◌∷◌, Option, Some, None}
 use Rattle.mails.specs.declared.mail.Command.{Command}
 use Rattle.mails.specs.declared.mail.MasterMail.{MasterMail}
 use Rattle.mails.specs.declared.mail.MasterMail.TheVariants.{Hello, Issued}
 use Rattle.mails.specs.declared.mail.ToAgent.{ToAgent}
 use Rattle.cluster_model.specs.Sides.{Side}
-use Rattle.agent_accounts.specs.Accounts.{Account}
-
--- what `field` returns for the first account of a name, or `none` where there is none
-abbrev pub value_by : {X : Type 0} → List ℕ → (Account → X) → X → List Account → X
-value_by name field none [] = none
-value_by name field none (a ∷ as_) =
-    if bytes_eq a.name name then field a else value_by name field none as_
 
 abbrev pub oldest_of : Side → List Command → Option MasterMail
 oldest_of s [] = None

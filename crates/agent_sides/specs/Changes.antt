@@ -9,8 +9,8 @@ use Rattle.quantity.specs.Rows.{covers}
 use Rattle.cluster_model.specs.Sides.{Side, new_side, opened, taken}
 use Rattle.cluster_model.specs.Masters.{is_of}
 use Rattle.roster.specs.Sessions.{report_opens}
-use Rattle.agent_accounts.specs.Accounts.{Account}
-use Rattle.agent_accounts.specs.Accounts.{new_account}
+use Rattle.offer_tables.specs.Accounts.{Account}
+use Rattle.offer_tables.specs.Accounts.{new_account}
 use Rattle.agent_sides.specs.declared.config.ConfiguredAgent.{ConfiguredAgent}
 
 abbrev pub without_offers_of : Numbered → Side → Side

@@ -1,9 +1,9 @@
 -- The roster and the book of the same agents, as one list of the master's sides.
-use Rattle.std.specs.Prelude.{◌≡◌, ℕ, zero, suc, true, false, List, [], ◌∷◌, map, ⊤}
+use Rattle.std.specs.Prelude.{◌≡◌, ◌<◌, ◌+◌, ◌^◌, ℕ, zero, suc, drop, length, true, false, List, [], ◌∷◌, map, ⊤}
 use Rattle.std.specs.List.{AllByRecursion}
 use Rattle.cluster_model.specs.Ids.{is_repeated}
 use Rattle.cluster_model.specs.Sides.{Side}
-use Rattle.agent_accounts.specs.Accounts.{Account}
+use Rattle.offer_tables.specs.Accounts.{Account}
 use Rattle.agent_sides.specs.Configs.{are_ordered}
 
 -- the side of an agent: its session from the roster; what it owns,
@@ -48,3 +48,8 @@ pub record Fit (ss : List Side) (as_ : List Account) : Type 0 where
   pub ordered : are_ordered (side_names ss) ≡ true
   pub present : AllByRecursion IsIn as_
   pub apart : AllByRecursion AreApart as_
+
+-- agents that are left, from a place on: the roster's entries, and the book's accounts
+pub record AgentsLeft (ss : List Side) (as_ : List Account) (place : ℕ) : Type 0 where
+  pub one : AreOfOne ss (drop place as_)
+  pub fits : place + length ss < 2 ^ 64

@@ -7,3 +7,4 @@ pub mod Named
 pub mod Own
 pub mod ByName
 pub mod Taking
+pub mod Reports

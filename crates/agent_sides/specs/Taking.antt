@@ -7,8 +7,9 @@ use Rattle.quantity.specs.Rows.{covers}
 use Rattle.mails.specs.declared.task.Offer.{Offer}
 use Rattle.mails.specs.declared.task.Booked.{Booked}
 use Rattle.cluster_model.specs.Sides.{Side, taken}
-use Rattle.offer_book.specs.declared.fault.BookFault.{BookFault}
-use Rattle.offer_book.specs.declared.fault.BookFault.TheVariants.{Unknown, NoRoom, Twice}
+use Rattle.offer_tables.specs.Accounts.{unended_rows}
+use Rattle.offer_tables.specs.declared.fault.BookFault.{BookFault}
+use Rattle.offer_tables.specs.declared.fault.BookFault.TheVariants.{Unknown, NoRoom, Twice}
 use Rattle.agent_sides.specs.Changes.{with_offer, with_task}
 use Rattle.agent_sides.specs.Looks.{at_name, value_of}
 
@@ -36,8 +37,9 @@ offered_to name o ss = value_of name (offered_at name o ss) (Err Unknown) ss
 abbrev pub booked_at : List ℕ → Booked → List Side → Side → Result (List Side) BookFault
 booked_at name b ss s =
     if is_booked b.job.key ss then Err Twice
-    else (if fits b.job.resources s then Ok (at_name name (with_task b) ss) else Err NoRoom)
+    else (if fits (unended_rows b) s then Ok (at_name name (with_task b) ss) else Err NoRoom)
 
--- a task is booked on the agent of a name, where its total has room for it
+-- a task is booked on the agent of a name, where its total has room for what it uses: nothing, if
+-- it has ended
 abbrev pub booked_on : List ℕ → Booked → List Side → Result (List Side) BookFault
 booked_on name b ss = value_of name (booked_at name b ss) (Err Unknown) ss

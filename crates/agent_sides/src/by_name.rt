@@ -1,6 +1,6 @@
 //! Look-ups and changes by agents' names, and the mails that a tick sends.
 
-ghost use Rattle.std.specs.Prelude.{◌≡◌, ◌<◌, ◌++◌, [], Some, None, Ok, false, flat_map, IfOk, OnOk, OnErr, IfErr};
+ghost use Rattle.std.specs.Prelude.{◌≡◌, ◌<◌, ◌++◌, [], Some, None, Ok, true, false, flat_map, IfOk, OnOk, OnErr, IfErr};
 ghost use Rattle.mails.specs.declared.mail.AgentMail.TheVariants.{Applied, Update};
 ghost use Rattle.cluster_model.specs.Mails.{in_session, judged_session};
 ghost use Rattle.cluster_model.specs.Sides.{Run as ModelRun, received, lost};
@@ -8,13 +8,14 @@ ghost use Rattle.roster.specs.Faults.{IsAppliedRefusal};
 ghost use Rattle.roster.specs.Sessions.{judged_report, report_opens, reported};
 ghost use Rattle.agent_sides.specs.Changes.{reporting};
 ghost use Rattle.agent_sides.specs.Looks.{at_name, value_of};
-ghost use Rattle.agent_sides.specs.ByName.{again_of, mails_at_tick, value_by};
+ghost use Rattle.agent_sides.specs.Reports.{AreBookable};
+ghost use Rattle.agent_sides.specs.ByName.{again_of, mails_at_tick};
 
 use crate::sides::Sides;
-use agent_accounts::{Account, TaskUpdate};
 use listed::Listed;
-use mails::{Booked, MasterMail, MasterRefusal, Offer, ToAgent};
+use mails::{Booked, MasterMail, MasterRefusal, ToAgent};
 use names_core::{AgentName, Run};
+use offer_tables::{OffersAt, TaskUpdate, TasksAt};
 use plain_data::Plain;
 use quantity::Resources;
 use roster::{RosterEntry, RosterFault};
@@ -118,35 +119,13 @@ fn report_of(
     Ok(false)
 }
 
-fn offers_of<'a>(accounts: &'a [Account], name: &AgentName) -> &'a [Offer]
-    ensures { result.now ≡ value_by name.now (λ a. a.offers) [] accounts.now }
-{
-    for account in accounts {
-        if account.name().is(name) {
-            return account.offers().as_slice();
-        }
-    }
-    &[]
-}
-
-fn tasks_of<'a>(accounts: &'a [Account], name: &AgentName) -> &'a [Booked]
-    ensures { result.now ≡ value_by name.now (λ a. a.booked) [] accounts.now }
-{
-    for account in accounts {
-        if account.name().is(name) {
-            return account.booked().as_slice();
-        }
-    }
-    &[]
-}
-
 /// What is sent to an agent at a tick, if anything.
 fn mail_at_tick(run: Run, entry: &RosterEntry) -> Result<Option<MasterMail>, AllocError>
     ensures { IfOk result (λ mail. mail ≡ again_of run entry.now) }
 {
     if !entry.is_open() {
         return Ok(Some(MasterMail::Hello {
-            run: u32::from(run.number()),
+            run,
             dead: entry.closed(),
         }));
     }
@@ -233,17 +212,23 @@ impl Sides {
     }
 
     /// The current offers on the agent, in order of their making.
-    pub fn offers_of(&self, name: &AgentName) -> &[Offer]
-        ensures { result.now ≡ value_of name.now (λ s. s.offers) [] self.now }
+    pub fn offers_of(&self, name: &AgentName) -> OffersAt<'_>
+        ensures { result ≡ value_of name.now (λ s. s.offers) [] self.now }
     {
-        offers_of(self.book.accounts(), name)
+        match self.place_of(name) {
+            Some(place) => self.book.offers_at(place),
+            None => self.book.offers_at(self.book.len()),
+        }
     }
 
-    /// The tasks that are booked on the agent.
-    pub fn tasks_of(&self, name: &AgentName) -> &[Booked]
-        ensures { result.now ≡ value_of name.now (λ s. s.booked) [] self.now }
+    /// The tasks that are booked on the agent, ended ones too.
+    pub fn tasks_of(&self, name: &AgentName) -> TasksAt<'_>
+        ensures { result ≡ value_of name.now (λ s. s.booked) [] self.now }
     {
-        tasks_of(self.book.accounts(), name)
+        match self.place_of(name) {
+            Some(place) => self.book.tasks_at(place),
+            None => self.book.tasks_at(self.book.len()),
+        }
     }
 
     /// Appends to `mails` what a tick sends to each agent, in order of the agents: a Hello where no
@@ -268,8 +253,10 @@ impl Sides {
         }
     }
 
-    /// A Report of the agent is received, as by `report`; where it opens no session nothing
-    /// happens.
+    /// An agent reports that it has opened a session with the master of run `number`, that it has
+    /// these tasks, and that it owns this total. Where the Report opens the session here, the book
+    /// has these tasks and this total; else nothing happens. Where memory is refused, the session
+    /// is opened, and some first of the tasks are booked.
     pub fn receive_report(
         &mut self,
         alloc: Global,
@@ -279,11 +266,15 @@ impl Sides {
         number: u32,
         tasks: Listed<Booked>,
         total: Resources,
-    )
-        ensures { self.new ≡ at_name name.now (reporting run session number tasks total) self.old }
+    ) -> Result<(), AllocError>
+        requires { value_of name.now (λ s. report_opens run s session number) false self.old ≡ true
+            → AreBookable name.now tasks total self.old }
+        ensures { OnOk result (self.new
+            ≡ at_name name.now (reporting run session number tasks total) self.old) }
     {
-        if let Some(place) = self.place_of(name) {
-            let _opens = self.report(alloc, place, run, session, number, tasks, total);
+        match self.place_of(name) {
+            Some(place) => self.report(alloc, place, run, session, number, tasks, total),
+            None => Ok(()),
         }
     }
 

@@ -1,4 +1,4 @@
-//! The configuration: which agents there are.
+//! The configuration: which agents there are, and the weights of roles.
 
 ghost use Rattle.std.specs.Prelude.{◌≡◌, ◌≤◌, ◌<◌, [], true, false, length, nat_le, OnOk, OnErr, IfErr};
 ghost use Rattle.agent_sides.specs.Configs.{IsConfigRefusal, are_ordered, has_name, most_agents, names_of, place_for, with_agent};
@@ -6,6 +6,7 @@ ghost use Rattle.agent_sides.specs.declared.config.ConfigFault.TheVariants.{OutO
 
 use names_core::AgentName;
 use quantity::Resources;
+use role_weights::Weights;
 use std::alloc::{AllocError, AllocFailed, Global};
 use std::marker::Model;
 use thiserror::Error;
@@ -51,18 +52,18 @@ impl<T: Drop> From<AllocFailed<T>> for ConfigFault {
 }
 
 /// At most 256 agents, in byte order of their names, none named twice.
-pub struct Config {
+pub struct ConfiguredAgents {
     agents: Vec<ConfiguredAgent>,
 }
 
 // By hand, so that who drops one goes through none of its parts.
-impl Drop for Config {
+impl Drop for ConfiguredAgents {
     fn drop(self) {
-        let Config { agents: _ } = self;
+        let ConfiguredAgents { agents: _ } = self;
     }
 }
 
-impl Model for Config {
+impl Model for ConfiguredAgents {
     ghost use Rattle.std.specs.Prelude.{◌≡◌, ◌≤◌, List, true, length};
     ghost use Rattle.agent_sides.specs.declared.config.ConfiguredAgent.{ConfiguredAgent};
     ghost use Rattle.agent_sides.specs.Configs.{are_ordered, most_agents, names_of};
@@ -73,6 +74,13 @@ impl Model for Config {
 
     ghost invariant = { λ config. (are_ordered (names_of config.agents.items) ≡ true)
         × (length config.agents.items ≤ most_agents) };
+}
+
+/// The configuration of a cluster: its agents, with what each owns, and the weights of roles.
+#[derive(Drop)]
+pub struct Config {
+    pub agents: ConfiguredAgents,
+    pub weights: Weights,
 }
 
 fn place_for(agents: &[ConfiguredAgent], name: &AgentName) -> usize
@@ -104,12 +112,12 @@ fn add_in(agents: &mut Vec<ConfiguredAgent>, agent: ConfiguredAgent) -> Result<(
     Ok(())
 }
 
-impl Config {
+impl ConfiguredAgents {
     /// Without agents.
-    pub fn new(alloc: Global) -> Config
+    pub fn new(alloc: Global) -> ConfiguredAgents
         ensures { result ≡ [] }
     {
-        Config {
+        ConfiguredAgents {
             agents: Vec::new(alloc),
         }
     }

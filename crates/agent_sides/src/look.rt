@@ -4,14 +4,10 @@ ghost use Rattle.std.specs.Prelude.{◌≡◌, ◌&&◌, ◌==◌, false, not, s
 ghost use Rattle.std.specs.List.{find, list_any};
 ghost use Rattle.names_core.specs.Ids.{same};
 ghost use Rattle.cluster_model.specs.Masters.{has_returned, may_have_numbers};
-ghost use Rattle.id_spans.specs.Spans.{IsSpan};
-ghost use Rattle.offer_book.specs.ById.{has_task_as};
-ghost use Rattle.offer_book.specs.Held.{all_placed, place, placed_on};
+ghost use Rattle.offer_tables.specs.Found.{place};
 ghost use Rattle.roster.specs.Places.{value_at};
 ghost use Rattle.agent_sides.specs.Looks.{is_received_last, is_session};
 
-use agent_accounts::Account;
-use id_spans::Span;
 use mails::Booked;
 use names_core::{AgentName, FrameworkId, LaunchKey, TaskName};
 use roster::RosterEntry;
@@ -109,7 +105,9 @@ fn is_framework(task: &Booked, framework: FrameworkId) -> bool
     task.job.framework == framework
 }
 
-fn is_received_last(
+/// Whether this task on an agent is a framework's of this name and key, on this agent, and `k` is the
+/// last of its updates that was received.
+pub fn is_received_last(
     task: &Booked,
     on: &AgentName,
     framework: FrameworkId,
@@ -125,78 +123,4 @@ fn is_received_last(
         && task.job.name.is(name)
         && on.is(agent)
         && is_last(task, k)
-}
-
-fn any_received_last(
-    tasks: &[Booked],
-    on: &AgentName,
-    framework: FrameworkId,
-    agent: &AgentName,
-    name: &TaskName,
-    key: LaunchKey,
-    k: u32,
-) -> bool
-    ensures { result ≡ list_any (λ b. is_received_last framework agent.now name.now key k
-        (place on.now b)) tasks.now }
-{
-    for task in tasks {
-        if is_received_last(task, on, framework, agent, name, key, k) {
-            return true;
-        }
-    }
-    false
-}
-
-/// Only the tasks of the key are looked at.
-fn is_received_last_on(
-    account: &Account,
-    framework: FrameworkId,
-    agent: &AgentName,
-    name: &TaskName,
-    key: LaunchKey,
-    k: u32,
-) -> bool
-    ensures { result ≡ list_any (is_received_last framework agent.now name.now key k)
-        (placed_on account.now) }
-{
-    let tasks = account.booked().part_of(key);
-    any_received_last(tasks, account.name(), framework, agent, name, key, k)
-}
-
-fn any_account_received_last(
-    accounts: &[Account],
-    framework: FrameworkId,
-    agent: &AgentName,
-    name: &TaskName,
-    key: LaunchKey,
-    k: u32,
-) -> bool
-    ensures { result ≡ list_any (is_received_last framework agent.now name.now key k)
-        (all_placed accounts.now) }
-{
-    for account in accounts {
-        if is_received_last_on(account, framework, agent, name, key, k) {
-            return true;
-        }
-    }
-    false
-}
-
-/// Whether this is the update last received of a framework's task of this name and key on this
-/// agent. Only the accounts at these places are looked at.
-pub fn is_received_last_in(
-    accounts: &[Account],
-    span: Span,
-    framework: FrameworkId,
-    agent: &AgentName,
-    name: &TaskName,
-    key: LaunchKey,
-    k: u32,
-) -> bool
-    requires { IsSpan (has_task_as key) accounts.now span.from span.to }
-    ensures { result ≡ list_any (is_received_last framework agent.now name.now key k)
-        (all_placed accounts.now) }
-{
-    let part = &accounts[span.from..span.to];
-    any_account_received_last(part, framework, agent, name, key, k)
 }

@@ -1,28 +1,25 @@
 //! What a framework has on all agents: its offers, and its booked tasks.
 
-ghost use Rattle.std.specs.Prelude.{◌≡◌, ◌++◌, ◌∷◌, [], map, not, OnOk, IfOk, IfSome};
-ghost use Rattle.std.specs.List.{list_any};
-ghost use Rattle.std.specs.Option.{option_copied};
-ghost use Rattle.quantity.specs.Rows.{AreRows};
-ghost use Rattle.cluster_model.specs.Sides.{without_used};
+ghost use Rattle.std.specs.Prelude.{◌≡◌, ◌++◌, ◌∷◌, ◌&&◌, [], map, not, OnOk, IfOk, IfSome};
+ghost use Rattle.std.specs.List.{find, list_all, list_any};
+ghost use Rattle.names_core.specs.Ids.{same};
+ghost use Rattle.quantity.specs.Rows.{AreRows, plus_rows};
+ghost use Rattle.cluster_model.specs.Ids.{is_empty, is_repeated};
+ghost use Rattle.cluster_model.specs.Sides.{has_offer, is_good, is_named, offer_rows, used_offers, without_used};
+ghost use Rattle.cluster_model.specs.Calls.{has_tasks_of};
 ghost use Rattle.cluster_model.specs.Masters.{has_numbers};
-ghost use Rattle.id_spans.specs.Spans.{IsSpan};
-ghost use Rattle.agent_accounts.specs.Accounts.{are_good};
 ghost use Rattle.roster.specs.Places.{at_place};
-ghost use Rattle.agent_sides.specs.Joined.{AreOfOne};
 ghost use Rattle.agent_sides.specs.Looks.{at_name};
-ghost use Rattle.agent_sides.specs.Own.{good_account, good_offers, holding, holding_of, lacks_numbers, names_with_tasks, sides_with_tasks};
+ghost use Rattle.agent_sides.specs.Own.{good_offers, named_rows, sides_with_tasks};
 
+use crate::agent::AgentSide;
 use crate::placed;
 use crate::sides::Sides;
-use agent_accounts::Account;
-use id_spans::Span;
 use listed::Listed;
+use mails::Offer;
 use names_core::{AgentName, FrameworkId, OfferId};
-use offer_book::OfferBook;
 use plain_data::Plain;
 use quantity::Resources;
-use roster::RosterEntry;
 use std::alloc::{AllocError, Global};
 
 /// The agent of offers that a framework may use together, and their sum.
@@ -33,64 +30,13 @@ pub struct GoodOffers {
     pub sum: Resources,
 }
 
-/// The account on which offers are good, where the agent's session is open.
-fn good_account<'a>(
-    entries: &[RosterEntry],
-    accounts: &'a [Account],
-    framework: FrameworkId,
-    ids: &[OfferId],
-) -> Option<&'a Account>
-    ensures { option_copied result ≡ good_account framework ids.now entries.now accounts.now }
+/// Whether some id is listed twice.
+fn is_repeated(ids: &[OfferId]) -> bool
+    ensures { result ≡ is_repeated ids.now }
 {
-    let mut rest = accounts;
-    for entry in entries {
-        let (account, others) = rest.split_first()?;
-        if entry.is_open() && account.offers().are_good(framework, ids) {
-            return Some(account);
-        }
-        rest = others;
-    }
-    None
-}
-
-/// The places outside of which no account has offers of these ids that are good: those of the first
-/// id.
-fn places_of(book: &OfferBook, framework: FrameworkId, ids: &[OfferId]) -> Span
-    ensures { IsSpan (λ a. are_good a.offers framework ids.now) book.now result.from result.to }
-{
-    match ids.first() {
-        None => Span { from: 0, to: 0 },
-        Some(id) => book.places_of_offer(*id),
-    }
-}
-
-/// The account on which offers are good, looked for at these places alone.
-fn good_account_at<'a>(
-    entries: &[RosterEntry],
-    accounts: &'a [Account],
-    span: Span,
-    framework: FrameworkId,
-    ids: &[OfferId],
-) -> Option<&'a Account>
-    requires one { AreOfOne entries.now accounts.now }
-    requires span { IsSpan (λ a. are_good a.offers framework ids.now) accounts.now span.from
-        span.to }
-    ensures { option_copied result
-        ≡ good_account framework ids.now entries.now accounts.entry.now }
-{
-    let part = &accounts[span.from..span.to];
-    good_account(&entries[span.from..span.to], part, framework, ids)
-}
-
-fn lacks_numbers(entries: &[RosterEntry], accounts: &[Account], framework: FrameworkId) -> bool
-    ensures { result ≡ lacks_numbers framework entries.now accounts.now }
-{
-    let mut rest = accounts;
-    for entry in entries {
-        let Some((account, others)) = rest.split_first() else {
-            return false;
-        };
-        if account.booked().has_tasks_of(framework) && !entry.has_numbers(1) {
+    let mut rest = ids;
+    while let Some((id, others)) = rest.split_first() {
+        if others.contains(id) {
             return true;
         }
         rest = others;
@@ -98,40 +44,148 @@ fn lacks_numbers(entries: &[RosterEntry], accounts: &[Account], framework: Frame
     false
 }
 
-fn push_if_has_tasks(
-    names: &mut Listed<AgentName>,
-    alloc: Global,
-    account: &Account,
-    framework: FrameworkId,
-) -> Result<(), AllocError>
-    ensures { OnOk result (names.new ≡ names.old ++ names_with_tasks framework (account.now ∷ [])) }
+fn is_offered_to(offer: &Offer, framework: FrameworkId, id: OfferId) -> bool
+    ensures { result ≡ (same offer.now.framework framework && same offer.now.id id) }
 {
-    if account.booked().has_tasks_of(framework) {
-        names.push(account.name().copy()?)?;
+    offer.framework == framework && offer.id == id
+}
+
+/// Whether an offer of this id to the framework is current on the agent.
+fn has_offer(side: &AgentSide<'_>, framework: FrameworkId, id: OfferId) -> bool
+    ensures { result ≡ has_offer side.now framework id }
+{
+    for offer in side.offers() {
+        if is_offered_to(offer, framework, id) {
+            return true;
+        }
+    }
+    false
+}
+
+fn has_offers(side: &AgentSide<'_>, framework: FrameworkId, ids: &[OfferId]) -> bool
+    ensures { result ≡ list_all (has_offer side.now framework) ids.now }
+{
+    for id in ids {
+        if !has_offer(side, framework, *id) {
+            return false;
+        }
+    }
+    true
+}
+
+fn are_good(side: &AgentSide<'_>, framework: FrameworkId, ids: &[OfferId]) -> bool
+    ensures { result ≡ (not (is_empty ids.now) && not (is_repeated ids.now)
+        && list_all (has_offer side.now framework) ids.now) }
+{
+    if ids.is_empty() || !has_offers(side, framework, ids) {
+        return false;
+    }
+    !is_repeated(ids)
+}
+
+/// Whether the offers of these ids are good on the agent.
+fn is_good(side: &AgentSide<'_>, framework: FrameworkId, ids: &[OfferId]) -> bool
+    ensures { result ≡ is_good side.now framework ids.now }
+{
+    if !side.is_open() {
+        return false;
+    }
+    are_good(side, framework, ids)
+}
+
+/// Whether a task of the framework is booked on the agent, and its session has no command number
+/// left.
+fn lacks_a_number(side: &AgentSide<'_>, framework: FrameworkId) -> bool
+    ensures { result ≡ (has_tasks_of framework side.now && not (has_numbers 1 side.now)) }
+{
+    side.has_tasks_of(framework) && !side.has_numbers(1)
+}
+
+fn is_named(offer: &Offer, framework: FrameworkId, ids: &[OfferId]) -> bool
+    ensures { result ≡ is_named framework ids.now offer.now }
+{
+    offer.framework == framework && ids.contains(&offer.id)
+}
+
+fn add(sum: &mut Resources, alloc: Global, more: &Resources) -> Result<(), AllocError>
+    ensures { OnOk result (sum.new ≡ plus_rows sum.old more.now) }
+{
+    match sum.plus(alloc, more) {
+        Ok(both) => {
+            *sum = both;
+            Ok(())
+        }
+        Err(_) => Err(AllocError),
+    }
+}
+
+fn add_if_named(
+    sum: &mut Resources,
+    alloc: Global,
+    offer: &Offer,
+    framework: FrameworkId,
+    ids: &[OfferId],
+) -> Result<(), AllocError>
+    ensures { OnOk result (sum.new ≡ plus_rows sum.old (named_rows framework ids.now offer.now)) }
+{
+    if is_named(offer, framework, ids) {
+        add(sum, alloc, &offer.resources)?;
     }
     Ok(())
 }
 
-fn names_with_tasks(
+/// The sum of a framework's offers of these ids on the agent. A sum past the limits of resources,
+/// which offers that fit the total don't have, is refused as if memory were.
+fn named_sum(
     alloc: Global,
-    accounts: &[Account],
+    side: &AgentSide<'_>,
     framework: FrameworkId,
-) -> Result<Listed<AgentName>, AllocError>
-    ensures { IfOk result (λ names. names ≡ names_with_tasks framework accounts.now) }
+    ids: &[OfferId],
+) -> Result<Resources, AllocError>
+    ensures { IfOk result (λ sum. sum
+        ≡ plus_rows [] (offer_rows (used_offers side.now framework ids.now))) }
 {
-    let mut names = Listed::new(alloc);
-    for account in accounts {
-        push_if_has_tasks(&mut names, alloc, account, framework)?;
+    let mut sum = Resources::new(alloc);
+    for offer in side.offers() {
+        add_if_named(&mut sum, alloc, offer, framework, ids)?;
     }
-    Ok(names)
+    Ok(sum)
+}
+
+fn push_if_has_tasks(
+    names: &mut Listed<AgentName>,
+    side: &AgentSide<'_>,
+    framework: FrameworkId,
+) -> Result<(), AllocError>
+    ensures { OnOk result (names.new ≡ names.old
+        ++ map (λ s. s.name) (sides_with_tasks framework (side.now ∷ []))) }
+{
+    if side.has_tasks_of(framework) {
+        names.push(side.name().copy()?)?;
+    }
+    Ok(())
 }
 
 impl Sides {
-    /// The accounts of the agents.
-    pub fn accounts(&self) -> &[Account]
-        ensures { map holding_of result.now ≡ map holding self.now }
+    /// The agent on which a framework may use the offers of these ids together. Only the agent of
+    /// the first id is looked at.
+    fn good_side(&self, framework: FrameworkId, ids: &[OfferId]) -> Option<AgentSide<'_>>
+        ensures { result ≡ find (λ s. is_good s framework ids.now) self.now }
     {
-        self.book.accounts()
+        let Some(id) = ids.first() else {
+            return None;
+        };
+        let Some(located) = self.book.offer_place(*id) else {
+            return None;
+        };
+        let Some(side) = self.at(located.place) else {
+            return None;
+        };
+        if is_good(&side, framework, ids) {
+            Some(side)
+        } else {
+            None
+        }
     }
 
     /// The agent on which a framework may use the offers of these ids together, and their sum: it
@@ -146,13 +200,11 @@ impl Sides {
         ensures good { IfOk result (λ good. good ≡ good_offers framework ids.now self.now) }
         ensures rows { IfOk result (λ good. IfSome good (λ offers. AreRows offers.sum)) }
     {
-        let (entries, accounts) = (self.roster.entries(), self.book.accounts());
-        let span = places_of(&self.book, framework, ids);
-        let Some(account) = good_account_at(entries, accounts, span, framework, ids) else {
+        let Some(side) = self.good_side(framework, ids) else {
             return Ok(None);
         };
-        let agent = account.name().copy()?;
-        let sum = account.named_sum(alloc, framework, ids)?;
+        let agent = side.name().copy()?;
+        let sum = named_sum(alloc, &side, framework, ids)?;
         let _rows = sum.rows();
         Ok(Some(GoodOffers { agent, sum }))
     }
@@ -162,7 +214,12 @@ impl Sides {
         ensures { result ≡ list_any (λ s. not (has_numbers 1 s))
             (sides_with_tasks framework self.now) }
     {
-        lacks_numbers(self.roster.entries(), self.book.accounts(), framework)
+        for side in self.iter() {
+            if lacks_a_number(&side, framework) {
+                return true;
+            }
+        }
+        false
     }
 
     /// The names of the agents with booked tasks of a framework, ended ones too.
@@ -174,7 +231,11 @@ impl Sides {
         ensures { IfOk result (λ names. names ≡ map (λ s. s.name)
             (sides_with_tasks framework self.now)) }
     {
-        names_with_tasks(alloc, self.book.accounts(), framework)
+        let mut names = Listed::new(alloc);
+        for side in self.iter() {
+            push_if_has_tasks(&mut names, &side, framework)?;
+        }
+        Ok(names)
     }
 
     fn withdraw_used_at(&mut self, place: usize, framework: FrameworkId, ids: &[OfferId])

@@ -1,17 +1,27 @@
 //! Changes of the book at the places of the roster's agents.
 
-ghost use Rattle.std.specs.Prelude.{◌≡◌, ◌<◌};
-ghost use Rattle.agent_accounts.specs.Accounts.{after_commands, receiving, reopened, without_named};
+ghost use Rattle.std.specs.Prelude.{◌≡◌, ◌<◌, [], slice_get, IfSome, OnOk};
+ghost use Rattle.offer_tables.specs.Reports.{AreBookableOn};
+ghost use Rattle.offer_tables.specs.Accounts.{after_commands, receiving, reopened, without_named};
 ghost use Rattle.agent_sides.specs.Joined.{Fit, at_place};
 
-use agent_accounts::TaskUpdate;
 use listed::Listed;
 use mails::{Booked, Command};
 use names_core::{FrameworkId, OfferId};
-use offer_book::OfferBook;
+use offer_tables::{OfferBook, TaskUpdate};
 use quantity::Resources;
 use roster::RosterEntry;
-use std::alloc::Global;
+use std::alloc::{AllocError, Global};
+
+pub(crate) fn empty_at(entries: &[RosterEntry], book: &mut OfferBook, alloc: Global, place: usize)
+    requires { Fit entries.now book.old }
+    ensures { book.new ≡ at_place place (reopened [] []) book.old }
+{
+    if place < entries.len() {
+        let nothing = Resources::new(alloc);
+        let _emptied = book.empty_agent(alloc, entries[place].name(), nothing);
+    }
+}
 
 pub(crate) fn reopen_at(
     entries: &[RosterEntry],
@@ -20,12 +30,19 @@ pub(crate) fn reopen_at(
     place: usize,
     tasks: Listed<Booked>,
     total: Resources,
-)
-    requires { Fit entries.now book.old }
-    ensures { book.new ≡ at_place place (reopened tasks total) book.old }
+) -> Result<(), AllocError>
+    requires fit { Fit entries.now book.old }
+    requires bookable { IfSome (slice_get entries.now place)
+        (λ s. AreBookableOn s.name tasks total book.old) }
+    ensures ok { OnOk result (book.new ≡ at_place place (reopened tasks total) book.old) }
+    ensures fit { Fit entries.now book.new }
 {
-    if place < entries.len() {
-        let _reopened = book.reopen(alloc, entries[place].name(), tasks, total);
+    if place >= entries.len() {
+        return Ok(());
+    }
+    match book.reopen(alloc, entries[place].name(), tasks, total) {
+        Ok(()) => Ok(()),
+        Err(_) => Err(AllocError),
     }
 }
 
@@ -41,7 +58,7 @@ pub(crate) fn receive_at(
         (receiving update.now.key update.now.k update.now.state update.now.ended) book.old }
 {
     if place < entries.len() {
-        let _received = book.receive(entries[place].name(), update);
+        let _received = book.receive_on(entries[place].name(), update);
     }
 }
 
@@ -70,6 +87,6 @@ pub(crate) fn withdraw_named_at(
     ensures { book.new ≡ at_place place (without_named framework ids.now) book.old }
 {
     if place < entries.len() {
-        let _withdrawn = book.withdraw_named(entries[place].name(), framework, ids);
+        let _withdrawn = book.withdraw_used(entries[place].name(), framework, ids);
     }
 }

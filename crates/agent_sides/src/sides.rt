@@ -1,29 +1,29 @@
 //! The roster and the book of the same agents.
 
-ghost use Rattle.std.specs.Prelude.{◌≡◌, ◌<◌, ◌++◌, ◌∷◌, [], Some, None, Ok, Err, true, false, not, ◌&&◌, bytes_eq, map, length, option_map, OnOk, OnErr, IfOk, IfErr};
+ghost use Rattle.std.specs.Prelude.{◌≡◌, ◌<◌, ◌++◌, ◌∷◌, [], Some, None, true, false, not, ◌&&◌, bytes_eq, map, length, option_map, slice_get, IfSome, OnOk, OnErr, IfOk, IfErr};
 ghost use Rattle.std.specs.List.{AllByRecursion, find, list_any};
 ghost use Rattle.mails.specs.declared.mail.AgentMail.TheVariants.{Applied, Update};
 ghost use Rattle.cluster_model.specs.Sides.{Run as ModelRun, received, lost};
 ghost use Rattle.cluster_model.specs.Masters.{has_returned, held_among, is_of, may_have_numbers};
 ghost use Rattle.cluster_model.specs.Mails.{in_session};
 ghost use Rattle.cluster_model.specs.Sides.{is_named};
-ghost use Rattle.roster.specs.Sessions.{issued_number, is_spent, reported, with_command};
+ghost use Rattle.roster.specs.Sessions.{issued_number, is_spent, report_opens, with_command};
 ghost use Rattle.roster.specs.Places.{at_place, place_of, value_at};
 ghost use Rattle.roster.specs.Faults.{IsAppliedRefusal, IsIssueRefusal};
-ghost use Rattle.offer_book.specs.Held.{place};
+ghost use Rattle.offer_tables.specs.Found.{place};
 ghost use Rattle.agent_sides.specs.Configs.{are_ordered};
 ghost use Rattle.agent_sides.specs.Joined.{IsIn, side_names};
 ghost use Rattle.agent_sides.specs.Changes.{account_of, reporting, side_of};
+ghost use Rattle.agent_sides.specs.Reports.{AreBookable};
 ghost use Rattle.agent_sides.specs.Looks.{all_placed, at_name, is_received_last, next_command, value_of, withdrawing};
 
-use crate::config::{Config, ConfiguredAgent};
+use crate::config::{ConfiguredAgent, ConfiguredAgents};
 use crate::in_order::place_in;
 use crate::{look, placed};
-use agent_accounts::{TaskUpdate, ids_name_offers};
 use listed::Listed;
-use mails::{Booked, Command, MasterRefusal};
+use mails::{Booked, Command};
 use names_core::{AgentName, FrameworkId, LaunchKey, OfferId, Run, TaskName};
-use offer_book::OfferBook;
+use offer_tables::{OfferBook, TaskUpdate};
 use plain_data::Plain;
 use quantity::Resources;
 use roster::{Roster, RosterFault};
@@ -83,7 +83,7 @@ fn enter_all(
 
 impl Sides {
     /// Of the configured agents, none of which has opened a session in this run.
-    pub fn of(alloc: Global, config: &Config) -> Result<Sides, AllocError>
+    pub fn of(alloc: Global, config: &ConfiguredAgents) -> Result<Sides, AllocError>
         ensures { IfOk result (λ sides. sides ≡ map side_of config.now) }
     {
         let mut roster = Roster::new(alloc);
@@ -103,7 +103,6 @@ impl Sides {
     pub fn withdraw_of(&mut self, framework: FrameworkId)
         ensures { self.new ≡ map (withdrawing (is_of framework)) self.old }
     {
-        ids_name_offers();
         self.book.withdraw_of(framework);
     }
 
@@ -111,8 +110,7 @@ impl Sides {
     pub fn withdraw_named(&mut self, framework: FrameworkId, ids: &[OfferId])
         ensures { self.new ≡ map (withdrawing (is_named framework ids.now)) self.old }
     {
-        ids_name_offers();
-        self.book.withdraw_offers(framework, ids);
+        self.book.withdraw_named(framework, ids);
     }
 
     /// Issues a command in the agent's open session and returns its number; where no session is
@@ -128,12 +126,8 @@ impl Sides {
         self.roster.issue(place, command)
     }
 
-    /// An agent reports that it has opened a session with the master of a run, that it has these
-    /// tasks, and that it owns this total. Returns whether the session is opened here; then the
-    /// book has these tasks and this total. A Report of the open session changes nothing. `G1
-    /// OtherRun` where it isn't this run, `G2 OldSession` below the open session, `G3 Closed` where
-    /// none is open and the session isn't above every closed one. It takes no memory.
-    pub fn report(
+    /// A Report of the agent at a place is received, as by `receive_report`.
+    pub(crate) fn report(
         &mut self,
         alloc: Global,
         place: usize,
@@ -142,21 +136,21 @@ impl Sides {
         number: u32,
         tasks: Listed<Booked>,
         total: Resources,
-    ) -> Result<bool, MasterRefusal>
-        ensures answer { result ≡ value_at place (λ s. reported run s session number) (Ok false)
-            self.old }
-        ensures sides { self.new ≡ at_place place (reporting run session number tasks total)
-            self.old }
+    ) -> Result<(), AllocError>
+        requires { value_at place (λ s. report_opens run s session number) false self.old ≡ true
+            → IfSome (slice_get self.old place) (λ s. AreBookable s.name tasks total self.old) }
+        ensures { OnOk result (self.new
+            ≡ at_place place (reporting run session number tasks total) self.old) }
     {
         let opens = match self.roster.report(alloc, place, run, session, number) {
             Ok(opens) => opens,
-            Err(refusal) => return Err(refusal),
+            Err(_refusal) => return Ok(()),
         };
-        if opens {
-            let entries = self.roster.entries();
-            placed::reopen_at(entries, &mut self.book, alloc, place, tasks, total);
+        if !opens {
+            return Ok(());
         }
-        Ok(opens)
+        let entries = self.roster.entries();
+        placed::reopen_at(entries, &mut self.book, alloc, place, tasks, total)
     }
 
     /// The agent is lost: its open session, where there is one, is closed, its offers and tasks are
@@ -165,9 +159,7 @@ impl Sides {
         ensures { self.new ≡ at_place place lost self.old }
     {
         if look::is_open_in(self.roster.entries(), place) {
-            let (none, nothing) = (Listed::new(alloc), Resources::new(alloc));
-            let entries = self.roster.entries();
-            placed::reopen_at(entries, &mut self.book, alloc, place, none, nothing);
+            placed::empty_at(self.roster.entries(), &mut self.book, alloc, place);
             self.roster.close_session(alloc, place);
         }
     }
@@ -283,8 +275,16 @@ impl Sides {
         ensures { result ≡ list_any (is_received_last framework agent.now name.now key k)
             (all_placed self.now) }
     {
-        let span = self.book.places_of_task(key);
-        look::is_received_last_in(self.book.accounts(), span, framework, agent, name, key, k)
+        let Some(located) = self.book.task_place(key) else {
+            return false;
+        };
+        match self.at(located.place) {
+            Some(side) => {
+                let task = &located.item;
+                look::is_received_last(task, side.name(), framework, agent, name, key, k)
+            }
+            None => false,
+        }
     }
 
     /// Whether so many command numbers are left in the session of the

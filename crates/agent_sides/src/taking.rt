@@ -1,7 +1,7 @@
 //! Offers that are made and tasks that are booked, each on the agent of a name.
 
 ghost use Rattle.std.specs.Prelude.{◌≡◌, Ok, OnOk, OnErr, IfErr};
-ghost use Rattle.offer_book.specs.Faults.{IsRefusal};
+ghost use Rattle.offer_tables.specs.Faults.{IsRefusal};
 ghost use Rattle.agent_sides.specs.Changes.{offering, with_task};
 ghost use Rattle.agent_sides.specs.Looks.{at_name};
 ghost use Rattle.agent_sides.specs.Taking.{booked_on, offered_to};
@@ -9,7 +9,7 @@ ghost use Rattle.agent_sides.specs.Taking.{booked_on, offered_to};
 use crate::sides::Sides;
 use mails::{Booked, Offer};
 use names_core::AgentName;
-use offer_book::BookFault;
+use offer_tables::BookFault;
 use std::alloc::Global;
 
 impl Sides {
@@ -17,25 +17,20 @@ impl Sides {
     /// has this name, `B3 Twice` where an offer of this id is current, `B2 NoRoom` where the
     /// agent's total has no room for the offer beside what is taken of it. `B4 OutOfMemory` where
     /// memory was refused.
-    pub fn offer_to(
-        &mut self,
-        alloc: Global,
-        name: &AgentName,
-        offer: Offer,
-    ) -> Result<(), BookFault>
+    pub fn offer_to(&mut self, name: &AgentName, offer: Offer) -> Result<(), BookFault>
         ensures ok { OnOk result (offered_to name.now offer self.old ≡ Ok self.new) }
         ensures offering { OnOk result (self.new ≡ at_name name.now (offering offer) self.old) }
         ensures refused { IfErr result
             (λ fault. IsRefusal fault (offered_to name.now offer self.old)) }
         ensures err { OnErr result (self.new ≡ self.old) }
     {
-        self.book.offer(alloc, name, offer)
+        self.book.offer(name, offer)
     }
 
     /// Books a task on the agent of a name. Checked in this order: `B1 Unknown` where no agent has
     /// this name, `B3 Twice` where a task of this key is booked, `B2 NoRoom` where the agent's
-    /// total has no room for the task's resources beside what is taken of it. `B4 OutOfMemory`
-    /// where memory was refused.
+    /// total has no room for what the task uses beside what is taken of it. `B4 OutOfMemory` where
+    /// memory was refused. A task that has ended uses nothing.
     pub fn book_on(
         &mut self,
         alloc: Global,

@@ -3,10 +3,10 @@ use Rattle.std.specs.Prelude.{◌≡◌, ◌⊎◌, ◌++◌, ◌==◌, ℕ, Lis
 use Rattle.std.specs.List.{list_any}
 use Rattle.step_lines.specs.Configs.{Configured, read_config}
 use Rattle.step_lines.specs.Configurations.{configured_by}
-use Rattle.step_lines.specs.declared.config.Configuration.{Configuration}
+use Rattle.agent_sides.specs.declared.config.Config.{Config}
 use Rattle.step_lines.specs.declared.fault.LineRefusal.{LineRefusal}
 use Rattle.agents_file.specs.declared.fault.AgentsFault.{AgentsFault}
-use Rattle.agents_file.specs.declared.fault.AgentsFault.TheVariants.{Lines, Config, Memory}
+use Rattle.agents_file.specs.declared.fault.AgentsFault.TheVariants as faults
 
 -- the text is this one line, whose line feed may lack
 abbrev pub IsLine : List ℕ → List ℕ → Type 0
@@ -23,9 +23,9 @@ ReadsAs text due = (line : List ℕ) × IsLine text line × (read_config line �
 
 -- what is said of a text: what its one line configures, or that it isn't one line,
 -- or that its line is no configuration
-abbrev pub Says : List ℕ → Result Configuration AgentsFault → Type 0
+abbrev pub Says : List ℕ → Result Config AgentsFault → Type 0
 Says text (Ok config) = ReadsAs text (Ok (configured_by config))
-Says text (Err Lines) = IsNoLine text
-Says text (Err Config) = (refusal : LineRefusal) × ReadsAs text (Err refusal)
-Says text (Err Memory) = ⊤
+Says text (Err faults.Lines) = IsNoLine text
+Says text (Err faults.Config) = (refusal : LineRefusal) × ReadsAs text (Err refusal)
+Says text (Err faults.Memory) = ⊤
 Says text (Err f) = ⊥

@@ -5,7 +5,7 @@ ghost use Rattle.agents_file.specs.Agents.{IsLine, IsNoLine, Says};
 
 use crate::fault::AgentsFault;
 use std::alloc::Global;
-use step_lines::{Configuration, LineFault, read_config};
+use step_text::{Config, LineFault, read_config};
 
 /// The text of one line, whose end may lack.
 pub(crate) fn only_line(text: &[u8]) -> Option<&[u8]>
@@ -25,7 +25,7 @@ pub(crate) fn only_line(text: &[u8]) -> Option<&[u8]>
 /// which is a configuration as the replayer reads it, with 1 to 256 agents. `X3 BadConfig` where it
 /// isn't one line, and where its line is no configuration; `C9 OutOfMemory` may come before that is
 /// known.
-pub fn agents_in(alloc: Global, text: &[u8]) -> Result<Configuration, AgentsFault>
+pub fn agents_in(alloc: Global, text: &[u8]) -> Result<Config, AgentsFault>
     ensures { Says text.now result }
 {
     let Some(line) = only_line(text) else {

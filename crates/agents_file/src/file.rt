@@ -10,12 +10,12 @@ use crate::notes::notes_on;
 use crate::places::place_in;
 use std::alloc::{AllocError, Global};
 use std::{fmt, fs};
-use step_lines::Configuration;
+use step_text::Config;
 
 /// What a file says of the agents.
 #[derive(Drop)]
 pub struct AgentsFile {
-    pub config: Configuration,
+    pub config: Config,
     /// What its writer may not have meant, a sentence each.
     pub notes: Vec<String>,
 }
@@ -82,7 +82,7 @@ fn place_of(
 }
 
 /// A configuration with the notes on the text that says it.
-fn with_notes(alloc: Global, text: &[u8], config: Configuration) -> Result<AgentsFile, RefusedFile>
+fn with_notes(alloc: Global, text: &[u8], config: Config) -> Result<AgentsFile, RefusedFile>
     ensures noted { IfOk result (λ file. file.config ≡ config) }
     ensures refused { IfErr result (λ refused. refused.fault ≡ Memory) }
 {

@@ -11,4 +11,4 @@ mod places;
 pub use agents::agents_in;
 pub use fault::AgentsFault;
 pub use file::{AgentsFile, RefusedFile, read_agents};
-pub use step_lines::Configuration;
+pub use step_text::Config;

@@ -4,7 +4,7 @@ use crate::places::shown_name;
 use serde::{Deserialize, Deserializer, Format, Kind};
 use std::alloc::{AllocError, Global};
 use std::collections::HashSet;
-use step_lines::Configuration;
+use step_text::Config;
 
 /// The members of an object as they are written, each name as often as it is given; none of a value
 /// of another kind.
@@ -111,11 +111,7 @@ fn note_line(alloc: Global, line: &WrittenLine, notes: &mut Vec<String>) -> Resu
 }
 
 /// Adds a note on each agent that owns nothing.
-fn note_owners(
-    alloc: Global,
-    config: &Configuration,
-    notes: &mut Vec<String>,
-) -> Result<(), AllocError> {
+fn note_owners(alloc: Global, config: &Config, notes: &mut Vec<String>) -> Result<(), AllocError> {
     for agent in config.agents.agents() {
         if agent.total.rows().is_empty() {
             let name = agent.name.as_text();
@@ -130,7 +126,7 @@ fn note_owners(
 pub(crate) fn notes_on(
     alloc: Global,
     line: &[u8],
-    config: &Configuration,
+    config: &Config,
 ) -> Result<Vec<String>, AllocError> {
     let mut notes = Vec::new(alloc);
     match serde_json::from_slice::<WrittenLine>(alloc, line) {

@@ -64,3 +64,8 @@ fn an_agent_that_fell_is_down(rt: HostRuntime) -> Result<(), Fail> {
     assert!(rt; fell.is_some());
     Ok(())
 }
+
+#[test]
+fn generated_shares_are_as_plain_lists(rt: HostRuntime) {
+    assert!(rt; tests::generated_shares_are_as_plain_lists(rt.alloc()));
+}

@@ -14,6 +14,11 @@ fn a_master_stops(rt: HostRuntime) {
 }
 
 #[test]
+fn no_master_is_up(rt: HostRuntime) {
+    assert!(rt; tests::no_master_is_up(&rt, rt.alloc()));
+}
+
+#[test]
 fn two_calls_overlap(rt: HostRuntime) {
     assert!(rt; tests::two_calls_overlap(&rt, rt.alloc()));
 }
@@ -26,4 +31,9 @@ fn no_seat_is_left(rt: HostRuntime) {
 #[test]
 fn a_stream_never_opened(rt: HostRuntime) {
     assert!(rt; tests::a_stream_never_opened(&rt, rt.alloc()));
+}
+
+#[test]
+fn a_history_is_full(rt: HostRuntime) {
+    assert!(rt; tests::a_history_is_full(&rt, rt.alloc()));
 }

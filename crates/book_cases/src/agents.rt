@@ -5,8 +5,8 @@ use crate::answers::{amounts_text, shown, word};
 use crate::words::{amounts, first, number, task};
 use agent_core::{Agent, AgentFault, Draft, Record};
 use listed::Listed;
-use mails::{AgentMail, Cause, Command, Durable, Job, MasterMail, ToAgent};
-use names_core::{FrameworkId, LaunchKey, TaskState};
+use mails::{AgentMail, Cause, Command, Durable, ExecutorState, Job, MasterMail, ToAgent};
+use names_core::{FrameworkId, LaunchKey, Run};
 use plain_data::Plain;
 use record_text::record_of;
 use std::alloc::Global;
@@ -129,8 +129,16 @@ fn two(text: &str) -> Option<(u32, u32)> {
     Some((number(one)?, number(two)?))
 }
 
+fn run_of(number: u32) -> Option<Run> {
+    match u16::try_from(number) {
+        Ok(number) if number > 0 => Some(Run::new(number)),
+        _ => None,
+    }
+}
+
 fn hello_in(agent: &Agent, alloc: Global, text: &str) -> Option<Cause> {
     let (run, dead) = two(text)?;
+    let run = run_of(run)?;
     mail_to(agent, alloc, MasterMail::Hello { run, dead })
 }
 
@@ -167,7 +175,12 @@ fn ack_in(agent: &Agent, alloc: Global, text: &str) -> Option<Cause> {
 }
 
 fn state_in(text: &str) -> Option<Cause> {
-    let state = TaskState::from_text(text)?;
+    let state = match text {
+        "TASK_RUNNING" => ExecutorState::Running,
+        "TASK_FINISHED" => ExecutorState::Finished,
+        "TASK_FAILED" => ExecutorState::Failed,
+        _ => return None,
+    };
     Some(Cause::Executor(LaunchKey::new(1, 1), state))
 }
 
@@ -177,7 +190,7 @@ fn run_times(agent: &mut Agent, alloc: Global, text: &str) -> Option<String> {
         moved(
             agent,
             alloc,
-            Cause::Executor(LaunchKey::new(1, 1), TaskState::Running),
+            Cause::Executor(LaunchKey::new(1, 1), ExecutorState::Running),
         )
         .ok()?;
     }

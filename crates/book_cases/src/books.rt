@@ -4,7 +4,7 @@ use crate::answers::{amounts_text, answer_text, shown, word};
 use crate::words::{agent, amounts, first, task};
 use mails::{Booked, Job, Offer};
 use names_core::{AgentName, FrameworkId, LaunchKey, OfferId, TaskState};
-use offer_book::OfferBook;
+use offer_tables::OfferBook;
 use std::alloc::Global;
 
 /// Written `O1-1 F1-1 cpus:1`.
@@ -62,7 +62,7 @@ fn leave(book: &mut OfferBook, alloc: Global, text: &str) -> Option<String> {
 
 fn free(book: &OfferBook, alloc: Global, text: &str) -> Option<String> {
     let name = agent(alloc, text)?;
-    match book.free(alloc, &name) {
+    match book.free(&name) {
         Ok(resources) => amounts_text(alloc, &resources),
         Err(fault) => shown(alloc, &fault),
     }
@@ -72,7 +72,7 @@ fn offer(book: &mut OfferBook, alloc: Global, text: &str) -> Option<String> {
     let (name, rest) = first(text);
     let name = agent(alloc, name)?;
     let offer = offer_in(alloc, rest)?;
-    answer_text(alloc, &book.offer(alloc, &name, offer))
+    answer_text(alloc, &book.offer(&name, offer))
 }
 
 fn withdraw(book: &mut OfferBook, alloc: Global, text: &str) -> Option<String> {
@@ -134,7 +134,7 @@ fn asked(book: &OfferBook, alloc: Global, kind: &str, text: &str) -> Option<Stri
         "task_of" => place_of_task(book, alloc, text),
         "held" => held(book, alloc, text),
         "booked" => shown(alloc, &book.booked_count()),
-        "agents" => shown(alloc, &book.accounts().len()),
+        "agents" => shown(alloc, &book.len()),
         _ => None,
     }
 }

@@ -2,9 +2,9 @@
 
 use crate::agents::Kept;
 use crate::{agents, books, configs, sessions, shares, words};
-use agent_sides::Config;
+use agent_sides::ConfiguredAgents;
 use drf_pick::Shares;
-use offer_book::OfferBook;
+use offer_tables::OfferBook;
 use roster::Roster;
 use std::alloc::Global;
 
@@ -14,7 +14,7 @@ pub struct Cases {
     book: OfferBook,
     shares: Shares,
     roster: Roster,
-    config: Config,
+    config: ConfiguredAgents,
     agent: Kept,
 }
 
@@ -24,7 +24,7 @@ impl Cases {
             book: OfferBook::new(alloc),
             shares: Shares::new(alloc),
             roster: Roster::new(alloc),
-            config: Config::new(alloc),
+            config: ConfiguredAgents::new(alloc),
             agent: Kept::new(),
         }
     }

@@ -2,11 +2,11 @@
 
 use crate::answers::answer_text;
 use crate::words::{agent, amounts, first};
-use agent_sides::Config;
+use agent_sides::ConfiguredAgents;
 use std::alloc::Global;
 
 /// An agent is configured.
-pub fn add(config: &mut Config, alloc: Global, text: &str) -> Option<String> {
+pub fn add(config: &mut ConfiguredAgents, alloc: Global, text: &str) -> Option<String> {
     let (name, rest) = first(text);
     let total = amounts(alloc, rest)?;
     let name = agent(alloc, name)?;

@@ -11,7 +11,7 @@ use crate::fault::Stop;
 use crate::reply::answer_all;
 use device_io::read_some;
 use frame_record::{FrameFault, Reader, fault_stays, first_records_stay};
-use master_core::{Config, Master};
+use master_core::{ConfiguredAgents, Master};
 use names_core::Run;
 use std::alloc::{AllocError, Global};
 use std::io::{self, ErrorKind, Read, Write};
@@ -39,7 +39,7 @@ fn fault_at_end(frames: &Reader) -> Option<FrameFault>
 fn first_master(alloc: Global) -> Result<Master, Stop>
     ensures { IfOk result (λ master. master ≡ first_master) }
 {
-    let config = Config::new(alloc);
+    let config = ConfiguredAgents::new(alloc);
     match Master::start(alloc, Run::new(1), &config) {
         Ok((master, _greetings)) => Ok(master),
         Err(_) => Err(Stop::MasterMemory),

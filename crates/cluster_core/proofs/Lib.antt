@@ -1,6 +1,7 @@
-pub mod Puttings
-pub mod Mailing
-pub mod Telling
-pub mod SafeStories
-pub mod Posted
 pub mod Found
+pub mod Mailing
+pub mod Posted
+pub mod Puttings
+pub mod RunSteps
+pub mod SafeStories
+pub mod Telling

@@ -19,7 +19,9 @@ use Rattle.cluster_laws.specs.declared.item.Item.{Item}
 use Rattle.cluster_laws.specs.declared.item.Item.TheVariants as items
 use Rattle.post_rules.specs.declared.direction.Direction.{Direction}
 use Rattle.post_rules.specs.declared.direction.Direction.TheVariants.{ToAgent, FromAgent}
+use Rattle.cluster_core.specs.Keeping.{known_opened}
 use Rattle.cluster_core.specs.Putting.{ArePut, IsPut, Puts, direction_of, place_in, place_or_end, way_of}
+use Rattle.cluster_core.specs.Stories.{Story, state_of}
 
 -- the law that a step sends its items behind those that were sent before
 abbrev pub ItemsLaw : Type 0
@@ -154,6 +156,20 @@ put_since agents c sent before since stand same =
     ∙ ap (drop before) (ways_alike agents c.world.channels c.posts sent stand)
     ∙ ap (λ (n : ℕ). drop n (map (way_of agents) c.posts)) same
     ∙ sym (map_behind (way_of agents) since c.posts)
+
+-- what an opening put: all that it sent
+
+all_kept : {A : Type 0} (xs : List A) → drop 0 xs ≡ xs
+all_kept [] = refl
+all_kept (x ∷ xs) = refl
+
+pub opening_put : {K : Type 0} (with_put : K → Direction → K) (nothing before now : K) (agents : List ConfiguredAgent) (s : Story) (sent : List Item) → now ≡ fold with_put before (map (direction_of agents) (drop 0 sent)) → before ≡ nothing →
+    AreAgentsOf agents s.records → StandIn (state_of s) sent → now ≡ known_opened with_put s nothing
+opening_put with_put nothing before now agents s sent put none named stand =
+    let posts = (state_of s).posts in
+    let ways : map (direction_of agents) (drop 0 sent) ≡ map (way_of (map configured s.records)) posts =
+    put_since agents (state_of s) sent 0 0 stand refl ∙ ways_by_names agents s.records (drop 0 posts) named ∙ ap (map (way_of (map configured s.records))) (all_kept posts) in
+    put ∙ ap (λ k. fold with_put k (map (direction_of agents) (drop 0 sent))) none ∙ ap (fold with_put nothing) ways
 
 nothing_first : {A : Type 0} (xs : List A) → take 0 xs ≡ []
 nothing_first [] = refl

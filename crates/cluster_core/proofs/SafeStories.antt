@@ -10,7 +10,7 @@ use Rattle.names_core.specs.States.{is_terminal}
 use Rattle.stream_core.specs.Updates.{are_updates, ends_last}
 use Rattle.cluster_safe.specs.Acknowledged.{recorded_tasks}
 use Rattle.cluster_safe.specs.Updates.{AcknowledgeTheirs}
-use Rattle.cluster_laws.proofs.Lists.{both_true}
+use Rattle.cluster_laws.proofs.Lists.{both_true, each_append}
 use Rattle.cluster_laws.specs.Premises.{AreRecorded}
 
 counts_its_own : (states : List TaskState) (count : ℕ) → are_updates states count ≡ true → count ≤ length states
@@ -24,4 +24,5 @@ all_count [] h = tt
 all_count (t ∷ ts) h = (counts_its_own t.updates.states t.updates.acknowledged h.0, all_count ts h.1)
 
 pub acknowledge_theirs : (records : List Durable) → AreRecorded records → AcknowledgeTheirs records
-acknowledge_theirs records h = all_count (recorded_tasks records) h
+acknowledge_theirs [] h = tt
+acknowledge_theirs (d ∷ ds) h = each_append (λ t. t.updates.acknowledged ≤ length t.updates.states) d.tasks (recorded_tasks ds) (all_count d.tasks h.0.updates) (acknowledge_theirs ds h.1)

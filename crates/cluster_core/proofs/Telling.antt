@@ -19,7 +19,7 @@ use Rattle.cluster_entries.specs.declared.entry.Outputs.{Outputs}
 use Rattle.cluster_steps.specs.declared.fault.ClusterFault.TheVariants as faults
 use Rattle.cluster_steps.specs.declared.step.Step.{Step}
 use Rattle.cluster_agents.specs.Handing.{MayRefuse}
-use Rattle.cluster_core.specs.Keeping.{IsKept, IsRefused, IsRefusedFirst, IsTaken, entry_made, taken_made}
+use Rattle.cluster_core.specs.Keeping.{IsKept, IsRefused, IsTaken, entry_made, taken_made}
 use Rattle.post_rules.specs.declared.direction.Direction.{Direction}
 use Rattle.cluster_agents.specs.Moves.{Reached}
 use Rattle.cluster_parts.specs.Parts.{AreParts, ArePartsBy, PartsOf, Same, Stands, Takes, record_of}
@@ -66,6 +66,14 @@ is_full law s l h = let e : (state_of s).entries ≡ suc (length s.entries) = st
     full : (n k : ℕ) → n ≡ suc k → 4294967294 ≤ k → nat_le 4294967295 n ≡ true
     full n k e h = grind (arith, nat_tests)
 
+-- what the test of a history's room tells
+
+pub room_left : (s : Story) → nat_le 4294967294 (length s.entries) ≡ false → length s.entries < 4294967294
+room_left s e = grind (arith, nat_tests)
+
+pub none_left : (s : Story) → nat_le 4294967294 (length s.entries) ≡ true → 4294967294 ≤ length s.entries
+none_left s e = grind (arith, nat_tests)
+
 -- ---- what is known of the parts
 
 abbrev pub reached : CountLaw → (s : Story) → IsLegal s → length s.entries < 4294967294 → Reached (state_of s)
@@ -90,12 +98,8 @@ parts_by law weights s opened p count ways k h = (state_of s, parts_of_story law
 marks : (c : Cluster) (m : Marked) → nat_le last_number c.entries ≡ false → step_marked c m ≡ (if m.fell then fallen_answer c m.step else answer c m.step)
 marks c m room = if_it_is_up (nat_le last_number c.entries) (Err faults.HistoryFull) (if m.fell then fallen_answer c m.step else answer c m.step) room
 
-full_refused : CountLaw → (s : Story) (gives : ℕ → Bool) (step : Step) → IsLegal s → 4294967294 ≤ length s.entries → IsRefused (state_of s) gives step faults.HistoryFull
+pub full_refused : CountLaw → (s : Story) (gives : ℕ → Bool) (step : Step) → IsLegal s → 4294967294 ≤ length s.entries → IsRefused (state_of s) gives step faults.HistoryFull
 full_refused law s gives step l h = if_it_is_down (nat_le last_number (state_of s).entries) (Err faults.HistoryFull) (answer (state_of s) step) (is_full law s l h)
-
-pub first_refused : CountLaw → (s : Story) (gives : ℕ → Bool) (step : Step) (fault : ClusterFault) → IsLegal s → IsRefusedFirst s fault → IsRefused (state_of s) gives step fault
-first_refused law s gives step fault l (inl e) = subst (IsRefused (state_of s) gives step) (sym e) tt
-first_refused law s gives step fault l (inr (e, h)) = subst (IsRefused (state_of s) gives step) (sym e) (full_refused law s gives step l h)
 
 refused_so : (c : Cluster) (gives : ℕ → Bool) (step : Step) (fault : ClusterFault) → nat_le last_number c.entries ≡ false → MayRefuse c gives step fault → IsRefused c gives step fault
 refused_so c gives step faults.NoSuchMail room (inl e) = inl (marks c (unmarked step) room ∙ e)
@@ -114,7 +118,7 @@ refused_so c gives step faults.TimeBack room (inl e) = marks c (unmarked step) r
 refused_so c gives step faults.TimeBack room (inr w) = absurd (let clash : faults.TimeBack ≡ faults.NoSuchMail = w.0 in cc)
 refused_so c gives step faults.NoSuchAgent room (inl e) = marks c (unmarked step) room ∙ e
 refused_so c gives step faults.NoSuchAgent room (inr w) = absurd (let clash : faults.NoSuchAgent ≡ faults.NoSuchMail = w.0 in cc)
-refused_so c gives step faults.OutOfMemory room h = tt
+refused_so c gives step faults.OutOfMemory room h = room
 
 pub step_refused : {T : Type 0} → CountLaw → (s : Story) (opened : Outputs) (p : Parts T) (count : ℕ) (ways : ℕ → Option Direction) (gives : ℕ → Bool) (step : Step) (fault : ClusterFault) → IsKept s opened p count ways → length s.entries < 4294967294 →
     ((c : Cluster) → PartsOf c p → MayRefuse c gives step fault) → IsRefused (state_of s) gives step fault

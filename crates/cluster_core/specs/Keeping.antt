@@ -1,6 +1,7 @@
 -- What a cluster keeps true of its parts, and what a step makes of its story.
-use Rattle.std.specs.Prelude.{◌≡◌, ◌⊎◌, ◌<◌, ◌≤◌, ℕ, Bool, false, if◌then◌else◌, List, map, length, Option, Some, None, Ok, Err, drop, fold, ⊤}
+use Rattle.std.specs.Prelude.{◌≡◌, ◌⊎◌, ◌<◌, ◌≤◌, ℕ, Bool, false, nat_le, if◌then◌else◌, List, map, length, Option, Some, None, Ok, Err, drop, fold}
 use Rattle.cluster_histories.specs.Clusters.{Cluster, Post}
+use Rattle.cluster_model.specs.Ids.{last_number}
 use Rattle.cluster_model.specs.Masters.{Master}
 use Rattle.master_core.specs.Steps.{offered_on}
 use Rattle.post_rules.specs.declared.direction.Direction.{Direction}
@@ -10,7 +11,7 @@ use Rattle.cluster_laws.specs.Parts.{AreAgentsOf, configured}
 use Rattle.cluster_entries.specs.declared.entry.Entry.{Entry}
 use Rattle.cluster_entries.specs.declared.entry.Outputs.{Outputs}
 use Rattle.cluster_steps.specs.declared.fault.ClusterFault.{ClusterFault}
-use Rattle.cluster_steps.specs.declared.fault.ClusterFault.TheVariants.{HistoryFull, NoSuchMail, OutOfMemory}
+use Rattle.cluster_steps.specs.declared.fault.ClusterFault.TheVariants.{NoSuchMail, OutOfMemory}
 use Rattle.cluster_steps.specs.declared.step.Step.{Step}
 use Rattle.cluster_agents.specs.Handing.{handed}
 use Rattle.cluster_agents.specs.Moves.{kept_agents}
@@ -66,18 +67,21 @@ WithheldFrom c gives step =
     (n : ℕ) × (d : Done) × (handed step ≡ Some n) × (gives n ≡ false)
     × (step_marked c (unmarked step) ≡ Ok d)
 
--- why a step may be refused: memory was, or the model refuses the step so,
--- or what the step delivers is withheld
+-- a history has room for an entry more
+abbrev pub HasRoom : Cluster → Type 0
+HasRoom c = nat_le last_number c.entries ≡ false
+
+-- why a step may be refused: memory was, for an entry that the history has room for,
+-- or the model refuses the step so, or what the step delivers is withheld
 abbrev pub IsRefused : Cluster → (ℕ → Bool) → Step → ClusterFault → Type 0
-IsRefused c gives step OutOfMemory = ⊤
+IsRefused c gives step OutOfMemory = HasRoom c
 IsRefused c gives step NoSuchMail =
     (step_marked c (unmarked step) ≡ Err NoSuchMail) ⊎ WithheldFrom c gives step
 IsRefused c gives step fault = step_marked c (unmarked step) ≡ Err fault
 
--- before a step is looked at it is refused where the history is full, or for want of memory
-abbrev pub IsRefusedFirst : Story → ClusterFault → Type 0
-IsRefusedFirst s fault =
-    (fault ≡ OutOfMemory) ⊎ ((fault ≡ HistoryFull) × (4294967294 ≤ length s.entries))
+-- with the opening's entry, which has the number 0, it is as long as its numbers allow
+abbrev pub IsFull : Story → Type 0
+IsFull s = 4294967294 ≤ length s.entries
 
 -- what is known of a cluster: its story, and what it can deliver
 pub record Known (P : Type 0) : Type 0 where
@@ -95,6 +99,12 @@ abbrev pub known_after : {K : Type 0} → (K → ℕ → K) → (K → Direction
 known_after with_given with_put old step new k =
     fold with_put (with_handed with_given k (handed step))
     (map (way_of (map configured old.records)) (sent_since old new))
+
+-- what a post knows after an opening: all that the opening sent was enqueued, each in its
+-- direction, and nothing was delivered
+abbrev pub known_opened : {K : Type 0} → (K → Direction → K) → Story → K → K
+known_opened with_put s nothing =
+    fold with_put nothing (map (way_of (map configured s.records)) (state_of s).posts)
 
 -- the sum of an agent's current offers, where a master serves
 abbrev pub offered_in : List ℕ → Master → Option (List Row)

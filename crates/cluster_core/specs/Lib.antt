@@ -1,6 +1,7 @@
-pub mod Stories
-pub mod Putting
 pub mod Keeping
-pub mod Safety
+pub mod Putting
 pub mod Reading
+pub mod Safety
+pub mod StepRuns
 pub mod Stopping
+pub mod Stories

@@ -1,5 +1,5 @@
 -- What is read of a cluster's streams and mails.
-use Rattle.std.specs.Prelude.{◌≡◌, ℕ, Bool, true, false, if◌then◌else◌, List, Option, Some}
+use Rattle.std.specs.Prelude.{◌≡◌, ℕ, Bool, true, false, if◌then◌else◌, List, Option, Some, None, option_map}
 use Rattle.names_core.specs.Ids.{Numbered}
 use Rattle.cluster_histories.specs.Clusters.{Cluster, Down, Up, master_of}
 use Rattle.cluster_histories.specs.Steps.{post_at}
@@ -15,6 +15,10 @@ waiting_in stream c = count_on stream (kept_streams c.streams)
 -- whether a stream is the open one of a framework, where a master serves
 abbrev pub is_open_in : Numbered → Cluster → Bool
 is_open_in stream c = if c.world.run.serves then is_open stream (Some (master_of c)) else false
+
+-- how many events of a stream nobody took yet, and whether it is open, where it was ever opened
+abbrev pub stream_in : Numbered → Cluster → Option (ℕ × Bool)
+stream_in stream c = option_map (λ waiting. (waiting, is_open_in stream c)) (waiting_in stream c)
 
 -- under this number is a mail to an agent that can be delivered:
 -- of the mails to it the first that wasn't
@@ -41,3 +45,13 @@ pub record IsNextFrom (agent : List ℕ) (c : Cluster) (queued : List Item)
 abbrev pub NoneFrom : List ℕ → Cluster → List Item → Type 0
 NoneFrom agent c queued =
     (number place : ℕ) → post_at c number ≡ Some (Up agent place) → hands_out queued number ≡ false
+
+-- which mail to an agent is the next to be delivered, if there is one
+abbrev pub IsFirstTo : List ℕ → Cluster → List Item → Option ℕ → Type 0
+IsFirstTo agent c queued None = NoneTo agent c queued
+IsFirstTo agent c queued (Some number) = IsNextTo agent c queued number
+
+-- which mail from an agent is the next to be delivered, if there is one
+abbrev pub IsFirstFrom : List ℕ → Cluster → List Item → Option ℕ → Type 0
+IsFirstFrom agent c queued None = NoneFrom agent c queued
+IsFirstFrom agent c queued (Some number) = IsNextFrom agent c queued number

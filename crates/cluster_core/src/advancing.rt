@@ -1,10 +1,11 @@
 //! A history goes on by one step.
 
-ghost use Rattle.std.specs.Prelude.{◌≡◌, ◌<◌, ◌≤◌, ◌+◌, drop, fold, length, map, vec_capacity, vec_len, IfOk, IfErr, IfSome, OnErr, OnOk, ℕ};
-ghost use Rattle.cluster_core.specs.Keeping.{IsKept, IsRefused, IsRefusedFirst, IsTaken, entry_made, known_after, story_of, taken_made};
+ghost use Rattle.std.specs.Prelude.{◌≡◌, ◌<◌, ◌≤◌, ◌+◌, drop, fold, length, map, vec_capacity, vec_len, nat_le, Err, IfOk, IfErr, IfSome, OnErr, OnOk, ℕ};
+ghost use Rattle.cluster_core.specs.Keeping.{IsFull, IsKept, IsRefused, IsTaken, entry_made, known_after, story_of, taken_made};
 ghost use Rattle.cluster_core.specs.Putting.{ArePut, direction_of, place_in, place_or_end, with_handed};
 ghost use Rattle.cluster_core.specs.Stories.{state_of, with_entry};
 ghost use Rattle.cluster_agents.specs.Handing.{IsGiven, handed};
+ghost use Rattle.cluster_steps.specs.declared.fault.ClusterFault.TheVariants.{HistoryFull};
 
 use crate::taken::{History, Taken};
 use agent_sides::ConfiguredAgent;
@@ -17,7 +18,7 @@ use permanent_value::Place;
 use plain_data::Plain;
 use post_rules::{Direction, Post};
 use running_clusters::KeptEntry;
-use std::alloc::Global;
+use std::alloc::{AllocError, Global};
 
 /// With the opening's entry, which has the number 0, a history has 4,294,967,295 entries at most.
 const MOST_ENTRIES: u64 = 4_294_967_294;
@@ -147,20 +148,21 @@ fn hand_on<P: Post>(parts: &mut Parts<P>, before: usize, step: &Step)
     put_sent(&mut parts.served, parts.config.agents(), before);
 }
 
+/// Whether no number is left for an entry more.
+fn is_full(history: &History) -> bool
+    ensures { result ≡ nat_le 4294967294 (length history.now.entries.items) }
+{
+    history.entries.len() as u64 >= MOST_ENTRIES
+}
+
 /// Makes room for an entry more, in the history and on the heap.
-/// C6 where the history is full, C9 for want of memory.
-fn make_room(alloc: Global, history: &mut History) -> Result<Place<Entry>, ClusterFault>
+fn make_room(alloc: Global, history: &mut History) -> Result<Place<Entry>, AllocError>
     ensures room { OnOk result (vec_len history.new.entries < vec_capacity history.new.entries) }
-    ensures within { OnOk result (length history.old.entries.items < 4294967294) }
     ensures story { story_of history.new ≡ story_of history.old }
     ensures opened { history.new.opened ≡ history.old.opened }
-    ensures refused { IfErr result (IsRefusedFirst (story_of history.old)) }
 {
-    if history.entries.len() as u64 >= MOST_ENTRIES {
-        return Err(ClusterFault::HistoryFull);
-    }
     history.entries.reserve(1)?;
-    Ok(Place::new(alloc)?)
+    Place::new(alloc)
 }
 
 /// Appends an entry, for which there is room, and returns it. It takes no memory.
@@ -205,12 +207,16 @@ pub fn advance<P: Post>(
     ensures refused { IfErr result
         (IsRefused (state_of (story_of history.old))
         (P.gives (P.known parts.old.served.post)) step) }
+    ensures full { IsFull (story_of history.old) → result ≡ Err HistoryFull }
     ensures unchanged { OnErr result (story_of history.new ≡ story_of history.old) }
     ensures post { OnErr result (P.known parts.new.served.post ≡ P.known parts.old.served.post) }
 {
     sent_items_stand();
     states_count_entries();
     weights_stay();
+    if is_full(history) {
+        return Err(ClusterFault::HistoryFull);
+    }
     let place = make_room(alloc, history)?;
     let before = parts.served.items.as_slice().len();
     match parts.take_step(alloc, &history.weights, &step) {

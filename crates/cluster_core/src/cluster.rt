@@ -1,8 +1,8 @@
 //! Clusters.
 
-ghost use Rattle.std.specs.Prelude.{◌≡◌, ◌<◌, ◌≤◌, ◌+◌, ℕ, Bool, true, List, option_map, slice_get, length, IfOk, IfErr, OnErr, OnOk};
+ghost use Rattle.std.specs.Prelude.{◌≡◌, ◌<◌, ◌≤◌, ◌+◌, ℕ, Bool, true, List, option_map, slice_get, length, Err, IfOk, IfErr, OnErr, OnOk};
 ghost use Rattle.std.specs.Option.{option_copied};
-ghost use Rattle.cluster_core.specs.Keeping.{IsRefused, IsTaken, WithheldFrom, known_after, offered_in};
+ghost use Rattle.cluster_core.specs.Keeping.{IsFull, IsRefused, IsTaken, WithheldFrom, known_after, known_opened, offered_in};
 ghost use Rattle.cluster_core.specs.Safety.{Safe};
 ghost use Rattle.cluster_openings.specs.Records.{AreRecordsOf};
 ghost use Rattle.cluster_core.specs.Stopping.{AreCovered, AreFound, live_in, live_of};
@@ -16,7 +16,7 @@ ghost use Rattle.cluster_agents.specs.Agents.{agent_in, drafted_in, is_in_sessio
 ghost use Rattle.cluster_agents.specs.Handing.{IsGiven};
 ghost use Rattle.cluster_agents.specs.Moves.{kept_agents};
 ghost use Rattle.cluster_steps.specs.declared.step.Step.{Step};
-ghost use Rattle.cluster_steps.specs.declared.fault.ClusterFault.TheVariants.{OutOfMemory};
+ghost use Rattle.cluster_steps.specs.declared.fault.ClusterFault.TheVariants.{HistoryFull, OutOfMemory};
 ghost use Rattle.mails.specs.declared.record.Durable.{Durable as Record};
 
 mod reading;
@@ -26,15 +26,14 @@ use crate::safety::stories_are_safe;
 use crate::stopping::stopped_stories_open_again;
 use crate::taken::{History, Taken};
 use agent_core::Record;
+use agent_sides::Config;
 use cluster_entries::Outputs;
 use cluster_openings::{put_in_order, records_are_recorded};
 use cluster_parts::{ClusterAgent, Parts, open_parts};
 use cluster_steps::{ClusterFault, Step};
-use master_core::Config;
 use names_core::{AgentName, Run};
 use post_rules::Post;
 use quantity::Resources;
-use role_weights::Weights;
 use running_clusters::KeptEntry;
 use std::alloc::Global;
 use std::marker::Model;
@@ -71,25 +70,28 @@ impl<P: Post + Drop> Model for Cluster<P> {
 impl<P: Post + Drop> Cluster<P> {
     /// The cluster of configured agents, whose totals cover those of their records, that come up
     /// over these, in any order, whose first master begins this run and sends each a Hello in the
-    /// order of their names. Its rounds of offers use these weights of roles. Of the faults there
-    /// is `C9 OutOfMemory` alone.
+    /// order of their names, which none has received yet. Its rounds of offers use the configured
+    /// weights of roles. Of the faults there is `C9 OutOfMemory` alone.
     pub fn open(
         alloc: Global,
         config: Config,
-        weights: Weights,
         records: Vec<Record>,
         run: Run,
     ) -> Result<Cluster<P>, ClusterFault>
         requires good { GoodOpening run records.items }
-        requires records { AreRecordsOf config records.items }
+        requires records { AreRecordsOf config.agents records.items }
         ensures opened { IfOk result (λ cluster. cluster.story
-            ≡ opened_over (record { run = run; weights = weights }) config records.items) }
+            ≡ opened_over (record { run = run; weights = config.weights }) config.agents
+            records.items) }
+        ensures post { IfOk result (λ cluster. P.known cluster.post
+            ≡ known_opened P.with_put cluster.story P.nothing) }
         ensures memory { IfErr result (λ fault. fault ≡ OutOfMemory) }
     {
-        let records = put_in_order(&config, records, run);
+        let Config { agents, weights } = config;
+        let records = put_in_order(&agents, records, run);
         records_are_recorded(records.as_slice());
-        let mut opened = open_parts(alloc, &config, records.as_slice(), run)?;
-        put_sent(&mut opened.served, config.agents(), 0);
+        let mut opened = open_parts(alloc, &agents, records.as_slice(), run)?;
+        put_sent(&mut opened.served, agents.agents(), 0);
         Ok(Cluster {
             history: History {
                 run,
@@ -99,7 +101,7 @@ impl<P: Post + Drop> Cluster<P> {
                 entries: Vec::new(alloc),
             },
             parts: Parts {
-                config,
+                config: agents,
                 served: opened.served,
                 agents: opened.agents,
                 run,
@@ -110,8 +112,9 @@ impl<P: Post + Drop> Cluster<P> {
 
     /// Takes a step: its entry is appended to the history and returned. A step that is refused is
     /// no entry, and changes nothing. Of several refusals the first is returned in the order C6,
-    /// C8, C2, C3, C4, C5, C1, C7; C9, for want of memory, may come before any but C6. A part that
-    /// runs out of memory in mid-step is down, and the entry says so.
+    /// C8, C2, C3, C4, C5, C1, C7; C9, for want of memory, may come before any but C6, which is
+    /// returned whenever the history has 4,294,967,294 entries, its most. A part that runs out of
+    /// memory in mid-step is down, and the entry says so.
     pub fn step(&mut self, alloc: Global, step: Step) -> Result<Taken, ClusterFault>
         ensures taken { IfOk result (λ taken. IsTaken self.old.story step taken self.new.story) }
         ensures given { IfOk result
@@ -121,6 +124,7 @@ impl<P: Post + Drop> Cluster<P> {
             (P.known self.old.post)) }
         ensures refused { IfErr result
             (IsRefused (state_of self.old.story) (P.gives (P.known self.old.post)) step) }
+        ensures full { IsFull self.old.story → result ≡ Err HistoryFull }
         ensures unchanged { OnErr result (self.new.story ≡ self.old.story) }
         ensures kept { OnErr result (P.known self.new.post ≡ P.known self.old.post) }
         ensures safe { Safe self.new.story }

@@ -10,24 +10,19 @@ use cluster_openings::{fresh_agents_open, fresh_records};
 use cluster_steps::ClusterFault;
 use names_core::Run;
 use post_rules::EverSent;
-use role_weights::Weights;
 use std::alloc::Global;
 
-/// The cluster of configured agents that never ran, in run 1, with these weights of roles.
-pub fn open_fresh(
-    alloc: Global,
-    config: Config,
-    weights: Weights,
-) -> Result<Cluster<EverSent>, ClusterFault>
+/// The cluster of configured agents that never ran, in run 1.
+pub fn open_fresh(alloc: Global, config: Config) -> Result<Cluster<EverSent>, ClusterFault>
     ensures opened { IfOk result (λ cluster. cluster.story
         ≡ record {
-          setup = record { run = 1; weights = weights };
-          records = fresh_records config;
+          setup = record { run = 1; weights = config.weights };
+          records = fresh_records config.agents;
           entries = [];
         }) }
     ensures memory { IfErr result (λ fault. fault ≡ OutOfMemory) }
 {
-    fresh_agents_open(&config);
-    let records = fresh_records(alloc, &config)?;
-    Cluster::open(alloc, config, weights, records, Run::new(1))
+    fresh_agents_open(&config.agents);
+    let records = fresh_records(alloc, &config.agents)?;
+    Cluster::open(alloc, config, records, Run::new(1))
 }

@@ -8,6 +8,7 @@ pub mod Histories
 pub mod Agents
 pub mod Named
 pub mod Posts
+pub mod Rising
 pub mod InOrder
 pub mod Limits
 pub mod Moves

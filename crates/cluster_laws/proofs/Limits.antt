@@ -19,6 +19,7 @@ use Rattle.mails.specs.declared.record.Durable.{Durable}
 use Rattle.mails.specs.declared.record.RecordedTask.{RecordedTask}
 use Rattle.mails.specs.declared.cause.Cause.{Cause}
 use Rattle.mails.specs.declared.cause.Cause.TheVariants.{Start, Mail, Executor, Again}
+use Rattle.mails.specs.Causes.{task_state}
 use Rattle.mails.specs.declared.refusal.AgentRefusal.{AgentRefusal}
 use Rattle.mails.specs.declared.refusal.AgentRefusal.TheVariants.{OldSession, NotNext, NoSuchTask, Ended, NoRoom, UpdatesFull, SessionsSpent}
 use Rattle.cluster_model.specs.Ids.{last_number}
@@ -26,12 +27,12 @@ use Rattle.cluster_model.specs.Agents.{Agent, Draft, has_ended, is_task, state_a
 use Rattle.cluster_model.specs.Channels.{Channel, is_own}
 use Rattle.cluster_histories.specs.Clusters.{Post}
 use Rattle.cluster_histories.specs.Steps.{Setup, Marked, history}
-use Rattle.cluster_safe.specs.Acknowledged.{recorded_tasks}
 use Rattle.cluster_model.specs.Mails.{FitsRecord}
 use Rattle.cluster_laws.specs.Items.{item_of}
 use Rattle.cluster_laws.specs.declared.item.Item.TheVariants as items
-use Rattle.cluster_laws.specs.Premises.{AreRecorded}
-use Rattle.cluster_laws.proofs.Lists.{both_true, each_all, each_append, each_at, each_both, each_filter, each_flat, each_map, each_mapped}
+use Rattle.cluster_safe.proofs.Placed.{each_put}
+use Rattle.cluster_laws.specs.Premises.{AreRecorded, IsRecorded}
+use Rattle.cluster_laws.proofs.Lists.{both_true, each_all, each_at, each_both, each_filter, each_flat, each_map, each_mapped}
 use Rattle.cluster_laws.proofs.Found.{found_has}
 use Rattle.cluster_laws.proofs.Agents.{AllOk, all_if, starts_ok, Rules, ChannelOk, WorldOk, world_ok, opened_ok}
 use Rattle.cluster_laws.proofs.Histories.{reached}
@@ -91,7 +92,7 @@ mapped_within : (f : RecordedTask → RecordedTask) → ((t : RecordedTask) → 
 mapped_within f g ts h = each_mapped IsWithin f ts (each_map IsWithin (λ t. IsWithin (f t)) g ts h)
 
 command_within : (command : Command) (ts : List RecordedTask) → AreWithin ts → AreWithin (tasks_after command ts)
-command_within (Launch job offers) ts h = each_append IsWithin ts (launched_task job offers ∷ []) h ((omega arith, λ n. omega arith), tt)
+command_within (Launch job offers) ts h = each_put IsWithin (launched_task job offers) ts (omega arith, λ n. omega arith) h
 command_within (Kill key) ts h = mapped_within (stated key Killed) (λ t w. stated_within key Killed t w (λ e f. absurd cc)) ts h
 command_within (Ack key k) ts h = each_filter IsWithin (λ t. not (is_done t.updates)) (map (acknowledged key k) ts) (mapped_within (acknowledged key k) (acknowledged_within key k) ts h)
 command_within (EndFramework framework) ts h = each_filter IsWithin (λ t. not (same t.job.framework framework)) ts h
@@ -194,7 +195,7 @@ next_good : (a : Agent) (cause : Cause) → is_own cause ≡ true → AreWithin 
 next_good a (Start total) own h = all_if (eqb a.run 0) (Err OldSession) (starts a total) Good (λ e. tt) (λ e. starts_ok Good a total (opens_good a a.session a.run h) (λ more. opens_good (owning more a) a.session a.run h))
 next_good a Again own h = (h, fronts_fit a h)
 next_good a (Mail to) own h = absurd cc
-next_good a (Executor key state) own h = executes_good a key state h
+next_good a (Executor key state) own h = executes_good a key (task_state state) h
 
 limits_kept : Rules Roomy FitsRecord
 limits_kept = record {
@@ -218,15 +219,8 @@ recorded_within t e = by (list_any is_terminal t.updates.states) refl (both_true
         let few : length t.updates.states ≤ 4095 = grind (arith, nat_tests) in
         (omega arith, λ n. few)
 
-left_of : (P : RecordedTask → Type 0) (xs ys : List RecordedTask) → Each P (xs ++ ys) → Each P xs × Each P ys
-left_of P [] ys h = (tt, h)
-left_of P (x ∷ xs) ys h = let rest = left_of P xs ys h.1 in ((h.0, rest.0), rest.1)
-
 all_recorded : (records : List Durable) → AreRecorded records → Each (λ (d : Durable). AreWithin d.tasks) records
-all_recorded [] h = tt
-all_recorded (d ∷ ds) h =
-    let parts = left_of (λ t. are_updates t.updates.states t.updates.acknowledged ≡ true) d.tasks (recorded_tasks ds) h in
-    (each_map (λ t. are_updates t.updates.states t.updates.acknowledged ≡ true) IsWithin recorded_within d.tasks parts.0, all_recorded ds parts.1)
+all_recorded records h = each_map IsRecorded (λ (d : Durable). AreWithin d.tasks) (λ d r. each_map (λ t. are_updates t.updates.states t.updates.acknowledged ≡ true) IsWithin recorded_within d.tasks r.updates) records h
 
 pub history_roomy : (setup : Setup) (records : List Durable) (steps : List Marked) → AreRecorded records → WorldOk Roomy FitsRecord (history setup records steps).state.world
 history_roomy setup records steps h = reached (WorldOk Roomy FitsRecord) (world_ok Roomy FitsRecord limits_kept) setup records steps (opened_ok Roomy FitsRecord records (all_recorded records h))

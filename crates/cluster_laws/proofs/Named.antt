@@ -12,6 +12,7 @@ use Rattle.mails.specs.declared.mail.MasterMail.TheVariants.{Hello, Issued}
 use Rattle.mails.specs.declared.record.Durable.{Durable}
 use Rattle.mails.specs.declared.cause.Cause.{Cause}
 use Rattle.mails.specs.declared.cause.Cause.TheVariants.{Start, Mail, Executor, Again}
+use Rattle.mails.specs.Causes.{task_state}
 use Rattle.mails.specs.declared.refusal.AgentRefusal.{AgentRefusal}
 use Rattle.mails.specs.declared.refusal.AgentRefusal.TheVariants.{OldSession, NotNext, NoSuchTask, Ended, NoRoom, UpdatesFull, SessionsSpent}
 use Rattle.cluster_model.specs.Ids.{last_number}
@@ -66,7 +67,7 @@ next_name : (a : Agent) (cause : Cause) → is_own cause ≡ true → AllOk (Kee
 next_name a (Start total) own = all_if (eqb a.run 0) (Err OldSession) (starts a total) (KeepsName a) (λ e. tt) (λ e. starts_ok (KeepsName a) a total (opens_name a a.session a.run) (λ more. opens_name (owning more a) a.session a.run))
 next_name a Again own = refl
 next_name a (Mail to) own = absurd cc
-next_name a (Executor key state) own = executes_name a key state
+next_name a (Executor key state) own = executes_name a key (task_state state)
 
 abbrev pub HasName : List ℕ → Agent → Type 0
 HasName name a = a.durable.name ≡ name

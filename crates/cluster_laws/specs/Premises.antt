@@ -8,12 +8,16 @@ use Rattle.mails.specs.declared.record.Durable.{Durable}
 use Rattle.cluster_model.specs.Channels.{Channel}
 use Rattle.cluster_histories.specs.Clusters.{Cluster, Down, Up}
 use Rattle.cluster_histories.specs.Steps.{channel_of}
-use Rattle.cluster_safe.specs.Acknowledged.{recorded_tasks}
+use Rattle.agent_core.specs.Records.{keys_rise}
 
--- the tasks of the records have updates as every value of the type `Updates` is
+-- a record is as every value of its type: the tasks have updates as every value of the type
+-- `Updates` is, and their launch keys rise
+pub record IsRecorded (d : Durable) : Type 0 where
+  pub updates : Each (λ t. are_updates t.updates.states t.updates.acknowledged ≡ true) d.tasks
+  pub rising : keys_rise d.tasks ≡ true
+
 abbrev pub AreRecorded : List Durable → Type 0
-AreRecorded records =
-    Each (λ t. are_updates t.updates.states t.updates.acknowledged ≡ true) (recorded_tasks records)
+AreRecorded records = Each IsRecorded records
 
 -- the post at a place of all posts is this mail to an agent, in its channel
 abbrev pub IsDown : Cluster → ℕ → ToAgent → Type 0

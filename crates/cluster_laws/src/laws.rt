@@ -64,9 +64,10 @@ pub fn items_are_posts()
         → slice_get sent n ≡ None → slice_get c.posts n ≡ None }
 {}
 
-/// Each update that an agent ever sent has a number that a record has room for, where the records
-/// of the opening have updates as their type allows, and the tasks of each Report that haven't
-/// ended fit its total.
+/// Where the records of the opening are as their type allows, each update that an agent ever sent
+/// has a number that a record has room for, and the tasks of each Report can be booked on its
+/// agent: their launch keys rise, none is booked on another agent, and those that haven't ended fit
+/// its total.
 pub fn mails_of_agents_fit()
     ensures number { (setup : Setup) (records : List Durable) (steps : List Marked)
         (sent : List Item) (n : ℕ) (to : ToMaster) → AreRecorded records
@@ -74,7 +75,7 @@ pub fn mails_of_agents_fit()
         → slice_get sent n ≡ Some (items.ToMaster to) → FitsRecord to.mail }
     ensures fits { (setup : Setup) (records : List Durable) (steps : List Marked)
         (sent : List Item) (n : ℕ) (to : ToMaster) → GoodOpening setup.run records
-        → StandIn (history setup records steps).state sent
+        → AreRecorded records → StandIn (history setup records steps).state sent
         → slice_get sent n ≡ Some (items.ToMaster to)
         → MailFitsAt to.agent to.mail
         (sides_of (history setup records steps).state.world.channels) }
@@ -82,8 +83,8 @@ pub fn mails_of_agents_fit()
     mails_meet_their_premises();
 }
 
-/// Each mail to an agent that was ever sent comes in order: a Hello names a run above 0, and a
-/// Launch that is next has a key after all those of the record of its agent.
+/// Each mail to an agent that was ever sent comes in order: the key of a Launch that is next isn't
+/// in the record of its agent.
 pub fn mails_to_agents_come_in_order()
     ensures { (setup : Setup) (records : List Durable) (steps : List Marked)
         (sent : List Item) (n : ℕ) (to : ToAgent) → GoodOpening setup.run records

@@ -2,7 +2,7 @@
 -- section 3.2: agents run tasks and report them).
 use Rattle.std.specs.Prelude.{ℕ, suc, zero, max, Bool, true, false, not, ◌&&◌, ◌||◌, ◌==◌, nat_lt, nat_le, if◌then◌else◌, List, [], ◌∷◌, ◌++◌, length, map, filter, flat_map, Option, Some, None, Result, Ok, Err, bytes_eq}
 use Rattle.std.specs.List.{list_any}
-use Rattle.names_core.specs.Ids.{Numbered, same}
+use Rattle.names_core.specs.Ids.{Numbered, before, same}
 use Rattle.names_core.specs.declared.state.TaskState.{TaskState}
 use Rattle.names_core.specs.declared.state.TaskState.TheVariants.{Staging, Killed}
 use Rattle.names_core.specs.States.{is_terminal}
@@ -21,6 +21,7 @@ use Rattle.mails.specs.declared.record.Durable.{Durable}
 use Rattle.mails.specs.declared.record.RecordedTask.{RecordedTask}
 use Rattle.mails.specs.declared.cause.Cause.{Cause}
 use Rattle.mails.specs.declared.cause.Cause.TheVariants.{Start, Mail, Executor, Again}
+use Rattle.mails.specs.Causes.{task_state}
 use Rattle.mails.specs.declared.refusal.AgentRefusal.{AgentRefusal}
 use Rattle.mails.specs.declared.refusal.AgentRefusal.TheVariants.{NotForMe, OldSession, NotNext, NoSuchTask, Ended, NoRoom, UpdatesFull, SessionsSpent, TotalLess}
 use Rattle.cluster_model.specs.Ids.{last_number}
@@ -155,9 +156,15 @@ abbrev pub launched_task : Job → List Numbered → RecordedTask
 launched_task job offers =
     record { job = job; offers = offers; updates = record { states = []; acknowledged = 0 } }
 
+-- in its place by launch key, in place of what was there
+abbrev pub put_task : RecordedTask → List RecordedTask → List RecordedTask
+put_task t ts =
+    filter (λ u. before u.job.key t.job.key) ts ++ t
+    ∷ filter (λ u. before t.job.key u.job.key) ts
+
 -- what a command makes of the tasks
 abbrev pub tasks_after : Command → List RecordedTask → List RecordedTask
-tasks_after (Launch job offers) ts = ts ++ launched_task job offers ∷ []
+tasks_after (Launch job offers) ts = put_task (launched_task job offers) ts
 tasks_after (Kill key) ts = map (stated key Killed) ts
 tasks_after (Ack key k) ts =
     filter (λ t. not (updates.is_done t.updates)) (map (acknowledged key k) ts)
@@ -267,7 +274,7 @@ next_of a (Start total) = if a.durable.run == 0 then Err OldSession else starts 
 next_of a Again = Ok (record { after = a; mails = fronts a })
 next_of a (Mail to) =
     if bytes_eq to.agent a.durable.name then receives_mail a to.mail else Err NotForMe
-next_of a (Executor key state) = executes a key state
+next_of a (Executor key state) = executes a key (task_state state)
 
 -- records
 

@@ -1,7 +1,7 @@
 -- The tests of records decide whether they are a good opening.
-use Rattle.std.proofs.Common.{Option, None, Some, ◌≡◌, ◌≢◌, ◌<◌, ◌≤◌, ℕ, suc, length, Bool, true, false, not, ◌&&◌, ◌||◌, List, [], ◌∷◌, ◌++◌, map, flat_map, sum_by, refl, sym, ap, ◌∙◌, subst, arith, nat_lt, IsTrue, bytes_eq}
+use Rattle.std.proofs.Common.{Option, None, Some, ◌≡◌, ◌≢◌, ◌<◌, ◌≤◌, ℕ, length, Bool, true, false, not, ◌&&◌, ◌||◌, List, [], ◌∷◌, ◌++◌, inl, inr, map, flat_map, sum_by, refl, sym, ap, ◌∙◌, subst, arith, nat_lt, IsTrue, bytes_eq}
 use Rattle.std.specs.Prelude.{◌↔◌}
-use Rattle.std.specs.List.{AllByRecursion as Each, list_all}
+use Rattle.std.specs.List.{AllByRecursion as Each, Contains, list_all, list_any}
 use Rattle.std.specs.Cmp.Lexicographic.{bytes_decides}
 use Rattle.std.proofs.lemmas.Bool.Decides.{nat_tests}
 use Rattle.std.proofs.lemmas.List.Sums.{sum_by-append, sum_by-cons}
@@ -13,18 +13,15 @@ use Rattle.quantity.proofs.Amounts.{covers_is_at_least}
 use Rattle.quantity.specs.Laws.{CoversIsAtLeast}
 use Rattle.quantity.specs.Rows.{amount, covers, part_of}
 use Rattle.agent_core.specs.Records.{has_begun, is_behind, is_record, keys_rise, none_is_done, rise_behind}
-use Rattle.agent_sides.specs.Configs.{are_ordered, names_of}
 use Rattle.agent_sides.specs.declared.config.ConfiguredAgent.{ConfiguredAgent}
 use Rattle.cluster_model.specs.Agents.{live_tasks, task_rows}
 use Rattle.cluster_model.specs.Openings.{GoodOpening, KeysOnce, NamesOnce, RecordFits, recorded_jobs, recorded_offers}
-use Rattle.cluster_laws.proofs.Lists.{both_true, each_append}
+use Rattle.cluster_laws.proofs.Lists.{both_true, bytes_differ, each_append}
 use Rattle.cluster_safe.proofs.Ids.{same_is, same_refl}
 use Rattle.cluster_safe.proofs.Orders.{each_left, each_right}
-use Rattle.cluster_openings.specs.Fresh.{fresh_records}
-use Rattle.cluster_openings.specs.Openable.{KeysRise, are_good, are_keys_apart, are_keys_new, are_records_of, has_key, is_before, is_record_of, is_task_before, share_key}
-use Rattle.cluster_openings.specs.Records.{IsRecordOf, StandInOrder}
-use Rattle.cluster_openings.proofs.FreshRecords.{once}
-use Rattle.cluster_openings.proofs.InOrder.{standing_names}
+use Rattle.cluster_openings.specs.Openable.{KeysRise, are_good, are_keys_apart, are_keys_new, are_names_apart, are_records_of, has_key, is_before, is_name_new, is_record_of, is_task_before, share_key}
+use Rattle.cluster_openings.specs.Records.{AreRecordsOf, IsRecordOf}
+use Rattle.cluster_openings.proofs.InOrder.{behind, either, front, nothing_in}
 
 -- ---- live tasks fit the total
 
@@ -307,33 +304,81 @@ all_are_good run (d ∷ ds) g =
 
 -- ---- the opening
 
-fresh_names : (agents : List ConfiguredAgent) → map (λ (d : Durable). d.name) (fresh_records agents) ≡ names_of agents
-fresh_names [] = refl
-fresh_names (a ∷ agents) = ap (λ (ns : List (List ℕ)). a.name ∷ ns) (fresh_names agents)
-
-named_once : (agents : List ConfiguredAgent) (ds : List Durable) → are_ordered (names_of agents) ≡ true → StandInOrder agents ds → NamesOnce (map (λ (d : Durable). d.name) ds)
-named_once agents ds ordered stand = subst NamesOnce (fresh_names agents ∙ standing_names agents ds stand) (once agents ordered)
-
 record_of : (a : ConfiguredAgent) (d : Durable) → IsTrue (is_record_of a d) ↔ IsRecordOf a d
 record_of a d = (
   λ h. (let both = both_true (bytes_eq a.name d.name) (covers a.total d.total) h in ((bytes_decides a.name d.name).0 both.0, (covers_is_at_least a.total d.total).0 both.1)),
   λ r. and_so (bytes_eq a.name d.name) (covers a.total d.total) ((bytes_decides a.name d.name).1 r.0) ((covers_is_at_least a.total d.total).1 r.1),
 )
 
-pub are_decided : (agents : List ConfiguredAgent) (ds : List Durable) → IsTrue (are_records_of agents ds) ↔ StandInOrder agents ds
-are_decided [] [] = ((λ h. tt), (λ s. refl))
-are_decided [] (d ∷ ds) = ((λ (h : false ≡ true). absurd cc), (λ s. absurd s))
-are_decided (a ∷ as_) [] = ((λ (h : false ≡ true). absurd cc), (λ s. absurd s))
-are_decided (a ∷ as_) (d ∷ ds) =
-    let rest = are_decided as_ ds in
-    let first = record_of a d in (
-      (λ h. (let both = both_true (is_record_of a d) (are_records_of as_ ds) h in (first.0 both.0, rest.0 both.1))),
-      (λ s. and_so (is_record_of a d) (are_records_of as_ ds) (first.1 s.0) (rest.1 s.1)),
-    )
+any_in : {A : Type 0} (p : A → Bool) (xs : List A) → list_any p xs ≡ true → (x : A) × Contains xs x × (p x ≡ true)
+any_in p [] e = absurd (let clash : false ≡ true = e in cc)
+any_in {A} p (x ∷ xs) e = by (p x) refl (λ f. any_in p xs f)
+  where
+    by : (b : Bool) → p x ≡ b → (list_any p xs ≡ true → (y : A) × Contains xs y × (p y ≡ true)) → (y : A) × Contains (x ∷ xs) y × (p y ≡ true)
+    by true is rest = (x, front x xs, is)
+    by false is rest =
+        let found = rest (sym (ap (λ (b : Bool). b || list_any p xs) is) ∙ e) in
+        (found.0, behind x xs found.0 found.1, found.2)
 
-pub good_if : (agents : List ConfiguredAgent) (run : ℕ) (ds : List Durable) → are_ordered (names_of agents) ≡ true → StandInOrder agents ds → Each RecordFits ds → Each KeysRise ds → are_good run ds ≡ true → GoodOpening run ds
-good_if agents run ds ordered is fits rise e =
-    let both = both_true (are_keys_apart ds) (list_all (is_before run) ds) e in
+or_first : (a b : Bool) → a ≡ true → (a || b) ≡ true
+or_first a b e = rw e refl
+
+or_second : (a b : Bool) → b ≡ true → (a || b) ≡ true
+or_second true b e = refl
+or_second false b e = e
+
+in_any : {A : Type 0} (p : A → Bool) (xs : List A) (x : A) → Contains xs x → p x ≡ true → list_any p xs ≡ true
+in_any p [] x h e = absurd (nothing_in x h)
+in_any p (y ∷ ys) x h e = elim (either y ys x h) [
+  | inl same ↦ or_first (p y) (list_any p ys) (ap p same ∙ e)
+  | inr k ↦ or_second (p y) (list_any p ys) (in_any p ys x k e)
+]
+
+all_in : {A : Type 0} (p : A → Bool) (xs : List A) (x : A) → list_all p xs ≡ true → Contains xs x → p x ≡ true
+all_in p [] x e h = absurd (nothing_in x h)
+all_in p (y ∷ ys) x e h =
+    let both = both_true (p y) (list_all p ys) e in
+    elim (either y ys x h) [ inl same ↦ ap p (sym same) ∙ both.0 | inr k ↦ all_in p ys x both.1 k ]
+
+in_all : {A : Type 0} (p : A → Bool) (xs : List A) → ((x : A) → Contains xs x → p x ≡ true) → list_all p xs ≡ true
+in_all p [] each = refl
+in_all p (y ∷ ys) each = and_so (p y) (list_all p ys) (each y (front y ys)) (in_all p ys (λ x h. each x (behind y ys x h)))
+
+pub are_decided : (agents : List ConfiguredAgent) (ds : List Durable) → IsTrue (are_records_of agents ds) ↔ AreRecordsOf agents ds
+are_decided agents ds = (
+  λ h. (let both = both_true (list_all (λ a. list_any (λ d. is_record_of a d) ds) agents) (list_all (λ d. list_any (λ a. is_record_of a d) agents) ds) h in record {
+    each = λ a there. (let found = any_in (λ d. is_record_of a d) ds (all_in (λ a. list_any (λ d. is_record_of a d) ds) agents a both.0 there) in (found.0, found.1, (record_of a found.0).0 found.2));
+    only = λ d there. (let found = any_in (λ a. is_record_of a d) agents (all_in (λ d. list_any (λ a. is_record_of a d) agents) ds d both.1 there) in (found.0, found.1, (record_of found.0 d).0 found.2));
+  }),
+  λ of. and_so (list_all (λ a. list_any (λ d. is_record_of a d) ds) agents) (list_all (λ d. list_any (λ a. is_record_of a d) agents) ds)
+      (in_all (λ a. list_any (λ d. is_record_of a d) ds) agents (λ a there. (let found = of.each a there in in_any (λ d. is_record_of a d) ds found.0 found.1 ((record_of a found.0).1 found.2))))
+      (in_all (λ d. list_any (λ a. is_record_of a d) agents) ds (λ d there. (let found = of.only d there in in_any (λ a. is_record_of a d) agents found.0 found.1 ((record_of found.0 d).1 found.2)))),
+)
+
+-- ---- names stand once
+
+name_new : (d : Durable) (ds : List Durable) → is_name_new d ds ≡ true → Each (λ m. m ≢ d.name) (map (λ (x : Durable). x.name) ds)
+name_new d [] e = tt
+name_new d (x ∷ xs) e =
+    let both = both_true (not (bytes_eq x.name d.name)) (is_name_new d xs) e in
+    (λ same. (let clash : true ≡ false = sym ((bytes_decides x.name d.name).1 same) ∙ not_so (bytes_eq x.name d.name) both.0 in cc), name_new d xs both.1)
+
+name_is_new : (d : Durable) (ds : List Durable) → Each (λ m. m ≢ d.name) (map (λ (x : Durable). x.name) ds) → is_name_new d ds ≡ true
+name_is_new d [] h = refl
+name_is_new d (x ∷ xs) h = and_so (not (bytes_eq x.name d.name)) (is_name_new d xs) (ap not (bytes_differ x.name d.name h.0)) (name_is_new d xs h.1)
+
+names_once : (ds : List Durable) → are_names_apart ds ≡ true → NamesOnce (map (λ (d : Durable). d.name) ds)
+names_once [] e = tt
+names_once (d ∷ ds) e = let both = both_true (is_name_new d ds) (are_names_apart ds) e in (name_new d ds both.0, names_once ds both.1)
+
+names_are_apart : (ds : List Durable) → NamesOnce (map (λ (d : Durable). d.name) ds) → are_names_apart ds ≡ true
+names_are_apart [] h = refl
+names_are_apart (d ∷ ds) h = and_so (is_name_new d ds) (are_names_apart ds) (name_is_new d ds h.0) (names_are_apart ds h.1)
+
+pub good_if : (run : ℕ) (ds : List Durable) → Each RecordFits ds → Each KeysRise ds → are_good run ds ≡ true → GoodOpening run ds
+good_if run ds fits rise e =
+    let both = both_true (are_names_apart ds && are_keys_apart ds) (list_all (is_before run) ds) e in
+    let apart_ = both_true (are_names_apart ds) (are_keys_apart ds) both.0 in
     let good = all_good run ds both.1 in
     record {
       fits = fits;
@@ -341,22 +386,12 @@ good_if agents run ds ordered is fits rise e =
       keys_older = good.before.keys;
       frameworks_older = good.before.frameworks;
       offers_older = good.before.ids;
-      keys_once = keys_once ds rise both.0;
-      names_once = named_once agents ds ordered is;
+      keys_once = keys_once ds rise apart_.1;
+      names_once = names_once ds apart_.0;
     }
 
 pub then_good : (run : ℕ) (ds : List Durable) → GoodOpening run ds → are_good run ds ≡ true
-then_good run ds g = and_so (are_keys_apart ds) (list_all (is_before run) ds) (keys_are_apart ds g.keys_once)
+then_good run ds g =
+    and_so (are_names_apart ds && are_keys_apart ds) (list_all (is_before run) ds)
+    (and_so (are_names_apart ds) (are_keys_apart ds) (names_are_apart ds g.names_once) (keys_are_apart ds g.keys_once))
     (all_are_good run ds (record { older = g.older; before = record { keys = g.keys_older; frameworks = g.frameworks_older; ids = g.offers_older } }))
-
--- fewer records than agents, or more
-
-no_more : (b c : Bool) → false ≡ c → false ≡ (b && c)
-no_more true c e = e
-no_more false c e = refl
-
-pub counts_differ : (agents : List ConfiguredAgent) (ds : List Durable) → length agents ≢ length ds → false ≡ are_records_of agents ds
-counts_differ [] [] other = absurd (other refl)
-counts_differ [] (d ∷ ds) other = refl
-counts_differ (a ∷ as_) [] other = refl
-counts_differ (a ∷ as_) (d ∷ ds) other = no_more (is_record_of a d) (are_records_of as_ ds) (counts_differ as_ ds (λ e. other (ap suc e)))

@@ -71,7 +71,7 @@ fresh_good agents run ordered some = record {
 
 pub fresh_recorded : (agents : List ConfiguredAgent) → AreRecorded (fresh_records agents)
 fresh_recorded [] = tt
-fresh_recorded (a ∷ agents) = fresh_recorded agents
+fresh_recorded (a ∷ agents) = (record { updates = tt; rising = refl }, fresh_recorded agents)
 
 pub fresh_standing : (agents : List ConfiguredAgent) → StandInOrder agents (fresh_records agents)
 fresh_standing [] = tt

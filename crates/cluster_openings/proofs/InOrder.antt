@@ -13,32 +13,32 @@ use Rattle.names_core.proofs.Order.{before_text}
 use Rattle.agent_sides.specs.Configs.{are_ordered, names_of}
 use Rattle.agent_sides.specs.declared.config.ConfiguredAgent.{ConfiguredAgent}
 use Rattle.cluster_model.specs.Ids.{bytes_before}
-use Rattle.cluster_model.specs.Openings.{GoodOpening, NamesOnce}
+use Rattle.cluster_model.specs.Openings.{NamesOnce}
 use Rattle.cluster_laws.proofs.Lists.{both_true, bytes_differ}
 use Rattle.cluster_laws.specs.Parts.{AreAgentsOf}
 use Rattle.cluster_openings.specs.Records.{AreRecordsOf, IsRecordOf, StandInOrder, comes_before, in_order, named}
 use Rattle.quantity.specs.Laws.{AtLeast}
-use Rattle.cluster_openings.proofs.Permuted.{good_permuted, names_permuted}
+use Rattle.cluster_openings.proofs.Permuted.{names_permuted}
 
 both_so : (x y : Bool) → x ≡ true → y ≡ true → (x && y) ≡ true
 both_so x y e f = rw (e, f) refl
 
 -- ---- elements
 
-front : {A : Type 0} (x : A) (xs : List A) → Contains (x ∷ xs) x
+pub front : {A : Type 0} (x : A) (xs : List A) → Contains (x ∷ xs) x
 front x xs = (0, omega arith, refl)
 
-behind : {A : Type 0} (y : A) (xs : List A) (x : A) → Contains xs x → Contains (y ∷ xs) x
+pub behind : {A : Type 0} (y : A) (xs : List A) (x : A) → Contains xs x → Contains (y ∷ xs) x
 behind y xs x h = (suc h.0, (let p = h.1 in omega arith), h.2)
 
-either : {A : Type 0} (y : A) (xs : List A) (x : A) → Contains (y ∷ xs) x → (y ≡ x) ⊎ Contains xs x
+pub either : {A : Type 0} (y : A) (xs : List A) (x : A) → Contains (y ∷ xs) x → (y ≡ x) ⊎ Contains xs x
 either y xs x h = by h.0 h.1 h.2
   where
     by : (k : ℕ) → k < length (y ∷ xs) → slice_index_or (y ∷ xs) k x ≡ x → (y ≡ x) ⊎ Contains xs x
     by zero p e = inl e
     by (suc k) p e = inr (k, omega arith, e)
 
-nothing_in : {A : Type 0} (x : A) → Contains [] x → ⊥
+pub nothing_in : {A : Type 0} (x : A) → Contains [] x → ⊥
 nothing_in x h = (let p = h.1 in omega arith)
 
 each_in : {A : Type 0} (P : A → Type 0) (xs : List A) (x : A) → Each P xs → Contains xs x → P x
@@ -261,9 +261,3 @@ pub record Sorted (agents : List ConfiguredAgent) (old new : List Durable) : Typ
 
 pub then_configured : (agents : List ConfiguredAgent) (old new : List Durable) → Sorted agents old new → NamesOnce (map name_of old) → AreRecordsOf agents old → StandInOrder agents new
 then_configured agents old new s once of = stand_for_agents agents new s.ordered s.rises (names_permuted old new s.moved once) (of_permuted agents old new s.moved of)
-
-pub opened_so : (run : ℕ) (agents : List ConfiguredAgent) (old new : List Durable) → Sorted agents old new → GoodOpening run new × StandInOrder agents new → GoodOpening run old × AreRecordsOf agents old
-opened_so run agents old new s h = (good_permuted run new old (IsPermutation-sym old new s.moved) h.0, of_permuted agents new old (IsPermutation-sym old new s.moved) (of_standing agents new h.1))
-
-pub opens_so : (run : ℕ) (agents : List ConfiguredAgent) (old new : List Durable) → Sorted agents old new → GoodOpening run old × AreRecordsOf agents old → GoodOpening run new × StandInOrder agents new
-opens_so run agents old new s h = (good_permuted run old new s.moved h.0, then_configured agents old new s h.0.names_once h.1)

@@ -1,5 +1,5 @@
 -- Tests of records over which a cluster may be opened.
-use Rattle.std.specs.Prelude.{◌≡◌, ℕ, Bool, true, false, not, ◌&&◌, nat_lt, List, [], ◌∷◌, bytes_eq}
+use Rattle.std.specs.Prelude.{◌≡◌, ℕ, Bool, true, not, ◌&&◌, nat_lt, List, [], ◌∷◌, bytes_eq}
 use Rattle.std.specs.List.{list_all, list_any}
 use Rattle.names_core.specs.Ids.{Numbered, same}
 use Rattle.quantity.specs.Rows.{covers}
@@ -41,13 +41,22 @@ KeysRise d = keys_rise d.tasks ≡ true
 abbrev pub is_record_of : ConfiguredAgent → Durable → Bool
 is_record_of a d = bytes_eq a.name d.name && covers a.total d.total
 
--- there is one record for each agent, in their order, and no other
+-- each agent has a record among them, and each of them is that of one of the agents
 abbrev pub are_records_of : List ConfiguredAgent → List Durable → Bool
-are_records_of [] [] = true
-are_records_of [] (d ∷ ds) = false
-are_records_of (a ∷ as_) [] = false
-are_records_of (a ∷ as_) (d ∷ ds) = is_record_of a d && are_records_of as_ ds
+are_records_of agents records =
+    list_all (λ a. list_any (λ d. is_record_of a d) records) agents
+    && list_all (λ d. list_any (λ a. is_record_of a d) agents) records
+
+-- no record after it has the name of this one
+abbrev pub is_name_new : Durable → List Durable → Bool
+is_name_new d behind = list_all (λ other. not (bytes_eq other.name d.name)) behind
+
+-- no two records have one name
+abbrev pub are_names_apart : List Durable → Bool
+are_names_apart [] = true
+are_names_apart (d ∷ ds) = is_name_new d ds && are_names_apart ds
 
 -- what is required of records beside that they are those of the configured agents
 abbrev pub are_good : ℕ → List Durable → Bool
-are_good run records = are_keys_apart records && list_all (is_before run) records
+are_good run records =
+    are_names_apart records && are_keys_apart records && list_all (is_before run) records

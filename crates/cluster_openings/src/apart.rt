@@ -1,8 +1,8 @@
-//! Whether each launch key is in one record alone.
+//! Whether each launch key, and each name, is in one record alone.
 
 ghost use Rattle.std.specs.Prelude.{◌≡◌, true};
 ghost use Rattle.agent_core.specs.Records.{keys_rise};
-ghost use Rattle.cluster_openings.specs.Openable.{are_keys_apart, are_keys_new, share_key};
+ghost use Rattle.cluster_openings.specs.Openable.{are_keys_apart, are_keys_new, are_names_apart, is_name_new, share_key};
 
 use agent_core::Record;
 use mails::RecordedTask;
@@ -50,6 +50,26 @@ pub fn are_keys_apart(records: &[Record]) -> bool
 {
     for i in 0..records.len() {
         if !are_keys_new(&records[i], &records[i + 1..]) {
+            return false;
+        }
+    }
+    true
+}
+
+/// Whether no record after it has the name of this one.
+fn is_name_new(durable: &Record, behind: &[Record]) -> bool
+    ensures { result ≡ is_name_new durable.now behind.now }
+{
+    let name = &durable.parts().name;
+    behind.iter().all(|other| !other.parts().name.is(name))
+}
+
+/// Whether no two records have one name. It visits each record once for each other one.
+pub fn are_names_apart(records: &[Record]) -> bool
+    ensures { result ≡ are_names_apart records.now }
+{
+    for i in 0..records.len() {
+        if !is_name_new(&records[i], &records[i + 1..]) {
             return false;
         }
     }

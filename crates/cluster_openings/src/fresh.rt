@@ -7,13 +7,13 @@ ghost use Rattle.cluster_laws.specs.Premises.{AreRecorded};
 ghost use Rattle.cluster_model.specs.Openings.{GoodOpening};
 
 use agent_core::Record;
-use agent_sides::{Config, ConfiguredAgent};
+use agent_sides::{ConfiguredAgent, ConfiguredAgents};
 use plain_data::Plain;
 use std::alloc::{AllocError, Global};
 
 /// A cluster may be opened in any run over configured agents that never ran:
 /// their records are those of the configuration, and in its order.
-pub fn fresh_agents_open(config: &Config)
+pub fn fresh_agents_open(config: &ConfiguredAgents)
     ensures good { (run : ℕ) → 0 < run → GoodOpening run (fresh_records config.now) }
     ensures recorded { AreRecorded (fresh_records config.now) }
     ensures records { AreRecordsOf config.now (fresh_records config.now) }
@@ -31,7 +31,7 @@ fn fresh_record(alloc: Global, agent: &ConfiguredAgent) -> Result<Record, AllocE
 }
 
 /// The records of configured agents that never ran, in the order of their names.
-pub fn fresh_records(alloc: Global, config: &Config) -> Result<Vec<Record>, AllocError>
+pub fn fresh_records(alloc: Global, config: &ConfiguredAgents) -> Result<Vec<Record>, AllocError>
     ensures { IfOk result (λ records. records.items ≡ fresh_records config.now) }
 {
     let agents = config.agents();

@@ -1,20 +1,17 @@
 //! Whether records are a good opening. No test takes memory.
 
 ghost use Rattle.std.specs.Prelude.{◌≡◌, ◌↔◌, true, nat_lt, List, IsTrue, ℕ};
-ghost use Rattle.std.specs.List.{AllByRecursion as Each, list_all};
-ghost use Rattle.std.specs.List.Sorted.{IsPermutation};
+ghost use Rattle.std.specs.List.{AllByRecursion as Each, list_all, list_any};
 ghost use Rattle.agent_core.specs.Records.{keys_rise};
-ghost use Rattle.agent_sides.specs.Configs.{are_ordered, names_of};
 ghost use Rattle.agent_sides.specs.declared.config.ConfiguredAgent.{ConfiguredAgent as Configured};
 ghost use Rattle.cluster_openings.specs.Openable.{KeysRise, are_good, are_records_of, is_before, is_record_of, is_task_before};
-ghost use Rattle.cluster_openings.specs.Records.{AreRecordsOf, StandInOrder};
+ghost use Rattle.cluster_openings.specs.Records.{AreRecordsOf};
 ghost use Rattle.cluster_model.specs.Openings.{GoodOpening, RecordFits};
 ghost use Rattle.mails.specs.declared.record.Durable.{Durable};
 
-use crate::apart::are_keys_apart;
-use crate::ordering::sort_by_name;
+use crate::apart::{are_keys_apart, are_names_apart};
 use agent_core::Record;
-use agent_sides::{Config, ConfiguredAgent};
+use agent_sides::{ConfiguredAgent, ConfiguredAgents};
 use mails::RecordedTask;
 use names_core::{OfferId, Run};
 use quantity::covers_is_at_least;
@@ -76,19 +73,40 @@ fn is_record_of(agent: &ConfiguredAgent, durable: &Record) -> bool
     agent.name.is(&parts.name) && agent.total.covers(&parts.total)
 }
 
-/// Whether there is one record for each agent, in their order, and no other.
+/// Whether an agent has a record among these.
+fn has_record(agent: &ConfiguredAgent, records: &[Record]) -> bool
+    ensures { result ≡ list_any (λ d. is_record_of agent.now d) records.now }
+{
+    records.iter().any(|durable| is_record_of(agent, durable))
+}
+
+/// Whether a record is that of one of these agents.
+fn has_agent(agents: &[ConfiguredAgent], durable: &Record) -> bool
+    ensures { result ≡ list_any (λ a. is_record_of a durable.now) agents.now }
+{
+    agents.iter().any(|agent| is_record_of(agent, durable))
+}
+
+/// Whether each agent has a record among these.
+fn have_records(agents: &[ConfiguredAgent], records: &[Record]) -> bool
+    ensures { result ≡ list_all (λ a. list_any (λ d. is_record_of a d) records.now) agents.now }
+{
+    agents.iter().all(|agent| has_record(agent, records))
+}
+
+/// Whether each record is that of one of these agents.
+fn have_agents(agents: &[ConfiguredAgent], records: &[Record]) -> bool
+    ensures { result ≡ list_all (λ d. list_any (λ a. is_record_of a d) agents.now) records.now }
+{
+    records.iter().all(|durable| has_agent(agents, durable))
+}
+
+/// Whether each agent has a record among these, and each of them is that of one of the agents.
+/// It visits each agent once for each record.
 fn are_records_of(agents: &[ConfiguredAgent], records: &[Record]) -> bool
     ensures { result ≡ are_records_of agents.now records.now }
 {
-    if agents.len() != records.len() {
-        return false;
-    }
-    for i in 0..agents.len() {
-        if !is_record_of(&agents[i], &records[i]) {
-            return false;
-        }
-    }
-    true
+    have_records(agents, records) && have_agents(agents, records)
 }
 
 fn are_all_before(records: &[Record], run: u16) -> bool
@@ -97,42 +115,30 @@ fn are_all_before(records: &[Record], run: u16) -> bool
     records.iter().all(|durable| is_before(durable, run))
 }
 
-/// The tests decide, of records of configured agents that fit their totals and whose launch keys
-/// rise, whether they are a good opening.
+/// The tests decide, of records that fit their totals and whose launch keys rise, whether they are
+/// a good opening, and whether they are those of configured agents.
 fn openings_are_decided()
-    ensures good { (agents : List Configured) (run : ℕ) (records : List Durable)
-        → are_ordered (names_of agents) ≡ true → StandInOrder agents records
+    ensures good { (run : ℕ) (records : List Durable)
         → Each RecordFits records → Each KeysRise records → are_good run records ≡ true
         → GoodOpening run records }
     ensures agents { (agents : List Configured) (records : List Durable)
-        → IsTrue (are_records_of agents records) ↔ StandInOrder agents records }
+        → IsTrue (are_records_of agents records) ↔ AreRecordsOf agents records }
     ensures tests { (run : ℕ) (records : List Durable) → GoodOpening run records
         → are_good run records ≡ true }
 {}
 
-/// Whether a cluster of these agents may be opened over records that are in their order.
-fn is_good_in_order(config: &Config, records: &[Record], run: Run) -> bool
-    ensures { IsTrue result ↔ (GoodOpening run records.now × StandInOrder config.now records.now) }
+/// Whether a cluster of these agents may be opened over these records, in any order, in this run:
+/// there is one record for each agent and no other, which the agent's total covers, no launch key
+/// is in two, and every run in them is before this one. (That each record's live tasks fit its
+/// total holds of every `Record`.) It takes no memory, and time in the square of the number of
+/// records and in the number of their tasks times that of records.
+pub fn good_opening(config: &ConfiguredAgents, records: &[Record], run: Run) -> bool
+    ensures { IsTrue result ↔ (GoodOpening run records.now × AreRecordsOf config.now records.now) }
 {
     openings_are_decided();
     records_fit(records);
     are_records_of(config.agents(), records)
+        && are_names_apart(records)
         && are_keys_apart(records)
         && are_all_before(records, run.number())
-}
-
-/// Sorts records by the names of their agents, and returns whether a cluster of these agents may be
-/// opened over them in this run: there is one record for each agent and no other, which the agent's
-/// total covers, no launch key is in two, and every run in them is before this one. (That each
-/// record's live tasks fit its total holds of every `Record`.)
-pub fn good_opening(config: &Config, records: &mut [Record], run: Run) -> bool
-    ensures test { IsTrue result
-        ↔ (GoodOpening run records.old × AreRecordsOf config.now records.old) }
-    ensures good { IsTrue result → GoodOpening run records.new }
-    ensures records { IsTrue result → AreRecordsOf config.now records.new }
-    ensures permutation { IsPermutation records.old records.new }
-{
-    let _agents = config.agents();
-    sort_by_name(records);
-    is_good_in_order(config, records, run)
 }

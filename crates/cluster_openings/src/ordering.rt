@@ -7,11 +7,11 @@ ghost use Rattle.cluster_laws.specs.Parts.{AreAgentsOf};
 ghost use Rattle.cluster_model.specs.Openings.{GoodOpening};
 
 use agent_core::Record;
-use agent_sides::Config;
+use agent_sides::ConfiguredAgents;
 use names_core::Run;
 
 /// Sorts records by the names of their agents.
-pub(crate) fn sort_by_name(records: &mut [Record])
+fn sort_by_name(records: &mut [Record])
     ensures permutation { IsPermutation records.old records.new }
     ensures sorted { IsSortedBy comes_before records.new }
 {
@@ -23,7 +23,7 @@ pub(crate) fn sort_by_name(records: &mut [Record])
 }
 
 /// Sorts records that are a good opening in this run in the order of the configured agents.
-pub fn put_in_order(config: &Config, mut records: Vec<Record>, _run: Run) -> Vec<Record>
+pub fn put_in_order(config: &ConfiguredAgents, mut records: Vec<Record>, _run: Run) -> Vec<Record>
     requires good { GoodOpening _run records.items }
     requires records { AreRecordsOf config.now records.items }
     ensures order { result.items ≡ in_order config.now records.items }

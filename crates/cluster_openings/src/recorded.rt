@@ -1,8 +1,8 @@
-//! What the type of updates keeps of every record.
+//! What its type keeps of every record.
 
 ghost use Rattle.std.specs.Prelude.{◌≡◌, true};
 ghost use Rattle.std.specs.List.{AllByRecursion as Each};
-ghost use Rattle.cluster_laws.specs.Premises.{AreRecorded};
+ghost use Rattle.cluster_laws.specs.Premises.{AreRecorded, IsRecorded};
 ghost use Rattle.stream_core.specs.Updates.{are_updates};
 
 use agent_core::Record;
@@ -17,11 +17,19 @@ fn tasks_are_recorded(tasks: &[Shared<RecordedTask>])
     }
 }
 
-/// The tasks of all records have updates as every value of their type is.
+/// A record is as every value of its type is.
+fn is_recorded(durable: &Record)
+    ensures { IsRecorded durable.now }
+{
+    let parts = durable.parts();
+    tasks_are_recorded(parts.tasks.as_slice());
+}
+
+/// All records are as every value of their type is.
 pub fn records_are_recorded(records: &[Record])
     ensures { AreRecorded records.now }
 {
     for durable in records {
-        tasks_are_recorded(durable.parts().tasks.as_slice());
+        is_recorded(durable);
     }
 }

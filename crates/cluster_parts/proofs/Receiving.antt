@@ -72,7 +72,7 @@ pub record ReceiveLaws : Type 0 where
   pub named : (c : Cluster) (agent : List ℕ) (x : Channel) (mail : AgentMail) → channel_of c agent ≡ Some x → mailed_by (master_of c) agent mail ≡ mailed (master_of c) x.side mail
   pub number : (setup : Setup) (records : List Durable) (steps : List Marked) (sent : List Item) (n : ℕ) (to : ToMaster) → AreRecorded records →
       StandIn (history setup records steps).state sent → slice_get sent n ≡ Some (sent_items.ToMaster to) → FitsRecord to.mail
-  pub fits : (setup : Setup) (records : List Durable) (steps : List Marked) (sent : List Item) (n : ℕ) (to : ToMaster) → GoodOpening setup.run records →
+  pub fits : (setup : Setup) (records : List Durable) (steps : List Marked) (sent : List Item) (n : ℕ) (to : ToMaster) → GoodOpening setup.run records → AreRecorded records →
       StandIn (history setup records steps).state sent → slice_get sent n ≡ Some (sent_items.ToMaster to) → MailFitsAt to.agent to.mail (sides_of (history setup records steps).state.world.channels)
 
 abbrev told_with : List StreamEvent → List Numbered → List code.Sent → Outputs
@@ -286,7 +286,7 @@ fits_here : ReceiveLaws → (c : Cluster) (number : ℕ) (to : ToMaster) (items 
 fits_here laws c zero to items r stand e = absurd (let clash : None ≡ Some (sent_items.ToMaster to) = e in cc)
 fits_here laws c (suc k) to items r stand e =
     subst (λ (x : Cluster). MailFitsAt to.agent to.mail (sides_of x.world.channels)) (sym r.is)
-    (laws.fits r.setup r.records r.steps items k to r.good (subst (λ (x : Cluster). StandIn x items) r.is stand) (sym (item_behind k items) ∙ e))
+    (laws.fits r.setup r.records r.steps items k to r.good r.recorded (subst (λ (x : Cluster). StandIn x items) r.is stand) (sym (item_behind k items) ∙ e))
 
 pub receive_fits : ReceiveLaws → (c : Cluster) (number : ℕ) (to : ToMaster) (before : Option Master) (items : List Item) (ss : List KeptStream) → Reached c → StandsFor c (Some before) items ss → item_at number items ≡ Some (sent_items.ToMaster to) →
     IfSome before (λ m. MailFitsAt to.agent to.mail m.sides)

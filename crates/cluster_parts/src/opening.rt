@@ -32,7 +32,7 @@ use cluster_safe::masters_step_alone;
 use cluster_steps::{ClusterFault, Verdict};
 use event_streams::Streams;
 use listed::Listed;
-use master_core::{Config, Master, MasterFault, Outs};
+use master_core::{ConfiguredAgents, Master, MasterFault, Outs};
 use names_core::Run;
 use plain_data::Plain;
 use post_rules::Post;
@@ -78,7 +78,7 @@ fn openings_are_made()
 pub fn start_in(
     master: &mut Option<Master>,
     alloc: Global,
-    config: &Config,
+    config: &ConfiguredAgents,
     run: Run,
 ) -> Result<Outs, MasterFault>
     ensures { Starts result master.new run config.now }
@@ -132,7 +132,7 @@ fn nothing<P: Post>(alloc: Global) -> Opened<P>
 fn open_over<P: Post>(
     opened: &mut Opened<P>,
     alloc: Global,
-    config: &Config,
+    config: &ConfiguredAgents,
     records: &[Record],
     run: Run,
 ) -> Result<(), ClusterFault>
@@ -164,7 +164,7 @@ fn open_over<P: Post>(
 /// faults there is `C9 OutOfMemory` alone.
 pub fn open_parts<P: Post + Drop>(
     alloc: Global,
-    config: &Config,
+    config: &ConfiguredAgents,
     records: &[Record],
     run: Run,
 ) -> Result<Opened<P>, ClusterFault>

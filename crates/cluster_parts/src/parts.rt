@@ -8,7 +8,7 @@ ghost use Rattle.cluster_parts.specs.Posts.{Grows};
 use crate::masters::Served;
 use cluster_agents::{ClusterAgent, Made};
 use cluster_steps::{ClusterFault, Keep, Step};
-use master_core::Config;
+use master_core::ConfiguredAgents;
 use names_core::Run;
 use post_rules::Post;
 use role_weights::Weights;
@@ -17,7 +17,7 @@ use std::alloc::Global;
 /// What a cluster is made of at a time.
 pub struct Parts<P: Post> {
     /// The agents as the master is configured with them.
-    pub config: Config,
+    pub config: ConfiguredAgents,
     pub served: Served<P>,
     pub agents: Vec<ClusterAgent>,
     /// The master's run, or the last one's where none serves.

@@ -9,6 +9,7 @@ use Rattle.names_core.specs.Ids.{Numbered, same}
 use Rattle.names_core.specs.declared.state.TaskState.{TaskState}
 use Rattle.quantity.specs.declared.rows.Row.{Row}
 use Rattle.quantity.specs.Rows.{amount, covers}
+use Rattle.mails.specs.declared.task.Job.{Job}
 use Rattle.mails.specs.declared.mail.Command.{Command}
 use Rattle.mails.specs.declared.mail.Command.TheVariants.{Launch, Kill, Ack, EndFramework}
 use Rattle.mails.specs.declared.mail.MasterMail.{MasterMail}
@@ -19,15 +20,17 @@ use Rattle.mails.specs.declared.record.RecordedTask.{RecordedTask}
 use Rattle.mails.specs.declared.refusal.AgentRefusal.{AgentRefusal}
 use Rattle.mails.specs.declared.cause.Cause.{Cause}
 use Rattle.mails.specs.declared.cause.Cause.TheVariants.{Start, Mail, Executor, Again}
+use Rattle.mails.specs.Causes.{task_state}
 use Rattle.mails.specs.declared.refusal.AgentRefusal.TheVariants.{OldSession, NotNext, NoSuchTask, Ended, NoRoom, UpdatesFull, SessionsSpent, TotalLess}
 use Rattle.names_core.specs.declared.state.TaskState.TheVariants.{Killed}
 use Rattle.stream_core.specs.Updates.{is_full, is_done}
 use Rattle.cluster_model.specs.Ids.{last_number}
-use Rattle.cluster_model.specs.Agents.{Agent, Draft, has_ended, is_task, fronts, front_at, owning, reopened, reports, opens_next, opens_again, starts, stated, acknowledged, launched_task, tasks_after, is_front_at, fronts_after, with_tasks, after_command, applies, has_room, receives_mail, needs_place, next_of}
+use Rattle.cluster_model.specs.Agents.{Agent, Draft, has_ended, is_task, fronts, front_at, owning, reopened, reports, opens_next, opens_again, starts, stated, acknowledged, launched_task, put_task, tasks_after, is_front_at, fronts_after, with_tasks, after_command, applies, has_room, receives_mail, needs_place, next_of}
 use Rattle.cluster_model.specs.Channels.{InRun}
-use Rattle.cluster_safe.specs.Facts.{Stake, Past, Fades, task_stake, launches, coming, stakes, NotOf, EndsKept, Ordered, AtMost, StateOk, DownOk, IsReportOf, UpOk, drafted, mails_of, states_of, PastOk, Facts}
+use Rattle.cluster_safe.specs.Facts.{Less, Stake, Past, Fades, InOrder, task_stake, launches, coming, stakes, NotOf, EndsKept, Ordered, AtMost, StateOk, DownOk, IsReportOf, UpOk, drafted, mails_of, states_of, PastOk, Facts}
 use Rattle.cluster_safe.proofs.Ids.{same_refl}
-use Rattle.cluster_safe.proofs.Orders.{each_append, each_map, fades_refl, fades_append, stated_aged, acknowledged_aged, fades_kept, fades_mapped, fades_filtered}
+use Rattle.cluster_safe.proofs.Placed.{put_last}
+use Rattle.cluster_safe.proofs.Orders.{each_append, each_map, each_right, fades_refl, fades_append, stated_aged, acknowledged_aged, fades_kept, fades_mapped, fades_filtered}
 use Rattle.cluster_safe.proofs.Amounts.{covers_is}
 use Rattle.cluster_safe.proofs.Commands.{drop_get, get_length, ordered_drop, ends_faded, ends_take_more}
 use Rattle.cluster_safe.proofs.States.{Follows, ok_followed, follows_reopened, report_ok, fronts_ok, front_at_ok, applied_ok, DraftOk, follows_refl, retold_past, draft_retold}
@@ -71,7 +74,6 @@ facts_retold : (p : Past) (l : InRun) (run : ℕ) → Facts p l → l.draft ≡ 
 facts_retold p l run f none le most = record {
   past = past_retold p l.agent.session run f.past (rw s.told le) most;
   run = f.run;
-  begun = f.begun;
   unsent = f.unsent;
   when_open = λ e. let o = f.when_open e in record { session = o.session; told = peak_same ∙ o.told; issued = o.issued; known = o.known; torn = o.torn; covered = o.covered };
   when_shut = λ e. let o = f.when_shut e in record { offers = o.offers; booked = o.booked; closed = rw peak_same o.closed };
@@ -132,8 +134,19 @@ draft_executor p l key state f =
 pub coming_next : (p : Past) (a : Agent) (w : Command) → a.in_session ≡ true → slice_get (p.ever a.session) a.applied ≡ Some w → coming p a ≡ launches (w ∷ drop (suc a.applied) (p.ever a.session))
 coming_next p a w up at_place = rw up (ap launches (drop_get (p.ever a.session) a.applied w at_place))
 
-fades_command : (p : Past) (a : Agent) (w : Command) → a.in_session ≡ true → slice_get (p.ever a.session) a.applied ≡ Some w → Fades (stakes p (after_command a w)) (stakes p a)
-fades_command p a w up at_place = rw (coming_next p a w up at_place) (rw up (by_kind w))
+-- what may still come has a key behind those of the tasks before it
+all_before : (ts : List RecordedTask) (s : Stake) (more : List Stake) → s.comes ≡ true → InOrder (map task_stake ts ++ s ∷ more) → Each (λ t. Less t.job.key s.job.key) ts
+all_before [] s more c h = tt
+all_before (t ∷ ts) s more c h = ((each_right (λ u. u.comes ≡ true → Less t.job.key u.job.key) (map task_stake ts) (s ∷ more) h.0).0 c, all_before ts s more c h.1)
+
+-- so the next launch has a key behind those of the record
+pub next_is_later : (p : Past) (next : Numbered) (total : List Row) (a : Agent) (job : Job) (offers : List Numbered) → StateOk p next total a → a.in_session ≡ true → slice_get (p.ever a.session) a.applied ≡ Some (Launch job offers) → Each (λ t. Less t.job.key job.key) a.tasks
+next_is_later p next total a job offers s up at_place =
+    all_before a.tasks (record { job = job; ended = false; states = []; comes = true }) (launches (drop (suc a.applied) (p.ever a.session))) refl
+    (subst (λ ss. InOrder (map task_stake a.tasks ++ ss)) (coming_next p a (Launch job offers) up at_place) s.order)
+
+fades_command : (p : Past) (next : Numbered) (total : List Row) (a : Agent) (w : Command) → StateOk p next total a → a.in_session ≡ true → slice_get (p.ever a.session) a.applied ≡ Some w → Fades (stakes p (after_command a w)) (stakes p a)
+fades_command p next total a w s up at_place = rw (coming_next p a w up at_place) (rw up (by_kind w at_place))
   where
     rest : List Command
     rest = drop (suc a.applied) (p.ever a.session)
@@ -141,8 +154,8 @@ fades_command p a w up at_place = rw (coming_next p a w up at_place) (rw up (by_
     before : List Stake
     before = map task_stake a.tasks
 
-    by_kind : (v : Command) → Fades (map task_stake (tasks_after v a.tasks) ++ launches rest) (before ++ launches (v ∷ rest))
-    by_kind (Launch job offers) = subst (λ ss. Fades ss (before ++ awaited ∷ launches rest)) (sym moved)
+    by_kind : (v : Command) → slice_get (p.ever a.session) a.applied ≡ Some v → Fades (map task_stake (tasks_after v a.tasks) ++ launches rest) (before ++ launches (v ∷ rest))
+    by_kind (Launch job offers) is = subst (λ ss. Fades ss (before ++ awaited ∷ launches rest)) (sym moved)
         (fades_append before before (one ∷ launches rest) (awaited ∷ launches rest) (fades_refl before) (inl ((refl, (λ e. e), (λ e. refl), ([], refl)), fades_refl (launches rest))))
       where
         one : Stake
@@ -151,11 +164,13 @@ fades_command p a w up at_place = rw (coming_next p a w up at_place) (rw up (by_
         awaited : Stake
         awaited = record { job = job; ended = false; states = []; comes = true }
 
-        moved : map task_stake (a.tasks ++ launched_task job offers ∷ []) ++ launches rest ≡ before ++ one ∷ launches rest
-        moved = ap (λ ss. ss ++ launches rest) (map-append task_stake a.tasks (launched_task job offers ∷ [])) ∙ append_assoc before (one ∷ []) (launches rest)
-    by_kind (Kill key) = fades_append (map task_stake (map (stated key Killed) a.tasks)) before (launches rest) (launches rest) (fades_mapped (stated key Killed) (stated_aged key Killed) a.tasks) (fades_refl (launches rest))
-    by_kind (Ack key k) = fades_append (map task_stake (filter (λ t. not (is_done t.updates)) (map (acknowledged key k) a.tasks))) before (launches rest) (launches rest) (fades_kept (acknowledged key k) (λ t. not (is_done t.updates)) (acknowledged_aged key k) a.tasks) (fades_refl (launches rest))
-    by_kind (EndFramework framework) = fades_append (map task_stake (filter (λ t. not (same t.job.framework framework)) a.tasks)) before (launches rest) (launches rest) (fades_filtered (λ t. not (same t.job.framework framework)) a.tasks) (fades_refl (launches rest))
+        moved : map task_stake (put_task (launched_task job offers) a.tasks) ++ launches rest ≡ before ++ one ∷ launches rest
+        moved =
+            ap (λ ts. map task_stake ts ++ launches rest) (put_last (launched_task job offers) a.tasks (next_is_later p next total a job offers s up is))
+            ∙ (ap (λ ss. ss ++ launches rest) (map-append task_stake a.tasks (launched_task job offers ∷ [])) ∙ append_assoc before (one ∷ []) (launches rest))
+    by_kind (Kill key) is = fades_append (map task_stake (map (stated key Killed) a.tasks)) before (launches rest) (launches rest) (fades_mapped (stated key Killed) (stated_aged key Killed) a.tasks) (fades_refl (launches rest))
+    by_kind (Ack key k) is = fades_append (map task_stake (filter (λ t. not (is_done t.updates)) (map (acknowledged key k) a.tasks))) before (launches rest) (launches rest) (fades_kept (acknowledged key k) (λ t. not (is_done t.updates)) (acknowledged_aged key k) a.tasks) (fades_refl (launches rest))
+    by_kind (EndFramework framework) is = fades_append (map task_stake (filter (λ t. not (same t.job.framework framework)) a.tasks)) before (launches rest) (launches rest) (fades_filtered (λ t. not (same t.job.framework framework)) a.tasks) (fades_refl (launches rest))
 
 none_of_framework : (framework : Numbered) (ts : List RecordedTask) → NotOf framework (map task_stake (filter (λ t. not (same t.job.framework framework)) ts))
 none_of_framework framework [] = tt
@@ -189,7 +204,7 @@ draft_command p l w f up peak at_place =
     s = f.states.0
 
     fol : Follows p after l.agent
-    fol = record { session = le_refl l.agent.session; owns = λ name. le_refl (amount name l.agent.total); same = λ e. refl; fades = fades_command p l.agent w up at_place }
+    fol = record { session = le_refl l.agent.session; owns = λ name. le_refl (amount name l.agent.total); same = λ e. refl; fades = fades_command p l.next_key l.total l.agent w s up at_place }
 
     ok : StateOk p l.next_key l.total after
     ok = ok_followed p l.next_key l.total after l.agent fol s s.told (λ e. get_length (p.ever l.agent.session) l.agent.applied w at_place)
@@ -230,12 +245,15 @@ pub next_ok : (p : Past) (l : InRun) (c : Cause) → Facts p l → l.draft ≡ N
 next_ok p l (Start total) f none h = all_if (eqb l.agent.run 0) (Err OldSession) (starts l.agent total) (Draftable p.sent l)
     (λ e. tt) (λ e. starts_ok (Draftable p.sent l) l.agent total (again_ok p l l.agent.total f none (λ name. le_refl (amount name l.agent.total))) (λ more c. again_ok p l more f none (covers_is more l.agent.total c)))
 next_ok p l Again f none h = draft_same p l (fronts l.agent) f (fronts_ok p l.next_key l.total l.agent f.states.0)
-next_ok p l (Executor key state) f none h =
+next_ok p l (Executor key reported) f none h =
     all_if (not (list_any (is_task key) l.agent.tasks)) (Err NoSuchTask) third (Draftable p.sent l) (λ e. tt)
     (λ e. all_if (list_any (λ t. is_task key t && has_ended t) l.agent.tasks) (Err Ended) second (Draftable p.sent l) (λ d. tt)
     (λ d. all_if (needs_place state && list_any (λ t. is_task key t && is_full t.updates) l.agent.tasks) (Err UpdatesFull) first (Draftable p.sent l) (λ c. tt)
     (λ c. draft_executor p l key state f)))
   where
+    state : TaskState
+    state = task_state reported
+
     first : Result Draft AgentRefusal
     first = Ok (record { after = with_tasks l.agent (map (stated key state) l.agent.tasks) l.agent.applied; mails = if l.agent.in_session then front_at key (with_tasks l.agent (map (stated key state) l.agent.tasks) l.agent.applied) else [] })
 
@@ -251,7 +269,7 @@ pub mail_ok : (p : Past) (l : InRun) (m : MasterMail) → Facts p l → l.draft 
 mail_ok p l (Hello run dead) f none h =
     all_if (nat_lt run l.agent.run) (Err OldSession) later (Draftable p.sent l) (λ e. tt)
     (λ e. all_if ((nat_lt l.agent.run run || nat_le l.agent.session dead) || not l.agent.in_session) (opens_next l.agent (max l.agent.session dead) run) (Ok (reports l.agent)) (Draftable p.sent l)
-    (λ d. reopen_ok p l l.agent.total (max l.agent.session dead) run f none (λ name. le_refl (amount name l.agent.total)) (omega arith) (let k : l.agent.run ≤ run = grind (arith, nat_tests) in k) h.0)
+    (λ d. reopen_ok p l l.agent.total (max l.agent.session dead) run f none (λ name. le_refl (amount name l.agent.total)) (omega arith) (let k : l.agent.run ≤ run = grind (arith, nat_tests) in k) h)
     (λ d. (p, f, draft_retold p l.next_key l.total l.agent f.past f.states.0, refl)))
   where
     later : Result Draft AgentRefusal

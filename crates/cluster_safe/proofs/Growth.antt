@@ -16,12 +16,14 @@ use Rattle.mails.specs.declared.mail.MasterMail.TheVariants.{Hello, Issued}
 use Rattle.mails.specs.declared.mail.AgentMail.TheVariants.{Applied}
 use Rattle.mails.specs.declared.cause.Cause.{Cause}
 use Rattle.mails.specs.declared.cause.Cause.TheVariants.{Start, Mail, Executor, Again}
+use Rattle.mails.specs.Causes.{task_state}
 use Rattle.mails.specs.declared.refusal.AgentRefusal.{AgentRefusal}
 use Rattle.mails.specs.declared.refusal.AgentRefusal.TheVariants.{NotForMe, OldSession, NotNext, NoSuchTask, Ended, NoRoom, UpdatesFull, SessionsSpent}
 use Rattle.cluster_model.specs.Ids.{last_number}
 use Rattle.cluster_model.specs.Agents.{Agent, Draft, has_ended, is_task, front_at, owning, reopened, reports, opens_next, starts, stated, acknowledged, launched_task, tasks_after, with_tasks, applies, has_room, receives_mail, needs_place, executes, next_of}
 use Rattle.cluster_safe.specs.Growth.{Continues, OnlyGrow}
-use Rattle.cluster_safe.proofs.Orders.{each_append, each_map}
+use Rattle.cluster_safe.proofs.Orders.{each_map}
+use Rattle.cluster_safe.proofs.Placed.{each_put}
 use Rattle.cluster_safe.proofs.Drafts.{AllOk, all_if, starts_ok}
 
 abbrev Old : List RecordedTask → RecordedTask → Type 0
@@ -57,7 +59,7 @@ acknowledged_grows : (key : Numbered) (k : ℕ) (t : RecordedTask) → Grows t (
 acknowledged_grows key k t = cond_both (is_task key t && updates.is_front k t.updates) (record { job = t.job; offers = t.offers; updates = updates.acknowledged_one t.updates }) t (Grows t) (λ e. (refl, [], sym (append-nil t.updates.states))) (λ e. same_task t)
 
 command_grows : (w : Command) (ts : List RecordedTask) → OnlyGrow ts (tasks_after w ts)
-command_grows (Launch job offers) ts = each_append (Old ts) ts (launched_task job offers ∷ []) (kept ts) (inr refl, tt)
+command_grows (Launch job offers) ts = each_put (Old ts) (launched_task job offers) ts (inr refl) (kept ts)
 command_grows (Kill key) ts = mapped (stated key Killed) (stated_grows key Killed) ts
 command_grows (Ack key k) ts = filtered (Old ts) (λ t. not (updates.is_done t.updates)) (map (acknowledged key k) ts) (mapped (acknowledged key k) (acknowledged_grows key k) ts)
 command_grows (EndFramework framework) ts = filtered (Old ts) (λ t. not (same t.job.framework framework)) ts (kept ts)
@@ -109,7 +111,7 @@ next_grows a (Start total) = all_if (a.durable.run == 0) (Err OldSession) (start
     (λ e. starts_ok (DraftGrows a) a total (opens_grows a a.durable.session a.durable.run) (λ more c. opens_grows (owning more a) a.durable.session a.durable.run))
 next_grows a Again = kept a.durable.tasks
 next_grows a (Mail to) = all_if (bytes_eq to.agent a.durable.name) (receives_mail a to.mail) (Err NotForMe) (DraftGrows a) (λ e. mail_grows a to.mail) (λ e. tt)
-next_grows a (Executor key state) = executes_grows a key state
+next_grows a (Executor key state) = executes_grows a key (task_state state)
 
 pub draft_grows : (a : Agent) (cause : Cause) (d : Draft) → next_of a cause ≡ Ok d → OnlyGrow a.durable.tasks d.after.durable.tasks
 draft_grows a cause d e = subst (AllOk (DraftGrows a)) e (next_grows a cause)

@@ -19,6 +19,7 @@ use Rattle.mails.specs.declared.refusal.AgentRefusal.{AgentRefusal}
 use Rattle.mails.specs.declared.refusal.MasterRefusal.{MasterRefusal}
 use Rattle.mails.specs.declared.call.Call.{Call}
 use Rattle.mails.specs.declared.cause.Cause.TheVariants.{Start, Executor, Again}
+use Rattle.mails.specs.Causes.{task_state}
 use Rattle.mails.specs.declared.refusal.AgentRefusal.TheVariants.{NotForMe, OldSession, NoSuchTask, Ended, NoRoom, UpdatesFull, SessionsSpent, TotalLess}
 use Rattle.stream_core.specs.Updates.{is_full}
 use Rattle.cluster_model.specs.Ids.{last_number, last_run}
@@ -257,7 +258,7 @@ draws_mail_legal A T S c x (Some (Down agent place)) h = by_test A T S c (bytes_
 prepares_legal : (A : Numbered → ℕ → Type 0) (T : List ℕ → Numbered → ℕ → TaskState → Type 0) (S : Option Numbered → Call → Type 0) (c : Cluster) (cause : StepCause) (x : Channel) → Roomy x → Legal A T S c (prepares c cause x)
 prepares_legal A T S c (ByStart total) x h = drafts_legal A T S c x (Draw (Start total)) (next_of x.agent (Start total)) (room_if (x.agent.run == 0) (Err OldSession) (starts x.agent total) tt (starts_room x.agent total))
 prepares_legal A T S c ByAgain x h = drafts_legal A T S c x (Draw Again) (next_of x.agent Again) tt
-prepares_legal A T S c (ByExecutor key state) x h = drafts_legal A T S c x (Draw (Executor key state)) (next_of x.agent (Executor key state)) (executes_room x.agent key state)
+prepares_legal A T S c (ByExecutor key state) x h = drafts_legal A T S c x (Draw (Executor key state)) (next_of x.agent (Executor key state)) (executes_room x.agent key (task_state state))
 prepares_legal A T S c (ByMail number) x h = draws_mail_legal A T S c x (post_at c number) h
 
 by_draft_legal : (A : Numbered → ℕ → Type 0) (T : List ℕ → Numbered → ℕ → TaskState → Type 0) (S : Option Numbered → Call → Type 0) (c : Cluster) (d : Option Draft) (without with_one : Result Done ClusterFault) → Legal A T S c without → Legal A T S c with_one → Legal A T S c (by_draft d without with_one)
@@ -629,8 +630,10 @@ history_acknowledged setup records steps good = each_both (ChannelOk records h.s
     all : HistoryOk records (open_world setup.run records) (history setup records steps)
     all = history_ok setup records steps good
 
-pub history_premises : (setup : Setup) (records : List Durable) (steps : List Marked) → GoodOpening setup.run records → Each MeetsPremises (history setup records steps).state.world.channels
-history_premises setup records steps good = all_premises (updates_in (open_world setup.run records) (history setup records steps).happenings) (history setup records steps).state.world (history_ok setup records steps good).sent.world
+pub history_premises : (setup : Setup) (records : List Durable) (steps : List Marked) → GoodOpening setup.run records → Each (MeetsPremises (history setup records steps).state.world.channels) (history setup records steps).state.world.channels
+history_premises setup records steps good =
+    let ok = history_ok setup records steps good in
+    all_premises (updates_in (open_world setup.run records) (history setup records steps).happenings) records (trail (history setup records steps).happenings (open_world setup.run records) []) (history setup records steps).state.world ok.sent.world ok.origin
 
 -- updates have the states of their numbers
 

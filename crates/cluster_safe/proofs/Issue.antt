@@ -178,7 +178,6 @@ pub facts_issued : (p : Past) (l : InRun) (w : Command) (next : Numbered) (torn 
 facts_issued p l w next torn f c = record {
   past = past_issued p l w next torn f.past c;
   run = f.run;
-  begun = f.begun;
   unsent = λ key le. f.unsent key (upto_trans l.next_key next key c.later le);
   when_open = λ e. record {
     session = o.session;

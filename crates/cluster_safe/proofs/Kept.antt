@@ -94,7 +94,6 @@ kept_next_offer {sent} l next k = (
   record {
     past = k.1.past;
     run = k.1.run;
-    begun = k.1.begun;
     unsent = k.1.unsent;
     when_open = λ e. let o = k.1.when_open e in record { session = o.session; told = o.told; issued = o.issued; known = o.known; torn = o.torn; covered = o.covered };
     when_shut = λ e. let o = k.1.when_shut e in record { offers = o.offers; booked = o.booked; closed = o.closed };

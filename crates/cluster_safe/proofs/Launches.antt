@@ -21,6 +21,7 @@ use Rattle.mails.specs.declared.record.RecordedTask.{RecordedTask}
 use Rattle.mails.specs.declared.record.Durable.{Durable}
 use Rattle.mails.specs.declared.cause.Cause.{Cause}
 use Rattle.mails.specs.declared.cause.Cause.TheVariants.{Start, Mail, Executor, Again}
+use Rattle.mails.specs.Causes.{task_state}
 use Rattle.mails.specs.declared.refusal.AgentRefusal.{AgentRefusal}
 use Rattle.mails.specs.declared.refusal.AgentRefusal.TheVariants.{OldSession, NotNext, NoSuchTask, Ended, NoRoom, UpdatesFull, SessionsSpent}
 use Rattle.cluster_model.specs.Ids.{following, is_among, is_empty, is_repeated, last_number}
@@ -30,6 +31,7 @@ use Rattle.cluster_model.specs.Channels.{Channel, AgentStep, Draw, DrawMail, Ado
 use Rattle.cluster_safe.specs.Facts.{Less}
 use Rattle.cluster_safe.specs.Origin.{Mark, launched, marks_by}
 use Rattle.cluster_safe.proofs.Ids.{same_is}
+use Rattle.cluster_safe.proofs.Placed.{each_put}
 use Rattle.cluster_safe.proofs.Orders.{each_append, each_map, each_at}
 use Rattle.cluster_safe.proofs.Drafts.{both_true, AllOk, all_if, starts_ok}
 use Rattle.cluster_safe.proofs.Told.{drafts_of, agents_of}
@@ -105,7 +107,7 @@ acknowledged_from : (n : ℕ) (key : Numbered) (k : ℕ) (t : RecordedTask) → 
 acknowledged_from n key k t h = cond_both (is_task key t && is_front k t.updates) (record { job = t.job; offers = t.offers; updates = acknowledged_one t.updates }) t (TaskFrom n) (λ e. h) (λ e. h)
 
 after_from : (n : ℕ) (w : Command) (ts : List RecordedTask) → CommandFrom n w → Each (TaskFrom n) ts → Each (TaskFrom n) (tasks_after w ts)
-after_from n (Launch job offers) ts c h = each_append (TaskFrom n) ts (launched_task job offers ∷ []) h (c, tt)
+after_from n (Launch job offers) ts c h = each_put (TaskFrom n) (launched_task job offers) ts c h
 after_from n (Kill key) ts c h = each_mapped (TaskFrom n) (stated key Killed) (stated_from n key Killed) ts h
 after_from n (Ack key k) ts c h = each_filter (TaskFrom n) (λ t. not (is_done t.updates)) (map (acknowledged key k) ts) (each_mapped (TaskFrom n) (acknowledged key k) (acknowledged_from n key k) ts h)
 after_from n (EndFramework framework) ts c h = each_filter (TaskFrom n) (λ t. not (same t.job.framework framework)) ts h
@@ -162,7 +164,7 @@ draw_from n c (Start total) h = drawn_from n c c.draft (next_of c.agent (Start t
     (λ e. starts_ok (DraftFrom n) c.agent total (opens_from n c.agent c.agent.session c.agent.run h.states.0) (λ more x. opens_from n (owning more c.agent) c.agent.session c.agent.run h.states.0)))
 draw_from n c Again h = drawn_from n c c.draft (next_of c.agent Again) h h.states.0
 draw_from n c (Mail to) h = h
-draw_from n c (Executor key state) h = drawn_from n c c.draft (next_of c.agent (Executor key state)) h (executes_from n c.agent key state h.states.0)
+draw_from n c (Executor key state) h = drawn_from n c c.draft (next_of c.agent (Executor key state)) h (executes_from n c.agent key (task_state state) h.states.0)
 
 draw_mail_from : (n : ℕ) (c : Channel) (o : Option MasterMail) → ((m : MasterMail) → o ≡ Some m → MailFrom n m) → ChannelFrom n c → ChannelFrom n (drawn_mail c o)
 draw_mail_from n c None x h = h

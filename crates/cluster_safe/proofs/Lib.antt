@@ -1,5 +1,6 @@
 pub mod Ids
 pub mod Orders
+pub mod Placed
 pub mod Amounts
 pub mod Commands
 pub mod States

@@ -35,7 +35,6 @@ pub facts_offers : (p : Past) (l : InRun) (os : List Offer) → Facts p l → (l
 facts_offers p l os f h = record {
   past = f.past;
   run = f.run;
-  begun = f.begun;
   unsent = f.unsent;
   when_open = λ e. let o = f.when_open e in record { session = o.session; told = o.told; issued = o.issued; known = o.known; torn = o.torn; covered = o.covered };
   when_shut = λ e. let o = f.when_shut e in record { offers = h e; booked = o.booked; closed = o.closed };
@@ -49,7 +48,6 @@ pub facts_booked : (p : Past) (l : InRun) (bs : List Booked) (waiting : List Com
 facts_booked p l bs waiting known f is le at h = record {
   past = f.past;
   run = f.run;
-  begun = f.begun;
   unsent = f.unsent;
   when_open = λ e. let o = f.when_open e in record { session = o.session; told = o.told; issued = at; known = le; torn = o.torn; covered = h };
   when_shut = λ e. absurd (differ e is);
@@ -66,7 +64,6 @@ pub facts_torn : (p : Past) (l : InRun) (framework : Numbered) → Facts p l →
 facts_torn p l framework f = record {
   past = f.past;
   run = f.run;
-  begun = f.begun;
   unsent = f.unsent;
   when_open = λ e. let o = f.when_open e in record { session = o.session; told = o.told; issued = o.issued; known = o.known; torn = ends_torn_wider framework l.torn (p.ever p.peak) o.torn; covered = o.covered };
   when_shut = λ e. let o = f.when_shut e in record { offers = o.offers; booked = o.booked; closed = o.closed };
@@ -84,18 +81,17 @@ pub facts_helloed : (p : Past) (l : InRun) → Facts p l → Facts (helloed_past
 facts_helloed p l f = record {
   past = record { none = f.past.none; ordered = f.past.ordered; rises = f.past.rises; runs = λ s. le_trans (f.past.runs s) f.run };
   run = le_refl l.number;
-  begun = f.begun;
   unsent = f.unsent;
   when_open = λ e. let o = f.when_open e in record { session = o.session; told = o.told; issued = o.issued; known = o.known; torn = o.torn; covered = o.covered };
   when_shut = λ e. let o = f.when_shut e in record { offers = o.offers; booked = o.booked; closed = o.closed };
   states = each_map (StateOk p l.next_key l.total) (StateOk (helloed_past p l.number) l.next_key l.total) (λ a s. record { owns = s.owns; told = s.told; peak = s.peak; applied = s.applied; distinct = s.distinct; order = s.order; below = s.below; room = s.room; ends = s.ends; grown = s.grown }) (states_of l) f.states;
-  downs = each_append (DownOk (helloed_past p l.number)) l.to_agent (Hello l.number l.closed ∷ []) (each_map (DownOk p) (DownOk (helloed_past p l.number)) down l.to_agent f.downs) ((le_refl l.number, f.begun), tt);
+  downs = each_append (DownOk (helloed_past p l.number)) l.to_agent (Hello l.number l.closed ∷ []) (each_map (DownOk p) (DownOk (helloed_past p l.number)) down l.to_agent f.downs) (le_refl l.number, tt);
   ups = each_map (UpOk p l.next_key (states_of l)) (UpOk (helloed_past p l.number) l.next_key (states_of l)) (up (states_of l)) l.to_master f.ups;
   pending = each_map (UpOk p l.next_key (drafted l.draft)) (UpOk (helloed_past p l.number) l.next_key (drafted l.draft)) (up (drafted l.draft)) (mails_of l.draft) f.pending;
 }
   where
     down : (m : MasterMail) → DownOk p m → DownOk (helloed_past p l.number) m
-    down (Hello run dead) h = (le_trans h.0 f.run, h.1)
+    down (Hello run dead) h = le_trans h f.run
     down (Issued session number what) h = h
 
     up : (ags : List Agent) (m : AgentMail) → UpOk p l.next_key ags m → UpOk (helloed_past p l.number) l.next_key ags m
@@ -115,7 +111,6 @@ pub facts_lost : (p : Past) (l : InRun) → Facts p l → l.is_open ≡ true →
 facts_lost p l f is = record {
   past = f.past;
   run = f.run;
-  begun = f.begun;
   unsent = f.unsent;
   when_open = λ (e : false ≡ true). absurd cc;
   when_shut = λ e. record { offers = refl; booked = refl; closed = inl (o.told, le_of_eq (sym o.session)) };
@@ -142,7 +137,6 @@ pub facts_new_run : (p : Past) (l : InRun) → UpTo l.next_key (first_of_run (1 
 facts_new_run p l le f = record {
   past = f.past;
   run = omega (arith, f.run);
-  begun = omega arith;
   unsent = λ key above. f.unsent key (upto_trans l.next_key (first_of_run (1 + l.number)) key le above);
   when_open = λ (e : false ≡ true). absurd cc;
   when_shut = λ e. record { offers = refl; booked = refl; closed = inr (omega (arith, f.run, f.past.runs p.peak)) };
@@ -157,7 +151,6 @@ pub facts_halted : (p : Past) (l : InRun) → Facts p l → Facts p (record { ru
 facts_halted p l f = record {
   past = f.past;
   run = f.run;
-  begun = f.begun;
   unsent = f.unsent;
   when_open = λ (e : false ≡ true). absurd cc;
   when_shut = λ e. record { offers = refl; booked = refl; closed = at_open l.is_open refl };
@@ -176,7 +169,6 @@ pub facts_resent : (p : Past) (l : InRun) → l.is_open ≡ true → Facts p l �
 facts_resent p l is f = record {
   past = f.past;
   run = f.run;
-  begun = f.begun;
   unsent = f.unsent;
   when_open = λ e. let o = f.when_open e in record { session = o.session; told = o.told; issued = o.issued; known = o.known; torn = o.torn; covered = o.covered };
   when_shut = λ e. let o = f.when_shut e in record { offers = o.offers; booked = o.booked; closed = o.closed };
@@ -226,7 +218,6 @@ pub facts_opened : (p : Past) (l : InRun) (session : ℕ) (tasks : List Booked) 
 facts_opened p l session tasks total f u lt = record {
   past = record { none = λ s g. f.past.none s (let h : session < s = g in omega (arith, above)); ordered = f.past.ordered; rises = f.past.rises; runs = f.past.runs };
   run = f.run;
-  begun = f.begun;
   unsent = f.unsent;
   when_open = λ e. record {
     session = refl;

@@ -13,6 +13,7 @@ use Rattle.mails.specs.declared.record.Durable.{Durable}
 use Rattle.mails.specs.declared.refusal.AgentRefusal.{AgentRefusal}
 use Rattle.mails.specs.declared.cause.Cause.{Cause}
 use Rattle.mails.specs.declared.cause.Cause.TheVariants.{Start, Mail, Executor, Again}
+use Rattle.mails.specs.Causes.{task_state}
 use Rattle.mails.specs.declared.refusal.AgentRefusal.TheVariants.{OldSession, NotNext, NoSuchTask, Ended, NoRoom, UpdatesFull, SessionsSpent}
 use Rattle.stream_core.specs.Updates.{is_full}
 use Rattle.cluster_model.specs.Ids.{last_number}
@@ -78,7 +79,7 @@ draw_named name c (Start total) h = drawn_named name c c.draft (next_of c.agent 
     (λ e. starts_ok (KeepsName c.agent) c.agent total (opens_name c.agent c.agent.session c.agent.run) (λ more x. opens_name (owning more c.agent) c.agent.session c.agent.run)))
 draw_named name c Again h = drawn_named name c c.draft (next_of c.agent Again) h refl
 draw_named name c (Mail to) h = h
-draw_named name c (Executor key state) h = drawn_named name c c.draft (next_of c.agent (Executor key state)) h (executes_name c.agent key state)
+draw_named name c (Executor key state) h = drawn_named name c c.draft (next_of c.agent (Executor key state)) h (executes_name c.agent key (task_state state))
 
 draw_mail_named : (name : List ℕ) (c : Channel) (o : Option MasterMail) → NamedAs name c → NamedAs name (drawn_mail c o)
 draw_mail_named name c None h = h

@@ -1,5 +1,5 @@
 -- A good opening has the facts.
-use Rattle.std.proofs.Common.{◌≡◌, ℕ, zero-le, le_refl, true, false, List, [], ◌∷◌, ◌++◌, map, refl, sym, subst, inr, arith, append-nil, le_of_lt}
+use Rattle.std.proofs.Common.{◌≡◌, ℕ, zero-le, le_refl, true, false, List, [], ◌∷◌, ◌++◌, map, refl, sym, subst, inr, append-nil, le_of_lt}
 use Rattle.std.specs.List.{AllByRecursion as Each}
 use Rattle.mails.specs.declared.record.Durable.{Durable}
 use Rattle.mails.specs.declared.record.RecordedTask.{RecordedTask}
@@ -27,7 +27,6 @@ kept_opening o run g = (
   record {
     past = record { none = λ s lt. refl; ordered = λ s. tt; rises = λ s u le. le_refl o.run; runs = λ s. le_of_lt g.later };
     run = le_refl run;
-    begun = omega (arith, g.later);
     unsent = λ key le. refl;
     when_open = λ (e : false ≡ true). absurd cc;
     when_shut = λ e. record { offers = refl; booked = refl; closed = inr g.later };

@@ -18,6 +18,7 @@ use Rattle.mails.specs.declared.mail.MasterMail.{MasterMail}
 use Rattle.mails.specs.declared.mail.MasterMail.TheVariants.{Hello, Issued}
 use Rattle.mails.specs.declared.cause.Cause.{Cause}
 use Rattle.mails.specs.declared.cause.Cause.TheVariants.{Start, Mail, Executor, Again}
+use Rattle.mails.specs.Causes.{task_state}
 use Rattle.mails.specs.declared.refusal.AgentRefusal.{AgentRefusal}
 use Rattle.mails.specs.declared.refusal.AgentRefusal.TheVariants.{OldSession, NotNext, NoSuchTask, Ended, NoRoom, UpdatesFull, SessionsSpent}
 use Rattle.cluster_model.specs.Ids.{last_number}
@@ -111,7 +112,6 @@ facts_renewed : (p : Past) (l : InRun) (new : Numbered → List TaskState) → F
 facts_renewed p l new f grown unsent = record {
   past = record { none = f.past.none; ordered = f.past.ordered; rises = f.past.rises; runs = f.past.runs };
   run = f.run;
-  begun = f.begun;
   unsent = unsent;
   when_open = λ e. let o = f.when_open e in record { session = o.session; told = o.told; issued = o.issued; known = o.known; torn = o.torn; covered = o.covered };
   when_shut = λ e. let o = f.when_shut e in record { offers = o.offers; booked = o.booked; closed = o.closed };
@@ -346,7 +346,7 @@ draw_mails u c (Start total) h = drawn_mails u c c.draft (next_of c.agent (Start
     (λ e. starts_ok DraftIn c.agent total (opens_in c.agent c.agent.durable.session c.agent.durable.run) (λ more x. opens_in (owning more c.agent) c.agent.durable.session c.agent.durable.run))) h
 draw_mails u c Again h = drawn_mails u c c.draft (next_of c.agent Again) (fronts_in c.agent) h
 draw_mails u c (Mail to) h = h
-draw_mails u c (Executor key state) h = drawn_mails u c c.draft (next_of c.agent (Executor key state)) (executes_in c.agent key state) h
+draw_mails u c (Executor key state) h = drawn_mails u c c.draft (next_of c.agent (Executor key state)) (executes_in c.agent key (task_state state)) h
 
 draw_mail_mails : (u : Numbered → List TaskState) (c : Channel) (o : Option MasterMail) → MailsOk u c → MailsOk u (drawn_mail c o)
 draw_mail_mails u c None h = h

@@ -57,7 +57,6 @@ pub facts_replaced : (p : Past) (l : InRun) (a : Agent) (d : Option Draft) (sent
 facts_replaced p l a d sent f r ok new pend = record {
   past = f.past;
   run = f.run;
-  begun = f.begun;
   unsent = f.unsent;
   when_open = λ e. let o = f.when_open e in record { session = o.session; told = o.told; issued = o.issued; known = o.known; torn = o.torn; covered = covered_replaced p l.booked (states_of l) (a ∷ drafted d) r o.covered };
   when_shut = λ e. let o = f.when_shut e in record { offers = o.offers; booked = o.booked; closed = o.closed };

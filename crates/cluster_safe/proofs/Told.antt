@@ -19,6 +19,7 @@ use Rattle.mails.specs.declared.record.RecordedTask.{RecordedTask}
 use Rattle.mails.specs.declared.refusal.AgentRefusal.{AgentRefusal}
 use Rattle.mails.specs.declared.cause.Cause.{Cause}
 use Rattle.mails.specs.declared.cause.Cause.TheVariants.{Start, Mail, Executor, Again}
+use Rattle.mails.specs.Causes.{task_state}
 use Rattle.mails.specs.declared.refusal.AgentRefusal.TheVariants.{OldSession, NotNext, NoSuchTask, Ended, NoRoom, UpdatesFull, SessionsSpent}
 use Rattle.names_core.specs.declared.state.TaskState.TheVariants.{Killed}
 use Rattle.stream_core.specs.Updates.{pushed, acknowledged_one, is_front, is_full, is_done}
@@ -27,6 +28,7 @@ use Rattle.cluster_model.specs.Agents.{Agent, Draft, has_ended, is_task, state_a
 use Rattle.cluster_model.specs.Sides.{Run, Side, Sending, sends_nothing, issue, oldest_again, accepted, may_offer, received_update, forget, forget_all, opens, opened, counts, shut, SideStep, MakeOffer, Withdraw, LaunchFrom, SendKill, SendAck, SendEnd, SendHello, SendAgain, Lose, side_step}
 use Rattle.cluster_model.specs.Channels.{Channel, AgentStep, Draw, DrawMail, Adopt, StopWithout, StopWith, drawn, drawn_mail, adopted, stopped_with, agent_step, ChannelStep, ByMaster, Receive, ByAgent, received_mail, happens}
 use Rattle.cluster_safe.proofs.Ids.{same_is}
+use Rattle.cluster_safe.proofs.Placed.{each_put}
 use Rattle.cluster_safe.proofs.Orders.{each_append, each_map, each_at}
 use Rattle.cluster_safe.proofs.Drafts.{both_true, AllOk, all_if, starts_ok}
 use Rattle.cluster_safe.proofs.Kept.{received_job}
@@ -151,7 +153,7 @@ acknowledged_told J A key k now t h = cond_both (is_task key t && is_front k t.u
         subst (λ i. A i j) (sym key_is) (subst (A key) (sym is) now)
 
 tasks_told : (J : Job → Type 0) (A : Numbered → ℕ → Type 0) (w : Command) (ts : List RecordedTask) → CommandTold J A w → Each (TaskTold J A) ts → Each (TaskTold J A) (tasks_after w ts)
-tasks_told J A (Launch job offers) ts w h = each_append (TaskTold J A) ts (launched_task job offers ∷ []) h ((w, λ j lt. absurd (omega arith)), tt)
+tasks_told J A (Launch job offers) ts w h = each_put (TaskTold J A) (launched_task job offers) ts (w, λ j lt. absurd (omega arith)) h
 tasks_told J A (Kill key) ts w h = each_mapped (TaskTold J A) (TaskTold J A) (stated key Killed) (stated_told J A key Killed) ts h
 tasks_told J A (Ack key k) ts w h = each_filter (TaskTold J A) (λ t. not (is_done t.updates)) (map (acknowledged key k) ts) (each_mapped (TaskTold J A) (TaskTold J A) (acknowledged key k) (acknowledged_told J A key k w) ts h)
 tasks_told J A (EndFramework framework) ts w h = each_filter (TaskTold J A) (λ t. not (same t.job.framework framework)) ts h
@@ -227,7 +229,7 @@ draw_told J A c (Start total) h = drawn_told J A c c.draft (next_of c.agent (Sta
     (λ e. starts_ok (DraftTold J A) c.agent total (reopened_told J A c.agent c.agent.session c.agent.run h.states.0) (λ more x. reopened_told J A (owning more c.agent) c.agent.session c.agent.run h.states.0)))
 draw_told J A c Again h = drawn_told J A c c.draft (next_of c.agent Again) h (h.states.0, fronts_told J A c.agent h.states.0)
 draw_told J A c (Mail to) h = h
-draw_told J A c (Executor key state) h = drawn_told J A c c.draft (next_of c.agent (Executor key state)) h (executes_told J A c.agent key state h.states.0)
+draw_told J A c (Executor key state) h = drawn_told J A c c.draft (next_of c.agent (Executor key state)) h (executes_told J A c.agent key (task_state state) h.states.0)
 
 draw_mail_told : (J : Job → Type 0) (A : Numbered → ℕ → Type 0) (c : Channel) (o : Option MasterMail) → ((m : MasterMail) → o ≡ Some m → DownTold J A m) → Carried J A c → Carried J A (drawn_mail c o)
 draw_mail_told J A c None x h = h

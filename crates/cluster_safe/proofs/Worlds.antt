@@ -55,7 +55,6 @@ kept_later sent run next c later k = subst (λ n. Kept sent (at n next.torn)) (s
       record {
         past = k.1.past;
         run = k.1.run;
-        begun = k.1.begun;
         unsent = λ key le. k.1.unsent key (upto_trans run.next_key next.next_key key later.key le);
         when_open = λ e. let o = k.1.when_open e in record { session = o.session; told = o.told; issued = o.issued; known = o.known; torn = o.torn; covered = o.covered };
         when_shut = λ e. let o = k.1.when_shut e in record { offers = o.offers; booked = o.booked; closed = o.closed };

@@ -150,7 +150,7 @@ pub record StateOk (p : Past) (next : Numbered) (total : List Row) (a : Agent) :
   pub grown : Each (Grown p.sent) (stakes p a)
 
 abbrev pub DownOk : Past → MasterMail → Type 0
-DownOk p (Hello run dead) = (run ≤ p.latest) × (0 < run)
+DownOk p (Hello run dead) = run ≤ p.latest
 DownOk p (Issued session number what) =
     (session ≤ p.peak) × ((m : ℕ) × (number ≡ suc m) × (slice_get (p.ever session) m ≡ Some what))
 
@@ -208,7 +208,6 @@ pub record ShutOk (p : Past) (l : InRun) : Type 0 where
 pub record Facts (p : Past) (l : InRun) : Type 0 where
   pub past : PastOk p
   pub run : p.latest ≤ l.number
-  pub begun : 0 < l.number
   pub unsent : (key : Numbered) → UpTo l.next_key key → p.sent key ≡ []
   pub when_open : l.is_open ≡ true → OpenOk p l
   pub when_shut : l.is_open ≡ false → ShutOk p l

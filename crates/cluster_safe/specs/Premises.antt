@@ -1,31 +1,25 @@
 -- What the parts may rest on of every mail that was ever sent.
-use Rattle.std.specs.Prelude.{◌≡◌, ◌<◌, ℕ, suc, List, true, slice_get, Some}
+use Rattle.std.specs.Prelude.{◌≡◌, ◌≢◌, ℕ, suc, List, true, slice_get, Some}
 use Rattle.std.specs.List.{AllByRecursion as Each}
 use Rattle.names_core.specs.Ids.{Numbered}
 use Rattle.mails.specs.declared.task.Job.{Job}
 use Rattle.mails.specs.declared.task.Booked.{Booked}
 use Rattle.quantity.specs.declared.rows.Row.{Row}
 use Rattle.mails.specs.declared.mail.Command.TheVariants.{Launch}
-use Rattle.mails.specs.declared.mail.MasterMail.TheVariants.{Hello, Issued}
+use Rattle.mails.specs.declared.mail.MasterMail.TheVariants.{Issued}
 use Rattle.mails.specs.declared.mail.AgentMail.TheVariants.{Report}
 use Rattle.cluster_model.specs.Sides.{job_rows, unended}
 use Rattle.cluster_model.specs.Channels.{Channel}
-use Rattle.cluster_safe.specs.Facts.{AtMost, Less}
+use Rattle.cluster_safe.specs.Facts.{AtMost}
 
--- the key of a Launch that is the next command of the agent's open session is after all those in
--- its record
-abbrev pub NextLaunchIsLater : Channel → Type 0
-NextLaunchIsLater c =
+-- the key of a Launch that is the next command of the agent's open session isn't in its record
+abbrev pub NextLaunchIsNew : Channel → Type 0
+NextLaunchIsNew c =
     (place session number : ℕ) (job : Job) (offers : List Numbered)
     → slice_get c.to_agent place ≡ Some (Issued session number (Launch job offers))
     → c.agent.in_session ≡ true →
     session ≡ c.agent.durable.session → number ≡ suc c.agent.applied
-    → Each (λ t. Less t.job.key job.key) c.agent.durable.tasks
-
--- a Hello names a run above 0
-abbrev pub HellosNameRuns : Channel → Type 0
-HellosNameRuns c =
-    (place run dead : ℕ) → slice_get c.to_agent place ≡ Some (Hello run dead) → 0 < run
+    → Each (λ t. t.job.key ≢ job.key) c.agent.durable.tasks
 
 -- the tasks of a Report that haven't ended fit the total that it reports
 abbrev pub ReportFits : Channel → Type 0
@@ -34,7 +28,15 @@ ReportFits c =
     → slice_get c.to_master place ≡ Some (Report session run tasks total)
     → AtMost (job_rows (unended tasks)) total
 
-pub record MeetsPremises (c : Channel) : Type 0 where
-  pub launch : NextLaunchIsLater c
-  pub hello : HellosNameRuns c
+-- no task of a Report has the key of one that is booked on another agent
+abbrev pub ReportIsApart : List Channel → Channel → Type 0
+ReportIsApart all c =
+    (place session run : ℕ) (tasks : List Booked) (total : List Row)
+    → slice_get c.to_master place ≡ Some (Report session run tasks total)
+    → Each (λ d. d.side.name ≢ c.side.name
+    → Each (λ t. Each (λ b. b.job.key ≢ t.job.key) d.side.booked) tasks) all
+
+pub record MeetsPremises (all : List Channel) (c : Channel) : Type 0 where
+  pub launch : NextLaunchIsNew c
   pub report : ReportFits c
+  pub apart : ReportIsApart all c

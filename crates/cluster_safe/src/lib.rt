@@ -124,12 +124,13 @@ pub fn found_records_open_again()
         → GoodOpening later found }
 {}
 
-/// Of every mail ever sent: a Launch that is next has a key after all those of its agent's record,
-/// a Hello names a run above 0, and the tasks of a Report that haven't ended fit its total.
+/// Of every mail ever sent: the key of a Launch that is next isn't in its agent's record, the tasks
+/// of a Report that haven't ended fit its total, and none of its tasks is booked on another agent.
 pub fn mails_meet_their_premises()
     ensures { (setup : Setup) (records : List Durable) (steps : List Marked)
         → GoodOpening setup.run records
-        → Each MeetsPremises (history setup records steps).state.world.channels }
+        → Each (MeetsPremises (history setup records steps).state.world.channels)
+        (history setup records steps).state.world.channels }
 {}
 
 /// The master of a cluster after a step, and the mails of the entry,

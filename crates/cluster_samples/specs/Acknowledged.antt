@@ -8,6 +8,7 @@ use Rattle.mails.specs.declared.record.Durable.{Durable}
 use Rattle.cluster_model.specs.Events.{Subscribed, Offers, update_event}
 use Rattle.cluster_steps.specs.declared.step.Step.{Step}
 use Rattle.cluster_steps.specs.declared.step.Step.TheVariants.{Send, Deliver, Allocate, Prepare, Commit}
+use Rattle.mails.specs.declared.cause.ExecutorState.TheVariants as executors
 use Rattle.cluster_steps.specs.declared.step.StepCause.TheVariants.{Executor as ByExecutor, Mail as ByMail}
 use Rattle.cluster_steps.specs.declared.verdict.Verdict.TheVariants.{Ok as Fine}
 use Rattle.cluster_steps.specs.declared.verdict.Sent.TheVariants.{Call as CallSent}
@@ -44,12 +45,12 @@ steps = Prepare n_a1 (ByMail 1) ∷
     Prepare n_a1 (ByMail 5) ∷
     Commit n_a1 ∷
     Deliver 6 ∷
-    Prepare n_a1 (ByExecutor (id 1 1) Running) ∷
+    Prepare n_a1 (ByExecutor (id 1 1) executors.Running) ∷
     Commit n_a1 ∷
     Deliver 7 ∷
     Send (Some (id 1 1)) (calls.Acknowledge (id 1 1) n_a1 n_t1 (uuid (id 1 1) 1)) ∷
     Deliver 8 ∷
-    Prepare n_a1 (ByExecutor (id 1 1) Finished) ∷
+    Prepare n_a1 (ByExecutor (id 1 1) executors.Finished) ∷
     Commit n_a1 ∷
     Deliver 9 ∷
     Send (Some (id 1 1)) (calls.Acknowledge (id 1 1) n_a1 n_t1 (uuid (id 1 1) 0)) ∷

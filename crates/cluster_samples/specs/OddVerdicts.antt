@@ -1,6 +1,6 @@
 -- Refusals of agent and master, a failover, two roles, a second name, and tasks of a framework that was torn down.
 use Rattle.std.specs.Prelude.{ℕ, List, [], ◌∷◌, Some, None, true, false}
-use Rattle.names_core.specs.declared.state.TaskState.TheVariants.{Staging, Running, Failed, Lost, Error}
+use Rattle.names_core.specs.declared.state.TaskState.TheVariants.{Staging, Failed, Lost, Error}
 use Rattle.mails.specs.declared.mail.Command.TheVariants.{Launch, EndFramework}
 use Rattle.mails.specs.declared.mail.MasterMail.TheVariants.{Hello, Issued}
 use Rattle.mails.specs.declared.mail.AgentMail.TheVariants.{Report, Applied, Update}
@@ -8,6 +8,7 @@ use Rattle.mails.specs.declared.record.Durable.{Durable}
 use Rattle.cluster_model.specs.Events.{Subscribed, Offers, update_event, failover_error, removal_error, Heartbeat}
 use Rattle.cluster_steps.specs.declared.step.Step.{Step}
 use Rattle.cluster_steps.specs.declared.step.Step.TheVariants.{Send, Deliver, Allocate, Tick, HangUp, Prepare, Commit, Take}
+use Rattle.mails.specs.declared.cause.ExecutorState.TheVariants as executors
 use Rattle.cluster_steps.specs.declared.step.StepCause.TheVariants.{Start as ByStart, Executor as ByExecutor, Mail as ByMail}
 use Rattle.cluster_steps.specs.declared.fault.ClusterFault.TheVariants.{NoDraft}
 use Rattle.cluster_steps.specs.declared.verdict.Verdict.TheVariants.{Ok as Fine, MasterRefused, AgentRefused}
@@ -76,12 +77,12 @@ steps = Prepare n_a1 (ByStart None) ∷
     Commit n_a1 ∷
     Prepare n_a1 (ByMail 9) ∷
     Commit n_a1 ∷
-    Prepare n_a1 (ByExecutor (id 1 9) Running) ∷
+    Prepare n_a1 (ByExecutor (id 1 9) executors.Running) ∷
     Commit n_a1 ∷
-    Prepare n_a1 (ByExecutor (id 1 1) Failed) ∷
+    Prepare n_a1 (ByExecutor (id 1 1) executors.Failed) ∷
     Commit n_a1 ∷
     Deliver 13 ∷
-    Prepare n_a1 (ByExecutor (id 1 1) Running) ∷
+    Prepare n_a1 (ByExecutor (id 1 1) executors.Running) ∷
     Commit n_a1 ∷
     Send (Some (id 1 2)) (calls.Kill (id 1 2) n_t1 None) ∷
     Deliver 14 ∷

@@ -8,6 +8,7 @@ use Rattle.mails.specs.declared.record.Durable.{Durable}
 use Rattle.cluster_model.specs.Events.{Subscribed, Offers}
 use Rattle.cluster_steps.specs.declared.step.Step.{Step}
 use Rattle.cluster_steps.specs.declared.step.Step.TheVariants.{Send, Deliver, Allocate, Prepare, Commit, StopMaster}
+use Rattle.mails.specs.declared.cause.ExecutorState.TheVariants as executors
 use Rattle.cluster_steps.specs.declared.step.StepCause.TheVariants.{Start as ByStart, Executor as ByExecutor, Mail as ByMail}
 use Rattle.cluster_steps.specs.declared.verdict.Verdict.TheVariants.{Ok as Fine, MasterRefused}
 use Rattle.cluster_steps.specs.declared.verdict.Sent.TheVariants.{Call as CallSent}
@@ -56,7 +57,7 @@ steps = Prepare n_a1 (ByMail 1) ∷
     Commit n_a1 ∷
     Prepare n_a1 (ByStart None) ∷
     Commit n_a1 ∷
-    Prepare n_a1 (ByExecutor (id 1 1) Running) ∷
+    Prepare n_a1 (ByExecutor (id 1 1) executors.Running) ∷
     Commit n_a1 ∷
     Deliver 12 ∷
     Deliver 11 ∷

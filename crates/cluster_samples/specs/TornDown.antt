@@ -8,6 +8,7 @@ use Rattle.mails.specs.declared.record.Durable.{Durable}
 use Rattle.cluster_model.specs.Events.{Subscribed, Offers, update_event}
 use Rattle.cluster_steps.specs.declared.step.Step.{Step}
 use Rattle.cluster_steps.specs.declared.step.Step.TheVariants.{Send, Deliver, Allocate, Prepare, Commit}
+use Rattle.mails.specs.declared.cause.ExecutorState.TheVariants as executors
 use Rattle.cluster_steps.specs.declared.step.StepCause.TheVariants.{Executor as ByExecutor, Mail as ByMail}
 use Rattle.cluster_steps.specs.declared.verdict.Verdict.TheVariants.{Ok as Fine}
 use Rattle.cluster_steps.specs.declared.verdict.Sent.TheVariants.{Call as CallSent}
@@ -46,7 +47,7 @@ steps = Prepare n_a1 (ByMail 1) ∷
     Prepare n_a1 (ByMail 6) ∷
     Commit n_a1 ∷
     Deliver 7 ∷
-    Prepare n_a1 (ByExecutor (id 1 1) Running) ∷
+    Prepare n_a1 (ByExecutor (id 1 1) executors.Running) ∷
     Commit n_a1 ∷
     Deliver 8 ∷
     Send (Some (id 1 1)) (calls.Teardown (id 1 1)) ∷

@@ -33,11 +33,12 @@ ghost use Rattle.cluster_samples.specs.AgentCauses.{cpus, drafts, receives, kill
 ghost use Rattle.cluster_samples.specs.Short.{id};
 ghost use Rattle.cluster_model.specs.Agents.{next_of};
 ghost use Rattle.mails.specs.declared.cause.Cause.TheVariants.{Executor, Mail, Start};
+ghost use Rattle.mails.specs.declared.cause.ExecutorState.TheVariants as executors;
 ghost use Rattle.mails.specs.declared.mail.Command.TheVariants.{Kill, Launch};
 ghost use Rattle.mails.specs.declared.mail.MasterMail.TheVariants.{Hello, Issued};
 ghost use Rattle.mails.specs.declared.mail.AgentMail.TheVariants.{Applied, Report, Update};
 ghost use Rattle.mails.specs.declared.refusal.AgentRefusal.TheVariants.{Ended, NoRoom, NotForMe, NotNext, OldSession, TotalLess};
-ghost use Rattle.names_core.specs.declared.state.TaskState.TheVariants.{Finished, Killed};
+ghost use Rattle.names_core.specs.declared.state.TaskState.TheVariants.{Killed};
 ghost use Rattle.cluster_samples.specs.Short.{outcome, run};
 ghost use Rattle.std.specs.Prelude.{◌≡◌, [], ◌∷◌, None, Some, Err, true};
 
@@ -260,5 +261,5 @@ pub fn commands_of_an_agent()
         ≡ Err OldSession }
     ensures kill { next_of (running 1 launched 1) (receives (Issued 1 2 (Kill (id 1 1))))
         ≡ drafts (running 1 killed 2) (Applied 1 2 ∷ Update 1 (id 1 1) 0 Killed true ∷ []) }
-    ensures ended { next_of (running 1 killed 2) (Executor (id 1 1) Finished) ≡ Err Ended }
+    ensures ended { next_of (running 1 killed 2) (Executor (id 1 1) executors.Finished) ≡ Err Ended }
 {}

@@ -2,8 +2,8 @@
 
 ghost use Rattle.std.proofs.Common.{rules};
 
-use mails::Call;
-use names_core::{AgentName, LaunchKey, StreamId, TaskState};
+use mails::{Call, ExecutorState};
+use names_core::{AgentName, LaunchKey, StreamId};
 use plain_data::Plain;
 use quantity::Resources;
 use shared_value::Shared;
@@ -16,9 +16,8 @@ pub enum StepCause {
     Start(Option<Resources>),
     /// It sends again what isn't acknowledged.
     Again,
-    /// The executor of the task of this key reports a state: TASK_RUNNING,
-    /// TASK_FINISHED or TASK_FAILED.
-    Executor(LaunchKey, TaskState),
+    /// The executor of the task of this key reports a state.
+    Executor(LaunchKey, ExecutorState),
     Mail(u64),
 }
 

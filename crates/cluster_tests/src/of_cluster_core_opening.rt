@@ -2,14 +2,12 @@
 
 ghost use Rattle.std.specs.Prelude.{◌<◌};
 
-use cluster_core::{Cluster, Record, Sent, good_opening};
-use master_core::Config;
+use cluster_core::{Cluster, Config, Record, Sent, good_opening};
 use names_core::Run;
 use post_rules::EverSent;
 use record_text::record_of;
-use role_weights::Weights;
 use std::alloc::Global;
-use step_lines::read_config;
+use step_text::read_config;
 
 const AGENTS: &str = r#"{"agents":{"a":{"cpus":4},"b":{"cpus":4}}}"#;
 
@@ -84,14 +82,14 @@ fn push_record(records: &mut Vec<Record>, alloc: Global, text: &str) -> Option<(
 }
 
 fn configured(alloc: Global) -> Option<Config> {
-    Some(read_config(alloc, AGENTS.as_bytes()).ok()?.agents)
+    read_config(alloc, AGENTS.as_bytes()).ok()
 }
 
-fn is_good(alloc: Global, records: &mut [Record], run: u16) -> Option<bool>
+fn is_good(alloc: Global, records: &[Record], run: u16) -> Option<bool>
     requires { 0 < run }
 {
     let config = configured(alloc)?;
-    Some(good_opening(&config, records, Run::new(run)))
+    Some(good_opening(&config.agents, records, Run::new(run)))
 }
 
 fn push_both(records: &mut Vec<Record>, alloc: Global, first: &str, second: &str) -> Option<()> {
@@ -113,8 +111,8 @@ fn opens(alloc: Global, first: &str, second: &str, run: u16) -> Option<bool> {
     if run == 0 {
         return None;
     }
-    let mut records = both_records(alloc, first, second)?;
-    is_good(alloc, records.as_mut_slice(), run)
+    let records = both_records(alloc, first, second)?;
+    is_good(alloc, records.as_slice(), run)
 }
 
 fn is_to(sent: Option<&Sent>, name: &str) -> bool {
@@ -130,12 +128,12 @@ fn greets_a_first(cluster: &Cluster<EverSent>) -> bool {
 }
 
 /// Whether a cluster that is opened over these records sends a Hello to a, and then one to b.
-fn greets(alloc: Global, config: Config, mut records: Vec<Record>) -> bool {
+fn greets(alloc: Global, config: Config, records: Vec<Record>) -> bool {
     let run = Run::new(1);
-    if !good_opening(&config, records.as_mut_slice(), run) {
+    if !good_opening(&config.agents, records.as_slice(), run) {
         return false;
     }
-    match Cluster::<EverSent>::open(alloc, config, Weights::new(alloc), records, run) {
+    match Cluster::<EverSent>::open(alloc, config, records, run) {
         Ok(cluster) => {
             let greets = greets_a_first(&cluster);
             drop(cluster);

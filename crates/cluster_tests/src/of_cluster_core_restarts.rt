@@ -1,17 +1,17 @@
 //! A cluster that is opened over a record of run 1, one in the last run,
 //! and one whose agent goes down.
 
-ghost use Rattle.std.specs.Prelude.{◌<◌};
+ghost use Rattle.std.specs.Prelude.{◌≡◌, ◌<◌, ◌+◌, IfSome};
 
-use cluster_core::{Cluster, ClusterFault, Record, Step, Verdict, fresh_records, good_opening};
-use cluster_runs::run as run_of;
-use master_core::Config;
+use cluster_core::{
+    Cluster, ClusterFault, Config, Entry, Record, Step, Verdict, fresh_records, good_opening,
+    run as run_of,
+};
 use names_core::Run;
 use post_rules::EverSent;
 use record_text::record_of;
-use role_weights::Weights;
 use std::alloc::Global;
-use step_lines::{read_config, read_step};
+use step_text::{entry_text, opening_text, read_config, read_step, refused_text};
 
 const AGENT: &str = r#"{"agents":{"a1":{"cpus":4,"mem":4096}}}"#;
 
@@ -20,7 +20,7 @@ const RECORD: &str =
     r#"{"name":"a1","run":1,"session":1,"tasks":[{"acked":0,"framework":"F1-1","key":"L1-1","name":"t1","offers":["O1-1"],"resources":{"cpus":2,"mem":1024},"updates":[]}],"total":{"cpus":4,"mem":4096},"version":1}"#;
 
 fn one_agent(alloc: Global) -> Option<Config> {
-    Some(read_config(alloc, AGENT.as_bytes()).ok()?.agents)
+    read_config(alloc, AGENT.as_bytes()).ok()
 }
 
 /// The record of a text; none where memory was refused, or no agent can have it.
@@ -35,18 +35,18 @@ fn record(alloc: Global, text: &str) -> Option<Record> {
 fn records(alloc: Global, config: &Config, text: Option<&str>) -> Option<Vec<Record>> {
     match text {
         Some(text) => vec![in alloc; record(alloc, text)?].ok(),
-        None => fresh_records(alloc, config).ok(),
+        None => fresh_records(alloc, &config.agents).ok(),
     }
 }
 
 fn opened(
     alloc: Global,
     config: Config,
-    mut records: Vec<Record>,
+    records: Vec<Record>,
     run: Run,
 ) -> Option<Cluster<EverSent>> {
-    if good_opening(&config, records.as_mut_slice(), run) {
-        Cluster::open(alloc, config, Weights::new(alloc), records, run).ok()
+    if good_opening(&config.agents, records.as_slice(), run) {
+        Cluster::open(alloc, config, records, run).ok()
     } else {
         None
     }
@@ -126,9 +126,87 @@ const OVER_A_RECORD: [Row; 9] = [
 const SUBSCRIBE: &str =
     r#"{"step":"send","call":{"type":"SUBSCRIBE","subscribe":{"framework_info":{"user":"u","name":"n"}}}}"#;
 
+/// What is written of that cluster: of its opening, and of each of its steps.
+const WRITTEN: &str = r#"0 ok
+# 1 a1 {"hello":{"dead":0,"run":2}}
+1 ok
+2 ok
+# 2 master {"report":{"agent":"a1","run":2,"session":2,"tasks":[{"ended":false,"framework":"F1-1","key":"L1-1","name":"t1","resources":{"cpus":2,"mem":1024},"sent":0,"state":"TASK_STAGING"}],"total":{"cpus":4,"mem":4096}}}
+3 ok
+4 ok
+# 3 master SUBSCRIBE
+5 ok
+> S2-1 {"subscribed":{"framework_id":{"value":"F2-1"},"heartbeat_interval_seconds":15},"type":"SUBSCRIBED"}
+6 ok
+> S2-1 {"offers":{"offers":[{"agent_id":{"value":"a1"},"framework_id":{"value":"F2-1"},"hostname":"a1","id":{"value":"O2-1"},"resources":[{"name":"cpus","role":"*","scalar":{"value":2},"type":"SCALAR"},{"name":"mem","role":"*","scalar":{"value":3072},"type":"SCALAR"}]}]},"type":"OFFERS"}
+7 ok
+< S2-1 {"subscribed":{"framework_id":{"value":"F2-1"},"heartbeat_interval_seconds":15},"type":"SUBSCRIBED"}
+8 ok
+< S2-1 {"offers":{"offers":[{"agent_id":{"value":"a1"},"framework_id":{"value":"F2-1"},"hostname":"a1","id":{"value":"O2-1"},"resources":[{"name":"cpus","role":"*","scalar":{"value":2},"type":"SCALAR"},{"name":"mem","role":"*","scalar":{"value":3072},"type":"SCALAR"}]}]},"type":"OFFERS"}
+9 C1 NoSuchMail
+"#;
+
+/// The lines of an entry. The first call or mail that it sends has the number `first`.
+fn entry_lines(alloc: Global, number: u64, first: u64, entry: &Entry) -> Option<Vec<u8>> {
+    raised(first, entry.outputs.sent.len() as u64)?;
+    entry_text(alloc, number, first, entry).ok()
+}
+
+/// The sum of two numbers; None where it is over 2^64 - 1.
+fn raised(number: u64, more: u64) -> Option<u64>
+    ensures { IfSome result (λ sum. sum ≡ number + more) }
+{
+    number.checked_add(more)
+}
+
+/// The lines of a step, which is taken.
+fn step_lines(
+    cluster: &mut Cluster<EverSent>,
+    alloc: Global,
+    number: u64,
+    line: &str,
+) -> Option<Vec<u8>> {
+    let it = read_step(alloc, line.as_bytes()).ok()?;
+    let first = raised(cluster.sent_count() as u64, 1)?;
+    match cluster.step(alloc, it) {
+        Ok(taken) => entry_lines(alloc, number, first, taken.entry.get()),
+        Err(fault) => refused_text(alloc, number, fault).ok(),
+    }
+}
+
+/// The lines of the opening.
+fn opening_lines(cluster: &Cluster<EverSent>, alloc: Global) -> Option<Vec<u8>> {
+    let sent = cluster.opened().sent.as_slice();
+    raised(sent.len() as u64, 1)?;
+    opening_text(alloc, sent).ok()
+}
+
+/// What is written of a cluster and of these steps.
+fn written(cluster: &mut Cluster<EverSent>, alloc: Global, rows: &[Row]) -> Option<Vec<u8>> {
+    let mut text = opening_lines(cluster, alloc)?;
+    for i in 0..rows.len() {
+        let (line, _) = rows[i];
+        let lines = step_lines(cluster, alloc, i as u64 + 1, line)?;
+        text.extend_from_slice(lines.as_slice()).ok()?;
+    }
+    Some(text)
+}
+
+/// Whether this is written of a cluster over the agent's record.
+fn writes(alloc: Global, rows: &[Row], told: &str) -> bool {
+    match open(alloc, Some(RECORD), Run::new(2)) {
+        Some(mut cluster) => {
+            let text = written(&mut cluster, alloc, rows);
+            drop(cluster);
+            matches!(text, Some(text) if text.as_slice() == told.as_bytes())
+        }
+        None => false,
+    }
+}
+
 /// A cluster is opened over the record of an agent, whose task goes on.
 pub fn a_record_is_opened_over(alloc: Global) -> bool {
-    plays(alloc, Some(RECORD), Run::new(2), &OVER_A_RECORD)
+    writes(alloc, &OVER_A_RECORD, WRITTEN)
 }
 
 /// Without a master its steps are C2; a step at an agent that there isn't stays C8.
@@ -241,7 +319,7 @@ fn entries(cluster: &Cluster<EverSent>) -> usize {
 
 /// How many entries the run of a list of steps has.
 fn entries_of(alloc: Global, steps: &[Step]) -> Option<usize> {
-    match run_of(alloc, one_agent(alloc)?, Weights::new(alloc), steps) {
+    match run_of(alloc, one_agent(alloc)?, steps) {
         Ok(cluster) => {
             let count = entries(&cluster);
             drop(cluster);

@@ -2,20 +2,18 @@
 
 ghost use Rattle.std.specs.Prelude.{◌≡◌, [], IfSome};
 
-use cluster_core::{Cluster, KeptEntry, Step, fresh_agents_open, fresh_records};
+use cluster_core::{Cluster, Config, KeptEntry, Step, fresh_agents_open, fresh_records};
 use desk_lock::{Desk, Office, Pass, Passes, Recorded};
-use master_core::Config;
 use names_core::Run;
 use post_rules::Queues;
 use recorded_clusters::RecordedCluster;
-use role_weights::Weights;
 use std::alloc::Global;
 use std::marker::Brand;
 use std::sync::ledger::Blank;
 use std::sync::{Wait, ledger};
 use std::thread;
 use std::thread::Threads;
-use step_lines::{read_config, read_step};
+use step_text::{read_config, read_step};
 
 /// How much a pass saw of the history, and the numbers of its receipts.
 type Seen = (u32, Vec<u32>);
@@ -27,11 +25,7 @@ type Closed = (u32, Vec<u32>);
 type Seats = (Option<Seen>, Option<Seen>, Option<Closed>);
 
 fn one_agent(alloc: Global) -> Option<Config> {
-    Some(
-        read_config(alloc, br#"{"agents":{"a1":{"cpus":4}}}"#)
-            .ok()?
-            .agents,
-    )
+    read_config(alloc, br#"{"agents":{"a1":{"cpus":4}}}"#).ok()
 }
 
 /// The agent answers the master's Hello, which has the number 1,
@@ -169,11 +163,11 @@ fn seats_of<C: Recorded, L: ledger::Ledger>(
 fn recorded(alloc: Global, config: Config) -> Option<RecordedCluster>
     ensures { IfSome result (λ recorded. recorded.story.entries ≡ []) }
 {
-    fresh_agents_open(&config);
-    let Ok(records) = fresh_records(alloc, &config) else {
+    fresh_agents_open(&config.agents);
+    let Ok(records) = fresh_records(alloc, &config.agents) else {
         return None;
     };
-    match Cluster::<Queues>::open(alloc, config, Weights::new(alloc), records, Run::new(1)) {
+    match Cluster::<Queues>::open(alloc, config, records, Run::new(1)) {
         Ok(cluster) => Some(RecordedCluster::new(cluster)),
         Err(_) => None,
     }

@@ -26,7 +26,7 @@ serve = built_leaf serve_command.top
 
 serve_reads : Each (Reads serve.rules) serve.rules
 serve_reads =
-    ((refl, inr (refl, refl)), ((refl, inr (refl, refl)), ((refl, inr (refl, refl)), ((refl, inr (refl, refl)), ((refl, inr (refl, refl)), ((refl, inr (refl, refl)), ((refl, inr (refl, refl)), ((refl, inl refl), tt))))))))
+    ((refl, inr (refl, refl)), ((refl, inr (refl, refl)), ((refl, inr (refl, refl)), ((refl, inr (refl, refl)), ((refl, inr (refl, refl)), ((refl, inr (refl, refl)), ((refl, inr (refl, refl)), ((refl, inr (refl, refl)), ((refl, inr (refl, refl)), ((refl, inl refl), tt))))))))))
 
 -- the rows of options that `serve` takes
 serve_fits : (words : List Text) → level_fault serve [] nothing_held words false [] ≡ [] → Each (Fits serve.rules) (rows_after serve.rules [] words)
@@ -47,11 +47,11 @@ three_given false b d other e = cc
 three_given true false d other e = cc
 three_given true true false other e = cc
 
--- the values of the seven options
+-- the values of the nine options
 options_read : (rows : List Row) → Each (Fits serve.rules) rows → is_given (codes "port") rows ≡ true → is_given (codes "agents") rows ≡ true → is_given (codes "state") rows ≡ true
-    → has_row (codes "interval") rows ≡ true → has_row (codes "task-seconds") rows ≡ true → has_row (codes "conns") rows ≡ true → has_row (codes "idle-seconds") rows ≡ true
-    → (o : ServeOptions) × HasOptions rows o
-options_read rows fits port agents state interval task_seconds connections idle_seconds =
+    → has_row (codes "interval") rows ≡ true → has_row (codes "task-seconds") rows ≡ true → has_row (codes "conns") rows ≡ true → has_row (codes "idle-seconds") rows ≡ true → has_row (codes "workers") rows ≡ true
+    → has_row (codes "memory") rows ≡ true → (o : ServeOptions) × HasOptions rows o
+options_read rows fits port agents state interval task_seconds connections idle_seconds workers memory =
     let row = λ (id : Text) (has : has_row id rows ≡ true). found_fits serve.rules id rows has fits in
     let p = row (codes "port") (given_row (codes "port") rows port) in
     let a = row (codes "agents") (given_row (codes "agents") rows agents) in
@@ -60,13 +60,17 @@ options_read rows fits port agents state interval task_seconds connections idle_
     let t = row (codes "task-seconds") task_seconds in
     let c = row (codes "conns") connections in
     let d = row (codes "idle-seconds") idle_seconds in
+    let w = row (codes "workers") workers in
+    let m = row (codes "memory") memory in
     let port_is = number_given 16 1 65535 false rows (codes "port") p.0 p.1 p.2.0 p.2.1 p.2.2 (omega arith) in
     let agents_is = text_given rows (codes "agents") a.0 a.1 a.2.2 in
     let state_is = text_given rows (codes "state") s.0 s.1 s.2.2 in
     let interval_is = number_given 64 1 3600 false rows (codes "interval") i.0 i.1 i.2.0 i.2.1 i.2.2 (omega arith) in
     let task_seconds_is = number_given 64 0 86400 false rows (codes "task-seconds") t.0 t.1 t.2.0 t.2.1 t.2.2 (omega arith) in
     let connections_is = number_given 64 0 18446744073709551615 false rows (codes "conns") c.0 c.1 c.2.0 c.2.1 c.2.2 (omega arith) in
-    let idle_seconds_is = number_given 64 0 86400 false rows (codes "idle-seconds") d.0 d.1 d.2.0 d.2.1 d.2.2 (omega arith) in (
+    let idle_seconds_is = number_given 64 0 86400 false rows (codes "idle-seconds") d.0 d.1 d.2.0 d.2.1 d.2.2 (omega arith) in
+    let workers_is = number_given 32 0 8192 false rows (codes "workers") w.0 w.1 w.2.0 w.2.1 w.2.2 (omega arith) in
+    let memory_is = number_given 64 0 1048576 false rows (codes "memory") m.0 m.1 m.2.0 m.2.1 m.2.2 (omega arith) in (
       record {
         port = port_is.0;
         agents = record { ref_ptr = (0, 0); now = agents_is.0 };
@@ -75,6 +79,8 @@ options_read rows fits port agents state interval task_seconds connections idle_
         task_seconds = task_seconds_is.0;
         connections = connections_is.0;
         idle_seconds = idle_seconds_is.0;
+        workers = workers_is.0;
+        memory = memory_is.0;
       },
       record {
         port = port_is.1;
@@ -84,6 +90,8 @@ options_read rows fits port agents state interval task_seconds connections idle_
         task_seconds = task_seconds_is.1;
         connections = connections_is.1;
         idle_seconds = idle_seconds_is.1;
+        workers = workers_is.1;
+        memory = memory_is.1;
       },
     )
 
@@ -99,7 +107,8 @@ serve_taken words e =
     let given = three_given (is_given (codes "port") rows) (is_given (codes "agents") rows) (is_given (codes "state") rows) _ defaults.1 in
     options_read rows (serve_fits words e) given.0 given.1 given.2
     (default_given (codes "interval") serve.rules before refl) (default_given (codes "task-seconds") serve.rules before refl) (default_given (codes "conns") serve.rules before refl)
-    (default_given (codes "idle-seconds") serve.rules before refl)
+    (default_given (codes "idle-seconds") serve.rules before refl) (default_given (codes "workers") serve.rules before refl)
+    (default_given (codes "memory") serve.rules before refl)
 
 -- a walk through the table's own words stops at no help
 stops_at_command : (words : List Text) → walk_fault line.top (names_of line) (walk_from nothing_held) words ≡ []

@@ -41,6 +41,12 @@ connections = otherwise (codes "0") (number_in 0 18446744073709551615 (option (c
 abbrev pub idle_seconds : Rule
 idle_seconds = otherwise (codes "75") (number_in 0 86400 (option (codes "idle-seconds")))
 
+abbrev pub workers : Rule
+workers = otherwise (codes "0") (number_in 0 8192 (option (codes "workers")))
+
+abbrev pub memory : Rule
+memory = otherwise (codes "0") (number_in 0 1048576 (option (codes "memory")))
+
 -- with the options that are required
 abbrev pub with_required : App → App
 with_required a = with_rule (with_rule (with_rule a port) agents) state
@@ -48,7 +54,8 @@ with_required a = with_rule (with_rule (with_rule a port) agents) state
 -- and with those that aren't
 abbrev pub with_optional : App → App
 with_optional a =
-    with_rule (with_rule (with_rule (with_rule a interval) task_seconds) connections) idle_seconds
+    with_rule (with_rule (with_rule (with_rule (with_rule (with_rule a interval) task_seconds)
+    connections) idle_seconds) workers) memory
 
 -- the command `serve`
 abbrev pub serve_command : App
@@ -71,3 +78,5 @@ pub record HasOptions (rows : List Row) (o : ServeOptions) : Type 0 where
   pub task_seconds : HasNumber 64 rows (codes "task-seconds") o.task_seconds
   pub connections : HasNumber 64 rows (codes "conns") o.connections
   pub idle_seconds : HasNumber 64 rows (codes "idle-seconds") o.idle_seconds
+  pub workers : HasNumber 32 rows (codes "workers") o.workers
+  pub memory : HasNumber 64 rows (codes "memory") o.memory

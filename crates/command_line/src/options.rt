@@ -27,6 +27,11 @@ pub struct ServeOptions<'a> {
     /// After so many seconds without a byte a connection is at the end of its input, from 0 to
     /// 86,400; with 0 it waits for ever.
     pub idle_seconds: u64,
+    /// So many connections are served at once, from 0 to 8,192, of which a quarter are no streams;
+    /// with 0 it is 64, all of which may be streams.
+    pub workers: u32,
+    /// The server ends once it has so many MiB of memory, from 0 to 1,048,576; with 0 it doesn't.
+    pub memory: u64,
 }
 
 const SERVE_ABOUT: &str =
@@ -63,7 +68,9 @@ itself `--task-seconds` later (TASK_FINISHED); with 0 it runs until it is killed
 acknowledged.
 
 At most 64 connections are served at once, and the stream of each subscribed framework holds one; another connection waits until
-one of them ends. So have at most 63 frameworks, or no call is answered.
+one of them ends. So have at most 63 frameworks, or no call is answered. With `--workers` N at most N are served at once, and at most
+N - N / 4 of them (the quarter rounded down) may be streams: a SUBSCRIBE over that is answered 503 (H10 NoStreamLeft), and whoever has
+a stream can always call. 4096 frameworks take `--workers 5462`; each connection is a thread of its own.
 
 A HEARTBEAT goes out on each stream every 15 seconds, rounded up to a multiple of `--interval`. A framework whose connection is gone
 is noticed when a write to it fails, no later than at its second HEARTBEAT from then on: with `--interval` 1 after at most some 30
@@ -76,13 +83,17 @@ Where an agent's record can't be kept any more, or a thread or memory is refused
 answering, ends the streams and the connections that wait, and is gone within two seconds of its last answer. A connection that the
 system can't make is told once a minute, and the server goes on.
 
+The history of a cluster is kept whole, in memory. With `--memory` MIB the server ends once it has so many MiB: it says so, and its
+status is 3. Started again, as a supervisor does, it goes on from its records.
+
 With `--conns` N no more than N connections are accepted, and when all have ended each agent is written with its tasks, as
 `replay` does at its end.
 
   mesos_node serve --port 5050 --agents agents.json --state state
 
 The status is 0 where all connections have ended, 2 where the command line, FILE (X3 BadConfig) or a record's total (Z1 TotalDiffers)
-is wrong, and 3 where a store (K1 to K4), FILE or the port (Z2 DeviceFault), a thread (H9 NoThread) or memory (H8 OutOfMemory) fails.";
+is wrong, and 3 where a store (K1 to K4), FILE or the port (Z2 DeviceFault), a thread (H9 NoThread) or memory (H8 OutOfMemory) fails, or
+`--memory` is reached.";
 
 /// An option that takes a value.
 fn option<'a>(alloc: Global, name: &'a str, value: &'a str, help: &'a str) -> Arg<'a>
@@ -184,6 +195,32 @@ fn idle_seconds<'a>(alloc: Global) -> Arg<'a>
     .default_value("75")
 }
 
+fn workers<'a>(alloc: Global) -> Arg<'a>
+    ensures { rule_of result ≡ options.workers }
+{
+    number_option(
+        alloc,
+        "workers",
+        "connections that are served at once, from 1 to 8192, a quarter of them kept for calls; 0 is 64, none kept",
+        0,
+        8_192,
+    )
+    .default_value("0")
+}
+
+fn memory<'a>(alloc: Global) -> Arg<'a>
+    ensures { rule_of result ≡ options.memory }
+{
+    number_option(
+        alloc,
+        "memory",
+        "MiB of resident memory at which the server ends, from 1 to 1048576; 0 is no limit",
+        0,
+        1_048_576,
+    )
+    .default_value("0")
+}
+
 /// With the options that are required.
 fn with_required<'a>(alloc: Global, command: Command<'a>) -> Result<Command<'a>, AllocError>
     ensures { IfOk result (λ more. app_of more ≡ options.with_required (app_of command.entry)) }
@@ -200,7 +237,9 @@ fn with_optional<'a>(alloc: Global, command: Command<'a>) -> Result<Command<'a>,
     let with_interval = command.arg(interval(alloc))?;
     let with_task_seconds = with_interval.arg(task_seconds(alloc))?;
     let with_connections = with_task_seconds.arg(connections(alloc))?;
-    with_connections.arg(idle_seconds(alloc))
+    let with_idle_seconds = with_connections.arg(idle_seconds(alloc))?;
+    let with_workers = with_idle_seconds.arg(workers(alloc))?;
+    with_workers.arg(memory(alloc))
 }
 
 /// The command `serve` and its options.
@@ -229,6 +268,15 @@ fn port_in(found: &ArgMatches, name: &str) -> Option<u16>
     found.get_one::<u16>(name)
 }
 
+/// The number of an option that is no more than a `u32` holds.
+fn count_in(found: &ArgMatches, name: &str) -> Option<u32>
+    ensures found { IfSome result (options.HasNumber 32 (rows_of (found_of found.now)) name.now) }
+    ensures none { IfNone result ((n : ℕ)
+        → options.HasNumber 32 (rows_of (found_of found.now)) name.now n → ⊥) }
+{
+    found.get_one::<u32>(name)
+}
+
 /// The number of an option.
 fn number_in(found: &ArgMatches, name: &str) -> Option<u64>
     ensures found { IfSome result (options.HasNumber 64 (rows_of (found_of found.now)) name.now) }
@@ -252,5 +300,7 @@ pub(crate) fn serve_options<'a>(found: &ArgMatches<'a>) -> Option<ServeOptions<'
         task_seconds: number_in(found, "task-seconds")?,
         connections: number_in(found, "conns")?,
         idle_seconds: number_in(found, "idle-seconds")?,
+        workers: count_in(found, "workers")?,
+        memory: number_in(found, "memory")?,
     })
 }

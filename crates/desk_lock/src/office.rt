@@ -1,10 +1,11 @@
 //! A desk under a lock.
 
-ghost use Rattle.std.specs.Prelude.{◌≡◌, ◌≤◌, ◌+◌, [], Err, Ok, Some, IfOk, IfErr, OnErr, All, MatchOption, MatchResult, length, sum_by};
+ghost use Rattle.std.specs.Prelude.{◌≡◌, ◌≤◌, ◌+◌, [], Err, None, IfOk, IfErr, IfNone, OnErr, All, MatchOption, MatchResult, length, sum_by};
 ghost use Rattle.desk_seats.specs.Receipts.{IsAnswered, StandsIn};
 ghost use Rattle.std.specs.Fn.{FnReturnsAt};
-ghost use Rattle.desk_lock.specs.Waits.{IfFound};
-ghost use Rattle.desk_seats.specs.Found.{IsRefusedCall, IsRefusedWait};
+ghost use Rattle.desk_lock.specs.Waits.{HasStopped, IsWaited, WaitEnds, WaitStops};
+ghost use Rattle.desk_lock.specs.declared.office.Turn.TheVariants.{End};
+ghost use Rattle.desk_seats.specs.Found.{IsNextSeat, IsRefusedCall, IsRefusedSeat, IsRefusedWait};
 ghost use Rattle.desk_seats.specs.Refused.{refused_by};
 ghost use Rattle.desk_seats.specs.declared.fault.OfficeFault.TheVariants.{ForeignPass};
 
@@ -37,6 +38,7 @@ pub enum Waited<T> {
 /// What a waiting caller does at a desk.
 fn turn_at<C: Recorded, L: ledger::Ledger, F: Fn(&C) -> Turn>(desk: &Desk<C, L>, look: &F) -> Turn
     requires { F.IsAlwaysCallable look.now }
+    ensures { result ≡ End → HasStopped (λ c turn. FnReturnsAt F.Fn look.now c turn) desk.now }
 {
     if desk.is_finished() {
         return Turn::End;
@@ -66,9 +68,8 @@ fn found_at<T, C: Recorded, L: ledger::Ledger, F: Fn(&C) -> Result<Option<T>, C:
     look: &F,
 ) -> Result<Waited<T>, OfficeFault<C::Fault>>
     requires { F.IsAlwaysCallable look.now }
-    ensures found { IfOk result
-        (λ waited. IfFound waited
-        (λ found. FnReturnsAt F.Fn look.now desk.now.recorded (Ok (Some found)))) }
+    ensures waited { IfOk result
+        (IsWaited (λ c found. FnReturnsAt F.Fn look.now c found) desk.now) }
     ensures refused { IfErr result (λ fault. (f : C.Fault)
         × FnReturnsAt F.Fn look.now desk.now.recorded (Err f)
         × (fault ≡ refused_by (C.kind_of f) f)) }
@@ -102,6 +103,19 @@ fn answer_at<C: Recorded, L: ledger::Ledger>(
     desk.answer(alloc, pass, step)
 }
 
+/// Opens a desk's next seat, whichever it is.
+fn open_seat_at<C: Recorded, L: ledger::Ledger>(
+    desk: &mut Desk<C, L>,
+    alloc: Global,
+) -> Result<Pass<C::Entry, L>, OfficeFault<C::Fault>>
+    ensures opened { IfOk result (IsNextSeat C.history C.sound) }
+    ensures unused { IfOk result (λ p. (p.receipts ≡ []) × (p.seen ≡ 0)) }
+    ensures refused { IfErr result (IsRefusedSeat C.history C.sound) }
+{
+    desk.is_sound();
+    desk.open_seat(alloc)
+}
+
 /// A desk that threads share. One call at a time is answered, under its one lock.
 pub struct Office<C: Recorded, L: ledger::Ledger> {
     desk: Mutex<Desk<C, L>>,
@@ -123,15 +137,18 @@ impl<C: Recorded, L: ledger::Ledger> Office<C, L> {
         }
     }
 
-    /// Opens the next seat. Refusals: O3 and O5.
+    /// Opens the next seat. Refusals: O5 where 4,294,967,295 seats were opened, and O3 where fewer
+    /// were.
     pub fn open_seat<R: Wait>(
         &self,
         rt: &R,
         alloc: Global,
     ) -> Result<Pass<C::Entry, L>, OfficeFault<C::Fault>>
-        ensures { IfOk result (λ p. (p.receipts ≡ []) × (p.seen ≡ 0)) }
+        ensures opened { IfOk result (IsNextSeat C.history C.sound) }
+        ensures unused { IfOk result (λ p. (p.receipts ≡ []) × (p.seen ≡ 0)) }
+        ensures refused { IfErr result (IsRefusedSeat C.history C.sound) }
     {
-        self.desk.lock(rt).open_seat(alloc)
+        open_seat_at(&mut *self.desk.lock(rt), alloc)
     }
 
     /// Wakes those who may go on after an answer.
@@ -175,14 +192,20 @@ impl<C: Recorded, L: ledger::Ledger> Office<C, L> {
         look: F,
     ) -> Option<MutexGuard<'_, Desk<C, L>>>
         requires { F.IsAlwaysCallable look }
+        ensures { IfNone result
+            (WaitStops C.history C.sound (λ c turn. FnReturnsAt F.Fn look c turn)) }
     {
         let group = self.groups.of(C::group_of(&awaited));
         let mut desk = self.desk.lock(rt);
         for _ in rt.forever() {
-            match turn_at(&*desk, &look) {
+            let locked = &*desk;
+            match turn_at(locked, &look) {
                 Turn::Wait => desk = group.wait(rt, desk),
                 Turn::Answer => return Some(desk),
-                Turn::End => return None,
+                Turn::End => {
+                    locked.is_sound();
+                    return None;
+                }
             }
         }
         unreachable!()
@@ -205,6 +228,8 @@ impl<C: Recorded, L: ledger::Ledger> Office<C, L> {
         ensures answered { IfOk result
             (λ answered. MatchOption answered (pass.new ≡ pass.old)
             (λ a. IsAnswered C.history C.sound C.step_of C.takes pass.old pass.new step a)) }
+        ensures stopped { IfOk result (λ answered. answered ≡ None
+            → WaitStops C.history C.sound (λ c turn. FnReturnsAt F.Fn look c turn)) }
         ensures unchanged { OnErr result (pass.new ≡ pass.old) }
         ensures refused { IfErr result
             (λ fault. IsRefusedCall C.history C.sound C.kind_of C.may_refuse pass.old step fault) }
@@ -256,9 +281,8 @@ impl<C: Recorded, L: ledger::Ledger> Office<C, L> {
         ensures refused { IfErr result
             (λ fault. IsRefusedWait C.history C.sound C.kind_of
             (λ c f. FnReturnsAt F.Fn look c (Err f)) pass.now fault) }
-        ensures found { IfOk result
-            (λ waited. IfFound waited (λ found. (state : C) × C.sound state
-            × FnReturnsAt F.Fn look state (Ok (Some found)))) }
+        ensures waited { IfOk result
+            (WaitEnds C.history C.sound (λ c found. FnReturnsAt F.Fn look c found)) }
     {
         let desk = self.desk.lock(rt);
         let found = &*desk;

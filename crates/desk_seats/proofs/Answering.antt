@@ -1,9 +1,15 @@
 -- What an answer leaves, and when a pass accounts for the entries of its seat.
-use Rattle.std.proofs.Common.{◌≡◌, ℕ, ◌+◌, List, [], ◌∷◌, ◌++◌, sym, ap, ◌∙◌, subst, arith, length, length-append, Some, ◌-◌}
-use Rattle.std.specs.Prelude.{slice_get, Result, Ok, Err, IfOk}
+use Rattle.std.proofs.Common.{◌≡◌, ◌⊎◌, ◌<◌, ◌≤◌, Bool, true, false, inl, inr, refl, ℕ, ◌+◌, List, [], ◌∷◌, ◌++◌, sym, ap, ◌∙◌, subst, arith, length, length-append, Some, ◌-◌}
+use Rattle.std.specs.Prelude.{slice_get}
 use Rattle.std.proofs.Math.Seq.{get_or-append_seam}
 use Rattle.std.proofs.lemmas.List.{map-append}
 use Rattle.std.proofs.lemmas.Option.{slice_get-get_or}
+use Rattle.std.proofs.lemmas.Bool.{cases_lt}
+use Rattle.desk_seats.specs.Refused.{IsForeign, MayRefuseApply, MayRefuseCall, MayRefuseStep, refused_by}
+use Rattle.desk_seats.specs.declared.fault.FaultKind.{FaultKind}
+use Rattle.desk_seats.specs.declared.fault.FaultKind.TheVariants.{HistoryFull as FullHistory, OutOfMemory as NoMemory, Step}
+use Rattle.desk_seats.specs.declared.fault.OfficeFault.{OfficeFault}
+use Rattle.desk_seats.specs.declared.fault.OfficeFault.TheVariants.{ForeignPass}
 use Rattle.desk_seats.specs.declared.desk.pass.Receipt.{Receipt}
 use Rattle.desk_seats.specs.Receipts.{PassState, StandsIn, numbered, with_receipt}
 use Rattle.desk_seats.specs.Seats.{Numbered, entries_of}
@@ -78,7 +84,34 @@ last_is {A} xs ys y is =
     ∙ slice_get-get_or (ys ++ y ∷ []) (length ys) y (let l = length-append ys (y ∷ []) in omega arith)
     ∙ ap Some (get_or-append_seam ys y [] y)
 
--- what three facts of an answer give
-pub if_ok_by : {A F : Type 0} {P Q R S : A → Type 0} (r : Result A F) → IfOk r P → IfOk r Q → IfOk r R → ((a : A) → P a → Q a → R a → S a) → IfOk r S
-if_ok_by (Ok a) p q t f = f a p q t
-if_ok_by (Err e) p q t f = tt
+-- a pass that isn't foreign has seen no more than there is, and its seat is opened
+pub not_foreign : (b : Bool) (entries opened seat seen : ℕ) → b ≡ false → (IsForeign entries opened seat seen → b ≡ true) → (seen ≤ entries) × (seat ≤ opened)
+not_foreign b entries opened seat seen off is = (seen_by (cases_lt entries seen), seated_by (cases_lt opened seat))
+  where
+    seen_by : (entries < seen) ⊎ (seen ≤ entries) → seen ≤ entries
+    seen_by (inl more) = absurd (let clash : true ≡ false = sym (is (inr more)) ∙ off in cc)
+    seen_by (inr within) = within
+
+    seated_by : (opened < seat) ⊎ (seat ≤ opened) → seat ≤ opened
+    seated_by (inl above) = absurd (let clash : true ≡ false = sym (is (inl (inr above))) ∙ off in cc)
+    seated_by (inr within) = within
+
+-- a foreign pass is refused
+pub foreign_refused : {F : Type 0} (kind : F → FaultKind) (may_refuse : F → Type 0) (entries opened seat seen : ℕ) (fault : OfficeFault F) → fault ≡ ForeignPass entries → IsForeign entries opened seat seen
+    → MayRefuseCall kind may_refuse entries opened seat seen fault
+foreign_refused {F} kind may_refuse entries opened seat seen fault is (inl unopened) = subst (λ (f : OfficeFault F). MayRefuseCall kind may_refuse entries opened seat seen f) (sym is) (inl (refl, unopened))
+foreign_refused {F} kind may_refuse entries opened seat seen fault is (inr later) = inr (is, later)
+
+refused_at : {F : Type 0} (kind : F → FaultKind) (may_refuse : F → Type 0) (entries opened seat : ℕ) (fault : F) (k : FaultKind) → kind fault ≡ k → MayRefuseApply kind may_refuse fault
+    → MayRefuseStep kind may_refuse entries opened seat (refused_by k fault)
+refused_at kind may_refuse entries opened seat fault FullHistory is (inl h) = (fault, h, is)
+refused_at kind may_refuse entries opened seat fault FullHistory is (inr e) = absurd (let clash : FullHistory ≡ NoMemory = sym is ∙ e in cc)
+refused_at kind may_refuse entries opened seat fault NoMemory is h = tt
+refused_at kind may_refuse entries opened seat fault Step is (inl h) = (h, is)
+refused_at kind may_refuse entries opened seat fault Step is (inr e) = absurd (let clash : Step ≡ NoMemory = sym is ∙ e in cc)
+
+-- a step that isn't taken is refused so by an office
+pub step_refused : {F : Type 0} (kind : F → FaultKind) (may_refuse : F → Type 0) (entries opened seat seen : ℕ) (fault : F) (out : OfficeFault F) → out ≡ refused_by (kind fault) fault → MayRefuseApply kind may_refuse fault
+    → MayRefuseCall kind may_refuse entries opened seat seen out
+step_refused {F} kind may_refuse entries opened seat seen fault out is h =
+    subst (λ (f : OfficeFault F). MayRefuseCall kind may_refuse entries opened seat seen f) (sym is) (inl (refused_at kind may_refuse entries opened seat fault (kind fault) refl h))

@@ -33,7 +33,7 @@ entries_other {E} seat n s e ss es differ =
     let first : Numbered E = record { number = n; entry = e } in
     ap (λ b. if b then first ∷ rest else rest) (unlike s seat differ)
 
--- a seat above all others has no entry, and neither has seat 0
+-- a seat above all others has no entry
 pub entries_none : {E : Type 0} (k seat n : ℕ) (ss : List ℕ) (es : List E) → All (λ s. s ≤ k) ss → k < seat → entries_of seat n ss es ≡ []
 entries_none k seat n [] es h above = refl
 entries_none k seat n (s ∷ ss) [] h above = refl
@@ -46,12 +46,6 @@ count_above k seat [] h above = refl
 count_above k seat (s ∷ ss) h above =
     let low : s ≤ k = h 0 0 (omega arith) in
     count_other seat s ss (λ own. omega arith) ∙ count_above k seat ss (All-tail (λ (q : ℕ). q ≤ k) s ss h) above
-
-pub count_zero : (ss : List ℕ) → All (λ s. 0 < s) ss → seat_count 0 ss ≡ 0
-count_zero [] h = refl
-count_zero (s ∷ ss) h =
-    let some : 0 < s = h 0 0 (omega arith) in
-    count_other 0 s ss (λ own. omega arith) ∙ count_zero ss (All-tail (λ (q : ℕ). 0 < q) s ss h)
 
 -- one entry more at the end
 pub count_pushed : (seat t : ℕ) (ss : List ℕ) → seat_count seat (ss ++ t ∷ []) ≡ seat_count seat ss + seat_count seat (t ∷ [])

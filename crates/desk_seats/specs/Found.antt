@@ -1,7 +1,7 @@
 -- A desk as a caller who locks it finds it.
-use Rattle.std.specs.Prelude.{◌≡◌, ◌≤◌, ◌+◌, List, length}
+use Rattle.std.specs.Prelude.{◌≡◌, ◌≤◌, ◌<◌, ◌+◌, List, [], length}
 use Rattle.desk_seats.specs.Receipts.{PassState}
-use Rattle.desk_seats.specs.Refused.{MayRefuseCall, MayRefuseWait}
+use Rattle.desk_seats.specs.Refused.{MayRefuseCall, MayRefuseSeat, MayRefuseWait}
 use Rattle.desk_seats.specs.declared.fault.FaultKind.{FaultKind}
 use Rattle.desk_seats.specs.declared.fault.OfficeFault.{OfficeFault}
 use Rattle.desk_seats.specs.Seats.{DeskState}
@@ -33,3 +33,19 @@ IsRefusedWait {C} {F = F} history sound kind gives p fault =
     (d : DeskState C) × IsFound history sound d
     × MayRefuseWait kind (λ (f : F). gives d.recorded f) (length (history d.recorded) + 1) d.opened
     p.seat p.seen fault
+
+-- some desk gives its next seat so: of fewer than 4,294,967,295 that were opened it is the next one,
+-- which has seen nothing and has no receipts
+pub record IsNextSeat {C E : Type 0} (history : C → List E) (sound : C → Type 0)
+    (p : PassState E) : Type 0 where
+  pub desk : DeskState C
+  pub is_found : IsFound history sound desk
+  pub fewer : desk.opened < 4294967295
+  pub next : p ≡ record { seat = desk.opened + 1; seen = 0; receipts = [] }
+
+-- some desk opens no seat so
+pub record IsRefusedSeat {C E F : Type 0} (history : C → List E) (sound : C → Type 0)
+    (fault : OfficeFault F) : Type 0 where
+  pub desk : DeskState C
+  pub is_found : IsFound history sound desk
+  pub refused : MayRefuseSeat desk.opened fault

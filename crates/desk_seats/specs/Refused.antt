@@ -15,6 +15,10 @@ refused_by Step fault = Core fault
 abbrev pub IsUnopened : ℕ → ℕ → Type 0
 IsUnopened opened seat = (seat ≡ 0) ⊎ (opened < seat)
 
+-- why a step isn't taken: it is refused, or memory is
+abbrev pub MayRefuseApply : {F : Type 0} → (F → FaultKind) → (F → Type 0) → F → Type 0
+MayRefuseApply kind may_refuse fault = may_refuse fault ⊎ (kind fault ≡ NoMemory)
+
 -- why a step of a seat is refused, where the history has so many entries with its opening:
 -- the seat wasn't opened, memory was refused, or the step was
 abbrev pub MayRefuseStep : {F : Type 0} → (F → FaultKind) → (F → Type 0) → ℕ → ℕ → ℕ → OfficeFault F
@@ -47,9 +51,9 @@ MayRefuseWait {F} kind gives entries opened seat seen fault =
     ((fault ≡ ForeignPass entries) × IsForeign entries opened seat seen)
     ⊎ ((f : F) × gives f × (fault ≡ refused_by (kind f) f))
 
--- why no seat is opened: memory was refused, or there are 4,294,967,295
+-- why no seat is opened: there are 4,294,967,295, or there are fewer, and memory was refused
 abbrev pub MayRefuseSeat : {F : Type 0} → ℕ → OfficeFault F → Type 0
-MayRefuseSeat opened OutOfMemory = ⊤
+MayRefuseSeat opened OutOfMemory = opened < 4294967295
 MayRefuseSeat opened SeatsSpent = opened ≡ 4294967295
 MayRefuseSeat opened (ForeignPass n) = ⊥
 MayRefuseSeat opened HistoryFull = ⊥

@@ -1,10 +1,11 @@
 //! A recorded thing, and the seat of each of its entries.
 
-ghost use Rattle.std.specs.Prelude.{◌≡◌, ◌≤◌, ◌+◌, ◌<◌, ◌↔◌, ◌⊎◌, ◌++◌, ◌∷◌, false, true, [], IsTrue, IfOk, IfErr, OnOk, OnErr, length, vec_len, vec_capacity};
+ghost use Rattle.std.specs.Prelude.{◌≡◌, ◌≤◌, ◌+◌, ◌-◌, ◌<◌, ℕ, get_or, ◌↔◌, ◌⊎◌, ◌++◌, ◌∷◌, false, true, [], IsTrue, IfOk, IfErr, OnOk, OnErr, length, vec_len, vec_capacity};
 ghost use Rattle.desk_seats.specs.Receipts.{AnswersBy, Enters, IsEntered, StandsIn, Unchanged};
 ghost use Rattle.desk_seats.specs.Found.{Counts, IsFound};
-ghost use Rattle.desk_seats.specs.Refused.{IsForeign, MayRefuseCall, MayRefuseSeat, MayRefuseStep, refused_by};
-ghost use Rattle.desk_seats.specs.Seats.{DeskState};
+ghost use Rattle.desk_seats.specs.Refused.{IsForeign, MayRefuseCall, MayRefuseApply, MayRefuseSeat, refused_by};
+ghost use Rattle.desk_seats.specs.Kept.{counts_with};
+ghost use Rattle.desk_seats.specs.Seats.{DeskState, entered_as};
 
 mod accounts;
 mod closing;
@@ -24,7 +25,7 @@ use std::sync::ledger::{Blank, Book, Share};
 /// and the count of the answers that passes hold.
 pub struct Desk<C: Recorded, L: ledger::Ledger> {
     recorded: C,
-    /// The seat of each entry since the opening.
+    /// The seat of each entry since the opening; 0 is nobody's.
     seats: Vec<u32>,
     /// How many entries each seat has, from seat 1 on.
     counts: Vec<u32>,
@@ -75,6 +76,18 @@ pub fn refusal<C: Recorded>(fault: C::Fault) -> OfficeFault<C::Fault>
         FaultKind::HistoryFull => OfficeFault::HistoryFull,
         FaultKind::OutOfMemory => OfficeFault::OutOfMemory,
         FaultKind::Step => OfficeFault::Core(fault),
+    }
+}
+
+/// Counts one entry more of a seat; nobody's entries aren't counted.
+fn count_entry(counts: &mut Vec<u32>, seat: u32)
+    requires within { seat ≤ length counts.old.items }
+    requires few { (n : ℕ) → 0 < seat → n ≡ get_or counts.old.items (seat - 1) n
+        → n + 1 < 4294967296 }
+    ensures { counts.new.items ≡ counts_with seat counts.old.items }
+{
+    if seat > 0 {
+        counts[seat as usize - 1] += 1;
     }
 }
 
@@ -156,21 +169,30 @@ impl<C: Recorded, L: ledger::Ledger> Desk<C, L> {
         self.finished = true;
     }
 
+    /// Whether a seat wasn't opened here, or has seen more than there is.
+    fn is_foreign_seat(&self, seat: u32, seen: u32) -> bool
+        ensures { IsTrue result ↔ IsForeign (length (C.history self.now.recorded) + 1)
+            self.now.opened seat seen }
+    {
+        seat == 0 || seat as usize > self.counts.len() || seen > self.len()
+    }
+
     /// Whether a pass is of a seat that wasn't opened here, or has seen more than there is.
     pub fn is_foreign(&self, pass: &Pass<C::Entry, L>) -> bool
         ensures { IsTrue result ↔ IsForeign (length (C.history self.now.recorded) + 1)
             self.now.opened pass.now.seat pass.now.seen }
     {
-        let seat = pass.seat();
-        seat == 0 || seat as usize > self.counts.len() || pass.seen() > self.len()
+        self.is_foreign_seat(pass.seat(), pass.seen())
     }
 
-    /// Opens the next seat, of which there is no entry yet. Refusals: O3 and O5.
+    /// Opens the next seat, of which there is no entry yet. Refusals: O5 where 4,294,967,295 seats
+    /// were opened, and O3 where fewer were.
     pub fn open_seat(&mut self, alloc: Global) -> Result<Pass<C::Entry, L>, OfficeFault<C::Fault>>
         ensures pass { IfOk result
             (λ p. p ≡ record { seat = self.old.opened + 1; seen = 0; receipts = [] }) }
         ensures stands { IfOk result
             (λ p. StandsIn (C.history self.new.recorded) self.new.seats p) }
+        ensures fewer { OnOk result (self.old.opened < 4294967295) }
         ensures opened { OnOk result (self.new ≡ record self.old { opened = self.old.opened + 1 }) }
         ensures unchanged { OnErr result (self.new ≡ self.old) }
         ensures refused { IfErr result (λ fault. MayRefuseSeat self.old.opened fault) }
@@ -192,16 +214,28 @@ impl<C: Recorded, L: ledger::Ledger> Desk<C, L> {
         })
     }
 
-    /// Takes a step for a seat: one entry more with that seat. It isn't counted as an answer, so a
-    /// pass of that seat can't account for it at the close. Refusals: O1 for a seat that wasn't
-    /// opened, O2, O3 and O4.
+    /// The seat under which a step is entered.
+    fn entered_as(&self, seat: u32) -> u32
+        ensures { result ≡ entered_as self.now.opened seat }
+    {
+        if seat as usize <= self.counts.len() {
+            seat
+        } else {
+            0
+        }
+    }
+
+    /// Takes a step for a seat: one entry more with that seat, or with 0, nobody's, where the seat
+    /// wasn't opened. It isn't counted as an answer, so a pass of that seat can't account for it at
+    /// the close. It is refused as the step is, and where memory is refused.
     pub fn apply(
         &mut self,
         alloc: Global,
         seat: u32,
         step: C::Step,
-    ) -> Result<Answered<C::Entry, C::Given>, OfficeFault<C::Fault>>
-        ensures entered { IfOk result (λ a. Enters C.history self.old seat a.receipt self.new) }
+    ) -> Result<Answered<C::Entry, C::Given>, C::Fault>
+        ensures entered { IfOk result
+            (λ a. Enters C.history self.old (entered_as self.old.opened seat) a.receipt self.new) }
         ensures step { IfOk result (λ a. C.step_of a.receipt.entry ≡ step) }
         ensures taken { IfOk result
             (λ a. C.takes self.old.recorded step a.receipt.entry a.given self.new.recorded) }
@@ -209,27 +243,24 @@ impl<C: Recorded, L: ledger::Ledger> Desk<C, L> {
             × (self.new.finished ≡ self.old.finished) }
         ensures unchanged { OnErr result (Unchanged C.history C.alike self.old self.new) }
         ensures refused { IfErr result
-            (λ fault. MayRefuseStep C.kind_of (λ f. C.may_refuse self.old.recorded step f)
-            (length (C.history self.old.recorded) + 1) self.old.opened seat fault) }
+            (MayRefuseApply C.kind_of (λ f. C.may_refuse self.old.recorded step f)) }
     {
         let number = self.len();
-        if seat == 0 || seat as usize > self.counts.len() {
-            return Err(OfficeFault::ForeignPass(number));
-        }
+        let seat = self.entered_as(seat);
         if self.seats.reserve(1).is_err() {
-            return Err(OfficeFault::OutOfMemory);
+            return Err(C::out_of_memory());
         }
         match self.recorded.step(alloc, step) {
             Ok(entered) => {
                 self.seats.push_reserved(seat);
-                self.counts[seat as usize - 1] += 1;
+                count_entry(&mut self.counts, seat);
                 let Entered { entry, given } = entered;
                 Ok(Answered {
                     receipt: Receipt { number, entry },
                     given,
                 })
             }
-            Err(fault) => Err(refusal::<C>(fault)),
+            Err(fault) => Err(fault),
         }
     }
 
@@ -258,8 +289,9 @@ impl<C: Recorded, L: ledger::Ledger> Desk<C, L> {
         self.len()
     }
 
-    /// Takes a step for a seat that has seen so much of the history, once its receipts have room for
-    /// one more. Refusals: O1 where it has seen more than there is, else those of `apply`.
+    /// Takes a step for a seat that has seen so much of the history, once its receipts have room
+    /// for one more. Refusals: O1 where the seat wasn't opened or has seen more than there is, O2,
+    /// O3 and O4.
     fn enter(
         &mut self,
         alloc: Global,
@@ -280,13 +312,16 @@ impl<C: Recorded, L: ledger::Ledger> Desk<C, L> {
             (length (C.history self.old.recorded) + 1) self.old.opened seat seen fault) }
     {
         let entries = self.entries();
-        if seen > entries {
+        if self.is_foreign_seat(seat, seen) {
             return Err(OfficeFault::ForeignPass(entries));
         }
         if receipts.reserve(1).is_err() {
             return Err(OfficeFault::OutOfMemory);
         }
-        self.apply(alloc, seat, step)
+        match self.apply(alloc, seat, step) {
+            Ok(answered) => Ok(answered),
+            Err(fault) => Err(refusal::<C>(fault)),
+        }
     }
 
     /// Answers a call: one entry more with the seat of the pass, which gets its receipt. The

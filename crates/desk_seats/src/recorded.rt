@@ -2,6 +2,7 @@
 
 ghost use Rattle.std.specs.Prelude.{◌≡◌, ◌≤◌, ◌++◌, ◌∷◌, [], ◌↔◌, List, Some, IsTrue, IfOk, IfErr, OnErr, length, slice_get};
 ghost use Rattle.desk_seats.specs.declared.fault.FaultKind.{FaultKind};
+ghost use Rattle.desk_seats.specs.declared.fault.FaultKind.TheVariants.{OutOfMemory};
 
 use crate::fault::FaultKind;
 use std::alloc::Global;
@@ -82,6 +83,10 @@ pub trait Recorded: Drop {
     /// What a fault means.
     fn kind(fault: &Self::Fault) -> FaultKind
         ensures { result ≡ kind_of fault.now };
+
+    /// The fault of a step for which memory is refused.
+    fn out_of_memory() -> Self::Fault
+        ensures { kind_of result ≡ OutOfMemory };
 
     /// The group of those who wait for this, from 0 to 63; a greater one is taken modulo 64.
     fn group_of(awaited: &Self::Awaited) -> u32;

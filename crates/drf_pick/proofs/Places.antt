@@ -89,3 +89,11 @@ found_at {X} test xs i h = by_case (find test xs) refl
     by_case : (o : Option X) → find test xs ≡ o → (x : X) × (find test xs ≡ Some x)
     by_case (Some x) e = (x, e)
     by_case None e = by_len (nat_lt (position_or_len test xs) (length xs)) refl h (len_at test xs e)
+
+-- and where none is found none has a place
+pub nowhere : {X : Type 0} (test : X → Bool) (xs : List X) → find test xs ≡ None → position test xs ≡ None
+nowhere {X} test xs h = by_case (nat_lt (position_or_len test xs) (length xs)) refl
+  where
+    by_case : (b : Bool) → nat_lt (position_or_len test xs) (length xs) ≡ b → cond b (Some (position_or_len test xs)) None ≡ None
+    by_case true e = absurd (omega (arith, ltb-true _ _ e, len_at test xs h))
+    by_case false e = refl

@@ -100,6 +100,22 @@ fn is_known(holders: &[Holder], last: Option<FrameworkId>, framework: FrameworkI
     find_holder(holders, holders.len(), framework).is_some()
 }
 
+/// The place of a framework's holder. No holder is after the last one.
+fn known_place(
+    holders: &[Holder],
+    last: Option<FrameworkId>,
+    framework: FrameworkId,
+) -> Option<usize>
+    requires once { HoldersOnce holders.now }
+    requires up_to { AreUpTo last holders.now }
+    ensures { result ≡ position (is_holder framework) holders.now }
+{
+    if is_behind(last, framework) {
+        return None;
+    }
+    holder_place(holders, framework)
+}
+
 /// The last framework once this one is added.
 fn later(last: Option<FrameworkId>, framework: FrameworkId) -> FrameworkId
     ensures { (hs : List Holder) (role : List ℕ) (held : List Row) → AreUpTo last hs
@@ -398,7 +414,7 @@ impl Holdings {
         ensures registered { result ≡ is_some (find (is_holder framework) self.now.holders) }
         ensures sums { HoldSums framework self.now }
     {
-        let Some(place) = holder_place(&self.holders, framework) else {
+        let Some(place) = known_place(&self.holders, self.last, framework) else {
             return false;
         };
         let holder = &self.holders[place];
@@ -507,7 +523,7 @@ impl Holdings {
         ensures ok { OnOk result (self.new ≡ given framework resources.now self.old) }
         ensures err { OnErr result (self.new ≡ self.old) }
     {
-        let Some(place) = holder_place(&self.holders, framework) else {
+        let Some(place) = known_place(&self.holders, self.last, framework) else {
             return self.give_first(alloc, framework, resources);
         };
         give_in(

@@ -34,6 +34,7 @@ bench_text faults.OutOfMemory = codes "H8 OutOfMemory"
 bench_text faults.NoSuchMail = codes "C1 NoSuchMail"
 bench_text faults.ForeignPass = codes "O1 ForeignPass"
 bench_text faults.SeatsSpent = codes "O5 SeatsSpent"
+bench_text faults.NoStreamLeft = codes "H10 NoStreamLeft"
 
 abbrev pub bench_status : BenchFault → Status
 bench_status (faults.Master refusal) = master_status refusal
@@ -44,6 +45,7 @@ bench_status faults.OutOfMemory = ServiceUnavailable
 bench_status faults.NoSuchMail = ServiceUnavailable
 bench_status faults.ForeignPass = ServiceUnavailable
 bench_status faults.SeatsSpent = ServiceUnavailable
+bench_status faults.NoStreamLeft = ServiceUnavailable
 
 abbrev pub refusal_text : Refusal → List ℕ
 refusal_text (Request fault) = heads.fault_text fault

@@ -27,6 +27,8 @@ pub enum BenchFault {
     ForeignPass,
     /// No further bench can be opened.
     SeatsSpent,
+    /// As many streams are open as may be at once.
+    NoStreamLeft,
 }
 
 /// Why a request is refused.
@@ -70,6 +72,7 @@ impl BenchFault {
             BenchFault::NoSuchMail => "C1 NoSuchMail",
             BenchFault::ForeignPass => "O1 ForeignPass",
             BenchFault::SeatsSpent => "O5 SeatsSpent",
+            BenchFault::NoStreamLeft => "H10 NoStreamLeft",
         }
     }
 

@@ -4,47 +4,50 @@ ghost use Rattle.std.specs.Prelude.{◌≡◌, ◌==◌, ◌<◌, ◌≤◌, ◌
 
 use std::alloc::{AllocError, AllocFailed, Global};
 
-/// So many workers run at most.
-pub const WORKERS: u32 = 64;
-
 /// What the workers share. Room for a worker's bench is reserved before the worker starts.
 #[derive(Drop)]
 pub struct Floor<J: Drop, B: Drop> {
     jobs: Vec<J>,
     benches: Vec<B>,
     running: u32,
+    /// So many workers run at most.
+    most: u32,
     ghost room: { vec_len benches + running ≤ vec_capacity benches },
-    ghost few: { running ≤ 64 },
+    ghost few: { running ≤ most },
 }
 
 impl<J: Drop, B: Drop> Floor<J, B> {
-    pub fn new(alloc: Global) -> Floor<J, B>
-        ensures nobody { result.running ≡ 0 }
+    /// Without workers, of which at most so many run.
+    pub fn new(alloc: Global, most: u32) -> Floor<J, B>
+        ensures nobody { (result.running ≡ 0) × (result.most ≡ most) }
         ensures nothing { (result.jobs.items ≡ []) × (result.benches.items ≡ []) }
     {
         Floor {
             jobs: Vec::new(alloc),
             benches: Vec::new(alloc),
             running: 0,
+            most,
         }
     }
 
     pub fn is_full(&self) -> bool
-        ensures { result ≡ (self.now.running == 64) }
+        ensures { result ≡ (self.now.running == self.now.most) }
     {
-        self.running >= WORKERS
+        self.running >= self.most
     }
 
-    /// Admits one more worker, with room for its bench, unless 64 run.
+    /// Admits one more worker, with room for its bench, unless as many run as may.
     pub fn admit(&mut self) -> Result<bool, AllocError>
-        ensures full { IfOk result (λ admitted. admitted ≡ not (self.old.running == 64)) }
+        ensures full { IfOk result
+            (λ admitted. admitted ≡ not (self.old.running == self.old.most)) }
         ensures counted { IfOk result (λ admitted. self.new.running
             ≡ (if admitted then self.old.running + 1 else self.old.running)) }
         ensures spent { OnErr result (self.new.running ≡ self.old.running) }
         ensures kept { (self.new.jobs.items ≡ self.old.jobs.items)
             × (self.new.benches.items ≡ self.old.benches.items) }
+        ensures most { self.new.most ≡ self.old.most }
     {
-        if self.running >= WORKERS {
+        if self.running >= self.most {
             return Ok(false);
         }
         self.benches.reserve(self.running as usize + 1)?;
@@ -59,6 +62,7 @@ impl<J: Drop, B: Drop> Floor<J, B> {
         ensures returned { IfErr result (λ e. e.value ≡ job) }
         ensures kept { (self.new.benches.items ≡ self.old.benches.items)
             × (self.new.running ≡ self.old.running) }
+        ensures most { self.new.most ≡ self.old.most }
     {
         self.jobs.push(job)
     }
@@ -69,6 +73,7 @@ impl<J: Drop, B: Drop> Floor<J, B> {
             → self.old.jobs.items ≡ self.new.jobs.items ++ job ∷ [] }
         ensures kept { (self.new.benches.items ≡ self.old.benches.items)
             × (self.new.running ≡ self.old.running) }
+        ensures most { self.new.most ≡ self.old.most }
     {
         self.jobs.pop()
     }
@@ -79,6 +84,7 @@ impl<J: Drop, B: Drop> Floor<J, B> {
             ++ bench ∷ [] }
         ensures counted { self.new.running ≡ self.old.running - 1 }
         ensures kept { self.new.jobs.items ≡ self.old.jobs.items }
+        ensures most { self.new.most ≡ self.old.most }
     {
         if self.running == 0 {
             return;
@@ -95,6 +101,7 @@ impl<J: Drop, B: Drop> Floor<J, B> {
             jobs,
             benches,
             running: _,
+            most: _,
         } = self;
         drop(jobs);
         benches

@@ -1,6 +1,6 @@
 //! One worker a connection.
 
-ghost use Rattle.std.specs.Prelude.{◌≡◌, false, IfOk, IfNone};
+ghost use Rattle.std.specs.Prelude.{◌≡◌, ◌<◌, false, IfOk, IfNone};
 
 use crate::arrivals::Arrivals;
 use crate::fault::HttpFault;
@@ -96,7 +96,7 @@ fn employ<
     Err(HttpFault::NoThread)
 }
 
-/// Waits until fewer than 64 workers run, and admits one more.
+/// Waits until fewer workers run than may, and admits one more.
 fn admit<I: Inlet + Drop, O: Outlet + Drop, B: Bench + Drop, R: Wait>(
     rt: &R,
     shop: &Shop<I, O, B>,
@@ -234,8 +234,8 @@ fn serve_shop<
     fault
 }
 
-/// Serves each connection by a worker of its own, at most 64 at once, and waits for the next until
-/// one comes. It returns once every worker has ended, with the benches of all connections that it
+/// Serves each connection by a worker of its own, at most `workers` at once, and waits for the next
+/// until one comes. It returns once every worker has ended, with the benches of all connections that it
 /// took from the arrivals, in no order. Room for a bench is reserved before its connection is
 /// taken, so none is lost for want of memory. A fault, `H8 OutOfMemory` or `H9 NoThread`, ends the
 /// accepting, and the arrivals give up the connections that they gave: workers that run go on to
@@ -246,13 +246,15 @@ fn serve_shop<
 pub fn serve_all<A: Arrivals, G: Gate + Sync, R: Threads + Wait + Sync>(
     rt: &R,
     alloc: Global,
+    workers: u32,
     arrivals: &mut A,
     gate: &G,
 ) -> (Vec<A::Seat>, Option<HttpFault>)
+    requires { 0 < workers }
     ensures { IfNone result.1 (A.ended arrivals.new) }
 {
     let shop = Shop {
-        floor: Mutex::new(Floor::new(alloc)),
+        floor: Mutex::new(Floor::new(alloc, workers)),
         left: Condvar::new(),
     };
     let fault = serve_shop(rt, alloc, arrivals, &shop, gate);

@@ -2,7 +2,7 @@
 
 use http_door::{Answer, Bench, BenchFault, LinkFault, NoGate, Sink, Source, serve_conn};
 use mails::Call;
-use master_core::{Config, Master, MasterFault};
+use master_core::{ConfiguredAgents, Master, MasterFault};
 use names_core::{Run, StreamId};
 use scheduler_events::{Event, StreamEvent};
 use std::alloc::{AllocError, Global};
@@ -18,7 +18,7 @@ pub struct Desk {
 impl Desk {
     /// A master that begins run 1, without agents.
     pub fn new(alloc: Global) -> Option<Desk> {
-        let config = Config::new(alloc);
+        let config = ConfiguredAgents::new(alloc);
         match Master::start(alloc, Run::new(1), &config) {
             Ok((master, _)) => Some(Desk {
                 alloc,

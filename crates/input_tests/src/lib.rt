@@ -23,7 +23,7 @@ pub use of_call_replies::{
 };
 pub use of_command_line::{numbers_have_their_ranges, the_command_line_is_read, words_are_refused};
 pub use of_device_io_reader::{a_line_may_come_in_pieces, a_long_line_takes_no_more_memory};
-pub use of_http_door::{a_stream, a_stream_that_breaks_off_is_hung_up, bodies, heads};
+pub use of_http_door::{a_link_may_fail_anywhere, a_stream, bodies, heads};
 pub use of_http_head::{
     chunk_lines_and_trailers, heads_are_refused_in_order, length_fields_are_judged, parts_are_cut,
     the_first_of_other_fields_counts,

@@ -21,9 +21,11 @@ const SERVED: Action<'static> = Action::Serve(ServeOptions {
     task_seconds: 10,
     connections: 3,
     idle_seconds: 75,
+    workers: 0,
+    memory: 0,
 });
 
-const SERVE_SLOWLY: [&str; 11] = [
+const SERVE_SLOWLY: [&str; 14] = [
     "mesos_node",
     "serve",
     "--interval",
@@ -35,6 +37,9 @@ const SERVE_SLOWLY: [&str; 11] = [
     "f",
     "--port=65535",
     "--idle-seconds=0",
+    "--workers=8192",
+    "--memory",
+    "1048576",
 ];
 
 const SERVED_SLOWLY: Action<'static> = Action::Serve(ServeOptions {
@@ -45,6 +50,8 @@ const SERVED_SLOWLY: Action<'static> = Action::Serve(ServeOptions {
     task_seconds: 0,
     connections: 0,
     idle_seconds: 0,
+    workers: 8_192,
+    memory: 1_048_576,
 });
 
 fn asks_for<'a>(alloc: Global, words: &'a [&'a str], action: Action<'a>) -> bool {

@@ -194,34 +194,65 @@ pub fn a_stream(alloc: Global) -> bool {
     is_sent(alloc, SUBSCRIBE, STREAM, true)
 }
 
-/// How a connection ends whose outlet fails after the head and the four parts of the first chunk,
-/// whether its stream is hung up, and how much was sent.
-fn broken_off(alloc: Global, bytes: Vec<u8>) -> (Result<(), LinkFault>, bool, usize) {
+/// How a connection ends whose inlet fails after so many reads of 16 bytes and its outlet after so
+/// many writes, whether its stream is hung up, and what was sent.
+fn broken_off(
+    alloc: Global,
+    bytes: Vec<u8>,
+    reads: u64,
+    writes: u64,
+) -> (Result<(), LinkFault>, bool, Vec<u8>) {
     let mut source = Source {
         bytes,
-        most: 1 << 20,
-        turns: 9,
+        most: 16,
+        turns: reads,
         faults: 0,
     };
     let mut sink = Sink {
         bytes: Vec::new(alloc),
         most: 1 << 20,
-        turns: 5,
+        turns: writes,
         faults: 0,
     };
     let mut bench = Script {
         accepts: true,
-        events: 5,
+        events: 1,
         hung_up: false,
     };
     let ended = serve_conn(alloc, &mut source, &mut sink, &mut bench, &NoGate);
-    (ended, bench.hung_up, sink.bytes.len())
+    (ended, bench.hung_up, sink.bytes)
 }
 
-/// A stream is hung up where its outlet fails.
-pub fn a_stream_that_breaks_off_is_hung_up(alloc: Global) -> bool {
-    match Vec::from_slice(alloc, SUBSCRIBE.as_bytes()) {
-        Ok(bytes) => broken_off(alloc, bytes) == (Err(LinkFault::Failed), true, 212),
-        Err(_) => false,
+/// Whether a SUBSCRIBE whose link fails there ends as a failed link does: what was sent is a
+/// beginning of the stream, and the stream is hung up where it was opened.
+fn fails_at(alloc: Global, reads: u64, writes: u64, is_opened: bool) -> bool {
+    let Ok(bytes) = Vec::from_slice(alloc, SUBSCRIBE.as_bytes()) else {
+        return false;
+    };
+    let (ended, hung_up, sent) = broken_off(alloc, bytes, reads, writes);
+    ended == Err(LinkFault::Failed)
+        && hung_up == is_opened
+        && STREAM.as_bytes().starts_with(sent.as_slice())
+        && (is_opened || sent.is_empty())
+}
+
+/// So many writes send the stream of one event: its head, the four parts of a chunk, the last chunk.
+const WRITES: u64 = 6;
+
+/// So many reads of 16 bytes take the SUBSCRIBE.
+const READS: u64 = 12;
+
+/// The outlet fails at each of its writes, and the inlet at each of its reads.
+pub fn a_link_may_fail_anywhere(alloc: Global) -> bool {
+    for writes in 0..WRITES {
+        if !fails_at(alloc, u64::MAX, writes, true) {
+            return false;
+        }
     }
+    for reads in 0..READS {
+        if !fails_at(alloc, reads, u64::MAX, false) {
+            return false;
+        }
+    }
+    true
 }

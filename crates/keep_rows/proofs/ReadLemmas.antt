@@ -172,6 +172,13 @@ lone_shown (r ∷ s ∷ more) [] same one = absurd (omega (arith, length_permuta
 lone_shown (r ∷ s ∷ more) (x ∷ []) same one = absurd (omega (arith, length_permutation _ _ same))
 lone_shown (r ∷ s ∷ more) (x ∷ y ∷ zs) same one = absurd one
 
+-- and of at most one row at most one id is shown
+pub lone_ids : (held rows : List Row) → AreIds rows held → IsLone held → IsLone rows
+lone_ids [] [] same one = tt
+lone_ids [] (x ∷ rows) same one = absurd (omega (arith, length_permutation _ _ same))
+lone_ids (r ∷ []) rows same one = subst IsLone (sym (one_permutation (rowid r ∷ []) rows same)) one
+lone_ids (r ∷ s ∷ more) rows same one = absurd one
+
 -- where no id is shown, there is no row
 pub none_shown : (held rows : List Row) → AreIds rows held → length rows ≡ 0 → held ≡ []
 none_shown [] rows same none = refl

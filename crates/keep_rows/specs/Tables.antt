@@ -14,13 +14,27 @@ use Rattle.sqlite.specs.declared.error.ErrorCode.TheVariants.{OutOfMemory}
 use Rattle.keep_rows.specs.declared.fault.KeepFault.{KeepFault}
 use Rattle.keep_rows.specs.declared.fault.KeepFault.TheVariants as fault
 use Rattle.names_core.specs.Ids.{Numbered}
-pub use Rattle.keep_tables.specs.Schemas.{column_of, id_check, no_stamps, lone_table, record_columns, run_columns, head_columns, task_columns, total_columns, record_table, run_table, head_table, task_table, task_index, total_table, total_index, keeper_schema, second_schema, first_schema, no_schema}
+pub use Rattle.keep_tables.specs.Schemas.{column_of, id_check, no_stamps, lone_table, record_columns, run_columns, head_columns, task_columns, total_columns, record_table, run_table, head_table, task_table, task_index, total_table, total_index, keeper_schema, second_schema, first_schema, no_schema, HasKnownTables}
 
 -- at most the row with the rowid 1
 abbrev pub IsLone : List Row → Type 0
 IsLone [] = ⊤
 IsLone (row ∷ []) = rowid row ≡ Int (pos 1)
 IsLone (row ∷ next ∷ more) = ⊥
+
+-- the tables of records, of runs and of heads have at most the row with the rowid 1
+pub record AreLone (db : Trees) : Type 0 where
+  pub one_record : IsLone (db 0)
+  pub one_run : IsLone (db 1)
+  pub one_head : IsLone (db 2)
+
+-- a database of a known layout (`HasKnownTables`), in which the tables of records, of runs and
+-- of heads have at most the row with the rowid 1
+abbrev pub IsKnown : Database → Type 0
+IsKnown d =
+    (d.schema ≡ no_schema) ⊎ (((d.schema ≡ first_schema) × IsLone (d.trees 0) × IsLone (d.trees 1))
+    ⊎ (((d.schema ≡ second_schema) × AreLone d.trees) ⊎ ((d.schema ≡ keeper_schema)
+    × AreLone d.trees)))
 
 -- a database of the five tables, with at most one row in each but those of tasks and of amounts
 pub record IsOurs (db : Database) : Type 0 where
@@ -172,6 +186,11 @@ pub record HasNoRow (db : Trees) : Type 0 where
   pub records : db 0 ≡ []
   pub runs : db 1 ≡ []
   pub heads : db 2 ≡ []
+
+-- the tables of records and of runs are new, and have no row
+pub record AddsFirst (old new : Trees) : Type 0 where
+  pub records : new 0 ≡ []
+  pub runs : new 1 ≡ []
 
 -- the tables of heads and of tasks are new beside those of records and runs
 pub record AddsTables (old new : Trees) : Type 0 where

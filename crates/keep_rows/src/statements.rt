@@ -4,7 +4,8 @@ ghost use Rattle.std.specs.Prelude.{◌≡◌, false, IsTrue, IfOk, OnOk, OnErr,
 ghost use Rattle.sqlite.specs.declared.types.Value.TheVariants.{Int, Text};
 ghost use Rattle.sqlite.specs.State.{HasCleanDisk, IsUnchanged, Survives};
 ghost use Rattle.sqlite.specs.Held.{state};
-ghost use Rattle.keep_rows.specs.Tables.{AddsTables, AddsTotals, amount_shown, head_of, task_shown, IsCommitted, IsReady, Stays, Wrote, Replaced, AreIds, first_schema, second_schema, keeper_schema, values_of};
+ghost use Rattle.sqlite_catalog.specs.Listing.{IsSound};
+ghost use Rattle.keep_rows.specs.Tables.{AddsFirst, AddsTables, AddsTotals, amount_shown, head_of, task_shown, IsCommitted, IsReady, Stays, Wrote, Replaced, AreIds, first_schema, second_schema, keeper_schema, no_schema, values_of};
 
 use sqlite::{Alter, Connection, Error, Row, params};
 
@@ -12,6 +13,13 @@ use sqlite::{Alter, Connection, Error, Row, params};
 pub fn make_first_tables<S: Alter>(conn: &mut Connection<S>) -> Result<(), Error>
     requires { conn.old.in_transaction ≡ false }
     ensures clean { HasCleanDisk (state S.Store conn.new) → HasCleanDisk (state S.Store conn.old) }
+    ensures made { HasCleanDisk (state S.Store conn.new)
+        → (state S.Store conn.old).now.schema ≡ no_schema
+        → OnOk result (IsCommitted first_schema AddsFirst (state S.Store conn.old)
+        (state S.Store conn.new)) }
+    ensures stop { Survives (state S.Store conn.old) (state S.Store conn.new)
+        (λ db. (state S.Store conn.old).now.schema ≡ no_schema
+        → IsSound first_schema db × AddsFirst (state S.Store conn.old).now.trees db) }
 {
     let mut tx = conn.transaction();
     tx.execute(
@@ -33,6 +41,9 @@ pub fn make_task_tables<S: Alter>(conn: &mut Connection<S>) -> Result<(), Error>
         → (state S.Store conn.old).now.schema ≡ first_schema
         → OnOk result (IsCommitted second_schema AddsTables (state S.Store conn.old)
         (state S.Store conn.new)) }
+    ensures stop { Survives (state S.Store conn.old) (state S.Store conn.new)
+        (λ db. (state S.Store conn.old).now.schema ≡ first_schema
+        → IsSound second_schema db × AddsTables (state S.Store conn.old).now.trees db) }
 {
     let mut tx = conn.transaction();
     tx.execute(
@@ -54,6 +65,9 @@ pub fn make_total_table<S: Alter>(conn: &mut Connection<S>) -> Result<(), Error>
         → (state S.Store conn.old).now.schema ≡ second_schema
         → OnOk result (IsCommitted keeper_schema AddsTotals (state S.Store conn.old)
         (state S.Store conn.new)) }
+    ensures stop { Survives (state S.Store conn.old) (state S.Store conn.new)
+        (λ db. (state S.Store conn.old).now.schema ≡ second_schema
+        → IsSound keeper_schema db × AddsTotals (state S.Store conn.old).now.trees db) }
 {
     let mut tx = conn.transaction();
     tx.execute(
@@ -71,6 +85,8 @@ pub fn read_record_ids<S: Alter>(conn: &mut Connection<S>) -> Result<Vec<Row>, E
     ensures same { (state S.Store conn.old).now.schema ≡ keeper_schema
         → HasCleanDisk (state S.Store conn.new)
         → OnOk result (IsUnchanged (state S.Store conn.old) (state S.Store conn.new)) }
+    ensures quiet { Survives (state S.Store conn.old) (state S.Store conn.new)
+        (λ _. (state S.Store conn.old).now.schema ≡ keeper_schema → ⊥) }
 {
     conn.query_all("SELECT id FROM agent_record", &[])
 }
@@ -83,6 +99,8 @@ pub fn read_head_ids<S: Alter>(conn: &mut Connection<S>) -> Result<Vec<Row>, Err
     ensures same { (state S.Store conn.old).now.schema ≡ keeper_schema
         → HasCleanDisk (state S.Store conn.new)
         → OnOk result (IsUnchanged (state S.Store conn.old) (state S.Store conn.new)) }
+    ensures quiet { Survives (state S.Store conn.old) (state S.Store conn.new)
+        (λ _. (state S.Store conn.old).now.schema ≡ keeper_schema → ⊥) }
 {
     conn.query_all("SELECT id FROM agent_head", &[])
 }
@@ -95,6 +113,8 @@ pub fn read_run_ids<S: Alter>(conn: &mut Connection<S>) -> Result<Vec<Row>, Erro
     ensures same { (state S.Store conn.old).now.schema ≡ keeper_schema
         → HasCleanDisk (state S.Store conn.new)
         → OnOk result (IsUnchanged (state S.Store conn.old) (state S.Store conn.new)) }
+    ensures quiet { Survives (state S.Store conn.old) (state S.Store conn.new)
+        (λ _. (state S.Store conn.old).now.schema ≡ keeper_schema → ⊥) }
 {
     conn.query_all("SELECT id FROM run_number", &[])
 }

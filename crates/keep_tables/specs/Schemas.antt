@@ -1,5 +1,5 @@
 -- The tables of a store of an agent's record and of the master's last run.
-use Rattle.std.specs.Prelude.{Bool, true, false, [], ◌∷◌, Some, None, codes, List, ℕ, pos}
+use Rattle.std.specs.Prelude.{◌≡◌, ◌⊎◌, Bool, true, false, [], ◌∷◌, Some, None, codes, List, ℕ, pos}
 use Rattle.sqlite.specs.Collation.TheVariants.{Binary}
 use Rattle.sqlite.specs.declared.types.Value.TheVariants.{Null, Int}
 use Rattle.sqlite.specs.Table.{Table}
@@ -157,3 +157,9 @@ first_schema = record { tables = record_table ∷ run_table ∷ []; indexes = []
 
 abbrev pub no_schema : Schema
 no_schema = record { tables = []; indexes = []; views = [] }
+
+-- the tables that the schema lists are those of a known layout:
+-- none yet, the two or the four of an older store, or all five
+abbrev pub HasKnownTables : Schema → Type 0
+HasKnownTables s =
+    (s ≡ no_schema) ⊎ ((s ≡ first_schema) ⊎ ((s ≡ second_schema) ⊎ (s ≡ keeper_schema)))

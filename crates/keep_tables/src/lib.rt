@@ -2,7 +2,8 @@
 //! whether a schema is that of these.
 #![tactic(auto)]
 
-ghost use Rattle.std.specs.Prelude.{◌≡◌, ◌↔◌, ◌∷◌, [], IsTrue, List, None, codes, false, true, length, pos};
+ghost use Rattle.std.specs.Prelude.{◌≡◌, ◌<◌, ◌↔◌, ◌∷◌, [], ℕ, IsTrue, IfNone, IfSome, List, None, Some, codes, false, true, length, pos, slice_get};
+ghost use Rattle.sqlite_schema.specs.Code.{terms_in};
 ghost use Rattle.sqlite.specs.Kind.TheVariants.{Integer, Text as Words};
 ghost use Rattle.sqlite_value.specs.Keys.{plain};
 ghost use Rattle.sqlite_schema.specs.declared.schema.Column.{Column};
@@ -19,7 +20,7 @@ use sqlite_value::keys::Collation;
 use sqlite_value::value::Value;
 
 fn is_column(column: &Column, name: &[u8], kind: Kind, not_null: bool) -> bool
-    ensures { IsTrue result → column.now ≡ column_of name.now kind not_null }
+    ensures { IsTrue result ↔ (column.now ≡ column_of name.now kind not_null) }
 {
     column.name.as_slice() == name
         && column.kind == kind
@@ -29,49 +30,72 @@ fn is_column(column: &Column, name: &[u8], kind: Kind, not_null: bool) -> bool
         && column.collation == Collation::Binary
 }
 
-fn is_column_term(op: &Op) -> bool
-    ensures { IsTrue result → op.now ≡ Op.Column 1 0 }
+/// The node at a place is the column of the id.
+fn is_id_at(ops: &[Op], at: usize) -> bool
+    ensures { IsTrue result ↔ (slice_get ops.now at ≡ Some (Op.Column 1 0)) }
 {
-    matches!(op, Op::Column(1, 0))
+    matches!(ops.get(at), Some(Op::Column(1, 0)))
 }
 
-fn is_one(op: &Op) -> bool
-    ensures { IsTrue result → op.now ≡ Op.Literal (Int (pos 1)) }
+/// The node at a place is the number 1.
+fn is_one_at(ops: &[Op], at: usize) -> bool
+    ensures { IsTrue result ↔ (slice_get ops.now at ≡ Some (Op.Literal (Int (pos 1)))) }
 {
-    matches!(op, Op::Literal(Value::Int(1)))
+    matches!(ops.get(at), Some(Op::Literal(Value::Int(1))))
 }
 
-fn is_equality(op: &Op) -> bool
-    ensures { IsTrue result → op.now ≡ Op.Binary (Compare Eq Binary) 0 1 }
+/// The places of the operands, where the node at a place is an equality.
+fn operands_at(ops: &[Op], at: usize) -> Option<(usize, usize)>
+    ensures some { IfSome result
+        (λ p. slice_get ops.now at ≡ Some (Op.Binary (Compare Eq Binary) p.0 p.1)) }
+    ensures none { IfNone result ((a b : ℕ)
+        → slice_get ops.now at ≡ Some (Op.Binary (Compare Eq Binary) a b) → ⊥) }
 {
-    matches!(
-        op,
-        Op::Binary(BinaryOp::Compare(CompareOp::Eq, Collation::Binary), 0, 1)
-    )
+    match ops.get(at) {
+        Some(Op::Binary(BinaryOp::Compare(CompareOp::Eq, Collation::Binary), left, right)) => {
+            Some((*left, *right))
+        }
+        _ => None,
+    }
 }
 
-/// The check that the id is 1.
+/// The nodes at these places are the operands of the check that the id is 1.
+fn are_operands(ops: &[Op], left: usize, right: usize) -> bool
+    ensures { IsTrue result ↔ ((1 < length ops.now)
+        × (slice_get ops.now left ≡ Some (Op.Column 1 0))
+        × (slice_get ops.now right ≡ Some (Op.Literal (Int (pos 1))))) }
+{
+    ops.len() > 1 && is_id_at(ops, left) && is_one_at(ops, right)
+}
+
+/// The tree of an expression is the check that the id is 1.
+fn is_check_at(ops: &[Op], root: usize) -> bool
+    ensures { IsTrue result ↔ (terms_in ops.now (root ∷ []) ≡ id_check) }
+{
+    let Some((left, right)) = operands_at(ops, root) else {
+        return false;
+    };
+    are_operands(ops, left, right)
+}
+
+/// The only check is that the id is 1.
 fn is_check(checks: &Terms) -> bool
-    ensures { IsTrue result → checks.now ≡ id_check }
+    ensures { IsTrue result ↔ (checks.now ≡ id_check) }
 {
-    let nodes = checks.nodes.as_slice();
-    let roots = checks.roots.as_slice();
-    nodes.len() == 3
-        && roots.len() == 1
-        && is_column_term(&nodes[0])
-        && is_one(&nodes[1])
-        && is_equality(&nodes[2])
-        && roots[0] == 2
+    let [root] = checks.roots.as_slice() else {
+        return false;
+    };
+    is_check_at(checks.nodes.as_slice(), *root)
 }
 
 fn is_plain(stamps: &Stamps) -> bool
-    ensures { IsTrue result → stamps.now ≡ no_stamps }
+    ensures { IsTrue result ↔ (stamps.now ≡ no_stamps) }
 {
     stamps.places.is_empty() && stamps.terms.roots.is_empty() && stamps.formats.is_empty()
 }
 
 fn are_columns(columns: &[Column], name: &[u8], kind: Kind) -> bool
-    ensures { IsTrue result → columns.now ≡ id_column ∷ column_of name.now kind true ∷ [] }
+    ensures { IsTrue result ↔ (columns.now ≡ id_column ∷ column_of name.now kind true ∷ []) }
 {
     columns.len() == 2
         && is_column(&columns[0], b"id", Kind::Integer, false)
@@ -79,9 +103,9 @@ fn are_columns(columns: &[Column], name: &[u8], kind: Kind) -> bool
 }
 
 fn are_first_of_head(id: &Column, name: &Column, run: &Column) -> bool
-    ensures { IsTrue result → (id.now ≡ id_column)
+    ensures { IsTrue result ↔ ((id.now ≡ id_column)
         × (name.now ≡ column_of (codes "name") Words true)
-        × (run.now ≡ column_of (codes "run") Integer true) }
+        × (run.now ≡ column_of (codes "run") Integer true)) }
 {
     is_column(id, b"id", Kind::Integer, false)
         && is_column(name, b"name", Kind::Text, true)
@@ -89,9 +113,9 @@ fn are_first_of_head(id: &Column, name: &Column, run: &Column) -> bool
 }
 
 fn are_last_of_head(session: &Column, total: &Column, version: &Column) -> bool
-    ensures { IsTrue result → (session.now ≡ column_of (codes "session") Integer true)
+    ensures { IsTrue result ↔ ((session.now ≡ column_of (codes "session") Integer true)
         × (total.now ≡ column_of (codes "total") Words true)
-        × (version.now ≡ column_of (codes "version") Integer true) }
+        × (version.now ≡ column_of (codes "version") Integer true)) }
 {
     is_column(session, b"session", Kind::Integer, true)
         && is_column(total, b"total", Kind::Text, true)
@@ -99,7 +123,7 @@ fn are_last_of_head(session: &Column, total: &Column, version: &Column) -> bool
 }
 
 fn are_head_columns(columns: &[Column]) -> bool
-    ensures { IsTrue result → columns.now ≡ id_column ∷ head_columns }
+    ensures { IsTrue result ↔ (columns.now ≡ id_column ∷ head_columns) }
 {
     let [id, name, run, session, total, version] = columns else {
         return false;
@@ -108,7 +132,7 @@ fn are_head_columns(columns: &[Column]) -> bool
 }
 
 fn are_task_columns(columns: &[Column]) -> bool
-    ensures { IsTrue result → columns.now ≡ task_columns }
+    ensures { IsTrue result ↔ (columns.now ≡ task_columns) }
 {
     columns.len() == 3
         && is_column(&columns[0], b"run", Kind::Integer, true)
@@ -118,8 +142,8 @@ fn are_task_columns(columns: &[Column]) -> bool
 
 /// What the tables have none of.
 fn is_simple(table: &Table) -> bool
-    ensures { IsTrue result → (table.now.references ≡ []) × (table.now.computed ≡ [])
-        × (table.now.stamps ≡ no_stamps) × (table.now.is_counted ≡ false) }
+    ensures { IsTrue result ↔ ((table.now.references ≡ []) × (table.now.computed ≡ [])
+        × (table.now.stamps ≡ no_stamps) × (table.now.is_counted ≡ false)) }
 {
     table.references.is_empty()
         && table.computed.is_empty()
@@ -129,8 +153,10 @@ fn is_simple(table: &Table) -> bool
 
 /// The table of an id, which is 1, and the columns that it has after it.
 fn is_lone(table: &Table, name: &[u8], tree: u32) -> bool
-    ensures { (columns : List Column) → IsTrue result → table.now.columns ≡ id_column ∷ columns
+    ensures lone { (columns : List Column) → IsTrue result → table.now.columns ≡ id_column ∷ columns
         → table.now ≡ lone_table name.now tree columns }
+    ensures is { (columns : List Column) → table.now ≡ lone_table name.now tree columns
+        → IsTrue result }
 {
     table.name.as_slice() == name
         && table.tree == tree
@@ -143,21 +169,21 @@ fn is_lone(table: &Table, name: &[u8], tree: u32) -> bool
 }
 
 fn is_table(table: &Table, name: &[u8], tree: u32, column: &[u8], kind: Kind) -> bool
-    ensures { IsTrue result → table.now ≡ lone_table name.now tree
-        (column_of column.now kind true ∷ []) }
+    ensures { IsTrue result ↔ (table.now ≡ lone_table name.now tree
+        (column_of column.now kind true ∷ [])) }
 {
     is_lone(table, name, tree) && are_columns(table.columns.as_slice(), column, kind)
 }
 
 fn is_head(table: &Table) -> bool
-    ensures { IsTrue result → table.now ≡ head_table }
+    ensures { IsTrue result ↔ (table.now ≡ head_table) }
 {
     is_lone(table, b"agent_head", 2) && are_head_columns(table.columns.as_slice())
 }
 
 /// The columns at these places are the only ones that are unique together.
 fn has_unique(table: &Table, columns: &[usize]) -> bool
-    ensures { IsTrue result → table.now.uniques ≡ columns.now ∷ [] }
+    ensures { IsTrue result ↔ (table.now.uniques ≡ columns.now ∷ []) }
 {
     let [unique] = table.uniques.as_slice() else {
         return false;
@@ -166,7 +192,7 @@ fn has_unique(table: &Table, columns: &[usize]) -> bool
 }
 
 fn has_order(table: &Table) -> bool
-    ensures { IsTrue result → table.now.orders ≡ plain ∷ [] }
+    ensures { IsTrue result ↔ (table.now.orders ≡ plain ∷ []) }
 {
     let [order] = table.orders.as_slice() else {
         return false;
@@ -176,8 +202,8 @@ fn has_order(table: &Table) -> bool
 
 /// The primary key is that of the columns at these places, and no rowid.
 fn has_key(table: &Table, columns: &[usize]) -> bool
-    ensures { IsTrue result → (table.now.key ≡ None) × (table.now.primary ≡ columns.now)
-        × (table.now.uniques ≡ columns.now ∷ []) × (table.now.orders ≡ plain ∷ []) }
+    ensures { IsTrue result ↔ ((table.now.key ≡ None) × (table.now.primary ≡ columns.now)
+        × (table.now.uniques ≡ columns.now ∷ []) × (table.now.orders ≡ plain ∷ [])) }
 {
     table.key.is_none()
         && table.primary.as_slice() == columns
@@ -186,7 +212,7 @@ fn has_key(table: &Table, columns: &[usize]) -> bool
 }
 
 fn is_task(table: &Table) -> bool
-    ensures { IsTrue result → table.now ≡ task_table }
+    ensures { IsTrue result ↔ (table.now ≡ task_table) }
 {
     table.name.as_slice() == b"agent_task".as_slice()
         && table.tree == 3
@@ -198,7 +224,7 @@ fn is_task(table: &Table) -> bool
 
 /// A unique index of the columns at these places.
 fn is_index(index: &Index, name: &[u8], tree: u32, table: u32, columns: &[usize]) -> bool
-    ensures { IsTrue result → index.now ≡ index_of name.now tree table columns.now }
+    ensures { IsTrue result ↔ (index.now ≡ index_of name.now tree table columns.now) }
 {
     index.name.as_slice() == name
         && index.tree == tree
@@ -209,13 +235,13 @@ fn is_index(index: &Index, name: &[u8], tree: u32, table: u32, columns: &[usize]
 }
 
 fn is_task_index(index: &Index) -> bool
-    ensures { IsTrue result → index.now ≡ task_index }
+    ensures { IsTrue result ↔ (index.now ≡ task_index) }
 {
     is_index(index, b"sqlite_autoindex_agent_task_1", 4, 3, &[1, 2])
 }
 
 fn are_total_columns(columns: &[Column]) -> bool
-    ensures { IsTrue result → columns.now ≡ total_columns }
+    ensures { IsTrue result ↔ (columns.now ≡ total_columns) }
 {
     columns.len() == 2
         && is_column(&columns[0], b"name", Kind::Text, false)
@@ -223,7 +249,7 @@ fn are_total_columns(columns: &[Column]) -> bool
 }
 
 fn is_total(table: &Table) -> bool
-    ensures { IsTrue result → table.now ≡ total_table }
+    ensures { IsTrue result ↔ (table.now ≡ total_table) }
 {
     table.name.as_slice() == b"agent_total".as_slice()
         && table.tree == 5
@@ -234,14 +260,14 @@ fn is_total(table: &Table) -> bool
 }
 
 fn is_total_index(index: &Index) -> bool
-    ensures { IsTrue result → index.now ≡ total_index }
+    ensures { IsTrue result ↔ (index.now ≡ total_index) }
 {
     is_index(index, b"sqlite_autoindex_agent_total_1", 6, 5, &[1])
 }
 
 fn are_first(tables: &[Table]) -> bool
-    ensures { IsTrue result → (length tables.now ≡ 2)
-        × (tables.now ≡ record_table ∷ run_table ∷ []) }
+    ensures { IsTrue result ↔ ((length tables.now ≡ 2)
+        × (tables.now ≡ record_table ∷ run_table ∷ [])) }
 {
     tables.len() == 2
         && is_table(&tables[0], b"agent_record", 0, b"body", Kind::Text)
@@ -249,14 +275,15 @@ fn are_first(tables: &[Table]) -> bool
 }
 
 fn are_both(record: &Table, run: &Table) -> bool
-    ensures { IsTrue result → (record.now ≡ record_table) × (run.now ≡ run_table) }
+    ensures { IsTrue result ↔ ((record.now ≡ record_table) × (run.now ≡ run_table)) }
 {
     is_table(record, b"agent_record", 0, b"body", Kind::Text)
         && is_table(run, b"run_number", 1, b"last", Kind::Integer)
 }
 
 fn are_second(tables: &[Table]) -> bool
-    ensures { IsTrue result → tables.now ≡ record_table ∷ run_table ∷ head_table ∷ task_table ∷ [] }
+    ensures { IsTrue result ↔ (tables.now
+        ≡ record_table ∷ run_table ∷ head_table ∷ task_table ∷ []) }
 {
     let [record, run, head, task] = tables else {
         return false;
@@ -265,8 +292,8 @@ fn are_second(tables: &[Table]) -> bool
 }
 
 fn are_all(tables: &[Table]) -> bool
-    ensures { IsTrue result → tables.now ≡ record_table ∷ run_table ∷ head_table ∷ task_table
-        ∷ total_table ∷ [] }
+    ensures { IsTrue result ↔ (tables.now ≡ record_table ∷ run_table ∷ head_table ∷ task_table
+        ∷ total_table ∷ []) }
 {
     let [record, run, head, task, total] = tables else {
         return false;
@@ -275,7 +302,7 @@ fn are_all(tables: &[Table]) -> bool
 }
 
 fn are_indexes(indexes: &[Index]) -> bool
-    ensures { IsTrue result → indexes.now ≡ task_index ∷ total_index ∷ [] }
+    ensures { IsTrue result ↔ (indexes.now ≡ task_index ∷ total_index ∷ []) }
 {
     let [task, total] = indexes else {
         return false;
@@ -285,7 +312,7 @@ fn are_indexes(indexes: &[Index]) -> bool
 
 /// The schema is that of the five tables.
 pub fn is_ours(schema: &Schema) -> bool
-    ensures { IsTrue result → schema.now ≡ keeper_schema }
+    ensures { IsTrue result ↔ (schema.now ≡ keeper_schema) }
 {
     are_all(schema.tables.as_slice())
         && are_indexes(schema.indexes.as_slice())
@@ -294,7 +321,7 @@ pub fn is_ours(schema: &Schema) -> bool
 
 /// The schema is that of the four tables which a store had that kept an agent's total in its head.
 pub fn is_second(schema: &Schema) -> bool
-    ensures { IsTrue result → schema.now ≡ second_schema }
+    ensures { IsTrue result ↔ (schema.now ≡ second_schema) }
 {
     let indexes = schema.indexes.as_slice();
     are_second(schema.tables.as_slice())
@@ -305,7 +332,7 @@ pub fn is_second(schema: &Schema) -> bool
 
 /// The schema is that of the two tables which a store had that kept a record as one text.
 pub fn is_first(schema: &Schema) -> bool
-    ensures { IsTrue result → schema.now ≡ first_schema }
+    ensures { IsTrue result ↔ (schema.now ≡ first_schema) }
 {
     are_first(schema.tables.as_slice()) && schema.indexes.is_empty() && schema.views.is_empty()
 }

@@ -102,7 +102,7 @@ fn value_of(alloc: Global, to: &ToAgent) -> Result<Value, AllocError>
     ensures { IfOk result (λ v. view v ≡ master_mail_data to.now.agent to.now.mail) }
 {
     match &to.mail {
-        MasterMail::Hello { run, dead } => hello_value(alloc, *run, *dead),
+        MasterMail::Hello { run, dead } => hello_value(alloc, u32::from(run.number()), *dead),
         MasterMail::Issued {
             session,
             number,

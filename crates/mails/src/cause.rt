@@ -1,11 +1,40 @@
 //! The causes that an agent acts on.
 
+ghost use Rattle.std.specs.Prelude.{◌≡◌};
 ghost use Rattle.std.proofs.Common.{rules};
+ghost use Rattle.mails.specs.Causes.{task_state};
 
 use crate::mail::ToAgent;
 use names_core::{LaunchKey, TaskState};
 use plain_data::Plain;
 use quantity::Resources;
+
+/// A state that the executor of a task reports: that the task runs, or how it ended by itself.
+#[derive(Clone, Copy, Debug, Drop, PartialEq, Eq)]
+pub enum ExecutorState {
+    Running,
+    Finished,
+    Failed,
+}
+
+impl Plain for ExecutorState {
+    ghost cloned = { Prim.search rules };
+
+    ghost decided = { Prim.search rules };
+}
+
+impl ExecutorState {
+    /// The task's state from then on.
+    pub fn task_state(self) -> TaskState
+        ensures { result ≡ task_state self }
+    {
+        match self {
+            ExecutorState::Running => TaskState::Running,
+            ExecutorState::Finished => TaskState::Finished,
+            ExecutorState::Failed => TaskState::Failed,
+        }
+    }
+}
 
 /// What an agent acts on.
 #[derive(Clone, Drop, PartialEq)]
@@ -15,9 +44,8 @@ pub enum Cause {
     Start(Option<Resources>),
     /// A mail from the master, which may be for another agent.
     Mail(ToAgent),
-    /// The executor of the task of this key reports a state: TASK_RUNNING,
-    /// TASK_FINISHED or TASK_FAILED.
-    Executor(LaunchKey, TaskState),
+    /// The executor of the task of this key reports a state.
+    Executor(LaunchKey, ExecutorState),
     /// It sends again what isn't acknowledged.
     Again,
 }

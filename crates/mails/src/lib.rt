@@ -10,7 +10,7 @@ mod refusal;
 mod task;
 
 pub use call::{Call, ReconciledTask, TaskInfo};
-pub use cause::Cause;
+pub use cause::{Cause, ExecutorState};
 pub use framework::{Filter, Framework};
 pub use mail::{AgentMail, Command, MasterMail, ToAgent, ToMaster};
 pub use record::{Durable, RecordedTask};

@@ -4,7 +4,7 @@ ghost use Rattle.std.proofs.Common.{rules};
 
 use crate::task::{Booked, Job};
 use listed::Listed;
-use names_core::{AgentName, FrameworkId, LaunchKey, OfferId, TaskState};
+use names_core::{AgentName, FrameworkId, LaunchKey, OfferId, Run, TaskState};
 use plain_data::Plain;
 use quantity::Resources;
 
@@ -52,7 +52,7 @@ pub enum MasterMail {
     /// The master's run, and the greatest session of the agent
     /// that this run has closed (0 if none).
     Hello {
-        run: u32,
+        run: Run,
         dead: u32,
     },
     /// The command with this number of this session.

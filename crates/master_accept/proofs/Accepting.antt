@@ -20,7 +20,8 @@ use Rattle.cluster_model.specs.Events.{Event, update_event}
 use Rattle.cluster_model.specs.Masters.{Placed, all_booked, first_placed, held_among, is_task_of, on_stream}
 use Rattle.cluster_model.specs.Calls as model
 use Rattle.cluster_model.specs.Calls.{Accepting, Given, accepts_as, accepts_one, answering, answers, job_of, launching}
-use Rattle.offer_book.specs.Held.{first_at, is_of_name, place}
+use Rattle.offer_tables.specs.Found.{place}
+use Rattle.master_accept.specs.Holding.{first_at, is_of_name}
 use Rattle.agent_sides.specs.Looks.{all_placed}
 use Rattle.master_state.specs.declared.state.State.{State}
 use Rattle.scheduler_events.specs.declared.stream_event.StreamEvent.{StreamEvent}

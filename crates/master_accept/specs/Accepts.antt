@@ -13,7 +13,7 @@ use Rattle.cluster_model.specs.Sides.{Side, is_named, just_booked, without_used}
 use Rattle.cluster_model.specs.Masters.{Placed, held_among, may_have_numbers}
 use Rattle.cluster_model.specs.Calls.{tasks_limit}
 use Rattle.frameworks.specs.Frameworks.{changed, with_filter}
-use Rattle.offer_book.specs.Held.{first_at}
+use Rattle.master_accept.specs.Holding.{first_at}
 use Rattle.agent_sides.specs.Looks.{all_placed, at_name}
 use Rattle.agent_sides.specs.declared.own.GoodOffers.{GoodOffers}
 use Rattle.master_state.specs.declared.state.State.{State}

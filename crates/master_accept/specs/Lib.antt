@@ -1,3 +1,4 @@
 pub mod Declines
+pub mod Holding
 pub mod Accepts
 pub mod Launches

@@ -2,6 +2,7 @@
 //! Mesos paper, section 3.1).
 #![tactic(auto)]
 
+mod held;
 mod launch;
 mod on_accept;
 mod on_decline;

@@ -6,11 +6,11 @@ ghost use Rattle.names_core.specs.Ids.{same};
 ghost use Rattle.cluster_model.specs.Ids.{is_among};
 ghost use Rattle.cluster_model.specs.Masters.{is_of};
 ghost use Rattle.cluster_model.specs.Calls.{called};
-ghost use Rattle.agent_sides.specs.Own.{holding_of};
+ghost use Rattle.agent_sides.specs.Own.{holding};
 ghost use Rattle.master_state.specs.Works.{Gave, master_of};
 ghost use Rattle.master_accept.specs.Declines.{refuses_each, refuses_id, refuses_if_own, refuses_on};
 
-use agent_accounts::Account;
+use agent_sides::{AgentSide, Sides};
 use frameworks::Frameworks;
 use mails::Offer;
 use master_state::{MasterFault, State};
@@ -60,13 +60,13 @@ fn refuse_on(
     alloc: Global,
     by: &Refuser,
     id: OfferId,
-    account: &Account,
+    agent: &AgentSide<'_>,
 ) -> Result<(), AllocError>
     ensures { OnOk result (frameworks.new ≡ refuses_on by.now id frameworks.old
-        (holding_of account.now)) }
+        (holding agent.now)) }
 {
-    for offer in account.offers().as_slice() {
-        refuse_if_own(frameworks, alloc, by, id, account.name(), offer)?;
+    for offer in agent.offers() {
+        refuse_if_own(frameworks, alloc, by, id, agent.name(), offer)?;
     }
     Ok(())
 }
@@ -75,14 +75,14 @@ fn refuse_id(
     frameworks: &mut Frameworks,
     alloc: Global,
     by: &Refuser,
-    accounts: &[Account],
+    sides: &Sides,
     id: OfferId,
 ) -> Result<(), AllocError>
-    ensures { OnOk result (frameworks.new ≡ refuses_id by.now (map holding_of accounts.now)
+    ensures { OnOk result (frameworks.new ≡ refuses_id by.now (map holding sides.now)
         frameworks.old id) }
 {
-    for account in accounts {
-        refuse_on(frameworks, alloc, by, id, account)?;
+    for agent in sides.iter() {
+        refuse_on(frameworks, alloc, by, id, &agent)?;
     }
     Ok(())
 }
@@ -92,15 +92,15 @@ fn refuse_each(
     frameworks: &mut Frameworks,
     alloc: Global,
     by: &Refuser,
-    accounts: &[Account],
+    sides: &Sides,
     ids: &[OfferId],
 ) -> Result<(), AllocError>
-    ensures { OnOk result (frameworks.new ≡ refuses_each by.now (map holding_of accounts.now)
+    ensures { OnOk result (frameworks.new ≡ refuses_each by.now (map holding sides.now)
         frameworks.old [] ids.now) }
 {
     for i in 0..ids.len() {
         if !is_among(&ids[..i], ids[i]) {
-            refuse_id(frameworks, alloc, by, accounts, ids[i])?;
+            refuse_id(frameworks, alloc, by, sides, ids[i])?;
         }
     }
     Ok(())
@@ -131,8 +131,7 @@ pub fn decline(
     };
     let _known = state.frameworks.as_slice();
     state.sides.stand_in_order();
-    let accounts = state.sides.accounts();
-    match refuse_each(&mut state.frameworks, alloc, &by, accounts, offers) {
+    match refuse_each(&mut state.frameworks, alloc, &by, &state.sides, offers) {
         Ok(()) => {}
         Err(_) => return Err(MasterFault::OutOfMemory),
     }

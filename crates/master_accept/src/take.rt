@@ -5,16 +5,17 @@ ghost use Rattle.std.specs.Prelude.{◌≡◌, ◌<◌, ◌≤◌, ◌+◌, Some
 ghost use Rattle.cluster_model.specs.Ids.{last_number};
 ghost use Rattle.cluster_model.specs.Masters.{held_among};
 ghost use Rattle.agent_sides.specs.Looks.{all_placed};
-ghost use Rattle.offer_book.specs.Held.{place, first_at};
+ghost use Rattle.offer_tables.specs.Found.{place};
+ghost use Rattle.master_accept.specs.Holding.{first_at};
 ghost use Rattle.master_state.specs.States.{task_state_sent};
 ghost use Rattle.master_accept.specs.Accepts.{bench, held_task, is_covered, launches, loses_one, new_task, takes_as, takes_one, sends_held};
 
+use crate::held::first_among;
 use agent_sides::Sides;
 use listed::Listed;
 use mails::{Booked, Job, TaskInfo};
 use master_state::State;
 use names_core::{AgentName, FrameworkId, LaunchKey, Run, StreamId, TaskName, TaskState};
-use offer_book::first_among;
 use plain_data::Plain;
 use quantity::Resources;
 use std::alloc::{AllocError, Global};

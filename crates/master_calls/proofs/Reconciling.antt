@@ -16,8 +16,7 @@ use Rattle.cluster_model.specs.Sides.{Side}
 use Rattle.cluster_model.specs.Events.{Event, update_event}
 use Rattle.cluster_model.specs.Masters.{Master, Placed, all_booked, held, on_stream, placed_on, put_placed, saying}
 use Rattle.cluster_model.specs.Calls.{answers, answers_held, called, is_awaited, is_live_of, on_reconcile, reconciles, reconciles_as}
-use Rattle.booked_tasks.specs.Launches.{tasks_of}
-use Rattle.offer_book.specs.Held.{place}
+use Rattle.offer_tables.specs.Found.{place}
 use Rattle.agent_sides.specs.Own.{holding}
 use Rattle.master_state.specs.declared.state.State.{State}
 use Rattle.scheduler_events.specs.declared.stream_event.StreamEvent.{StreamEvent}
@@ -88,18 +87,6 @@ gathered_sides framework es (s ∷ ss) =
     gathered_sides framework (gathers_on framework es (holding s)) ss
     ∙ ap (λ xs. fold (gathers_one framework) xs (flat_map placed_on ss)) (sym (fold-map (gathers_one framework) (place s.name) es s.booked))
     ∙ sym (fold-append (gathers_one framework) es (placed_on s) (flat_map placed_on ss))
-
--- of an agent's tasks only the framework's are gathered
-pub gathered_of : (framework : Numbered) (agent : List ℕ) (es : List (Numbered × HeldTask)) (bs : List Booked) → fold (gathers framework agent) es (tasks_of framework bs) ≡ fold (gathers framework agent) es bs
-gathered_of framework agent es [] = refl
-gathered_of framework agent es (b ∷ bs) = by_case (same b.job.framework framework) refl (λ fs. gathered_of framework agent fs bs)
-  where
-    by_case : (v : Bool) → same b.job.framework framework ≡ v → ((fs : List (Numbered × HeldTask)) → fold (gathers framework agent) fs (tasks_of framework bs) ≡ fold (gathers framework agent) fs bs)
-        → fold (gathers framework agent) es (cond v (b ∷ tasks_of framework bs) (tasks_of framework bs)) ≡ fold (gathers framework agent) es (b ∷ bs)
-    by_case true is rest = rest (gathers framework agent es b)
-    by_case false is rest =
-        let skipped : gathers framework agent es b ≡ es = rw is refl in
-        rest es ∙ ap (λ fs. fold (gathers framework agent) fs bs) (sym skipped)
 
 gathered : (framework : Numbered) (ps qs : List Placed) → IsInOrder qs → fold (gathers_one framework) (map keyed qs) ps ≡ map keyed (fold put_placed qs (filter (is_live_of framework) ps))
 gathered framework [] qs o = refl

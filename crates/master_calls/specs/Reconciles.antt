@@ -10,7 +10,7 @@ use Rattle.mails.specs.declared.task.Booked.{Booked}
 use Rattle.mails.specs.declared.call.ReconciledTask.{ReconciledTask}
 use Rattle.cluster_model.specs.Masters.{held}
 use Rattle.cluster_model.specs.Calls.{is_awaited, is_live_of}
-use Rattle.offer_book.specs.Held.{place}
+use Rattle.offer_tables.specs.Found.{place}
 use Rattle.agent_sides.specs.Own.{Holding, holding}
 use Rattle.master_state.specs.declared.state.State.{State}
 use Rattle.master_state.specs.States.{task_state_sent}

@@ -6,7 +6,7 @@ ghost use Rattle.cluster_model.specs.Sides.{SendAck, SendKill};
 ghost use Rattle.cluster_model.specs.Masters.{AtSide, held, side_of};
 ghost use Rattle.cluster_model.specs.Calls.{called, commanding};
 ghost use Rattle.master_state.specs.Works.{Gave, master_of};
-ghost use Rattle.offer_book.specs.Held.{place};
+ghost use Rattle.offer_tables.specs.Found.{place};
 ghost use Rattle.master_calls.specs.Tasks.{held_task, kills};
 
 use mails::{Booked, Command, MasterRefusal};

@@ -5,13 +5,12 @@ ghost use Rattle.std.specs.BTreeMap.{values};
 ghost use Rattle.mails.specs.declared.call.Call.TheVariants as calls;
 ghost use Rattle.names_core.specs.Ids.{same};
 ghost use Rattle.cluster_model.specs.Calls.{called, is_awaited};
-ghost use Rattle.agent_sides.specs.Own.{holding, holding_of};
+ghost use Rattle.agent_sides.specs.Own.{holding};
 ghost use Rattle.master_state.specs.Works.{Gave, master_of};
 ghost use Rattle.master_calls.specs.Reconciles.{gathers, gathers_all, gathers_on, reconciled, reconciled_as, reconciled_one, sends_held};
 
 use crate::on_kill::{HeldTask, copy_held, held_of};
-use agent_accounts::Account;
-use agent_sides::Sides;
+use agent_sides::{AgentSide, Sides};
 use mails::{Booked, ReconciledTask};
 use master_state::{MasterFault, State};
 use names_core::{AgentName, FrameworkId, LaunchKey, StreamId, TaskState};
@@ -111,52 +110,23 @@ fn gather_task(
     Ok(())
 }
 
-fn gather_tasks(
-    live: &mut BTreeMap<LaunchKey, HeldTask>,
-    alloc: Global,
-    framework: FrameworkId,
-    agent: &AgentName,
-    tasks: &[&Booked],
-) -> Result<(), AllocError>
-    ensures { OnOk result (live.new.entries ≡ fold (gathers framework agent.now) live.old.entries
-        (map (λ b. b.now) tasks.now)) }
-{
-    for task in tasks {
-        gather_task(live, alloc, framework, agent, *task)?;
-    }
-    Ok(())
-}
-
 /// Adds the framework's tasks on an agent that haven't ended.
 fn gather_on(
     live: &mut BTreeMap<LaunchKey, HeldTask>,
     alloc: Global,
     framework: FrameworkId,
-    account: &Account,
+    agent: &AgentSide<'_>,
 ) -> Result<(), AllocError>
     ensures { OnOk result (live.new.entries
-        ≡ gathers_on framework live.old.entries (holding_of account.now)) }
+        ≡ gathers_on framework live.old.entries (holding agent.now)) }
 {
-    let tasks = account.booked().of_framework(alloc, framework)?;
-    gather_tasks(live, alloc, framework, account.name(), &tasks)
-}
-
-fn gather_each(
-    live: &mut BTreeMap<LaunchKey, HeldTask>,
-    alloc: Global,
-    framework: FrameworkId,
-    accounts: &[Account],
-) -> Result<(), AllocError>
-    ensures { OnOk result (live.new.entries
-        ≡ gathers_all framework live.old.entries (map holding_of accounts.now)) }
-{
-    for account in accounts {
-        gather_on(live, alloc, framework, account)?;
+    for task in agent.tasks() {
+        gather_task(live, alloc, framework, agent.name(), task)?;
     }
     Ok(())
 }
 
-/// The framework's booked tasks that haven't ended, by their keys.
+/// The framework's booked tasks that haven't ended, by their keys. It visits all booked tasks.
 fn gather_all(
     sides: &Sides,
     alloc: Global,
@@ -166,7 +136,9 @@ fn gather_all(
         ≡ gathers_all framework [] (map holding sides.now)) }
 {
     let mut live = BTreeMap::new(alloc);
-    gather_each(&mut live, alloc, framework, sides.accounts())?;
+    for agent in sides.iter() {
+        gather_on(&mut live, alloc, framework, &agent)?;
+    }
     Ok(live)
 }
 

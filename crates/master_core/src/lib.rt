@@ -7,6 +7,6 @@ mod master;
 mod offered;
 mod settle;
 
-pub use agent_sides::{Config, ConfigFault};
+pub use agent_sides::{ConfigFault, ConfiguredAgents};
 pub use master::{Master, ReceivedMail};
 pub use master_state::{MasterFault, Outs};

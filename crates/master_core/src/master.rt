@@ -15,7 +15,7 @@ ghost use Rattle.master_core.specs.Steps.{Answers, Receives, greeting, is_open, 
 use crate::answer::answer;
 use crate::offered::sum_of;
 use crate::settle::settle;
-use agent_sides::Config;
+use agent_sides::ConfiguredAgents;
 use mails::{AgentMail, Call, MasterRefusal};
 use master_mails::{hang_up, lose_agent, mail as receive, tick};
 use master_rounds::allocate;
@@ -81,7 +81,11 @@ fn lose(state: &mut State, alloc: Global, agent: &AgentName) -> Result<(), Maste
 
 impl Master {
     /// A master that begins a run over these agents, and a Hello to each.
-    pub fn start(alloc: Global, run: Run, config: &Config) -> Result<(Master, Outs), MasterFault>
+    pub fn start(
+        alloc: Global,
+        run: Run,
+        config: &ConfiguredAgents,
+    ) -> Result<(Master, Outs), MasterFault>
         ensures master { IfOk result (λ started. started.0
             ≡ Some (master_of (fresh run config.now))) }
         ensures outs { IfOk result (λ started. started.1
@@ -202,7 +206,8 @@ impl Master {
     /// configured. `M5 OutOfMemory` leaves the master down.
     ///
     /// The caller owes that an update has a number that an agent's record has room for, and that
-    /// the tasks of a Report that haven't ended fit its total.
+    /// the tasks of a Report can be booked on the agent: their launch keys rise, none has the key of
+    /// a task that is booked on another agent, and those that haven't ended fit the reported total.
     pub fn mail(
         &mut self,
         alloc: Global,

@@ -4,7 +4,7 @@ ghost use Rattle.std.specs.Prelude.{◌≡◌, [], IfOk, OnOk};
 ghost use Rattle.quantity.specs.Rows.{plus_rows};
 ghost use Rattle.cluster_model.specs.Sides.{offer_rows};
 
-use mails::Offer;
+use agent_sides::OffersAt;
 use quantity::Resources;
 use std::alloc::{AllocError, Global};
 
@@ -22,8 +22,8 @@ fn add(sum: &mut Resources, alloc: Global, more: &Resources) -> Result<(), Alloc
 
 /// What offers have together. A sum past the limits of resources,
 /// which offers that fit what an agent owns don't have, is refused as if memory were.
-pub fn sum_of(alloc: Global, offers: &[Offer]) -> Result<Resources, AllocError>
-    ensures { IfOk result (λ sum. sum ≡ plus_rows [] (offer_rows offers.now)) }
+pub fn sum_of(alloc: Global, offers: OffersAt<'_>) -> Result<Resources, AllocError>
+    ensures { IfOk result (λ sum. sum ≡ plus_rows [] (offer_rows offers.entry)) }
 {
     let mut sum = Resources::new(alloc);
     for offer in offers {

@@ -9,8 +9,10 @@ use Rattle.std.specs.BTreeSet.{insert_key}
 use Rattle.std.proofs.lemmas.Bool.Decides.{nat_tests}
 use Rattle.names_core.specs.Ids.{Numbered, same}
 use Rattle.mails.specs.declared.task.Booked.{Booked}
-use Rattle.id_spans.specs.Orders.{id_cmp}
-use Rattle.id_spans.proofs.Orders.{at_same}
+use Rattle.master_mails.specs.Reported.{id_cmp}
+
+at_same : (a b : Numbered) → is_at (id_cmp a) b ≡ same b a
+at_same a b = grind (arith, nat_tests)
 
 equal_alike : (q k x : Numbered) → id_cmp k x ≡ Equal → same k q ≡ same x q
 equal_alike q k x e = grind (arith, nat_tests)

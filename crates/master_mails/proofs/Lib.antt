@@ -1,3 +1,4 @@
+pub mod Ending
 pub mod Finding
 pub mod Hanging
 pub mod Ticking

@@ -9,7 +9,7 @@ use Rattle.mails.specs.declared.refusal.MasterRefusal.{MasterRefusal}
 use Rattle.mails.specs.declared.refusal.MasterRefusal.TheVariants.{OtherRun, OldSession, Closed, NotOpen, NotSubscribed, WrongStream, NoSuchFramework, LimitExceeded}
 use Rattle.quantity.specs.declared.rows.Row.{Row}
 use Rattle.mails.specs.declared.task.Booked.{Booked}
-use Rattle.booked_tasks.specs.declared.tasks.TaskUpdate.{TaskUpdate}
+use Rattle.offer_rows.specs.declared.tasks.TaskUpdate.{TaskUpdate}
 use Rattle.cluster_model.specs.Events.{StreamEvent}
 use Rattle.cluster_model.specs.Mails.{goes_with, receive_at, in_session, judged, judged_session, mailed, mailed_as, session_opens}
 use Rattle.cluster_model.specs.Masters.{AtSide, Master, nothing, saying}

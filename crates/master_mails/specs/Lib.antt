@@ -1,3 +1,4 @@
+pub mod Ending
 pub mod Sending
 pub mod Steps
 pub mod Reported

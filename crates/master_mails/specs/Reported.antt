@@ -2,8 +2,13 @@
 use Rattle.std.specs.Prelude.{List, [], fold}
 use Rattle.std.specs.BTreeSet.{insert_key}
 use Rattle.names_core.specs.Ids.{Numbered}
-use Rattle.id_spans.specs.Orders.{id_cmp}
+use Rattle.std.specs.Ordering.{nat_cmp, ordering_then}
+use Rattle.std.specs.declared.cmp.Ordering.{Ordering}
 use Rattle.mails.specs.declared.task.Booked.{Booked}
+
+-- ids by run, then by number
+abbrev pub id_cmp : Numbered → Numbered → Ordering
+id_cmp a b = ordering_then (nat_cmp a.run b.run) (nat_cmp a.n b.n)
 
 abbrev pub with_key : List Numbered → Booked → List Numbered
 with_key ids t = insert_key id_cmp ids t.job.key

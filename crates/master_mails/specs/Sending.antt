@@ -5,7 +5,7 @@ use Rattle.names_core.specs.declared.state.TaskState.TheVariants.{Lost}
 use Rattle.mails.specs.declared.framework.Framework.{Framework}
 use Rattle.mails.specs.declared.task.Booked.{Booked}
 use Rattle.mails.specs.declared.task.Offer.{Offer}
-use Rattle.booked_tasks.specs.declared.tasks.TaskUpdate.{TaskUpdate}
+use Rattle.offer_rows.specs.declared.tasks.TaskUpdate.{TaskUpdate}
 use Rattle.cluster_model.specs.Events.{Event, StreamEvent, Rescind, update_event}
 use Rattle.cluster_model.specs.Mails.{is_reported}
 use Rattle.cluster_model.specs.Masters.{on_stream, stream_of}

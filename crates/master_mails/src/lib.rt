@@ -2,6 +2,7 @@
 //! agent, and when a framework's stream hangs up (Mesos paper, sections 3.1 and 3.5).
 #![tactic(auto)]
 
+mod laws;
 mod on_hang_up;
 mod on_loss;
 mod on_mail;
@@ -10,6 +11,7 @@ mod opening;
 mod reported;
 mod sending;
 
+pub use laws::an_end_that_is_received_frees;
 pub use on_hang_up::hang_up;
 pub use on_loss::lose_agent;
 pub use on_mail::mail;

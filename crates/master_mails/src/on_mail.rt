@@ -5,10 +5,11 @@ ghost use Rattle.stream_core.specs.Updates.{most_updates};
 ghost use Rattle.mails.specs.declared.mail.AgentMail.TheVariants.{Applied, Report, Update};
 ghost use Rattle.master_mails.specs.Steps.{Answered, turned_away};
 ghost use Rattle.cluster_model.specs.Mails.{FitsRecord};
+ghost use Rattle.side_fits.specs.Fits.{AreBookable, MailFitsAt};
 
 use crate::opening::open_session;
 use crate::sending;
-use booked_tasks::TaskUpdate;
+use agent_sides::TaskUpdate;
 use listed::Listed;
 use mails::{AgentMail, Booked, MasterRefusal};
 use master_state::State;
@@ -41,6 +42,7 @@ fn receive_report(
     tasks: Listed<Booked>,
     total: Resources,
 ) -> Result<Option<MasterRefusal>, AllocError>
+    requires { AreBookable agent.now tasks total state.old.sides }
     ensures { Answered result state.old state.new agent.now (Report session number tasks total) }
 {
     match state.sides.judge_report(agent, state.run, session, number) {
@@ -107,7 +109,8 @@ pub fn mail(
     agent: &AgentName,
     mail: AgentMail,
 ) -> Result<Option<MasterRefusal>, AllocError>
-    requires { FitsRecord mail }
+    requires number { FitsRecord mail }
+    requires fits { MailFitsAt agent.now mail state.old.sides }
     ensures { Answered result state.old state.new agent.now mail }
 {
     match mail {

@@ -2,6 +2,7 @@
 
 ghost use Rattle.std.specs.Prelude.{◌≡◌, ◌++◌, map, filter, fold, IfOk, OnOk};
 ghost use Rattle.cluster_model.specs.Mails.{is_to_end};
+ghost use Rattle.side_fits.specs.Fits.{AreBookable};
 ghost use Rattle.master_state.specs.Works.{master_of};
 ghost use Rattle.master_mails.specs.Steps.{ending, ends_of, session_opened};
 
@@ -77,6 +78,7 @@ pub fn open_session(
     tasks: Listed<Booked>,
     total: Resources,
 ) -> Result<(), AllocError>
+    requires { AreBookable agent.now tasks total state.old.sides }
     ensures { OnOk result (state.new ≡ session_opened agent.now session number tasks total
         state.old) }
 {
@@ -90,6 +92,6 @@ pub fn open_session(
     let tasks = reported.into_tasks();
     state
         .sides
-        .receive_report(alloc, agent, state.run, session, number, tasks, total);
+        .receive_report(alloc, agent, state.run, session, number, tasks, total)?;
     order_ends(state, alloc, agent, &ends)
 }

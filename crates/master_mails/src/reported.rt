@@ -4,8 +4,7 @@ ghost use Rattle.std.specs.Prelude.{◌≡◌, List, [], fold, IfOk, OnOk};
 ghost use Rattle.std.specs.BTreeMap.{is_at};
 ghost use Rattle.std.specs.List.{list_any};
 ghost use Rattle.mails.specs.declared.task.Booked.{Booked};
-ghost use Rattle.id_spans.specs.Orders.{id_cmp};
-ghost use Rattle.master_mails.specs.Reported.{frameworks_of, keys_of, with_framework, with_key};
+ghost use Rattle.master_mails.specs.Reported.{frameworks_of, id_cmp, keys_of, with_framework, with_key};
 ghost use Rattle.names_core.specs.Ids.{Numbered, same};
 
 use listed::Listed;
@@ -26,7 +25,6 @@ pub struct Reported {
 impl Model for Reported {
     ghost use Rattle.std.specs.Prelude.{◌≡◌, List};
     ghost use Rattle.mails.specs.declared.task.Booked.{Booked};
-    ghost use Rattle.id_spans.specs.Orders.{id_cmp};
     ghost use Rattle.master_mails.specs.Reported.{frameworks_of, keys_of};
 
     ghost Value = { List Booked };

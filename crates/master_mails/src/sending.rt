@@ -9,7 +9,7 @@ ghost use Rattle.stream_core.specs.Updates.{most_updates};
 ghost use Rattle.master_mails.specs.Sending.{loss_of, lost_event, news, rescind_of, updated_event};
 
 use crate::reported::Reported;
-use booked_tasks::TaskUpdate;
+use agent_sides::{OffersAt, TaskUpdate, TasksAt};
 use frameworks::{Frameworks, is_due};
 use listed::Listed;
 use mails::{Booked, Framework, Offer};
@@ -47,11 +47,11 @@ fn send_rescind(
 /// RESCIND of offers goes to their frameworks.
 pub fn send_rescinds(
     frameworks: &Frameworks,
-    offers: &[Offer],
+    offers: OffersAt<'_>,
     events: &mut Listed<StreamEvent>,
 ) -> Result<(), AllocError>
     ensures { OnOk result (events.new ≡ events.old
-        ++ flat_map (rescind_of frameworks.now) offers.now) }
+        ++ flat_map (rescind_of frameworks.now) offers.entry) }
 {
     for offer in offers {
         send_rescind(frameworks, offer, events)?;
@@ -108,11 +108,11 @@ pub fn send_losses(
     frameworks: &Frameworks,
     agent: &AgentName,
     reported: &Reported,
-    tasks: &[Booked],
+    tasks: TasksAt<'_>,
     events: &mut Listed<StreamEvent>,
 ) -> Result<(), AllocError>
     ensures { OnOk result (events.new ≡ events.old
-        ++ flat_map (loss_of frameworks.now agent.now reported.now) tasks.now) }
+        ++ flat_map (loss_of frameworks.now agent.now reported.now) tasks.entry) }
 {
     for task in tasks {
         send_loss(alloc, frameworks, agent, reported, task, events)?;
@@ -250,12 +250,12 @@ pub fn send_news(
     frameworks: &Frameworks,
     agent: &AgentName,
     update: &TaskUpdate,
-    tasks: &[Booked],
+    tasks: TasksAt<'_>,
     events: &mut Listed<StreamEvent>,
 ) -> Result<(), AllocError>
     requires { update.now.k < most_updates }
     ensures { OnOk result (events.new ≡ events.old
-        ++ flat_map (news frameworks.now agent.now update.now) tasks.now) }
+        ++ flat_map (news frameworks.now agent.now update.now) tasks.entry) }
 {
     for task in tasks {
         send_news_of(alloc, frameworks, agent, update, task, events)?;

@@ -27,22 +27,22 @@ fn plain(offer: &Offer) -> Result<mails::Offer, AllocError>
 
 /// Makes an offer at its agent. Its id is new, and it is of what is free there:
 /// a refusal is taken as want of memory.
-fn offer_one(sides: &mut Sides, alloc: Global, offer: &Offer) -> Result<(), AllocError>
+fn offer_one(sides: &mut Sides, offer: &Offer) -> Result<(), AllocError>
     ensures { OnOk result (sides.new ≡ offers_at sides.old offer.now) }
 {
     let made = plain(offer)?;
-    match sides.offer_to(alloc, &offer.agent, made) {
+    match sides.offer_to(&offer.agent, made) {
         Ok(()) => Ok(()),
         Err(_) => Err(AllocError),
     }
 }
 
 /// Makes the offers at their agents.
-pub fn offer_all(sides: &mut Sides, alloc: Global, offers: &[Offer]) -> Result<(), AllocError>
+pub fn offer_all(sides: &mut Sides, offers: &[Offer]) -> Result<(), AllocError>
     ensures { OnOk result (sides.new ≡ offers_all offers.now sides.old) }
 {
     for offer in offers {
-        offer_one(sides, alloc, offer)?;
+        offer_one(sides, offer)?;
     }
     Ok(())
 }

@@ -101,7 +101,7 @@ pub fn allocate(state: &mut State, alloc: Global, weights: &Weights) -> Result<(
     state.sides.own_rows();
     state.sides.stand_in_order();
     let (made, next) = next_offers(state, alloc, weights)?;
-    offer_all(&mut state.sides, alloc, made.as_slice())?;
+    offer_all(&mut state.sides, made.as_slice())?;
     state.next_offer = next;
     let frameworks = state.frameworks.as_slice();
     send_offers(&mut state.outs.events, alloc, made.as_slice(), frameworks)

@@ -136,7 +136,7 @@ fn visit(
     ensures ok { OnOk result (progress.new ≡ visits_part state.now.run state.now.moment
         state.now.frameworks progress.old (value_at place open_part None state.now.sides)) }
 {
-    match state.sides.open_part(alloc, place)? {
+    match state.sides.open_part(place)? {
         None => Ok(()),
         Some((agent, free)) => offer_free(
             progress, alloc, state, candidates, starts, place, agent, free,

@@ -18,7 +18,7 @@ impl State {
             return Ok(());
         };
         let name = agent.copy()?;
-        let run = u32::from(self.run.number());
+        let run = self.run;
         self.send(ToAgent {
             agent: name,
             mail: MasterMail::Hello { run, dead },

@@ -3,7 +3,7 @@
 ghost use Rattle.std.specs.Prelude.{◌≡◌, IfOk};
 ghost use Rattle.master_state.specs.States.{cleared, fresh, no_outs};
 
-use agent_sides::{Config, Sides};
+use agent_sides::{ConfiguredAgents, Sides};
 use frameworks::Frameworks;
 use listed::Listed;
 use mails::ToAgent;
@@ -60,7 +60,7 @@ impl Outs {
 
 impl State {
     /// The state of a master that begins a run: no agent has returned, and no framework is known.
-    pub fn new(alloc: Global, run: Run, config: &Config) -> Result<State, AllocError>
+    pub fn new(alloc: Global, run: Run, config: &ConfiguredAgents) -> Result<State, AllocError>
         ensures { IfOk result (λ state. state ≡ fresh run config.now) }
     {
         Ok(State {

@@ -14,7 +14,7 @@ ghost use Rattle.mesos_node.specs.Refusals.{is_refusal};
 
 use crate::ends::{FAILED, print_fault};
 use crate::fault::ServeFault;
-use agents_file::{AgentsFile, Configuration, read_agents};
+use agents_file::{AgentsFile, Config, read_agents};
 use cluster_core::Cluster;
 use command_line::ServeOptions;
 use device_io::put;
@@ -22,7 +22,7 @@ use post_rules::Queues;
 use record_folder::{Folder, open_folder};
 use recorded_clusters::RecordedCluster;
 use replayed_clusters::end_table;
-use serving::{Pace, read_recorded, serve_cluster};
+use serving::{MemoryLimit, Pace, read_recorded, serve_cluster};
 use std::io::Write;
 use std::marker::Brand;
 use std::net::{Ipv4Addr, Net, SocketAddrV4, TcpListener, TcpStream};
@@ -50,7 +50,7 @@ fn serve_folder<
     rt: &HostRuntime,
     threads: &R,
     options: &ServeOptions,
-    config: Configuration,
+    config: Config,
     folder: Folder,
     listener: &TcpListener,
 ) -> Result<Vec<u8>, ServeFault>
@@ -64,8 +64,7 @@ fn serve_folder<
         files,
         lock: _lock,
     } = folder;
-    let Configuration { agents, weights } = config;
-    let cluster = match Cluster::<Queues>::open(rt.alloc(), agents, weights, records, run) {
+    let cluster = match Cluster::<Queues>::open(rt.alloc(), config, records, run) {
         Ok(cluster) => cluster,
         Err(_) => return Err(ServeFault::Memory),
     };
@@ -74,11 +73,19 @@ fn serve_folder<
         task_seconds: options.task_seconds,
         connections: options.connections,
         idle_seconds: options.idle_seconds,
+        workers: options.workers,
     };
     let blank = Blank::new(PARTS);
+    let memory = MemoryLimit {
+        rt,
+        mebibytes: options.memory,
+    };
     let alloc = rt.alloc();
     let recorded = RecordedCluster::new(cluster);
-    match serve_cluster::<_, Brand, _>(threads, alloc, blank, recorded, files, listener, pace) {
+    let served = serve_cluster::<_, Brand, _>(
+        threads, alloc, blank, recorded, files, listener, memory, pace,
+    );
+    match served {
         Ok(history) => {
             let look = |recorded: &RecordedCluster| end_table(alloc, recorded.cluster());
             Ok(read_recorded(history, look)?)

@@ -1,6 +1,6 @@
 //! The names of agents.
 
-ghost use Rattle.std.specs.Prelude.{◌≡◌, ◌↔◌, ◌⊎◌, true, false, bytes_eq, IfOk, IfErr};
+ghost use Rattle.std.specs.Prelude.{◌≡◌, ◌↔◌, ◌⊎◌, true, false, bytes_eq, IfOk, IfErr, string_bytes};
 ghost use Rattle.names_core.specs.Names.{is_name, is_configured, bytes_before};
 
 use crate::fault::NameFault;
@@ -58,6 +58,14 @@ impl AgentName {
         ensures valid { is_name self.now ≡ true }
     {
         self.text.as_str()
+    }
+
+    /// Its text, in a string of its own.
+    pub fn to_text(&self, alloc: Global) -> Result<String, NameFault>
+        ensures text { IfOk result (λ t. string_bytes t ≡ self.now) }
+        ensures err { IfErr result (λ e. e ≡ NameFault.OutOfMemory) }
+    {
+        Ok(String::from_str(alloc, self.as_text())?)
     }
 
     /// Whether it is the same name.

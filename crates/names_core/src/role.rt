@@ -1,6 +1,6 @@
 //! The names of roles.
 
-ghost use Rattle.std.specs.Prelude.{◌≡◌, ◌↔◌, ◌⊎◌, true, false, bytes_eq, IfOk, IfErr};
+ghost use Rattle.std.specs.Prelude.{◌≡◌, ◌↔◌, ◌⊎◌, true, false, bytes_eq, IfOk, IfErr, string_bytes};
 ghost use Rattle.names_core.specs.Names.{bytes_before, is_role};
 
 use crate::fault::NameFault;
@@ -53,6 +53,14 @@ impl RoleName {
         ensures valid { is_role self.now ≡ true }
     {
         self.text.as_str()
+    }
+
+    /// Its text, in a string of its own.
+    pub fn to_text(&self, alloc: Global) -> Result<String, NameFault>
+        ensures text { IfOk result (λ t. string_bytes t ≡ self.now) }
+        ensures err { IfErr result (λ e. e ≡ NameFault.OutOfMemory) }
+    {
+        Ok(String::from_str(alloc, self.as_text())?)
     }
 
     /// Whether it is the same name.

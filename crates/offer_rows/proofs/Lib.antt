@@ -7,3 +7,4 @@ pub mod Naming
 pub mod Indexing
 pub mod Choosing
 pub mod Summing
+mod Walking

@@ -120,7 +120,7 @@ module _ {T : Type 0} (id : T → Numbered) where
           let s : ◌≡◌ {A = Located T} (record { place = p; item = x }) e = cc in
           subst (λ d. same_id k (id d.item) ≡ true) s (first_has id k xs x t)
 
-  lists_are : (es : List (Numbered × Located T)) (vs : List (Vec Numbered)) → lists_of es vs ≡ map (items_of es) (id_lists vs)
+  pub lists_are : (es : List (Numbered × Located T)) (vs : List (Vec Numbered)) → lists_of es vs ≡ map (items_of es) (id_lists vs)
   lists_are es [] = refl
   lists_are es (v ∷ vs) = ap (λ m. items_of es v.items ∷ m) (lists_are es vs)
 

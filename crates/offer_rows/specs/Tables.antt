@@ -1,7 +1,8 @@
 -- How two tables stand for items in lists: by its id each item with its place, and for each place
 -- the ids there, in order.
-use Rattle.std.specs.Prelude.{◌≡◌, zero, true, List, [], ◌∷◌, map, flat_map, Option, None, Some}
+use Rattle.std.specs.Prelude.{◌≡◌, zero, true, List, [], ◌∷◌, map, flat_map, is_some, Option, None, Some}
 use Rattle.std.specs.Global.{Vec}
+use Rattle.std.specs.List.{AllByRecursion}
 use Rattle.std.specs.Map.{lookup}
 use Rattle.names_core.specs.Ids.{Numbered}
 use Rattle.offer_rows.specs.Lists.{Located, same_id, ids_of, find, Once}
@@ -34,6 +35,10 @@ pub record IsTable {T : Type 0} (id : T → Numbered) (es : List (Numbered × Lo
 abbrev pub HaveTheirIds : {T : Type 0} → (T → Numbered) → List (Numbered × Located T) → Type 0
 HaveTheirIds {T} id es =
     (k : Numbered) (e : Located T) → lookup (same_id k) es ≡ Some e → same_id k (id e.item) ≡ true
+
+-- each of these ids leads to an item
+abbrev pub AreFound : {T : Type 0} → List (Numbered × Located T) → List Numbered → Type 0
+AreFound es ks = AllByRecursion (λ k. is_some (lookup (same_id k) es) ≡ true) ks
 
 -- items that change where they are
 abbrev pub moved : {T : Type 0} → (T → T) → Located T → Located T

@@ -12,6 +12,7 @@ ghost use Rattle.offer_rows.specs.Held.{better, first_of, goes_before, IsHeld};
 use crate::located::Located;
 use crate::names::Names;
 use crate::tasks::{TaskUpdate, Tasks};
+use crate::walks::TasksAt;
 use mails::Booked;
 use names_core::{FrameworkId, LaunchKey, TaskName};
 use std::alloc::{AllocError, Global};
@@ -164,9 +165,17 @@ impl BookedTasks {
 
     /// The keys of the tasks at a place, in the order in which they were booked; none past the end.
     pub fn keys_at(&self, place: usize) -> &[LaunchKey]
-        ensures { result.now ≡ ids_of (λ x. x.job.key) (list_at place self.now) }
+        ensures keys { result.now ≡ ids_of (λ x. x.job.key) (list_at place self.now) }
+        ensures once { Once (λ x. x.job.key) 0 self.now }
     {
         self.tasks.keys_at(place)
+    }
+
+    /// The tasks at a place, in the order in which they were booked; none past the end.
+    pub fn at(&self, place: usize) -> TasksAt<'_>
+        ensures { result ≡ list_at place self.now }
+    {
+        self.tasks.at(place)
     }
 
     /// The booked task of a framework with this name, if any, and its place. It takes no memory.

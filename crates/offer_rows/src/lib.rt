@@ -7,9 +7,11 @@ mod located;
 mod names;
 mod offers;
 mod tasks;
+mod walks;
 
 pub use booked::BookedTasks;
 pub use located::Located;
 pub use names::Names;
 pub use offers::Offers;
 pub use tasks::{TaskUpdate, Tasks};
+pub use walks::{OffersAt, TasksAt};

@@ -10,6 +10,7 @@ ghost use Rattle.offer_rows.specs.Lists.{same_id, at_place, ids_of, list_at, fin
 ghost use Rattle.offer_rows.specs.Tables.{id_lists};
 
 use crate::located::Located;
+use crate::walks::OffersAt;
 use indexmap::IndexMap;
 use mails::Offer;
 use names_core::OfferId;
@@ -161,6 +162,16 @@ impl Offers {
             self.ids[place].as_slice()
         } else {
             &[]
+        }
+    }
+
+    /// The offers at a place, in the order in which they were made; none past the end.
+    pub fn at(&self, place: usize) -> OffersAt<'_>
+        ensures { result ≡ list_at place self.now }
+    {
+        OffersAt {
+            by_id: &self.by_id,
+            ids: self.ids_at(place),
         }
     }
 

@@ -12,6 +12,7 @@ ghost use Rattle.offer_rows.specs.Lists.{same_id, at_place, ids_of, list_at, fin
 ghost use Rattle.offer_rows.specs.Tables.{HaveTheirIds, id_lists, moved};
 
 use crate::located::Located;
+use crate::walks::TasksAt;
 use indexmap::IndexMap;
 use mails::Booked;
 use names_core::{LaunchKey, TaskState};
@@ -233,6 +234,16 @@ impl Tasks {
             self.keys[place].as_slice()
         } else {
             &[]
+        }
+    }
+
+    /// The tasks at a place, in the order in which they were booked; none past the end.
+    pub fn at(&self, place: usize) -> TasksAt<'_>
+        ensures { result ≡ list_at place self.now }
+    {
+        TasksAt {
+            by_key: &self.by_key,
+            keys: self.keys_at(place),
         }
     }
 

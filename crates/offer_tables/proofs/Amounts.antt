@@ -56,7 +56,7 @@ covers_alike total rows others same = same_tests _ _
     (λ h. (covers_is_at_least total rows).1 (λ name. omega (arith, (covers_is_at_least total others).0 h name, same name)))
 
 -- a total that covers rows covers what has less of each name
-covers_less : (total rows others : List Row) → ((name : List ℕ) → amount name others ≤ amount name rows) → covers total rows ≡ true → covers total others ≡ true
+pub covers_less : (total rows others : List Row) → ((name : List ℕ) → amount name others ≤ amount name rows) → covers total rows ≡ true → covers total others ≡ true
 covers_less total rows others less h = (covers_is_at_least total others).1 (λ name. omega (arith, (covers_is_at_least total rows).0 h name, less name))
 
 -- what is left has room for more just where the total has, beside what is taken

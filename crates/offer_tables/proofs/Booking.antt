@@ -45,7 +45,7 @@ offered_is id (r ∷ rs) (os ∷ offers) [] p h = absurd h
 offered_is id (r ∷ rs) (os ∷ offers) (bs ∷ tasks) p h =
     (λ i. offered_first id os i || offered_is id rs offers tasks (suc p) h.1 i) ∙ sym (some_located (λ x. x.id) p (first (λ x. x.id) id os) (find_from (λ x. x.id) (suc p) id offers))
 
-booked_first : (key : Numbered) (bs : List Booked) → list_any (has_key key) bs ≡ is_some (first (λ x. x.job.key) key bs)
+pub booked_first : (key : Numbered) (bs : List Booked) → list_any (has_key key) bs ≡ is_some (first (λ x. x.job.key) key bs)
 booked_first key [] = refl
 booked_first key (b ∷ bs) =
     let turned : same b.job.key key ≡ same_id key b.job.key = same_turned key b.job.key in

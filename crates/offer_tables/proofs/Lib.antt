@@ -6,3 +6,8 @@ pub mod Books
 pub mod Receiving
 pub mod Appending
 pub mod Holding
+pub mod Only
+pub mod Whereabouts
+pub mod Ridding
+pub mod Reopening
+pub mod Counting

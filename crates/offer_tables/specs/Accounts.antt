@@ -1,12 +1,15 @@
 -- What a book has of one agent (Mesos paper, section 3.1: offers).
-use Rattle.std.specs.Prelude.{ℕ, Bool, false, true, not, ◌&&◌, if◌then◌else◌, List, [], ◌∷◌, ◌++◌, map, filter, bytes_eq}
+use Rattle.std.specs.Prelude.{ℕ, zero, suc, Bool, false, true, not, ◌&&◌, ◌==◌, if◌then◌else◌, List, [], ◌∷◌, ◌++◌, map, filter, bytes_eq}
 use Rattle.names_core.specs.Ids.{Numbered, same}
 use Rattle.names_core.specs.declared.state.TaskState.{TaskState}
 use Rattle.quantity.specs.declared.rows.Row.{Row}
 use Rattle.quantity.specs.Rows.{covers, rest_of}
 use Rattle.mails.specs.declared.task.Offer.{Offer}
 use Rattle.mails.specs.declared.task.Booked.{Booked}
-use Rattle.cluster_model.specs.Sides.{unended, job_rows, offer_rows, received_update}
+use Rattle.cluster_model.specs.Sides.{unended, job_rows, offer_rows, received_update, forget_all, is_named}
+use Rattle.cluster_model.specs.Masters.{is_of}
+use Rattle.mails.specs.declared.mail.Command.{Command}
+use Rattle.names_core.specs.States.{is_terminal}
 use Rattle.offer_rows.specs.Changes.{ended}
 
 pub record Account : Type 0 where
@@ -55,6 +58,22 @@ with_offer o a = record a { offers = a.offers ++ o ∷ [] }
 abbrev pub without_offer : Numbered → Account → Account
 without_offer id a = record a { offers = filter (λ o. not (is_offered_as id o)) a.offers }
 
+abbrev pub without_offers_of : Numbered → Account → Account
+without_offers_of framework a = record a { offers = filter (λ o. not (is_of framework o)) a.offers }
+
+abbrev pub without_named : Numbered → List Numbered → Account → Account
+without_named framework ids a =
+    record a { offers = filter (λ o. not (is_named framework ids o)) a.offers }
+
+-- the item at an index is taken out, if it passes a test
+abbrev pub without_at : {T : Type 0} → (T → Bool) → ℕ → List T → List T
+without_at test i [] = []
+without_at test zero (x ∷ xs) = if test x then xs else x ∷ xs
+without_at test (suc i) (x ∷ xs) = x ∷ without_at test i xs
+
+abbrev pub without_offer_at : (Offer → Bool) → ℕ → Account → Account
+without_offer_at test i a = record a { offers = without_at test i a.offers }
+
 -- booked tasks
 
 abbrev pub has_key : Numbered → Booked → Bool
@@ -80,3 +99,17 @@ reopened tasks total a = record a { total = total; offers = []; booked = tasks }
 abbrev pub receiving : Numbered → ℕ → TaskState → Bool → Account → Account
 receiving key k state has_ended a =
     record a { booked = map (received_update key k state has_ended) a.booked }
+
+-- the agent has applied these commands
+abbrev pub after_commands : List Command → Account → Account
+after_commands commands a = record a { booked = forget_all commands a.booked }
+
+abbrev pub is_of_framework : Numbered → Booked → Bool
+is_of_framework framework b = same b.job.framework framework
+
+-- the task has ended, and the last of its updates that were received, of this number, says so
+abbrev pub is_acknowledged : ℕ → Booked → Bool
+is_acknowledged k b = b.ended && b.received == suc k && is_terminal b.state
+
+abbrev pub without_task_at : (Booked → Bool) → ℕ → Account → Account
+without_task_at test i a = record a { booked = without_at test i a.booked }

@@ -6,7 +6,8 @@ use Rattle.quantity.specs.declared.rows.Row.{Row}
 use Rattle.mails.specs.declared.task.Offer.{Offer}
 use Rattle.mails.specs.declared.task.Booked.{Booked}
 use Rattle.offer_rows.specs.declared.tasks.TaskUpdate.{TaskUpdate}
-use Rattle.offer_tables.specs.Accounts.{Account, new_account, dropped, free, fits, with_offer, without_offer, with_task, is_offered_as, has_key, with_ended, without_key, reopened, receiving, unended_rows}
+use Rattle.offer_tables.specs.Accounts.{Account, new_account, dropped, free, fits, with_offer, without_offer, with_task, is_offered_as, has_key, with_ended, without_key, reopened, receiving, unended_rows, after_commands, without_named}
+use Rattle.mails.specs.declared.mail.Command.{Command}
 pub use Rattle.offer_tables.specs.Accounts.{is_agent}
 use Rattle.offer_tables.specs.declared.fault.BookFault.{BookFault}
 use Rattle.offer_tables.specs.declared.fault.BookFault.TheVariants.{Unknown, NoRoom, Twice}
@@ -62,6 +63,24 @@ received u as_ = map (receiving u.key u.k u.state u.ended) as_
 -- its session opens or ends: it has no offers and no tasks, and owns this total
 abbrev pub emptied_on : List ℕ → List Row → List Account → Result (List Account) BookFault
 emptied_on name total as_ = changed name (reopened [] total) as_
+
+-- its session opens with these tasks
+abbrev pub reopened_on : List ℕ → List Booked → List Row → List Account
+    → Result (List Account) BookFault
+reopened_on name tasks total as_ = changed name (reopened tasks total) as_
+
+-- an update of a task on it is received
+abbrev pub received_on : List ℕ → TaskUpdate → List Account → Result (List Account) BookFault
+received_on name u as_ = changed name (receiving u.key u.k u.state u.ended) as_
+
+-- it has applied these commands
+abbrev pub applied_on : List ℕ → List Command → List Account → Result (List Account) BookFault
+applied_on name commands as_ = changed name (after_commands commands) as_
+
+-- the offers on it to a framework that have one of these ids are withdrawn
+abbrev pub withdrawn_on : List ℕ → Numbered → List Numbered → List Account
+    → Result (List Account) BookFault
+withdrawn_on name framework ids as_ = changed name (without_named framework ids) as_
 
 abbrev pub free_at : Option Account → Result (List Row) BookFault
 free_at None = Err Unknown

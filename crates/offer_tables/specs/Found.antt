@@ -32,14 +32,14 @@ abbrev pub task_of : Numbered → List Account → Option Placed
 task_of key [] = None
 task_of key (a ∷ as_) = placed_or a.name (find (has_key key) a.booked) (task_of key as_)
 
--- the offers and the tasks on the agent at a place; none past the end
+-- what is on the agent at a place; nothing past the end
+abbrev pub there : {T : Type 0} → (Account → List T) → ℕ → List Account → List T
+there items p [] = []
+there items zero (a ∷ as_) = items a
+there items (suc p) (a ∷ as_) = there items p as_
 
 abbrev pub offers_on : ℕ → List Account → List Offer
-offers_on p [] = []
-offers_on zero (a ∷ as_) = a.offers
-offers_on (suc p) (a ∷ as_) = offers_on p as_
+offers_on p as_ = there (λ a. a.offers) p as_
 
 abbrev pub tasks_on : ℕ → List Account → List Booked
-tasks_on p [] = []
-tasks_on zero (a ∷ as_) = a.booked
-tasks_on (suc p) (a ∷ as_) = tasks_on p as_
+tasks_on p as_ = there (λ a. a.booked) p as_

@@ -4,3 +4,5 @@ pub mod Books
 pub mod Found
 pub mod Held
 pub mod Rows
+pub mod Places
+pub mod Reports

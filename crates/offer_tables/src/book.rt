@@ -1,6 +1,8 @@
 //! The book of all agents.
 
 ghost use Rattle.std.specs.Prelude.{◌≡◌, ◌<◌, [], Ok, map, length, option_map, OnOk, OnErr, IfOk, IfErr};
+ghost use Rattle.std.specs.List.{IsDistinct};
+ghost use Rattle.offer_rows.specs.Lists.{same_id};
 ghost use Rattle.offer_tables.specs.Books.{entered, dropped_from, emptied_on, free_of, offered, booked, withdrawn, task_ended, forgotten, received};
 ghost use Rattle.offer_tables.specs.Found.{made, place, offer_of, offers_on, task_of, tasks_on};
 ghost use Rattle.offer_tables.specs.Held.{held};
@@ -21,10 +23,10 @@ use std::marker::Model;
 /// in order of first entering. An account keeps its place.
 #[derive(Drop)]
 pub struct OfferBook {
-    names: IndexSet<AgentName>,
-    agents: Vec<AgentRow>,
-    offers: Offers,
-    tasks: BookedTasks,
+    pub(crate) names: IndexSet<AgentName>,
+    pub(crate) agents: Vec<AgentRow>,
+    pub(crate) offers: Offers,
+    pub(crate) tasks: BookedTasks,
 }
 
 impl Model for OfferBook {
@@ -282,7 +284,8 @@ impl OfferBook {
     /// The ids of the current offers on the agent at a place, in order of their making; none past
     /// the end.
     pub fn offers_on(&self, place: usize) -> &[OfferId]
-        ensures { result.now ≡ map (λ o. o.id) (offers_on place self.now) }
+        ensures ids { result.now ≡ map (λ o. o.id) (offers_on place self.now) }
+        ensures apart { IsDistinct same_id result.now }
     {
         self.offers.ids_at(place)
     }
@@ -290,7 +293,8 @@ impl OfferBook {
     /// The launch keys of the tasks that are booked on the agent at a place, in the order in which
     /// they were booked; none past the end.
     pub fn tasks_on(&self, place: usize) -> &[LaunchKey]
-        ensures { result.now ≡ map (λ b. b.job.key) (tasks_on place self.now) }
+        ensures keys { result.now ≡ map (λ b. b.job.key) (tasks_on place self.now) }
+        ensures apart { IsDistinct same_id result.now }
     {
         self.tasks.keys_at(place)
     }

@@ -3,7 +3,7 @@
 use crate::book::OfferBook;
 use crate::fault::BookFault;
 use crate::plain::{Entry, Plain};
-use mails::{Booked, Job, Offer};
+use mails::{Booked, Command, Job, Offer};
 use names_core::{AgentName, FrameworkId, LaunchKey, OfferId, TaskName, TaskState};
 use quantity::Resources;
 use std::alloc::Global;
@@ -58,12 +58,17 @@ fn entry(seed: &mut u64) -> Entry {
     }
 }
 
+/// Records with odd numbers are of the first framework, the others of the second.
+fn framework(number: u32) -> FrameworkId {
+    FrameworkId::new(1, if number % 2 == 1 { 1 } else { 2 })
+}
+
 fn make(book: &mut OfferBook, alloc: Global, entry: Entry) -> Option<Result<(), BookFault>> {
     let name = agent(alloc, entry.agent)?;
     let resources = amounts(alloc, entry.cpus, entry.mem)?;
     let offer = Offer {
         id: OfferId::new(1, entry.number.max(1)),
-        framework: FrameworkId::new(1, 1),
+        framework: framework(entry.number),
         resources,
     };
     Some(book.offer(&name, offer))
@@ -75,7 +80,7 @@ fn launch(book: &mut OfferBook, alloc: Global, entry: Entry) -> Option<Result<()
     let resources = amounts(alloc, entry.cpus, entry.mem)?;
     let job = Job {
         key: LaunchKey::new(1, entry.number.max(1)),
-        framework: FrameworkId::new(1, 1),
+        framework: framework(entry.number),
         name,
         resources,
     };
@@ -88,9 +93,34 @@ fn launch(book: &mut OfferBook, alloc: Global, entry: Entry) -> Option<Result<()
     Some(book.book(alloc, &agent, task))
 }
 
+fn withdraw_of(book: &mut OfferBook, plain: &mut Plain, entry: Entry) -> bool {
+    book.withdraw_of(framework(entry.number));
+    plain.withdraw_of(entry.number % 2 == 1);
+    true
+}
+
+fn withdraw_named(book: &mut OfferBook, plain: &mut Plain, entry: Entry) -> bool {
+    let ids = [OfferId::new(1, entry.number.max(1))];
+    book.withdraw_named(framework(entry.name), ids.as_slice());
+    plain.withdraw_named(entry.name % 2 == 1, entry.number);
+    true
+}
+
+fn end_framework(
+    book: &mut OfferBook,
+    plain: &mut Plain,
+    alloc: Global,
+    entry: Entry,
+) -> Option<bool> {
+    let name = agent(alloc, entry.agent)?;
+    let commands = [Command::EndFramework(framework(entry.number))];
+    let answer = book.forget_by(&name, commands.as_slice());
+    Some(answer == plain.end_framework(entry.agent, entry.number % 2 == 1))
+}
+
 /// One call of both; whether both answered the same.
 fn call(book: &mut OfferBook, plain: &mut Plain, alloc: Global, seed: &mut u64) -> Option<bool> {
-    let kind = below(seed, 6);
+    let kind = below(seed, 9);
     let entry = entry(seed);
     let id = OfferId::new(1, entry.number.max(1));
     let key = LaunchKey::new(1, entry.number.max(1));
@@ -100,6 +130,9 @@ fn call(book: &mut OfferBook, plain: &mut Plain, alloc: Global, seed: &mut u64) 
         2 => launch(book, alloc, entry)? == plain.book(entry),
         3 => book.withdraw(id) == plain.withdraw(entry.number),
         4 => book.end_task(key) == plain.end(entry.number),
+        5 => withdraw_of(book, plain, entry),
+        6 => withdraw_named(book, plain, entry),
+        7 => end_framework(book, plain, alloc, entry)?,
         _ => book.forget(key) == plain.forget(entry.number),
     };
     Some(same)
@@ -114,11 +147,16 @@ fn same_free(book: &OfferBook, plain: &Plain, alloc: Global, number: u32) -> Opt
 
 fn same_held(book: &OfferBook, plain: &Plain, alloc: Global, number: u32) -> Option<bool> {
     let name = task_name(alloc, number)?;
-    let key = match book.held(FrameworkId::new(1, 1), &name) {
+    let odd = held_key(book, FrameworkId::new(1, 1), &name) == plain.held(number, true);
+    let even = held_key(book, FrameworkId::new(1, 2), &name) == plain.held(number, false);
+    Some(odd && even)
+}
+
+fn held_key(book: &OfferBook, framework: FrameworkId, name: &TaskName) -> Option<u32> {
+    match book.held(framework, name) {
         Some((_, task)) => Some(key_of(task)),
         None => None,
-    };
-    Some(key == plain.held(number))
+    }
 }
 
 fn key_of(task: &Booked) -> u32 {
@@ -151,7 +189,7 @@ fn same_answers(book: &OfferBook, plain: &Plain, alloc: Global) -> Option<bool> 
             return Some(false);
         }
     }
-    Some(true)
+    Some(book.booked_count() == plain.booked_count())
 }
 
 fn entered(alloc: Global) -> Option<OfferBook> {

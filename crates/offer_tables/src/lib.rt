@@ -2,17 +2,22 @@
 //! section 3.1), each found by its id, and what of each total is taken.
 #![tactic(auto)]
 
+mod account;
 mod agents;
 mod book;
 mod entering;
 mod fault;
+mod from_agents;
 #[cfg(test)]
 mod generated;
+mod places;
 #[cfg(test)]
 mod plain;
 #[cfg(test)]
 mod tests;
+mod withdrawing;
 
+pub use account::AccountAt;
 pub use book::OfferBook;
 pub use fault::BookFault;
-pub use offer_rows::TaskUpdate;
+pub use offer_rows::{Located, OffersAt, TaskUpdate, TasksAt};

@@ -105,6 +105,28 @@ impl Plain {
         Ok(())
     }
 
+    /// The framework of an entry is 1 for odd numbers, else 2.
+    pub(crate) fn withdraw_of(&mut self, odd: bool) {
+        self.offers.retain(|entry| (entry.number % 2 == 1) != odd);
+    }
+
+    pub(crate) fn withdraw_named(&mut self, odd: bool, number: u32) {
+        self.offers.retain(|entry| entry.number != number || (entry.number % 2 == 1) != odd);
+    }
+
+    /// What an agent's command to end a framework takes out.
+    pub(crate) fn end_framework(&mut self, agent: u32, odd: bool) -> Result<(), BookFault> {
+        if agent >= 3 {
+            return Err(BookFault::Unknown);
+        }
+        self.tasks.retain(|entry| entry.agent != agent || (entry.number % 2 == 1) != odd);
+        Ok(())
+    }
+
+    pub(crate) fn booked_count(&self) -> u128 {
+        self.tasks.len() as u128
+    }
+
     pub(crate) fn forget(&mut self, number: u32) -> Result<(), BookFault> {
         if self.task(number).is_none() {
             return Err(BookFault::Unknown);
@@ -123,12 +145,13 @@ impl Plain {
         Err(BookFault::Unknown)
     }
 
-    /// The number of the task of a name: of those that haven't ended, else of those that have, the
-    /// least.
-    pub(crate) fn held(&self, name: u32) -> Option<u32> {
+    /// The number of the task of a framework's name: of those that haven't ended, else of those that
+    /// have, the least.
+    pub(crate) fn held(&self, name: u32, odd: bool) -> Option<u32> {
         let mut best: Option<Entry> = None;
         for entry in &self.tasks {
-            if entry.name == name && is_better(best, *entry) {
+            let its = entry.name == name && (entry.number % 2 == 1) == odd;
+            if its && is_better(best, *entry) {
                 best = Some(*entry);
             }
         }

@@ -9,7 +9,7 @@ use Rattle.desk_seats.specs.Receipts.{PassState}
 use Rattle.desk_seats.specs.declared.desk.pass.Answered.{Answered}
 use Rattle.http_door.specs.declared.bench.Answer.{Answer}
 use Rattle.running_clusters.specs.declared.given.Given.{Given}
-use Rattle.running_offices.specs.Answering.{Answers, Taking}
+use Rattle.desk_lock.specs.Answering.{Answers, Taking}
 use Rattle.office_bench.specs.Answers.{answer_of, is_subscribe}
 use Rattle.office_bench.specs.Deeds.{Delivers, call_number}
 

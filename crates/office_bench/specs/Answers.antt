@@ -1,5 +1,5 @@
 -- How calls are answered.
-use Rattle.std.specs.Prelude.{◌≡◌, ◌-◌, ℕ, Bool, true, false, nat_lt, if◌then◌else◌, List, [], ◌∷◌, length, slice_get, Option, Some, None, ⊤}
+use Rattle.std.specs.Prelude.{◌≡◌, ◌-◌, ℕ, Bool, true, false, if◌then◌else◌, List, [], ◌∷◌, length, slice_get, Option, Some, None, ⊤}
 use Rattle.mails.specs.declared.call.Call.{Call}
 use Rattle.mails.specs.declared.call.Call.TheVariants.{Subscribe, Teardown, Accept, Decline, Revive, Suppress, Kill, Acknowledge, Reconcile}
 use Rattle.scheduler_events.specs.declared.stream_event.StreamEvent.{StreamEvent}
@@ -11,8 +11,6 @@ use Rattle.cluster_steps.specs.declared.fault.ClusterFault.{ClusterFault}
 use Rattle.cluster_steps.specs.declared.fault.ClusterFault.TheVariants as steps
 use Rattle.desk_seats.specs.declared.fault.OfficeFault.{OfficeFault}
 use Rattle.desk_seats.specs.declared.fault.OfficeFault.TheVariants as offices
-use Rattle.desk_lock.specs.declared.office.Turn.{Turn}
-use Rattle.desk_lock.specs.declared.office.Turn.TheVariants as turns
 use Rattle.http_door.specs.declared.bench.Answer.{Answer}
 use Rattle.http_door.specs.declared.bench.Answer.TheVariants as answers
 use Rattle.http_door.specs.declared.refusal.BenchFault.{BenchFault}
@@ -48,6 +46,7 @@ IsOfOffice faults.OutOfMemory = ⊤
 IsOfOffice faults.NoSuchMail = ⊤
 IsOfOffice faults.ForeignPass = ⊤
 IsOfOffice faults.SeatsSpent = ⊤
+IsOfOffice faults.NoStreamLeft = ⊥
 
 abbrev pub is_subscribe : Call → Bool
 is_subscribe (Subscribe framework role) = true
@@ -81,13 +80,6 @@ answered subscribes events verdicts.OutOfMemory = answers.Refused faults.MasterO
 -- how the entry of its delivery answers a call
 abbrev pub answer_of : Bool → Entry → Answer
 answer_of subscribes e = answered subscribes e.outputs.events e.verdict
-
--- of a stream that was opened one event is taken where one waits, and who takes it waits while the
--- stream is open. The Take of a stream that was never opened is refused at once
-abbrev pub turn_of : Option ℕ → Bool → Turn
-turn_of None is_open = turns.Answer
-turn_of (Some waiting) is_open =
-    if nat_lt 0 waiting then turns.Answer else (if is_open then turns.Wait else turns.End)
 
 -- a call of the model opened one stream, and its last event is on it
 abbrev pub EndsOnOpened : Doing → Type 0

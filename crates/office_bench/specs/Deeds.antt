@@ -1,5 +1,5 @@
 -- What a bench over an office did, by the receipts of its pass.
-use Rattle.std.specs.Prelude.{◌≡◌, ◌⊎◌, ℕ, ◌+◌, Option, Some, None, Result, Ok, Err, option_map, ⊤}
+use Rattle.std.specs.Prelude.{◌≡◌, ◌⊎◌, true, ℕ, ◌+◌, Option, Some, None, Result, Ok, Err, option_map, ⊤}
 use Rattle.std.specs.declared.alloc.AllocError.{AllocError}
 use Rattle.names_core.specs.Ids.{Numbered}
 use Rattle.mails.specs.declared.call.Call.{Call}
@@ -13,8 +13,9 @@ use Rattle.http_door.specs.Deeds.{Deed, calls, nexts, hangs_up}
 use Rattle.http_door.specs.declared.bench.Answer.{Answer}
 use Rattle.http_door.specs.declared.bench.Answer.TheVariants.{Refused}
 use Rattle.http_door.specs.declared.refusal.BenchFault.{BenchFault}
+use Rattle.http_door.specs.declared.refusal.BenchFault.TheVariants.{NoStreamLeft}
 use Rattle.running_clusters.specs.declared.given.Given.{Given}
-use Rattle.running_offices.specs.Answering.{Answers, Taking}
+use Rattle.desk_lock.specs.Answering.{Answers, Taking}
 use Rattle.office_bench.specs.Answers.{IsOfOffice, answer_of, is_subscribe}
 
 -- one step was taken: the pass has one receipt more, and it is of this step
@@ -43,6 +44,19 @@ pub record Refuses (is_taken : Taking) (old : PassState Entry) (stream : Option 
   pub answers : answer ≡ Refused fault
   pub sends : (new ≡ old) ⊎ Steps is_taken old (Send stream call) new
 
+-- a call was sent and delivered, or the office refused it
+abbrev pub Asks : Taking → PassState Entry → Option Numbered → Call → Answer → PassState Entry
+    → Type 0
+Asks is_taken old stream call answer new =
+    Delivers is_taken old stream call answer new ⊎ Refuses is_taken old stream call answer new
+
+-- a SUBSCRIBE was refused before any step, since as many streams are open as may be
+pub record TurnsAway (old : PassState Entry) (call : Call) (answer : Answer)
+    (new : PassState Entry) : Type 0 where
+  pub subscribes : is_subscribe call ≡ true
+  pub answers : answer ≡ Refused NoStreamLeft
+  pub unstepped : new ≡ old
+
 -- the next event of a stream is the one that a Take returned.
 -- None is taken where the answer is None, and at most one where memory is refused
 abbrev pub Nexts : Taking → PassState Entry → Numbered → Result (Option Event) AllocError
@@ -57,7 +71,7 @@ Nexts is_taken old stream (Err e) new = (new ≡ old) ⊎ Steps is_taken old (Ta
 -- one Take of a stream, or one HangUp. The seat stays its own
 abbrev pub Does : Taking → PassState Entry → Deed → PassState Entry → Type 0
 Does is_taken old (calls stream call answer) new =
-    Delivers is_taken old stream call answer new ⊎ Refuses is_taken old stream call answer new
+    Asks is_taken old stream call answer new ⊎ TurnsAway old call answer new
 Does is_taken old (nexts stream answer) new = Nexts is_taken old stream answer new
 Does is_taken old (hangs_up stream) new = (new ≡ old) ⊎ Steps is_taken old (HangUp stream) new
 

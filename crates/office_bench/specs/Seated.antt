@@ -3,7 +3,7 @@ use Rattle.std.specs.Prelude.{◌≡◌, Option, Some, None}
 use Rattle.desk_seats.specs.Receipts.{PassState}
 use Rattle.cluster_entries.specs.declared.entry.Entry.{Entry}
 use Rattle.http_door.specs.Deeds.{Deed}
-use Rattle.running_offices.specs.Answering.{Taking}
+use Rattle.desk_lock.specs.Answering.{Taking}
 use Rattle.office_bench.specs.Deeds.{Does, RefusesAll}
 use Rattle.office_bench.specs.declared.seating.Seating.{Seating}
 use Rattle.office_bench.specs.declared.seating.Seating.TheVariants.{Seat, Refusing}

@@ -8,6 +8,7 @@ use crate::ending::Ending;
 use crate::fault::bench_fault;
 use crate::inlet::TcpInlet;
 use crate::outlet::TcpOutlet;
+use crate::places::StreamPlaces;
 use crate::seating::Seating;
 use desk_lock::{Office, Pass, Waited};
 use http_workers::{Arrivals, HttpFault};
@@ -25,34 +26,33 @@ const PAUSE: u64 = 50;
 /// After so many connections in a row that failed it is told again, which is about a minute.
 const TELLS_AGAIN: u64 = 1_200;
 
-/// How long a write may wait for a client that doesn't read, in seconds.
-const WRITE_SECONDS: u64 = 30;
-
-/// Waits for the next connection. What is written is sent at once,
-/// and a write that waits for longer than 30 seconds fails.
-fn accept<'a>(
+/// Waits for the next connection. What is written is sent at once.
+fn accept<'a, R: Clock>(
+    rt: &'a R,
     listener: &TcpListener,
     idle_seconds: u64,
     ending: &'a Ending,
-) -> io::Result<(TcpInlet<'a>, TcpOutlet)>
+) -> io::Result<(TcpInlet<'a>, TcpOutlet<'a, R>)>
     ensures { IfOk result (λ ends. (ends.0.faults ≡ 0) × (ends.1.faults ≡ 0)) }
 {
     let (stream, _) = listener.accept()?;
     stream.set_nodelay(true)?;
-    stream.set_write_timeout(Some(Duration::from_secs(WRITE_SECONDS)))?;
     let other = stream.try_clone()?;
     let inlet = TcpInlet::new(stream, idle_seconds, ending)?;
-    Ok((inlet, TcpOutlet::new(other)))
+    Ok((inlet, TcpOutlet::new(rt, other)?))
 }
 
-/// How many connections are taken, and how long one may wait for its client.
+/// How many connections are taken, how long one may wait for its client, and how many streams may be
+/// open.
 #[derive(Clone, Copy, Drop)]
-pub struct ConnectionLimits {
+pub struct ConnectionLimits<'a> {
     /// So many connections are taken at most; with 0 there is no limit.
     pub connections: u64,
     /// A connection from which no byte came for so many seconds is at the end of its input; with 0
     /// it waits for ever.
     pub idle_seconds: u64,
+    /// The places of streams, for these connections alone.
+    pub streams: &'a StreamPlaces,
 }
 
 /// The connections of a listener, each with a seat of an office over a cluster, which is opened for
@@ -67,7 +67,7 @@ pub struct TcpArrivals<'a, D: Running, L: ledger::Ledger, R: Wait + Clock + Epri
     /// The seat by which is read whether the office is finished.
     pass: Pass<KeptEntry, L>,
     listener: &'a TcpListener,
-    limits: ConnectionLimits,
+    limits: ConnectionLimits<'a>,
     ending: &'a Ending,
     taken: u64,
     /// How many connections failed since the last that was taken.
@@ -98,12 +98,12 @@ impl<'a, D: Running, L: ledger::Ledger, R: Wait + Clock + Eprint> TcpArrivals<'a
         office: &'a Office<D, L>,
         pass: Pass<KeptEntry, L>,
         listener: &'a TcpListener,
-        limits: ConnectionLimits,
+        limits: ConnectionLimits<'a>,
         ending: &'a Ending,
     ) -> TcpArrivals<'a, D, L, R>
         ensures { result ≡ record {
           pass = pass;
-          limit = limits.connections;
+          limit = limits.entry.connections;
           taken = 0;
           finished = false;
         } }
@@ -169,10 +169,15 @@ impl<'a, D: Running, L: ledger::Ledger, R: Wait + Clock + Eprint> TcpArrivals<'a
 
     /// Waits for the next connection. Where it fails there is none; since the next would fail at
     /// once where the system lacks descriptors or memory, it waits for 50 milliseconds then.
-    fn take(&mut self) -> Option<(TcpInlet<'a>, TcpOutlet)>
+    fn take(&mut self) -> Option<(TcpInlet<'a>, TcpOutlet<'a, R>)>
         ensures { IfSome result (λ ends. (ends.0.faults ≡ 0) × (ends.1.faults ≡ 0)) }
     {
-        match accept(self.listener, self.limits.idle_seconds, self.ending) {
+        match accept(
+            self.rt,
+            self.listener,
+            self.limits.idle_seconds,
+            self.ending,
+        ) {
             Ok(ends) => {
                 self.failures = 0;
                 self.taken = self.taken.saturating_add(1);
@@ -189,7 +194,10 @@ impl<'a, D: Running, L: ledger::Ledger, R: Wait + Clock + Eprint> TcpArrivals<'a
     /// What a connection gets for a bench.
     fn open_seating(&self) -> Seating<'a, D, L, R> {
         match self.office.open_seat(self.rt, self.alloc) {
-            Ok(pass) => Seating::Seat(SeatBench::new(self.rt, self.alloc, self.office, pass)),
+            Ok(pass) => {
+                let (rt, streams) = (self.rt, self.limits.streams);
+                Seating::Seat(SeatBench::new(rt, self.alloc, self.office, pass, streams))
+            }
             Err(fault) => Seating::Refusing(bench_fault(fault)),
         }
     }
@@ -203,13 +211,13 @@ impl<
 > Arrivals for TcpArrivals<'a, D, L, R> {
     type In = TcpInlet<'a>;
 
-    type Out = TcpOutlet;
+    type Out = TcpOutlet<'a, R>;
 
     type Seat = Seating<'a, D, L, R>;
 
     ghost ended = { HasEnded };
 
-    fn next(&mut self) -> Option<(TcpInlet<'a>, TcpOutlet, Seating<'a, D, L, R>)> {
+    fn next(&mut self) -> Option<(TcpInlet<'a>, TcpOutlet<'a, R>, Seating<'a, D, L, R>)> {
         let rt = self.rt;
         for _ in rt.forever() {
             if self.has_ended() {

@@ -1,36 +1,39 @@
 //! A seat of an office, as the bench of a connection.
 
-ghost use Rattle.std.specs.Prelude.{◌≡◌, ◌⊎◌, OnErr, IfOk, IfErr, MatchOption};
+ghost use Rattle.std.specs.Prelude.{◌≡◌, ◌⊎◌, true, OnErr, IfOk, IfErr, MatchOption};
 ghost use Rattle.cluster_steps.specs.declared.step.Step.TheVariants.{Send, Deliver, Take};
 ghost use Rattle.desk_seats.specs.declared.desk.pass.Answered.{Answered as Got};
 ghost use Rattle.cluster_entries.specs.declared.entry.Entry.{Entry};
-ghost use Rattle.office_bench.specs.Answers.{IsOfOffice, answer_of};
-ghost use Rattle.office_bench.specs.Deeds.{Delivers, Does, Steps, call_number};
+ghost use Rattle.office_bench.specs.Answers.{IsOfOffice, answer_of, is_subscribe};
+ghost use Rattle.office_bench.specs.Deeds.{Asks, Delivers, Does, Steps, TurnsAway, call_number};
 ghost use Rattle.running_clusters.specs.declared.given.Given.{Given as GivenSo};
-ghost use Rattle.running_offices.specs.Answering.{Answers};
+ghost use Rattle.desk_lock.specs.Answering.{Answers};
 
 use crate::fault::bench_fault;
-use crate::reading::{answer_of, is_subscribe, taken_event, turn_on};
+use crate::places::StreamPlaces;
+use crate::reading::{answer_of, is_subscribe, taken_event};
 use desk_lock::{Answered, Office, Pass};
 use http_door::{Answer, Bench, BenchFault};
 use mails::Call;
 use names_core::StreamId;
-use running_clusters::{Awaited, Given, KeptEntry, Running, Step};
-use running_offices::{ask, ask_when};
+use running_clusters::{Given, KeptEntry, Running, Step};
 use scheduler_events::Event;
 use shared_value::Shared;
 use std::alloc::{AllocError, Global};
 use std::marker::Model;
 use std::sync::{Wait, ledger};
 
-/// A seat of an office over a cluster, as the bench of one connection.
-/// Contracts see it as its pass.
+/// A seat of an office over a cluster, as the bench of one connection. Its stream, where it opens
+/// one, holds one of the places of streams until it ends. Contracts see it as its pass.
 #[derive(Drop)]
 pub struct SeatBench<'a, D: Running, L: ledger::Ledger, R: Wait> {
     rt: &'a R,
     alloc: Global,
     office: &'a Office<D, L>,
     pass: Pass<KeptEntry, L>,
+    places: &'a StreamPlaces,
+    /// Whether it holds a place.
+    has_place: bool,
 }
 
 impl<'a, D: Running, L: ledger::Ledger, R: Wait> Model for SeatBench<'a, D, L, R> {
@@ -49,6 +52,7 @@ impl<'a, D: Running, L: ledger::Ledger, R: Wait> SeatBench<'a, D, L, R> {
         alloc: Global,
         office: &'a Office<D, L>,
         pass: Pass<KeptEntry, L>,
+        places: &'a StreamPlaces,
     ) -> SeatBench<'a, D, L, R>
         ensures { result ≡ pass }
     {
@@ -57,6 +61,8 @@ impl<'a, D: Running, L: ledger::Ledger, R: Wait> SeatBench<'a, D, L, R> {
             alloc,
             office,
             pass,
+            places,
+            has_place: false,
         }
     }
 
@@ -67,12 +73,32 @@ impl<'a, D: Running, L: ledger::Ledger, R: Wait> SeatBench<'a, D, L, R> {
         self.pass
     }
 
+    /// Takes the place of a stream, and returns whether it holds one.
+    fn take_place(&mut self) -> bool
+        ensures { self.new ≡ self.old }
+    {
+        if !self.has_place {
+            self.has_place = self.places.take();
+        }
+        self.has_place
+    }
+
+    /// Gives the place of its stream back, where it holds one.
+    fn leave_place(&mut self)
+        ensures { self.new ≡ self.old }
+    {
+        if self.has_place {
+            self.has_place = false;
+            self.places.give_back();
+        }
+    }
+
     /// Has the office take a step.
     fn take(&mut self, step: Step) -> Result<Answered<KeptEntry, Given>, BenchFault>
         ensures stepped { IfOk result (λ a. Answers D.is_taken self.old step a self.new) }
         ensures refused { IfErr result (λ fault. (self.new ≡ self.old) × IsOfOffice fault) }
     {
-        match ask(self.rt, self.alloc, self.office, &mut self.pass, step) {
+        match self.office.ask(self.rt, self.alloc, &mut self.pass, step) {
             Ok(answered) => Ok(answered),
             Err(fault) => Err(bench_fault(fault)),
         }
@@ -126,16 +152,10 @@ impl<'a, D: Running, L: ledger::Ledger, R: Wait> SeatBench<'a, D, L, R> {
             (λ a. Answers D.is_taken self.old (Take stream) a self.new)) }
         ensures unchanged { OnErr result (self.new ≡ self.old) }
     {
-        let answered = ask_when(
-            self.rt,
-            self.alloc,
-            self.office,
-            &mut self.pass,
-            Awaited::events_of(stream),
-            |cluster: &D| turn_on(cluster, stream),
-            Step::Take(stream),
-        );
-        match answered {
+        match self
+            .office
+            .wait_events(self.rt, self.alloc, &mut self.pass, stream)
+        {
             Ok(answered) => Ok(answered),
             Err(_) => Err(AllocError),
         }
@@ -154,14 +174,44 @@ impl<'a, D: Running, L: ledger::Ledger, R: Wait> SeatBench<'a, D, L, R> {
     }
 }
 
-impl<'a, D: Running, L: ledger::Ledger, R: Wait> Bench for SeatBench<'a, D, L, R> {
-    ghost does = { Does D.is_taken };
-
-    fn call(&mut self, stream: Option<StreamId>, call: Call) -> Answer {
+impl<'a, D: Running, L: ledger::Ledger, R: Wait> SeatBench<'a, D, L, R> {
+    /// Sends a call and delivers it. A refusal is the answer.
+    fn answer(&mut self, stream: Option<StreamId>, call: Call) -> Answer
+        ensures { Asks D.is_taken self.old stream call result self.new }
+    {
         match self.ask(stream, call) {
             Ok(answer) => answer,
             Err(fault) => Answer::Refused(fault),
         }
+    }
+
+    /// Answers a SUBSCRIBE, where a place is left for its stream. The place is held while the stream
+    /// is open.
+    fn subscribe(&mut self, stream: Option<StreamId>, call: Call) -> Answer
+        requires { is_subscribe call ≡ true }
+        ensures { Asks D.is_taken self.old stream call result self.new
+            ⊎ TurnsAway self.old call result self.new }
+    {
+        if !self.take_place() {
+            drop(call);
+            return Answer::Refused(BenchFault::NoStreamLeft);
+        }
+        let answer = self.answer(stream, call);
+        if !matches!(answer, Answer::Opened(_)) {
+            self.leave_place();
+        }
+        answer
+    }
+}
+
+impl<'a, D: Running, L: ledger::Ledger, R: Wait> Bench for SeatBench<'a, D, L, R> {
+    ghost does = { Does D.is_taken };
+
+    fn call(&mut self, stream: Option<StreamId>, call: Call) -> Answer {
+        if is_subscribe(&call) {
+            return self.subscribe(stream, call);
+        }
+        self.answer(stream, call)
     }
 
     fn next_events(&mut self, stream: StreamId) -> Result<Option<Event>, AllocError> {
@@ -170,12 +220,16 @@ impl<'a, D: Running, L: ledger::Ledger, R: Wait> Bench for SeatBench<'a, D, L, R
                 Ok(event) => Ok(Some(event)),
                 Err(fault) => Err(fault),
             },
-            Ok(None) => Ok(None),
+            Ok(None) => {
+                self.leave_place();
+                Ok(None)
+            }
             Err(fault) => Err(fault),
         }
     }
 
     fn hang_up(&mut self, stream: StreamId) {
+        self.leave_place();
         let _refused = self.take(Step::HangUp(stream));
     }
 }

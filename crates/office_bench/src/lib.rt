@@ -7,6 +7,7 @@ mod ending;
 mod fault;
 mod inlet;
 mod outlet;
+mod places;
 mod reading;
 mod seating;
 
@@ -16,5 +17,6 @@ pub use ending::Ending;
 pub use fault::bench_fault;
 pub use inlet::TcpInlet;
 pub use outlet::TcpOutlet;
+pub use places::StreamPlaces;
 pub use reading::subscriptions_end_on_their_stream;
 pub use seating::Seating;

@@ -5,15 +5,13 @@ ghost use Rattle.cluster_model.specs.Calls.{called};
 ghost use Rattle.cluster_model.specs.Masters.{Master};
 ghost use Rattle.mails.specs.declared.call.Call.TheVariants.{Subscribe};
 ghost use Rattle.names_core.specs.Ids.{Numbered};
-ghost use Rattle.office_bench.specs.Answers.{EndsOnOpened, accepted, answer_of, is_subscribe, turn_of};
+ghost use Rattle.office_bench.specs.Answers.{EndsOnOpened, accepted, answer_of, is_subscribe};
 
 use cluster_steps::Verdict;
-use desk_lock::Turn;
 use http_door::{Answer, BenchFault};
 use mails::Call;
-use names_core::StreamId;
 use plain_data::Plain;
-use running_clusters::{Entry, Running};
+use running_clusters::Entry;
 use scheduler_events::{Event, StreamEvent};
 use std::alloc::AllocError;
 
@@ -56,18 +54,6 @@ pub(crate) fn taken_event(entry: &Entry) -> Result<Event, AllocError>
     match &entry.outputs.taken {
         Some(told) => Ok(told.get().event.copy()?),
         None => Err(AllocError),
-    }
-}
-
-/// What who waits for a stream's events does.
-/// A stream that was never opened isn't waited for: its Take is refused.
-pub(crate) fn turn_on<D: Running>(cluster: &D, stream: StreamId) -> Turn
-    ensures { result ≡ turn_of (D.waiting cluster.now stream) (D.is_open_on cluster.now stream) }
-{
-    match cluster.waiting_on(stream) {
-        Some(0) if cluster.is_open(stream) => Turn::Wait,
-        Some(0) => Turn::End,
-        _ => Turn::Answer,
     }
 }
 

@@ -5,7 +5,10 @@ use std::sync::atomic::{AtomicU64, Ordering};
 use std::thread;
 use std::time::{Clock, Duration};
 
-/// Holds the call of a number, from 0, until the next is answered, for 30 seconds at most.
+/// So many turns, of 100 microseconds each, are waited at most.
+const TURNS: u32 = 1_000_000;
+
+/// Holds the call of a number, from 0, until the next is answered, for so many turns at most.
 #[derive(Drop)]
 pub struct Overlap<'a, R: Clock> {
     rt: &'a R,
@@ -31,9 +34,9 @@ impl<'a, R: Clock> Overlap<'a, R> {
         self.overlapped.load(Ordering::SeqCst) == 1
     }
 
-    /// Waits until so many calls have begun, for 30 seconds at most.
+    /// Waits until so many calls have begun, for so many turns at most.
     pub fn wait_begun(&self, count: u64) -> bool {
-        for _ in 0..300_000u32 {
+        for _ in 0..TURNS {
             if self.begun.load(Ordering::SeqCst) >= count {
                 return true;
             }
@@ -43,7 +46,7 @@ impl<'a, R: Clock> Overlap<'a, R> {
     }
 
     fn hold(&self) {
-        for _ in 0..300_000u32 {
+        for _ in 0..TURNS {
             if self.answered.load(Ordering::SeqCst) == 1 {
                 self.overlapped.store(1, Ordering::SeqCst);
                 return;

@@ -3,6 +3,7 @@
 #![tactic(auto)]
 
 mod client;
+mod full;
 mod gate;
 mod of_office_bench;
 mod requests;
@@ -10,6 +11,6 @@ mod scripts;
 mod served;
 
 pub use of_office_bench::{
-    a_master_stops, a_stream_never_opened, a_subscription_ends_with_the_office, no_seat_is_left,
-    two_calls_overlap,
+    a_history_is_full, a_master_stops, a_stream_never_opened, a_subscription_ends_with_the_office,
+    no_master_is_up, no_seat_is_left, two_calls_overlap,
 };

@@ -31,5 +31,11 @@ pub const LAST_CHUNK: &str = "0\r\n\r\n";
 
 pub const ACCEPTED: &str = "HTTP/1.1 202 Accepted\r\nContent-Length: 0\r\n\r\n";
 
+pub const MASTER_DOWN: &str =
+    "HTTP/1.1 503 Service Unavailable\r\nContent-Type: text/plain\r\nContent-Length: 14\r\nConnection: close\r\n\r\nC2 MasterDown\n";
+
+pub const HISTORY_FULL: &str =
+    "HTTP/1.1 503 Service Unavailable\r\nContent-Type: text/plain\r\nContent-Length: 15\r\nConnection: close\r\n\r\nC6 HistoryFull\n";
+
 pub const SEATS_SPENT: &str =
     "HTTP/1.1 503 Service Unavailable\r\nContent-Type: text/plain\r\nContent-Length: 14\r\nConnection: close\r\n\r\nO5 SeatsSpent\n";

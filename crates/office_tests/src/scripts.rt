@@ -43,6 +43,13 @@ pub const LOSES_MASTER: &[Move] = &[
     Move::ExpectLast(0, LAST_CHUNK),
 ];
 
+/// In the last run: the master stops, and a SUBSCRIBE is refused.
+pub const HAS_NO_MASTER: &[Move] = &[
+    Move::StopMaster,
+    Move::Ask(SUBSCRIBE),
+    Move::ExpectLast(0, MASTER_DOWN),
+];
+
 /// Launches a task on one connection while it makes another call on a second;
 /// then its stream is hung up.
 pub const OVERLAPS: &[Move] = &[

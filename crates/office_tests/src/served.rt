@@ -5,13 +5,13 @@ ghost use Rattle.std.specs.Prelude.{◌≡◌, [], IfSome};
 use crate::client::Client;
 use crate::gate::Overlap;
 use crate::scripts::Move;
-use cluster_core::{Cluster, Entry, KeptEntry, Step, Verdict, fresh_agents_open, fresh_records};
+use cluster_core::{Cluster, Config, Entry, KeptEntry, Step, Verdict, fresh_records, good_opening};
 use desk_lock::{Desk, Office, Pass, Passes, Recorded};
 use http_door::Bench;
 use http_workers::serve_all;
-use master_core::Config;
+use master_core::ConfiguredAgents;
 use names_core::{AgentName, Run, StreamId};
-use office_bench::{ConnectionLimits, Ending, SeatBench, Seating, TcpArrivals};
+use office_bench::{ConnectionLimits, Ending, SeatBench, Seating, StreamPlaces, TcpArrivals};
 use post_rules::Queues;
 use quantity::Resources;
 use recorded_clusters::RecordedCluster;
@@ -24,6 +24,9 @@ use std::sync::{Wait, ledger};
 use std::thread;
 use std::thread::Threads;
 use std::time::Clock;
+
+/// So many connections are served at once.
+const WORKERS: u32 = 64;
 
 /// What is seen at the close.
 #[derive(Clone, Copy, Drop, PartialEq, Eq)]
@@ -41,22 +44,25 @@ fn one_agent(alloc: Global) -> Option<Config> {
     let mut total = Resources::new(alloc);
     total.add(alloc, "cpus", 4).ok()?;
     total.add(alloc, "mem", 4096).ok()?;
-    let mut config = Config::new(alloc);
-    config
+    let mut agents = ConfiguredAgents::new(alloc);
+    agents
         .add(AgentName::from_text(alloc, "a1").ok()?, total)
         .ok()?;
-    Some(config)
+    let weights = Weights::new(alloc);
+    Some(Config { agents, weights })
 }
 
-fn recorded(alloc: Global) -> Option<RecordedCluster>
+fn recorded(alloc: Global, run: Run) -> Option<RecordedCluster>
     ensures { IfSome result (λ recorded. recorded.story.entries ≡ []) }
 {
     let config = one_agent(alloc)?;
-    fresh_agents_open(&config);
-    let Ok(records) = fresh_records(alloc, &config) else {
+    let Ok(records) = fresh_records(alloc, &config.agents) else {
         return None;
     };
-    match Cluster::<Queues>::open(alloc, config, Weights::new(alloc), records, Run::new(1)) {
+    if !good_opening(&config.agents, records.as_slice(), run) {
+        return None;
+    }
+    match Cluster::<Queues>::open(alloc, config, records, run) {
         Ok(cluster) => Some(RecordedCluster::new(cluster)),
         Err(_) => None,
     }
@@ -135,10 +141,12 @@ fn arrivals_at<'x, D: Running, L: ledger::Ledger, R: Wait + Clock + Eprint>(
     office: &'x Office<D, L>,
     listener: &'x TcpListener,
     ending: &'x Ending,
+    streams: &'x StreamPlaces,
 ) -> Option<TcpArrivals<'x, D, L, R>> {
     let limits = ConnectionLimits {
         connections: 0,
         idle_seconds: 0,
+        streams,
     };
     let pass = office.open_seat(rt, alloc).ok()?;
     Some(TcpArrivals::new(rt, alloc, office, pass, listener, limits, ending))
@@ -162,7 +170,7 @@ fn join<
     let ((pass, moves), (seats, fault)) = thread::join(
         rt,
         move || client.play(script),
-        || serve_all(rt, alloc, &mut arrivals, gate),
+        || serve_all(rt, alloc, WORKERS, &mut arrivals, gate),
     );
     left.moves = moves;
     left.failed = fault.is_some();
@@ -187,8 +195,9 @@ fn serve<
 ) -> Option<()> {
     let listener = TcpListener::bind(rt, "127.0.0.1:0").ok()?;
     let ending = Ending::new();
+    let streams = StreamPlaces::new(u64::from(WORKERS));
     let client = client_of(rt, alloc, office, gate, &listener)?;
-    let arrivals = arrivals_at(rt, alloc, office, &listener, &ending)?;
+    let arrivals = arrivals_at(rt, alloc, office, &listener, &ending, &streams)?;
     join(rt, alloc, client, arrivals, gate, script, left);
     Some(())
 }
@@ -237,16 +246,16 @@ fn close_office<L: ledger::Ledger>(
     }
 }
 
-/// Serves a client that plays a script,
+/// Serves a client that plays a script over a cluster that opens in this run,
 /// while the call of this number is held until the next is answered.
 pub fn served<
     L: ledger::Ledger + Send + Sync,
     R: Net<Listener = TcpListener, Stream = TcpStream> + Threads + Wait + Clock + Eprint + Sync,
->(rt: &R, alloc: Global, blank: Blank, held: u64, script: &[Move]) -> Option<Closed>
+>(rt: &R, alloc: Global, blank: Blank, run: Run, held: u64, script: &[Move]) -> Option<Closed>
     requires name { blank.name ≡ L.name }
     requires parts { (blank.parts ≡ L.parts) × (blank.parts ≡ 4294967296) }
 {
-    let office = Office::new(Desk::<_, L>::new(alloc, recorded(alloc)?, blank));
+    let office = Office::new(Desk::<_, L>::new(alloc, recorded(alloc, run)?, blank));
     let gate = Overlap::new(rt, held);
     let mut left = Left::new(alloc);
     let is_served = serve(rt, alloc, &office, &gate, script, &mut left).is_some();
@@ -264,7 +273,8 @@ fn is_refused<D: Running, L: ledger::Ledger, R: Wait>(
     let Ok(pass) = office.open_seat(rt, alloc) else {
         return false;
     };
-    let mut bench = SeatBench::new(rt, alloc, office, pass);
+    let streams = StreamPlaces::new(1);
+    let mut bench = SeatBench::new(rt, alloc, office, pass, &streams);
     let told = bench.next_events(StreamId::new(1, 9));
     told.is_err() && bench.into_pass().receipts().is_empty()
 }
@@ -278,7 +288,7 @@ pub fn refuses_unopened<L: ledger::Ledger, R: Wait>(
     requires name { blank.name ≡ L.name }
     requires parts { (blank.parts ≡ L.parts) × (blank.parts ≡ 4294967296) }
 {
-    let office = Office::new(Desk::<_, L>::new(alloc, recorded(alloc)?, blank));
+    let office = Office::new(Desk::<_, L>::new(alloc, recorded(alloc, Run::new(1))?, blank));
     let refuses = is_refused(rt, alloc, &office);
     drop(office);
     Some(refuses)

@@ -12,7 +12,7 @@ use crate::cabinet::{FileCabinet, FolderLock, OpenFiles, RecordFile};
 use crate::folder_fault::{FolderFault, StoreHint};
 use crate::stores::{FilePlace, Request};
 use agent_core::{Cabinet, Record};
-use agent_sides::{Config, ConfiguredAgent};
+use agent_sides::{ConfiguredAgent, ConfiguredAgents};
 use cluster_openings::good_opening;
 use keep_store::KeepFault;
 use names_core::Run;
@@ -145,11 +145,11 @@ fn open_agent<'a>(
 }
 
 /// Refuses records that are those of no one cluster of these agents in this run.
-fn check_opening(config: &Config, records: &mut [Record], run: Run) -> Result<(), FolderFault>
-    ensures good { OnOk result (GoodOpening run records.new) }
-    ensures records { OnOk result (AreRecordsOf config.now records.new) }
+fn check_opening(config: &ConfiguredAgents, records: &[Record], run: Run) -> Result<(), FolderFault>
+    ensures good { OnOk result (GoodOpening run records.now) }
+    ensures records { OnOk result (AreRecordsOf config.now records.now) }
     ensures refused { IfErr result (λ fault. (fault ≡ NoCluster)
-        × ((GoodOpening run records.old × AreRecordsOf config.now records.old) → ⊥)) }
+        × ((GoodOpening run records.now × AreRecordsOf config.now records.now) → ⊥)) }
 {
     if good_opening(config, records, run) {
         Ok(())
@@ -179,7 +179,7 @@ fn add_agent<'a>(
 fn add_agents<'a>(
     rt: &'a HostRuntime,
     folder: &str,
-    config: &Config,
+    config: &ConfiguredAgents,
     opened: &mut Folder<'a>,
 ) -> Result<(), FolderFault>
     ensures good { OnOk result (GoodOpening opened.new.run opened.new.records.items) }
@@ -189,7 +189,7 @@ fn add_agents<'a>(
     for agent in config.agents() {
         add_agent(rt, folder, agent, opened)?;
     }
-    check_opening(config, opened.records.as_mut_slice(), opened.run)
+    check_opening(config, opened.records.as_slice(), opened.run)
 }
 
 /// Opens the stores of a folder, or makes those that lack: takes the master's next run, and reads
@@ -201,7 +201,7 @@ fn add_agents<'a>(
 pub fn open_folder<'a>(
     rt: &'a HostRuntime,
     folder: &str,
-    config: &Config,
+    config: &ConfiguredAgents,
 ) -> Result<Folder<'a>, FolderFault>
     ensures good { IfOk result (λ opened. GoodOpening opened.run opened.records.items) }
     ensures records { IfOk result (λ opened. AreRecordsOf config.now opened.records.items) }

@@ -1,10 +1,6 @@
 //! A cluster as a desk records it: it takes one step after another, and records each.
 
-ghost use Rattle.std.specs.Prelude.{◌≡◌, IfNone, IfSome, option_map};
-ghost use Rattle.cluster_agents.specs.Agents.{agent_in, is_in_session_in, recorded_in};
-ghost use Rattle.cluster_agents.specs.Moves.{kept_agents};
-ghost use Rattle.cluster_core.specs.Reading.{IsNextFrom, IsNextTo, NoneFrom, NoneTo};
-ghost use Rattle.cluster_core.specs.Stories.{state_of};
+ghost use Rattle.std.specs.Prelude.{◌≡◌};
 
 use agent_core::Record;
 use cluster_core::{Cluster, Taken};
@@ -119,6 +115,10 @@ impl Recorded for RecordedCluster {
         }
     }
 
+    fn out_of_memory() -> ClusterFault {
+        ClusterFault::OutOfMemory
+    }
+
     fn group_of(awaited: &Awaited) -> u32 {
         awaited.group()
     }
@@ -137,56 +137,48 @@ impl Recorded for RecordedCluster {
 
 impl Running for RecordedCluster {
     ghost use Rattle.std.proofs.Common.{refl};
+    ghost use Rattle.cluster_agents.specs.Agents.{agent_in, is_in_session_in, recorded_in};
+    ghost use Rattle.cluster_agents.specs.Moves.{kept_agents};
     ghost use Rattle.recorded_clusters.specs.Answering.{IsRefusedBy, IsTakenBy};
-    ghost use Rattle.cluster_core.specs.Reading.{is_open_in, waiting_in};
+    ghost use Rattle.cluster_core.specs.Reading.{IsFirstFrom, IsFirstTo, stream_in};
     ghost use Rattle.cluster_core.specs.Stories.{state_of};
 
     ghost is_taken = { IsTakenBy };
 
     ghost is_refused = { IsRefusedBy };
 
-    ghost waiting = { λ c stream. waiting_in stream (state_of c.story) };
+    ghost record_of = { λ c agent. recorded_in (agent_in agent (kept_agents (state_of c.story))) };
 
-    ghost is_open_on = { λ c stream. is_open_in stream (state_of c.story) };
+    ghost is_first_to = { λ c agent mail. IsFirstTo agent (state_of c.story) c.post.items mail };
 
-    fn durable(&self, agent: &AgentName) -> Option<&Record>
-        ensures { option_map (λ d. d.now) result
-            ≡ recorded_in (agent_in agent.now (kept_agents (state_of self.now.story))) }
-    {
+    ghost is_first_from = { λ c agent mail. IsFirstFrom agent (state_of c.story) c.post.items
+        mail };
+
+    ghost has_session = { λ c agent. is_in_session_in
+        (agent_in agent (kept_agents (state_of c.story))) };
+
+    ghost stream_of = { λ c stream. stream_in stream (state_of c.story) };
+
+    fn durable(&self, agent: &AgentName) -> Option<&Record> {
         self.cluster.durable(agent)
     }
 
-    fn first_mail(&self, agent: &AgentName) -> Option<u64>
-        ensures first { IfSome result
-            (IsNextTo agent.now (state_of self.now.story) self.now.post.items) }
-        ensures none { IfNone result
-            (NoneTo agent.now (state_of self.now.story) self.now.post.items) }
-    {
+    #[tactic(auto, using(crate::proofs::Firsts::first_to))]
+    fn first_mail(&self, agent: &AgentName) -> Option<u64> {
         self.cluster.first_mail(agent)
     }
 
-    fn first_mail_from(&self, agent: &AgentName) -> Option<u64>
-        ensures first { IfSome result
-            (IsNextFrom agent.now (state_of self.now.story) self.now.post.items) }
-        ensures none { IfNone result
-            (NoneFrom agent.now (state_of self.now.story) self.now.post.items) }
-    {
+    #[tactic(auto, using(crate::proofs::Firsts::first_from))]
+    fn first_mail_from(&self, agent: &AgentName) -> Option<u64> {
         self.cluster.first_mail_from(agent)
     }
 
-    fn is_in_session(&self, agent: &AgentName) -> bool
-        ensures { result ≡ is_in_session_in
-            (agent_in agent.now (kept_agents (state_of self.now.story))) }
-    {
+    fn is_in_session(&self, agent: &AgentName) -> bool {
         self.cluster.is_in_session(agent)
     }
 
-    fn waiting_on(&self, stream: StreamId) -> Option<usize> {
-        self.cluster.waiting_on(stream)
-    }
-
-    fn is_open(&self, stream: StreamId) -> bool {
-        self.cluster.is_open(stream)
+    fn stream(&self, stream: StreamId) -> Option<(usize, bool)> {
+        self.cluster.stream(stream)
     }
 
     ghost asks_its_step = { λ _. refl };

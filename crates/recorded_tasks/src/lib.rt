@@ -12,5 +12,5 @@ pub use edits::{
     stated_all, without_framework,
 };
 pub use fronts::{all_reported, push_fronts, push_fronts_at};
-pub use keys::is_behind_all;
+pub use keys::count_before;
 pub use room::room_beside;

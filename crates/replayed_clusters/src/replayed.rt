@@ -11,11 +11,9 @@ ghost use Rattle.cluster_steps.specs.declared.step.Step.{Step};
 ghost use Rattle.post_rules.specs.Numbers.{is_number};
 ghost use Rattle.replayed_clusters.specs.Stories.{due, entry_in, fresh_story, greetings};
 
-use agent_sides::Config;
-use cluster_core::{Cluster, KeptEntry, Taken, open_fresh};
+use cluster_core::{Cluster, Config, KeptEntry, Taken, open_fresh};
 use cluster_steps::{ClusterFault, Sent, Step, Verdict};
 use post_rules::EverSent;
-use role_weights::Weights;
 use std::alloc::{AllocError, Global};
 use std::marker::Model;
 
@@ -55,11 +53,11 @@ fn unless_fell(step: Taken) -> Result<KeptEntry, ClusterFault>
 }
 
 impl Replayed {
-    /// A cluster of configured agents that never ran, in run 1, with these weights of roles.
-    pub fn open(alloc: Global, config: Config, weights: Weights) -> Result<Replayed, AllocError>
-        ensures { IfOk result (λ replayed. replayed ≡ fresh_story config weights) }
+    /// A cluster of configured agents that never ran, in run 1.
+    pub fn open(alloc: Global, config: Config) -> Result<Replayed, AllocError>
+        ensures { IfOk result (λ replayed. replayed ≡ fresh_story config.agents config.weights) }
     {
-        match open_fresh(alloc, config, weights) {
+        match open_fresh(alloc, config) {
             Ok(cluster) => Ok(Replayed { cluster }),
             Err(_) => Err(AllocError),
         }

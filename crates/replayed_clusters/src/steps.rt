@@ -9,8 +9,8 @@ use crate::numbers::raised;
 use crate::replayed::Replayed;
 use cluster_entries::Entry;
 use cluster_steps::{ClusterFault, Step};
-use entry_lines::{entry_text, opening_text, refused_text};
 use std::alloc::{AllocError, Global};
+use step_text::{entry_text, opening_text, refused_text};
 
 /// A text, and how many calls and mails were sent.
 #[derive(Drop)]

@@ -7,12 +7,12 @@ ghost use Rattle.replayed_clusters.specs.Stories.{count, offered_now, records_no
 use crate::live::live;
 use crate::numbers::raised;
 use cluster_core::{Cluster, Record};
-use entry_lines::{agent_text, entries_text};
 use mails::Durable;
 use names_core::AgentName;
 use post_rules::Post;
 use quantity::Resources;
 use std::alloc::{AllocError, Global};
+use step_text::{agent_text, entries_text};
 
 /// How many entries a history has, with the opening.
 fn count<P: Post + Drop>(cluster: &Cluster<P>) -> Result<u64, AllocError>

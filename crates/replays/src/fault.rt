@@ -1,7 +1,7 @@
 //! What ends a replay.
 
 use std::{fmt, io};
-use step_lines::LineRefusal;
+use step_text::LineRefusal;
 use thiserror::Error;
 
 /// The line that ended a replay, from 1, and what is wrong with it.

@@ -14,7 +14,7 @@ use replayed_clusters::{Replayed, end_table, opening_step, raised, take_step};
 use std::alloc::{AllocError, Global};
 use std::marker::Model;
 use std::mem;
-use step_lines::{Configuration, LineFault, LineRefusal, read_config, read_step};
+use step_text::{Config, LineFault, LineRefusal, read_config, read_step};
 
 /// Answers the lines of a replay: the first says which agents there are, and each other one is a
 /// step.
@@ -116,19 +116,13 @@ impl Replayer {
     }
 
     /// The cluster that is configured so is opened.
-    fn begin(
-        &mut self,
-        alloc: Global,
-        number: u64,
-        config: Configuration,
-    ) -> Result<Vec<u8>, AllocError>
+    fn begin(&mut self, alloc: Global, number: u64, config: Config) -> Result<Vec<u8>, AllocError>
         requires { number ≡ self.old.lines + 1 }
         ensures { IfOk result (λ text. replays.opened self.old
             (fresh_story config.agents config.weights)
             ≡ record { text = text.items; after = self.new }) }
     {
-        let Configuration { agents, weights } = config;
-        let opened = Replayed::open(alloc, agents, weights)?;
+        let opened = Replayed::open(alloc, config)?;
         drop(mem::replace(&mut self.cluster, Some(opened)));
         let Some(cluster) = &self.cluster else {
             return Err(AllocError);

@@ -55,7 +55,9 @@ impl Weights {
         ensures ok { OnOk result (self.new ≡ with_weight role.now weight self.old) }
         ensures err { OnErr result (self.new ≡ self.old) }
     {
-        let name = String::from_str(alloc, role.as_text())?;
+        let Ok(name) = role.to_text(alloc) else {
+            return Err(AllocError);
+        };
         self.entries.insert(name, weight)?;
         Ok(())
     }

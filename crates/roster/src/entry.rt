@@ -12,7 +12,7 @@ use mails::{Command, MasterRefusal};
 use names_core::{AgentName, Run};
 use std::alloc::Global;
 use std::marker::Model;
-use stream_core::{LinkOut, StreamFault};
+use stream_core::LinkOut;
 
 /// A configured agent: its open session in this run, if any, the commands issued in it, and the
 /// greatest session that this run has closed. (What the agent owns is kept with its offers and
@@ -220,9 +220,11 @@ impl RosterEntry {
         if !self.is_open {
             return Ok(None);
         }
+        if self.link.is_spent() {
+            return Err(RosterFault::Spent);
+        }
         match self.link.issue(command) {
             Ok(number) => Ok(Some(number)),
-            Err(StreamFault::Spent) => Err(RosterFault::Spent),
             Err(_) => Err(RosterFault::OutOfMemory),
         }
     }

@@ -161,7 +161,7 @@ impl Roster {
 
     /// Issues a command in the open session and returns its number; where no session is open none
     /// is issued and `None` is returned. `L2 Spent` where the session's last command has the last
-    /// number, `G5 OutOfMemory` where memory was refused.
+    /// number, `G5 OutOfMemory` where a number is left and memory was refused.
     pub fn issue(&mut self, place: usize, command: Command) -> Result<Option<u32>, RosterFault>
         ensures number { IfOk result (λ n. n ≡ value_at place issued_number None self.old) }
         ensures ok { OnOk result (self.new ≡ at_place place (with_command command) self.old) }

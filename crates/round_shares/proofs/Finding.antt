@@ -1,16 +1,13 @@
 -- What is found on agents is what they have.
-use Rattle.std.proofs.Common.{◌≡◌, ℕ, zero, suc, ◌+◌, ◌<◌, Bool, true, false, cond, List, [], ◌∷◌, ◌++◌, map, filter, length, take, set, get_or, refl, sym, ap, ◌∙◌, subst, arith}
+use Rattle.std.specs.Prelude.{slice_get}
+use Rattle.std.proofs.Common.{◌≡◌, ℕ, zero, suc, Some, None, ◌+◌, ◌<◌, Bool, true, false, cond, List, [], ◌∷◌, ◌++◌, map, filter, length, take, set, get_or, refl, sym, ap, ap₂, ◌∙◌, subst, arith}
 use Rattle.names_core.specs.Ids.{Numbered, same}
 use Rattle.quantity.specs.declared.rows.Row.{Row}
 use Rattle.quantity.specs.Rows.{amount}
 use Rattle.quantity.proofs.Amounts.{amount-append}
 use Rattle.mails.specs.declared.task.Job.{Job}
 use Rattle.mails.specs.declared.task.Booked.{Booked}
-use Rattle.cluster_model.specs.Sides.{job_rows, unended}
-use Rattle.booked_tasks.specs.Launches.{tasks_of}
-use Rattle.booked_tasks.specs.declared.sums.FrameworkSum.{FrameworkSum}
-use Rattle.booked_tasks.specs.Sums.{AreSums, rows_of}
-use Rattle.agent_accounts.specs.Accounts.{Account}
+use Rattle.cluster_model.specs.Sides.{Side, job_rows, unended}
 use Rattle.drf_pick.specs.declared.counted.Allocation.{Allocation}
 use Rattle.drf_pick.specs.declared.counted.Found.{Found}
 use Rattle.drf_pick.specs.Allocations.{rows_to}
@@ -21,11 +18,7 @@ use Rattle.drf_pick.specs.Shares.{Tally, all_weighed}
 use Rattle.drf_pick.specs.Shown.{AreCounted, SameAllocations, TallyShows, all_found, all_owned, counted_of}
 use Rattle.drf_pick.proofs.Reweighing.{tally_reweighed}
 use Rattle.drf_pick.proofs.AllocationRows.{to-append}
-use Rattle.round_shares.specs.Allocations.{AreFoundOn, AreOfTasks, AreOn, IsFoundAt, allocations_in, allocations_on, job_allocation, offer_allocation, sum_allocation}
-
-sums_to : (framework : Numbered) (sums : List FrameworkSum) → rows_to framework (map sum_allocation sums) ≡ rows_of framework sums
-sums_to framework [] = refl
-sums_to framework (s ∷ sums) = ap (λ (rows : List Row). cond (same s.framework framework) s.sum [] ++ rows) (sums_to framework sums)
+use Rattle.round_shares.specs.Allocations.{AreFoundOn, IsFoundAt, allocations_of, job_allocation, side_allocations, task_allocations}
 
 pub jobs_to : (id : Numbered) (js : List Job) → job_rows (filter (λ j. same j.framework id) js) ≡ rows_to id (map job_allocation js)
 jobs_to id [] = refl
@@ -36,58 +29,38 @@ jobs_to id (j ∷ js) = by (same j.framework id) (jobs_to id js)
     by true ih = ap (λ rows. j.resources ++ rows) ih
     by false ih = ih
 
-unended_of : (id : Numbered) (bs : List Booked) → unended (tasks_of id bs) ≡ filter (λ j. same j.framework id) (unended bs)
-unended_of id [] = refl
-unended_of id (b ∷ bs) = by (same b.job.framework id) refl b.ended refl (unended_of id bs)
+-- of a task and those behind it
+pub tasks_behind : (b : Booked) (bs : List Booked) → map job_allocation (unended (b ∷ bs)) ≡ task_allocations b ++ map job_allocation (unended bs)
+tasks_behind b bs = by b.ended
   where
-    by : (v : Bool) → same b.job.framework id ≡ v → (w : Bool) → b.ended ≡ w → unended (tasks_of id bs) ≡ filter (λ j. same j.framework id) (unended bs)
-        → unended (tasks_of id (b ∷ bs)) ≡ filter (λ j. same j.framework id) (unended (b ∷ bs))
-    by true e true h ih = rw (e, h) ih
-    by true e false h ih = rw (e, h, e) (ap (λ (js : List Job). b.job ∷ js) ih)
-    by false e true h ih = rw (e, h) ih
-    by false e false h ih = rw (e, h, e) ih
+    rest : List Job
+    rest = unended bs
 
-pub sums_are : (sums : List FrameworkSum) (bs : List Booked) → AreSums sums bs → AreOfTasks bs (map sum_allocation sums)
-sums_are sums bs are framework name =
-    ap (amount name) (sums_to framework sums) ∙ are.add_up framework name ∙ ap (λ (jobs : List Job). amount name (job_rows jobs)) (unended_of framework bs) ∙ ap (amount name) (jobs_to framework (unended bs))
-
-pub with_offers : (a : Account) (as_ : List Allocation) → AreOfTasks a.booked as_ → AreOn a (as_ ++ map offer_allocation a.offers)
-with_offers a as_ are framework name =
-    omega (arith, are framework name, ap (amount name) (to-append framework as_ os), amount-append name (rows_to framework as_) (rows_to framework os), ap (amount name) (to-append framework os js), amount-append name (rows_to framework os) (rows_to framework js))
-  where
-    os : List Allocation
-    os = map offer_allocation a.offers
-
-    js : List Allocation
-    js = map job_allocation (unended a.booked)
+    by : (v : Bool) → map job_allocation (cond v rest (b.job ∷ rest)) ≡ map job_allocation (cond v [] (b.job ∷ [])) ++ map job_allocation rest
+    by true = refl
+    by false = refl
 
 -- on all agents
 
-pub found_together : (fs : List Found) (as_ : List Account) → AreFoundOn fs as_ → SameAllocations (all_found fs) (allocations_in as_)
-found_together [] [] are framework name = refl
-found_together [] (a ∷ as_) are framework name = absurd are
-found_together (f ∷ fs) [] are framework name = absurd are
-found_together (f ∷ fs) (a ∷ as_) are framework name =
-    omega (
-      arith,
-      ap (amount name) (to-append framework f.allocations.items (all_found fs)),
-      amount-append name (rows_to framework f.allocations.items) (rows_to framework (all_found fs)),
-      ap (amount name) (to-append framework (allocations_on a.offers a.booked) (allocations_in as_)),
-      amount-append name (rows_to framework (allocations_on a.offers a.booked)) (rows_to framework (allocations_in as_)),
-      are.0 framework name,
-      found_together fs as_ are.1 framework name,
-    )
+all_are : (fs : List Found) (ss : List Side) → AreFoundOn fs ss → all_found fs ≡ allocations_of ss
+all_are [] [] are = refl
+all_are [] (s ∷ ss) are = absurd are
+all_are (f ∷ fs) [] are = absurd are
+all_are (f ∷ fs) (s ∷ ss) are = ap₂ (λ (gs hs : List Allocation). gs ++ hs) are.0 (all_are fs ss are.1)
 
-next_found : (fs : List Found) (as_ : List Account) (i : ℕ) (g : Found) (a : Account) → i < length fs → i < length as_ → a ≡ get_or as_ i a → AreOn a g.allocations.items → AreFoundOn (take i fs) (take i as_) → AreFoundOn (take (suc i) (set fs i g)) (take (suc i) as_)
-next_found [] as_ i g a within inside is on are = absurd (omega arith)
-next_found (f ∷ fs) [] i g a within inside is on are = absurd (omega arith)
-next_found (f ∷ fs) (b ∷ as_) zero g a within inside is on are = (subst (λ (x : Account). AreOn x g.allocations.items) is on, tt)
-next_found (f ∷ fs) (b ∷ as_) (suc i) g a within inside is on are = (are.0, next_found fs as_ i g a (omega arith) (omega arith) is on are.1)
+pub found_together : (fs : List Found) (ss : List Side) → AreFoundOn fs ss → SameAllocations (all_found fs) (allocations_of ss)
+found_together fs ss are framework name = ap (λ gs. amount name (rows_to framework gs)) (all_are fs ss are)
 
-pub found_more : (fs gs : List Found) (as_ : List Account) (i : ℕ) (a : Account) → i < length fs → i < length as_ → a ≡ get_or as_ i a → IsFoundAt i a fs gs → AreFoundOn (take i fs) (take i as_) → AreFoundOn (take (i + 1) gs) (take (i + 1) as_)
-found_more fs gs as_ i a within inside is at are =
-    subst (λ (hs : List Found). AreFoundOn (take (i + 1) hs) (take (i + 1) as_)) (sym at.1)
-    (subst (λ n. AreFoundOn (take n (set fs i at.0)) (take n as_)) one (next_found fs as_ i at.0 a within inside is at.2 are))
+next_found : (fs : List Found) (ss : List Side) (i : ℕ) (g : Found) (s : Side) → i < length fs → slice_get ss i ≡ Some s → g.allocations.items ≡ side_allocations s → AreFoundOn (take i fs) (take i ss) → AreFoundOn (take (suc i) (set fs i g)) (take (suc i) ss)
+next_found [] ss i g s within is on are = absurd (omega arith)
+next_found (f ∷ fs) [] i g s within is on are = absurd (let none : None ≡ Some s = is in cc)
+next_found (f ∷ fs) (r ∷ ss) zero g s within is on are = (on ∙ ap side_allocations (let same : r ≡ s = (let both : Some r ≡ Some s = is in cc) in sym same), tt)
+next_found (f ∷ fs) (r ∷ ss) (suc i) g s within is on are = (are.0, next_found fs ss i g s (omega arith) is on are.1)
+
+pub found_more : (fs gs : List Found) (ss : List Side) (i : ℕ) (s : Side) → i < length fs → slice_get ss i ≡ Some s → IsFoundAt i s fs gs → AreFoundOn (take i fs) (take i ss) → AreFoundOn (take (i + 1) gs) (take (i + 1) ss)
+found_more fs gs ss i s within is at are =
+    subst (λ (hs : List Found). AreFoundOn (take (i + 1) hs) (take (i + 1) ss)) (sym at.1)
+    (subst (λ n. AreFoundOn (take n (set fs i at.0)) (take n ss)) one (next_found fs ss i at.0 s within is at.2 are))
   where
     one : suc i ≡ i + 1
     one = omega arith

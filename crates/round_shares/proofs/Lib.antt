@@ -4,7 +4,6 @@ pub mod SameAmounts
 pub mod Finding
 pub mod Owning
 pub mod Picking
-pub mod Parts
 pub mod FirstFound
 pub mod Weighing
 pub mod EligiblePicks

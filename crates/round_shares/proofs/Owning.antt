@@ -15,8 +15,7 @@ use Rattle.drf_pick.specs.Shown.{StayCounted, TallyShows, all_owned, counted_of,
 use Rattle.quantity.proofs.Sums.{sums_add_up}
 use Rattle.share_sums.specs.Sums.{CanAdd}
 use Rattle.quantity.specs.Laws.{SameAmounts}
-use Rattle.agent_accounts.specs.Accounts.{Account}
-use Rattle.agent_sides.specs.Joined.{AreOfOne, join, joined}
+use Rattle.std.specs.Prelude.{slice_get}
 use Rattle.round_shares.proofs.Finding.{set_same}
 use Rattle.round_shares.specs.Owned.{AreUpToDate, IsUpToDate, IsUpToDateAt, LeavesAt, each_owned, owned_of, totals_in}
 
@@ -129,26 +128,17 @@ entered_more ss os i s inside within is same = subst (λ n. take n (set os i (ow
     one : suc i ≡ i + 1
     one = omega arith
 
--- agents' sessions and accounts
+-- the agent at a place
 
-pub joined_at : (es : List Side) (as_ : List Account) (i : ℕ) (e : Side) (a : Account) → AreOfOne es as_ → i < length as_ → e ≡ get_or es i e → a ≡ get_or as_ i a → join e a ≡ get_or (joined es as_) i (join e a)
-joined_at [] [] i e a one inside es_is as_is = absurd (omega arith)
-joined_at [] (b ∷ as_) i e a one inside es_is as_is = absurd one
-joined_at (f ∷ es) [] i e a one inside es_is as_is = absurd one
-joined_at (f ∷ es) (b ∷ as_) zero e a one inside es_is as_is = ap (λ (x : Side). join x a) es_is ∙ ap (join f) as_is
-joined_at (f ∷ es) (b ∷ as_) (suc i) e a one inside es_is as_is = joined_at es as_ i e a one.1 (omega arith) es_is as_is
+pub got : {X : Type 0} (xs : List X) (i : ℕ) (x : X) → slice_get xs i ≡ Some x → (i < length xs) × (x ≡ get_or xs i x)
+got [] i x is = absurd (let none : None ≡ Some x = is in cc)
+got (y ∷ xs) zero x is = (omega arith, let both : Some y ≡ Some x = is in cc)
+got (y ∷ xs) (suc i) x is = let rest = got xs i x is in (omega (arith, rest.0), rest.1)
 
-pub joined_many : (es : List Side) (as_ : List Account) → AreOfOne es as_ → length (joined es as_) ≡ length as_
-joined_many [] [] one = refl
-joined_many [] (b ∷ as_) one = absurd one
-joined_many (f ∷ es) [] one = absurd one
-joined_many (f ∷ es) (b ∷ as_) one = ap suc (joined_many es as_ one.1)
-
-pub as_many : (es : List Side) (as_ : List Account) → AreOfOne es as_ → length es ≡ length as_
-as_many [] [] one = refl
-as_many [] (b ∷ as_) one = absurd one
-as_many (f ∷ es) [] one = absurd one
-as_many (f ∷ es) (b ∷ as_) one = ap suc (as_many es as_ one.1)
+pub not_got : {X : Type 0} (xs : List X) (i : ℕ) → i < length xs → slice_get xs i ≡ None → ⊥
+not_got [] i within is = absurd (omega arith)
+not_got (y ∷ xs) zero within is = absurd (let some : Some y ≡ None = is in cc)
+not_got (y ∷ xs) (suc i) within is = not_got xs i (omega arith) is
 
 pub owned_many : (ss : List Side) → length (each_owned ss) ≡ length ss
 owned_many [] = refl

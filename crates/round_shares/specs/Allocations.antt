@@ -14,8 +14,6 @@ use Rattle.drf_pick.specs.declared.counted.Allocation.{Allocation}
 use Rattle.drf_pick.specs.declared.counted.CountedShares.{CountedShares}
 use Rattle.drf_pick.specs.declared.counted.Found.{Found}
 use Rattle.drf_pick.specs.Shown.{AllCounted, AreCounted, SameAllocations, TallyShows, WeightsShow, all_found}
-use Rattle.agent_accounts.specs.Accounts.{Account}
-use Rattle.booked_tasks.specs.declared.sums.FrameworkSum.{FrameworkSum}
 use Rattle.frameworks.specs.LastRound.{clients_of}
 use Rattle.round_shares.specs.Owned.{totals_in}
 
@@ -25,8 +23,9 @@ offer_allocation o = record { framework = o.framework; resources = o.resources }
 abbrev pub job_allocation : Job → Allocation
 job_allocation j = record { framework = j.framework; resources = j.resources }
 
-abbrev pub sum_allocation : FrameworkSum → Allocation
-sum_allocation s = record { framework = s.framework; resources = s.sum }
+-- that of a booked task; none once it has ended
+abbrev pub task_allocations : Booked → List Allocation
+task_allocations b = map job_allocation (unended (b ∷ []))
 
 abbrev pub allocations_on : List Offer → List Booked → List Allocation
 allocations_on os bs = map offer_allocation os ++ map job_allocation (unended bs)
@@ -41,31 +40,21 @@ made_allocation g = offer_allocation g.offer
 abbrev pub allocations_of : List Side → List Allocation
 allocations_of ss = flat_map side_allocations ss
 
-abbrev pub allocations_in : List Account → List Allocation
-allocations_in as_ = flat_map (λ a. allocations_on a.offers a.booked) as_
-
 -- with the offers of a round
 abbrev pub allocations_with : List Side → List MadeOffer → List Allocation
 allocations_with ss made = allocations_of ss ++ map made_allocation made
 
--- these allocations are together what tasks use that haven't ended, for each framework
-abbrev pub AreOfTasks : List Booked → List Allocation → Type 0
-AreOfTasks bs as_ = SameAllocations as_ (map job_allocation (unended bs))
-
--- these allocations are together those of an agent's offers and tasks, for each framework
-abbrev pub AreOn : Account → List Allocation → Type 0
-AreOn a as_ = SameAllocations as_ (allocations_on a.offers a.booked)
-
 -- what was found on each agent is what it has
-abbrev pub AreFoundOn : List Found → List Account → Type 0
+abbrev pub AreFoundOn : List Found → List Side → Type 0
 AreFoundOn [] [] = ⊤
-AreFoundOn [] (a ∷ as_) = ⊥
+AreFoundOn [] (s ∷ ss) = ⊥
 AreFoundOn (f ∷ fs) [] = ⊥
-AreFoundOn (f ∷ fs) (a ∷ as_) = AreOn a f.allocations.items × AreFoundOn fs as_
+AreFoundOn (f ∷ fs) (s ∷ ss) = (f.allocations.items ≡ side_allocations s) × AreFoundOn fs ss
 
 -- the agent at a place was looked at
-abbrev pub IsFoundAt : ℕ → Account → List Found → List Found → Type 0
-IsFoundAt place a fs gs = (g : Found) × (gs ≡ set fs place g) × AreOn a g.allocations.items
+abbrev pub IsFoundAt : ℕ → Side → List Found → List Found → Type 0
+IsFoundAt place s fs gs =
+    (g : Found) × (gs ≡ set fs place g) × (g.allocations.items ≡ side_allocations s)
 
 -- the shares of a round: what the agents with an open session own, the frameworks with their roles,
 -- these with their weights, and what frameworks are allocated on the agents and by offers of the

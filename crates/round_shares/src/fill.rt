@@ -9,14 +9,13 @@ ghost use Rattle.drf_pick.specs.declared.holder.Client.{Client};
 ghost use Rattle.drf_pick.specs.Allocations.{AddUp, all_rows};
 ghost use Rattle.drf_pick.specs.Shown.{AllCounted, AreCounted, IsCounted, NoneOf, SameAllocations, SameFound, StayCounted, all_found};
 ghost use Rattle.share_sums.specs.Sums.{IsSum};
-ghost use Rattle.round_shares.specs.Allocations.{AreFoundOn, BeginRound, IsFoundAt, allocations_in, allocations_of};
+ghost use Rattle.round_shares.specs.Allocations.{AreFoundOn, BeginRound, IsFoundAt, allocations_of};
 ghost use Rattle.round_shares.specs.Owned.{totals_in};
 ghost use Rattle.round_shares.specs.Weighing.{IsWeighedAt};
 
 use crate::found::{are_found, found_on};
 use crate::owned::own_all;
-use agent_accounts::Account;
-use agent_sides::Sides;
+use agent_sides::{AgentSide, Sides};
 use drf_pick::{CountedShares, Shares};
 use frameworks::Frameworks;
 use mails::Framework;
@@ -89,18 +88,18 @@ fn find_at(
     counted: &mut CountedShares,
     alloc: Global,
     place: usize,
-    account: &Account,
+    agent: &AgentSide<'_>,
 ) -> Result<(), AllocError>
     requires { place < length counted.old.found.items }
-    ensures found { OnOk result (IsFoundAt place account.now counted.old.found.items
+    ensures found { OnOk result (IsFoundAt place agent.now counted.old.found.items
         counted.new.found.items) }
     ensures counted { OnOk result (StayCounted counted.old counted.new) }
     ensures owned { counted.new.owned ≡ counted.old.owned }
 {
-    if are_found(&counted.found[place].allocations, account) {
+    if are_found(&counted.found[place].allocations, agent) {
         return Ok(());
     }
-    let allocations = found_on(alloc, account)?;
+    let allocations = found_on(alloc, agent)?;
     match counted.find(alloc, place, allocations) {
         Ok(()) => Ok(()),
         Err(_) => Err(AllocError),
@@ -108,38 +107,33 @@ fn find_at(
 }
 
 /// Looks at all agents.
-fn find_all(
-    counted: &mut CountedShares,
-    alloc: Global,
-    accounts: &[Account],
-) -> Result<(), AllocError>
-    requires { length counted.old.found.items ≡ length accounts.now }
-    ensures found { OnOk result (AreFoundOn counted.new.found.items accounts.now) }
+fn find_all(counted: &mut CountedShares, alloc: Global, sides: &Sides) -> Result<(), AllocError>
+    requires { length counted.old.found.items ≡ length sides.now }
+    ensures found { OnOk result (AreFoundOn counted.new.found.items sides.now) }
     ensures counted { OnOk result (StayCounted counted.old counted.new) }
     ensures owned { OnOk result (counted.new.owned ≡ counted.old.owned) }
 {
-    for place in 0..accounts.len() {
-        find_at(counted, alloc, place, &accounts[place])?;
+    for place in 0..sides.len() {
+        let Some(agent) = sides.at(place) else {
+            unreachable!();
+        };
+        find_at(counted, alloc, place, &agent)?;
     }
     Ok(())
 }
 
 /// Counts what frameworks are allocated now, as far as that is other than before.
-fn recount(
-    counted: &mut CountedShares,
-    alloc: Global,
-    accounts: &[Account],
-) -> Result<(), AllocError>
-    requires many { length counted.old.found.items ≡ length accounts.now }
+fn recount(counted: &mut CountedShares, alloc: Global, sides: &Sides) -> Result<(), AllocError>
+    requires many { length counted.old.found.items ≡ length sides.now }
     requires counted { IsCounted counted.old }
-    requires sums { AddUp (all_rows (allocations_in accounts.now)) }
+    requires sums { AddUp (all_rows (allocations_of sides.now)) }
     ensures counted { OnOk result (StayCounted counted.old counted.new) }
     ensures all { OnOk result (AllCounted counted.new.found.items) }
     ensures found { OnOk result
-        (SameAllocations (all_found counted.new.found.items) (allocations_in accounts.now)) }
+        (SameAllocations (all_found counted.new.found.items) (allocations_of sides.now)) }
     ensures owned { OnOk result (counted.new.owned ≡ counted.old.owned) }
 {
-    find_all(counted, alloc, accounts)?;
+    find_all(counted, alloc, sides)?;
     counted.count(alloc)
 }
 
@@ -208,12 +202,11 @@ pub fn shares_of(
     ensures shares { IfOk result (BeginRound weights.now sides.now frameworks.old) }
     ensures same { frameworks.new ≡ frameworks.old }
 {
-    let (entries, accounts) = sides.parts();
     let (kept, count) = frameworks.take_shares();
-    let (mut counted, registered) = kept_or_new(alloc, kept, count, accounts.len())?;
-    own_all(&mut counted, alloc, entries, accounts)?;
+    let (mut counted, registered) = kept_or_new(alloc, kept, count, sides.len())?;
+    own_all(&mut counted, alloc, sides)?;
     register_all(&mut counted, alloc, frameworks.as_slice(), registered)?;
-    recount(&mut counted, alloc, accounts)?;
+    recount(&mut counted, alloc, sides)?;
     weigh(&mut counted, alloc, weights)?;
     Ok(counted)
 }

@@ -1,73 +1,81 @@
-//! What frameworks are allocated on an agent: what each one's tasks use that haven't ended, and its
-//! current offers.
+//! What frameworks are allocated on an agent: its current offers, and what its booked tasks use that
+//! haven't ended.
 
 ghost use Rattle.std.specs.Prelude.{◌≡◌, ◌++◌, ◌∷◌, [], map, IfOk, IfSome, IsTrue, OnOk};
 ghost use Rattle.cluster_model.specs.Sides.{unended};
-ghost use Rattle.booked_tasks.specs.Sums.{AreSums};
-ghost use Rattle.round_shares.specs.Allocations.{AreOfTasks, AreOn, job_allocation, offer_allocation, sum_allocation};
+ghost use Rattle.round_shares.specs.Allocations.{job_allocation, offer_allocation, side_allocations, task_allocations};
 
-use agent_accounts::Account;
-use booked_tasks::{FrameworkSum, Tasks};
+use agent_sides::{AgentSide, OffersAt, TasksAt};
 use drf_pick::Allocation;
-use mails::{Booked, Offer};
+use mails::Booked;
 use names_core::FrameworkId;
 use plain_data::Plain;
 use quantity::Resources;
 use std::alloc::{AllocError, Global};
 
-fn is_allocation(allocation: &Allocation, framework: FrameworkId, resources: &Resources) -> bool
-    ensures { IsTrue result
-        → (allocation.now ≡ record { framework = framework; resources = resources.now }) }
+/// What is left of allocations behind the first one, where that is this one.
+fn behind<'a>(
+    allocations: &'a [Allocation],
+    framework: FrameworkId,
+    resources: &Resources,
+) -> Option<&'a [Allocation]>
+    ensures { IfSome result (λ left. allocations.entry.now
+        ≡ record { framework = framework; resources = resources.now } ∷ left.now) }
 {
-    allocation.framework == framework && allocation.resources.is_same(resources)
+    let (first, left) = allocations.split_first()?;
+    if first.framework == framework && first.resources.is_same(resources) {
+        Some(left)
+    } else {
+        None
+    }
 }
 
-fn are_sums(allocations: &[Allocation], sums: &[FrameworkSum]) -> bool
-    ensures { IsTrue result → (allocations.now ≡ map sum_allocation sums.now) }
+/// What is left of allocations behind those of offers, where they begin with these.
+fn behind_offers<'a>(
+    allocations: &'a [Allocation],
+    offers: OffersAt<'_>,
+) -> Option<&'a [Allocation]>
+    ensures { IfSome result (λ left. allocations.entry.now
+        ≡ map offer_allocation offers.entry ++ left.now) }
 {
-    if allocations.len() != sums.len() {
-        return false;
+    let mut left = allocations;
+    for offer in offers {
+        left = behind(left, offer.framework, &offer.resources)?;
     }
-    for i in 0..sums.len() {
-        if !is_allocation(&allocations[i], sums[i].framework, &sums[i].sum) {
+    Some(left)
+}
+
+/// What is left of allocations behind that of a task, which has none once it has ended.
+fn behind_task<'a>(allocations: &'a [Allocation], task: &Booked) -> Option<&'a [Allocation]>
+    ensures { IfSome result (λ left. allocations.entry.now ≡ task_allocations task.now ++ left.now) }
+{
+    if task.ended {
+        return Some(allocations);
+    }
+    behind(allocations, task.job.framework, &task.job.resources)
+}
+
+/// Whether allocations are just those of tasks.
+fn are_tasks(allocations: &[Allocation], tasks: TasksAt<'_>) -> bool
+    ensures { IsTrue result → (allocations.now ≡ map job_allocation (unended tasks.entry)) }
+{
+    let mut left = allocations;
+    for task in tasks {
+        let Some(behind) = behind_task(left, task) else {
             return false;
-        }
+        };
+        left = behind;
     }
-    true
+    left.is_empty()
 }
 
-fn are_offers(allocations: &[Allocation], offers: &[Offer]) -> bool
-    ensures { IsTrue result → (allocations.now ≡ map offer_allocation offers.now) }
+/// Whether these allocations are still those of the agent.
+pub(crate) fn are_found(allocations: &[Allocation], agent: &AgentSide<'_>) -> bool
+    ensures { IsTrue result → (allocations.now ≡ side_allocations agent.now) }
 {
-    if allocations.len() != offers.len() {
-        return false;
-    }
-    for i in 0..offers.len() {
-        if !is_allocation(&allocations[i], offers[i].framework, &offers[i].resources) {
-            return false;
-        }
-    }
-    true
-}
-
-fn are_parts(allocations: &[Allocation], sums: &[FrameworkSum], offers: &[Offer]) -> bool
-    ensures { IsTrue result
-        → (allocations.now ≡ map sum_allocation sums.now ++ map offer_allocation offers.now) }
-{
-    if allocations.len() < sums.len() {
-        return false;
-    }
-    let (of_tasks, of_offers) = allocations.split_at(sums.len());
-    are_sums(of_tasks, sums) && are_offers(of_offers, offers)
-}
-
-/// Whether it is known that these allocations are still those of the agent.
-pub(crate) fn are_found(allocations: &[Allocation], account: &Account) -> bool
-    ensures { IsTrue result → AreOn account.now allocations.now }
-{
-    match account.booked().framework_sums() {
+    match behind_offers(allocations, agent.offers()) {
+        Some(left) => are_tasks(left, agent.tasks()),
         None => false,
-        Some(sums) => are_parts(allocations, sums, account.offers().as_slice()),
     }
 }
 
@@ -87,19 +95,9 @@ fn push(
     Ok(())
 }
 
-fn push_sums(allocations: &mut Vec<Allocation>, sums: &[FrameworkSum]) -> Result<(), AllocError>
+fn push_offers(allocations: &mut Vec<Allocation>, offers: OffersAt<'_>) -> Result<(), AllocError>
     ensures { OnOk result (allocations.new.items ≡ allocations.old.items
-        ++ map sum_allocation sums.now) }
-{
-    for sum in sums {
-        push(allocations, sum.framework, &sum.sum)?;
-    }
-    Ok(())
-}
-
-fn push_offers(allocations: &mut Vec<Allocation>, offers: &[Offer]) -> Result<(), AllocError>
-    ensures { OnOk result (allocations.new.items ≡ allocations.old.items
-        ++ map offer_allocation offers.now) }
+        ++ map offer_allocation offers.entry) }
 {
     for offer in offers {
         push(allocations, offer.framework, &offer.resources)?;
@@ -107,9 +105,9 @@ fn push_offers(allocations: &mut Vec<Allocation>, offers: &[Offer]) -> Result<()
     Ok(())
 }
 
-fn push_tasks(allocations: &mut Vec<Allocation>, tasks: &[Booked]) -> Result<(), AllocError>
+fn push_tasks(allocations: &mut Vec<Allocation>, tasks: TasksAt<'_>) -> Result<(), AllocError>
     ensures { OnOk result (allocations.new.items ≡ allocations.old.items
-        ++ map job_allocation (unended tasks.now)) }
+        ++ map job_allocation (unended tasks.entry)) }
 {
     for task in tasks {
         if !task.ended {
@@ -119,25 +117,12 @@ fn push_tasks(allocations: &mut Vec<Allocation>, tasks: &[Booked]) -> Result<(),
     Ok(())
 }
 
-/// What frameworks are allocated by tasks on an agent. It visits these only where their sums by
-/// framework aren't known.
-fn of_tasks(alloc: Global, tasks: &Tasks) -> Result<Vec<Allocation>, AllocError>
-    ensures { IfOk result (λ allocations. AreOfTasks tasks.now allocations.items) }
+/// What frameworks are allocated on an agent.
+pub(crate) fn found_on(alloc: Global, agent: &AgentSide<'_>) -> Result<Vec<Allocation>, AllocError>
+    ensures { IfOk result (λ allocations. allocations.items ≡ side_allocations agent.now) }
 {
     let mut allocations = Vec::new(alloc);
-    let Some(sums) = tasks.framework_sums() else {
-        push_tasks(&mut allocations, tasks.as_slice())?;
-        return Ok(allocations);
-    };
-    push_sums(&mut allocations, sums)?;
-    Ok(allocations)
-}
-
-/// What frameworks are allocated on an agent.
-pub(crate) fn found_on(alloc: Global, account: &Account) -> Result<Vec<Allocation>, AllocError>
-    ensures { IfOk result (λ allocations. AreOn account.now allocations.items) }
-{
-    let mut allocations = of_tasks(alloc, account.booked())?;
-    push_offers(&mut allocations, account.offers().as_slice())?;
+    push_offers(&mut allocations, agent.offers())?;
+    push_tasks(&mut allocations, agent.tasks())?;
     Ok(allocations)
 }

@@ -2,15 +2,13 @@
 
 ghost use Rattle.std.specs.Prelude.{◌≡◌, ◌<◌, length, set, OnOk};
 ghost use Rattle.quantity.specs.Laws.{SameAmounts};
-ghost use Rattle.agent_sides.specs.Joined.{AreOfOne, join, joined};
 ghost use Rattle.drf_pick.specs.Allocations.{AddUp};
 ghost use Rattle.drf_pick.specs.Shown.{IsCounted, StayCounted, all_owned};
 ghost use Rattle.round_shares.specs.Owned.{AreUpToDate, IsUpToDateAt, LeavesAt, each_owned, owned_of, totals_in};
 
-use agent_accounts::Account;
+use agent_sides::{AgentSide, Sides};
 use drf_pick::CountedShares;
 use plain_data::Plain;
-use roster::RosterEntry;
 use std::alloc::{AllocError, Global};
 
 /// An agent leaves whose session closed, or that owns something else than it entered with.
@@ -18,12 +16,11 @@ fn leave_at(
     counted: &mut CountedShares,
     alloc: Global,
     place: usize,
-    entry: &RosterEntry,
-    account: &Account,
+    agent: &AgentSide<'_>,
 ) -> Result<(), AllocError>
     requires { place < length counted.old.owned.items }
-    ensures left { OnOk result (LeavesAt place (join entry.now account.now)
-        counted.old.owned.items counted.new.owned.items) }
+    ensures left { OnOk result (LeavesAt place agent.now counted.old.owned.items
+        counted.new.owned.items) }
     ensures counted { OnOk result (StayCounted counted.old counted.new) }
     ensures found { counted.new.found ≡ counted.old.found }
 {
@@ -31,7 +28,7 @@ fn leave_at(
     let Some(total) = &counted.owned[place] else {
         return Ok(());
     };
-    if entry.is_open() && total.is_same(account.total()) {
+    if agent.is_open() && total.is_same(agent.total()) {
         return Ok(());
     }
     match counted.shares.leave(alloc, total) {
@@ -43,21 +40,18 @@ fn leave_at(
 }
 
 /// The agents leave whose sessions closed, or that own something else than they entered with.
-fn leave_all(
-    counted: &mut CountedShares,
-    alloc: Global,
-    entries: &[RosterEntry],
-    accounts: &[Account],
-) -> Result<(), AllocError>
-    requires one { AreOfOne entries.now accounts.now }
-    requires many { length counted.old.owned.items ≡ length accounts.now }
-    ensures left { OnOk result (AreUpToDate (joined entries.now accounts.now)
+fn leave_all(counted: &mut CountedShares, alloc: Global, sides: &Sides) -> Result<(), AllocError>
+    requires { length counted.old.owned.items ≡ length sides.now }
+    ensures left { OnOk result (AreUpToDate sides.now
         counted.new.owned.items) }
     ensures counted { OnOk result (StayCounted counted.old counted.new) }
     ensures found { counted.new.found ≡ counted.old.found }
 {
-    for place in 0..accounts.len() {
-        leave_at(counted, alloc, place, &entries[place], &accounts[place])?;
+    for place in 0..sides.len() {
+        let Some(agent) = sides.at(place) else {
+            unreachable!();
+        };
+        leave_at(counted, alloc, place, &agent)?;
     }
     Ok(())
 }
@@ -67,23 +61,22 @@ fn enter_at(
     counted: &mut CountedShares,
     alloc: Global,
     place: usize,
-    entry: &RosterEntry,
-    account: &Account,
+    agent: &AgentSide<'_>,
 ) -> Result<(), AllocError>
     requires within { place < length counted.old.owned.items }
-    requires left { IsUpToDateAt place (join entry.now account.now) counted.old.owned.items }
+    requires left { IsUpToDateAt place agent.now counted.old.owned.items }
     requires owned { SameAmounts counted.old.shares.totals (all_owned counted.old.owned.items) }
     requires sums { AddUp (all_owned (set counted.old.owned.items place
-        (owned_of (join entry.now account.now)))) }
+        (owned_of agent.now))) }
     ensures entered { OnOk result (counted.new.owned.items
-        ≡ set counted.old.owned.items place (owned_of (join entry.now account.now))) }
+        ≡ set counted.old.owned.items place (owned_of agent.now)) }
     ensures counted { OnOk result (StayCounted counted.old counted.new) }
     ensures found { counted.new.found ≡ counted.old.found }
 {
-    if !entry.is_open() || counted.owned[place].is_some() {
+    if !agent.is_open() || counted.owned[place].is_some() {
         return Ok(());
     }
-    let total = account.total().copy()?;
+    let total = agent.total().copy()?;
     match counted.shares.enter(alloc, &total) {
         Ok(()) => {}
         Err(_) => return Err(AllocError),
@@ -93,23 +86,20 @@ fn enter_at(
 }
 
 /// The agents enter whose sessions are open, if they haven't entered.
-fn enter_all(
-    counted: &mut CountedShares,
-    alloc: Global,
-    entries: &[RosterEntry],
-    accounts: &[Account],
-) -> Result<(), AllocError>
-    requires one { AreOfOne entries.now accounts.now }
+fn enter_all(counted: &mut CountedShares, alloc: Global, sides: &Sides) -> Result<(), AllocError>
     requires counted { IsCounted counted.old }
-    requires left { AreUpToDate (joined entries.now accounts.now) counted.old.owned.items }
-    requires sums { AddUp (totals_in (joined entries.now accounts.now)) }
+    requires left { AreUpToDate sides.now counted.old.owned.items }
+    requires sums { AddUp (totals_in sides.now) }
     ensures entered { OnOk result (counted.new.owned.items
-        ≡ each_owned (joined entries.now accounts.now)) }
+        ≡ each_owned sides.now) }
     ensures counted { OnOk result (StayCounted counted.old counted.new) }
     ensures found { counted.new.found ≡ counted.old.found }
 {
-    for place in 0..accounts.len() {
-        enter_at(counted, alloc, place, &entries[place], &accounts[place])?;
+    for place in 0..sides.len() {
+        let Some(agent) = sides.at(place) else {
+            unreachable!();
+        };
+        enter_at(counted, alloc, place, &agent)?;
     }
     Ok(())
 }
@@ -119,18 +109,16 @@ fn enter_all(
 pub(crate) fn own_all(
     counted: &mut CountedShares,
     alloc: Global,
-    entries: &[RosterEntry],
-    accounts: &[Account],
+    sides: &Sides,
 ) -> Result<(), AllocError>
-    requires one { AreOfOne entries.now accounts.now }
     requires counted { IsCounted counted.old }
-    requires many { length counted.old.owned.items ≡ length accounts.now }
-    requires sums { AddUp (totals_in (joined entries.now accounts.now)) }
+    requires many { length counted.old.owned.items ≡ length sides.now }
+    requires sums { AddUp (totals_in sides.now) }
     ensures entered { OnOk result (counted.new.owned.items
-        ≡ each_owned (joined entries.now accounts.now)) }
+        ≡ each_owned sides.now) }
     ensures counted { OnOk result (StayCounted counted.old counted.new) }
     ensures found { counted.new.found ≡ counted.old.found }
 {
-    leave_all(counted, alloc, entries, accounts)?;
-    enter_all(counted, alloc, entries, accounts)
+    leave_all(counted, alloc, sides)?;
+    enter_all(counted, alloc, sides)
 }

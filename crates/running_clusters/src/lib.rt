@@ -8,7 +8,7 @@ mod kept_entry;
 mod running;
 
 pub use agent_core::Record;
-pub use awaited::{Awaited, groups_of};
+pub use awaited::{Awaited, each_mail_wakes_its_agent, groups_of};
 pub use cluster_entries::Entry;
 pub use cluster_steps::{ClusterFault, Keep, Step, StepCause};
 pub use given::Given;

@@ -1,9 +1,10 @@
 //! A cluster that runs, as a desk records it.
 
-ghost use Rattle.std.specs.Prelude.{◌≡◌, ℕ, Bool, Option};
+ghost use Rattle.std.specs.Prelude.{◌≡◌, ℕ, Bool, List, Option, option_map};
 ghost use Rattle.cluster_entries.specs.declared.entry.Entry.{Entry};
 ghost use Rattle.cluster_steps.specs.declared.fault.ClusterFault.{ClusterFault};
 ghost use Rattle.cluster_steps.specs.declared.step.Step.{Step};
+ghost use Rattle.mails.specs.declared.record.Durable.{Durable};
 ghost use Rattle.names_core.specs.Ids.{Numbered};
 ghost use Rattle.desk_seats.specs.declared.desk.pass.Answered.{Answered};
 ghost use Rattle.desk_seats.specs.declared.fault.OfficeFault.{OfficeFault};
@@ -33,31 +34,44 @@ pub trait Running: Recorded<
     /// Some state of it refuses this step of a pass so.
     ghost is_refused: { PassState Entry → Step → OfficeFault ClusterFault → Type 0 };
 
-    /// How many events of a stream wait; None for one that was never opened.
-    ghost waiting: { Self → Numbered → Option ℕ };
-
-    /// Whether a stream is the open one of a framework.
-    ghost is_open_on: { Self → Numbered → Bool };
-
     /// The record of an agent; None where no such agent is configured.
-    fn durable(&self, agent: &AgentName) -> Option<&Record>;
+    ghost record_of: { Self → List ℕ → Option Durable };
 
-    /// The number of the first mail to an agent that wasn't delivered; None where there is none.
-    fn first_mail(&self, agent: &AgentName) -> Option<u64>;
+    /// Of the mails to an agent this is the number of the first that wasn't delivered;
+    /// None where there is none.
+    ghost is_first_to: { Self → List ℕ → Option ℕ → Type 0 };
 
-    /// The number of the first mail from an agent that wasn't delivered; None where there is none.
-    fn first_mail_from(&self, agent: &AgentName) -> Option<u64>;
+    /// Of the mails from an agent this is the number of the first that wasn't delivered;
+    /// None where there is none.
+    ghost is_first_from: { Self → List ℕ → Option ℕ → Type 0 };
 
     /// Whether an agent has an open session.
-    fn is_in_session(&self, agent: &AgentName) -> bool;
+    ghost has_session: { Self → List ℕ → Bool };
 
-    /// How many events of a stream nobody took yet; None for one that was never opened.
-    fn waiting_on(&self, stream: StreamId) -> Option<usize>
-        ensures { result ≡ waiting self.now stream };
+    /// How many events of a stream nobody took yet, and whether it is open;
+    /// None for one that was never opened.
+    ghost stream_of: { Self → Numbered → Option (ℕ × Bool) };
 
-    /// Whether a stream is the open one of a framework.
-    fn is_open(&self, stream: StreamId) -> bool
-        ensures { result ≡ is_open_on self.now stream };
+    /// The record of an agent; None where no such agent is configured.
+    fn durable(&self, agent: &AgentName) -> Option<&Record>
+        ensures { option_map (λ d. d.now) result ≡ record_of self.now agent.now };
+
+    /// The number of the first mail to an agent that wasn't delivered; None where there is none.
+    fn first_mail(&self, agent: &AgentName) -> Option<u64>
+        ensures { is_first_to self.now agent.now result };
+
+    /// The number of the first mail from an agent that wasn't delivered; None where there is none.
+    fn first_mail_from(&self, agent: &AgentName) -> Option<u64>
+        ensures { is_first_from self.now agent.now result };
+
+    /// Whether an agent has an open session; not where no such agent is configured.
+    fn is_in_session(&self, agent: &AgentName) -> bool
+        ensures { result ≡ has_session self.now agent.now };
+
+    /// How many events of a stream nobody took yet, and whether it is open, which it isn't while no
+    /// master serves. None for a stream that was never opened.
+    fn stream(&self, stream: StreamId) -> Option<(usize, bool)>
+        ensures { result ≡ stream_of self.now stream };
 
     /// The step of an entry is the one that was requested.
     ghost asks_its_step: { (entry : Entry) → Self.step_of entry ≡ entry.step };

@@ -19,6 +19,8 @@ pub enum ServingFault {
     },
     /// A thread or memory was refused: `H8 OutOfMemory` or `H9 NoThread`.
     Http(HttpFault),
+    /// `H8 OutOfMemory`: the process has as many MiB as it may have.
+    Memory(u64),
     /// The office refused a seat, or its close.
     Office(OfficeFault<ClusterFault>),
 }
@@ -33,6 +35,13 @@ impl fmt::Display for ServingFault {
             ServingFault::Http(fault) => {
                 let fault = *fault;
                 write!(f, "{fault}")
+            }
+            ServingFault::Memory(limit) => {
+                let (fault, limit) = (HttpFault::OutOfMemory, *limit);
+                write!(
+                    f,
+                    "{fault}: the server has the {limit} MiB that --memory allows"
+                )
             }
             ServingFault::Office(fault) => {
                 let fault = *fault;

@@ -3,9 +3,11 @@
 #![tactic(auto)]
 
 mod fault;
+mod memory;
 mod serve;
 mod staff;
 
 pub use fault::ServingFault;
+pub use memory::MemoryLimit;
 pub use serve::{read_recorded, serve_cluster};
 pub use staff::Pace;

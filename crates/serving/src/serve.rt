@@ -1,14 +1,15 @@
 //! A cluster that runs until its connections have ended.
 
 ghost use Rattle.std.specs.Fn.{FnReturnsAt};
-ghost use Rattle.std.specs.Prelude.{◌≡◌, [], IfOk, Ok};
+ghost use Rattle.std.specs.Prelude.{◌≡◌, ◌==◌, ◌<◌, ◌-◌, ◌/◌, [], if◌then◌else◌, IfOk, Ok};
 
 use crate::fault::ServingFault;
+use crate::memory::MemoryLimit;
 use crate::staff::{Entrance, Leaver, Pace, seated, start_all};
 use desk_lock::{Desk, Office, OfficeFault, Pass, Passes, Recorded, SeatedHistory};
 use http_door::NoGate;
 use http_workers::{HttpFault, serve_all};
-use office_bench::{ConnectionLimits, Ending, Seating, TcpArrivals};
+use office_bench::{ConnectionLimits, Ending, Seating, StreamPlaces, TcpArrivals};
 use record_folder::RecordFile;
 use running_clusters::{KeptEntry, Running};
 use std::alloc::Global;
@@ -63,6 +64,27 @@ fn why_ended(fault: Option<HttpFault>) -> Result<(), ServingFault> {
     }
 }
 
+/// So many connections are served at once where no number is asked for.
+const WORKERS: u32 = 64;
+
+/// How many connections are served at once.
+fn workers_of(asked: u32) -> u32
+    ensures number { result ≡ (if asked == 0 then 64 else asked) }
+    ensures some { 0 < result }
+{
+    if asked == 0 { WORKERS } else { asked }
+}
+
+/// How many of these may be streams: all but a quarter, where a number is asked for.
+fn streams_of(asked: u32) -> u64
+    ensures { result ≡ (if asked == 0 then 64 else asked - asked / 4) }
+{
+    if asked == 0 {
+        return u64::from(WORKERS);
+    }
+    u64::from(asked.saturating_sub(asked / 4))
+}
+
 /// Serves the connections of a listener, each with a seat of its own,
 /// until no more come and all have ended. The passes of their seats are collected.
 fn serve_connections<
@@ -78,13 +100,20 @@ fn serve_connections<
     passes: &mut Passes<KeptEntry, L>,
 ) -> Result<(), ServingFault> {
     let pass = seated(rt, alloc, office)?;
+    let streams = StreamPlaces::new(streams_of(pace.workers));
     let limits = ConnectionLimits {
         connections: pace.connections,
         idle_seconds: pace.idle_seconds,
+        streams: &streams,
     };
-    let Entrance { listener, ending } = entrance;
+    let Entrance {
+        listener,
+        ending,
+        ..
+    } = entrance;
     let mut arrivals = TcpArrivals::new(rt, alloc, office, pass, listener, limits, ending);
-    let (benches, fault) = serve_all(rt, alloc, &mut arrivals, &NoGate);
+    let workers = workers_of(pace.workers);
+    let (benches, fault) = serve_all(rt, alloc, workers, &mut arrivals, &NoGate);
     let ended = why_ended(fault);
     let own = hand_in(passes, arrivals.into_pass());
     let handed = first_fault(own, hand_in_all(passes, benches));
@@ -238,7 +267,8 @@ fn print_once<T, R: Eprint>(rt: &R, ending: &Ending, served: &Result<T, ServingF
 /// Runs a cluster of agents whose records are kept in files, until so many connections as its pace
 /// says have come and ended, and returns its whole history, with the seat of each entry. Each
 /// connection has a seat, as has each agent and the master's time. Where an agent's record can't be
-/// kept any more, or where memory or a thread is refused, it ends too: the fault, which says why, is
+/// kept any more, where memory or a thread is refused, or where it has as much memory as it may have,
+/// it ends too: the fault, which says why, is
 /// printed on standard error at once, streams and connections that wait for their clients are
 /// ended, and what is being answered is answered.
 pub fn serve_cluster<
@@ -252,6 +282,7 @@ pub fn serve_cluster<
     cluster: D,
     files: Vec<RecordFile<'_>>,
     listener: &TcpListener,
+    memory: MemoryLimit<'_>,
     pace: Pace,
 ) -> Result<SeatedHistory<D>, ServingFault>
     requires opening { D.history cluster ≡ [] }
@@ -263,6 +294,7 @@ pub fn serve_cluster<
     let ending = Ending::new();
     let entrance = Entrance {
         listener,
+        memory,
         ending: &ending,
     };
     let (passes, ended) = run_office(rt, alloc, &office, files, entrance, pace);

@@ -3,6 +3,7 @@
 ghost use Rattle.std.specs.Prelude.{◌≡◌, [], IfOk};
 
 use crate::fault::ServingFault;
+use crate::memory::{MemoryLimit, keep_within};
 use activities::{activity, ticker};
 use desk_lock::{Office, Pass};
 use http_workers::HttpFault;
@@ -27,19 +28,24 @@ pub struct Pace {
     pub connections: u64,
     /// After so many seconds without a byte a connection is at its end; with 0 never.
     pub idle_seconds: u64,
+    /// So many connections are served at once, and a quarter of them are kept for those that are no
+    /// streams; with 0 it is 64, and none is kept.
+    pub workers: u32,
 }
 
-/// Where a server takes its connections, and whether it ends before they do.
+/// Where a server takes its connections, how much memory it may have, and whether it ends before
+/// its connections do.
 #[derive(Clone, Copy, Drop)]
 pub(crate) struct Entrance<'a> {
     pub listener: &'a TcpListener,
+    pub memory: MemoryLimit<'a>,
     pub ending: &'a Ending,
 }
 
 impl<'a> Entrance<'a> {
     /// Has the server end, and prints why on standard error, unless it ends already. Who waits for
     /// a connection gets one, and sees it then.
-    fn close<R: Net<Listener = TcpListener, Stream = TcpStream> + Eprint>(
+    pub(crate) fn close<R: Net<Listener = TcpListener, Stream = TcpStream> + Eprint>(
         &self,
         rt: &R,
         fault: &ServingFault,
@@ -194,6 +200,38 @@ fn start_ticker<
     started(scope.spawn(move || keep_time(rt, alloc, office, pass, interval)))
 }
 
+/// Starts the thread that looks how much memory there is, where it is limited.
+fn start_memory<
+    's,
+    E,
+    D: Running + Send + Sync + 's,
+    L: ledger::Ledger + Send + Sync + 's,
+    R: Net<Listener = TcpListener, Stream = TcpStream>
+        + Threads
+        + Wait
+        + Clock
+        + Eprint
+        + Sync
+        + 's,
+>(
+    scope: &Scope<'s, E>,
+    rt: &'s R,
+    alloc: Global,
+    office: &'s Office<D, L>,
+    entrance: Entrance<'s>,
+    threads: &mut Vec<JoinHandle<Leaver<L>>>,
+) -> Result<(), ServingFault> {
+    let memory = entrance.memory;
+    if memory.mebibytes == 0 {
+        return Ok(());
+    }
+    make_room(threads, 1)?;
+    let pass = seated(rt, alloc, office)?;
+    let thread = scope.spawn(move || keep_within(rt, office, pass, entrance, memory));
+    keep(threads, started(thread)?);
+    Ok(())
+}
+
 /// Starts the threads of all agents.
 fn start_agents<
     's,
@@ -224,7 +262,7 @@ fn start_agents<
     Ok(())
 }
 
-/// Starts the threads of all agents, and of the master's time.
+/// Starts the threads of all agents, of the master's time, and of the limit on memory.
 /// Those that run when one is refused are among the threads too.
 pub(crate) fn start_all<
     's,
@@ -252,5 +290,5 @@ pub(crate) fn start_all<
     start_agents(scope, rt, alloc, office, files, entrance, pace, threads)?;
     make_room(threads, 1)?;
     keep(threads, start_ticker(scope, rt, alloc, office, pace)?);
-    Ok(())
+    start_memory(scope, rt, alloc, office, entrance, threads)
 }

@@ -7,11 +7,12 @@ use Rattle.names_core.specs.declared.state.TaskState.{TaskState}
 use Rattle.mails.specs.declared.task.Booked.{Booked}
 use Rattle.mails.specs.declared.mail.Command.{Command}
 use Rattle.mails.specs.declared.mail.Command.TheVariants.{Launch, Kill, Ack, EndFramework}
+use Rattle.mails.specs.declared.mail.AgentMail.{AgentMail}
 use Rattle.mails.specs.declared.mail.AgentMail.TheVariants.{Report, Applied, Update}
-use Rattle.cluster_model.specs.Sides.{Side, counts, forget, forget_all, received, received_update, opened, opens}
+use Rattle.cluster_model.specs.Sides.{Run, Side, counts, forget, forget_all, job_rows, received, received_update, opened, opens, unended}
 use Rattle.cluster_model.specs.Mails.{receive_at}
-use Rattle.side_fits.specs.Fits.{AllFitTotals, FitsTotal, ReceivingAtKeepsFits, ReceivingKeepsFits}
-use Rattle.side_fits.proofs.Weights.{taken_is, used_fewer, used_less, used_of}
+use Rattle.side_fits.specs.Fits.{AllFitTotals, FitsTotal, MailFits, MailFitsAt, ReceivingAtKeepsFits, ReceivingKeepsFits}
+use Rattle.side_fits.proofs.Weights.{covered, taken_is, used_fewer, used_less, used_of}
 
 -- commands that are applied
 forgotten_less : (name : List ℕ) (ws : List Command) (bs : List Booked) → used_of name (forget_all ws bs) ≤ used_of name bs
@@ -52,7 +53,7 @@ pub receiving_keeps_fits : ReceivingKeepsFits
 receiving_keeps_fits run s (Report session number tasks total) fits h = by (opens run s session number)
   where
     by : (b : Bool) → FitsTotal (cond b (opened s session tasks total) s)
-    by true = fits
+    by true = covered total (job_rows (unended tasks)) fits
     by false = h
 receiving_keeps_fits run s (Applied session count) fits h = by (counts s session count)
   where
@@ -71,10 +72,18 @@ receiving_keeps_fits run s (Update session key k state ended) fits h = by (s.is_
     by true = λ name. omega (arith, h name, taken_is name s, taken_is name after, used_less name (received_update key k state ended) (received_job key k state ended) (received_ended key k state ended) s.booked)
     by false = h
 
-pub receiving_at_keeps_fits : ReceivingAtKeepsFits
-receiving_at_keeps_fits agent run mail [] fits h = tt
-receiving_at_keeps_fits agent run mail (s ∷ ss) fits h = by (bytes_eq s.name agent) refl (receiving_at_keeps_fits agent run mail ss fits.1 h.1)
+mail_fits : (agent : List ℕ) (mail : AgentMail) (ss : List Side) → MailFitsAt agent mail ss → MailFits mail
+mail_fits agent (Report session number tasks total) ss h = h.fits
+mail_fits agent (Applied session count) ss h = tt
+mail_fits agent (Update session key k state ended) ss h = tt
+
+received_fits : (agent : List ℕ) (run : Run) (mail : AgentMail) (ss : List Side) → MailFits mail → AllFitTotals ss → AllFitTotals (receive_at agent run mail ss)
+received_fits agent run mail [] fits h = tt
+received_fits agent run mail (s ∷ ss) fits h = by (bytes_eq s.name agent) (received_fits agent run mail ss fits h.1)
   where
-    by : (b : Bool) → bytes_eq s.name agent ≡ b → AllFitTotals (receive_at agent run mail ss) → AllFitTotals (cond b (received run s mail ∷ ss) (s ∷ receive_at agent run mail ss))
-    by true is ih = (receiving_keeps_fits run s mail (fits.0 is) h.0, h.1)
-    by false is ih = (h.0, ih)
+    by : (b : Bool) → AllFitTotals (receive_at agent run mail ss) → AllFitTotals (cond b (received run s mail ∷ ss) (s ∷ receive_at agent run mail ss))
+    by true ih = (receiving_keeps_fits run s mail fits h.0, h.1)
+    by false ih = (h.0, ih)
+
+pub receiving_at_keeps_fits : ReceivingAtKeepsFits
+receiving_at_keeps_fits agent run mail ss fits h = received_fits agent run mail ss (mail_fits agent mail ss fits) h

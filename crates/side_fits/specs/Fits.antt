@@ -1,8 +1,11 @@
 -- What is taken of each agent fits what it owns, and each step of the master keeps it so.
-use Rattle.std.specs.Prelude.{◌≡◌, ◌≤◌, ◌<◌, ℕ, true, List, [], length, ⊤, bytes_eq}
+use Rattle.std.specs.Prelude.{◌≡◌, ◌≢◌, ◌≤◌, ◌<◌, ℕ, true, false, List, [], ◌∷◌, length, ⊤, bytes_eq}
 use Rattle.std.specs.List.{AllByRecursion}
 use Rattle.names_core.specs.Ids.{Numbered, before}
+use Rattle.quantity.specs.declared.rows.Row.{Row}
+use Rattle.quantity.specs.Rows.{covers}
 use Rattle.quantity.specs.Laws.{AtLeast}
+use Rattle.mails.specs.declared.task.Booked.{Booked}
 use Rattle.mails.specs.declared.mail.AgentMail.{AgentMail}
 use Rattle.mails.specs.declared.mail.AgentMail.TheVariants.{Report, Applied, Update}
 use Rattle.cluster_model.specs.Sides.{Run, Side, SideStep, received, job_rows, side_step, taken, unended}
@@ -18,13 +21,33 @@ AllFitTotals ss = AllByRecursion FitsTotal ss
 
 -- the tasks of a Report that haven't ended fit the total that it reports
 abbrev pub MailFits : AgentMail → Type 0
-MailFits (Report session number tasks total) = AtLeast total (job_rows (unended tasks))
+MailFits (Report session number tasks total) = covers total (job_rows (unended tasks)) ≡ true
 MailFits (Applied session count) = ⊤
 MailFits (Update session key k state ended) = ⊤
 
--- a mail of one of the agents fits
+-- launch keys rise: each is before all that follow it
+abbrev pub KeysRise : List Booked → Type 0
+KeysRise [] = ⊤
+KeysRise (b ∷ bs) =
+    AllByRecursion (λ later. before b.job.key later.job.key ≡ true) bs × KeysRise bs
+
+-- no task has the key of one that is booked on this side
+abbrev pub AreApart : List Booked → Side → Type 0
+AreApart tasks s = AllByRecursion (λ t. AllByRecursion (λ b. b.job.key ≢ t.job.key) s.booked) tasks
+
+-- reported tasks can be booked on their agent: launch keys rise, none is booked on another agent,
+-- and those that haven't ended fit the reported total
+pub record AreBookable (agent : List ℕ) (tasks : List Booked) (total : List Row)
+    (ss : List Side) : Type 0 where
+  pub rising : KeysRise tasks
+  pub apart : AllByRecursion (λ s. bytes_eq s.name agent ≡ false → AreApart tasks s) ss
+  pub fits : covers total (job_rows (unended tasks)) ≡ true
+
+-- a mail of an agent fits: what a Report has can be booked on it
 abbrev pub MailFitsAt : List ℕ → AgentMail → List Side → Type 0
-MailFitsAt agent mail ss = AllByRecursion (λ s. bytes_eq s.name agent ≡ true → MailFits mail) ss
+MailFitsAt agent (Report session number tasks total) ss = AreBookable agent tasks total ss
+MailFitsAt agent (Applied session count) ss = ⊤
+MailFitsAt agent (Update session key k state ended) ss = ⊤
 
 -- a mail that reports no tasks
 abbrev pub ReportsNothing : AgentMail → Type 0

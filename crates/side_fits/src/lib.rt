@@ -30,7 +30,7 @@ pub fn new_sides_fit()
     ensures { (name : List ℕ) → FitsTotal (new_side name) }
 {}
 
-/// A mail that reports no tasks fits.
+/// A mail that reports no tasks can be booked on any agent.
 pub fn mails_without_tasks_fit()
     ensures { NothingFits }
 {}

@@ -5,8 +5,8 @@ use Rattle.serde_json.specs.Find.{get, as_number, as_u64, as_str, as_object}
 use Rattle.serde_json.specs.Events.{members_len}
 use Rattle.names_core.specs.Ids.{Numbered, id_of}
 use Rattle.names_core.specs.Names.{is_name}
-use Rattle.names_core.specs.declared.state.TaskState.{TaskState}
-use Rattle.names_core.specs.declared.state.TaskState.TheVariants.{Running, Finished, Failed}
+use Rattle.mails.specs.declared.cause.ExecutorState.{ExecutorState}
+use Rattle.mails.specs.declared.cause.ExecutorState.TheVariants.{Running, Finished, Failed}
 use Rattle.cluster_steps.specs.declared.step.Keep.{Keep}
 use Rattle.cluster_steps.specs.declared.step.Keep.TheVariants.{Before, After}
 use Rattle.step_lines.specs.Answers.{◌>>=◌}
@@ -43,13 +43,13 @@ abbrev pub key_in : Data → Option Numbered
 key_in d = text_in (codes "launch") d >>= id_of 76
 
 -- the states that an executor reports
-unfoldable pub reported_state : List ℕ → Option TaskState
+unfoldable pub reported_state : List ℕ → Option ExecutorState
 reported_state text =
     if bytes_eq text (codes "TASK_RUNNING") then Some Running
     else (if bytes_eq text (codes "TASK_FINISHED") then Some Finished
     else (if bytes_eq text (codes "TASK_FAILED") then Some Failed else None))
 
-abbrev pub state_in : Data → Option TaskState
+abbrev pub state_in : Data → Option ExecutorState
 state_in d = text_in (codes "state") d >>= reported_state
 
 unfoldable pub kept : List ℕ → Option Keep

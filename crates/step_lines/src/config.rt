@@ -14,7 +14,7 @@ use crate::fault::{LineFault, LineRefusal};
 use crate::members::has_members;
 use crate::read::LONGEST_LINE;
 use crate::totals::total_of;
-use agent_sides::{Config, ConfigFault};
+use agent_sides::{Config, ConfigFault, ConfiguredAgents};
 use names_core::{AgentName, NameFault, RoleName};
 use number_trim::trim;
 use quantity::Resources;
@@ -24,13 +24,6 @@ use std::alloc::Global;
 
 /// As many roles as a configuration names at most.
 const MOST_WEIGHTS: usize = 4_096;
-
-/// The agents of a cluster with what each owns, and the weights of roles.
-#[derive(Drop)]
-pub struct Configuration {
-    pub agents: Config,
-    pub weights: Weights,
-}
 
 /// The line has no form of a configuration.
 const BAD_CONFIG: LineFault = LineFault::Refused(LineRefusal::BadConfig);
@@ -51,7 +44,7 @@ fn name_of(alloc: Global, name: &str) -> Result<AgentName, LineFault>
     }
 }
 
-fn join(config: &mut Config, name: AgentName, total: Resources) -> Result<(), LineFault>
+fn join(config: &mut ConfiguredAgents, name: AgentName, total: Resources) -> Result<(), LineFault>
     ensures { Gives (λ _. config.new) result
         (configs.configured (configs.joined (record { name = name; total = total }) config.old)) }
 {
@@ -63,7 +56,12 @@ fn join(config: &mut Config, name: AgentName, total: Resources) -> Result<(), Li
 }
 
 #[tactic(auto, unfolding(crate::specs::Configs::agent_more))]
-fn add_agent(alloc: Global, config: &mut Config, name: &str, value: &Value) -> Result<(), LineFault>
+fn add_agent(
+    alloc: Global,
+    config: &mut ConfiguredAgents,
+    name: &str,
+    value: &Value,
+) -> Result<(), LineFault>
     ensures { Gives (λ _. config.new) result
         (configs.configured (configs.agent_more name.now (view value.now) config.old)) }
 {
@@ -72,11 +70,11 @@ fn add_agent(alloc: Global, config: &mut Config, name: &str, value: &Value) -> R
     join(config, name, total)
 }
 
-fn agents_of(alloc: Global, members: &Map<String, Value>) -> Result<Config, LineFault>
+fn agents_of(alloc: Global, members: &Map<String, Value>) -> Result<ConfiguredAgents, LineFault>
     ensures { Gives (λ c. c) result
         (configs.configured (configs.agents_in [] (members_view members.now.entries))) }
 {
-    let mut config = Config::new(alloc);
+    let mut config = ConfiguredAgents::new(alloc);
     for (name, value) in members.iter() {
         add_agent(alloc, &mut config, name.as_str(), value)?;
     }
@@ -84,7 +82,7 @@ fn agents_of(alloc: Global, members: &Map<String, Value>) -> Result<Config, Line
 }
 
 #[tactic(auto, unfolding(crate::specs::Configs::agents_of))]
-fn some_agents(alloc: Global, value: &Value) -> Result<Config, LineFault>
+fn some_agents(alloc: Global, value: &Value) -> Result<ConfiguredAgents, LineFault>
     ensures { Gives (λ c. c) result (configs.configured (configs.agents_of (view value.now))) }
 {
     let Some(members) = value.get("agents").and_then(Value::as_object) else {
@@ -172,7 +170,7 @@ fn weights_named(alloc: Global, value: Option<&Value>) -> Result<Weights, LineFa
 }
 
 #[tactic(auto, unfolding(crate::specs::Configs::config_of))]
-fn config_of(alloc: Global, value: &Value) -> Result<Configuration, LineFault>
+fn config_of(alloc: Global, value: &Value) -> Result<Config, LineFault>
     ensures { Gives (λ c. configured_by c) result (configs.configured (configs.config_of
         (view value.now))) }
 {
@@ -183,11 +181,11 @@ fn config_of(alloc: Global, value: &Value) -> Result<Configuration, LineFault>
     }
     let agents = some_agents(alloc, value)?;
     let weights = weights_named(alloc, weights)?;
-    Ok(Configuration { agents, weights })
+    Ok(Config { agents, weights })
 }
 
 #[tactic(auto, unfolding(crate::specs::Configs::config_json))]
-fn config_json(alloc: Global, bytes: &[u8]) -> Result<Configuration, LineFault>
+fn config_json(alloc: Global, bytes: &[u8]) -> Result<Config, LineFault>
     ensures { Gives (λ c. configured_by c) result (configs.config_json bytes.now) }
 {
     match Value::from_slice(alloc, bytes) {
@@ -207,7 +205,7 @@ fn config_json(alloc: Global, bytes: &[u8]) -> Result<Configuration, LineFault>
 /// up to 8 amounts, each a whole number from 1 to 2^40. `weights` may lack; it names at most 4,096
 /// roles, each with a whole number from 1 to 1,000, and a role that it doesn't name has 1. Every
 /// other line is `X3 BadConfig`; `X4 OutOfMemory` may come before it.
-pub fn read_config(alloc: Global, line: &[u8]) -> Result<Configuration, LineFault>
+pub fn read_config(alloc: Global, line: &[u8]) -> Result<Config, LineFault>
     ensures { Gives (λ c. configured_by c) result (configs.read_config line.now) }
 {
     if line.len() > LONGEST_LINE {

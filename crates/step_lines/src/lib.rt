@@ -12,6 +12,7 @@ mod read;
 mod send;
 mod totals;
 
-pub use config::{Configuration, read_config};
+pub use agent_sides::Config;
+pub use config::read_config;
 pub use fault::{LineFault, LineRefusal};
 pub use read::{read_step, step_of};

@@ -7,7 +7,8 @@ ghost use Rattle.step_lines.specs.Members as members;
 
 use crate::fault::{LineFault, NOT_A_STEP};
 use cluster_steps::Keep;
-use names_core::{AgentName, LaunchKey, NameFault, StreamId, TaskState};
+use mails::ExecutorState;
+use names_core::{AgentName, LaunchKey, NameFault, StreamId};
 use serde_json::Value;
 use std::alloc::Global;
 
@@ -67,19 +68,19 @@ pub fn key_in(value: &Value) -> Option<LaunchKey>
 }
 
 #[tactic(auto, unfolding(crate::specs::Members::reported_state))]
-fn reported_state(text: &str) -> Option<TaskState>
+fn reported_state(text: &str) -> Option<ExecutorState>
     ensures { result ≡ members.reported_state text.now }
 {
     match text {
-        "TASK_RUNNING" => Some(TaskState::Running),
-        "TASK_FINISHED" => Some(TaskState::Finished),
-        "TASK_FAILED" => Some(TaskState::Failed),
+        "TASK_RUNNING" => Some(ExecutorState::Running),
+        "TASK_FINISHED" => Some(ExecutorState::Finished),
+        "TASK_FAILED" => Some(ExecutorState::Failed),
         _ => None,
     }
 }
 
 /// The state that an executor reports.
-pub fn state_in(value: &Value) -> Option<TaskState>
+pub fn state_in(value: &Value) -> Option<ExecutorState>
     ensures { result ≡ members.state_in (view value.now) }
 {
     reported_state(text_in(value, "state")?)

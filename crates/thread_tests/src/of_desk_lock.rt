@@ -115,6 +115,10 @@ impl Recorded for Adder {
         *fault
     }
 
+    fn out_of_memory() -> FaultKind {
+        FaultKind::OutOfMemory
+    }
+
     fn group_of(_awaited: &Sum) -> u32 {
         SUMS
     }
@@ -147,22 +151,23 @@ fn close_two<L: ledger::Ledger>(
     }
 }
 
-/// Whether a step of a seat that was never opened is refused as a foreign pass's,
-/// and one that the adder refuses as its own.
-fn refuses<L: ledger::Ledger>(alloc: Global, desk: &mut Desk<Adder, L>) -> bool {
-    let unopened = desk.apply(alloc, 2, 1).err();
+/// Whether a step that the adder refuses is refused with its own fault,
+/// and one of a seat that was never opened is the first entry.
+fn enters_for_nobody<L: ledger::Ledger>(alloc: Global, desk: &mut Desk<Adder, L>) -> bool {
     let refused = desk.apply(alloc, 1, 0).err();
-    unopened == Some(OfficeFault::ForeignPass(1))
-        && refused == Some(OfficeFault::Core(FaultKind::Step))
+    match desk.apply(alloc, 2, 1) {
+        Ok(answered) => refused == Some(FaultKind::Step) && answered.receipt.number == 1,
+        Err(_) => false,
+    }
 }
 
-/// Whether an entry is added of a seat, whose pass gets no receipt of it.
+/// Whether an entry is added of nobody, and one of a seat, whose pass gets no receipt of it.
 fn adds_without_receipt<L: ledger::Ledger>(
     alloc: Global,
     desk: &mut Desk<Adder, L>,
     seat: u32,
 ) -> bool {
-    refuses(alloc, desk) && desk.apply(alloc, seat, 1).is_ok()
+    enters_for_nobody(alloc, desk) && desk.apply(alloc, seat, 1).is_ok()
 }
 
 /// Whether the close is refused, which returns desk and passes.
@@ -171,7 +176,7 @@ fn stays_open<L: ledger::Ledger>(office: Office<Adder, L>, passes: Passes<Added,
         Ok(_) => false,
         Err(refused) => {
             let (desk, passes, fault) = refused;
-            fault == OfficeFault::ForeignPass(2) && desk.len() == 2 && passes.len() == 1
+            fault == OfficeFault::ForeignPass(3) && desk.len() == 3 && passes.len() == 1
         }
     }
 }
@@ -238,7 +243,7 @@ fn wait_and_add<L: ledger::Ledger, R: Wait>(
 
 /// Whether somebody waits, within 30 seconds.
 fn is_waited_for<R: Clock>(rt: &R, waits: &AtomicBool) -> bool {
-    for _ in 0..300_000u32 {
+    for _ in 0..1_000_000u32 {
         if waits.load(Ordering::SeqCst) {
             return true;
         }
@@ -398,6 +403,10 @@ impl Recorded for Refuser {
 
     fn kind(fault: &FaultKind) -> FaultKind {
         *fault
+    }
+
+    fn out_of_memory() -> FaultKind {
+        FaultKind::OutOfMemory
     }
 
     fn group_of(_awaited: &()) -> u32 {

@@ -14,6 +14,9 @@ use std::thread;
 use std::thread::Threads;
 use std::time::{Clock, Duration};
 
+/// So many connections are served at once.
+const WORKERS: u32 = 64;
+
 const REVIVE: &str =
     "POST /api/v1/scheduler HTTP/1.1\r\nContent-Type: application/json\r\nConnection: close\r\nContent-Length: 49\r\n\r\n{\"type\":\"REVIVE\",\"framework_id\":{\"value\":\"F1-1\"}}";
 
@@ -137,7 +140,7 @@ fn serves<R: Threads + Wait + Sync>(
     arrivals: &mut Waiting,
     count: usize,
 ) -> bool {
-    let (benches, fault) = serve_all(rt, alloc, arrivals, &NoGate);
+    let (benches, fault) = serve_all(rt, alloc, WORKERS, arrivals, &NoGate);
     fault.is_none() && arrivals.requests.is_empty() && each_took_one_call(&benches, count)
 }
 
@@ -307,7 +310,7 @@ fn ask_two<R: Net<Listener = TcpListener, Stream = TcpStream>>(
     }
 }
 
-/// Holds the first call until the second is answered, for 30 seconds at most.
+/// Holds the first call until the second is answered, for at most 1,000,000 turns of 100 microseconds.
 #[derive(Drop)]
 struct Overlap<'a, R: Clock> {
     rt: &'a R,
@@ -318,7 +321,7 @@ struct Overlap<'a, R: Clock> {
 
 impl<'a, R: Clock> Overlap<'a, R> {
     fn hold(&self) {
-        for _ in 0..300_000u32 {
+        for _ in 0..1_000_000u32 {
             if self.answered.load(Ordering::SeqCst) == 1 {
                 self.overlapped.store(1, Ordering::SeqCst);
                 return;
@@ -360,7 +363,7 @@ fn serves_two<R: Net<Listener = TcpListener, Stream = TcpStream> + Threads + Wai
     let (asked, (benches, fault)) = thread::join(
         rt,
         move || ask_two(rt, alloc, to),
-        || serve_all(rt, alloc, &mut arrivals, &gate),
+        || serve_all(rt, alloc, WORKERS, &mut arrivals, &gate),
     );
     let overlapped = gate.overlapped.load(Ordering::SeqCst) == 1;
     asked && fault.is_none() && overlapped && each_took_one_call(&benches, 2)

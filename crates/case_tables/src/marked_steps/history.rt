@@ -6,12 +6,12 @@ use cluster_core::{Cluster, open_fresh};
 use post_rules::EverSent;
 use replayed_clusters::end_table;
 use std::alloc::{AllocError, Global};
-use step_lines::{Configuration, LineRefusal, read_config, read_step};
+use step_text::{LineRefusal, read_config, read_step};
 
 /// The cluster of agents that never ran which the first line configures.
 fn open(alloc: Global, line: &str) -> Result<Cluster<EverSent>, Stop> {
-    let Configuration { agents, weights } = read_config(alloc, line.as_bytes())?;
-    match open_fresh(alloc, agents, weights) {
+    let config = read_config(alloc, line.as_bytes())?;
+    match open_fresh(alloc, config) {
         Ok(cluster) => Ok(cluster),
         Err(_) => Err(Stop::Memory),
     }

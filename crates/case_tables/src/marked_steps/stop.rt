@@ -2,7 +2,7 @@
 
 use std::alloc::AllocError;
 use std::io;
-use step_lines::{LineFault, LineRefusal};
+use step_text::{LineFault, LineRefusal};
 use thiserror::Error;
 
 /// Why a history came to no end.

@@ -7,7 +7,7 @@ use names_core::NameFault;
 use quantity::QuantityFault;
 use record_text::RecordFault;
 use std::alloc::{AllocError, Global};
-use step_lines::LineFault;
+use step_text::LineFault;
 use stream_core::StreamFault;
 
 fn of_amounts(name: &str) -> QuantityFault {

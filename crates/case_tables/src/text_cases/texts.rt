@@ -1,6 +1,6 @@
 //! Texts of calls, of records, of a replay and of the file of the agents.
 
-use agent_sides::{Config, ConfiguredAgent};
+use agent_sides::{ConfiguredAgent, ConfiguredAgents};
 use agents_file::agents_in;
 use call_json::read_call;
 use mails::Call;
@@ -9,7 +9,7 @@ use number_trim::trim;
 use record_text::{record_of, record_text};
 use std::alloc::{AllocError, Global};
 use std::str;
-use step_lines::{read_config, read_step};
+use step_text::{read_config, read_step};
 
 fn trimmed(alloc: Global, text: &str) -> Result<String, AllocError> {
     let trimmed = trim(alloc, text.as_bytes())?;
@@ -75,7 +75,7 @@ fn push_agent(told: &mut String, agent: &ConfiguredAgent) -> Result<(), AllocErr
 }
 
 /// Each agent with its amounts.
-fn configured(alloc: Global, config: &Config) -> Result<String, AllocError> {
+fn configured(alloc: Global, config: &ConfiguredAgents) -> Result<String, AllocError> {
     let mut told = String::new(alloc);
     for agent in config.agents() {
         push_agent(&mut told, agent)?;

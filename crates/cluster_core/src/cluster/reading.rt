@@ -1,7 +1,7 @@
 //! What is read of a cluster beside its history.
 
 ghost use Rattle.std.specs.Prelude.{◌≡◌, ◌≤◌, length, IfNone, IfSome};
-ghost use Rattle.cluster_core.specs.Reading.{IsNextFrom, IsNextTo, NoneFrom, NoneTo, is_open_in, waiting_in};
+ghost use Rattle.cluster_core.specs.Reading.{IsNextFrom, IsNextTo, NoneFrom, NoneTo, is_open_in, stream_in, waiting_in};
 ghost use Rattle.cluster_core.specs.Stories.{state_of};
 
 use crate::advancing::place_in;
@@ -26,15 +26,26 @@ impl<P: Post + Drop> Cluster<P> {
         self.parts.served.items.as_slice().len()
     }
 
+    /// How many events of a stream nobody took yet, and whether it is a framework's open one, which
+    /// none is while no master serves. None for a stream that was never opened.
+    pub fn stream(&self, stream: StreamId) -> Option<(usize, bool)>
+        ensures { result ≡ stream_in stream (state_of self.now.story) }
+    {
+        match self.waiting_on(stream) {
+            Some(waiting) => Some((waiting, self.is_open(stream))),
+            None => None,
+        }
+    }
+
     /// How many events wait on a stream; None for one that was never opened.
-    pub fn waiting_on(&self, stream: StreamId) -> Option<usize>
+    fn waiting_on(&self, stream: StreamId) -> Option<usize>
         ensures { result ≡ waiting_in stream (state_of self.now.story) }
     {
         self.parts.served.streams.count(stream)
     }
 
     /// Whether a stream is a framework's open one.
-    pub fn is_open(&self, stream: StreamId) -> bool
+    fn is_open(&self, stream: StreamId) -> bool
         ensures { result ≡ is_open_in stream (state_of self.now.story) }
     {
         match &self.parts.served.master {

@@ -41,13 +41,23 @@ fn rise<C: Recorded>(recorded: &C, seats: &[u32], seat: u32, receipts: &[Receipt
     true
 }
 
+/// How many entries are nobody's.
+fn nobodys(seats: &[u32]) -> usize
+    ensures { result ≡ count_by (λ s. s == 0) seats.now }
+{
+    seats.iter().filter(|seat| **seat == 0).count()
+}
+
 impl<C: Recorded, L: ledger::Ledger> Desk<C, L> {
-    /// How many entries a seat has.
+    /// How many entries a seat has, or nobody.
     fn entries_of(&self, seat: u32) -> usize
         ensures { result ≡ count_by (λ s. s == seat) self.now.seats }
     {
+        if seat == 0 {
+            return nobodys(self.seats.as_slice());
+        }
         let counts = self.counts.as_slice();
-        if seat == 0 || seat as usize > counts.len() {
+        if seat as usize > counts.len() {
             return 0;
         }
         counts[seat as usize - 1] as usize

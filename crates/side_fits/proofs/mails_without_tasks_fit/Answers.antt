@@ -1,17 +1,25 @@
-use Rattle.std.proofs.Common.{List, [], ◌∷◌, zero-le, sym, subst}
+use Rattle.std.proofs.Common.{◌≡◌, ℕ, false, List, [], ◌∷◌, zero-le, sym, subst, bytes_eq}
+use Rattle.std.specs.List.{AllByRecursion}
+use Rattle.quantity.specs.declared.rows.Row.{Row}
+use Rattle.quantity.proofs.Amounts.{covers_is_at_least}
 use Rattle.mails.specs.declared.task.Booked.{Booked}
 use Rattle.mails.specs.declared.mail.AgentMail.{AgentMail}
 use Rattle.mails.specs.declared.mail.AgentMail.TheVariants.{Report, Applied, Update}
-use Rattle.cluster_model.specs.Sides.{job_rows, unended}
-use Rattle.quantity.specs.Laws.{AtLeast}
-use Rattle.side_fits.specs.Fits.{MailFits, ReportsNothing}
+use Rattle.cluster_model.specs.Sides.{Side}
+use Rattle.side_fits.specs.Fits.{AreApart, AreBookable, MailFitsAt, ReportsNothing}
 use Rattle.side_fits.proofs.mails_without_tasks_fit.Goals as goal
 
-fits : (mail : AgentMail) → ReportsNothing mail → MailFits mail
-fits (Report session number tasks total) none = subst (λ (ts : List Booked). AtLeast total (job_rows (unended ts))) (sym none) (λ name. zero-le)
-fits (Applied session count) none = tt
-fits (Update session key k state ended) none = tt
+none_apart : (agent : List ℕ) (ss : List Side) → AllByRecursion (λ s. bytes_eq s.name agent ≡ false → AreApart [] s) ss
+none_apart agent [] = tt
+none_apart agent (s ∷ ss) = (λ other. tt, none_apart agent ss)
+
+bookable : (agent : List ℕ) (total : List Row) (ss : List Side) → AreBookable agent [] total ss
+bookable agent total ss = record { rising = tt; apart = none_apart agent ss; fits = (covers_is_at_least total []).1 (λ name. zero-le) }
+
+fits : (agent : List ℕ) (mail : AgentMail) (ss : List Side) → ReportsNothing mail → MailFitsAt agent mail ss
+fits agent (Report session number tasks total) ss none = subst (λ (ts : List Booked). AreBookable agent ts total ss) (sym none) (bookable agent total ss)
+fits agent (Applied session count) ss none = tt
+fits agent (Update session key k state ended) ss none = tt
 
 pub returns : goal.returns
-returns c agent mail [] none = tt
-returns c agent mail (s ∷ ss) none = (λ is. fits mail none, returns c agent mail ss none)
+returns c = fits

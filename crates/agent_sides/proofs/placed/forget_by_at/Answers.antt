@@ -1,6 +1,6 @@
 use Rattle.std.proofs.Common.{ap, ◌∙◌, arith}
-use Rattle.agent_accounts.specs.Accounts.{after_commands}
-use Rattle.offer_book.specs.Books.{changed, applied_on}
+use Rattle.offer_tables.specs.Accounts.{after_commands}
+use Rattle.offer_tables.specs.Books.{changed, applied_on}
 use Rattle.agent_sides.specs.Joined.{at_place}
 use Rattle.agent_sides.proofs.Placing.{done, past, placed}
 use Rattle.agent_sides.proofs.placed.forget_by_at.Goals as goal

@@ -3,6 +3,7 @@ use Rattle.std.specs.Prelude.{fold, IfErr}
 use Rattle.std.proofs.lemmas.Result.{IfErr-weaker}
 use Rattle.cluster_histories.specs.Steps.{marked_of}
 use Rattle.cluster_entries.specs.declared.entry.Outputs.{Outputs}
+use Rattle.cluster_steps.specs.declared.fault.ClusterFault.TheVariants.{OutOfMemory}
 use Rattle.agent_sides.specs.Configs.{names_of}
 use Rattle.cluster_laws.specs.Items.{StandIn}
 use Rattle.cluster_laws.specs.Parts.{AreAgentsOf}
@@ -10,27 +11,34 @@ use Rattle.cluster_agents.specs.Handing.{handed}
 use Rattle.cluster_parts.specs.Parts.{ArePartsBy}
 use Rattle.cluster_parts.specs.declared.parts.Parts.{Parts}
 use Rattle.cluster_core.specs.Putting.{direction_of, with_handed}
-use Rattle.cluster_core.specs.Keeping.{IsKept, IsRefused, IsRefusedFirst, IsTaken, entry_made, story_of, taken_made}
+use Rattle.cluster_core.specs.Keeping.{IsKept, IsRefused, IsTaken, entry_made, story_of, taken_made}
 use Rattle.cluster_core.specs.Stories.{Story, state_of, with_entry}
 use Rattle.cluster_core.specs.declared.taken.Taken.{Taken}
 use Rattle.cluster_core.proofs.Puttings.{put_since, ways_by_names}
 use Rattle.cluster_core.proofs.Posted.{all_posts}
-use Rattle.cluster_core.proofs.Telling.{are_parts, first_refused, keeps_on, parts_by, parts_of_story, posted, stays, step_refused, takes_on}
+use Rattle.cluster_core.proofs.Telling.{are_parts, full_refused, has_room, keeps_on, none_left, parts_by, parts_of_story, posted, room_left, stays, step_refused, takes_on}
 use Rattle.cluster_core.proofs.advancing.advance.Goals as goal
+
+pub returns-then-is_full-clause-refused : goal.returns-then-is_full-clause-refused
+returns-then-is_full-clause-refused g c =
+    let s = story_of c.args.history.now in
+    let gives = g.P.Post.gives (g.P.Post.known c.args.parts.now.served.post) in
+    full_refused c.states_count_entries.ensures s gives c.args.step c.requires.legal (none_left s (sym c.is_full.ensures ∙ c.if-is_full.true))
 
 pub returns-in_err-place-clause-refused : goal.returns-in_err-place-clause-refused
 returns-in_err-place-clause-refused g c =
     let s = story_of c.args.history.now in
     let gives = g.P.Post.gives (g.P.Post.known c.args.parts.now.served.post) in
-    let first : IfErr c.from_residual.result (IsRefusedFirst s) = search rules in
-    IfErr-weaker c.from_residual.result (IsRefusedFirst s) (IsRefused (state_of s) gives c.args.step) (λ fault why. first_refused c.states_count_entries.ensures s gives c.args.step fault c.requires.legal why) first
+    let room = has_room c.states_count_entries.ensures s c.requires.legal (room_left s (sym c.is_full.ensures ∙ c.if-is_full.false)) in
+    let memory : IfErr c.from_residual.result (λ fault. fault ≡ OutOfMemory) = search rules in
+    IfErr-weaker c.from_residual.result (λ fault. fault ≡ OutOfMemory) (IsRefused (state_of s) gives c.args.step) (λ fault e. subst (IsRefused (state_of s) gives c.args.step) (sym e) room) memory
 
 pub take_step-requires : goal.take_step-requires
 take_step-requires g c =
     let s = story_of c.args.history.now in
     let count = g.P.Post.count (g.P.Post.known c.args.parts.now.served.post) in
     let ways = g.P.Post.direction_at (g.P.Post.known c.args.parts.now.served.post) in
-    let h : length c.args.history.now.entries.items < 4294967294 = c.in_ok-place.ensures.within in
+    let h : length c.args.history.now.entries.items < 4294967294 = room_left (story_of c.args.history.now) (sym c.is_full.ensures ∙ c.if-is_full.false) in
     let kept : c.make_room.new.history.weights ≡ c.args.history.now.weights = ap (λ (x : Story). x.setup.weights) c.make_room.ensures.story in
     record {
       parts = are_parts c.states_count_entries.ensures s c.args.history.now.opened c.args.parts.now count ways c.requires h;
@@ -40,7 +48,7 @@ take_step-requires g c =
 pub returns-in-Ok-clause-kept : goal.returns-in-Ok-clause-kept
 returns-in-Ok-clause-kept g c =
     let s = story_of c.args.history.now in
-    let h : length c.args.history.now.entries.items < 4294967294 = c.in_ok-place.ensures.within in
+    let h : length c.args.history.now.entries.items < 4294967294 = room_left (story_of c.args.history.now) (sym c.is_full.ensures ∙ c.if-is_full.false) in
     let law = c.states_count_entries.ensures in
     let e = entry_made c.args.step c.in-Ok.made in
     let weighed : (state_of s).weights ≡ c.make_room.new.history.weights = c.weights_stay.ensures s.setup s.records (map marked_of s.entries) ∙ sym (ap (λ (x : Story). x.setup.weights) c.make_room.ensures.story) in
@@ -60,7 +68,7 @@ returns-in-Ok-clause-kept g c =
 pub returns-in-Ok-clause-taken : goal.returns-in-Ok-clause-taken
 returns-in-Ok-clause-taken g c =
     let s = story_of c.args.history.now in
-    let h : length c.args.history.now.entries.items < 4294967294 = c.in_ok-place.ensures.within in
+    let h : length c.args.history.now.entries.items < 4294967294 = room_left (story_of c.args.history.now) (sym c.is_full.ensures ∙ c.if-is_full.false) in
     let law = c.states_count_entries.ensures in
     let e = entry_made c.args.step c.in-Ok.made in
     let weighed : (state_of s).weights ≡ c.make_room.new.history.weights = c.weights_stay.ensures s.setup s.records (map marked_of s.entries) ∙ sym (ap (λ (x : Story). x.setup.weights) c.make_room.ensures.story) in
@@ -88,7 +96,7 @@ returns-in-Ok-clause-known g c =
 
 pub returns-in-Err-clause-refused : goal.returns-in-Err-clause-refused
 returns-in-Err-clause-refused g c =
-    let h : length c.args.history.now.entries.items < 4294967294 = c.in_ok-place.ensures.within in
+    let h : length c.args.history.now.entries.items < 4294967294 = room_left (story_of c.args.history.now) (sym c.is_full.ensures ∙ c.if-is_full.false) in
     step_refused c.states_count_entries.ensures (story_of c.args.history.now) c.args.history.now.opened c.args.parts.now (g.P.Post.count (g.P.Post.known c.args.parts.now.served.post)) (g.P.Post.direction_at (g.P.Post.known c.args.parts.now.served.post)) (g.P.Post.gives (g.P.Post.known c.args.parts.now.served.post)) c.args.step c.in-Err.fault c.requires h c.in-Err.ensures.refused
 
 pub returns-in-Err-clause-kept : goal.returns-in-Err-clause-kept

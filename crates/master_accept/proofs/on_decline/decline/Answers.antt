@@ -1,6 +1,6 @@
-use Rattle.std.proofs.Common.{map, sym, ◌∙◌}
+use Rattle.std.proofs.Common.{map, refl, sym, ◌∙◌}
 use Rattle.cluster_model.specs.Calls.{on_decline}
-use Rattle.agent_sides.specs.Own.{holding_of}
+use Rattle.agent_sides.specs.Own.{holding}
 use Rattle.master_state.specs.Works.{master_of}
 use Rattle.master_accept.proofs.Declining.{declines_so, turned_down}
 use Rattle.master_accept.proofs.on_decline.decline.Goals as goal
@@ -11,4 +11,4 @@ returns-in-Err c = turned_down c.args.state.now c.args.given c.args.framework c.
 pub returns : goal.returns
 returns c =
     rw (c.withdraw_named.ensures, c.in-Ok-refuse_each.ensures)
-    (declines_so c.args.state.now c.args.given c.args.framework c.in-Ok.stream c.args.offers.now c.args.seconds (map holding_of c.accounts-accounts.result.now) (sym c.admit.ensures ∙ c.in-Ok.is) c.as_slice-known.ensures.ordered c.stand_in_order.ensures c.accounts-accounts.ensures)
+    (declines_so c.args.state.now c.args.given c.args.framework c.in-Ok.stream c.args.offers.now c.args.seconds (map holding c.args.state.now.sides) (sym c.admit.ensures ∙ c.in-Ok.is) c.as_slice-known.ensures.ordered c.stand_in_order.ensures refl)

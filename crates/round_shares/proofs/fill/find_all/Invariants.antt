@@ -5,8 +5,8 @@ use Rattle.round_shares.proofs.fill.find_all.Given as goal
 
 abbrev pub invariant-loop-place : goal.invariant-loop-place
 invariant-loop-place l = record {
-  found : AreFoundOn (take l.place l.counted.found.items) (take l.place l.accounts);
-  many : length l.counted.found.items ≡ length l.accounts;
+  found : AreFoundOn (take l.place l.counted.found.items) (take l.place l.sides);
+  many : length l.counted.found.items ≡ length l.sides;
   counted : StayCounted l.fn.counted l.counted;
   owned : l.counted.owned ≡ l.fn.counted.owned;
 }

@@ -3,7 +3,7 @@ use Rattle.quantity.specs.Rows.{amount}
 use Rattle.drf_pick.specs.Allocations.{rows_to}
 use Rattle.drf_pick.specs.Shown.{all_found}
 use Rattle.drf_pick.proofs.Counting.{all_same, where_ok}
-use Rattle.round_shares.specs.Allocations.{allocations_in}
+use Rattle.round_shares.specs.Allocations.{allocations_of}
 use Rattle.round_shares.proofs.Finding.{found_together}
 use Rattle.round_shares.proofs.SameAmounts.{same_together}
 use Rattle.round_shares.proofs.fill.recount.Goals as goal
@@ -14,11 +14,11 @@ count-requires-clause-shown c = (c.requires.counted.0, c.in_ok-find_all.ensures.
 pub count-requires-clause-sums : goal.count-requires-clause-sums
 count-requires-clause-sums c = λ name.
     let fs = c.find_all.new.counted.found.items in
-    let as_ = c.args.accounts.now in
-    omega (arith, same_together (all_found fs) (allocations_in as_) (found_together fs as_ c.in_ok-find_all.ensures.found) name, c.requires.sums name)
+    let ss = c.args.sides.now in
+    omega (arith, same_together (all_found fs) (allocations_of ss) (found_together fs ss c.in_ok-find_all.ensures.found) name, c.requires.sums name)
 
 pub returns-clause-found : goal.returns-clause-found
 returns-clause-found c =
     let fs = c.find_all.new.counted.found.items in
-    let as_ = c.args.accounts.now in
-    where_ok c.count.result (λ same. λ framework name. ap (λ xs. amount name (rows_to framework xs)) (all_same fs c.count.new.self.found.items same) ∙ found_together fs as_ c.in_ok-find_all.ensures.found framework name) c.count.ensures.found
+    let ss = c.args.sides.now in
+    where_ok c.count.result (λ same. λ framework name. ap (λ xs. amount name (rows_to framework xs)) (all_same fs c.count.new.self.found.items same) ∙ found_together fs ss c.in_ok-find_all.ensures.found framework name) c.count.ensures.found

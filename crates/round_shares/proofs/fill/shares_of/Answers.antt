@@ -1,6 +1,5 @@
 use Rattle.std.proofs.Common.{◌≡◌, sym, subst, ap, ◌∙◌}
 use Rattle.quantity.specs.Rows.{amount}
-use Rattle.drf_pick.specs.Allocations.{AddUp, all_rows}
 use Rattle.drf_pick.specs.Shares.{Tally}
 use Rattle.drf_pick.specs.Shown.{AllCounted, AreCounted, SameAllocations, WeightsShow, all_found, all_owned}
 use Rattle.drf_pick.proofs.Reweighing.{weights_shown}
@@ -8,22 +7,10 @@ use Rattle.frameworks.specs.LastRound.{clients_of}
 use Rattle.round_shares.specs.Allocations.{allocations_of}
 use Rattle.round_shares.specs.Owned.{totals_in}
 use Rattle.round_shares.proofs.Finding.{weighed}
-use Rattle.round_shares.proofs.Parts.{given_parts}
 use Rattle.round_shares.proofs.fill.shares_of.Goals as goal
-
-pub own_all-requires-clause-sums : goal.own_all-requires-clause-sums
-own_all-requires-clause-sums c = subst (λ ss. AddUp (totals_in ss)) (sym c.parts.ensures.joined) c.requires.owned
-
-pub recount-requires-clause-sums : goal.recount-requires-clause-sums
-recount-requires-clause-sums c =
-    let es = c.parts.result.0.now in
-    let as_ = c.parts.result.1.now in
-    subst (λ xs. AddUp (all_rows xs)) (sym (given_parts es as_ c.parts.ensures.one ∙ ap allocations_of c.parts.ensures.joined)) c.requires.allocated
 
 pub returns-clause-shares : goal.returns-clause-shares
 returns-clause-shares c =
-    let es = c.parts.result.0.now in
-    let as_ = c.parts.result.1.now in
     let ss = c.args.sides.now in
     let ws = c.args.weights.now in
     let fs = c.args.frameworks.now in
@@ -36,11 +23,11 @@ returns-clause-shares c =
     let counted : AreCounted (clients_of fs) k = c.in_ok-recount.ensures.counted (clients_of fs) (subst (λ xs. AreCounted (clients_of xs) c.register_all.new.counted) same c.in_ok-register_all.ensures.counted) in
     let after : AreCounted (clients_of fs) other = weighed ws (clients_of fs) k other shares found c.weigh.ensures.owned counted in
     let owned : all_owned other.owned.items ≡ totals_in ss =
-    ap (λ v. all_owned v.items) (c.weigh.ensures.owned ∙ c.in_ok-recount.ensures.owned ∙ c.in_ok-register_all.ensures.owned) ∙ ap all_owned c.in_ok-own_all.ensures.entered ∙ ap totals_in c.parts.ensures.joined in
+    ap (λ v. all_owned v.items) (c.weigh.ensures.owned ∙ c.in_ok-recount.ensures.owned ∙ c.in_ok-register_all.ensures.owned) ∙ ap all_owned c.in_ok-own_all.ensures.entered in
     record {
       counted = after;
       all = subst AllCounted (sym items) c.in_ok-recount.ensures.all;
-      found = subst (λ xs. SameAllocations (all_found xs) (allocations_of ss)) (sym items) (subst (SameAllocations (all_found k.found.items)) (given_parts es as_ c.parts.ensures.one ∙ ap allocations_of c.parts.ensures.joined) c.in_ok-recount.ensures.found);
+      found = subst (λ xs. SameAllocations (all_found xs) (allocations_of ss)) (sym items) c.in_ok-recount.ensures.found;
       totals = λ name. after.owned name ∙ ap (amount name) owned;
       positive = c.in_ok-weigh.ensures.sum.positive;
       weighed = c.in_ok-weigh.ensures.weighed;

@@ -4,14 +4,13 @@ use Rattle.cluster_model.specs.Sides.{Side}
 use Rattle.drf_pick.specs.Allocations.{AddUp}
 use Rattle.drf_pick.specs.Shown.{all_owned}
 use Rattle.round_shares.specs.Owned.{owned_of}
-use Rattle.agent_sides.specs.Joined.{join}
 use Rattle.round_shares.proofs.Owning.{can_enter, has_entered, none_at, stays_closed, stays_some}
 use Rattle.round_shares.proofs.owned.enter_at.Goals as goal
 use Rattle.round_shares.proofs.owned.enter_at.Goals.{then-not-is_open-via-then-not-is_open, then-not-is_open-via-else-not-is_open+then-is_some}
 
 pub returns-then-not-is_open-clause-entered : goal.returns-then-not-is_open-clause-entered
 returns-then-not-is_open-clause-entered c =
-    let s = join c.args.entry.now c.args.account.now in
+    let s = c.args.agent.now in
     let os = c.args.counted.now.owned.items in
     elim c.then-not-is_open.branch [
       | then-not-is_open-via-then-not-is_open w ↦ stays_closed s os c.args.place c.requires.within (sym w.if-not-is_open.ensures) c.requires.left
@@ -26,7 +25,7 @@ pub enter-requires : goal.enter-requires
 enter-requires c =
     let os = c.args.counted.now.owned.items in
     let place = c.args.place in
-    let s : Side = join c.args.entry.now c.args.account.now in
+    let s : Side = c.args.agent.now in
     let total = c.in_ok-total.total in
     let none = none_at os place c.index.result.now c.index.ensures (sym c.if-is_some.ensures) in
     let is : total ≡ s.total = c.in_ok-total.ensures ∙ c.total.ensures.total in

@@ -11,7 +11,7 @@ returns-then-is_same-clause-left c =
     let total = c.in-Some.total in
     let yes : IsTrue true = search rules in
     let is : Some total ≡ get_or os i (Some total) = subst (λ o. o ≡ get_or os i o) c.in-Some.is c.index.ensures in
-    (Some total, set_same os i (Some total) c.requires is, inr (ap Some (c.if-is_same.ensures.0 yes ∙ c.total.ensures.total) ∙ ap (λ b. cond b (Some c.args.account.now.total) None) c.if-is_open.ensures))
+    (Some total, set_same os i (Some total) c.requires is, inr (ap Some (c.if-is_same.ensures.0 yes ∙ c.total.ensures.total) ∙ ap (λ b. cond b (Some c.args.agent.now.total) None) c.if-is_open.ensures))
 
 pub returns-clause-counted : goal.returns-clause-counted
 returns-clause-counted c =

@@ -2,7 +2,7 @@ use Rattle.std.proofs.Common.{refl, ap, sym, ◌∙◌, [], None, subst}
 use Rattle.mails.specs.declared.mail.AgentMail.TheVariants.{Applied}
 use Rattle.cluster_model.specs.Mails.{in_session}
 use Rattle.cluster_model.specs.Sides.{received}
-use Rattle.agent_accounts.specs.Accounts as accounts
+use Rattle.offer_tables.specs.Accounts as accounts
 use Rattle.agent_sides.specs.Joined as joins
 use Rattle.roster.specs.Faults.{IsAppliedRefusal}
 use Rattle.roster.specs.Places.{at_place, value_at}

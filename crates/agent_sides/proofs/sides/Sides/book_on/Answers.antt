@@ -1,5 +1,5 @@
 use Rattle.std.proofs.Common.{ap, ◌∙◌}
-use Rattle.offer_book.specs.Books as books
+use Rattle.offer_tables.specs.Books as books
 use Rattle.agent_sides.specs.Joined.{Fit, joined}
 use Rattle.agent_sides.specs.Taking.{booked_on}
 use Rattle.agent_sides.proofs.Joining.{if_err, on_ok}

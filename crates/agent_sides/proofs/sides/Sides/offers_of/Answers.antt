@@ -1,12 +1,17 @@
-use Rattle.std.proofs.Common.{refl, ap, ◌∙◌, []}
-use Rattle.agent_sides.specs.Looks.{value_of}
-use Rattle.agent_sides.specs.ByName.{value_by}
-use Rattle.agent_sides.proofs.AtNames.{book_joined}
+use Rattle.std.proofs.Common.{[], ap, sym, ◌∙◌, arith}
+use Rattle.cluster_model.specs.Sides.{new_side}
+use Rattle.roster.specs.Places.{value_at}
+use Rattle.agent_sides.proofs.Looking.{told_named, untold}
+use Rattle.agent_sides.proofs.Reading.{offers_told, past_there}
 use Rattle.agent_sides.proofs.sides.Sides.offers_of.Goals as goal
 
-pub returns : goal.returns
-returns c =
-    c.offers_of.ensures
-    ∙ ap (value_by c.args.name.now (λ a. a.offers) []) c.accounts.ensures
-    ∙ book_joined c.args.name.now (λ a. a.offers) (λ s. s.offers) [] (λ s a. refl) c.self.inside.roster c.self.inside.book c.self.invariant.one
-    ∙ ap (value_of c.args.name.now (λ s. s.offers) []) c.self.view_is
+pub returns-in-Some : goal.returns-in-Some
+returns-in-Some c =
+    c.offers_at.ensures ∙ offers_told c.in-Some.place c.self.inside.roster c.self.inside.book c.self.invariant.one
+    ∙ ap (value_at c.in-Some.place (λ s. s.offers) []) c.self.view_is
+    ∙ told_named c.args.name.now (λ s. s.offers) [] c.args.self.now c.in-Some.place (new_side []) (sym c.place_of.ensures ∙ c.in-Some.is)
+
+pub returns-in-None : goal.returns-in-None
+returns-in-None c =
+    c.offers_at-in-None.ensures ∙ past_there (λ a. a.offers) c.self.inside.book c.len.result (omega (arith, c.len.ensures))
+    ∙ untold c.args.name.now (λ s. s.offers) [] c.args.self.now (sym c.place_of.ensures ∙ c.in-None.is)

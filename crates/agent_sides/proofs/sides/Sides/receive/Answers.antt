@@ -1,7 +1,7 @@
 use Rattle.std.proofs.Common.{refl, ap, sym, ◌∙◌, true, false}
 use Rattle.mails.specs.declared.mail.AgentMail.TheVariants.{Update}
 use Rattle.cluster_model.specs.Sides.{received}
-use Rattle.agent_accounts.specs.Accounts as accounts
+use Rattle.offer_tables.specs.Accounts as accounts
 use Rattle.roster.specs.Places.{at_place, value_at}
 use Rattle.agent_sides.specs.Looks.{is_session}
 use Rattle.agent_sides.proofs.Joining.{fit_book, joined_same, joined_where}

@@ -1,55 +1,48 @@
-use Rattle.std.proofs.Common.{refl, ap, ◌∙◌, sym, true, false, Ok, Err}
-use Rattle.agent_accounts.specs.Accounts as accounts
-use Rattle.agent_sides.specs.Joined as joins
-use Rattle.roster.specs.Places.{at_place, value_at}
+use Rattle.std.proofs.Common.{true, false, ap, ◌∙◌, sym, Ok, Err}
+use Rattle.roster.specs.Places.{at_place}
 use Rattle.roster.specs.Sessions.{after_report, reported}
+use Rattle.offer_tables.specs.Accounts as accounts
+use Rattle.agent_sides.specs.Joined as joins
 use Rattle.agent_sides.specs.Changes.{reporting}
-use Rattle.agent_sides.proofs.Joining.{joined_if, joined_told, joined_when, fit_book, fit_roster}
-use Rattle.agent_sides.proofs.Changing.{reopened_keeps, report_again_joins, report_keeps, report_opens_joins, report_refused_joins}
+use Rattle.agent_sides.proofs.Joining.{fit_roster, joined_if, joined_when, on_ok}
+use Rattle.agent_sides.proofs.Changing.{report_again_joins, report_keeps, report_opens_joins, report_refused_joins}
+use Rattle.agent_sides.proofs.Reporting.{bookable_after}
 use Rattle.agent_sides.proofs.sides.Sides.report.Goals as goal
 
 pub invariant_of-self : goal.invariant_of-self
 invariant_of-self c = rw c.report.ensures.sides (fit_roster c.args.place (after_report c.args.run c.args.session c.args.number) (report_keeps c.args.run c.args.session c.args.number) c.self.inside.roster c.self.inside.book c.self.invariant)
 
-pub returns-in-Err-clause-answer : goal.returns-in-Err-clause-answer
-returns-in-Err-clause-answer c =
-    sym c.in-Err.is ∙ c.report.ensures.answer ∙ joined_told c.args.place (λ s. reported c.args.run s c.args.session c.args.number) (Ok false) (λ s a. refl) c.self.inside.roster c.self.inside.book c.self.invariant.one ∙ ap (value_at c.args.place (λ s. reported c.args.run s c.args.session c.args.number) (Ok false)) c.self.view_is
-
-pub returns-in-Err-clause-sides : goal.returns-in-Err-clause-sides
-returns-in-Err-clause-sides c =
+pub returns-in-Err : goal.returns-in-Err
+returns-in-Err c =
     rw c.report.ensures.sides
-    (joined_if c.args.place (after_report c.args.run c.args.session c.args.number) (reporting c.args.run c.args.session c.args.number c.args.tasks c.args.total) (λ s. reported c.args.run s c.args.session c.args.number) (Ok false) (Err c.in-Err.refusal) (report_refused_joins c.args.run c.args.session c.args.number c.args.tasks c.args.total c.in-Err.refusal) c.self.inside.roster c.self.inside.book c.self.invariant.one (sym c.report.ensures.answer ∙ c.in-Err.is)
+    (joined_if c.args.place (after_report c.args.run c.args.session c.args.number) (reporting c.args.run c.args.session c.args.number c.args.tasks c.args.total) (λ s. reported c.args.run s c.args.session c.args.number) (Ok false) (Err c.in-Err._refusal) (report_refused_joins c.args.run c.args.session c.args.number c.args.tasks c.args.total c.in-Err._refusal) c.self.inside.roster c.self.inside.book c.self.invariant.one (sym c.report.ensures.answer ∙ c.in-Err.is)
     ∙ ap (at_place c.args.place (reporting c.args.run c.args.session c.args.number c.args.tasks c.args.total)) c.self.view_is)
 
-pub invariant_of-self-then-opens : goal.invariant_of-self-then-opens
-invariant_of-self-then-opens c =
-    rw (c.report.ensures.sides, c.reopen_at.ensures)
-    (fit_roster c.args.place (after_report c.args.run c.args.session c.args.number) (report_keeps c.args.run c.args.session c.args.number) c.self.inside.roster (joins.at_place c.args.place (accounts.reopened c.args.tasks c.args.total) c.self.inside.book) (fit_book c.args.place (accounts.reopened c.args.tasks c.args.total) (reopened_keeps c.args.tasks c.args.total) (λ a h. refl) c.self.inside.roster c.self.inside.book c.self.invariant))
+pub invariant_of-self-then-not-opens : goal.invariant_of-self-then-not-opens
+invariant_of-self-then-not-opens c = rw c.report.ensures.sides (fit_roster c.args.place (after_report c.args.run c.args.session c.args.number) (report_keeps c.args.run c.args.session c.args.number) c.self.inside.roster c.self.inside.book c.self.invariant)
 
-pub invariant_of-self-else-opens : goal.invariant_of-self-else-opens
-invariant_of-self-else-opens c = rw c.report.ensures.sides (fit_roster c.args.place (after_report c.args.run c.args.session c.args.number) (report_keeps c.args.run c.args.session c.args.number) c.self.inside.roster c.self.inside.book c.self.invariant)
-
-pub returns-then-opens-clause-answer : goal.returns-then-opens-clause-answer
-returns-then-opens-clause-answer c =
-    sym c.in-Ok.is ∙ c.report.ensures.answer ∙ joined_told c.args.place (λ s. reported c.args.run s c.args.session c.args.number) (Ok false) (λ s a. refl) c.self.inside.roster c.self.inside.book c.self.invariant.one ∙ ap (value_at c.args.place (λ s. reported c.args.run s c.args.session c.args.number) (Ok false)) c.self.view_is
-
-pub returns-then-opens-clause-sides : goal.returns-then-opens-clause-sides
-returns-then-opens-clause-sides c =
-    rw (c.report.ensures.sides, c.reopen_at.ensures)
-    (joined_when c.args.place (after_report c.args.run c.args.session c.args.number) (reporting c.args.run c.args.session c.args.number c.args.tasks c.args.total) (accounts.reopened c.args.tasks c.args.total) (λ s. reported c.args.run s c.args.session c.args.number) (Ok false) (Ok true) (report_opens_joins c.args.run c.args.session c.args.number c.args.tasks c.args.total) c.self.inside.roster c.self.inside.book c.self.invariant.one (sym c.report.ensures.answer ∙ c.in-Ok.is ∙ ap (λ b. Ok b) c.if-opens.true)
-    ∙ ap (at_place c.args.place (reporting c.args.run c.args.session c.args.number c.args.tasks c.args.total)) c.self.view_is)
-
-pub returns-else-opens-clause-answer : goal.returns-else-opens-clause-answer
-returns-else-opens-clause-answer c =
-    sym c.in-Ok.is ∙ c.report.ensures.answer ∙ joined_told c.args.place (λ s. reported c.args.run s c.args.session c.args.number) (Ok false) (λ s a. refl) c.self.inside.roster c.self.inside.book c.self.invariant.one ∙ ap (value_at c.args.place (λ s. reported c.args.run s c.args.session c.args.number) (Ok false)) c.self.view_is
-
-pub returns-else-opens-clause-sides : goal.returns-else-opens-clause-sides
-returns-else-opens-clause-sides c =
+pub returns-then-not-opens : goal.returns-then-not-opens
+returns-then-not-opens c =
     rw c.report.ensures.sides
-    (joined_if c.args.place (after_report c.args.run c.args.session c.args.number) (reporting c.args.run c.args.session c.args.number c.args.tasks c.args.total) (λ s. reported c.args.run s c.args.session c.args.number) (Ok false) (Ok false) (report_again_joins c.args.run c.args.session c.args.number c.args.tasks c.args.total) c.self.inside.roster c.self.inside.book c.self.invariant.one (sym c.report.ensures.answer ∙ c.in-Ok.is ∙ ap (λ b. Ok b) c.if-opens.false)
+    (joined_if c.args.place (after_report c.args.run c.args.session c.args.number) (reporting c.args.run c.args.session c.args.number c.args.tasks c.args.total) (λ s. reported c.args.run s c.args.session c.args.number) (Ok false) (Ok false) (report_again_joins c.args.run c.args.session c.args.number c.args.tasks c.args.total) c.self.inside.roster c.self.inside.book c.self.invariant.one (sym c.report.ensures.answer ∙ c.in-Ok.is ∙ ap (λ b. Ok b) c.if-not-opens.true)
     ∙ ap (at_place c.args.place (reporting c.args.run c.args.session c.args.number c.args.tasks c.args.total)) c.self.view_is)
 
-pub reopen_at-requires : goal.reopen_at-requires
-reopen_at-requires c =
+pub reopen_at-requires-clause-fit : goal.reopen_at-requires-clause-fit
+reopen_at-requires-clause-fit c =
     rw (c.entries-entries.ensures, c.report.ensures.sides)
     (fit_roster c.args.place (after_report c.args.run c.args.session c.args.number) (report_keeps c.args.run c.args.session c.args.number) c.self.inside.roster c.self.inside.book c.self.invariant)
+
+pub reopen_at-requires-clause-bookable : goal.reopen_at-requires-clause-bookable
+reopen_at-requires-clause-bookable c =
+    rw (c.entries-entries.ensures, c.report.ensures.sides)
+    (bookable_after c.args.run c.args.session c.args.number c.args.tasks c.args.total c.self.inside.roster c.self.inside.book c.self.invariant c.args.place c.args.self.now c.self.view_is
+    (sym c.report.ensures.answer ∙ c.in-Ok.is ∙ ap (λ b. Ok b) c.if-not-opens.false) c.requires)
+
+pub returns : goal.returns
+returns c =
+    on_ok c.reopen_at.result
+    (λ e. rw c.report.ensures.sides
+    (ap (joins.joined (at_place c.args.place (after_report c.args.run c.args.session c.args.number) c.self.inside.roster)) e
+    ∙ joined_when c.args.place (after_report c.args.run c.args.session c.args.number) (reporting c.args.run c.args.session c.args.number c.args.tasks c.args.total) (accounts.reopened c.args.tasks c.args.total) (λ s. reported c.args.run s c.args.session c.args.number) (Ok false) (Ok true) (report_opens_joins c.args.run c.args.session c.args.number c.args.tasks c.args.total) c.self.inside.roster c.self.inside.book c.self.invariant.one (sym c.report.ensures.answer ∙ c.in-Ok.is ∙ ap (λ b. Ok b) c.if-not-opens.false)
+    ∙ ap (at_place c.args.place (reporting c.args.run c.args.session c.args.number c.args.tasks c.args.total)) c.self.view_is))
+    c.reopen_at.ensures.ok

@@ -1,8 +1,9 @@
 use Rattle.std.proofs.Common.{refl, ap, ◌∙◌, map}
 use Rattle.cluster_model.specs.Masters.{is_of}
-use Rattle.agent_accounts.specs.Accounts as accounts
+use Rattle.offer_tables.specs.Accounts as accounts
 use Rattle.agent_sides.specs.Looks.{withdrawing}
 use Rattle.agent_sides.proofs.Joining.{fit_map}
+use Rattle.agent_sides.proofs.NamedIds.{ids_name_offers}
 use Rattle.agent_sides.proofs.Apart.{joined_apart, of_apart, of_withdrawn}
 use Rattle.agent_sides.proofs.sides.Sides.withdraw_of.Goals as goal
 
@@ -11,5 +12,5 @@ invariant_of-self c = rw c.withdraw_of.ensures (fit_map (accounts.without_offers
 
 pub returns : goal.returns
 returns c =
-    rw c.withdraw_of.ensures (joined_apart (accounts.without_offers_of c.args.framework) (withdrawing (is_of c.args.framework)) (of_withdrawn c.ids_name_offers.ensures c.args.framework) c.self.inside.roster c.self.inside.book c.self.invariant.one c.self.invariant.apart
+    rw c.withdraw_of.ensures (joined_apart (accounts.without_offers_of c.args.framework) (withdrawing (is_of c.args.framework)) (of_withdrawn ids_name_offers c.args.framework) c.self.inside.roster c.self.inside.book c.self.invariant.one c.self.invariant.apart
     ∙ ap (map (withdrawing (is_of c.args.framework))) c.self.view_is)

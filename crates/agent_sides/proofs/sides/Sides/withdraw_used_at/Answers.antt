@@ -1,6 +1,6 @@
 use Rattle.std.proofs.Common.{refl, ap, ◌∙◌}
 use Rattle.cluster_model.specs.Sides.{without_used}
-use Rattle.agent_accounts.specs.Accounts as accounts
+use Rattle.offer_tables.specs.Accounts as accounts
 use Rattle.roster.specs.Places.{at_place}
 use Rattle.agent_sides.proofs.Joining.{fit_book, joined_book}
 use Rattle.agent_sides.proofs.Apart.{named_apart}

@@ -16,7 +16,7 @@ pub give_first-requires-clause-new : goal.give_first-requires-clause-new
 give_first-requires-clause-new c =
     let test = is_holder c.args.framework in
     let hs = c.self.inside.holders.items in
-    let at : position test hs ≡ None = sym (rw c.deref.ensures.value at c.holder_place.ensures) ∙ c.in_default.is in
+    let at : position test hs ≡ None = sym (rw c.deref.ensures.value at c.known_place.ensures) ∙ c.in_default.is in
     subst (λ (t : Tally). find test t.holders ≡ None) c.self.view_is (none_at test hs at)
 
 pub returns-in_default-clause-ok : goal.returns-in_default-clause-ok
@@ -24,7 +24,7 @@ returns-in_default-clause-ok c =
     let f = c.args.framework in
     let rows = c.args.resources.now in
     let hs = c.self.inside.holders.items in
-    let at : position (is_holder f) hs ≡ None = sym (rw c.deref.ensures.value at c.holder_place.ensures) ∙ c.in_default.is in
+    let at : position (is_holder f) hs ≡ None = sym (rw c.deref.ensures.value at c.known_place.ensures) ∙ c.in_default.is in
     let none : find (is_holder f) c.args.self.now.holders ≡ None = subst (λ (t : Tally). find (is_holder f) t.holders ≡ None) c.self.view_is (none_at (is_holder f) hs at) in
     where_ok c.give_first.result (λ is. is ∙ sym (ap (given_to f rows c.args.self.now) none)) c.give_first.ensures.ok
 
@@ -34,7 +34,7 @@ invariant_of-self c =
     let hs = s.holders.items in
     let f = c.args.framework in
     let rows = c.args.resources.now in
-    let at : position (is_holder f) hs ≡ Some c.in-Some.place = sym (rw c.deref.ensures.value at c.holder_place.ensures) ∙ c.in-Some.is in
+    let at : position (is_holder f) hs ≡ Some c.in-Some.place = sym (rw c.deref.ensures.value at c.known_place.ensures) ∙ c.in-Some.is in
     let x = found_at (is_holder f) hs c.in-Some.place at in
     let room : CanAdd (all_held hs) rows = subst (CanHold rows) (sym c.self.view_is) c.requires in
     let sums : AreSums (given_holders f rows hs) (given_roles rows (find (is_holder f) hs) s.roles) =
@@ -50,7 +50,7 @@ returns-clause-ok c =
     let hs = s.holders.items in
     let f = c.args.framework in
     let rows = c.args.resources.now in
-    let at : position (is_holder f) hs ≡ Some c.in-Some.place = sym (rw c.deref.ensures.value at c.holder_place.ensures) ∙ c.in-Some.is in
+    let at : position (is_holder f) hs ≡ Some c.in-Some.place = sym (rw c.deref.ensures.value at c.known_place.ensures) ∙ c.in-Some.is in
     let x = found_at (is_holder f) hs c.in-Some.place at in
     let t : Tally = record { totals = s.totals; holders = hs; roles = s.roles } in
     let some : is_some (find (is_holder f) hs) ≡ true = ap is_some x.1 in

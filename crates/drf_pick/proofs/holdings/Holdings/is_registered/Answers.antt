@@ -11,21 +11,21 @@ pub returns-in_default-clause-registered : goal.returns-in_default-clause-regist
 returns-in_default-clause-registered c =
     let test = is_holder c.args.framework in
     let hs = c.self.inside.holders.items in
-    let at : position test hs ≡ None = sym (rw c.deref.ensures.value at c.holder_place.ensures) ∙ c.in_default.is in
+    let at : position test hs ≡ None = sym (rw c.deref.ensures.value at c.known_place.ensures) ∙ c.in_default.is in
     ap (λ (o : Option Holder). is_some o) (sym (none_at test hs at)) ∙ ap (λ (x : Tally). is_some (find test x.holders)) c.self.view_is
 
 pub returns-in_default-clause-sums : goal.returns-in_default-clause-sums
 returns-in_default-clause-sums c =
     let test = is_holder c.args.framework in
     let hs = c.self.inside.holders.items in
-    let at : position test hs ≡ None = sym (rw c.deref.ensures.value at c.holder_place.ensures) ∙ c.in_default.is in
+    let at : position test hs ≡ None = sym (rw c.deref.ensures.value at c.known_place.ensures) ∙ c.in_default.is in
     subst (HoldSums c.args.framework) c.self.view_is (subst (λ (o : Option Holder). IfSome o (λ h. IsSum h.held × IfSome (find (is_role h.role) c.self.inside.roles) (λ r. IsSum r.held))) (sym (none_at test hs at)) tt)
 
 pub returns-clause-registered : goal.returns-clause-registered
 returns-clause-registered c =
     let test = is_holder c.args.framework in
     let hs = c.self.inside.holders.items in
-    let at : position test hs ≡ Some c.in-Some.place = sym (rw c.deref.ensures.value at c.holder_place.ensures) ∙ c.in-Some.is in
+    let at : position test hs ≡ Some c.in-Some.place = sym (rw c.deref.ensures.value at c.known_place.ensures) ∙ c.in-Some.is in
     let first = first_at test hs c.in-Some.place c.index-holder.result.now at c.index-holder.ensures in
     ap (λ (o : Option Holder). is_some o) (sym first.found) ∙ ap (λ (x : Tally). is_some (find test x.holders)) c.self.view_is
 
@@ -34,7 +34,7 @@ returns-clause-sums c =
     let test = is_holder c.args.framework in
     let hs = c.self.inside.holders.items in
     let item = c.index-holder.result.now in
-    let at : position test hs ≡ Some c.in-Some.place = sym (rw c.deref.ensures.value at c.holder_place.ensures) ∙ c.in-Some.is in
+    let at : position test hs ≡ Some c.in-Some.place = sym (rw c.deref.ensures.value at c.known_place.ensures) ∙ c.in-Some.is in
     let first = first_at test hs c.in-Some.place item at c.index-holder.ensures in
     let its : IsSum item.held × IfSome (find (is_role item.role) c.self.inside.roles) (λ r. IsSum r.held) = (c.rows-held.ensures.sum, c.is_role_sum.ensures) in
     subst (HoldSums c.args.framework) c.self.view_is (subst (λ (o : Option Holder). IfSome o (λ h. IsSum h.held × IfSome (find (is_role h.role) c.self.inside.roles) (λ r. IsSum r.held))) (sym first.found) its)

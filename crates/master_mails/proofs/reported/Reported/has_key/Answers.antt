@@ -2,7 +2,7 @@ use Rattle.std.proofs.Common.{ap, ◌∙◌}
 use Rattle.std.specs.BTreeMap.{is_at}
 use Rattle.std.specs.List.{list_any}
 use Rattle.names_core.specs.Ids.{same}
-use Rattle.id_spans.specs.Orders.{id_cmp}
+use Rattle.master_mails.specs.Reported.{id_cmp}
 use Rattle.master_mails.proofs.reported.Reported.has_key.Goals as goal
 
 pub returns : goal.returns

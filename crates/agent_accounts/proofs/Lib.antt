@@ -1,4 +1,0 @@
-pub mod Taking
-pub mod Summing
-pub mod Adding
-pub mod Freeing

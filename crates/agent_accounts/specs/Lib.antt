@@ -1,3 +1,0 @@
-pub mod Accounts
-pub mod Free
-pub mod Laws

@@ -1,4 +1,0 @@
-pub mod Tasks
-pub mod Used
-pub mod Launches
-pub mod Sums

@@ -1,4 +1,0 @@
-use Rattle.current_offers.proofs.offers.Offers.push.Goals as goal
-
-pub invariant_of-self-2 : goal.invariant_of-self-2
-invariant_of-self-2 c = rw c.in_ok-push.ensures.items (rw c.deref.ensures.value at c.sum_with-sum.ensures, rw c.deref-2.ensures.value at c.goes_on_rising-are_rising.ensures)

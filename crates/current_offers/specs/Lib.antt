@@ -1,3 +1,0 @@
-pub mod Offers
-pub mod Withdrawals
-pub mod Laws

@@ -1,4 +1,0 @@
-pub mod ByIds
-pub mod Rising
-pub mod Spans
-pub mod Orders
