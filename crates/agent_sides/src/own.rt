@@ -1,23 +1,26 @@
 //! What a framework has on all agents: its offers, and its booked tasks.
 
-ghost use Rattle.std.specs.Prelude.{◌≡◌, ◌++◌, ◌∷◌, ◌&&◌, [], map, not, OnOk, IfOk, IfSome};
+ghost use Rattle.std.specs.Prelude.{◌≡◌, ◌++◌, ◌∷◌, ◌&&◌, ℕ, [], map, not, option_map, OnOk, IfOk, IfSome};
 ghost use Rattle.std.specs.List.{find, list_all, list_any};
-ghost use Rattle.names_core.specs.Ids.{same};
+ghost use Rattle.names_core.specs.Ids.{Numbered, same};
 ghost use Rattle.quantity.specs.Rows.{AreRows, plus_rows};
 ghost use Rattle.cluster_model.specs.Ids.{is_empty, is_repeated};
 ghost use Rattle.cluster_model.specs.Sides.{has_offer, is_good, is_named, offer_rows, used_offers, without_used};
 ghost use Rattle.cluster_model.specs.Calls.{has_tasks_of};
 ghost use Rattle.cluster_model.specs.Masters.{has_numbers};
 ghost use Rattle.roster.specs.Places.{at_place};
-ghost use Rattle.agent_sides.specs.Looks.{at_name};
+ghost use Rattle.offer_rows.specs.Names.{is_among};
+ghost use Rattle.offer_tables.specs.Found.{place};
+ghost use Rattle.offer_tables.specs.Held.{AreKeyed, is_framework_of, placed_of};
+ghost use Rattle.agent_sides.specs.Looks.{all_placed, at_name};
 ghost use Rattle.agent_sides.specs.Own.{good_offers, named_rows, sides_with_tasks};
 
 use crate::agent::AgentSide;
 use crate::placed;
 use crate::sides::Sides;
 use listed::Listed;
-use mails::Offer;
-use names_core::{AgentName, FrameworkId, OfferId};
+use mails::{Booked, Offer};
+use names_core::{AgentName, FrameworkId, LaunchKey, OfferId};
 use plain_data::Plain;
 use quantity::Resources;
 use std::alloc::{AllocError, Global};
@@ -253,5 +256,30 @@ impl Sides {
         if let Some(place) = self.place_of(name) {
             self.withdraw_used_at(place, framework, ids);
         }
+    }
+}
+
+/// Booked tasks by their launch keys.
+impl Sides {
+    /// The launch keys of a framework's booked tasks on all agents, in no order. It visits no other
+    /// framework's tasks.
+    pub fn keys_of(
+        &self,
+        alloc: Global,
+        framework: FrameworkId,
+    ) -> Result<Vec<LaunchKey>, AllocError>
+        ensures keys { IfOk result (λ keys. (key : Numbered) → is_among key keys.items
+            ≡ is_framework_of framework (placed_of key (all_placed self.now))) }
+        ensures apart { AreKeyed (all_placed self.now) }
+    {
+        self.book.keys_of(alloc, framework)
+    }
+
+    /// The booked task of this key, if any, and its agent.
+    pub fn task_of(&self, key: LaunchKey) -> Option<(&AgentName, &Booked)>
+        ensures { option_map (λ t. place t.0.now t.1.now) result
+            ≡ placed_of key (all_placed self.now) }
+    {
+        self.book.task_of(key)
     }
 }

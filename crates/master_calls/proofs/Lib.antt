@@ -3,3 +3,4 @@ pub mod Subscribing
 pub mod Ending
 pub mod Placing
 pub mod Reconciling
+pub mod Gathering

@@ -3,29 +3,23 @@ use Rattle.std.proofs.Common.{◌≡◌, ℕ, Bool, true, false, cond, List, [],
 use Rattle.std.specs.BTreeMap.{insert_entry}
 use Rattle.std.specs.Map.{values_of}
 use Rattle.std.proofs.lemmas.List.{append_assoc}
-use Rattle.std.proofs.lemmas.List.Folds.{fold-map}
-use Rattle.std.proofs.lemmas.List.Sums.{fold-append}
-use Rattle.names_core.specs.Ids.{Numbered, same}
+use Rattle.names_core.specs.Ids.{Numbered}
 use Rattle.names_core.specs.declared.state.TaskState.{TaskState}
 use Rattle.names_core.specs.declared.state.TaskState.TheVariants.{Lost}
-use Rattle.mails.specs.declared.task.Booked.{Booked}
 use Rattle.mails.specs.declared.call.Call.TheVariants as calls
 use Rattle.mails.specs.declared.call.ReconciledTask.{ReconciledTask}
 use Rattle.mails.specs.declared.framework.Framework.{Framework}
-use Rattle.cluster_model.specs.Sides.{Side}
 use Rattle.cluster_model.specs.Events.{Event, update_event}
-use Rattle.cluster_model.specs.Masters.{Master, Placed, all_booked, held, on_stream, placed_on, put_placed, saying}
+use Rattle.cluster_model.specs.Masters.{Master, Placed, all_booked, held, on_stream, put_placed, saying}
 use Rattle.cluster_model.specs.Calls.{answers, answers_held, called, is_awaited, is_live_of, on_reconcile, reconciles, reconciles_as}
-use Rattle.offer_tables.specs.Found.{place}
-use Rattle.agent_sides.specs.Own.{holding}
 use Rattle.master_state.specs.declared.state.State.{State}
 use Rattle.scheduler_events.specs.declared.stream_event.StreamEvent.{StreamEvent}
 use Rattle.master_state.specs.States.{task_state_sent}
 use Rattle.master_state.specs.Works.{admission, done, master_of, work_of}
 use Rattle.master_state.proofs.Admissions.{Admitted, admits}
 use Rattle.master_state.proofs.Doings.{none_more, says}
-use Rattle.master_calls.specs.Tasks.{HeldTask, held_task}
-use Rattle.master_calls.specs.Reconciles.{gathers, gathers_all, gathers_on, key_cmp, live_of, reconciled, reconciled_as, reconciled_one, sends_held}
+use Rattle.master_calls.specs.Tasks.{held_task}
+use Rattle.master_calls.specs.Reconciles.{gathers, key_cmp, live_of, reconciled, reconciled_as, reconciled_one, sends_held}
 use Rattle.master_calls.proofs.Placing.{IsInOrder, keyed, put_entry, put_in_order}
 
 -- events
@@ -78,25 +72,15 @@ tells_live s ts stream f (p ∷ ps) e =
     ∙ tells_live s (ts ++ answers_held f p) stream f ps e
     ∙ ap (telling s) (append_assoc ts (answers_held f p) (flat_map (answers_held f) ps))
 
-abbrev gathers_one : Numbered → List (Numbered × HeldTask) → Placed → List (Numbered × HeldTask)
-gathers_one framework es p = cond (is_live_of framework p) (insert_entry key_cmp es p.booked.job.key (held_task p)) es
-
-gathered_sides : (framework : Numbered) (es : List (Numbered × HeldTask)) (ss : List Side) → gathers_all framework es (map holding ss) ≡ fold (gathers_one framework) es (flat_map placed_on ss)
-gathered_sides framework es [] = refl
-gathered_sides framework es (s ∷ ss) =
-    gathered_sides framework (gathers_on framework es (holding s)) ss
-    ∙ ap (λ xs. fold (gathers_one framework) xs (flat_map placed_on ss)) (sym (fold-map (gathers_one framework) (place s.name) es s.booked))
-    ∙ sym (fold-append (gathers_one framework) es (placed_on s) (flat_map placed_on ss))
-
-gathered : (framework : Numbered) (ps qs : List Placed) → IsInOrder qs → fold (gathers_one framework) (map keyed qs) ps ≡ map keyed (fold put_placed qs (filter (is_live_of framework) ps))
+gathered : (framework : Numbered) (ps qs : List Placed) → IsInOrder qs → fold (gathers framework) (map keyed qs) ps ≡ map keyed (fold put_placed qs (filter (is_live_of framework) ps))
 gathered framework [] qs o = refl
 gathered framework (p ∷ ps) qs o = by (is_live_of framework p) (gathered framework ps (put_placed qs p) (put_in_order p qs o)) (gathered framework ps qs o)
   where
     by : (b : Bool)
-        → fold (gathers_one framework) (map keyed (put_placed qs p)) ps ≡ map keyed (fold put_placed (put_placed qs p) (filter (is_live_of framework) ps))
-        → fold (gathers_one framework) (map keyed qs) ps ≡ map keyed (fold put_placed qs (filter (is_live_of framework) ps))
-        → fold (gathers_one framework) (cond b (insert_entry key_cmp (map keyed qs) p.booked.job.key (held_task p)) (map keyed qs)) ps ≡ map keyed (fold put_placed qs (cond b (p ∷ filter (is_live_of framework) ps) (filter (is_live_of framework) ps)))
-    by true put none = ap (λ es. fold (gathers_one framework) es ps) (sym (put_entry p qs o)) ∙ put
+        → fold (gathers framework) (map keyed (put_placed qs p)) ps ≡ map keyed (fold put_placed (put_placed qs p) (filter (is_live_of framework) ps))
+        → fold (gathers framework) (map keyed qs) ps ≡ map keyed (fold put_placed qs (filter (is_live_of framework) ps))
+        → fold (gathers framework) (cond b (insert_entry key_cmp (map keyed qs) p.booked.job.key (held_task p)) (map keyed qs)) ps ≡ map keyed (fold put_placed qs (cond b (p ∷ filter (is_live_of framework) ps) (filter (is_live_of framework) ps)))
+    by true put none = ap (λ es. fold (gathers framework) es ps) (sym (put_entry p qs o)) ∙ put
     by false put none = none
 
 values_keyed : (ps : List Placed) → values_of (map keyed ps) ≡ map held_task ps
@@ -107,7 +91,7 @@ abbrev live_placed : Numbered → State → List Placed
 live_placed framework s = fold put_placed [] (filter (is_live_of framework) (all_booked (master_of s)))
 
 live_is : (framework : Numbered) (s : State) → live_of framework s ≡ map held_task (live_placed framework s)
-live_is framework s = ap values_of (gathered_sides framework [] s.sides ∙ gathered framework (all_booked (master_of s)) [] refl) ∙ values_keyed (live_placed framework s)
+live_is framework s = ap values_of (gathered framework (all_booked (master_of s)) [] refl) ∙ values_keyed (live_placed framework s)
 
 -- all
 

@@ -1,17 +1,15 @@
 -- What RECONCILE sends, task by task.
-use Rattle.std.specs.Prelude.{ℕ, if◌then◌else◌, List, [], ◌∷◌, fold, map, Option, Some, None, option_map}
+use Rattle.std.specs.Prelude.{if◌then◌else◌, List, [], ◌∷◌, fold, Option, Some, None, option_map}
 use Rattle.std.specs.Ordering.{nat_cmp, ordering_then}
 use Rattle.std.specs.declared.cmp.Ordering.{Ordering}
 use Rattle.std.specs.BTreeMap.{insert_entry}
 use Rattle.std.specs.Map.{values_of}
 use Rattle.names_core.specs.Ids.{Numbered}
 use Rattle.names_core.specs.declared.state.TaskState.TheVariants.{Lost}
-use Rattle.mails.specs.declared.task.Booked.{Booked}
 use Rattle.mails.specs.declared.call.ReconciledTask.{ReconciledTask}
-use Rattle.cluster_model.specs.Masters.{held}
+use Rattle.cluster_model.specs.Masters.{Placed, held}
 use Rattle.cluster_model.specs.Calls.{is_awaited, is_live_of}
-use Rattle.offer_tables.specs.Found.{place}
-use Rattle.agent_sides.specs.Own.{Holding, holding}
+use Rattle.agent_sides.specs.Looks.{all_placed}
 use Rattle.master_state.specs.declared.state.State.{State}
 use Rattle.master_state.specs.States.{task_state_sent}
 use Rattle.master_state.specs.Works.{master_of}
@@ -35,22 +33,23 @@ reconciled_one framework stream s asked =
 abbrev pub key_cmp : Numbered → Numbered → Ordering
 key_cmp a b = ordering_then (nat_cmp a.run b.run) (nat_cmp a.n b.n)
 
--- the framework's live tasks by their keys, with one more of an agent
-abbrev pub gathers : Numbered → List ℕ → List (Numbered × HeldTask) → Booked
-    → List (Numbered × HeldTask)
-gathers framework agent es b =
-    if is_live_of framework (place agent b)
-    then insert_entry key_cmp es b.job.key (held_task (place agent b)) else es
+-- tasks by their keys, with one more if it is one of the framework's that hasn't ended
+abbrev pub gathers : Numbered → List (Numbered × HeldTask) → Placed → List (Numbered × HeldTask)
+gathers framework es p =
+    if is_live_of framework p then insert_entry key_cmp es p.booked.job.key (held_task p) else es
 
-abbrev pub gathers_on : Numbered → List (Numbered × HeldTask) → Holding → List (Numbered × HeldTask)
-gathers_on framework es h = fold (gathers framework h.agent) es h.booked
-
-abbrev pub gathers_all : Numbered → List (Numbered × HeldTask) → List Holding
+-- the same with the task of one key more, where there is one
+abbrev pub gathers_found : Numbered → List (Numbered × HeldTask) → Option Placed
     → List (Numbered × HeldTask)
-gathers_all framework es hs = fold (gathers_on framework) es hs
+gathers_found framework es None = es
+gathers_found framework es (Some p) = gathers framework es p
+
+-- the framework's live tasks by their keys
+abbrev pub live_by_key : Numbered → List Placed → List (Numbered × HeldTask)
+live_by_key framework ps = fold (gathers framework) [] ps
 
 abbrev pub live_of : Numbered → State → List HeldTask
-live_of framework s = values_of (gathers_all framework [] (map holding s.sides))
+live_of framework s = values_of (live_by_key framework (all_placed s.sides))
 
 -- the tasks asked for, or all
 abbrev pub reconciled : Numbered → Numbered → List ReconciledTask → State → State

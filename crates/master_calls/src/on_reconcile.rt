@@ -1,16 +1,18 @@
 //! RECONCILE.
 
-ghost use Rattle.std.specs.Prelude.{◌≡◌, ◌&&◌, not, [], IfOk, OnOk, fold, map};
+ghost use Rattle.std.specs.Prelude.{◌≡◌, ◌&&◌, not, IfOk, OnOk, fold};
 ghost use Rattle.std.specs.BTreeMap.{values};
 ghost use Rattle.mails.specs.declared.call.Call.TheVariants as calls;
 ghost use Rattle.names_core.specs.Ids.{same};
 ghost use Rattle.cluster_model.specs.Calls.{called, is_awaited};
-ghost use Rattle.agent_sides.specs.Own.{holding};
+ghost use Rattle.offer_tables.specs.Found.{place};
+ghost use Rattle.offer_tables.specs.Held.{placed_of};
+ghost use Rattle.agent_sides.specs.Looks.{all_placed};
 ghost use Rattle.master_state.specs.Works.{Gave, master_of};
-ghost use Rattle.master_calls.specs.Reconciles.{gathers, gathers_all, gathers_on, reconciled, reconciled_as, reconciled_one, sends_held};
+ghost use Rattle.master_calls.specs.Reconciles.{gathers, gathers_found, live_by_key, reconciled, reconciled_as, reconciled_one, sends_held};
 
 use crate::on_kill::{HeldTask, copy_held, held_of};
-use agent_sides::{AgentSide, Sides};
+use agent_sides::Sides;
 use mails::{Booked, ReconciledTask};
 use master_state::{MasterFault, State};
 use names_core::{AgentName, FrameworkId, LaunchKey, StreamId, TaskState};
@@ -101,7 +103,7 @@ fn gather_task(
     task: &Booked,
 ) -> Result<(), AllocError>
     ensures { OnOk result (live.new.entries
-        ≡ gathers framework agent.now live.old.entries task.now) }
+        ≡ gathers framework live.old.entries (place agent.now task.now)) }
 {
     if is_live(task, framework) {
         let held = copy_held(alloc, agent, task)?;
@@ -110,34 +112,36 @@ fn gather_task(
     Ok(())
 }
 
-/// Adds the framework's tasks on an agent that haven't ended.
-fn gather_on(
+/// Adds the task of a key, where it is one of the framework's that hasn't ended.
+fn gather_key(
     live: &mut BTreeMap<LaunchKey, HeldTask>,
     alloc: Global,
     framework: FrameworkId,
-    agent: &AgentSide<'_>,
+    sides: &Sides,
+    key: LaunchKey,
 ) -> Result<(), AllocError>
-    ensures { OnOk result (live.new.entries
-        ≡ gathers_on framework live.old.entries (holding agent.now)) }
+    ensures { OnOk result (live.new.entries ≡ gathers_found framework live.old.entries
+        (placed_of key (all_placed sides.now))) }
 {
-    for task in agent.tasks() {
-        gather_task(live, alloc, framework, agent.name(), task)?;
+    match sides.task_of(key) {
+        Some((agent, task)) => gather_task(live, alloc, framework, agent, task),
+        None => Ok(()),
     }
-    Ok(())
 }
 
-/// The framework's booked tasks that haven't ended, by their keys. It visits all booked tasks.
+/// The framework's booked tasks that haven't ended, by their keys. It visits no other framework's.
 fn gather_all(
     sides: &Sides,
     alloc: Global,
     framework: FrameworkId,
 ) -> Result<BTreeMap<LaunchKey, HeldTask>, AllocError>
     ensures { IfOk result (λ live. live.entries
-        ≡ gathers_all framework [] (map holding sides.now)) }
+        ≡ live_by_key framework (all_placed sides.now)) }
 {
+    let keys = sides.keys_of(alloc, framework)?;
     let mut live = BTreeMap::new(alloc);
-    for agent in sides.iter() {
-        gather_on(&mut live, alloc, framework, &agent)?;
+    for key in keys.as_slice() {
+        gather_key(&mut live, alloc, framework, sides, *key)?;
     }
     Ok(live)
 }

@@ -8,3 +8,4 @@ pub mod Indexing
 pub mod Choosing
 pub mod Summing
 mod Walking
+pub mod Gathering

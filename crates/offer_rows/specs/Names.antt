@@ -1,5 +1,5 @@
 -- The names of booked tasks, and the launch keys of the tasks that have them.
-use Rattle.std.specs.Prelude.{◌≡◌, ℕ, Bool, false, ◌&&◌, List, [], Option, None, Some, bytes_eq}
+use Rattle.std.specs.Prelude.{◌≡◌, ℕ, Bool, false, true, ◌&&◌, List, [], Option, None, Some, bytes_eq}
 use Rattle.std.specs.Global.{Vec}
 use Rattle.std.specs.List.{list_any}
 use Rattle.std.specs.BTreeMap.{get_by, get_by_text}
@@ -49,3 +49,15 @@ IsIndex names l =
     (framework : Numbered) (text : List ℕ) (key : Numbered)
     → is_among key (keys_named framework text names)
     ≡ is_named framework text (find (λ x. x.job.key) key l)
+
+-- just the keys that stand under some text
+pub record AreAll (under : List ℕ → List Numbered) (keys : List Numbered) : Type 0 where
+  pub all : (text : List ℕ) (key : Numbered) → is_among key (under text) ≡ true
+      → is_among key keys ≡ true
+  pub only : (key : Numbered) → is_among key keys ≡ true
+      → (text : List ℕ) × (is_among key (under text) ≡ true)
+
+-- there is such a task, and it is the framework's
+abbrev pub is_framework_of : Numbered → Option (Located Booked) → Bool
+is_framework_of framework None = false
+is_framework_of framework (Some e) = same_id e.item.job.framework framework

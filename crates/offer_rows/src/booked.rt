@@ -1,12 +1,12 @@
 //! Booked tasks with their names.
 
-ghost use Rattle.std.specs.Prelude.{◌≡◌, ◌<◌, ◌++◌, ◌∷◌, [], None, List, ℕ, false, not, if◌then◌else◌, length, map, filter, IfNone, OnOk, OnErr};
+ghost use Rattle.std.specs.Prelude.{◌≡◌, ◌<◌, ◌++◌, ◌∷◌, [], None, List, ℕ, false, not, if◌then◌else◌, length, map, filter, IfNone, IfOk, OnOk, OnErr};
 ghost use Rattle.std.specs.Option.{option_copied};
 ghost use Rattle.names_core.specs.Ids.{Numbered};
 ghost use Rattle.cluster_model.specs.Sides.{received_update};
 ghost use Rattle.offer_rows.specs.Changes.{ended};
 ghost use Rattle.offer_rows.specs.Lists.{same_id, at_place, ids_of, list_at, find, without, Once};
-ghost use Rattle.offer_rows.specs.Names.{IsIndex, is_among, is_named, keys_named};
+ghost use Rattle.offer_rows.specs.Names.{IsIndex, is_among, is_framework_of, is_named, keys_named};
 ghost use Rattle.offer_rows.specs.Held.{better, first_of, goes_before, IsHeld};
 
 use crate::located::Located;
@@ -176,6 +176,20 @@ impl BookedTasks {
         ensures { result ≡ list_at place self.now }
     {
         self.tasks.at(place)
+    }
+
+    /// The keys of a framework's tasks, in no order.
+    pub fn keys_of(
+        &self,
+        alloc: Global,
+        framework: FrameworkId,
+    ) -> Result<Vec<LaunchKey>, AllocError>
+        ensures keys { IfOk result (λ keys. (key : Numbered) → is_among key keys.items
+            ≡ is_framework_of framework (find (λ x. x.job.key) key self.now)) }
+        ensures once { Once (λ x. x.job.key) 0 self.now }
+    {
+        self.tasks.are_apart();
+        self.names.all_keys_of(alloc, framework)
     }
 
     /// The booked task of a framework with this name, if any, and its place. It takes no memory.

@@ -1,9 +1,9 @@
 //! The names of booked tasks, which strangers choose, and the launch keys of their tasks.
 
-ghost use Rattle.std.specs.Prelude.{◌≡◌, ◌++◌, ◌∷◌, ◌&&◌, [], true, ℕ, List, if◌then◌else◌, bytes_eq, filter, not, OnOk, OnErr};
+ghost use Rattle.std.specs.Prelude.{◌≡◌, ◌++◌, ◌∷◌, ◌&&◌, [], true, ℕ, List, if◌then◌else◌, bytes_eq, filter, not, IfOk, OnOk, OnErr};
 ghost use Rattle.names_core.specs.Ids.{Numbered};
 ghost use Rattle.offer_rows.specs.Lists.{same_id};
-ghost use Rattle.offer_rows.specs.Names.{keys_named, keys_under};
+ghost use Rattle.offer_rows.specs.Names.{AreAll, keys_named, keys_under};
 
 use names_core::{FrameworkId, LaunchKey, TaskName};
 use std::alloc::{AllocError, Global};
@@ -43,6 +43,17 @@ impl Texts {
             Some(keys) => keys.as_slice(),
             None => &[],
         }
+    }
+
+    /// The keys of all texts.
+    fn all_keys(&self, alloc: Global) -> Result<Vec<LaunchKey>, AllocError>
+        ensures { IfOk result (λ all. AreAll (λ text. keys_under text self.now) all.items) }
+    {
+        let mut all = Vec::new(alloc);
+        for keys in self.by_text.values() {
+            all.extend_from_slice(keys.as_slice())?;
+        }
+        Ok(all)
     }
 
     /// One key more of a text, the last.
@@ -108,6 +119,20 @@ impl Names {
         match self.by_framework.get(&framework) {
             Some(texts) => texts.keys_of(name.as_text()),
             None => &[],
+        }
+    }
+
+    /// All keys that stand under a framework, in no order.
+    pub fn all_keys_of(
+        &self,
+        alloc: Global,
+        framework: FrameworkId,
+    ) -> Result<Vec<LaunchKey>, AllocError>
+        ensures { IfOk result (λ all. AreAll (λ text. keys_named framework text self.now) all.items) }
+    {
+        match self.by_framework.get(&framework) {
+            Some(texts) => texts.all_keys(alloc),
+            None => Ok(Vec::new(alloc)),
         }
     }
 

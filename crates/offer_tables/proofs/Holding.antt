@@ -1,5 +1,5 @@
 -- The booked task of a name that is meant is the first of all that have it.
-use Rattle.std.proofs.Common.{◌≡◌, ℕ, zero, suc, ◌-◌, ◌≤◌, Bool, true, false, cond, ◌&&◌, List, [], ◌∷◌, ◌++◌, map, filter, fold, get_or, Option, None, Some, bytes_eq, ◌⊎◌, inl, inr, refl, sym, ap, ◌∙◌, subst, arith, ⊎_elim, append_assoc}
+use Rattle.std.proofs.Common.{◌≡◌, ℕ, zero, suc, ◌-◌, ◌<◌, ◌≤◌, Bool, true, false, cond, ◌&&◌, List, [], ◌∷◌, ◌++◌, map, filter, fold, get_or, find, length, Option, None, Some, bytes_eq, ◌⊎◌, inl, inr, refl, sym, ap, ◌∙◌, subst, arith, ⊎_elim, append_assoc}
 use Rattle.std.proofs.lemmas.Bool.{cases_Bool, true≢false}
 use Rattle.std.proofs.lemmas.List.{append-nil}
 use Rattle.std.proofs.lemmas.Map.Keys.{IsDistinct-head, IsDistinct-tail}
@@ -10,17 +10,20 @@ use Rattle.mails.specs.declared.task.Booked.{Booked}
 use Rattle.cluster_model.specs.Masters.{Placed, first_placed, is_task_of, stands_before}
 use Rattle.offer_rows.specs.declared.located.Located.{Located}
 use Rattle.offer_rows.specs.Lists.{same_id, ids_of, first, located_or, find_from, Once}
-use Rattle.offer_rows.specs.Names.{has_name}
+use Rattle.offer_rows.specs.Names.{has_name, is_framework_of as rows_of}
 use Rattle.offer_rows.specs.Held.{goes_before, IsHeld, IsTaskOf}
 use Rattle.offer_rows.proofs.Ids.{same_id_equiv, same_id-true, same_id-refl}
 use Rattle.offer_rows.proofs.Changing.{same_turned}
 use Rattle.offer_rows.proofs.Choosing.{not_before_itself, onward, one_key}
-use Rattle.offer_rows.proofs.Taking.{place_from}
-use Rattle.offer_tables.specs.Found.{place}
-use Rattle.offer_tables.specs.Held.{all_placed, held}
+use Rattle.offer_tables.specs.Accounts.{Account, has_key}
+use Rattle.offer_tables.specs.Found.{place, placed_or, task_of}
+use Rattle.offer_tables.specs.Held.{AreKeyed, all_placed, held, is_framework_of, placed_of}
 use Rattle.offer_tables.specs.Rows.{Rows, accounts}
 use Rattle.offer_tables.specs.declared.agents.AgentRow.{AgentRow}
-use Rattle.offer_tables.proofs.Booking.{found_within}
+use Rattle.offer_rows.proofs.Taking.{here_is, place_from}
+use Rattle.offer_tables.proofs.Booking.{found_within, task_found, task_nowhere}
+use Rattle.offer_tables.proofs.Books.{task_within}
+use Rattle.offer_tables.proofs.Changed.{settled, slot}
 
 key_of : Booked → Numbered
 key_of b = b.job.key
@@ -277,3 +280,51 @@ module _ (f : Numbered) (text : List ℕ) (rs : List AgentRow) (offers : List (L
               let name : r.name ≡ q.agent = at.named r (subst (λ x. r ≡ get_or rs (x.place - zero) r) (sym one) row) in
               let task_is : q.booked ≡ e.item = sym at.item ∙ ap (λ x. x.item) one in
               λ i. Some (record { agent = sym name i; booked = task_is i })
+
+-- ---- tasks by their keys
+
+contains_in : {X : Type 0} (xs : List X) (x : X) (k : ℕ) → k < length xs → get_or xs k x ≡ x → In x xs
+unfolding In
+contains_in [] x k within e = absurd (omega arith)
+contains_in (y ∷ ys) x zero within e = inl e
+contains_in (y ∷ ys) x (suc k) within e = inr (contains_in ys x k (omega arith) e)
+
+placed_here : (name : List ℕ) (key : Numbered) (bs : List Booked) (later : List Placed)
+    → find (λ p. has_key key p.booked) (map (place name) bs ++ later) ≡ placed_or name (find (has_key key) bs) (find (λ p. has_key key p.booked) later)
+placed_here name key [] later = refl
+placed_here name key (b ∷ bs) later = ⊎_elim (λ t. rw t refl) (λ t. rw t (placed_here name key bs later)) (cases_Bool (has_key key b))
+
+pub placed_is : (key : Numbered) (as_ : List Account) → placed_of key (all_placed as_) ≡ task_of key as_
+placed_is key [] = refl
+placed_is key (a ∷ as_) = placed_here a.name key a.booked (all_placed as_) ∙ ap (placed_or a.name (find (has_key key) a.booked)) (placed_is key as_)
+
+module _ (rs : List AgentRow) (offers : List (List Offer)) (tasks : List (List Booked)) (h : Rows rs offers tasks) (o : Once (λ x. x.job.key) zero tasks) where
+  row_of : (key : Numbered) (e : Located Booked) → find_from (λ x. x.job.key) zero key tasks ≡ Some e → (r : AgentRow) × (r ≡ get_or rs (e.place - zero) r)
+  row_of key e at =
+      let within : e.place < length rs = task_within rs offers tasks e.place key e.item h (here_is (λ x. x.job.key) tasks key e o at).first_there in
+      let none : e.place ≡ e.place - zero = omega arith in
+      let r : AgentRow = get_or rs e.place (slot rs e.place within) in
+      (r, subst (λ n. r ≡ get_or rs n r) none (settled rs e.place within))
+
+  pub keyed : AreKeyed (all_placed (accounts rs offers tasks))
+  keyed p among = by (placed_found rs offers tasks zero p h o (contains_in (all_placed (accounts rs offers tasks)) p among.0 among.1 among.2))
+    where
+      by : Found rs tasks zero p → placed_of p.booked.job.key (all_placed (accounts rs offers tasks)) ≡ Some p
+      by (found_at e at) =
+          let row = row_of p.booked.job.key e at.found in
+          placed_is p.booked.job.key (accounts rs offers tasks)
+          ∙ task_found p.booked.job.key rs offers tasks zero e row.0 h at.found row.1
+          ∙ (λ i. Some (record { agent = at.named row.0 row.1 i; booked = at.item i }))
+
+  pub framework_so : (f key : Numbered) → rows_of f (find_from (λ x. x.job.key) zero key tasks) ≡ is_framework_of f (placed_of key (all_placed (accounts rs offers tasks)))
+  framework_so f key = by (find_from (λ x. x.job.key) zero key tasks) refl
+    where
+      placed : List Placed
+      placed = all_placed (accounts rs offers tasks)
+
+      by : (w : Option (Located Booked)) → find_from (λ x. x.job.key) zero key tasks ≡ w → rows_of f w ≡ is_framework_of f (placed_of key (all_placed (accounts rs offers tasks)))
+      by None e = ap (is_framework_of f) (sym (placed_is key (accounts rs offers tasks) ∙ task_nowhere key rs offers tasks zero h e))
+      by (Some d) e =
+          let row = row_of key d e in
+          sym (same_turned f d.item.job.framework ∙ same_id_equiv.symm f d.item.job.framework)
+          ∙ ap (is_framework_of f) (sym (placed_is key (accounts rs offers tasks) ∙ task_found key rs offers tasks zero d row.0 h e row.1))

@@ -1,11 +1,13 @@
 //! The book of all agents.
 
-ghost use Rattle.std.specs.Prelude.{◌≡◌, ◌<◌, [], Ok, map, length, option_map, OnOk, OnErr, IfOk, IfErr};
+ghost use Rattle.std.specs.Prelude.{◌≡◌, ◌<◌, ℕ, [], Ok, map, length, option_map, OnOk, OnErr, IfOk, IfErr};
 ghost use Rattle.std.specs.List.{IsDistinct};
+ghost use Rattle.names_core.specs.Ids.{Numbered};
 ghost use Rattle.offer_rows.specs.Lists.{same_id};
+ghost use Rattle.offer_rows.specs.Names.{is_among};
 ghost use Rattle.offer_tables.specs.Books.{entered, dropped_from, emptied_on, free_of, offered, booked, withdrawn, task_ended, forgotten, received};
 ghost use Rattle.offer_tables.specs.Found.{made, place, offer_of, offers_on, task_of, tasks_on};
-ghost use Rattle.offer_tables.specs.Held.{held};
+ghost use Rattle.offer_tables.specs.Held.{AreKeyed, all_placed, held, is_framework_of, placed_of};
 ghost use Rattle.offer_tables.specs.Faults.{IsRefusal, IsDue};
 
 use crate::agents::{self, AgentRow};
@@ -16,7 +18,7 @@ use mails::{Booked, Offer};
 use names_core::{AgentName, FrameworkId, LaunchKey, OfferId, TaskName};
 use offer_rows::{BookedTasks, Offers, TaskUpdate};
 use quantity::Resources;
-use std::alloc::Global;
+use std::alloc::{AllocError, Global};
 use std::marker::Model;
 
 /// Agents' totals, current offers and booked tasks: an account for each agent that ever entered,
@@ -272,6 +274,19 @@ impl OfferBook {
         };
         let row = &self.agents[located.place];
         Some((&row.name, &located.item))
+    }
+
+    /// The launch keys of a framework's booked tasks on all agents, in no order.
+    pub fn keys_of(
+        &self,
+        alloc: Global,
+        framework: FrameworkId,
+    ) -> Result<Vec<LaunchKey>, AllocError>
+        ensures keys { IfOk result (λ keys. (key : Numbered) → is_among key keys.items
+            ≡ is_framework_of framework (placed_of key (all_placed self.now))) }
+        ensures apart { AreKeyed (all_placed self.now) }
+    {
+        self.tasks.keys_of(alloc, framework)
     }
 
     /// How many agents ever entered.

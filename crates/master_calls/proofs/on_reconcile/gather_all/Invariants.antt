@@ -1,7 +1,8 @@
-use Rattle.std.proofs.Common.{◌≡◌, [], map}
-use Rattle.agent_sides.specs.Own.{holding}
-use Rattle.master_calls.specs.Reconciles.{gathers_all}
+use Rattle.std.proofs.Common.{◌≡◌, [], fold, take}
+use Rattle.offer_tables.specs.Held.{placed_of}
+use Rattle.agent_sides.specs.Looks.{all_placed}
+use Rattle.master_calls.specs.Reconciles.{gathers_found}
 use Rattle.master_calls.proofs.on_reconcile.gather_all.Given as goal
 
-abbrev pub invariant-loop-agent : goal.invariant-loop-agent
-invariant-loop-agent l = gathers_all l.framework l.live.entries (map holding l.agent-iterator) ≡ gathers_all l.framework [] (map holding l.sides)
+abbrev pub invariant-loop-key : goal.invariant-loop-key
+invariant-loop-key l = l.live.entries ≡ fold (λ es k. gathers_found l.framework es (placed_of k (all_placed l.sides))) [] (take l.key-index l.key-items)
